@@ -30,7 +30,7 @@ use Rattle.nr_requester.proofs.FirstDue.{first_is_due_first}
 use Rattle.nr_drill.specs.Drill.{Setting, Drill, answer_at, after_handing, after_done, after_dones, after_outcomes}
 use Rattle.nr_drill_link.specs.DrillLinkState.{AwaitedLine}
 use Rattle.nr_drill_link.specs.LinkStands.{answers_of, lines_from, is_awaited, awaited_lines}
-use Rattle.nr_drill_link.specs.HandsOver.{HaveNoOutcome}
+use Rattle.nr_drill_link.specs.private.HandsOver.{HaveNoOutcome}
 use Rattle.nr_drill_link.proofs.Lines.{filter_as, answers_same}
 
 -- ---- The xids of the call lines

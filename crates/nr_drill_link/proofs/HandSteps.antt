@@ -20,7 +20,7 @@ use Rattle.nr_drill.specs.InBytes.{RepliedInBytes}
 use Rattle.nr_drill.proofs.Carried.{same_dropped}
 use Rattle.nr_drill_link.specs.declared.awaited.AwaitedCall.{AwaitedCall}
 use Rattle.nr_drill_link.specs.DrillLinkState.{AwaitedLine, DrillLinkState}
-use Rattle.nr_drill_link.specs.HandsOver.{TakesOutcome, HaveNoOutcome, HandsAt}
+use Rattle.nr_drill_link.specs.private.HandsOver.{TakesOutcome, HaveNoOutcome, HandsAt}
 use Rattle.nr_drill_link.specs.OpenTickets.{AreApart, AreOpen}
 use Rattle.nr_drill_link.specs.Steps.{Goes, StandsAt}
 use Rattle.nr_drill_link.specs.Views.{line_view}

@@ -175,7 +175,7 @@ calls_more s link (suc n) d = calls_more s link n (after_work s link d)
 
 -- ---- Steps of the code
 
--- so many calls, at most, were executed
+-- at most n calls were executed
 abbrev pub HasWorked : (n seconds : ℕ) → (before after : DrillLinkState) → (run run' : List Mark) → (kept kept' : PlainServerState) → Type 0
 HasWorked n seconds before after run run2 kept kept2 = Works (λ s link d. after_calls s link n d) seconds before after run run2 kept kept2
 

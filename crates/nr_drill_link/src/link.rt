@@ -63,7 +63,7 @@ impl Model for DrillLink {
     ghost use Rattle.nr_requester.specs.Fed.{fed_bytes as client_fed_bytes};
     ghost use Rattle.nr_drill_link.specs.OpenTickets.{AreOpen};
 
-    // Each end was fed at most so many bytes, and the tickets of the calls that are awaited are open.
+    // Each end was fed at most that many bytes, and the tickets of the calls that are awaited are open.
     ghost invariant = { λ l. (fed_bytes l.server.side.link ≤ l.fed_up) × ((l.fed_up ≤ 2 ^ 62) × ((client_fed_bytes l.client ≤ l.fed_down) × ((l.fed_down ≤ 2 ^ 62) × AreOpen l.client.state l.awaited.items))) };
 }
 

@@ -27,7 +27,7 @@ fn ran_out(fed: Result<(), End>) -> bool
 }
 
 impl DrillLink {
-    /// Feeds the server the next bytes that wait for it, at most so many, if there are any.
+    /// Feeds the server the next bytes that wait for it, at most `most`, if there are any.
     #[tactic(none)]
     fn feed_up(&mut self, marks: &mut Vec<Mark>, most: usize) -> Result<(), Memory>
         ensures { OnOk result (Goes (λ s link. after_feeding_up link most) self.old self.new marks.old.items marks.new.items) }
@@ -56,7 +56,7 @@ impl DrillLink {
         add_mark(marks, fed)
     }
 
-    /// Feeds the server the next bytes that wait for it, at most so many; then what is due is written.
+    /// Feeds the server the next bytes that wait for it, at most `most`; then what is due is written.
     #[tactic(none)]
     pub fn up(&mut self, marks: &mut Vec<Mark>, most: usize) -> Result<(), Memory>
         ensures { OnOk result (Goes (λ s link. after_up s link most) self.old self.new marks.old.items marks.new.items) }
@@ -67,7 +67,7 @@ impl DrillLink {
         }
     }
 
-    /// Feeds the client the next bytes that wait for it, at most so many, if there are any.
+    /// Feeds the client the next bytes that wait for it, at most `most`, if there are any.
     #[tactic(none)]
     fn feed_down(&mut self, marks: &mut Vec<Mark>, most: usize) -> Result<(), Memory>
         ensures { OnOk result (Goes (λ s link. after_feeding_down link most) self.old self.new marks.old.items marks.new.items) }
@@ -96,7 +96,7 @@ impl DrillLink {
         add_mark(marks, fed)
     }
 
-    /// Feeds the client the next bytes that wait for it, at most so many, and hands over the outcomes that are due.
+    /// Feeds the client the next bytes that wait for it, at most `most`, and hands over the outcomes that are due.
     #[tactic(none)]
     fn feed_and_hand_over(&mut self, marks: &mut Vec<Mark>, most: usize) -> Result<(), Memory>
         ensures { OnOk result (Goes (λ s link d. after_outcomes s link (after_feeding_down link most d)) self.old self.new marks.old.items marks.new.items) }
@@ -107,7 +107,7 @@ impl DrillLink {
         }
     }
 
-    /// Feeds the client the next bytes that wait for it, at most so many, and hands over the outcomes that are due; then what is due is
+    /// Feeds the client the next bytes that wait for it, at most `most`, and hands over the outcomes that are due; then what is due is
     /// written.
     #[tactic(none)]
     pub fn down(&mut self, marks: &mut Vec<Mark>, most: usize) -> Result<(), Memory>

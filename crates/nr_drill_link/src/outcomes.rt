@@ -5,7 +5,7 @@ ghost use Rattle.nr_requester.specs.Fed.{fed_bytes};
 ghost use Rattle.nr_requester.specs.OpenCalls.{open_call, found_answer, ClosesTicket};
 ghost use Rattle.nr_drill.specs.Drill.{after_outcomes};
 ghost use Rattle.nr_drill_link.specs.DrillLinkState.{AwaitedLine};
-ghost use Rattle.nr_drill_link.specs.HandsOver.{TakesOutcome, HandsAt};
+ghost use Rattle.nr_drill_link.specs.private.HandsOver.{TakesOutcome, HandsAt};
 ghost use Rattle.nr_drill_link.specs.Steps.{Goes};
 
 use crate::awaited::AwaitedCall;

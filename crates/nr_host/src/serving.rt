@@ -89,7 +89,7 @@ fn serve_one<A: Acceptor, C: Clock>(
     Ok(())
 }
 
-/// Accepts so many connections and serves each to its end, one after another, whatever its end is. Each is granted `credits`
+/// Accepts `connections` connections and serves each to its end, one after another, whatever its end is. Each is granted `credits`
 /// (RFC 8166 section 3.3).
 ///
 /// # Errors

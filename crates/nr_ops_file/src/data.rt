@@ -1,4 +1,4 @@
-//! The results of READ, with the data where the tree keeps them.
+//! The results of READ, with the data as pages of the tree.
 
 ghost use Rattle.std.specs.Prelude.{◌≡◌, ◌+◌, ◌-◌, ◌≤◌, ◌<◌, [], ◌∷◌, ◌++◌, length, min, nat_le, take, drop, replicate, IfOk, OnOk};
 ghost use Rattle.nr_nfs_base.specs.Limits.{transfer_max};

@@ -23,7 +23,7 @@ use Rattle.nr_ops_dir.specs.Links.{link_rules}
 use Rattle.nr_ops_file.proofs.Laws.{setattr_space, setattr_below, write_space, write_below}
 use Rattle.nr_ops_dir.proofs.Laws.{create_space, create_below, mkdir_space, mkdir_below, symlink_space, symlink_below, mknod_space, mknod_below, remove_space, remove_below, rmdir_space, rmdir_below, rename_space, rename_below, link_space, link_below}
 use Rattle.nr_plain.specs.Programs.{nfs_results, nfs_tree, is_change, is_done, only_reads}
-use Rattle.nr_plain.specs.Code.{changes_from, tree_from}
+use Rattle.nr_plain.specs.private.Code.{changes_from, tree_from}
 
 -- ===== by the status
 

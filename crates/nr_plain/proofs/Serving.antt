@@ -16,7 +16,7 @@ use Rattle.nr_tree.specs.declared.rules.Space.{Space}
 use Rattle.nr_tree.proofs.Bounds.{below_mono}
 use Rattle.nr_tree.proofs.PassedRules.{clear}
 use Rattle.nr_plain.specs.Setup.{Parameters, Setup, State, caller_of, time_of, space_of}
-use Rattle.nr_plain.specs.Code.{reply_from, changes_from, tree_from}
+use Rattle.nr_plain.specs.private.Code.{reply_from, changes_from, tree_from}
 use Rattle.nr_plain.specs.Journal.{nfs_procedure_of, next_state, state_after, state_of, tree_by_arguments, tree_by_procedure}
 use Rattle.nr_nfs_base.specs.declared.procedure.MountProcedure.{MountProcedure}
 use Rattle.nr_rpc.specs.declared.head.ReplyHead.TheVariants.{ProgMismatch}

@@ -2,9 +2,9 @@ pub mod Setup
 pub mod Programs
 pub mod Journal
 pub mod Replies
-pub mod Code
 pub mod Added
 pub mod Stands
 pub mod JournalLaws
 pub mod ReplySizes
 pub mod ReplyLaws
+pub mod private

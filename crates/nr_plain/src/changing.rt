@@ -15,7 +15,7 @@ ghost use Rattle.nr_ops_dir.specs.Creation.{mkdir_tree, mkdir_reply, symlink_tre
 ghost use Rattle.nr_ops_dir.specs.Removal.{remove_tree, remove_reply, rmdir_tree, rmdir_reply};
 ghost use Rattle.nr_ops_dir.specs.Renaming.{rename_tree, rename_reply};
 ghost use Rattle.nr_ops_dir.specs.Links.{link_tree, link_reply};
-ghost use Rattle.nr_plain.specs.Code.{IsChangeWith, tree_with};
+ghost use Rattle.nr_plain.specs.private.Code.{IsChangeWith, tree_with};
 ghost use Rattle.nr_plain.specs.Replies.{refusal, accepted, results_reply, GARBAGE_ARGS};
 ghost use Rattle.nr_plain.specs.Programs.{is_done as is_status_ok};
 

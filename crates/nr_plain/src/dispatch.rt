@@ -3,7 +3,7 @@
 ghost use Rattle.std.specs.Prelude.{◌≡◌, true, false, IfOk, OnOk, OnErr};
 ghost use Rattle.nr_tree.specs.Rules.{IsWithinCapacity};
 ghost use Rattle.nr_tree.specs.Steps.{IsBounded};
-ghost use Rattle.nr_plain.specs.Code.{IsChange, reply_of, tree_of};
+ghost use Rattle.nr_plain.specs.private.Code.{IsChange, reply_of, tree_of};
 ghost use Rattle.nr_plain.specs.Programs.{only_reads as is_read_only};
 
 use crate::call::{Call, Change};

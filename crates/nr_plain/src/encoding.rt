@@ -4,7 +4,7 @@ ghost use Rattle.std.specs.Prelude.{◌≡◌, ◌<◌, [], ◌++◌, length, If
 ghost use Rattle.nr_nfs_base.specs.Codec.{read_all, read_or_none};
 ghost use Rattle.nr_rpc.specs.Constants.{PROG_MISMATCH};
 ghost use Rattle.nr_rpc.specs.Reply.{reply_head, reply_encoding, CanWriteReply};
-ghost use Rattle.nr_plain.specs.Code.{reply_with};
+ghost use Rattle.nr_plain.specs.private.Code.{reply_with};
 ghost use Rattle.nr_plain.specs.Replies.{accepted as head_of_accepted, SUCCESS as success, GARBAGE_ARGS as garbage_args, refusal, results_reply};
 ghost use Rattle.nr_plain.specs.ReplySizes.{reply_max};
 

@@ -3,7 +3,7 @@
 ghost use Rattle.std.specs.Prelude.{◌≡◌, [], ◌∷◌, nat_eq, IfOk};
 ghost use Rattle.std.specs.Cmp.Lexicographic.{pointwise};
 ghost use Rattle.nr_nfs_base.specs.declared.procedure.MountProcedure.TheVariants as procedures;
-ghost use Rattle.nr_plain.specs.Code.{mount_reply};
+ghost use Rattle.nr_plain.specs.private.Code.{mount_reply};
 ghost use Rattle.nr_plain.specs.Programs.{mounted as root_mounted, mount_results};
 
 use crate::encoding::{accepted, constant_reply, garbage, read_arguments};

@@ -10,7 +10,7 @@ ghost use Rattle.nr_ops_dir.specs.Lookup.{lookup_reply};
 ghost use Rattle.nr_ops_dir.specs.Readdir.{readdir_reply, readdirplus_reply};
 ghost use Rattle.nr_nfs_args.specs.Bytes.{read_args_codec};
 ghost use Rattle.nr_nfs_res.specs.Results.{read_res_codec};
-ghost use Rattle.nr_plain.specs.Code.{reply_with};
+ghost use Rattle.nr_plain.specs.private.Code.{reply_with};
 ghost use Rattle.nr_plain.specs.Replies.{results_reply};
 
 use crate::call::Call;

@@ -9,7 +9,7 @@ ghost use Rattle.nr_rpc.specs.Reading.{call_of};
 ghost use Rattle.nr_tree.specs.Rules.{IsWithinCapacity, entry_cost as cost_of_entry};
 ghost use Rattle.nr_tree.specs.Steps.{IsBelow, IsBounded};
 ghost use Rattle.nr_plain.specs.Setup.{Setup, Parameters, caller_of, space_of, time_of};
-ghost use Rattle.nr_plain.specs.Code.{IsWithin, changes_from, entry_of, reply_from, tree_from};
+ghost use Rattle.nr_plain.specs.private.Code.{IsWithin, changes_from, entry_of, reply_from, tree_from};
 ghost use Rattle.nr_plain.specs.Journal.{nfs_procedure_of, cost_of};
 ghost use Rattle.nr_plain.specs.Replies.{nfs_by_procedure, nfs_call, mount_call, program_call, call_by_cred, cred_refusal, answer_to};
 ghost use Rattle.nr_plain.specs.Stands.{RepresentsJournal, ExecutesCall, IsCause, state_kept, state_after_answer};

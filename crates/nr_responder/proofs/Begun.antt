@@ -17,9 +17,9 @@ use Rattle.nr_responder.specs.Fetching.{payload_added}
 use Rattle.nr_reduce.specs.ServerReads.{is_read}
 use Rattle.nr_reduce.specs.ServerMessages.{call_xid}
 use Rattle.nr_responder.specs.ResponderState.{ResponderSide}
-use Rattle.nr_responder.specs.Handling.{on_link, with_ready, OrOut, IsServerOf, Begins, ReadsXid}
-use Rattle.nr_responder.specs.Handling.Begins.{NoCall, OtherXid, IsReady}
-use Rattle.nr_responder.specs.Handling.ReadsXid.{ReadsNoCall, ReadsOther, ReadsOwn}
+use Rattle.nr_responder.specs.private.Handling.{on_link, with_ready, OrOut, IsServerOf, Begins, ReadsXid}
+use Rattle.nr_responder.specs.private.Handling.Begins.{NoCall, OtherXid, IsReady}
+use Rattle.nr_responder.specs.private.Handling.ReadsXid.{ReadsNoCall, ReadsOther, ReadsOwn}
 use Rattle.nr_responder.specs.declared.call.Pending.{Pending}
 use Rattle.nr_responder.specs.declared.call.Ready.{Ready}
 use Rattle.nr_responder.specs.declared.call.ReadEntry.{ReadEntry}

@@ -33,7 +33,7 @@ use Rattle.nr_reduce.specs.Server.{effect_output, server_rules, with_effect}
 use Rattle.nr_responder.specs.ResponderState.{ResponderSide, queued_bytes}
 use Rattle.nr_responder.specs.Keeping.{IsServer, Keeps, KeepsEnd}
 use Rattle.nr_responder.specs.private.CallsRead.{HasNoBytes, complete_call, payload_at_once}
-use Rattle.nr_responder.specs.Handling.{on_link}
+use Rattle.nr_responder.specs.private.Handling.{on_link}
 use Rattle.nr_responder.proofs.CallsRead.{skip_old, is_of, taken_side}
 use Rattle.nr_responder.proofs.Frames.{behind, TakesFrame, later_frame}
 use Rattle.nr_responder.proofs.LastResponses.{no_zero_stag}

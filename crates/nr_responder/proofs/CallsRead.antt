@@ -39,7 +39,7 @@ use Rattle.nr_responder.specs.ResponderState.{ResponderSide, queued_bytes, unsen
 use Rattle.nr_responder.specs.Keeping.{IsReadyOf, IsServer, Keeps, KeepsEnd, LinkKeeps, later_responses, open_responses}
 use Rattle.nr_responder.specs.private.Reading.{opening, with_requests}
 use Rattle.nr_responder.specs.private.CallsRead.{reading_call, registered}
-use Rattle.nr_responder.specs.Handling.{on_link}
+use Rattle.nr_responder.specs.private.Handling.{on_link}
 use Rattle.nr_responder.proofs.Frames.{behind, TakesFrame, later_frame}
 use Rattle.nr_responder.proofs.PendingReads.{AreOf, over_unread, ready_before, reads_own, same_read, some_read}
 use Rattle.nr_responder.proofs.ReadEffects.{later_append, open_zero, requested_has, requested_queue, requests_ends}

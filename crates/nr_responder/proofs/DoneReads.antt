@@ -20,7 +20,7 @@ use Rattle.nr_responder.specs.declared.call.ReadEntry.{ReadEntry}
 use Rattle.nr_responder.specs.declared.server_end.ServerEnd.{ServerEnd}
 use Rattle.nr_responder.specs.Fetching.{Fetching}
 use Rattle.nr_responder.specs.ResponderState.{ResponderSide, unsent}
-use Rattle.nr_responder.specs.Handling.{IsServerOf, OrOut, out}
+use Rattle.nr_responder.specs.private.Handling.{IsServerOf, OrOut, out}
 use Rattle.nr_responder.specs.Keeping.{IsReadyOf, OwnNumbers, OwnReady, OwnXids}
 use Rattle.nr_responder.specs.Sound.{AreFetched, AreHeldFrom, AreSound, NothingOutside, claims_of, HasRoom, InBuffer, IsSound, payloads_of, state_of, xids_of}
 use Rattle.nr_responder.specs.Views.{call_view, read_view, sink_view}

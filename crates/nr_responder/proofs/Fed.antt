@@ -28,7 +28,7 @@ use Rattle.nr_responder.specs.Keeping.{Begins, Keeps, KeepsEnd}
 use Rattle.nr_responder.proofs.ServerSteps.{new_is_read}
 use Rattle.nr_responder.specs.Keeping.Begins.{BeforeHello, AfterHello}
 use Rattle.nr_responder.specs.Steps.{received_events, GoesOn, FedOn}
-use Rattle.nr_responder.specs.Handling.{IsServerOf, IsHandled, on_link}
+use Rattle.nr_responder.specs.private.Handling.{IsServerOf, IsHandled, on_link}
 use Rattle.nr_responder.proofs.Pieces.{fed_parts, IsOneFrame, IsNoFrame, whole_piece, partial_piece}
 use Rattle.nr_responder.proofs.FrameCounts.{frame_counts}
 use Rattle.nr_responder.proofs.Frames.{behind, TakesFrame, ended_takes}
@@ -177,7 +177,7 @@ ended_events opened end es (Some why) is some =
     let all = ended_all_lem opened end.state why es in
     (ap (λ (e : EndState ServerState). end_state_after (server_rules opened) e es) same ∙ all.0 ∙ sym same, ap (λ (e : EndState ServerState). output_for_all (server_rules opened) e es) same ∙ all.1)
 
--- bytes that come behind the end of a side change nothing
+-- bytes that come after the end of a side change nothing
 pub ended_fed_lem : (v : ResponderSide) (piece : List ℕ) → is_some (end_of v) ≡ true → FedOn v piece v
 ended_fed_lem v piece over opened end so_far (inl (is, h)) =
     absurd (let none : is_some (end_of v) ≡ false = ap (λ (o : Option End). is_some o) h.link.live in let two : true ≡ false = sym over ∙ none in cc)

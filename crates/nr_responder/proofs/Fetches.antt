@@ -13,10 +13,10 @@ use Rattle.nr_reduce.specs.ServerMessages.{by_need}
 use Rattle.nr_reduce.specs.ServerMessages.Verdict.{EndsLink, MakesPending}
 use Rattle.nr_responder.specs.ResponderState.{ResponderSide}
 use Rattle.nr_responder.specs.private.CallsRead.{HasNoBytes}
-use Rattle.nr_responder.specs.Handling.{FetchesCall, IsReadCall, IsServerOf, Makes, MessageTakes, OfServers}
-use Rattle.nr_responder.specs.Handling.FetchesCall.{Spends, ReadsChunks, IsComplete, EndsFor, RunsOut}
-use Rattle.nr_responder.specs.Handling.Makes.{Ends, Fetches, Completes, EndsAtOnce, LeavesReads}
-use Rattle.nr_responder.specs.Handling.MessageTakes.{EndsFor as TakesEnd, ReadsFor as TakesReads}
+use Rattle.nr_responder.specs.private.Handling.{FetchesCall, IsReadCall, IsServerOf, Makes, MessageTakes, OfServers}
+use Rattle.nr_responder.specs.private.Handling.FetchesCall.{Spends, ReadsChunks, IsComplete, EndsFor, RunsOut}
+use Rattle.nr_responder.specs.private.Handling.Makes.{Ends, Fetches, Completes, EndsAtOnce, LeavesReads}
+use Rattle.nr_responder.specs.private.Handling.MessageTakes.{EndsFor as TakesEnd, ReadsFor as TakesReads}
 use Rattle.nr_responder.specs.Views.{call_with, inline_of, IsOfReads}
 use Rattle.nr_responder.proofs.CallsAtOnce.{filter_none}
 use Rattle.nr_responder.proofs.Judged.{ends_refusal}

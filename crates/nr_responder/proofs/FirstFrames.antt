@@ -15,7 +15,7 @@ use Rattle.nr_endpoint.proofs.StagedFrames.{taken_whole, whole_as_staged}
 use Rattle.nr_responder.specs.ResponderState.{ResponderSide, end_of}
 use Rattle.nr_responder.specs.Steps.{Fed}
 use Rattle.nr_responder.specs.Steps.Fed.{WentOn}
-use Rattle.nr_responder.specs.Handling.{IsTaken, on_link}
+use Rattle.nr_responder.specs.private.Handling.{IsTaken, on_link}
 use Rattle.nr_responder.proofs.Fed.{StepOf, step_of, ended_step, ended_fed_lem}
 use Rattle.nr_responder.proofs.Fed.StepOf.{Part, WholeFrame}
 use Rattle.nr_responder.proofs.Out.{out_by_link}

@@ -15,7 +15,7 @@ use Rattle.nr_endpoint.specs.LinkState.{LinkState}
 use Rattle.nr_endpoint.specs.Judging.{segment_end, next_frame, with_frame, with_fpdu, with_segment_by, with_effect, with_peer_hello, with_read_response, with_read_request}
 use Rattle.nr_responder.proofs.Responses.{placed_next}
 
--- a frame leaves the counts of receives, where the Sends end, and the next STag
+-- a frame leaves the counts of receives, the offsets at which the Sends end, and the next STag
 pub record SameCounts (s t : LinkState) : Type 0 where
   pub next : t.memory.next ≡ s.memory.next
   pub lent : t.receive_queue.lent ≡ s.receive_queue.lent

@@ -30,13 +30,13 @@ use Rattle.nr_reduce.proofs.MemorySteps.{holds_later, received_later, offered_la
 use Rattle.nr_responder.specs.ResponderState.{ResponderSide, queue, queued_bytes}
 use Rattle.nr_responder.specs.Keeping.{IsServer, Begins, LinkKeeps, QueueKeeps, Keeps, KeepsEnd}
 use Rattle.nr_responder.specs.Keeping.Begins.{BeforeHello, AfterHello}
-use Rattle.nr_responder.specs.Handling.{on_link}
+use Rattle.nr_responder.specs.private.Handling.{on_link}
 use Rattle.nr_responder.proofs.FrameEnds.{frame_ends}
 use Rattle.nr_responder.proofs.Queues.{last_queue, greeted_has, sendable_ended}
 
 -- ---- What is to show of a frame
 
--- the input behind a frame
+-- the input after a frame
 abbrev pub behind : InputState → List ℕ → InputState
 behind input frame = record { awaited = Fpdu; rest = []; place = input.place + length frame }
 

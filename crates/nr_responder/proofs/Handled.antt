@@ -21,11 +21,11 @@ use Rattle.nr_reduce.specs.ServerMessages.Verdict.{MakesPending}
 use Rattle.nr_reduce.specs.ServerFrames.{by_message}
 use Rattle.nr_reduce.specs.Holds.{chunk_error, version_error}
 use Rattle.nr_responder.specs.ResponderState.{ResponderSide}
-use Rattle.nr_responder.specs.Handling.{Handled, IsServerOf, MessageTakes, Begins, Makes, OrOut, begun_call, inline_call, refused_effect, on_link, out, with_ready, IsReadCall}
-use Rattle.nr_responder.specs.Handling.Handled.{Stopped, Refused, Ready, Fetched, Completed}
-use Rattle.nr_responder.specs.Handling.MessageTakes.{EndsFor, ErrorFor}
-use Rattle.nr_responder.specs.Handling.Begins.{NoCall, OtherXid, IsReady}
-use Rattle.nr_responder.specs.Handling.Makes.{Ends, RefusesVersion, RefusesChunks, Calls, Fetches, Completes, EndsAtOnce, LeavesReads, NoServer}
+use Rattle.nr_responder.specs.private.Handling.{Handled, IsServerOf, MessageTakes, Begins, Makes, OrOut, begun_call, inline_call, refused_effect, on_link, out, with_ready, IsReadCall}
+use Rattle.nr_responder.specs.private.Handling.Handled.{Stopped, Refused, Ready, Fetched, Completed}
+use Rattle.nr_responder.specs.private.Handling.MessageTakes.{EndsFor, ErrorFor}
+use Rattle.nr_responder.specs.private.Handling.Begins.{NoCall, OtherXid, IsReady}
+use Rattle.nr_responder.specs.private.Handling.Makes.{Ends, RefusesVersion, RefusesChunks, Calls, Fetches, Completes, EndsAtOnce, LeavesReads, NoServer}
 use Rattle.nr_responder.specs.Views.{IsCall}
 use Rattle.nr_responder.specs.Sound.{SameInput}
 use Rattle.nr_responder.proofs.CallsAtOnce.{complete_refused}

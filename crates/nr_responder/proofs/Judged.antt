@@ -28,7 +28,7 @@ use Rattle.nr_reduce.specs.Holds.{chunk_error, version_error}
 use Rattle.nr_reduce.specs.ServerMessages.{by_head, call_xid}
 use Rattle.nr_reduce.specs.ServerMessages.CallVerdict.{Refuses, IsReady}
 use Rattle.nr_reduce.specs.ServerFrames.{FrameEffect, by_message, message_effect, with_verdict}
-use Rattle.nr_responder.specs.Handling.{inline_call, refused_effect}
+use Rattle.nr_responder.specs.private.Handling.{inline_call, refused_effect}
 use Rattle.nr_responder.proofs.ServerSteps.{inline_message_lem, pending_effect}
 use Rattle.nr_responder.specs.declared.call.Pending.{Pending}
 use Rattle.nr_responder.specs.declared.judging.Judged.{Judged}

@@ -1,4 +1,4 @@
--- A responder stands for one mark more, where it goes on by the events of that mark.
+-- A responder stands for one mark more, if it goes on by the events of that mark.
 use Rattle.std.proofs.Common.{◌≡◌, ℕ, Bool, true, ◌&&◌, eqb, cond, List, [], ◌∷◌, ◌++◌, length, take, drop, Option, Some, None, refl, sym, ap, subst, ◌∙◌, inl, inr, is_some, append_assoc}
 use Rattle.std.specs.Prelude.{map}
 use Rattle.std.proofs.lemmas.List.{append-nil, take-append-drop}
@@ -108,7 +108,7 @@ pub not_live : (o : Option End) → o ≡ None → is_some o ≡ true → ⊥
 not_live None e t = absurd cc
 not_live (Some end) e t = absurd cc
 
--- one that ran out of memory stands for a mark more, where what leaves of its queue is written
+-- one that ran out of memory stands for a mark more, if what leaves of its queue is written
 pub stays_out : (opened : LinkParameters) (link : ℕ) (run : List Mark) (v after : ResponderSide) (mark : Mark) → ResponderRunsOut opened link run v → end_of after ≡ end_of v → SameCalls v after → written_at link Responder mark ++ queue after ≡ queue v →
     ResponderRunsOut opened link (run ++ mark ∷ []) after
 stays_out opened link run v after mark h end same left = record {

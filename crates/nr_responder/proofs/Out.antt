@@ -37,8 +37,8 @@ use Rattle.nr_responder.specs.Keeping.{Begins, Keeps, KeepsEnd}
 use Rattle.nr_responder.specs.Keeping.Begins.{BeforeHello, AfterHello}
 use Rattle.nr_responder.specs.Steps.{TakesMemory, RanOutAt, Fed, frame_by}
 use Rattle.nr_responder.specs.Steps.Fed.{RanOut}
-use Rattle.nr_responder.specs.Handling.{IsServerOf, MessageTakes, refused_effect, on_link}
-use Rattle.nr_responder.specs.Handling.MessageTakes.{EndsFor, ErrorFor, ReadsFor}
+use Rattle.nr_responder.specs.private.Handling.{IsServerOf, MessageTakes, refused_effect, on_link}
+use Rattle.nr_responder.specs.private.Handling.MessageTakes.{EndsFor, ErrorFor, ReadsFor}
 use Rattle.nr_responder.specs.private.ReadsDone.{ReadRanOut, ReadTakes}
 use Rattle.nr_responder.proofs.Fed.{StepOf, step_of, step_next, not_ended_lem, empty_fed}
 use Rattle.nr_responder.proofs.Fed.StepOf.{Part, WholeFrame}

@@ -1,4 +1,4 @@
--- A piece in parts, and a piece that makes one frame whole, or none.
+-- A piece in parts, and a piece that completes one frame, or none.
 use Rattle.std.proofs.Common.{◌≡◌, ℕ, suc, ◌+◌, true, false, List, [], ◌∷◌, ◌++◌, length, take, drop, Some, None, refl, sym, ap, subst, ◌∙◌, append_assoc, arith, length-append}
 use Rattle.std.specs.Prelude.{map}
 use Rattle.std.specs.List.{concat}

@@ -26,7 +26,7 @@ send_word : (n m : ℕ) (message : List ℕ) → msn_word n ≡ msn_word m → s
 unfolding send
 send_word n m message e = ap (λ (w : ℕ). cut (λ last offset payload. Untagged last 3 0 0 w offset payload) message) e
 
--- the Send behind n others, on a side that counts words
+-- the Send after n others, on a side that counts words
 pub next_send : (n last : ℕ) (message : List ℕ) → last ≡ msn_word n → send (next_number last) message ≡ send (n + 1) message
 next_send n last message e =
     send_word (next_number last) (n + 1) message (ap (λ (w : ℕ). msn_word (next_number w)) e ∙ mod-mod (msn_word n + 1) (2 ^ 32) ∙ next_word n)
@@ -41,7 +41,7 @@ sent_queue n message q e =
     sym (append_assoc q.hello q.fpdus (send (next_number q.last_send) message))
     ∙ ap (λ (bytes : List ℕ). (q.hello ++ q.fpdus) ++ bytes) (next_send n q.last_send message e)
 
--- its hello, where nothing was queued before
+-- its hello, if nothing was queued before
 pub hello_queue : (bytes : List ℕ) (q : SendQueue) → q.fpdus ≡ [] → queued_bytes (with_hello bytes q) ≡ queued_bytes q ++ bytes
 hello_queue bytes q none =
     ap (λ (fpdus : List ℕ). (q.hello ++ bytes) ++ fpdus) none

@@ -1,4 +1,4 @@
--- A whole frame with the last segment of a Read Response, by what was made of the read.
+-- A complete frame with the last segment of a Read Response, by what was made of the read.
 use Rattle.std.proofs.Common.{◌≡◌, ℕ, ◌<◌, true, List, [], ◌∷◌, length, Some, None, refl, sym, ap, subst, ◌∙◌}
 use Rattle.nr_wire.specs.declared.stream.Awaited.TheVariants.{Fpdu}
 use Rattle.nr_link.specs.declared.end.End.TheVariants as ends
@@ -11,7 +11,7 @@ use Rattle.nr_reduce.specs.declared.mark.LinkParameters.{LinkParameters}
 use Rattle.nr_reduce.specs.ServerState.{PendingRead, ReadyCall, ServerState}
 use Rattle.nr_responder.specs.ResponderState.{ResponderSide}
 use Rattle.nr_responder.specs.Keeping.{Keeps}
-use Rattle.nr_responder.specs.Handling.{on_link}
+use Rattle.nr_responder.specs.private.Handling.{on_link}
 use Rattle.nr_responder.specs.private.ReadsDone.{ReadHandled, ended_as}
 use Rattle.nr_responder.specs.private.ReadsDone.ReadHandled.{GoesOn, Readies, Stops, Refused}
 use Rattle.nr_responder.proofs.SendFrames.{payloads_ready}

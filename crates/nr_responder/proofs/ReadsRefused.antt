@@ -30,7 +30,7 @@ use Rattle.nr_responder.specs.Fetching.{SinkRegion, open_sinks}
 use Rattle.nr_responder.specs.ResponderState.{ResponderSide, queued_bytes, unsent}
 use Rattle.nr_responder.specs.Keeping.{ArePayloads, HasPayload, IsReadyOf, IsServer, Keeps, KeepsEnd, OwnNumbers, OwnReady, OwnXids, later_responses}
 use Rattle.nr_responder.specs.private.Reading.{left_sinks, opening, over_sinks}
-use Rattle.nr_responder.specs.Handling.{on_link}
+use Rattle.nr_responder.specs.private.Handling.{on_link}
 use Rattle.nr_responder.specs.private.ReadsDone.{RefusesCall, calls_without, reads_without, reading_on, side_after_done, still_open, with_sent}
 use Rattle.nr_responder.proofs.Executed.{read_at_each}
 use Rattle.nr_responder.proofs.Frames.{behind, TakesFrame, later_frame}

@@ -1,4 +1,4 @@
--- A whole frame with a segment of a Read Response at a responder: a part of the response, and its last segment, by what was made of the read.
+-- A complete frame with a segment of a Read Response at a responder: a part of the response, and its last segment, by what was made of the read.
 use Rattle.std.proofs.Common.{◌≡◌, ◌≢◌, ℕ, ◌+◌, ◌-◌, ◌<◌, ◌≤◌, Bool, true, false, not, ◌&&◌, eqb, zero, suc, List, [], ◌∷◌, ◌++◌, length, take, Option, Some, None, Ok, refl, sym, ap, subst, ◌∙◌, arith, inl, inr, is_some, append-nil, length-append}
 use Rattle.std.specs.Prelude.{map, find}
 use Rattle.std.proofs.lemmas.List.{map-append, length-take}
@@ -41,7 +41,7 @@ use Rattle.nr_responder.specs.Fetching.{SinkRegion, Fetching, open_sinks}
 use Rattle.nr_responder.specs.ResponderState.{ResponderSide, queued_bytes}
 use Rattle.nr_responder.specs.Keeping.{ArePayloads, Keeps, KeepsEnd, later_responses, open_responses}
 use Rattle.nr_responder.specs.private.Reading.{sink_bytes, over_sinks, left_sinks, opening}
-use Rattle.nr_responder.specs.Handling.{on_link}
+use Rattle.nr_responder.specs.private.Handling.{on_link}
 use Rattle.nr_responder.specs.private.ReadsDone.{side_after_done, ended_as, still_open, read_payload, has_bad_chunk, NothingReady, MakesReady, EndsLink, ReadTakes}
 use Rattle.nr_responder.specs.private.ReadsDone.NothingReady.{Gone, Waits}
 use Rattle.nr_responder.specs.private.ReadsDone.ReadTakes.{Requests, Terminates, Answers}

@@ -1,4 +1,4 @@
--- What a responder's side of the link keeps after a segment of a Send that doesn't end it, and after a Send that it was told.
+-- What a responder's side of the link keeps after a segment of a Send that doesn't end it, and after a Send that was delivered.
 use Rattle.std.proofs.Common.{◌≡◌, ℕ, ◌+◌, ◌-◌, ◌<◌, ◌≤◌, Bool, true, false, not, ◌||◌, eqb, cond, List, [], ◌∷◌, ◌++◌, length, Option, Some, None, Result, Ok, refl, sym, ap, ◌∙◌, arith, length-append}
 use Rattle.std.specs.List.{AllByRecursion, list_any}
 use Rattle.std.proofs.lemmas.List.{append-nil}
@@ -116,7 +116,7 @@ part_keeps opened k s bytes payload h is some = record {
   queue = h.queue;
 }
 
--- a whole Send that was told, whose call is pending
+-- a complete Send that was delivered, whose call is pending
 pub told_keeps : (opened : LinkParameters) (k : ServerState) (s : LinkState) (bytes : List ℕ) (c : PendingCall) (stream : List ℕ) → LinkKeeps opened k s → IsServer k s.place →
     (is_begun s.receive_queue.received.begun ≡ false → 0 < s.receive_queue.free) →
     LinkKeeps opened (with_inline_call k (record { sends = k.received.sends + 1; begun = None; requests = k.received.requests }) c stream)

@@ -1,4 +1,4 @@
--- What an untagged frame makes of the server of a run, where it doesn't end it.
+-- What an untagged frame makes of the server of a run, if it doesn't end it.
 use Rattle.std.proofs.Common.{◌≡◌, ℕ, ◌+◌, ◌≤◌, Bool, true, false, not, ◌||◌, eqb, cond, List, [], ◌∷◌, ◌++◌, length, take, drop, Option, Some, None, Result, Ok, refl, sym, ap, ◌∙◌, arith, is_some}
 use Rattle.std.specs.List.{AllByRecursion, list_any}
 use Rattle.std.proofs.lemmas.List.{append-nil, drop_all}
@@ -19,7 +19,7 @@ use Rattle.nr_reduce.specs.ServerMessages.{payload_of, by_payload, by_head, call
 use Rattle.nr_reduce.specs.ServerMessages.CallVerdict.{Refuses, IsReady}
 use Rattle.nr_reduce.specs.ServerMessages.Verdict.{MakesPending}
 use Rattle.nr_reduce.specs.ServerFrames.{FrameEffect, no_effect, with_verdict, ready_if_whole, by_message, message_effect, effect_in, frame_effect}
-use Rattle.nr_responder.specs.Handling.{inline_call}
+use Rattle.nr_responder.specs.private.Handling.{inline_call}
 use Rattle.nr_reduce.specs.Server.{with_effect, received_by, response_bytes_after, tagged_accesses, effect_output, requests_from}
 
 -- ---- Regions that are over are closed already

@@ -11,7 +11,7 @@ use Rattle.nr_wire.proofs.Feedings.{bytes_taken_partial}
 use Rattle.nr_reduce.specs.declared.mark.LinkParameters.{LinkParameters}
 use Rattle.nr_reduce.specs.declared.mark.Mark.{Mark}
 use Rattle.nr_responder.specs.ResponderState.{ResponderSide, ResponderState, end_of, KeepsStaging}
-use Rattle.nr_responder.specs.Handling.{IsTaken, on_link}
+use Rattle.nr_responder.specs.private.Handling.{IsTaken, on_link}
 use Rattle.nr_responder.specs.Standing.{RepresentsServer, Stands}
 use Rattle.nr_responder.proofs.Fed.{StepOf, not_ended_lem}
 use Rattle.nr_responder.proofs.Fed.StepOf.{Part, WholeFrame}

@@ -27,7 +27,7 @@ use Rattle.nr_responder.specs.Keeping.{Begins, Keeps}
 use Rattle.nr_responder.specs.Keeping.Begins.{BeforeHello, AfterHello}
 use Rattle.nr_responder.specs.Steps.{FedOn, Fed}
 use Rattle.nr_responder.specs.Steps.Fed.{WentOn, RanOut}
-use Rattle.nr_responder.specs.Handling.{IsServerOf, IsHandled, IsTaken, Handled, on_link}
+use Rattle.nr_responder.specs.private.Handling.{IsServerOf, IsHandled, IsTaken, Handled, on_link}
 use Rattle.nr_responder.proofs.Fed.{StepOf, step_of, step_goes, ended_goes, ended_fed_lem, not_ended_lem}
 use Rattle.nr_responder.proofs.Fed.StepOf.{Part, WholeFrame}
 use Rattle.nr_endpoint.specs.FedBytes.{fed_bytes}

@@ -34,9 +34,9 @@ use Rattle.nr_reduce.specs.Server.{server_rules, server_end, server_output, serv
 use Rattle.nr_responder.specs.ResponderState.{ResponderSide, queued_bytes}
 use Rattle.nr_responder.specs.Keeping.{Begins, Keeps, KeepsEnd}
 use Rattle.nr_responder.specs.Keeping.Begins.{BeforeHello, AfterHello}
-use Rattle.nr_responder.specs.Handling.{Handled, IsHandled, on_link, with_ready, inline_call}
+use Rattle.nr_responder.specs.private.Handling.{Handled, IsHandled, on_link, with_ready, inline_call}
 use Rattle.nr_responder.specs.private.CallsRead.{complete_call, reading_call}
-use Rattle.nr_responder.specs.Handling.Handled.{Stopped, Refused, Ready, Fetched, Completed}
+use Rattle.nr_responder.specs.private.Handling.Handled.{Stopped, Refused, Ready, Fetched, Completed}
 use Rattle.nr_responder.proofs.Queues.{hello_queue}
 use Rattle.nr_responder.proofs.Executed.{with_message}
 use Rattle.nr_responder.proofs.SendFrames.{frame_lives, part_framed, last_framed}
@@ -114,9 +114,9 @@ hello_takes opened k so_far v frame h place awaited none some lives = by (hello_
         (sym (as_hello ∙ ap (λ (r : Result Hello ℕ). with_peer_hello (next_frame v.link.state frame) r v.link.state) e))
         (greeted opened k so_far v frame hello h place none some e)
 
--- ---- A frame behind it
+-- ---- A frame after it
 
--- the link behind the frame
+-- the link after the frame
 abbrev pub link_behind : LinkSide → List ℕ → LinkSide
 link_behind l frame = record { awaited = Fpdu; rest = []; state = with_frame l.state l.awaited frame }
 
@@ -202,7 +202,7 @@ unfolding with_peer_hello
 hello_deliveries s f (Ok hello) = refl
 hello_deliveries s f (Err reason) = refl
 
--- a whole frame that doesn't end the side, and what was made of what it told
+-- a complete frame that doesn't end the side, and what was made of what it delivered
 pub frame_takes : (opened : LinkParameters) (k : ServerState) (so_far : InputState) (v after : ResponderSide) (frame : List ℕ) → Keeps opened k so_far v → 0 < length frame → (with_frame v.link.state v.link.awaited frame).ended ≡ None →
     IsHandled k (on_link v (link_behind v.link frame)) after → TakesFrame opened k (behind so_far frame) (next_frame v.link.state frame) v after
 frame_takes opened k so_far v after frame h long lives handled = by h.begins

@@ -1,4 +1,4 @@
--- A whole frame with a segment of a Send at a responder: a part of a message, and a message whose call is ready at once, is refused by an
+-- A complete frame with a segment of a Send at a responder: a part of a message, and a message whose call is ready at once, is refused by an
 -- error message, or ends the link.
 use Rattle.std.proofs.Common.{◌≡◌, ℕ, ◌+◌, ◌-◌, ◌<◌, ◌≤◌, Bool, true, false, not, cond, List, [], ◌∷◌, ◌++◌, length, Option, Some, None, Ok, refl, sym, ap, subst, ◌∙◌, arith, inl, inr, is_some, length-append}
 use Rattle.std.specs.Prelude.{map}
@@ -46,7 +46,7 @@ use Rattle.nr_reduce.specs.Server.{server_rules, server_end, server_output, serv
 use Rattle.nr_responder.specs.ResponderState.{ResponderSide, queued_bytes, unsent}
 use Rattle.nr_responder.specs.Keeping.{IsServer, Begins, LinkKeeps, Keeps, KeepsEnd}
 use Rattle.nr_responder.specs.Keeping.Begins.{BeforeHello, AfterHello}
-use Rattle.nr_responder.specs.Handling.{inline_call, refused_effect, on_link, with_ready}
+use Rattle.nr_responder.specs.private.Handling.{inline_call, refused_effect, on_link, with_ready}
 use Rattle.nr_responder.proofs.FrameEnds.{frame_ends}
 use Rattle.nr_responder.proofs.ServerSteps.{with_received, quiet, quiet_output, ready_call, inline_effect, inline_ready, effect_is, with_inline_call, ready_state, over_pushed, closed_if_over, new_is_read}
 use Rattle.nr_responder.proofs.SendFrames.{framed, frame_lives, send_framed, part_framed, last_framed, part_keeps, told_keeps, part_server, told_server, message_kept, calls_later, reads_later, regions_later, payloads_told}
@@ -138,11 +138,11 @@ part_takes opened k input v frame w queue_number msn offset payload h behind_hel
 
 -- ---- A message whose call is ready at once
 
--- the side behind the frame, once it told the message
+-- the side after the frame, once it delivered the message
 abbrev pub told_link : LinkState → List ℕ → LinkState
 told_link s frame = record (with_frame s Fpdu frame) { receive_queue = delivered (with_frame s Fpdu frame).receive_queue }
 
--- the message that the frame makes whole
+-- the message that the frame completes
 abbrev pub whole_message : LinkState → List ℕ → List ℕ
 whole_message s payload = begun_bytes s.receive_queue.received.begun ++ payload
 

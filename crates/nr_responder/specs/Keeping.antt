@@ -56,7 +56,7 @@ ArePayloads calls [] (p ∷ payloads) = ⊥
 ArePayloads calls (r ∷ ready) [] = ⊥
 ArePayloads calls (r ∷ ready) (p ∷ payloads) = HasPayload calls r p × ArePayloads calls ready payloads
 
--- The state of a server, as it comes along a run where so many bytes were received: its regions are sinks under the STags from 1 on,
+-- The state of a server, as it comes along a run after n bytes were received: its regions are sinks under the STags from 1 on,
 -- those that are over are closed and no others, and nothing has the number of a Send that hasn't come.
 pub record IsServer (k : ServerState) (place : ℕ) : Type 0 where
   pub offered : AreOffered place k.regions
@@ -80,7 +80,7 @@ pub data Begins (link : LinkSide) : Type 0 where
   BeforeHello : link.state.place ≡ 0 → link.awaited ≡ HelloFrom Initiator → link.state.has_hello ≡ false → link.state.send_queue.fpdus ≡ [] → Begins link
   AfterHello : 0 < link.state.place → link.awaited ≡ Fpdu → link.state.has_hello ≡ true → Begins link
 
--- the reads whose Read Requests are sent, each where its response goes on
+-- the reads whose Read Requests are sent, each with the offset at which its response goes on
 abbrev pub open_response : PendingRead → ExpectedResponse
 open_response r = record { sink = r.sink; at = r.at; left = r.size }
 
@@ -92,7 +92,7 @@ abbrev pub open_responses : ℕ → List PendingRead → List ExpectedResponse
 open_responses response_bytes [] = []
 open_responses response_bytes (r ∷ reads) = record { sink = r.sink; at = r.at + response_bytes; left = r.size - response_bytes } ∷ later_responses reads
 
--- The offsets in all output that is due at which messages end, where so many bytes were written and the queue begins with `hello` bytes
+-- The offsets in all output that is due at which messages end, after n bytes were written, if the queue begins with `hello` bytes
 -- of a hello: those of the messages that wait, as offsets in the FPDUs of the queue.
 unfoldable pub ends_queued : (written hello : ℕ) → List ℕ → List ℕ
 ends_queued written hello ends = map (λ end. end - written - hello) (filter (nat_lt written) ends)
@@ -101,7 +101,7 @@ ends_queued written hello ends = map (λ end. end - written - hello) (filter (na
 abbrev pub IsEnd : (written hello end : ℕ) → Type 0
 IsEnd written hello end = (end ≤ written) ⊎ (written + hello < end)
 
--- The send queue has the bytes that are due and not written, and knows where the messages among them end.
+-- The send queue has the bytes that are due and not written, and knows the offsets at which the messages among them end.
 pub record QueueHas (written due messages requests : ℕ) (ends : List ℕ) (q : SendQueue) : Type 0 where
   pub due_is : written + output_len q ≡ due
   pub ends_are : q.send_ends ≡ ends_queued written (length q.hello) ends

@@ -1,7 +1,6 @@
 pub mod Answering
 pub mod Codes
 pub mod Draining
-pub mod Handling
 pub mod Keeping
 pub mod Laws
 pub mod Fetching

@@ -23,7 +23,7 @@ pub record ResponderState : Type 0 where
   pub staging : List ℕ
   pub rooms : ℕ
 
--- the side as it is opened with so many credits: its first region gets the STag 1
+-- the side as it is opened with this number of credits: its first region gets the STag 1
 abbrev pub opened_side : ℕ → ResponderSide
 opened_side credits = record { link = initial_link Responder credits 1; calls = []; ready = []; credits = credits; fetching = nothing_fetched }
 
@@ -58,7 +58,7 @@ unsent s = length s.send_queue.send_ends
 abbrev pub bytes_held_by : ResponderState → ℕ
 bytes_held_by v = length v.staging + bytes_of v.side.link.state + send_max * (length v.side.calls + unsent v.side.link.state) + v.rooms
 
--- so many receives are posted again
+-- n receives are posted again
 abbrev pub posted_times : ℕ → LinkSide → LinkSide
 posted_times n l = record {
   awaited = l.awaited;
@@ -66,7 +66,7 @@ posted_times n l = record {
   state = record l.state { receive_queue = record l.state.receive_queue { free = l.state.receive_queue.free + n; lent = l.state.receive_queue.lent - n } };
 }
 
--- the side of the link after n bytes of its queue were written and so many receives are posted again
+-- the side of the link after n bytes of its queue were written and m receives are posted again
 abbrev pub drained_posted : LinkState → ℕ → ℕ → LinkState
 drained_posted s n posts = record s {
   receive_queue = record s.receive_queue { free = s.receive_queue.free + posts; lent = s.receive_queue.lent - posts };

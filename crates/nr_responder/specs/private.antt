@@ -3,3 +3,4 @@ pub mod CallsRead
 pub mod DoneReads
 pub mod Reading
 pub mod ReadsDone
+pub mod Handling

@@ -3,7 +3,7 @@
 ghost use Rattle.std.specs.Prelude.{◌≡◌, ℕ, ◌<◌, ◌≤◌, None, map, true};
 ghost use Rattle.nr_header.specs.Constants.{FIXED_LEN, PAYLOAD_MAX};
 ghost use Rattle.nr_header.specs.WithinLimits.{read_total};
-ghost use Rattle.nr_responder.specs.Handling.{FetchesCall};
+ghost use Rattle.nr_responder.specs.private.Handling.{FetchesCall};
 ghost use Rattle.nr_responder.specs.Sound.{state_of, InBuffer, IsSound, IsSoundWith, SameInput};
 ghost use Rattle.nr_reduce.specs.ServerReads.{is_read};
 ghost use Rattle.nr_responder.specs.private.CallsRead.{has_bytes, HasBytes, HasNoBytes};

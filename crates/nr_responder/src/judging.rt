@@ -92,7 +92,7 @@ fn judge_body(message: &[u8], body: Body) -> Judged
     }
 }
 
-/// Judges a message, where these calls are pending.
+/// Judges a message, when these calls are pending.
 pub(crate) fn judge(message: &[u8], calls: &[Pending]) -> Judged
     requires { FIXED_LEN ≤ length message.now }
     ensures judged { (k : ServerState) → k.calls ≡ map call_view calls.now → next_stag k ≤ 2 ^ 32 → Judges k message.now result }

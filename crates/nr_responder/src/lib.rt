@@ -5,7 +5,7 @@
 //! which says how a reply is sent back and what a server of a run owes.
 //!
 //! A message comes as a receive buffer. It is judged once ([`Responder::feed`]): it ends the link, is refused by an error message, or
-//! makes a call pending, which keeps that buffer until its answer has left the queue. So the payload of a call is read where its Send
+//! makes a call pending, which keeps that buffer until its answer has left the queue. So the payload of a call is read in the buffer in which its Send
 //! was placed ([`Responder::payload`]). [`Responder::answer`] queues RDMA Writes and one Send, or ERR_CHUNK, or changes nothing; and
 //! [`Responder::drain_into`] posts the receive of each answer that has left.
 //!

@@ -185,7 +185,7 @@ impl Responder {
         self.end.unanswered()
     }
 
-    /// How many receives are in use: one for each Send that is begun, until its answer has wholly left. Takes no memory.
+    /// How many receives are in use: one for each Send that is begun, until its answer has completely left. Takes no memory.
     pub fn in_use(&self) -> usize
         ensures exact { result ≡ length self.now.side.calls + (unsent self.now.side.link.state + one_if (is_begun self.now.side.link.state.receive_queue.received.begun)) }
         ensures of_run { end_of self.now.side ≡ None → (opened : LinkParameters) (link : ℕ) (run : List Mark) → Stands opened link run self.now.side → result ≡ receives_in_use (server opened link run).state }

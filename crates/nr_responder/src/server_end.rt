@@ -23,7 +23,7 @@ ghost use Rattle.nr_outside.specs.declared.moment.Moment.{Moment};
 ghost use Rattle.nr_reduce.specs.Served.{next_call, IsExecuted};
 ghost use Rattle.nr_responder.specs.Answering.{Answers, IsPayload};
 ghost use Rattle.nr_responder.specs.Draining.{Drains};
-ghost use Rattle.nr_responder.specs.Handling.{out, Begins, IsTaken, Makes, OrOut, ReadsXid};
+ghost use Rattle.nr_responder.specs.private.Handling.{out, Begins, IsTaken, Makes, OrOut, ReadsXid};
 ghost use Rattle.nr_responder.specs.ResponderState.{end_of, opened_side, posted_times, may_write, KeepsStaging};
 ghost use Rattle.nr_reduce.specs.ServerReads.{is_read};
 ghost use Rattle.nr_responder.specs.Sound.{state_of, with_staging, payloads_of, AreSound, HasRoom, InBuffer, IsNext, IsSound, IsSoundWith, SameInput};
@@ -111,7 +111,7 @@ pub(crate) fn send_error(endpoint: &mut Endpoint, made: Result<Octets, Memory>) 
     false
 }
 
-/// Posts the last of these receives again until only so many are left.
+/// Posts the last of these receives again until only `left` are left.
 fn post_until(endpoint: &mut Endpoint, used: &mut VecDeque<Octets>, left: usize)
     requires left { left ≤ length used.old.items }
     requires lent { length used.old.items ≤ endpoint.old.link.state.receive_queue.lent + left }
@@ -143,7 +143,7 @@ fn taken_at(end: Option<End>, all: usize, part: usize) -> usize
 }
 
 impl ServerEnd {
-    /// The server end of a link that grants so many credits.
+    /// The server end of a link that grants this number of credits.
     pub fn open(alloc: Global, credits: u32) -> Result<ServerEnd, Memory>
         ensures sound { IfOk result IsSound }
         ensures state { IfOk result (λ r. state_of r ≡ opened_side credits) }

@@ -46,8 +46,7 @@ module _ (settings : Settings Text) (before after : AcceptorAt) (gave mid gave' 
   pub serves_all : ServesLinksOf settings before after mid gave' first last
       → (s : ServesConnections settings before after gave gave') × RepresentsJournal (setup_of settings opens.moment) s.journal last
   serves_all links =
-      let (K, stands) = journal_after settings.credits (setup_of settings opens.moment) [] (between before.ended before.lost mid first) (between after.ended after.lost gave' last) links.ends links.serves.serves opens.stands in
-      (
+      let (K, stands) = journal_after settings.credits (setup_of settings opens.moment) [] (between before.ended before.lost mid first) (between after.ended after.lost gave' last) links.ends links.serves.serves opens.stands in (
         record {
           ends = links.ends;
           journal = K;

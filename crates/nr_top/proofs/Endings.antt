@@ -117,7 +117,7 @@ over_budget arguments status input input' out out' err err' stopped is said =
       arguments_due = λ other. absurd (cc (long.line, other));
     }
 
--- where there is no memory for the text of an invalid line
+-- if there is no memory for the text of an invalid line
 without_text : (number : ℕ) (arguments : List (List ℕ)) (input input' : InputAt) (out out' : SinkAt) → Stopped (BadScript number) arguments input input' out out' → Stopped NoMemory arguments input input' out out'
 without_text number arguments input input' out out' stopped =
     (sources.Input, stopped.0.line, ((stopped.0.text, stopped.0.whole.handed, stopped.0.whole.within), stopped.0.whole.unfailing), stopped.1)

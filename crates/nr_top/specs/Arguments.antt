@@ -33,7 +33,7 @@ unfoldable pub seeded : List (List ℕ) → Option ScriptSource
 seeded arguments =
     seeded_by (number_for (codes "--seed") 0 most_seed arguments) (number_for (codes "--clients") 1 clients_max arguments) (number_for (codes "--calls") 1 calls_max arguments)
 
--- From where the script comes, if the arguments are those of a drill: `drill` alone, or with all three options.
+-- The source of the script, if the arguments are those of a drill: `drill` alone, or with all three options.
 unfoldable pub source_of : List (List ℕ) → Option ScriptSource
 source_of arguments =
     if length arguments == 2 && bytes_eq (word_at 1 arguments) (codes "drill") then Some sources.Input

@@ -1,4 +1,4 @@
--- How a run of the program ends, and what its status says. Clauses about bytes apply only where the bytes are known;
+-- How a run of the program ends, and what its status says. Clauses about bytes apply only if the bytes are known;
 -- fault counts are always known.
 use Rattle.std.specs.Prelude.{◌≡◌, ◌≢◌, ℕ, ◌<◌, ◌≤◌, ◌⊎◌, List, ◌++◌, length, take, codes, Option, None, Some, IfSome, Ok, Err}
 use Rattle.std.specs.Fmt.{decimal}
@@ -20,7 +20,7 @@ use Rattle.nr_top.specs.declared.words.ScriptSource.{ScriptSource}
 use Rattle.nr_top.specs.declared.words.ScriptSource.TheVariants as sources
 use Rattle.nr_top.specs.Arguments.{source_of, due_status}
 
--- a source as contracts see it: the bytes left and those handed out, where known, and its fault count
+-- a source as contracts see it: the bytes left and those handed out, if known, and its fault count
 pub record InputAt : Type 0 where
   pub left : Option (List ℕ)
   pub given : Option (List ℕ)
@@ -29,7 +29,7 @@ pub record InputAt : Type 0 where
 abbrev pub input_at : Option (List ℕ) → Option (List ℕ) → ℕ → InputAt
 input_at left given faults = record { left = left; given = given; faults = faults }
 
--- a sink as contracts see it: the bytes taken, where known, and its fault count
+-- a sink as contracts see it: the bytes taken, if known, and its fault count
 pub record SinkAt : Type 0 where
   pub taken : Option (List ℕ)
   pub faults : ℕ
@@ -138,7 +138,7 @@ abbrev pub TookFor : ScriptSource → InputAt → InputAt → Type 0
 TookFor sources.Input input input' = Took input input' × (input'.faults ≡ input.faults)
 TookFor (sources.Seed seed clients calls) input input' = input' ≡ input
 
--- what holds where a command wasn't done, by the cause
+-- what holds if a command wasn't done, by the cause
 abbrev pub Stopped : Cause → List (List ℕ) → InputAt → InputAt → SinkAt → SinkAt → Type 0
 Stopped BadArguments arguments input input' out out' = (source_of arguments ≡ None) × (input' ≡ input) × (out' ≡ out)
 Stopped NoMemory arguments input input' out out' = (source : ScriptSource) × (source_of arguments ≡ Some source) × TookFor source input input' × Silent out out'
@@ -162,7 +162,7 @@ bad_line_text number = codes "bad line " ++ decimal number ++ codes "\n"
 abbrev pub Reported : ℕ → List ℕ → ℕ → SinkAt → SinkAt → Type 0
 Reported due text status err err' = ((status ≡ due) × Wrote err err' text) ⊎ ((status ≡ statuses.fault) × CutOff err err' text)
 
--- what is so where the input was read and gave no script
+-- what is so if the input was read and gave no script
 abbrev pub StoppedReading : Cause → InputAt → InputAt → Type 0
 StoppedReading BadArguments input input' = ⊥
 StoppedReading NoMemory input input' = Took input input' × (input'.faults ≡ input.faults)
@@ -187,7 +187,7 @@ abbrev pub StoppedBefore : ScriptSource → Cause → InputAt → InputAt → Ty
 StoppedBefore sources.Input cause input input' = StoppedReading cause input input'
 StoppedBefore (sources.Seed seed clients calls) cause input input' = (cause ≡ NoMemory) × (input' ≡ input)
 
--- What is written for a cause. The text with the number of a line needs memory; where there is none, that is written.
+-- What is written for a cause. The text with the number of a line needs memory; if there is none, that is written.
 abbrev pub ReportsFailure : Cause → ℕ → SinkAt → SinkAt → Type 0
 ReportsFailure BadArguments status err err' = Reported statuses.bad_arguments (codes "bad words\n") status err err'
 ReportsFailure NoMemory status err err' = Reported statuses.no_memory memory_text status err err'
@@ -196,8 +196,8 @@ ReportsFailure OutputFault status err err' = Reported statuses.fault (codes "out
 ReportsFailure (BadScript number) status err err' = Reported statuses.bad_script (bad_line_text number) status err err' ⊎ Reported statuses.no_memory memory_text status err err'
 ReportsFailure OverBudget status err err' = Reported statuses.over_budget budget_text status err err'
 
--- Why the command wasn't done, where a fault count rose, and what was written for it: for a fault of the input or of
--- the output the whole text, or a proper prefix, where err failed too; for another cause a proper prefix.
+-- Why the command wasn't done, if a fault count rose, and what was written for it: for a fault of the input or of
+-- the output the complete text, or a proper prefix, if err failed too; for another cause a proper prefix.
 abbrev pub FaultReport : List (List ℕ) → InputAt → InputAt → SinkAt → SinkAt → SinkAt → SinkAt → Type 0
 FaultReport arguments input input' out out' err err' = (cause : Cause) × Stopped cause arguments input input' out out' × ReportsFailure cause statuses.fault err err'
 

@@ -6,7 +6,7 @@ ghost use Rattle.nr_top.specs.Arguments.{HasRanges, number_for, seeded, source_o
 
 use nr_script::{CALLS_MAX, CLIENTS_MAX, number_within};
 
-/// From where the script of a drill comes.
+/// The source of a drill's script.
 #[derive(Clone, Copy)]
 pub(crate) enum ScriptSource {
     /// It is read from the input.
@@ -63,7 +63,7 @@ fn seeded(arguments: &[String]) -> Option<ScriptSource>
     }
 }
 
-/// From where the script comes, if the words are those of a drill.
+/// The source of the script, if the words are those of a drill.
 #[tactic(auto, unfolding(crate::specs::Arguments::source_of))]
 pub(crate) fn source_of(arguments: &[String]) -> Option<ScriptSource>
     ensures is { result ≡ source_of (map string_bytes arguments.now) }

@@ -288,7 +288,7 @@ static LENGTHS: [(usize, u8, &[u8]); 2] = [
     (16_777_216, BAD_SCRIPT, b"bad line 1\n"),
 ];
 
-/// Runs the program on so many bytes `x`, and compares.
+/// Runs the program on this number of bytes `x`, and compares.
 fn long_run(rt: &impl Abort, alloc: Global, row: usize, len: usize, want: (u8, &[u8], &[u8])) {
     let arguments = strings(rt, alloc, DRILL);
     let input = vec![in alloc; b'x'; len].expect(rt, "memory");

@@ -14,7 +14,9 @@ pub struct Metadata {
     pub mode: u32,
     /// The number of hard links.
     pub links: u32,
+    /// The user ID of the owner.
     pub uid: u32,
+    /// The group ID of the owner's group.
     pub gid: u32,
     /// The time of the last access to the data.
     pub atime: Time,

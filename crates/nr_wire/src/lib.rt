@@ -22,7 +22,7 @@ mod write;
 
 pub use hello::{Hello, NextHello, Side, read_hello};
 pub use laws::{
-    longest_fpdu, frame_in_parts, however_cut, judged_alone, one_segment, one_split, round_trip,
+    frame_in_parts, however_cut, judged_alone, longest_fpdu, one_segment, one_split, round_trip,
 };
 pub use segment::{NextSegment, Segment, next_segment};
 pub use stream::{Awaited, bytes_needed, whole_frame};

@@ -24,8 +24,8 @@ use Rattle.nr_drill_link.specs.DrillLinkState.{DrillLinkState}
 use Rattle.nr_drill_link.specs.LinkStands.{LinkStands}
 use Rattle.nr_drill_link.specs.Steps.{ServerStands}
 use Rattle.nr_world.specs.declared.world.World.{World}
-use Rattle.nr_world.specs.Stands.{drill_setting, WorldStands, NoneDueBefore, Steps, StepsIfNoneDue, MakesLine, MakesLines}
-use Rattle.nr_world.specs.Within.{IsClient, IsWithin, AreWithin, CanMake, CanMakeAll}
+use Rattle.nr_world.specs.private.Stands.{drill_setting, WorldStands, NoneDueBefore, Steps, StepsIfNoneDue, MakesLine, MakesLines}
+use Rattle.nr_world.specs.private.Within.{IsClient, IsWithin, AreWithin, CanMake, CanMakeAll}
 use Rattle.nr_world.proofs.Others.{link_stays}
 use Rattle.nr_world.proofs.Progress.{round_more}
 use Rattle.nr_world.proofs.SameServer.{up_leaves, down_leaves, submit_leaves, forget_leaves, revoke_leaves, drop_leaves, raw_leaves, work_clock, moves_clock}

@@ -25,8 +25,8 @@ use Rattle.nr_drill_link.specs.DrillLinkState.{DrillLinkState}
 use Rattle.nr_drill_link.specs.LinkStands.{LinkStands}
 use Rattle.nr_drill_link.specs.Steps.{ServerStands, IsBeforeOpening, Opens, mark_link}
 use Rattle.nr_world.specs.declared.world.World.{World}
-use Rattle.nr_world.specs.Stands.{drill_setting, HasOpened, WorldStands}
-use Rattle.nr_world.specs.Opened.{OpensAll}
+use Rattle.nr_world.specs.private.Stands.{drill_setting, HasOpened, WorldStands}
+use Rattle.nr_world.specs.private.Opened.{OpensAll}
 use Rattle.nr_world.proofs.Others.{others_stand}
 use Rattle.nr_world.proofs.Rounds.{openings_from, openings_end}
 use Rattle.nr_world.proofs.SameServer.{opening_leaves}

@@ -13,8 +13,8 @@ use Rattle.nr_drill.specs.DrillSetup.{drill_setup, server_of}
 use Rattle.nr_drill.specs.Headline.{IsDrillRun}
 use Rattle.nr_drill.specs.LinkEnds.{ends_of, ReportsRuns}
 use Rattle.nr_world.specs.declared.world.World.{World}
-use Rattle.nr_world.specs.Stands.{drill_setting, WorldStands}
-use Rattle.nr_world.specs.Results.{AreEndsOf, ReportsWorld}
+use Rattle.nr_world.specs.private.Stands.{drill_setting, WorldStands}
+use Rattle.nr_world.specs.private.Results.{AreEndsOf, ReportsWorld}
 use Rattle.nr_world.proofs.Rounds.{links_from, no_links}
 
 abbrev pub ends_from : Option End → Option End → Bool → LinkEnds

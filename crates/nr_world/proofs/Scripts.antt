@@ -16,10 +16,10 @@ use Rattle.nr_drill.proofs.Carried.{both_true}
 use Rattle.nr_drill.proofs.Handed.{handed_after}
 use Rattle.nr_drill.proofs.Headed.{drill_is_run}
 use Rattle.nr_world.specs.declared.world.World.{World}
-use Rattle.nr_world.specs.Opened.{IsOpen}
-use Rattle.nr_world.specs.Results.{ReportsWorld}
-use Rattle.nr_world.specs.Stands.{drill_setting, NoneDueBefore, MakesLines}
-use Rattle.nr_world.specs.Within.{IsClient, IsWithin, AreWithin, CanMakeAll}
+use Rattle.nr_world.specs.private.Opened.{IsOpen}
+use Rattle.nr_world.specs.private.Results.{ReportsWorld}
+use Rattle.nr_world.specs.private.Stands.{drill_setting, NoneDueBefore, MakesLines}
+use Rattle.nr_world.specs.private.Within.{IsClient, IsWithin, AreWithin, CanMakeAll}
 use Rattle.nr_world.proofs.SameServer.{openings_clock}
 
 client_is : (opening : Opening) (client : ℕ) → is_client opening client ≡ true → IsClient opening.clients client

@@ -23,8 +23,8 @@ use Rattle.nr_drill_link.specs.DrillLinkState.{DrillLinkState}
 use Rattle.nr_drill_link.specs.LinkStands.{LinkStands}
 use Rattle.nr_drill_link.specs.Steps.{StandsAt, Goes, GoesIfNoneDue, Works, ServerStands}
 use Rattle.nr_world.specs.declared.world.World.{World}
-use Rattle.nr_world.specs.Stands.{drill_setting, HasOpened, WorldStands, Steps, StepsIfNoneDue}
-use Rattle.nr_world.specs.Within.{IsClient}
+use Rattle.nr_world.specs.private.Stands.{drill_setting, HasOpened, WorldStands, Steps, StepsIfNoneDue}
+use Rattle.nr_world.specs.private.Within.{IsClient}
 use Rattle.nr_world.proofs.SameServer.{Leaves}
 use Rattle.nr_world.proofs.Others.{others_stand}
 

@@ -1,4 +1,1 @@
-pub mod Opened
-pub mod Results
-pub mod Stands
-pub mod Within
+pub mod private

@@ -2,8 +2,8 @@
 
 ghost use Rattle.std.specs.Prelude.{OnOk};
 ghost use Rattle.nr_script.specs.declared.script.Line.TheVariants as lines;
-ghost use Rattle.nr_world.specs.Stands.{MakesLine, MakesLines};
-ghost use Rattle.nr_world.specs.Within.{CanMake, CanMakeAll};
+ghost use Rattle.nr_world.specs.private.Stands.{MakesLine, MakesLines};
+ghost use Rattle.nr_world.specs.private.Within.{CanMake, CanMakeAll};
 
 use crate::steps::Procedure;
 use crate::world::World;

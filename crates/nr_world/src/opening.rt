@@ -3,7 +3,7 @@
 ghost use Rattle.std.specs.Prelude.{◌≡◌, ◌≤◌, [], replicate, IfOk, OnOk};
 ghost use Rattle.nr_rpc.specs.declared.cred.Cred.TheVariants as credentials;
 ghost use Rattle.nr_script.specs.Limits.{capacity_max};
-ghost use Rattle.nr_world.specs.Opened.{IsDrillServer, IsOpen, IsStarted, OpensAll};
+ghost use Rattle.nr_world.specs.private.Opened.{IsDrillServer, IsOpen, IsStarted, OpensAll};
 
 use crate::world::World;
 use nr_drill_link::DrillLink;

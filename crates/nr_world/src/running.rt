@@ -3,7 +3,7 @@
 ghost use Rattle.std.specs.Prelude.{◌≡◌, ◌≤◌, ◌+◌, [], IfOk, OnOk, length};
 ghost use Rattle.nr_script.specs.Limits.{clients_max};
 ghost use Rattle.nr_drill.specs.DrillSetup.{GivesReport};
-ghost use Rattle.nr_world.specs.Results.{AreEndsOf, ReportsWorld};
+ghost use Rattle.nr_world.specs.private.Results.{AreEndsOf, ReportsWorld};
 
 use crate::world::World;
 use nr_drill::{LinkEnds, Report, report_of};

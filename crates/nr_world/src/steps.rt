@@ -10,8 +10,8 @@ ghost use Rattle.nr_script.specs.declared.script.Opening.{Opening};
 ghost use Rattle.nr_reduce.specs.History.{is_dropped};
 ghost use Rattle.nr_drill.specs.Drill.{Drill, links_of, after_submit, after_up, after_down, after_work, after_forget, after_revoke, after_drop, after_raw, after_moves, after_round};
 ghost use Rattle.nr_drill.specs.Follows.{is_still as is_still_in};
-ghost use Rattle.nr_world.specs.Stands.{Steps, StepsIfNoneDue, WorldStands, drill_setting};
-ghost use Rattle.nr_world.specs.Within.{IsClient};
+ghost use Rattle.nr_world.specs.private.Stands.{Steps, StepsIfNoneDue, WorldStands, drill_setting};
+ghost use Rattle.nr_world.specs.private.Within.{IsClient};
 
 use crate::world::World;
 use nr_drill_link::{copy_cred, copy_form};

@@ -25,7 +25,7 @@ side_after_done t reads over = record t { send_queue = with_requests reads t.sen
 abbrev pub with_sent : LinkState → List ℕ → LinkState
 with_sent t message = record t { send_queue = with_send message t.send_queue }
 
--- With these calls and reads, of which so many are open, and with these calls more that are ready and their payloads; `state` is the side of
+-- With these calls and reads, of which n are open, and with these calls more that are ready and their payloads; `state` is the side of
 -- the link before sinks are released and reads open.
 abbrev pub reading_on : ResponderSide → LinkState → List PendingCall → List PendingRead → (kept : ℕ) → List ℕ → List (Option (List ℕ)) → ResponderSide
 reading_on v state calls reads kept xids payloads = record {

@@ -19,7 +19,7 @@ HasRoomIn name Fifo = ⊥
 abbrev pub HasRoomFor : List ℕ → Node → Type 0
 HasRoomFor name node = HasRoomIn name node.content × (node.metadata.links < 2 ^ 31)
 
--- where the entry of a name may be replaced by another: it is there, and its link is counted
+-- when the entry of a name may be replaced by another: it is there, and its link is counted
 abbrev pub HasEntryIn : List ℕ → Content → Type 0
 HasEntryIn name (Directory d) = (is_some (entry_of_name name d.list) ≡ true) × (d.next_cookie < 2 ^ 63)
 HasEntryIn name (Regular bytes) = ⊥

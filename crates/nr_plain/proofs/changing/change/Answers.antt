@@ -1,6 +1,6 @@
 use Rattle.std.proofs.Common.{◌≡◌, IfOk, OnOk}
 use Rattle.nr_nfs_res.specs.Results.{nfs_result}
-use Rattle.nr_plain.specs.Code.{IsChangeWith, tree_with}
+use Rattle.nr_plain.specs.private.Code.{IsChangeWith, tree_with}
 use Rattle.nr_plain.specs.Programs.{is_done}
 use Rattle.nr_plain.proofs.Calls.{read_as}
 use Rattle.nr_plain.proofs.changing.change.Goals as goal

@@ -2,7 +2,7 @@ use Rattle.std.proofs.Common.{◌≡◌, IfOk, OnOk}
 use Rattle.nr_nfs_args.specs.Bytes.{write_args_codec}
 use Rattle.nr_nfs_res.specs.Results.{write_res_codec}
 use Rattle.nr_ops_file.specs.Bytes.{write_tree, write_reply}
-use Rattle.nr_plain.specs.Code.{IsChangeWith, tree_with}
+use Rattle.nr_plain.specs.private.Code.{IsChangeWith, tree_with}
 use Rattle.nr_plain.specs.Programs.{is_done}
 use Rattle.nr_plain.proofs.Calls.{read_as}
 use Rattle.nr_plain.proofs.changing.write_file.Goals as goal

@@ -1,6 +1,6 @@
 use Rattle.std.proofs.Common.{◌≡◌, IfOk, OnOk, subst, sym}
 use Rattle.nr_nfs_base.specs.declared.procedure.NfsProcedure.{NfsProcedure}
-use Rattle.nr_plain.specs.Code.{IsChange, tree_of}
+use Rattle.nr_plain.specs.private.Code.{IsChange, tree_of}
 use Rattle.nr_plain.proofs.dispatch.changing.Goals as goal
 
 pub returns-in-Setattr-clause-result : goal.returns-in-Setattr-clause-result

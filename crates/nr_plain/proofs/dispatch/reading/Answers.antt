@@ -1,6 +1,6 @@
 use Rattle.std.proofs.Common.{◌≡◌, IfOk, subst, sym}
 use Rattle.nr_nfs_base.specs.declared.procedure.NfsProcedure.{NfsProcedure}
-use Rattle.nr_plain.specs.Code.{reply_of}
+use Rattle.nr_plain.specs.private.Code.{reply_of}
 use Rattle.nr_plain.proofs.dispatch.reading.Goals as goal
 
 pub returns-in-Null : goal.returns-in-Null

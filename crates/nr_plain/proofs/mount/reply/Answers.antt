@@ -1,6 +1,6 @@
 use Rattle.std.proofs.Common.{◌≡◌, IfOk, subst, sym}
 use Rattle.nr_nfs_base.specs.declared.procedure.MountProcedure.{MountProcedure}
-use Rattle.nr_plain.specs.Code.{mount_reply}
+use Rattle.nr_plain.specs.private.Code.{mount_reply}
 use Rattle.nr_plain.proofs.mount.reply.Goals as goal
 
 pub returns-in-Null : goal.returns-in-Null

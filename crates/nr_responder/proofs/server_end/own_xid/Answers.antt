@@ -1,7 +1,7 @@
 use Rattle.std.proofs.Common.{◌≡◌, ℕ, List, drop, take, Ok, sym, ap, ◌∙◌, refl}
 use Rattle.nr_rpc.specs.Reading.{call_of, xid_of_call}
 use Rattle.nr_xdr.specs.Fields.{word_at}
-use Rattle.nr_responder.specs.Handling.ReadsXid.{ReadsNoCall, ReadsOther, ReadsOwn}
+use Rattle.nr_responder.specs.private.Handling.ReadsXid.{ReadsNoCall, ReadsOther, ReadsOwn}
 use Rattle.nr_responder.proofs.Begun.{no_head_lem, some_head}
 use Rattle.nr_responder.proofs.server_end.own_xid.Goals as goal
 

@@ -8,9 +8,12 @@ returns-in-Ok g c = inl (c.status_of.ensures, record { appends = subst (Appends 
 pub returns : goal.returns
 returns g c =
     let (n, short, some) = c.in-Err.ensures.err in
-    inr (refl, record {
-      len = n;
-      short = subst (λ (text : List ℕ). n < length text) c.text_of.ensures short;
-      appends = subst (λ (text : List ℕ). Appends (g.E.Sink.taken c.args.err.now) (g.E.Sink.taken c.write_whole.new.sink) (take n text)) c.text_of.ensures some;
-      rose = c.in-Err.ensures.counted;
-    })
+    inr (
+      refl,
+      record {
+        len = n;
+        short = subst (λ (text : List ℕ). n < length text) c.text_of.ensures short;
+        appends = subst (λ (text : List ℕ). Appends (g.E.Sink.taken c.args.err.now) (g.E.Sink.taken c.write_whole.new.sink) (take n text)) c.text_of.ensures some;
+        rose = c.in-Err.ensures.counted;
+      },
+    )

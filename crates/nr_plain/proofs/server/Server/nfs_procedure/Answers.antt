@@ -1,6 +1,6 @@
 use Rattle.std.proofs.Common.{◌+◌, ◌≤◌, length, ap, sym, ◌∙◌, subst, arith}
 use Rattle.nr_tree.specs.Rules.{entry_cost}
-use Rattle.nr_plain.specs.Code.{entry_of}
+use Rattle.nr_plain.specs.private.Code.{entry_of}
 use Rattle.nr_plain.specs.Stands.{PlainServerState, IsServing}
 use Rattle.nr_plain.proofs.Serving.{costs, reply_is, entry_kept, same_kept, serving_entry, serving_same}
 use Rattle.nr_plain.proofs.server.Server.nfs_procedure.Goals.{then-change, else-change}

@@ -1,4 +1,4 @@
-use Rattle.nr_plain.specs.Code.{entry_of}
+use Rattle.nr_plain.specs.private.Code.{entry_of}
 use Rattle.nr_plain.proofs.Serving.{mount_program_lem}
 use Rattle.nr_plain.proofs.server.Server.program.Goals as goal
 

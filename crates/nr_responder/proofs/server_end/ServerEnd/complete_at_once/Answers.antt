@@ -1,7 +1,7 @@
 use Rattle.std.proofs.Common.{Some, sym, ap, ◌∙◌, refl}
 use Rattle.nr_reduce.specs.ServerMessages.{by_payload}
 use Rattle.nr_responder.specs.private.CallsRead.{verdict_of}
-use Rattle.nr_responder.specs.Handling.FetchesCall.{EndsFor, IsComplete}
+use Rattle.nr_responder.specs.private.Handling.FetchesCall.{EndsFor, IsComplete}
 use Rattle.nr_responder.specs.Views.{call_view}
 use Rattle.nr_responder.proofs.Sounds.{sound_less}
 use Rattle.nr_responder.proofs.Begun.{pushed_with}

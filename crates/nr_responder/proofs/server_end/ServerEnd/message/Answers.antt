@@ -6,8 +6,8 @@ use Rattle.nr_responder.specs.declared.call.Pending.{Pending}
 use Rattle.nr_responder.specs.declared.call.ReadEntry.{ReadEntry}
 use Rattle.nr_responder.specs.Views.{call_view, read_view, call_with, inline_of, IsCall, IsOfReads}
 use Rattle.nr_xdr.specs.Fields.{word_at}
-use Rattle.nr_responder.specs.Handling.{FetchesCall}
-use Rattle.nr_responder.specs.Handling.Makes.{Ends, Calls, NoServer}
+use Rattle.nr_responder.specs.private.Handling.{FetchesCall}
+use Rattle.nr_responder.specs.private.Handling.Makes.{Ends, Calls, NoServer}
 use Rattle.nr_responder.specs.Sound.{state_of}
 use Rattle.nr_responder.proofs.Sounds.{sound_less}
 use Rattle.nr_responder.proofs.Begun.{few_stags, fresh_number, not_fresh}

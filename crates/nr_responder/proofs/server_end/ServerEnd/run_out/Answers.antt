@@ -1,6 +1,6 @@
 use Rattle.std.proofs.Common.{ap, inr}
 use Rattle.nr_endpoint.specs.LinkState.{LinkSide}
-use Rattle.nr_responder.specs.Handling.{on_link}
+use Rattle.nr_responder.specs.private.Handling.{on_link}
 use Rattle.nr_responder.specs.Sound.{state_of}
 use Rattle.nr_responder.proofs.HeldSinks.{fetched_as}
 use Rattle.nr_responder.proofs.Posted.{memory_as}

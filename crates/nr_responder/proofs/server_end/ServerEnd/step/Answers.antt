@@ -8,7 +8,7 @@ use Rattle.nr_wire.proofs.Feedings.{bytes_taken_within}
 use Rattle.nr_endpoint.proofs.Pieces.{some_taken}
 use Rattle.nr_responder.specs.Sound.{state_of, with_staging}
 use Rattle.nr_responder.specs.Steps.{Fed}
-use Rattle.nr_responder.specs.Handling.{on_link}
+use Rattle.nr_responder.specs.private.Handling.{on_link}
 use Rattle.nr_responder.proofs.FirstFrames.{first_done, first_failed}
 use Rattle.nr_responder.proofs.Fed.{step_of}
 use Rattle.nr_responder.proofs.Handled.{step_counts, step_within}

@@ -6,7 +6,7 @@ use Rattle.nr_endpoint.specs.Calls.Call.{NextEvent}
 use Rattle.nr_endpoint.specs.Views.{delivery}
 use Rattle.nr_responder.specs.ResponderState.{ResponderSide}
 use Rattle.nr_responder.specs.Sound.{state_of}
-use Rattle.nr_responder.specs.Handling.{Makes, on_link}
+use Rattle.nr_responder.specs.private.Handling.{Makes, on_link}
 use Rattle.nr_responder.specs.private.ReadsDone.{HandlesRead}
 use Rattle.nr_responder.proofs.Handled.{same_fed}
 use Rattle.nr_responder.proofs.HeldSinks.{fetched_as}

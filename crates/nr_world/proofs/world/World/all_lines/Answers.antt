@@ -1,7 +1,7 @@
 use Rattle.std.proofs.Common.{arith, sym, subst}
 use Rattle.nr_script.specs.declared.script.Line.{Line}
-use Rattle.nr_world.specs.Stands.{MakesLine}
-use Rattle.nr_world.specs.Within.{CanMake}
+use Rattle.nr_world.specs.private.Stands.{MakesLine}
+use Rattle.nr_world.specs.private.Within.{CanMake}
 use Rattle.nr_world.proofs.LineSteps.{lines_on, lines_end, line_within}
 use Rattle.nr_world.proofs.world.World.all_lines.Goals as goal
 

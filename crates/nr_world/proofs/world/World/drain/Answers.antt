@@ -3,7 +3,7 @@ use Rattle.std.specs.List.{list_all}
 use Rattle.std.proofs.Common.{rules, ◌≡◌, ◌<◌, arith, length, zero, suc, true, false, sym, refl, ◌∙◌}
 use Rattle.nr_drill.specs.Drill.{after_round, links_of}
 use Rattle.nr_drill.specs.Follows.{is_still}
-use Rattle.nr_world.specs.Stands.{drill_setting}
+use Rattle.nr_world.specs.private.Stands.{drill_setting}
 use Rattle.nr_world.proofs.LineSteps.{more_marks}
 use Rattle.nr_world.proofs.world.World.drain.Goals as goal
 

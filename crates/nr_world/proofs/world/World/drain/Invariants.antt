@@ -5,8 +5,8 @@ use Rattle.nr_script.specs.declared.script.Opening.{Opening}
 use Rattle.nr_drill.specs.Drill.{Drill, links_of}
 use Rattle.nr_drill.specs.Follows.{Drains}
 use Rattle.nr_script.specs.declared.script.Line.TheVariants as lines
-use Rattle.nr_world.specs.Stands.{WorldStands, drill_setting}
-use Rattle.nr_world.specs.Within.{CanMake}
+use Rattle.nr_world.specs.private.Stands.{WorldStands, drill_setting}
+use Rattle.nr_world.specs.private.Within.{CanMake}
 use Rattle.nr_world.proofs.world.World.drain.Given as goal
 
 abbrev pub invariant-loop-self : goal.invariant-loop-self

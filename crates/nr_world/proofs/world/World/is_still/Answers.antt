@@ -2,7 +2,7 @@ use Rattle.std.specs.Prelude.{◌&&◌, ◌-◌}
 use Rattle.std.specs.List.{list_all, range_with_len}
 use Rattle.std.proofs.Common.{rules, ◌≡◌, ◌+◌, ◌<◌, arith, Bool, true, false, sym, ap, ◌∙◌}
 use Rattle.nr_drill.specs.Follows.{is_still}
-use Rattle.nr_world.specs.Stands.{drill_setting}
+use Rattle.nr_world.specs.private.Stands.{drill_setting}
 use Rattle.nr_world.proofs.Rounds.{still_from, still_end}
 use Rattle.nr_world.proofs.Stands.{link_at}
 use Rattle.nr_world.proofs.world.World.is_still.Goals as goal

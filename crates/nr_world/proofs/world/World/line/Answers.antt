@@ -3,8 +3,8 @@ use Rattle.nr_reduce.specs.History.{is_dropped}
 use Rattle.nr_script.specs.declared.script.Line.{Line}
 use Rattle.nr_script.specs.declared.script.Line.TheVariants as lines
 use Rattle.nr_drill.specs.Drill.{Setting, Drill, cred_of, after_submit, after_up, after_down, after_work, after_forget, after_revoke, after_drop, after_raw}
-use Rattle.nr_world.specs.Stands.{Steps}
-use Rattle.nr_world.specs.Within.{CanMake}
+use Rattle.nr_world.specs.private.Stands.{Steps}
+use Rattle.nr_world.specs.private.Within.{CanMake}
 use Rattle.nr_world.proofs.Stands.{on_ok}
 use Rattle.nr_world.proofs.LineSteps.{client_of, line_is, step_makes, step_makes_if_none_due, tick_makes}
 use Rattle.nr_world.proofs.world.World.line.Goals as goal

@@ -1,6 +1,6 @@
 use Rattle.std.proofs.Common.{◌<◌, ℕ, ◌+◌, arith, ap, sym, subst, ◌∙◌, List, [], ◌∷◌, length, length-append}
 use Rattle.nr_drill.specs.declared.report.LinkEnds.{LinkEnds}
-use Rattle.nr_world.specs.Stands.{drill_setting}
+use Rattle.nr_world.specs.private.Stands.{drill_setting}
 use Rattle.nr_world.proofs.Reporting.{EndsSoFar, ends_from, ends_on, ends_all, ends_begin, same_ends}
 use Rattle.nr_world.proofs.Stands.{link_at}
 use Rattle.nr_world.proofs.world.World.push_ends.Goals as goal

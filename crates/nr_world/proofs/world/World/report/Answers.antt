@@ -1,5 +1,5 @@
 use Rattle.std.proofs.Common.{◌≡◌, length, arith, ap, sym, subst, ◌∙◌}
-use Rattle.nr_world.specs.Results.{AreEndsOf}
+use Rattle.nr_world.specs.private.Results.{AreEndsOf}
 use Rattle.nr_world.proofs.Reporting.{tells_world}
 use Rattle.nr_world.proofs.Stands.{if_ok}
 use Rattle.nr_world.proofs.world.World.report.Goals as goal

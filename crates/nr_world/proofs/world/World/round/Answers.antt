@@ -1,6 +1,6 @@
 use Rattle.std.proofs.Common.{◌+◌, ◌<◌, arith, subst, ◌∙◌}
 use Rattle.nr_drill.specs.Drill.{Drill, after_moves}
-use Rattle.nr_world.specs.Stands.{WorldStands, drill_setting}
+use Rattle.nr_world.specs.private.Stands.{WorldStands, drill_setting}
 use Rattle.nr_world.proofs.Rounds.{round_from, round_end}
 use Rattle.nr_world.proofs.world.World.round.Goals as goal
 

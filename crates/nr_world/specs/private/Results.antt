@@ -10,7 +10,7 @@ use Rattle.nr_drill.specs.DrillSetup.{drill_setup, server_of}
 use Rattle.nr_drill.specs.Headline.{IsDrillRun, Reports}
 use Rattle.nr_drill.specs.LinkEnds.{AreEnds}
 use Rattle.nr_world.specs.declared.world.World.{World}
-use Rattle.nr_world.specs.Stands.{drill_setting, WorldStands}
+use Rattle.nr_world.specs.private.Stands.{drill_setting, WorldStands}
 
 -- what the links of each drill that the world stands for came to
 abbrev pub AreEndsOf : World → List LinkEnds → Type 0

@@ -9,7 +9,7 @@ use Rattle.nr_drill.specs.Drill.{start}
 use Rattle.nr_drill.specs.DrillSetup.{drill_setup, server_of}
 use Rattle.nr_drill.specs.Follows.{opened_drill}
 use Rattle.nr_world.specs.declared.world.World.{World}
-use Rattle.nr_world.specs.Stands.{HasOpened, WorldStands}
+use Rattle.nr_world.specs.private.Stands.{HasOpened, WorldStands}
 
 -- the tree of a drill, which is sane
 pub record IsDrillTree (tree : Tree) : Type 0 where

@@ -9,7 +9,7 @@ use Rattle.nr_script.specs.Limits.{number_max}
 use Rattle.nr_script.specs.Script.{seconds_in}
 use Rattle.nr_drill.specs.Drill.{Drill}
 use Rattle.nr_world.specs.declared.world.World.{World}
-use Rattle.nr_world.specs.Stands.{drill_setting, WorldStands, NoneDueBefore}
+use Rattle.nr_world.specs.private.Stands.{drill_setting, WorldStands, NoneDueBefore}
 
 -- a client of the script
 abbrev pub IsClient : ℕ → ℕ → Type 0

@@ -1,0 +1,5 @@
+-- Definitions that only private code cites.
+pub mod Opened
+pub mod Results
+pub mod Stands
+pub mod Within
