@@ -5,6 +5,8 @@
 #![tactic(auto)]
 
 #[cfg(test)]
+mod chunks;
+#[cfg(test)]
 mod client_ends;
 #[cfg(test)]
 mod compare;
@@ -12,6 +14,8 @@ mod compare;
 mod drills;
 #[cfg(test)]
 mod forms;
+#[cfg(test)]
+mod given_up;
 #[cfg(test)]
 mod server_ends;
 #[cfg(test)]
