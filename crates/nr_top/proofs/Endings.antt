@@ -1,5 +1,5 @@
 -- What a cause, and what is written for it, say of the status.
-use Rattle.std.proofs.Common.{◌≡◌, ℕ, ◌<◌, ◌≤◌, rules, true, List, length, codes, Option, None, Some, IfSome, Result, Ok, Err, IfOk, refl, sym, ap, subst, ◌∙◌, arith, inl, inr, le-ltb, lt-ltb}
+use Rattle.std.proofs.Common.{◌≡◌, ℕ, ◌<◌, ◌≤◌, rules, List, length, codes, Option, Some, IfSome, Result, Ok, Err, IfOk, refl, sym, ap, subst, ◌∙◌, arith, inl, inr, le-ltb, lt-ltb}
 use Rattle.nr_script.specs.Limits.{script_max}
 use Rattle.nr_script.specs.Script.{ScriptLines, script_of}
 use Rattle.nr_drill.specs.declared.report.Report.{Report}

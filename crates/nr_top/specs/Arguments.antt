@@ -1,5 +1,5 @@
 -- The arguments of the program, and which status is due for them.
-use Rattle.std.specs.Prelude.{ℕ, ◌<◌, ◌≤◌, Bool, false, ◌&&◌, ◌==◌, if◌then◌else◌, List, [], length, codes, nat_lt, slice_index_or, Option, None, Some, Result, Ok, Err}
+use Rattle.std.specs.Prelude.{ℕ, ◌<◌, ◌≤◌, ◌&&◌, ◌==◌, if◌then◌else◌, List, [], length, codes, nat_lt, slice_index_or, Option, None, Some, Result, Ok, Err}
 use Rattle.std.specs.Str.{bytes_eq}
 use Rattle.nr_script.specs.Limits.{script_max, clients_max, calls_max}
 use Rattle.nr_script.specs.Script.{ScriptLines, script_of}

@@ -1,4 +1,3 @@
-use Rattle.std.specs.Prelude.{◌-◌}
 use Rattle.std.specs.List.{list_all}
 use Rattle.std.proofs.Common.{rules, ◌≡◌, ◌<◌, arith, length, zero, suc, true, false, sym, refl, ◌∙◌}
 use Rattle.nr_drill.specs.Drill.{after_round, links_of}
