@@ -25,7 +25,7 @@ static ANSWERED: [u32; 43] = [
 ];
 
 /// The moments that the clock gives, one for each call that is executed: each tells how many it gave before.
-static MOMENTS: [Moment; 3] = [
+pub(crate) static MOMENTS: [Moment; 3] = [
     Moment {
         seconds: 0,
         nanos: 0,
@@ -118,7 +118,7 @@ fn ends_of_connections(rt: HostRuntime) {
 }
 
 /// A link over which the client sends its hello and a NULL call.
-fn plan(rt: &impl Abort, alloc: Global) -> LinkPlan {
+pub(crate) fn plan(rt: &impl Abort, alloc: Global) -> LinkPlan {
     LinkPlan {
         bytes: bytes(rt, alloc, &SENT, 112),
         sizes: Vec::new(alloc),

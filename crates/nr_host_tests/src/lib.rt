@@ -6,4 +6,6 @@
 #[cfg(test)]
 mod compare;
 #[cfg(test)]
+mod configurations;
+#[cfg(test)]
 mod connections;

@@ -1,12 +1,11 @@
 -- The journal of a server after its links.
-use Rattle.std.proofs.Common.{◌≡◌, ℕ, List, [], ◌∷◌, ◌++◌, Option, refl, sym, subst}
-use Rattle.nr_outside.specs.declared.moment.Moment.{Moment}
+use Rattle.std.proofs.Common.{ℕ, List, [], ◌∷◌, ◌++◌, sym, subst}
 use Rattle.nr_reduce.specs.declared.mark.Entry.{Entry}
 use Rattle.nr_plain.specs.Setup.{Setup}
-use Rattle.nr_plain.specs.Stands.{PlainServerState, RepresentsJournal}
+use Rattle.nr_plain.specs.Stands.{RepresentsJournal}
 use Rattle.nr_host.specs.declared.conn_end.ConnEnd.{ConnEnd}
 use Rattle.nr_host.specs.Connections.{added}
-use Rattle.nr_host.specs.Serving.{Between, ServesAll, ServesLink}
+use Rattle.nr_host.specs.Serving.{Between, ServesAll}
 
 -- each link adds entries to it
 pub journal_after : (credits : ℕ) (s : Setup) (J : List Entry) (before after : Between) (ends : List ConnEnd) → ServesAll credits before ends after → RepresentsJournal s J before.kept

@@ -1,5 +1,5 @@
 -- A server that is opened, and its links.
-use Rattle.std.proofs.Common.{◌≡◌, ℕ, ◌<◌, List, [], Option, Result, Ok, Err, length, inl, inr, sym, subst, ◌∙◌}
+use Rattle.std.proofs.Common.{◌≡◌, ℕ, List, [], Option, Result, Ok, Err, length, inl, inr, sym, subst, ◌∙◌}
 use Rattle.std.specs.Prelude.{MatchResult}
 use Rattle.nr_outside.specs.declared.moment.Moment.{Moment}
 use Rattle.nr_links.specs.Asked.{Asks}
@@ -10,7 +10,7 @@ use Rattle.nr_words.specs.declared.settings.Settings.{Settings}
 use Rattle.nr_words.specs.Lines.{Text}
 use Rattle.nr_host.specs.declared.conn_end.ConnEnd.{ConnEnd}
 use Rattle.nr_outside.specs.Faults.{Rises}
-use Rattle.nr_host.specs.Serving.{AcceptorCount, Between, ServesAll, between}
+use Rattle.nr_host.specs.Serving.{AcceptorCount, ServesAll, between}
 use Rattle.nr_host.specs.declared.serving.ServeFault.{ServeFault}
 use Rattle.nr_host.specs.declared.serving.ServeFault.TheVariants as faults
 use Rattle.nr_serve.specs.Serving.{AcceptorAt, Opens, Serves, ServesConnections, served_text, setup_of}

@@ -2,7 +2,7 @@ use Rattle.std.proofs.Common.{inl, refl}
 use Rattle.nr_words.specs.Settings.{config_settings}
 use Rattle.nr_serve.specs.Streams.{output_at}
 use Rattle.nr_serve.specs.Serving.{acceptor_at, setup_of}
-use Rattle.nr_serve.specs.Stops.StopsServing.{AtPrinting, AtServing}
+use Rattle.nr_serve.specs.Stops.StopsServing.{AtServing}
 use Rattle.nr_serve.proofs.Servers.{printed, serves_all, serves_fewer}
 use Rattle.nr_serve.proofs.serving.serve_by.Goals as goal
 
