@@ -20,7 +20,7 @@ def each(what, size, rounds, times=5):
         some = min(some, seconds(what, size, rounds))
     return (some - none) / rounds * 1e6
 
-for what, rounds, of_few in (('readdir', 20_000, 20_000), ('readdirplus', 5_000, 5_000), ('churn', 2_000, 100_000)):
+for what, rounds, of_few in (('readdir', 20_000, 20_000), ('readdirplus', 5_000, 5_000), ('churn', 100_000, 100_000)):
     few, many = each(what, 100, of_few), each(what, 100_000, rounds)
     print(f'{what} at 100: {few:.2f} microseconds, at 100,000: {many:.2f}, {many / few:.2f} times')
 for what in ('read', 'write'):
