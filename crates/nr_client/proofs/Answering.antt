@@ -20,9 +20,10 @@ use Rattle.nr_requester.proofs.OpenTickets.{done_keeps_law, forget_keeps_law, fo
 use Rattle.nr_client.specs.declared.call_end.CallEnd.{CallEnd}
 use Rattle.nr_client.specs.declared.call_end.CallEnd.TheVariants as calls
 use Rattle.nr_client.specs.Ending.{LinkCause}
-use Rattle.nr_client.specs.Calls.{Answers, Completes, Forgets, GivesUp, HandsOver, IsSent}
-use Rattle.nr_client.specs.Steps.{GoesOn, GoesTo, IsLeft, IsLive}
+use Rattle.nr_client.specs.Calls.{Answers, Completes, Forgets, GivesUp, HandsOver, IsSent, NoneCame}
+use Rattle.nr_client.specs.Steps.{GoesOn, GoesTo, IsLeft, IsLive, LacksAnswer}
 use Rattle.nr_client.specs.Transfers.{LinkBytes}
+use Rattle.nr_client.proofs.Unanswered.{none_came}
 use Rattle.nr_client.proofs.Moves.{moves_both}
 use Rattle.nr_client.proofs.Turns.{ends_there}
 
@@ -54,11 +55,17 @@ forgotten_at xid end h i opened link ahead run on out is_open (inr (is, stopped)
     let kept = forget_out_keeps_law opened link h stopped.stopped run xid stopped.stands is_open stopped.asked stopped.granted in
     inr (is, record { stopped = stopped.stopped; stands = out opened link stopped.stopped run stopped.stands; asked = kept.0; granted = kept.1 })
 
-pub forgets : (xid : ℕ) (end : CallEnd) (b c : LinkBytes) (h i j : RequesterSide) → GoesTo end b c h i → StandsOn i (λ link. marks.Forget link xid) j
+none_at : (xid : ℕ) (end : CallEnd) (h : RequesterSide) (opened : LinkParameters) (link : ℕ) (ahead : List ℕ) (run : List Mark) → is_some (open_call xid h.state) ≡ true
+    → LacksAnswer end xid h → IsLeft end opened link h ahead run → NoneCame end opened link run xid
+none_at xid end h opened link ahead run is_open (inl out) left = inl out
+none_at xid end h opened link ahead run is_open (inr none) (inl (live, over)) = inr (none_came opened link h run xid live.stands is_open none)
+none_at xid end h opened link ahead run is_open (inr none) (inr (is, stopped)) = inl is
+
+pub forgets : (xid : ℕ) (end : CallEnd) (b c : LinkBytes) (h i j : RequesterSide) → GoesTo end b c h i → LacksAnswer end xid i → StandsOn i (λ link. marks.Forget link xid) j
     → StaysOut i (λ link. marks.Forget link xid) j → is_some (open_call xid i.state) ≡ true → Forgets xid end b c h j
-forgets xid end b c h i j goes on out is_open opened link run fine live =
+forgets xid end b c h i j goes lacks on out is_open opened link run fine live =
     let (moved, ahead, (moves, left)) = goes opened link run fine live in
-    (moved, ahead, (moves, forgotten_at xid end i j opened link ahead (run ++ moved) on out is_open left))
+    (moved, ahead, (moves, (none_at xid end i opened link ahead (run ++ moved) is_open lacks left, forgotten_at xid end i j opened link ahead (run ++ moved) on out is_open left)))
 
 -- all of a call
 pub answers : (call : Call) (xid : ℕ) (outcome : Outcome) (b c d : LinkBytes) (h i j k : RequesterSide) → CanWriteCred call.cred → GoesOn b c h i → IsSent xid call i j
@@ -75,8 +82,8 @@ gives_up call xid end b c d h i j k writable goes sent forgotten =
     inr (λ opened link run fine live.
     (let (waits, (moves, on)) = goes opened link run fine live in
     let sent_on = submitted call xid i j opened link (run ++ waits) sent writable fine on in
-    let (moved, ahead, (moves_more, left)) = forgotten opened link ((run ++ waits) ++ marks.Submit link call forms.Auto (submissions.Accepted xid) ∷ []) fine sent_on in
-    record { waits = waits; xid = xid; moved = moved; ahead = ahead; bytes = moves_both link b c d ahead waits moved moves moves_more; left = left }))
+    let (moved, ahead, (moves_more, (none, left))) = forgotten opened link ((run ++ waits) ++ marks.Submit link call forms.Auto (submissions.Accepted xid) ∷ []) fine sent_on in
+    record { waits = waits; xid = xid; moved = moved; ahead = ahead; bytes = moves_both link b c d ahead waits moved moves moves_more; unanswered = none; left = left }))
 
 -- it was not submitted
 pub refused : (call : Call) (end : CallEnd) (b c : LinkBytes) (h i j : RequesterSide) → j ≡ i → GoesOn b c h i → GivesUp b c h j call end
@@ -96,12 +103,12 @@ lacks_answer xid r there none = true_false (sym there ∙ ap is_some none)
 pub still_caused : (xid : ℕ) (end : CallEnd) (left : Option (List ℕ)) (read : ℕ) (h i : RequesterSide) → i ≡ after_forget h xid → LinkCause end left read h → LinkCause end left read i
 unfolding after_forget
 still_caused xid (calls.Ended end) left read h i is cause = ap (λ (x : RequesterSide). x.state.side.ended) is ∙ cause
-still_caused xid calls.LinkRead left read h i is cause = tt
+still_caused xid calls.LinkRead left read h i is cause = ap (λ (x : RequesterSide). x.state.side.ended) is ∙ cause
 still_caused xid calls.LinkWrite left read h i is cause = tt
-still_caused xid calls.Closed left read h i is cause = cause
+still_caused xid calls.Closed left read h i is cause = (ap (λ (x : RequesterSide). x.state.side.ended) is ∙ cause.0, cause.1)
 still_caused xid (calls.Spent left_over need) left read h i is cause = absurd cause
 still_caused xid (calls.TooLarge need room) left read h i is cause = absurd cause
-still_caused xid (calls.Budget count) left read h i is cause = cause
+still_caused xid (calls.Budget count) left read h i is cause = (ap (λ (x : RequesterSide). x.state.side.ended) is ∙ cause.0, cause.1)
 still_caused xid calls.Memory left read h i is cause = absurd cause
 
 pub same_call : {a b : Call} → Some a ≡ Some b → a ≡ b

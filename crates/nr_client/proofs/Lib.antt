@@ -3,3 +3,4 @@ pub mod Moves
 pub mod Outcomes
 pub mod Refusals
 pub mod Turns
+pub mod Unanswered

@@ -1,5 +1,5 @@
 -- What a call over a link makes of the marks that its requester stands for.
-use Rattle.std.specs.Prelude.{◌≡◌, ℕ, ◌⊎◌, List, [], ◌∷◌, ◌++◌}
+use Rattle.std.specs.Prelude.{◌≡◌, ◌≢◌, Contains, ℕ, ◌⊎◌, List, [], ◌∷◌, ◌++◌}
 use Rattle.nr_reduce.specs.declared.call.Call.{Call}
 use Rattle.nr_reduce.specs.declared.call.Outcome.{Outcome}
 use Rattle.nr_reduce.specs.declared.call.Form.TheVariants as forms
@@ -7,6 +7,10 @@ use Rattle.nr_reduce.specs.declared.call.Submission.TheVariants as submissions
 use Rattle.nr_reduce.specs.declared.mark.LinkParameters.{LinkParameters}
 use Rattle.nr_reduce.specs.declared.mark.Mark.{Mark}
 use Rattle.nr_reduce.specs.declared.mark.Mark.TheVariants as marks
+use Rattle.nr_link.specs.declared.end.End.TheVariants as ends
+use Rattle.nr_reduce.specs.History.{CompletedCall}
+use Rattle.nr_reduce.specs.Run.{client}
+use Rattle.nr_client.specs.declared.call_end.CallEnd.TheVariants as calls
 use Rattle.nr_reduce.specs.Opening.{IsOpened}
 use Rattle.nr_requester.specs.RequesterState.{RequesterSide}
 use Rattle.nr_requester.specs.Answers.{answer_of}
@@ -31,13 +35,18 @@ pub record IsAnswered (opened : LinkParameters) (link : ℕ) (run : List Mark) (
   pub bytes : Moves link b b' [] (waits ++ moved)
   pub live : IsLive opened link h' (run_of_call run link call xid waits moved (marks.Done link xid outcome))
 
--- The call was submitted, and forgotten at this end.
+-- By these marks no message brought an outcome of an xid; or memory ran out for a frame.
+abbrev pub NoneCame : CallEnd → LinkParameters → ℕ → List Mark → ℕ → Type 0
+NoneCame end opened link run xid = (end ≡ calls.Ended ends.Memory) ⊎ ((c : CompletedCall) → Contains (client opened link run).state.outcomes c → c.xid ≢ xid)
+
+-- The call was submitted, and forgotten at this end: its answer had not come.
 pub record IsForgotten (opened : LinkParameters) (link : ℕ) (run : List Mark) (b b' : LinkBytes) (h' : RequesterSide) (call : Call) (end : CallEnd) : Type 0 where
   pub waits : List Mark
   pub xid : ℕ
   pub moved : List Mark
   pub ahead : List ℕ
   pub bytes : Moves link b b' ahead (waits ++ moved)
+  pub unanswered : NoneCame end opened link (run_to_submit run link call xid waits ++ moved) xid
   pub left : IsLeft end opened link h' ahead (run_of_call run link call xid waits moved (marks.Forget link xid))
 
 abbrev pub Answers : (b b' : LinkBytes) (h h' : RequesterSide) → Call → Outcome → Type 0
@@ -69,4 +78,4 @@ Completes xid outcome b b' h h' =
 abbrev pub Forgets : ℕ → CallEnd → (b b' : LinkBytes) (h h' : RequesterSide) → Type 0
 Forgets xid end b b' h h' =
     (opened : LinkParameters) (link : ℕ) (run : List Mark) → IsOpened opened → IsLive opened link h run →
-    (moved : List Mark) × (ahead : List ℕ) × (Moves link b b' ahead moved × IsLeft end opened link h' ahead ((run ++ moved) ++ marks.Forget link xid ∷ []))
+    (moved : List Mark) × (ahead : List ℕ) × (Moves link b b' ahead moved × (NoneCame end opened link (run ++ moved) xid × IsLeft end opened link h' ahead ((run ++ moved) ++ marks.Forget link xid ∷ [])))

@@ -1,5 +1,5 @@
 -- Why a call has no answer, and the fault counts then.
-use Rattle.std.specs.Prelude.{◌≡◌, ⊤, ℕ, ◌^◌, List, Option, Some, Result, Ok, Err}
+use Rattle.std.specs.Prelude.{◌≡◌, ⊤, ℕ, ◌^◌, List, Option, None, Some, Result, Ok, Err}
 use Rattle.std.specs.Io.KnownBytes.{IsAtEnd}
 use Rattle.nr_outside.specs.Faults.{Rises}
 use Rattle.nr_reduce.specs.declared.call.Call.{Call}
@@ -23,12 +23,12 @@ piece_max = 65536
 -- The cause of an end of the link, by what the source has left, the number of bytes read and the requester.
 abbrev pub LinkCause : CallEnd → Option (List ℕ) → ℕ → RequesterSide → Type 0
 LinkCause (calls.Ended end) left read h = h.state.side.ended ≡ Some end
-LinkCause calls.LinkRead left read h = ⊤
+LinkCause calls.LinkRead left read h = h.state.side.ended ≡ None
 LinkCause calls.LinkWrite left read h = ⊤
-LinkCause calls.Closed left read h = IsAtEnd left
+LinkCause calls.Closed left read h = (h.state.side.ended ≡ None) × IsAtEnd left
 LinkCause (calls.Spent left_over need) left read h = ⊥
 LinkCause (calls.TooLarge need room) left read h = ⊥
-LinkCause (calls.Budget count) left read h = (count ≡ read_max) × (read ≡ read_max)
+LinkCause (calls.Budget count) left read h = (h.state.side.ended ≡ None) × ((count ≡ read_max) × (read ≡ read_max))
 LinkCause calls.Memory left read h = ⊥
 
 -- The cause of each end of a call: one of the link; or what its requester answers to the call; or memory ran out before it was submitted.

@@ -1,5 +1,5 @@
 -- What a step of a call makes of the marks that a requester stands for.
-use Rattle.std.specs.Prelude.{◌≡◌, ℕ, ◌≤◌, ◌⊎◌, List, [], ◌∷◌, ◌++◌, take, Option}
+use Rattle.std.specs.Prelude.{◌≡◌, ℕ, ◌≤◌, ◌⊎◌, List, [], ◌∷◌, ◌++◌, take, Option, None}
 use Rattle.nr_link.specs.declared.end.End.TheVariants as ends
 use Rattle.nr_wire.specs.declared.hello.Side.TheVariants.{Initiator}
 use Rattle.nr_reduce.specs.declared.mark.LinkParameters.{LinkParameters}
@@ -11,6 +11,7 @@ use Rattle.nr_reduce.specs.Opening.{IsOpened}
 use Rattle.nr_requester.specs.RequesterState.{RequesterSide}
 use Rattle.nr_requester.specs.Standing.{RequesterRepresents, RequesterRunsOut}
 use Rattle.nr_requester.specs.Fed.{fed_bytes}
+use Rattle.nr_requester.specs.OpenCalls.{found_answer}
 use Rattle.nr_client.specs.Ending.{piece_max, read_max}
 use Rattle.nr_client.specs.Transfers.{LinkBytes, Moves, link_bytes}
 use Rattle.nr_client.specs.declared.call_end.CallEnd.{CallEnd}
@@ -61,6 +62,14 @@ abbrev pub FeedsOut : List ℕ → (h h' : RequesterSide) → Type 0
 FeedsOut piece h h' =
     (n : ℕ) × ((opened : LinkParameters) (link : ℕ) (run : List Mark) → RequesterRepresents opened link h run →
     RequesterRunsOut opened link h' (run ++ marks.Fed link Initiator (take n piece) ∷ []) (run ++ marks.Fed link Initiator (take n piece) ∷ []))
+
+-- no answer came in a step that ended so, unless memory ran out for a frame
+abbrev pub AnswersNone : CallEnd → (h h' : RequesterSide) → Type 0
+AnswersNone end h h' = (end ≡ calls.Ended ends.Memory) ⊎ ((xid : ℕ) → found_answer xid h'.state ≡ found_answer xid h.state)
+
+-- a call has no answer at an end, unless memory ran out for a frame
+abbrev pub LacksAnswer : CallEnd → ℕ → RequesterSide → Type 0
+LacksAnswer end xid h = (end ≡ calls.Ended ends.Memory) ⊎ (found_answer xid h.state ≡ None)
 
 -- what a caller keeps between two steps: its bytes within the maximum, and its buffer
 pub record Fits (h : RequesterSide) (read room : ℕ) : Type 0 where

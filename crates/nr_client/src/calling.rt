@@ -6,7 +6,7 @@ ghost use Rattle.nr_requester.specs.Fed.{fed_bytes};
 ghost use Rattle.nr_requester.specs.OpenCalls.{KeepsTickets, found_answer, open_call};
 ghost use Rattle.nr_client.specs.Calls.{Answers, Completes, Forgets, GivesUp, HandsOver, IsSent};
 ghost use Rattle.nr_client.specs.Ending.{HasCredit, IsCause, IsEndOf, LinkCause, SinkCount, SourceCount};
-ghost use Rattle.nr_client.specs.Steps.{Fits, GoesOn, GoesTo};
+ghost use Rattle.nr_client.specs.Steps.{Fits, GoesOn, GoesTo, LacksAnswer};
 ghost use Rattle.nr_client.specs.Transfers.{link_bytes};
 
 use crate::call_end::CallEnd;
@@ -60,6 +60,7 @@ fn wait_for_answer<I: Source, O: Sink>(
     ensures err { IfErr result (λ end. GoesTo end (link_bytes (I.left source.old) (I.given source.old) (O.taken sink.old) read.old)
         (link_bytes (I.left source.new) (I.given source.new) (O.taken sink.new) read.new) requester.old requester.new) }
     ensures cause { IfErr result (λ end. LinkCause end (I.left source.new) read.new requester.new) }
+    ensures unanswered { IfErr result (λ end. LacksAnswer end ticket.now requester.new) }
     ensures tickets { KeepsTickets requester.old.state requester.new.state }
     ensures source_count { SourceCount result (I.faults source.old) (I.faults source.new) }
     ensures sink_count { SinkCount result (O.faults sink.old) (O.faults sink.new) }

@@ -8,11 +8,11 @@ ghost use Rattle.nr_link.specs.declared.end.End.TheVariants as ends;
 ghost use Rattle.nr_wire.specs.declared.hello.Side.TheVariants.{Initiator};
 ghost use Rattle.nr_reduce.specs.declared.mark.Mark.TheVariants as marks;
 ghost use Rattle.nr_requester.specs.Fed.{fed_bytes};
-ghost use Rattle.nr_requester.specs.OpenCalls.{KeepsTickets};
+ghost use Rattle.nr_requester.specs.OpenCalls.{KeepsTickets, found_answer};
 ghost use Rattle.nr_requester.specs.Standing.{StandsOn};
 ghost use Rattle.nr_client.specs.declared.call_end.CallEnd.TheVariants as calls;
 ghost use Rattle.nr_client.specs.Ending.{LinkCause, SinkCount, SourceCount};
-ghost use Rattle.nr_client.specs.Steps.{FeedsOut, Fits, GoesOn, GoesTo, Reads, ReadsTo, Writes};
+ghost use Rattle.nr_client.specs.Steps.{AnswersNone, FeedsOut, Fits, GoesOn, GoesTo, Reads, ReadsTo, Writes};
 ghost use Rattle.nr_client.specs.Transfers.{link_bytes};
 
 use crate::call_end::CallEnd;
@@ -42,6 +42,7 @@ fn write_due<O: Sink>(requester: &mut Requester, sink: &mut O) -> Result<(), Cal
     ensures live { OnOk result (requester.new.state.side.ended ≡ None) }
     ensures writes { Writes (O.taken sink.old) (O.taken sink.new) requester.old requester.new }
     ensures cause { IfErr result (λ end. (left : Option (List ℕ)) (read : ℕ) → LinkCause end left read requester.new) }
+    ensures answers { (xid : ℕ) → found_answer xid requester.new.state ≡ found_answer xid requester.old.state }
     ensures tickets { KeepsTickets requester.old.state requester.new.state }
     ensures fed { fed_bytes requester.new ≡ fed_bytes requester.old }
     ensures sink_count { SinkCount result (O.faults sink.old) (O.faults sink.new) }
@@ -89,6 +90,7 @@ fn read_piece<I: Source>(
     ensures ok { OnOk result (Reads (I.left source.old) (I.given source.old) (I.left source.new) (I.given source.new) read.old read.new requester.old requester.new) }
     ensures err { IfErr result (λ end. ReadsTo end (I.left source.old) (I.given source.old) (I.left source.new) (I.given source.new) read.old read.new requester.old requester.new) }
     ensures cause { IfErr result (λ end. LinkCause end (I.left source.new) read.new requester.new) }
+    ensures answers { IfErr result (λ end. AnswersNone end requester.old requester.new) }
     ensures tickets { KeepsTickets requester.old.state requester.new.state }
     ensures source_count { SourceCount result (I.faults source.old) (I.faults source.new) }
     ensures sink_count { (count : ℕ) → SinkCount result count count }
@@ -128,6 +130,7 @@ pub(crate) fn transfer<I: Source, O: Sink>(
     ensures err { IfErr result (λ end. GoesTo end (link_bytes (I.left source.old) (I.given source.old) (O.taken sink.old) read.old)
         (link_bytes (I.left source.new) (I.given source.new) (O.taken sink.new) read.new) requester.old requester.new) }
     ensures cause { IfErr result (λ end. LinkCause end (I.left source.new) read.new requester.new) }
+    ensures answers { IfErr result (λ end. AnswersNone end requester.old requester.new) }
     ensures tickets { KeepsTickets requester.old.state requester.new.state }
     ensures source_count { SourceCount result (I.faults source.old) (I.faults source.new) }
     ensures sink_count { SinkCount result (O.faults sink.old) (O.faults sink.new) }

@@ -21,7 +21,7 @@ returns-in-Err-clause-err g c =
     forgets c.args.ticket c.in-Err.end
     (link_bytes (g.I.Source.left c.args.source.now) (g.I.Source.given c.args.source.now) (g.O.Sink.taken c.args.sink.now) c.args.read.now)
     (link_bytes (g.I.Source.left c.wait_for_answer.new.source) (g.I.Source.given c.wait_for_answer.new.source) (g.O.Sink.taken c.wait_for_answer.new.sink) c.wait_for_answer.new.read)
-    c.args.requester.now c.wait_for_answer.new.requester c.forget.new.self c.in-Err.ensures.err c.forget.ensures.stands c.forget.ensures.out
+    c.args.requester.now c.wait_for_answer.new.requester c.forget.new.self c.in-Err.ensures.err c.in-Err.ensures.unanswered c.forget.ensures.stands c.forget.ensures.out
     (ap is_some (c.in-Err.ensures.tickets c.args.ticket) ∙ c.requires.open)
 
 pub returns-in-Err-clause-cause : goal.returns-in-Err-clause-cause

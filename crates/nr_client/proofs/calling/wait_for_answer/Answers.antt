@@ -1,4 +1,6 @@
-use Rattle.std.proofs.Common.{arith, refl, ◌∙◌}
+use Rattle.std.proofs.Common.{◌≡◌, false, is_some, arith, refl, ◌∙◌}
+use Rattle.nr_requester.specs.OpenCalls.{found_answer}
+use Rattle.nr_client.proofs.Unanswered.{lacks_after}
 use Rattle.nr_client.specs.Transfers.{link_bytes}
 use Rattle.nr_client.proofs.Turns.{goes_both, goes_nowhere, goes_to, same_source, same_sink}
 use Rattle.nr_client.proofs.calling.wait_for_answer.Goals as goal
@@ -49,3 +51,8 @@ loop-requester-init g c = (
   refl,
   goes_nowhere (link_bytes (g.I.Source.left c.args.source.now) (g.I.Source.given c.args.source.now) (g.O.Sink.taken c.args.sink.now) c.args.read.now) c.args.requester.now,
 )
+
+pub returns-in-Err-clause-unanswered : goal.returns-in-Err-clause-unanswered
+returns-in-Err-clause-unanswered g c =
+    let none : is_some (found_answer c.args.ticket.now c.loop-requester.requester.state) ≡ false = grind (arith, c.has_outcome.ensures, c.loop-requester-test.true) in
+    lacks_after c.in-Err.end c.args.ticket.now c.loop-requester.requester c.transfer.new.requester none c.in-Err.ensures.answers

@@ -1,4 +1,4 @@
-use Rattle.std.proofs.Common.{◌+◌, ℕ, take, sym, ap, subst}
+use Rattle.std.proofs.Common.{◌+◌, ℕ, take, sym, ap, subst, inl, inr, refl}
 use Rattle.nr_outside.specs.Content.{HandsOut}
 use Rattle.nr_outside.proofs.Moves.{HandsOut_nil}
 use Rattle.nr_client.proofs.Turns.{reads, reads_none, reads_out_at, reads_to}
@@ -50,3 +50,15 @@ returns-in-Err-feed_piece-clause-err g c =
     let (is, (out, ended)) = c.in-Err-feed_piece.ensures.err in
     reads_out_at c.in-Err-feed_piece.end is left given left' given' c.args.read.now (c.args.read.now + c.in-Ok.n) c.split_at.result.0.now c.args.requester.now c.feed_piece.new.requester hands
     (ap (λ (k : ℕ). c.args.read.now + k) c.split_at.ensures.front_len) out
+
+pub returns-then-room-eq0-clause-answers : goal.returns-then-room-eq0-clause-answers
+returns-then-room-eq0-clause-answers g c = inr (λ xid. refl)
+
+pub returns-in-Err-clause-answers : goal.returns-in-Err-clause-answers
+returns-in-Err-clause-answers g c = inr (λ xid. refl)
+
+pub returns-then-n-eq0-clause-answers : goal.returns-then-n-eq0-clause-answers
+returns-then-n-eq0-clause-answers g c = inr (λ xid. refl)
+
+pub returns-in-Err-feed_piece-clause-answers : goal.returns-in-Err-feed_piece-clause-answers
+returns-in-Err-feed_piece-clause-answers g c = inl c.in-Err-feed_piece.ensures.err.0

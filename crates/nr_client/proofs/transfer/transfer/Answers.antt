@@ -1,5 +1,7 @@
+use Rattle.std.proofs.Common.{inr}
 use Rattle.nr_client.specs.Transfers.{link_bytes}
 use Rattle.nr_client.proofs.Turns.{ends_there, goes_both, goes_to}
+use Rattle.nr_client.proofs.Unanswered.{answers_after}
 use Rattle.nr_client.proofs.transfer.transfer.Goals as goal
 
 pub returns-in-Err-clause-err : goal.returns-in-Err-clause-err
@@ -26,3 +28,10 @@ returns-in-Err-read_piece-clause-err g c =
     c.args.requester.now c.write_due.new.requester c.read_piece.new.requester
     (c.in-Ok.ensures.writes (g.I.Source.left c.args.source.now) (g.I.Source.given c.args.source.now) c.args.read.now)
     (c.in-Err-read_piece.ensures.err (g.O.Sink.taken c.write_due.new.sink))
+
+pub returns-in-Err-clause-answers : goal.returns-in-Err-clause-answers
+returns-in-Err-clause-answers g c = inr c.in-Err.ensures.answers
+
+pub returns-in-Err-read_piece-clause-answers : goal.returns-in-Err-read_piece-clause-answers
+returns-in-Err-read_piece-clause-answers g c =
+    answers_after c.in-Err-read_piece.end c.args.requester.now c.write_due.new.requester c.read_piece.new.requester c.in-Ok.ensures.answers c.in-Err-read_piece.ensures.answers

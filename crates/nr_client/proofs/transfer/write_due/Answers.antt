@@ -1,5 +1,6 @@
 use Rattle.std.proofs.Common.{sym}
 use Rattle.nr_client.proofs.Turns.{writes}
+use Rattle.nr_client.proofs.Unanswered.{drain_answers}
 use Rattle.nr_client.proofs.transfer.write_due.Goals as goal
 
 pub returns-in-Err-clause-writes : goal.returns-in-Err-clause-writes
@@ -19,3 +20,18 @@ returns-in-Some-clause-writes g c =
 
 pub returns-in-Some-clause-cause : goal.returns-in-Some-clause-cause
 returns-in-Some-clause-cause g c left read = sym c.in-Some.ensures
+
+pub returns-in-Err-clause-answers : goal.returns-in-Err-clause-answers
+returns-in-Err-clause-answers g c xid =
+    let (n, within, takes, is, on, out, all) = c.in-Err.ensures.taken in
+    drain_answers xid n c.args.requester.now c.drain_into.new.self is
+
+pub returns-in-None-clause-answers : goal.returns-in-None-clause-answers
+returns-in-None-clause-answers g c xid =
+    let (n, within, takes, is, on, out, all) = c.in-Ok.ensures.taken in
+    drain_answers xid n c.args.requester.now c.drain_into.new.self is
+
+pub returns-in-Some-clause-answers : goal.returns-in-Some-clause-answers
+returns-in-Some-clause-answers g c xid =
+    let (n, within, takes, is, on, out, all) = c.in-Ok.ensures.taken in
+    drain_answers xid n c.args.requester.now c.drain_into.new.self is
