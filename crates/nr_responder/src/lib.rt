@@ -25,6 +25,8 @@ mod messages;
 mod opening;
 mod payloads;
 mod read_done;
+mod read_lists;
+mod registering;
 mod responder;
 mod server_end;
 mod sink_regions;
