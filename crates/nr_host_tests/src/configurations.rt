@@ -8,7 +8,7 @@ use nr_serve::run_server;
 use std::alloc::Global;
 use std::process::Abort;
 
-static CONFIG: &str =
+const CONFIG: &str =
     "listen = \"here\"\nexport = \"/\"\ncredits = 1\ncapacity = 1099511627776\nconnections = 1\nwrite_verifier = \"0000000000000001\"\n";
 
 /// A configuration, the number of links that come, and those of the read, of the accept and of the writes to both outputs that fail;
