@@ -156,13 +156,7 @@ impl Changing for SetattrArgs {
     ghost changed = { setattr_tree };
 
     fn execute(self, _alloc: Global, tree: &mut Tree, call: &Call) -> Result<SetattrRes, Memory> {
-        Ok(nr_ops_file::setattr(
-            tree,
-            call.time,
-            call.caller,
-            &call.space,
-            &self,
-        ))
+        Ok(nr_ops_file::setattr(tree, call.time, call.caller, &call.space, &self))
     }
 }
 
