@@ -5,8 +5,6 @@
 #![tactic(auto)]
 
 #[cfg(test)]
-mod chunks;
-#[cfg(test)]
 mod client_ends;
 #[cfg(test)]
 mod compare;
