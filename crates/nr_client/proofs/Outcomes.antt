@@ -1,6 +1,8 @@
 -- A request, by how its call ended.
-use Rattle.std.proofs.Common.{◌≡◌, ℕ, ◌≤◌, List, length, Result, Ok, Err, IfErr, inl, inr, arith, refl, ap, subst}
+use Rattle.std.proofs.Common.{◌≡◌, ℕ, ◌≤◌, List, length, Result, Ok, Err, IfErr, IfOk, inl, inr, arith, refl, sym, ap, subst}
 use Rattle.std.proofs.lemmas.List.{length-append}
+use Rattle.nr_xdr.specs.declared.fault.Memory.{Memory}
+use Rattle.nr_rpc.specs.Credential.{CanWriteCred}
 use Rattle.nr_rpc.specs.Reply.{BeginsReply}
 use Rattle.nr_rpc.specs.declared.head.ReplyHead.{ReplyHead}
 use Rattle.nr_rpc.specs.declared.head.ReplyHead.TheVariants as heads
@@ -12,7 +14,7 @@ use Rattle.nr_client.specs.declared.client_end.ClientEnd.TheVariants as client
 use Rattle.nr_client.specs.declared.call_end.CallEnd.{CallEnd}
 use Rattle.nr_client.specs.Calls.{Answers, GivesUp}
 use Rattle.nr_client.specs.Ending.{IsCause}
-use Rattle.nr_client.specs.Requests.{Asks, SinkFaults, SourceFaults}
+use Rattle.nr_client.specs.Requests.{Asks, client_call, machine, SinkFaults, SourceFaults}
 use Rattle.nr_client.specs.Results.{Gives, NotLink}
 use Rattle.nr_client.specs.Transfers.{LinkBytes}
 
@@ -61,3 +63,18 @@ no_sink_fault (Err client.Chunk) before after link same = same
 no_sink_fault (Err (client.Version low high)) before after link same = same
 no_sink_fault (Err (client.BadReply at reason)) before after link same = same
 no_sink_fault (Err client.Memory) before after link same = same
+
+-- the call that was asked for
+pub same_asked : {given : Result Call Memory} (call asked : Call) → given ≡ Ok call → IfOk given (λ c. c ≡ asked) → call ≡ asked
+same_asked call asked is same = subst (λ (r : Result Call Memory). IfOk r (λ c. c ≡ asked)) is same
+
+-- its credential can be written
+pub writable : (given : Result Call Memory) (prog vers proc uid gid : ℕ) (args : List ℕ) → IfOk given (λ c. c ≡ client_call prog vers proc uid gid args) → IfOk given (λ c. CanWriteCred c.cred)
+writable (Ok call) prog vers proc uid gid args same = subst (λ (c : Call). CanWriteCred c.cred) (sym same) (machine_fits, none_fit)
+  where
+    machine_fits : length machine ≤ 255
+    machine_fits = omega arith
+
+    none_fit : 0 ≤ 16
+    none_fit = omega arith
+writable (Err memory) prog vers proc uid gid args same = tt

@@ -3,9 +3,16 @@ use Rattle.std.specs.Prelude.{◌≡◌, ℕ, ◌⊎◌, List, [], ◌∷◌, Re
 use Rattle.nr_rpc.specs.declared.cred.Cred.TheVariants as creds
 use Rattle.nr_xdr.specs.Items.{encodings}
 use Rattle.nr_nfs_args.specs.Attributes.{getattr_args_codec}
+use Rattle.nr_nfs_args.specs.Lookup.{lookup_args_codec, readlink_args_codec}
 use Rattle.nr_nfs_args.specs.Mount.{mnt_args_codec}
+use Rattle.nr_nfs_args.specs.Remove.{remove_args_codec}
+use Rattle.nr_nfs_base.specs.WeakCache.{wcc_data_codec}
+use Rattle.nr_nfs_base.specs.declared.weak_cache.WccData.{WccData}
+use Rattle.nr_nfs_res.specs.Lookup.{lookup_ok_codec, readlink_ok_codec}
+use Rattle.nr_nfs_res.specs.declared.lookup.LookupOk.{LookupOk}
+use Rattle.nr_nfs_res.specs.declared.lookup.ReadlinkOk.{ReadlinkOk}
 use Rattle.nr_nfs_base.specs.Attributes.{attributes_codec}
-use Rattle.nr_nfs_base.specs.Codec.{void}
+use Rattle.nr_nfs_base.specs.Codec.{Codec, optional, void}
 use Rattle.nr_nfs_base.specs.MountStatus.{mount_status_number, mount_statuses}
 use Rattle.nr_nfs_base.specs.Status.{status_number, statuses}
 use Rattle.nr_nfs_base.specs.StatusUnion.{status_union_codec}
@@ -43,9 +50,34 @@ abbrev pub mnt_call : (uid gid : ℕ) → List ℕ → Call
 mnt_call uid gid export =
     client_call mount_program mount_version (mount_procedure_number mount.Mnt) uid gid (encodings (mnt_args_codec.items (record { dirpath = export })))
 
--- their results, by the outcome of the call
+-- LOOKUP of a name in a directory (RFC 1813 section 3.3.3), READLINK of a link (section 3.3.5), and REMOVE of a name (section 3.3.12)
+abbrev pub lookup_call : (uid gid : ℕ) → (dir name : List ℕ) → Call
+lookup_call uid gid dir name =
+    client_call nfs_program nfs_version (nfs_procedure_number nfs.Lookup) uid gid (encodings (lookup_args_codec.items (record { dir = dir; name = name })))
+
+abbrev pub readlink_call : (uid gid : ℕ) → List ℕ → Call
+readlink_call uid gid file =
+    client_call nfs_program nfs_version (nfs_procedure_number nfs.Readlink) uid gid (encodings (readlink_args_codec.items (record { symlink = file })))
+
+abbrev pub remove_call : (uid gid : ℕ) → (dir name : List ℕ) → Call
+remove_call uid gid dir name =
+    client_call nfs_program nfs_version (nfs_procedure_number nfs.Remove) uid gid (encodings (remove_args_codec.items (record { dir = dir; name = name })))
+
+-- their results, by the outcome of the call: of a procedure of NFS those after the status 0
 abbrev pub getattr_result : Outcome → Result Attributes ClientEnd
 getattr_result outcome = nfs_done (result_of_outcome (status_union_codec status_number statuses attributes_codec void) outcome)
+
+abbrev pub nfs_reads : {D F : Type 0} → Codec D → Codec F → Outcome → Result D ClientEnd
+nfs_reads done failed outcome = nfs_done (result_of_outcome (status_union_codec status_number statuses done failed) outcome)
+
+abbrev pub lookup_result : Outcome → Result LookupOk ClientEnd
+lookup_result = nfs_reads lookup_ok_codec (optional attributes_codec)
+
+abbrev pub readlink_result : Outcome → Result ReadlinkOk ClientEnd
+readlink_result = nfs_reads readlink_ok_codec (optional attributes_codec)
+
+abbrev pub remove_result : Outcome → Result WccData ClientEnd
+remove_result = nfs_reads wcc_data_codec wcc_data_codec
 
 abbrev pub handle_of : Result MountOk ClientEnd → Result (List ℕ) ClientEnd
 handle_of (Ok results) = Ok results.handle

@@ -1,15 +1,19 @@
 //! Requests over a link: a call, and what its answer is read as.
 
-ghost use Rattle.std.specs.Prelude.{◌≡◌};
-ghost use Rattle.nr_client.specs.Requests.{Asks, SinkFaults, SourceFaults, getattr_call, getattr_result, mnt_call, mnt_result};
+ghost use Rattle.std.specs.Prelude.{◌≡◌, IfOk};
+ghost use Rattle.nr_client.specs.Requests.{Asks, SinkFaults, SourceFaults, mnt_call, mnt_result, nfs_reads};
+ghost use Rattle.nr_reduce.specs.declared.call.Call.{Call};
+ghost use Rattle.nr_rpc.specs.Credential.{CanWriteCred};
 ghost use Rattle.nr_client.specs.Transfers.{link_bytes};
 
 use crate::client_end::ClientEnd;
 use crate::link::Link;
-use crate::requests::{getattr_call, mnt_call};
+use crate::requests::mnt_call;
 use crate::results::{handle_in, nfs_results};
-use nr_nfs_base::{Attributes, Handle, MountPath};
+use nr_nfs_base::{Handle, MountPath, Xdr};
 use nr_outside::{Sink, Source};
+use nr_reduce::Call;
+use nr_xdr::Memory;
 use std::alloc::Global;
 
 /// MNT of an export.
@@ -38,22 +42,21 @@ pub(crate) fn mount_over<I: Source, O: Sink>(
     handle_in(alloc, &done.outcome)
 }
 
-/// GETATTR of a file.
-pub(crate) fn stat_over<I: Source, O: Sink>(
+/// A call of a procedure of NFS with these results, if there was memory for it.
+pub(crate) fn ask_nfs<I: Source, O: Sink, D: Xdr, F: Xdr>(
     alloc: Global,
     link: &mut Link<I, O>,
-    uid: u32,
-    gid: u32,
-    file: &Handle,
-) -> Result<Attributes, ClientEnd>
-    ensures asks { Asks getattr_result (getattr_call uid gid file.now)
+    call: Result<Call, Memory>,
+) -> Result<D, ClientEnd>
+    requires { IfOk call (λ c. CanWriteCred c.cred) }
+    ensures asks { (asked : Call) → IfOk call (λ c. c ≡ asked) → Asks (nfs_reads D.codec F.codec) asked
         (link_bytes (I.left link.old.source) (I.given link.old.source) (O.taken link.old.sink) link.old.read)
         (link_bytes (I.left link.new.source) (I.given link.new.source) (O.taken link.new.sink) link.new.read)
         link.old.requester link.new.requester result }
     ensures source_faults { SourceFaults result (I.faults link.old.source) (I.faults link.new.source) }
     ensures sink_faults { SinkFaults result (O.faults link.old.sink) (O.faults link.new.sink) }
 {
-    let call = match getattr_call(alloc, uid, gid, file) {
+    let call = match call {
         Ok(call) => call,
         Err(_) => return Err(ClientEnd::Memory),
     };
@@ -61,5 +64,5 @@ pub(crate) fn stat_over<I: Source, O: Sink>(
         Ok(done) => done,
         Err(end) => return Err(ClientEnd::Link(end)),
     };
-    nfs_results::<Attributes, ()>(alloc, &done.outcome)
+    nfs_results::<D, F>(alloc, &done.outcome)
 }

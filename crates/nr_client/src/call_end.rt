@@ -3,7 +3,7 @@
 use nr_link::End;
 
 /// Why a call over a link has no answer. A call that was sent is forgotten then.
-#[derive(Clone, Copy, Debug)]
+#[derive(Clone, Copy)]
 pub enum CallEnd {
     /// The client's side of the link has ended: the server broke the protocol or sent a Terminate, or memory ran out for a frame.
     Ended(End),

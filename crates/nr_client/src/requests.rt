@@ -1,10 +1,12 @@
 //! The calls of a session.
 
 ghost use Rattle.std.specs.Prelude.{◌≡◌, IfOk};
-ghost use Rattle.nr_client.specs.Requests.{client_call, getattr_call, mnt_call};
+ghost use Rattle.nr_client.specs.Requests.{client_call, getattr_call, lookup_call, mnt_call, readlink_call, remove_call};
 
-use nr_nfs_args::{GetattrArgs, MntArgs};
-use nr_nfs_base::{Handle, MOUNT_PROGRAM, MOUNT_VERSION, MountPath, NFS_PROGRAM, NFS_VERSION, Xdr};
+use nr_nfs_args::{GetattrArgs, LookupArgs, MntArgs, ReadlinkArgs, RemoveArgs};
+use nr_nfs_base::{
+    Handle, MOUNT_PROGRAM, MOUNT_VERSION, MountPath, NFS_PROGRAM, NFS_VERSION, Name, Xdr,
+};
 use nr_reduce::Call;
 use nr_rpc::{Cred, Gids};
 use nr_xdr::{Memory, Octets};
@@ -12,6 +14,15 @@ use std::alloc::Global;
 
 /// The number of GETATTR.
 const GETATTR: u32 = 1;
+
+/// The number of LOOKUP.
+const LOOKUP: u32 = 3;
+
+/// The number of READLINK.
+const READLINK: u32 = 5;
+
+/// The number of REMOVE.
+const REMOVE: u32 = 12;
 
 /// The number of MNT.
 const MNT: u32 = 1;
@@ -69,4 +80,50 @@ pub(crate) fn mnt_call(
     let dirpath = MountPath::from_slice(alloc, export.as_slice())?;
     let args = MntArgs { dirpath }.write(alloc)?;
     client_call(alloc, (MOUNT_PROGRAM, MOUNT_VERSION, MNT), uid, gid, args)
+}
+
+/// LOOKUP of a name in a directory.
+pub(crate) fn lookup_call(
+    alloc: Global,
+    uid: u32,
+    gid: u32,
+    dir: &Handle,
+    name: &Name,
+) -> Result<Call, Memory>
+    ensures { IfOk result (λ call. call ≡ lookup_call uid gid dir.now name.now) }
+{
+    let dir = Handle::from_slice(alloc, dir.as_slice())?;
+    let name = Name::from_slice(alloc, name.as_slice())?;
+    let args = LookupArgs { dir, name }.write(alloc)?;
+    client_call(alloc, (NFS_PROGRAM, NFS_VERSION, LOOKUP), uid, gid, args)
+}
+
+/// READLINK of a link.
+pub(crate) fn readlink_call(
+    alloc: Global,
+    uid: u32,
+    gid: u32,
+    file: &Handle,
+) -> Result<Call, Memory>
+    ensures { IfOk result (λ call. call ≡ readlink_call uid gid file.now) }
+{
+    let symlink = Handle::from_slice(alloc, file.as_slice())?;
+    let args = ReadlinkArgs { symlink }.write(alloc)?;
+    client_call(alloc, (NFS_PROGRAM, NFS_VERSION, READLINK), uid, gid, args)
+}
+
+/// REMOVE of a name in a directory.
+pub(crate) fn remove_call(
+    alloc: Global,
+    uid: u32,
+    gid: u32,
+    dir: &Handle,
+    name: &Name,
+) -> Result<Call, Memory>
+    ensures { IfOk result (λ call. call ≡ remove_call uid gid dir.now name.now) }
+{
+    let dir = Handle::from_slice(alloc, dir.as_slice())?;
+    let name = Name::from_slice(alloc, name.as_slice())?;
+    let args = RemoveArgs { dir, name }.write(alloc)?;
+    client_call(alloc, (NFS_PROGRAM, NFS_VERSION, REMOVE), uid, gid, args)
 }

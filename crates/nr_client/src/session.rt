@@ -7,14 +7,16 @@ ghost use Rattle.nr_links.specs.Links.{CountsLost, EndsLink, HasOpenLink, IsNewL
 ghost use Rattle.nr_reduce.specs.declared.mark.LinkParameters.{LinkParameters};
 ghost use Rattle.nr_requester.specs.AfterCalls.{opened_as};
 ghost use Rattle.nr_requester.specs.Standing.{RequesterRepresents};
-ghost use Rattle.nr_client.specs.Requests.{Asks, OpenFails, SinkFaults, SourceFaults, getattr_call, getattr_result, mnt_call, mnt_result};
+ghost use Rattle.nr_client.specs.Requests.{Asks, OpenFails, SinkFaults, SourceFaults, getattr_call, getattr_result, lookup_call, lookup_result, mnt_call, mnt_result, readlink_call, readlink_result, remove_call, remove_result};
 ghost use Rattle.nr_client.specs.Transfers.{link_bytes};
 
-use crate::asking::{mount_over, stat_over};
+use crate::asking::{ask_nfs, mount_over};
 use crate::client_end::ClientEnd;
 use crate::link::Link;
+use crate::requests::{getattr_call, lookup_call, readlink_call, remove_call};
 use nr_links::Dialer;
-use nr_nfs_base::{Attributes, Handle, MountPath};
+use nr_nfs_base::{Attributes, Handle, MountPath, Name, WccData};
+use nr_nfs_res::{LookupOk, ReadlinkOk};
 use nr_outside::{Sink, Source};
 use std::alloc::Global;
 use std::marker::Model;
@@ -120,6 +122,61 @@ impl<I: Source, O: Sink> Session<I, O> {
         ensures source_faults { SourceFaults result (I.faults self.old.link.source) (I.faults self.new.link.source) }
         ensures sink_faults { SinkFaults result (O.faults self.old.link.sink) (O.faults self.new.link.sink) }
     {
-        stat_over(self.alloc, &mut self.link, self.uid, self.gid, file)
+        ask_nfs::<I, O, Attributes, ()>(
+            self.alloc,
+            &mut self.link,
+            getattr_call(self.alloc, self.uid, self.gid, file),
+        )
+    }
+
+    /// The object of a name in a directory (LOOKUP, RFC 1813 section 3.3.3).
+    pub fn look_up(&mut self, dir: &Handle, name: &Name) -> Result<LookupOk, ClientEnd>
+        ensures asks { Asks lookup_result (lookup_call self.old.uid self.old.gid dir.now name.now)
+            (link_bytes (I.left self.old.link.source) (I.given self.old.link.source) (O.taken self.old.link.sink) self.old.link.read)
+            (link_bytes (I.left self.new.link.source) (I.given self.new.link.source) (O.taken self.new.link.sink) self.new.link.read)
+            self.old.link.requester self.new.link.requester result }
+        ensures user { (self.new.uid ≡ self.old.uid) × (self.new.gid ≡ self.old.gid) }
+        ensures source_faults { SourceFaults result (I.faults self.old.link.source) (I.faults self.new.link.source) }
+        ensures sink_faults { SinkFaults result (O.faults self.old.link.sink) (O.faults self.new.link.sink) }
+    {
+        ask_nfs::<I, O, LookupOk, Option<Attributes>>(
+            self.alloc,
+            &mut self.link,
+            lookup_call(self.alloc, self.uid, self.gid, dir, name),
+        )
+    }
+
+    /// The path in a symbolic link (READLINK, RFC 1813 section 3.3.5).
+    pub fn read_link(&mut self, file: &Handle) -> Result<ReadlinkOk, ClientEnd>
+        ensures asks { Asks readlink_result (readlink_call self.old.uid self.old.gid file.now)
+            (link_bytes (I.left self.old.link.source) (I.given self.old.link.source) (O.taken self.old.link.sink) self.old.link.read)
+            (link_bytes (I.left self.new.link.source) (I.given self.new.link.source) (O.taken self.new.link.sink) self.new.link.read)
+            self.old.link.requester self.new.link.requester result }
+        ensures user { (self.new.uid ≡ self.old.uid) × (self.new.gid ≡ self.old.gid) }
+        ensures source_faults { SourceFaults result (I.faults self.old.link.source) (I.faults self.new.link.source) }
+        ensures sink_faults { SinkFaults result (O.faults self.old.link.sink) (O.faults self.new.link.sink) }
+    {
+        ask_nfs::<I, O, ReadlinkOk, Option<Attributes>>(
+            self.alloc,
+            &mut self.link,
+            readlink_call(self.alloc, self.uid, self.gid, file),
+        )
+    }
+
+    /// Removes a name from a directory (REMOVE, RFC 1813 section 3.3.12). The result is about the directory.
+    pub fn remove(&mut self, dir: &Handle, name: &Name) -> Result<WccData, ClientEnd>
+        ensures asks { Asks remove_result (remove_call self.old.uid self.old.gid dir.now name.now)
+            (link_bytes (I.left self.old.link.source) (I.given self.old.link.source) (O.taken self.old.link.sink) self.old.link.read)
+            (link_bytes (I.left self.new.link.source) (I.given self.new.link.source) (O.taken self.new.link.sink) self.new.link.read)
+            self.old.link.requester self.new.link.requester result }
+        ensures user { (self.new.uid ≡ self.old.uid) × (self.new.gid ≡ self.old.gid) }
+        ensures source_faults { SourceFaults result (I.faults self.old.link.source) (I.faults self.new.link.source) }
+        ensures sink_faults { SinkFaults result (O.faults self.old.link.sink) (O.faults self.new.link.sink) }
+    {
+        ask_nfs::<I, O, WccData, WccData>(
+            self.alloc,
+            &mut self.link,
+            remove_call(self.alloc, self.uid, self.gid, dir, name),
+        )
     }
 }

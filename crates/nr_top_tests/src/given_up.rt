@@ -34,7 +34,8 @@ link 1 dropped\n\
 journal 0\n",
 ];
 
-/// A READ whose data goes by a write chunk of two segments. For each step that follows the first line, and for each action after it: which text is printed.
+/// A READ whose data goes by a write chunk of two segments: each step that follows the first line, and for each action after it which text
+/// is printed.
 static SEGMENTS: [(&[u8], [usize; 3]); 5] = [
     (
         b"call 1 given:write=3,2 nfs 6 000000080000000000000002000000000000000000000005\n",
