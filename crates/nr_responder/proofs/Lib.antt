@@ -21,7 +21,6 @@ pub mod Held
 pub mod HeldSinks
 pub mod Judged
 pub mod LastResponses
-pub mod ListedReads
 pub mod Marks
 pub mod NextCalls
 pub mod Opened
@@ -41,7 +40,6 @@ pub mod ReadsGoOn
 pub mod ReadsHandled
 pub mod ReadsRefused
 pub mod ReadsTaken
-pub mod RegisteredSinks
 pub mod Removed
 pub mod Responses
 pub mod SendFrames

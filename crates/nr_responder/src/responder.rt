@@ -73,8 +73,8 @@ impl Responder {
 
     /// Takes a piece of the client's stream. `Err` if and only if the side has ended, with why; a side that has ended takes no more.
     /// `End::Memory`: memory ran out at a frame, which the piece completed, for output of the server's own (its hello, an error message, what
-    /// it writes last); its calls and its queue are as before that frame, and what was queued until then is still written. Calls with a read
-    /// list are not supported yet: the Send of one ends the side so.
+    /// it writes last); its calls and its queue are as before that frame, and what was queued until then is still written. Calls whose
+    /// read list has bytes are not supported yet: the Send of one ends the side so.
     pub fn feed(&mut self, piece: &[u8]) -> Result<(), End>
         requires { fed_bytes self.old.side.link + length piece.now ≤ 2 ^ 62 }
         ensures ended { result_err result ≡ end_of self.new.side }
