@@ -21,6 +21,7 @@ pub mod Held
 pub mod HeldSinks
 pub mod Judged
 pub mod LastResponses
+pub mod ListedReads
 pub mod Marks
 pub mod NextCalls
 pub mod Opened
@@ -40,6 +41,7 @@ pub mod ReadsGoOn
 pub mod ReadsHandled
 pub mod ReadsRefused
 pub mod ReadsTaken
+pub mod RegisteredSinks
 pub mod Removed
 pub mod Responses
 pub mod SendFrames
@@ -54,3 +56,4 @@ pub mod Supported
 pub mod Told
 pub mod Whole
 pub mod Writes
+pub mod BegunReads

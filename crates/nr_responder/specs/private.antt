@@ -4,3 +4,4 @@ pub mod DoneReads
 pub mod Reading
 pub mod ReadsDone
 pub mod Handling
+pub mod Starting

@@ -1,18 +1,22 @@
 //! Calls with a read list: their chunks are read before they are ready (RFC 8166 section 3.4.5).
 
-ghost use Rattle.std.specs.Prelude.{◌≡◌, ℕ, ◌<◌, ◌≤◌, None, map, true};
+ghost use Rattle.std.specs.Prelude.{◌≡◌, ◌⊎◌, ◌+◌, ◌^◌, ◌==◌, ℕ, ◌<◌, ◌≤◌, None, length, map, true, false};
+ghost use Rattle.std.specs.List.{list_any};
 ghost use Rattle.nr_header.specs.Constants.{FIXED_LEN, PAYLOAD_MAX};
 ghost use Rattle.nr_header.specs.WithinLimits.{read_total};
-ghost use Rattle.nr_responder.specs.private.Handling.{FetchesCall};
+ghost use Rattle.nr_responder.specs.private.Handling.{FetchesCall, out};
 ghost use Rattle.nr_responder.specs.Sound.{state_of, InBuffer, IsSound, IsSoundWith, SameInput};
 ghost use Rattle.nr_reduce.specs.ServerReads.{is_read};
-ghost use Rattle.nr_responder.specs.private.CallsRead.{has_bytes, HasBytes, HasNoBytes};
+ghost use Rattle.nr_responder.specs.private.CallsRead.{chunk_positions, has_bytes, HasBytes, HasNoBytes, reading_call};
 ghost use Rattle.nr_responder.specs.Views.{call_view, read_view};
 
-use crate::call::Pending;
+use crate::call::{Pending, has_number};
 use crate::payloads::{judge_payload, payload_at_once};
+use crate::read_lists::chunk_positions;
 use crate::server_end::ServerEnd;
+use crate::starting::{begin_reads, push_reading};
 use nr_header::ReadSegment;
+use nr_link::constants::REASON_STAGS;
 
 /// Whether some entry of a read list has bytes.
 fn has_bytes(read: &[ReadSegment]) -> bool
@@ -56,8 +60,65 @@ impl ServerEnd {
         ensures input { SameInput self.old.endpoint.link self.new.endpoint.link }
         ensures staging { self.new.endpoint.staging ≡ self.old.endpoint.staging }
     {
-        drop(call);
-        self.run_out();
+        match chunk_positions(self.alloc, call.lists.read.as_slice()) {
+            Ok(chunks) => self.fetch_into(call, chunks.as_slice()),
+            Err(_) => self.run_out(),
+        }
+    }
+
+    /// A call with these chunks that have bytes.
+    fn fetch_into(&mut self, call: Pending, chunks: &[u32])
+        requires sound { IsSoundWith 1 self.old }
+        requires live { self.old.endpoint.link.state.ended ≡ None }
+        requires frame { 0 < self.old.endpoint.link.state.place }
+        requires call { InBuffer call }
+        requires reads { read_total call.lists.read ≤ PAYLOAD_MAX }
+        requires chunks { chunks.now ≡ chunk_positions call.lists.read }
+        ensures fetched { FetchesCall (state_of self.old) (state_of self.new) (call_view call) }
+        ensures sound { IsSound self.new }
+        ensures input { SameInput self.old.endpoint.link self.new.endpoint.link }
+        ensures staging { self.new.endpoint.staging ≡ self.old.endpoint.staging }
+    {
+        if chunks.len() as u64 > self.endpoint.regions().stags_left() {
+            self.end_for(REASON_STAGS);
+            return;
+        }
+        // A read list with bytes has such a chunk, and no other call has the number of its Send.
+        if chunks.is_empty() || has_number(self.calls.as_slice(), call.number) {
+            self.run_out();
+            return;
+        }
+        self.start_reads(call, chunks);
+    }
+
+    /// A call whose reads may begin.
+    #[tactic(none)]
+    fn start_reads(&mut self, call: Pending, chunks: &[u32])
+        requires sound { IsSoundWith 1 self.old }
+        requires live { self.old.endpoint.link.state.ended ≡ None }
+        requires call { InBuffer call }
+        requires reads { read_total call.lists.read ≤ PAYLOAD_MAX }
+        requires chunks { chunks.now ≡ chunk_positions call.lists.read }
+        requires stags { self.old.endpoint.link.state.memory.next + length chunks.now ≤ 2 ^ 32 }
+        requires own { list_any (λ c. c.number == call.number) self.old.calls.items ≡ false }
+        ensures started { (state_of self.new ≡ reading_call (state_of self.old) (call_view call)) ⊎ (state_of self.new ≡ out (state_of self.old)) }
+        ensures sound { IsSound self.new }
+        ensures input { SameInput self.old.endpoint.link self.new.endpoint.link }
+        ensures staging { self.new.endpoint.staging ≡ self.old.endpoint.staging }
+    {
+        self.endpoint.facts();
+        match begin_reads(
+            &mut self.endpoint,
+            self.alloc,
+            &mut self.reads,
+            &mut self.sinks,
+            call.number,
+            chunks,
+            call.lists.read.as_slice(),
+        ) {
+            Ok(room) => push_reading(&mut self.calls, call, room),
+            Err(_) => self.run_out(),
+        }
     }
 
     /// A call whose read list has no bytes: it is ready, or ends the link.

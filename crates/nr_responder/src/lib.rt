@@ -9,8 +9,7 @@
 //! was placed ([`Responder::payload`]). [`Responder::answer`] queues RDMA Writes and one Send, or ERR_CHUNK, or changes nothing; and
 //! [`Responder::drain_into`] posts the receive of each answer that has left.
 //!
-//! Calls whose read list has bytes are not supported yet: the Send of one ends the side as out of memory does. A call whose read list has
-//! no bytes is ready at once, and what a read that is done makes of a call is there.
+//! Calls with a read list are not supported yet: the Send of one ends the side as out of memory does.
 //!
 //! A responder keeps neither marks nor bytes of the past. Each call says, for every list of marks that the value stood for, what it
 //! answers, and that the value stands for that list with the marks of the call.
@@ -26,9 +25,12 @@ mod messages;
 mod opening;
 mod payloads;
 mod read_done;
+mod read_lists;
+mod registering;
 mod responder;
 mod server_end;
 mod sink_regions;
+mod starting;
 
 pub use call::{CallId, Sent};
 pub use laws::{responders_keep_it_in_full, responders_keep_their_law};

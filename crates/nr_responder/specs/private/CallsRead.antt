@@ -1,17 +1,19 @@
 -- What a Send with a read list makes of a responder: the sinks of its call are registered, and its reads open or wait (RFC 8166 section
 -- 3.4.5).
-use Rattle.std.specs.Prelude.{◌≡◌, ℕ, List, [], ◌∷◌, ◌++◌, length, take, Option, Some, Result, Ok, Err, Bool, true, not, ◌==◌}
+use Rattle.std.specs.Prelude.{◌≡◌, ℕ, List, [], ◌∷◌, ◌++◌, length, take, Option, Some, Result, Ok, Err, Bool, true, not, ◌==◌, replicate, if◌then◌else◌, None}
 use Rattle.nr_reduce.specs.ServerMessages.{CallVerdict}
 use Rattle.nr_reduce.specs.ServerMessages.CallVerdict.{Refuses, IsReady}
-use Rattle.std.specs.List.{AllByRecursion, list_any}
+use Rattle.std.specs.List.{AllByRecursion, filter, list_any}
 use Rattle.nr_header.specs.declared.header.ReadSegment.{ReadSegment}
 use Rattle.nr_regions.specs.RegisteredMemory.{RegisteredMemory, after_register}
 use Rattle.nr_link.specs.Limits.{open_reads_max}
-use Rattle.nr_endpoint.specs.LinkState.{LinkState}
+use Rattle.nr_header.specs.declared.header.ChunkLists.{ChunkLists}
+use Rattle.nr_endpoint.specs.LinkState.{LinkState, LinkSide}
 use Rattle.nr_reduce.specs.Chunks.{call_conveyed}
 use Rattle.nr_reduce.specs.OfferedRegions.{Region}
 use Rattle.nr_reduce.specs.ServerState.{PendingCall, PendingRead}
-use Rattle.nr_reduce.specs.ServerReads.{chunks_of, regions_from, reads_from}
+use Rattle.nr_reduce.specs.ServerReads.{chunks_of, regions_from, reads_from, read_of}
+use Rattle.nr_reduce.specs.Chunks.{positions, total_at}
 use Rattle.nr_responder.specs.Fetching.{open_sinks, payload_added}
 use Rattle.nr_responder.specs.ResponderState.{ResponderSide}
 use Rattle.nr_responder.specs.Keeping.{later_responses}
@@ -20,6 +22,16 @@ use Rattle.nr_responder.specs.private.Reading.{opening, with_requests}
 abbrev pub registered : List Region → RegisteredMemory → RegisteredMemory
 registered [] m = m
 registered (r ∷ regions) m = registered regions (after_register m r.right r.bytes)
+
+-- the sinks of a read list, whatever the other lists
+abbrev pub lists_of : List ReadSegment → ChunkLists
+lists_of read = record { read = read; write = []; reply = None }
+
+abbrev pub sinks_from : (number next : ℕ) → List ReadSegment → List ℕ → List Region
+sinks_from number next read chunks = regions_from number 0 next (lists_of read) chunks
+
+abbrev pub with_registered : List Region → LinkSide → LinkSide
+with_registered regions l = record { awaited = l.awaited; rest = l.rest; state = record l.state { memory = registered regions l.state.memory } }
 
 -- the sinks of a call, under the next STags, whatever offset its Send has in the stream
 abbrev pub sinks_of : LinkState → PendingCall → List Region
@@ -82,3 +94,24 @@ complete_call v c payload = record {
 abbrev pub verdict_of : PendingCall → Result (List ℕ) ℕ → CallVerdict
 verdict_of c (Ok payload) = IsReady (record { number = c.number; xid = c.xid; payload = payload })
 verdict_of c (Err reason) = Refuses reason
+
+-- ---- A read list, entry by entry
+
+abbrev pub has_bytes_at : List ReadSegment → ℕ → Bool
+has_bytes_at read p = not (total_at p read == 0)
+
+-- the positions of its chunks that have bytes, in the order of their first entries
+abbrev pub chunk_positions : List ReadSegment → List ℕ
+chunk_positions read = filter (has_bytes_at read) (positions read)
+
+-- the position of an entry after others, if it is the first of a chunk that has bytes
+abbrev pub chunk_here : (before : List ReadSegment) → ReadSegment → List ReadSegment → List ℕ
+chunk_here before r read = if list_any (λ q. q.position == r.position) before then [] else (if total_at r.position read == 0 then [] else r.position ∷ [])
+
+-- the read of an entry after others, if it has bytes
+abbrev pub read_here : List Region → (number : ℕ) → (before : List ReadSegment) → ReadSegment → List PendingRead
+read_here regions number before r = if r.length == 0 then [] else read_of regions number (total_at r.position before) r ∷ []
+
+-- the bytes of the sink of a chunk, as it is registered
+abbrev pub sink_buffer : List ReadSegment → ℕ → List ℕ
+sink_buffer read p = replicate (total_at p read) 0

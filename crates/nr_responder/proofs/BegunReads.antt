@@ -1,0 +1,231 @@
+-- The reads of a call begin: what the code makes of a responder is what a Send with a read list makes of it.
+use Rattle.std.proofs.Common.{◌≡◌, ◌≢◌, ℕ, zero, suc, ◌+◌, ◌-◌, ◌<◌, ◌≤◌, Bool, true, false, not, cond, eqb, ◌||◌, List, [], ◌∷◌, ◌++◌, length, take, get_or, map, Option, Some, None, Result, Ok, Err, All, OnOk, OnErr, refl, sym, ap, subst, ◌∙◌, arith, inl, inr, append-nil, length-append}
+use Rattle.std.specs.Prelude.{min}
+use Rattle.std.specs.List.{list_any}
+use Rattle.std.proofs.lemmas.Bool.{eqb-true, eq-eqb, ne_eqb}
+use Rattle.std.proofs.lemmas.List.{length-take, length-map}
+use Rattle.nr_header.specs.declared.header.ReadSegment.{ReadSegment}
+use Rattle.nr_header.specs.declared.header.ChunkLists.{ChunkLists}
+use Rattle.nr_link.specs.Limits.{open_reads_max}
+use Rattle.nr_regions.specs.RegisteredMemory.{RegisteredMemory}
+use Rattle.nr_endpoint.specs.EndpointState.{EndpointState}
+use Rattle.nr_endpoint.specs.LinkState.{LinkState, LinkSide}
+use Rattle.nr_endpoint.specs.ReceiveQueue.{ReceiveQueue}
+use Rattle.nr_reduce.specs.Chunks.{total_at}
+use Rattle.nr_reduce.specs.OfferedRegions.{Region}
+use Rattle.nr_reduce.specs.ServerState.{PendingCall, PendingRead}
+use Rattle.nr_reduce.specs.ServerReads.{chunks_of, regions_from, reads_from, read_of, is_read}
+use Rattle.nr_responder.specs.declared.call.Pending.{Pending}
+use Rattle.nr_responder.specs.declared.call.Ready.{Ready}
+use Rattle.nr_responder.specs.declared.call.ReadEntry.{ReadEntry}
+use Rattle.nr_responder.specs.declared.call.OpenSink.{OpenSink}
+use Rattle.nr_responder.specs.declared.server_end.ServerEnd.{ServerEnd}
+use Rattle.nr_responder.specs.Fetching.{SinkRegion, open_sinks}
+use Rattle.nr_responder.specs.ResponderState.{ResponderSide, unsent}
+use Rattle.nr_responder.specs.private.CallsRead.{chunk_positions, reading_call, reads_with, opened_with, sinks_from, sinks_of, with_registered, lists_of}
+use Rattle.nr_responder.specs.private.Handling.{out}
+use Rattle.nr_responder.specs.private.Reading.{opening, with_opened, with_requests}
+use Rattle.nr_responder.specs.private.Starting.{BeginsReads, OpensReads, reads_more, with_room}
+use Rattle.nr_responder.specs.Sound.{AreFetched, AreHeldFrom, AreSound, HasRoom, InBuffer, IsRoom, NothingOutside, SameInput, claims_of, payload_room, payloads_of, state_of, xids_of}
+use Rattle.nr_responder.specs.Views.{call_view, read_view, sink_view}
+use Rattle.nr_responder.proofs.ListedReads.{same_sinks}
+use Rattle.nr_responder.proofs.ReadEffects.{requests_ends}
+use Rattle.nr_responder.proofs.Removed.{all_pushed_lem}
+
+pub on_ok : {T E : Type 0} (r : Result T E) (P Q : Type 0) → (P → Q) → OnOk r P → OnOk r Q
+on_ok (Ok x) P Q f h = f h
+on_ok (Err e) P Q f h = h
+
+-- ---- The code's steps
+
+pub opens_as : (number next : ℕ) (read : List ReadSegment) (chunks : List ℕ) (old new now : List ReadEntry) (count kept : ℕ) (before after : LinkSide) → count ≡ length old → kept ≡ min count open_reads_max → now ≡ new →
+    map read_view new ≡ reads_more old number next read chunks → after ≡ with_opened (opening kept (map read_view now)) before → OpensReads number next read chunks old new before after
+opens_as number next read chunks old new now count kept before after counted is same reads link = record {
+  reads = reads;
+  link = link ∙ (λ i. with_opened (opening ((is ∙ ap (λ (n : ℕ). min n open_reads_max) counted) i) (map read_view (same i))) before);
+}
+
+pub opens_at : (number next at : ℕ) (read : List ReadSegment) (chunks : List ℕ) (old new : List ReadEntry) (before after : LinkSide) → next ≡ at → OpensReads number next read chunks old new before after → OpensReads number at read chunks old new before after
+opens_at number next at read chunks old new before after is h = subst (λ (n : ℕ). OpensReads number n read chunks old new before after) is h
+
+-- a link with other Read Requests has the same memory
+opened_memory : (reads : List PendingRead) (before after : LinkSide) → after ≡ with_opened reads before → after.state.memory ≡ before.state.memory
+opened_memory reads before after is = ap (λ (l : LinkSide). l.state.memory) is
+
+pub record HasOpened (old : List ReadEntry) (new : List ReadEntry) (before after : LinkSide) : Type 0 where
+  pub memory : after.state.memory ≡ before.state.memory
+  pub link : after ≡ with_opened (opening (min (length old) open_reads_max) (map read_view new)) before
+
+pub has_opened : (number next : ℕ) (read : List ReadSegment) (chunks : List ℕ) (old new : List ReadEntry) (first before after : LinkSide) → before ≡ first → OpensReads number next read chunks old new before after → HasOpened old new first after
+has_opened number next read chunks old new first before after same h = record {
+  memory = opened_memory (opening (min (length old) open_reads_max) (map read_view new)) before after h.link ∙ ap (λ (l : LinkSide). l.state.memory) same;
+  link = h.link ∙ ap (λ (l : LinkSide). with_opened (opening (min (length old) open_reads_max) (map read_view new)) l) same;
+}
+
+pub begins_as : (number : ℕ) (read : List ReadSegment) (chunks : List ℕ) (old new : List ReadEntry) (sinks now later : List OpenSink) (first before mid after : LinkSide) → before ≡ first → now ≡ sinks → OpensReads number before.state.memory.next read chunks old new before mid →
+    after ≡ with_registered (sinks_from number mid.state.memory.next read chunks) mid → map sink_view later ≡ map sink_view now ++ open_sinks (sinks_from number mid.state.memory.next read chunks) → BeginsReads number read chunks old new sinks later first after
+begins_as number read chunks old new sinks now later first before mid after same same_sinks_now o link sinks_are =
+    let h : HasOpened old new first mid = has_opened number before.state.memory.next read chunks old new first before mid same o in
+    record {
+      reads = o.reads ∙ ap (λ (l : LinkSide). reads_more old number l.state.memory.next read chunks) same;
+      sinks_are = sinks_are ∙ (λ i. map sink_view (same_sinks_now i) ++ open_sinks (sinks_from number (h.memory i).next read chunks));
+      link = link ∙ (λ i. with_registered (sinks_from number (h.memory i).next read chunks) (h.link i));
+    }
+
+-- ---- No read of another call is new
+
+any_left : {X : Type 0} (f : X → Bool) (xs ys : List X) → list_any f ys ≡ false → list_any f (xs ++ ys) ≡ list_any f xs
+any_left f [] ys none = none
+any_left f (x ∷ xs) ys none = ap (λ (b : Bool). f x || b) (any_left f xs ys none)
+
+other_reads : (regions : List Region) (number other : ℕ) (before read : List ReadSegment) → number ≢ other → list_any (λ (r : PendingRead). eqb r.number other) (reads_from regions number before read) ≡ false
+other_reads regions number other before [] ne = refl
+other_reads regions number other before (r ∷ read) ne = by (eqb r.length 0) (other_reads regions number other (before ++ r ∷ []) read ne)
+  where
+    by : (b : Bool) → list_any (λ (q : PendingRead). eqb q.number other) (reads_from regions number (before ++ r ∷ []) read) ≡ false →
+        list_any (λ (q : PendingRead). eqb q.number other) (cond b [] (read_of regions number (total_at r.position before) r ∷ []) ++ reads_from regions number (before ++ r ∷ []) read) ≡ false
+    by true rest = rest
+    by false rest = (λ i. ne_eqb number other ne i || rest i)
+
+not_any : {X : Type 0} (f : X → Bool) (xs : List X) (k : ℕ) (d : X) → k < length xs → list_any f xs ≡ false → f (get_or xs k d) ≡ false
+not_any f [] k d lt none = absurd (omega (arith, lt))
+not_any f (x ∷ xs) zero d lt none = by (f x) (list_any f xs) none
+  where
+    by : (a b : Bool) → (a || b) ≡ false → a ≡ false
+    by true b e = absurd (let wrong : true ≡ false = e in cc)
+    by false b e = refl
+not_any f (x ∷ xs) (suc k) d lt none = not_any f xs k d (omega (arith, lt)) (by (f x) (list_any f xs) none)
+  where
+    by : (a b : Bool) → (a || b) ≡ false → b ≡ false
+    by true b e = absurd (let wrong : true ≡ false = e in cc)
+    by false b e = e
+
+rooms_more : (old new : List ReadEntry) (number next : ℕ) (read : List ReadSegment) (chunks : List ℕ) (calls : List Pending) → list_any (λ (c : Pending). eqb c.number number) calls ≡ false → map read_view new ≡ reads_more old number next read chunks →
+    All (HasRoom old) calls → All (HasRoom new) calls
+rooms_more old new number next read chunks calls none is h = λ k d lt left.
+    h k d lt (same k d lt ∙ left)
+  where
+    differ : (k : ℕ) (d : Pending) → k < length calls → number ≢ (get_or calls k d).number
+    differ k d lt e = (let no_match : eqb (get_or calls k d).number number ≡ false = not_any (λ (c : Pending). eqb c.number number) calls k d lt none in let one : true ≡ false = sym (eq-eqb (get_or calls k d).number number (sym e)) ∙ no_match in absurd cc)
+
+    same : (k : ℕ) (d : Pending) → k < length calls → is_read (map read_view old) (get_or calls k d).number ≡ is_read (map read_view new) (get_or calls k d).number
+    same k d lt =
+        ap not (sym (any_left (λ (r : PendingRead). eqb r.number (get_or calls k d).number) (map read_view old) (reads_from (sinks_from number next read chunks) number [] read)
+        (other_reads (sinks_from number next read chunks) number (get_or calls k d).number [] read (differ k d lt))))
+        ∙ ap (λ (rs : List PendingRead). is_read rs (get_or calls k d).number) (sym is)
+
+-- ---- What is kept
+
+pub started_fetched : (f : EndpointState) (old new : List ReadEntry) (number next : ℕ) (read : List ReadSegment) (chunks : List ℕ) (calls later : List Pending) (call : Pending) (room : List ℕ) (sinks : List OpenSink) →
+    AreHeldFrom f.link.state.memory 0 (claims_of sinks) → All (λ (s : OpenSink). s.registration.len ≤ 40960) sinks → NothingOutside f → list_any (λ (c : Pending). eqb c.number number) calls ≡ false → map read_view new ≡ reads_more old number next read chunks →
+    payload_room ≤ length room → later ≡ calls ++ with_room call room ∷ [] → All (HasRoom old) calls → AreFetched f later new sinks
+started_fetched f old new number next read chunks calls later call room sinks held short nothing none is long later_is h = record {
+  held = held;
+  short = short;
+  rooms = subst (λ (cs : List Pending). All (HasRoom new) cs) (sym later_is) (all_pushed_lem (HasRoom new) calls (with_room call room) (rooms_more old new number next read chunks calls none is h) (λ left. long));
+  outside = nothing;
+}
+
+pub kept_fetched : (f : EndpointState) (old new : List ReadEntry) (calls : List Pending) (sinks : List OpenSink) → AreHeldFrom f.link.state.memory 0 (claims_of sinks) → All (λ (s : OpenSink). s.registration.len ≤ 40960) sinks → NothingOutside f → new ≡ old →
+    All (HasRoom old) calls → AreFetched f calls new sinks
+kept_fetched f old new calls sinks held short nothing is h = record {
+  held = held;
+  short = short;
+  rooms = subst (λ (rs : List ReadEntry). All (HasRoom rs) calls) (sym is) h;
+  outside = nothing;
+}
+
+in_buffer : (c : Pending) (room : List ℕ) → InBuffer c → InBuffer (with_room c room)
+in_buffer c room h = record { buf = h.buf; len = h.len; at = h.at; lists = h.lists }
+
+started_link : (number : ℕ) (read : List ReadSegment) (chunks : List ℕ) (old new : List ReadEntry) (sinks later : List OpenSink) (before after : LinkSide) → BeginsReads number read chunks old new sinks later before after →
+    (after.state.receive_queue ≡ before.state.receive_queue) × (after.state.send_queue.send_ends ≡ before.state.send_queue.send_ends)
+started_link number read chunks old new sinks later before after b = (
+  ap (λ (l : LinkSide). l.state.receive_queue) b.link,
+  ap (λ (l : LinkSide). l.state.send_queue.send_ends) b.link ∙ requests_ends (opening (min (length old) open_reads_max) (map read_view new)) before.state.send_queue,
+)
+
+pub started_input : (number : ℕ) (read : List ReadSegment) (chunks : List ℕ) (old new : List ReadEntry) (sinks later : List OpenSink) (before after : LinkSide) → BeginsReads number read chunks old new sinks later before after → SameInput before after
+started_input number read chunks old new sinks later before after b = record {
+  queue = ap (λ (l : LinkSide). l.state.receive_queue) b.link;
+  place = ap (λ (l : LinkSide). l.state.place) b.link;
+  awaited = ap (λ (l : LinkSide). l.awaited) b.link;
+  rest = inl (ap (λ (l : LinkSide). l.rest) b.link);
+}
+
+pub started_sound : (number : ℕ) (read : List ReadSegment) (chunks : List ℕ) (old new : List ReadEntry) (sinks after_sinks : List OpenSink) (before after : LinkSide) (calls later : List Pending) (call : Pending) (room : List ℕ) (ready : List Ready) (used : List (List ℕ)) (a b c a2 : ℕ) →
+    BeginsReads number read chunks old new sinks after_sinks before after → InBuffer call → later ≡ calls ++ with_room call room ∷ [] → a2 ≡ a → AreSound 1 before.state calls ready used a b c → AreSound 0 after.state later ready used a2 b c
+started_sound number read chunks old new sinks after_sinks before after calls later call room ready used a b c a2 begins whole later_is cap h =
+    let same : (after.state.receive_queue ≡ before.state.receive_queue) × (after.state.send_queue.send_ends ≡ before.state.send_queue.send_ends) = started_link number read chunks old new sinks after_sinks before after begins in
+    let count : length later ≡ length calls + 1 = ap (λ (xs : List Pending). length xs) later_is ∙ length-append calls (with_room call room ∷ []) in
+    let lent : after.state.receive_queue.lent ≡ before.state.receive_queue.lent = ap (λ (q : ReceiveQueue). q.lent) same.0 in
+    let receives : after.state.receive_queue.receives ≡ before.state.receive_queue.receives = ap (λ (q : ReceiveQueue). q.receives) same.0 in
+    record {
+      unsent_is = h.unsent_is ∙ ap (λ (xs : List ℕ). length xs) (sym same.1);
+      lent = omega (arith, count, h.lent, lent);
+      few = omega (arith, count, h.few);
+      bufs = subst (λ (xs : List Pending). All InBuffer xs) (sym later_is) (all_pushed_lem InBuffer calls (with_room call room) h.bufs (in_buffer call room whole));
+      used_bufs = h.used_bufs;
+      calls_fit = omega (arith, h.calls_fit, receives, cap);
+      ready_fit = omega (arith, h.ready_fit, receives);
+      used_fit = omega (arith, h.used_fit, receives);
+    }
+
+-- there is room for a call more
+pub call_fits : (s : LinkState) (calls : List Pending) (ready : List Ready) (used : List (List ℕ)) (a b c : ℕ) → s.receive_queue.lent ≤ s.receive_queue.receives → AreSound 1 s calls ready used a b c → length calls < a
+call_fits s calls ready used a b c le h = omega (arith, le, h.lent, h.calls_fit)
+
+-- ---- The state
+
+counted : (reads : List ReadEntry) → min (length reads) open_reads_max ≡ length (take open_reads_max (map read_view reads))
+counted reads = (let e = length-take open_reads_max (map read_view reads) in let m = length-map reads read_view in omega (arith, e, m))
+
+pub started_is : (r s : ServerEnd) (call : Pending) (room : List ℕ) (chunks : List ℕ) → chunks ≡ chunk_positions call.lists.read → BeginsReads call.number call.lists.read chunks r.reads.items s.reads.items r.sinks.items s.sinks.items r.endpoint.link s.endpoint.link →
+    s.calls.items ≡ r.calls.items ++ with_room call room ∷ [] → s.ready.items ≡ r.ready.items → s.credits ≡ r.credits → state_of s ≡ reading_call (state_of r) (call_view call)
+started_is r s call room chunks are b calls ready credits =
+    λ i. record {
+      link = link i;
+      calls = calls_are i;
+      ready = xids_of (ready i);
+      credits = credits i;
+      fetching = record { reads = reads i; sinks = sinks i; payloads = payloads_of (ready i) };
+    }
+  where
+    v : ResponderSide
+    v = state_of r
+
+    next : ℕ
+    next = r.endpoint.link.state.memory.next
+
+    same : sinks_from call.number next call.lists.read chunks ≡ sinks_of v.link.state (call_view call)
+    same = ap (λ (ps : List ℕ). sinks_from call.number next call.lists.read ps) are ∙ sym (same_sinks call.number next call.lists (chunks_of call.lists))
+
+    reads : map read_view s.reads.items ≡ reads_with v (call_view call)
+    reads = b.reads ∙ ap (λ (rs : List Region). map read_view r.reads.items ++ reads_from rs call.number [] call.lists.read) same
+
+    opened : opening (min (length r.reads.items) open_reads_max) (map read_view s.reads.items) ≡ opened_with v (call_view call)
+    opened = λ i. opening (counted r.reads.items i) (reads i)
+
+    link : s.endpoint.link ≡ (reading_call v (call_view call)).link
+    link = b.link ∙ (λ i. with_registered (same i) (with_opened (opened i) r.endpoint.link))
+
+    sinks : map sink_view s.sinks.items ≡ map sink_view r.sinks.items ++ open_sinks (sinks_of v.link.state (call_view call))
+    sinks = b.sinks_are ∙ ap (λ (rs : List Region). map sink_view r.sinks.items ++ open_sinks rs) same
+
+    views : (cs : List Pending) → map call_view (cs ++ with_room call room ∷ []) ≡ map call_view cs ++ call_view call ∷ []
+    views [] = refl
+    views (c ∷ cs) = ap (λ (vs : List PendingCall). call_view c ∷ vs) (views cs)
+
+    calls_are : map call_view s.calls.items ≡ map call_view r.calls.items ++ call_view call ∷ []
+    calls_are = ap (λ (cs : List Pending). map call_view cs) calls ∙ views r.calls.items
+
+-- nothing changed, and memory ran out
+pub stopped_is : (r s : ServerEnd) (after : ResponderSide) → s.endpoint.link ≡ r.endpoint.link → s.reads.items ≡ r.reads.items → s.sinks.items ≡ r.sinks.items → s.calls.items ≡ r.calls.items → s.ready.items ≡ r.ready.items → s.credits ≡ r.credits → after ≡ out (state_of s) → after ≡ out (state_of r)
+stopped_is r s after link reads sinks calls ready credits is =
+    is ∙ (λ i. out (record {
+      link = link i;
+      calls = map call_view (calls i);
+      ready = xids_of (ready i);
+      credits = credits i;
+      fetching = record { reads = map read_view (reads i); sinks = map sink_view (sinks i); payloads = payloads_of (ready i) };
+    }))

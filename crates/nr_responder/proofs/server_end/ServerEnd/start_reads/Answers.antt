@@ -1,0 +1,85 @@
+use Rattle.std.proofs.Common.{◌≡◌, ◌≤◌, ◌∙◌, List, refl, sym, ap, subst, arith, inl, inr}
+use Rattle.nr_header.specs.declared.header.ReadSegment.{ReadSegment}
+use Rattle.nr_header.specs.WithinLimits.{read_total}
+use Rattle.nr_endpoint.specs.LinkState.{LinkSide}
+use Rattle.nr_responder.specs.declared.server_end.ServerEnd.{ServerEnd}
+use Rattle.nr_responder.specs.private.Starting.{BeginsReads}
+use Rattle.nr_responder.specs.Sound.{SameInput, state_of}
+use Rattle.nr_responder.proofs.BegunReads.{call_fits, kept_fetched, started_fetched, started_input, started_is, started_sound, stopped_is}
+use Rattle.nr_responder.proofs.Sounds.{sound_as}
+use Rattle.nr_responder.proofs.server_end.ServerEnd.start_reads.Goals as goal
+
+pub as_slice-requires : goal.as_slice-requires
+as_slice-requires c = omega arith
+
+pub begin_reads-requires-clause-live : goal.begin_reads-requires-clause-live
+begin_reads-requires-clause-live c = c.requires.live
+
+pub begin_reads-requires-clause-held : goal.begin_reads-requires-clause-held
+begin_reads-requires-clause-held c = c.requires.sound.1.held
+
+pub begin_reads-requires-clause-short : goal.begin_reads-requires-clause-short
+begin_reads-requires-clause-short c = c.requires.sound.1.short
+
+pub begin_reads-requires-clause-nothing : goal.begin_reads-requires-clause-nothing
+begin_reads-requires-clause-nothing c = c.requires.sound.1.outside
+
+pub begin_reads-requires-clause-stags : goal.begin_reads-requires-clause-stags
+begin_reads-requires-clause-stags c = c.requires.stags
+
+pub begin_reads-requires-clause-total : goal.begin_reads-requires-clause-total
+begin_reads-requires-clause-total c = subst (λ (read : List ReadSegment). read_total read ≤ 40960) (sym c.as_slice.ensures) c.requires.reads
+
+pub push_reading-requires : goal.push_reading-requires
+push_reading-requires c =
+    call_fits c.args.self.now.endpoint.link.state c.args.self.now.calls.items c.args.self.now.ready.items c.args.self.now.used.items _ _ _ (let kept = c.facts.ensures.receives in omega (arith, kept)) c.requires.sound.0
+
+pub run_out-requires : goal.run_out-requires
+run_out-requires c = record {
+  sound = (
+    sound_as 1 0 c.args.self.now.endpoint.link.state c.begin_reads.new.endpoint.link.state c.args.self.now.calls.items c.args.self.now.ready.items c.args.self.now.used.items _ _ _ (omega arith)
+    (ap (λ (l : LinkSide). l.state.receive_queue.lent) c.in-Err.ensures.err.0) (ap (λ (l : LinkSide). l.state.receive_queue.receives) c.in-Err.ensures.err.0)
+    (ap (λ (l : LinkSide). l.state.send_queue.send_ends) c.in-Err.ensures.err.0) c.requires.sound.0,
+    kept_fetched c.begin_reads.new.endpoint c.args.self.now.reads.items c.begin_reads.new.reads.items c.args.self.now.calls.items c.begin_reads.new.sinks.items c.begin_reads.ensures.held c.begin_reads.ensures.short c.begin_reads.ensures.outside
+    c.in-Err.ensures.err.1.0 c.requires.sound.1.rooms,
+  );
+}
+
+pub array_drop-requires : goal.array_drop-requires
+array_drop-requires c = omega arith
+
+pub returns-in-Ok-clause-started : goal.returns-in-Ok-clause-started
+returns-in-Ok-clause-started c =
+    let after : ServerEnd = record { endpoint = c.begin_reads.new.endpoint; calls = c.push_reading.new.calls; ready = c.args.self.now.ready; reads = c.begin_reads.new.reads; sinks = c.begin_reads.new.sinks; used = c.args.self.now.used; credits = c.args.self.now.credits; alloc = c.args.self.now.alloc } in
+    inl (started_is c.args.self.now after c.args.call c.in-Ok.room c.args.chunks.now c.requires.chunks
+    (subst (λ (read : List ReadSegment). BeginsReads c.args.call.number read c.args.chunks.now c.args.self.now.reads.items c.begin_reads.new.reads.items c.args.self.now.sinks.items c.begin_reads.new.sinks.items c.args.self.now.endpoint.link c.begin_reads.new.endpoint.link) c.as_slice.ensures c.in-Ok.ensures.ok)
+    c.push_reading.ensures.items refl refl)
+
+pub returns-in-Ok-clause-sound : goal.returns-in-Ok-clause-sound
+returns-in-Ok-clause-sound c = (
+  started_sound c.args.call.number c.as_slice.result.now c.args.chunks.now c.args.self.now.reads.items c.begin_reads.new.reads.items c.args.self.now.sinks.items c.begin_reads.new.sinks.items c.args.self.now.endpoint.link c.begin_reads.new.endpoint.link
+  c.args.self.now.calls.items c.push_reading.new.calls.items c.args.call c.in-Ok.room c.args.self.now.ready.items c.args.self.now.used.items _ _ _ _ c.in-Ok.ensures.ok c.requires.call c.push_reading.ensures.items c.push_reading.ensures.capacity c.requires.sound.0,
+  started_fetched c.begin_reads.new.endpoint c.args.self.now.reads.items c.begin_reads.new.reads.items c.args.call.number c.args.self.now.endpoint.link.state.memory.next c.as_slice.result.now c.args.chunks.now c.args.self.now.calls.items c.push_reading.new.calls.items
+  c.args.call c.in-Ok.room c.begin_reads.new.sinks.items c.begin_reads.ensures.held c.begin_reads.ensures.short c.begin_reads.ensures.outside c.requires.own c.in-Ok.ensures.ok.reads c.in-Ok.ensures.room c.push_reading.ensures.items c.requires.sound.1.rooms,
+)
+
+pub returns-in-Ok-clause-input : goal.returns-in-Ok-clause-input
+returns-in-Ok-clause-input c =
+    started_input c.args.call.number c.as_slice.result.now c.args.chunks.now c.args.self.now.reads.items c.begin_reads.new.reads.items c.args.self.now.sinks.items c.begin_reads.new.sinks.items c.args.self.now.endpoint.link c.begin_reads.new.endpoint.link c.in-Ok.ensures.ok
+
+pub returns-in-Ok-clause-staging : goal.returns-in-Ok-clause-staging
+returns-in-Ok-clause-staging c = c.begin_reads.ensures.staging
+
+pub returns-in-Err-clause-started : goal.returns-in-Err-clause-started
+returns-in-Err-clause-started c =
+    let mid : ServerEnd = record { endpoint = c.begin_reads.new.endpoint; calls = c.args.self.now.calls; ready = c.args.self.now.ready; reads = c.begin_reads.new.reads; sinks = c.begin_reads.new.sinks; used = c.args.self.now.used; credits = c.args.self.now.credits; alloc = c.args.self.now.alloc } in
+    inr (stopped_is c.args.self.now mid (state_of c.run_out.new.self) c.in-Err.ensures.err.0 c.in-Err.ensures.err.1.0 c.in-Err.ensures.err.1.1 refl refl refl c.run_out.ensures.out)
+
+pub returns-in-Err-clause-sound : goal.returns-in-Err-clause-sound
+returns-in-Err-clause-sound c = c.run_out.ensures.sound
+
+pub returns-in-Err-clause-input : goal.returns-in-Err-clause-input
+returns-in-Err-clause-input c = subst (λ (l : LinkSide). SameInput l c.run_out.new.self.endpoint.link) c.in-Err.ensures.err.0 c.run_out.ensures.input
+
+pub returns-in-Err-clause-staging : goal.returns-in-Err-clause-staging
+returns-in-Err-clause-staging c = c.run_out.ensures.staging ∙ c.begin_reads.ensures.staging

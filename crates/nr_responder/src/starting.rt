@@ -1,0 +1,148 @@
+//! The reads of a call begin (RFC 8166 section 3.4.5).
+
+ghost use Rattle.std.specs.Prelude.{◌≡◌, ℕ, ◌+◌, ◌^◌, ◌<◌, ◌≤◌, ◌++◌, ◌∷◌, [], length, take, None, All, IfOk, OnOk, OnErr, map, vec_capacity};
+ghost use Rattle.nr_header.specs.Constants.{PAYLOAD_MAX};
+ghost use Rattle.nr_header.specs.WithinLimits.{read_total};
+ghost use Rattle.nr_responder.specs.Sound.{AreHeldFrom, NothingOutside, claims_of, payload_room};
+ghost use Rattle.nr_responder.specs.private.CallsRead.{sink_buffer};
+ghost use Rattle.nr_responder.specs.private.Starting.{BeginsReads, OpensReads, with_room};
+
+use crate::call::{OpenSink, Pending, ReadEntry};
+use crate::opening::{open_count, open_reads};
+use crate::payloads::take_room;
+use crate::read_lists::{push_reads, sink_buffers};
+use crate::registering::register_sinks;
+use nr_endpoint::Endpoint;
+use nr_header::ReadSegment;
+use nr_xdr::{Memory, Octets};
+use std::alloc::Global;
+
+/// Puts the reads of a read list into a list, and opens those that may open. An `Err` may have put some.
+fn push_and_open(
+    endpoint: &mut Endpoint,
+    alloc: Global,
+    reads: &mut Vec<ReadEntry>,
+    first: (u64, u64),
+    chunks: &[u32],
+    read: &[ReadSegment],
+) -> Result<(), Memory>
+    requires live { endpoint.old.link.state.ended ≡ None }
+    requires stags { first.1 + length chunks.now ≤ 2 ^ 32 }
+    requires total { read_total read.now ≤ PAYLOAD_MAX }
+    ensures ok { OnOk result (OpensReads first.0 first.1 read.now chunks.now reads.old.items reads.new.items endpoint.old.link endpoint.new.link) }
+    ensures err { OnErr result (endpoint.new.link ≡ endpoint.old.link) }
+    ensures front { take (length reads.old.items) reads.new.items ≡ reads.old.items }
+    ensures room { endpoint.new.room ≡ endpoint.old.room }
+    ensures outside { endpoint.new.outside ≡ endpoint.old.outside }
+    ensures staging { endpoint.new.staging ≡ endpoint.old.staging }
+{
+    let (number, next) = first;
+    let kept = open_count(reads.as_slice().len());
+    match push_reads(reads, number, next, chunks, read) {
+        Ok(()) => open_reads(endpoint, alloc, reads.as_slice(), kept),
+        Err(memory) => Err(memory),
+    }
+}
+
+/// Begins the reads of a read list, whose sinks get the next STags. An `Err` changes nothing.
+fn open_new(
+    endpoint: &mut Endpoint,
+    alloc: Global,
+    reads: &mut Vec<ReadEntry>,
+    number: u64,
+    chunks: &[u32],
+    read: &[ReadSegment],
+) -> Result<(), Memory>
+    requires live { endpoint.old.link.state.ended ≡ None }
+    requires stags { endpoint.old.link.state.memory.next + length chunks.now ≤ 2 ^ 32 }
+    requires total { read_total read.now ≤ PAYLOAD_MAX }
+    ensures ok { OnOk result (OpensReads number endpoint.old.link.state.memory.next read.now chunks.now reads.old.items reads.new.items endpoint.old.link endpoint.new.link) }
+    ensures err { OnErr result ((endpoint.new.link ≡ endpoint.old.link) × (reads.new.items ≡ reads.old.items)) }
+    ensures room { endpoint.new.room ≡ endpoint.old.room }
+    ensures outside { endpoint.new.outside ≡ endpoint.old.outside }
+    ensures staging { endpoint.new.staging ≡ endpoint.old.staging }
+{
+    let before = reads.as_slice().len();
+    let next = 0x1_0000_0000 - endpoint.regions().stags_left();
+    match push_and_open(endpoint, alloc, reads, (number, next), chunks, read) {
+        Ok(()) => Ok(()),
+        Err(memory) => {
+            reads.truncate(before);
+            Err(memory)
+        }
+    }
+}
+
+/// Takes the memory for the reads of a call but for what is queued: the room of its payload, and the buffers of its sinks. An `Err` changes
+/// nothing.
+fn take_memory(
+    endpoint: &mut Endpoint,
+    alloc: Global,
+    sinks: &mut Vec<OpenSink>,
+    chunks: &[u32],
+    read: &[ReadSegment],
+) -> Result<(Octets, Vec<Octets>), Memory>
+    requires total { read_total read.now ≤ PAYLOAD_MAX }
+    ensures payload { IfOk result (λ taken. payload_room ≤ length taken.0) }
+    ensures buffers { IfOk result (λ taken. taken.1.items ≡ map (sink_buffer read.now) chunks.now) }
+    ensures capacity { OnOk result (length sinks.old.items + length chunks.now ≤ vec_capacity sinks.new) }
+    ensures room { OnOk result (length chunks.now ≤ endpoint.new.room) }
+    ensures sinks { sinks.new.items ≡ sinks.old.items }
+    ensures link { endpoint.new.link ≡ endpoint.old.link }
+    ensures outside { endpoint.new.outside ≡ endpoint.old.outside }
+    ensures staging { endpoint.new.staging ≡ endpoint.old.staging }
+{
+    let room = take_room(alloc)?;
+    let buffers = sink_buffers(alloc, chunks, read)?;
+    sinks.reserve(chunks.len())?;
+    endpoint.make_room(chunks.len())?;
+    Ok((room, buffers))
+}
+
+/// Begins the reads of a call, and gives the room of its payload. An `Err` changes nothing.
+#[tactic(none)]
+pub(crate) fn begin_reads(
+    endpoint: &mut Endpoint,
+    alloc: Global,
+    reads: &mut Vec<ReadEntry>,
+    sinks: &mut Vec<OpenSink>,
+    number: u64,
+    chunks: &[u32],
+    read: &[ReadSegment],
+) -> Result<Octets, Memory>
+    requires live { endpoint.old.link.state.ended ≡ None }
+    requires held { AreHeldFrom endpoint.old.link.state.memory 0 (claims_of sinks.old.items) }
+    requires short { All (λ s. s.registration.len ≤ PAYLOAD_MAX) sinks.old.items }
+    requires nothing { NothingOutside endpoint.old }
+    requires stags { endpoint.old.link.state.memory.next + length chunks.now ≤ 2 ^ 32 }
+    requires total { read_total read.now ≤ PAYLOAD_MAX }
+    ensures room { IfOk result (λ room. payload_room ≤ length room) }
+    ensures ok { OnOk result (BeginsReads number read.now chunks.now reads.old.items reads.new.items sinks.old.items sinks.new.items endpoint.old.link endpoint.new.link) }
+    ensures err { OnErr result ((endpoint.new.link ≡ endpoint.old.link) × ((reads.new.items ≡ reads.old.items) × (sinks.new.items ≡ sinks.old.items))) }
+    ensures held { AreHeldFrom endpoint.new.link.state.memory 0 (claims_of sinks.new.items) }
+    ensures short { All (λ s. s.registration.len ≤ PAYLOAD_MAX) sinks.new.items }
+    ensures outside { NothingOutside endpoint.new }
+    ensures staging { endpoint.new.staging ≡ endpoint.old.staging }
+{
+    match take_memory(endpoint, alloc, sinks, chunks, read) {
+        Ok((room, buffers)) => match open_new(endpoint, alloc, reads, number, chunks, read) {
+            Ok(()) => {
+                register_sinks(endpoint, sinks, number, chunks, read, buffers);
+                Ok(room)
+            }
+            Err(memory) => Err(memory),
+        },
+        Err(memory) => Err(memory),
+    }
+}
+
+/// A call of which something is left to be read, with the room of its payload. There is room for it.
+pub(crate) fn push_reading(calls: &mut Vec<Pending>, call: Pending, room: Octets)
+    requires { length calls.old.items < vec_capacity calls.old }
+    ensures items { calls.new.items ≡ calls.old.items ++ with_room call room ∷ [] }
+    ensures capacity { vec_capacity calls.new ≡ vec_capacity calls.old }
+{
+    let mut call = call;
+    call.room = Some(room);
+    calls.push_reserved(call);
+}
