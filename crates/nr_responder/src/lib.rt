@@ -9,7 +9,8 @@
 //! was placed ([`Responder::payload`]). [`Responder::answer`] queues RDMA Writes and one Send, or ERR_CHUNK, or changes nothing; and
 //! [`Responder::drain_into`] posts the receive of each answer that has left.
 //!
-//! Calls with a read list are not supported yet: the Send of one ends the side as out of memory does.
+//! The chunks of a call with a read list are read into sink regions of the responder, at most eight Read Requests at a time, before the
+//! call is ready (RFC 8166 section 3.4.5).
 //!
 //! A responder keeps neither marks nor bytes of the past. Each call says, for every list of marks that the value stood for, what it
 //! answers, and that the value stands for that list with the marks of the call.

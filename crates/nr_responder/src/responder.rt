@@ -72,9 +72,9 @@ impl Responder {
     }
 
     /// Takes a piece of the client's stream. `Err` if and only if the side has ended, with why; a side that has ended takes no more.
-    /// `End::Memory`: memory ran out at a frame, which the piece completed, for output of the server's own (its hello, an error message, what
-    /// it writes last); its calls and its queue are as before that frame, and what was queued until then is still written. Calls whose
-    /// read list has bytes are not supported yet: the Send of one ends the side so.
+    /// `End::Memory`: memory ran out at a frame, which the piece completed, for output of the server's own (its hello, an error message, a Read
+    /// Request, what it writes last), or at the Send of a call with a read list; its calls and its queue are as before that frame, and what
+    /// was queued until then is still written.
     pub fn feed(&mut self, piece: &[u8]) -> Result<(), End>
         requires { fed_bytes self.old.side.link + length piece.now ≤ 2 ^ 62 }
         ensures ended { result_err result ≡ end_of self.new.side }
@@ -168,8 +168,8 @@ impl Responder {
         self.end.drain_into(sink)
     }
 
-    /// How many bytes all byte buffers have that are kept: the staging buffer, the receives, the regions, the output and the buffers of payloads that were or are read. Lists of calls and
-    /// their segments aren't counted. Takes no memory.
+    /// How many bytes all byte buffers have that are kept: the staging buffer, the receives, the regions, the output, and the buffers of
+    /// payloads that are read or were. Lists of calls and their segments aren't counted. Takes no memory.
     pub fn held(&self) -> u128
         ensures is { result ≡ bytes_held_by self.now }
     {

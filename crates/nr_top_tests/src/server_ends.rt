@@ -1,11 +1,11 @@
-//! Drills with bytes of a peer that keeps to no rule: each reason for which a server ends that a script without a read chunk can bring about,
-//! and each access to its memory that is denied.
+//! Drills with bytes of a peer that keeps to no rule: each reason for which a server ends that a script can bring about, and each access to
+//! its memory that is denied.
 
 use crate::top::same_output;
 use std::process::Abort;
 
 /// A script, and what is printed of it.
-static ROWS: [(&[u8], &[u8]); 17] = [
+static ROWS: [(&[u8], &[u8]); 20] = [
     // The server ends for reason 5.
     (
         b"clients 1 credits 1\n\
@@ -95,6 +95,18 @@ drain\n",
 link 1 server bad 20 13\n\
 journal 0\n",
     ),
+    // The server ends for reason 14.
+    (
+        b"clients 1 credits 1\n\
+call 1 chunk nfs 7 000000080000000000000002000000000000000000000005000000020000000548454c4c4f000000\n\
+raw 1 down 002e4141000000000000000100000001000000000000000100000000000000000000000000000001000000000000000500000000\n\
+down 1 4294967295\n\
+drain\n",
+        b"1 1 lost\n\
+link 1 client bad 72 11\n\
+link 1 server bad 168 14\n\
+journal 0\n",
+    ),
     // The server ends for reason 16.
     (
         b"clients 1 credits 1\n\
@@ -120,12 +132,11 @@ journal 0\n",
     ),
     // The server ends for reason 18.
     (
-        b"clients 1 credits 3\n\
-raw 1 up 003a414300000000000000000000000100000000000000090000000100000010000000000000000000000000000000000000000800000001000\
-0000200000000\n\
-up 1 4294967295\n\
+        b"clients 1 credits 1\n\
+call 1 given:read@0=0 nfs 0 -\n\
 drain\n",
-        b"link 1 client terminated 18\n\
+        b"1 1 lost\n\
+link 1 client terminated 18\n\
 link 1 server bad 20 18\n\
 journal 0\n",
     ),
@@ -180,6 +191,20 @@ drain\n",
 link 1 server bad 20 22\n\
 journal 0\n",
     ),
+    // The server denies an access outside of a region.
+    (
+        b"clients 1 credits 1\n\
+raw 1 up 008e414300000000000000000000000100000000000000010000000100000010000000000000000100000048000003e80000000500000000000\
+00000000000000000000000000000000000010000000000000002000186a3000000030000000700000000000000000000000000000000000000080000000\
+000000002000000000000000000000005000000020000000500000000\n\
+up 1 4294967295\n\
+raw 1 up 0010c1420000000100000000000000044c4c000000000000\n\
+up 1 4294967295\n\
+drain\n",
+        b"link 1 client denied 1000 0 nostag\n\
+link 1 server denied 1 4 bounds\n\
+journal 0\n",
+    ),
     // The server denies an access to no live region.
     (
         b"clients 1 credits 1\n\
@@ -188,6 +213,20 @@ up 1 4294967295\n\
 drain\n",
         b"link 1 client terminated 101\n\
 link 1 server denied 1 0 nostag\n\
+journal 0\n",
+    ),
+    // The server denies an access that a region does not allow.
+    (
+        b"clients 1 credits 1\n\
+raw 1 up 008e414300000000000000000000000100000000000000010000000100000010000000000000000100000048000003e80000000500000000000\
+00000000000000000000000000000000000010000000000000002000186a3000000030000000700000000000000000000000000000000000000080000000\
+000000002000000000000000000000005000000020000000500000000\n\
+up 1 4294967295\n\
+raw 1 up 0013c14000000001000000000000000048454c4c4f00000000000000\n\
+up 1 4294967295\n\
+drain\n",
+        b"link 1 client denied 1000 0 nostag\n\
+link 1 server denied 1 0 right\n\
 journal 0\n",
     ),
     // The server has no receive for a Send.
