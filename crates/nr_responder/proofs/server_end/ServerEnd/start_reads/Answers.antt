@@ -38,10 +38,10 @@ pub run_out-requires : goal.run_out-requires
 run_out-requires c = record {
   sound = (
     sound_as 1 0 c.args.self.now.endpoint.link.state c.begin_reads.new.endpoint.link.state c.args.self.now.calls.items c.args.self.now.ready.items c.args.self.now.used.items _ _ _ (omega arith)
-    (ap (λ (l : LinkSide). l.state.receive_queue.lent) c.in-Err.ensures.err.0) (ap (λ (l : LinkSide). l.state.receive_queue.receives) c.in-Err.ensures.err.0)
-    (ap (λ (l : LinkSide). l.state.send_queue.send_ends) c.in-Err.ensures.err.0) c.requires.sound.0,
+        (ap (λ (l : LinkSide). l.state.receive_queue.lent) c.in-Err.ensures.err.0) (ap (λ (l : LinkSide). l.state.receive_queue.receives) c.in-Err.ensures.err.0)
+        (ap (λ (l : LinkSide). l.state.send_queue.send_ends) c.in-Err.ensures.err.0) c.requires.sound.0,
     kept_fetched c.begin_reads.new.endpoint c.args.self.now.reads.items c.begin_reads.new.reads.items c.args.self.now.calls.items c.begin_reads.new.sinks.items c.begin_reads.ensures.held c.begin_reads.ensures.short c.begin_reads.ensures.outside
-    c.in-Err.ensures.err.1.0 c.requires.sound.1.rooms,
+        c.in-Err.ensures.err.1.0 c.requires.sound.1.rooms,
   );
 }
 
@@ -58,9 +58,9 @@ returns-in-Ok-clause-started c =
 pub returns-in-Ok-clause-sound : goal.returns-in-Ok-clause-sound
 returns-in-Ok-clause-sound c = (
   started_sound c.args.call.number c.as_slice.result.now c.args.chunks.now c.args.self.now.reads.items c.begin_reads.new.reads.items c.args.self.now.sinks.items c.begin_reads.new.sinks.items c.args.self.now.endpoint.link c.begin_reads.new.endpoint.link
-  c.args.self.now.calls.items c.push_reading.new.calls.items c.args.call c.in-Ok.room c.args.self.now.ready.items c.args.self.now.used.items _ _ _ _ c.in-Ok.ensures.ok c.requires.call c.push_reading.ensures.items c.push_reading.ensures.capacity c.requires.sound.0,
+      c.args.self.now.calls.items c.push_reading.new.calls.items c.args.call c.in-Ok.room c.args.self.now.ready.items c.args.self.now.used.items _ _ _ _ c.in-Ok.ensures.ok c.requires.call c.push_reading.ensures.items c.push_reading.ensures.capacity c.requires.sound.0,
   started_fetched c.begin_reads.new.endpoint c.args.self.now.reads.items c.begin_reads.new.reads.items c.args.call.number c.args.self.now.endpoint.link.state.memory.next c.as_slice.result.now c.args.chunks.now c.args.self.now.calls.items c.push_reading.new.calls.items
-  c.args.call c.in-Ok.room c.begin_reads.new.sinks.items c.begin_reads.ensures.held c.begin_reads.ensures.short c.begin_reads.ensures.outside c.requires.own c.in-Ok.ensures.ok.reads c.in-Ok.ensures.room c.push_reading.ensures.items c.requires.sound.1.rooms,
+      c.args.call c.in-Ok.room c.begin_reads.new.sinks.items c.begin_reads.ensures.held c.begin_reads.ensures.short c.begin_reads.ensures.outside c.requires.own c.in-Ok.ensures.ok.reads c.in-Ok.ensures.room c.push_reading.ensures.items c.requires.sound.1.rooms,
 )
 
 pub returns-in-Ok-clause-input : goal.returns-in-Ok-clause-input
