@@ -1,32 +1,30 @@
 -- The reads of a call begin: what the code makes of a responder is what a Send with a read list makes of it.
-use Rattle.std.proofs.Common.{◌≡◌, ◌≢◌, ℕ, zero, suc, ◌+◌, ◌-◌, ◌<◌, ◌≤◌, Bool, true, false, not, cond, eqb, ◌||◌, List, [], ◌∷◌, ◌++◌, length, take, get_or, map, Option, Some, None, Result, Ok, Err, All, OnOk, OnErr, refl, sym, ap, subst, ◌∙◌, arith, inl, inr, append-nil, length-append}
+use Rattle.std.proofs.Common.{◌≡◌, ◌≢◌, ℕ, zero, suc, ◌+◌, ◌<◌, ◌≤◌, Bool, true, false, not, cond, eqb, ◌||◌, List, [], ◌∷◌, ◌++◌, length, take, get_or, map, Result, Ok, Err, All, OnOk, refl, sym, ap, subst, ◌∙◌, arith, inl, length-append}
 use Rattle.std.specs.Prelude.{min}
 use Rattle.std.specs.List.{list_any}
-use Rattle.std.proofs.lemmas.Bool.{eqb-true, eq-eqb, ne_eqb}
+use Rattle.std.proofs.lemmas.Bool.{eq-eqb, ne_eqb}
 use Rattle.std.proofs.lemmas.List.{length-take, length-map}
 use Rattle.nr_header.specs.declared.header.ReadSegment.{ReadSegment}
-use Rattle.nr_header.specs.declared.header.ChunkLists.{ChunkLists}
 use Rattle.nr_link.specs.Limits.{open_reads_max}
-use Rattle.nr_regions.specs.RegisteredMemory.{RegisteredMemory}
 use Rattle.nr_endpoint.specs.EndpointState.{EndpointState}
 use Rattle.nr_endpoint.specs.LinkState.{LinkState, LinkSide}
 use Rattle.nr_endpoint.specs.ReceiveQueue.{ReceiveQueue}
 use Rattle.nr_reduce.specs.Chunks.{total_at}
 use Rattle.nr_reduce.specs.OfferedRegions.{Region}
 use Rattle.nr_reduce.specs.ServerState.{PendingCall, PendingRead}
-use Rattle.nr_reduce.specs.ServerReads.{chunks_of, regions_from, reads_from, read_of, is_read}
+use Rattle.nr_reduce.specs.ServerReads.{chunks_of, reads_from, read_of, is_read}
 use Rattle.nr_responder.specs.declared.call.Pending.{Pending}
 use Rattle.nr_responder.specs.declared.call.Ready.{Ready}
 use Rattle.nr_responder.specs.declared.call.ReadEntry.{ReadEntry}
 use Rattle.nr_responder.specs.declared.call.OpenSink.{OpenSink}
 use Rattle.nr_responder.specs.declared.server_end.ServerEnd.{ServerEnd}
-use Rattle.nr_responder.specs.Fetching.{SinkRegion, open_sinks}
-use Rattle.nr_responder.specs.ResponderState.{ResponderSide, unsent}
-use Rattle.nr_responder.specs.private.CallsRead.{chunk_positions, reading_call, reads_with, opened_with, sinks_from, sinks_of, with_registered, lists_of}
+use Rattle.nr_responder.specs.Fetching.{open_sinks}
+use Rattle.nr_responder.specs.ResponderState.{ResponderSide}
+use Rattle.nr_responder.specs.private.CallsRead.{chunk_positions, reading_call, reads_with, opened_with, sinks_from, sinks_of, with_registered}
 use Rattle.nr_responder.specs.private.Handling.{out}
-use Rattle.nr_responder.specs.private.Reading.{opening, with_opened, with_requests}
+use Rattle.nr_responder.specs.private.Reading.{opening, with_opened}
 use Rattle.nr_responder.specs.private.Starting.{BeginsReads, OpensReads, reads_more, with_room}
-use Rattle.nr_responder.specs.Sound.{AreFetched, AreHeldFrom, AreSound, HasRoom, InBuffer, IsRoom, NothingOutside, SameInput, claims_of, payload_room, payloads_of, state_of, xids_of}
+use Rattle.nr_responder.specs.Sound.{AreFetched, AreHeldFrom, AreSound, HasRoom, InBuffer, NothingOutside, SameInput, claims_of, payload_room, payloads_of, state_of, xids_of}
 use Rattle.nr_responder.specs.Views.{call_view, read_view, sink_view}
 use Rattle.nr_responder.proofs.ListedReads.{same_sinks}
 use Rattle.nr_responder.proofs.ReadEffects.{requests_ends}

@@ -1,9 +1,9 @@
 -- The sinks and the reads of a read list, entry by entry.
-use Rattle.std.proofs.Common.{◌≡◌, ◌≢◌, ℕ, zero, suc, ◌+◌, ◌<◌, ◌≤◌, Bool, true, false, not, cond, eqb, ◌||◌, ◌&&◌, List, [], ◌∷◌, ◌++◌, length, take, drop, get_or, map, Option, Some, None, refl, sym, ap, subst, ◌∙◌, arith, append_assoc, append-nil}
+use Rattle.std.proofs.Common.{◌≡◌, ◌≢◌, ℕ, zero, suc, ◌+◌, ◌<◌, ◌≤◌, Bool, true, false, not, cond, eqb, ◌||◌, ◌&&◌, List, [], ◌∷◌, ◌++◌, length, take, drop, get_or, Some, None, refl, sym, ap, ◌∙◌, arith, append_assoc}
 use Rattle.std.specs.Prelude.{sum_by, find, replicate}
 use Rattle.std.specs.List.{filter, list_any}
 use Rattle.std.proofs.lemmas.Bool.{eqb-true, eq-eqb, ne_eqb}
-use Rattle.std.proofs.lemmas.List.{drop_more, length-append, length-replicate, map-append}
+use Rattle.std.proofs.lemmas.List.{drop_more, length-replicate}
 use Rattle.std.proofs.lemmas.List.Sums.{sum_by-cons}
 use Rattle.nr_header.specs.declared.header.ReadSegment.{ReadSegment}
 use Rattle.nr_header.specs.declared.header.ChunkLists.{ChunkLists}
@@ -12,7 +12,7 @@ use Rattle.nr_reduce.specs.Chunks.{at_position, positions, total_at}
 use Rattle.nr_regions.specs.declared.right.Right.TheVariants.{Sink}
 use Rattle.nr_reduce.specs.OfferedRegions.{Region}
 use Rattle.nr_reduce.specs.ServerState.{PendingRead}
-use Rattle.nr_reduce.specs.ServerReads.{regions_from, reads_from, sink_of, stag_by}
+use Rattle.nr_reduce.specs.ServerReads.{regions_from, reads_from, stag_by}
 use Rattle.nr_responder.specs.private.CallsRead.{chunk_here, has_bytes_at, read_here, sink_buffer, sinks_from}
 
 -- ---- Positions

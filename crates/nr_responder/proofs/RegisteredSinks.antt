@@ -1,6 +1,5 @@
 -- A sink is registered: those that are held stay so.
-use Rattle.std.proofs.Common.{◌≡◌, ◌≢◌, ℕ, zero, suc, ◌+◌, ◌<◌, ◌≤◌, ◌^◌, List, [], ◌∷◌, ◌++◌, length, drop, get_or, map, All, refl, sym, ap, subst, ◌∙◌, arith, append_assoc}
-use Rattle.std.specs.Prelude.{replicate}
+use Rattle.std.proofs.Common.{◌≡◌, ◌≢◌, ℕ, zero, suc, ◌+◌, ◌<◌, ◌^◌, List, [], ◌∷◌, ◌++◌, length, drop, get_or, map, All, refl, sym, ap, subst, ◌∙◌, arith, append_assoc}
 use Rattle.std.specs.List.{remove}
 use Rattle.std.specs.FinMap.{FinMap, insert}
 use Rattle.std.specs.Ordering.{nat_cmp}
@@ -11,7 +10,6 @@ use Rattle.nr_regions.specs.declared.right.Right.TheVariants.{Sink}
 use Rattle.nr_regions.specs.RegisteredMemory.{RegisteredMemory, Claim, IsHeld, Outside, after_register, claim_of, nothing_outside, outside_len}
 use Rattle.nr_regions.specs.Table.{IsSound as IsTotal}
 use Rattle.nr_regions.proofs.Totals.{sound_register}
-use Rattle.nr_regions.proofs.Holding.{held_after_register}
 use Rattle.nr_endpoint.specs.EndpointState.{EndpointState}
 use Rattle.nr_endpoint.specs.LinkState.{LinkSide}
 use Rattle.nr_endpoint.specs.Calls.{Call, after_call, after_calls}

@@ -1,6 +1,5 @@
-use Rattle.std.proofs.Common.{List, ℕ, ◌≡◌, ◌≤◌, ◌++◌, [], length, map, ap, sym, ◌∙◌, take, drop, get_or, arith, subst}
-use Rattle.nr_reduce.specs.ServerReads.{regions_from, reads_from}
-use Rattle.nr_responder.specs.declared.call.ReadEntry.{ReadEntry}
+use Rattle.std.proofs.Common.{map, arith}
+use Rattle.nr_reduce.specs.ServerReads.{regions_from}
 use Rattle.nr_responder.specs.Views.{read_view}
 use Rattle.nr_responder.proofs.ListedReads.{front_kept, no_entry, reads_step}
 use Rattle.nr_responder.proofs.read_lists.push_reads.Goals as goal

@@ -1,4 +1,4 @@
-use Rattle.std.proofs.Common.{◌≡◌, ℕ, List, ◌++◌, get_or, ap, sym, ◌∙◌, arith, rules, length, length-append, [], ◌∷◌}
+use Rattle.std.proofs.Common.{◌≡◌, List, ◌++◌, get_or, ap, ◌∙◌, arith, rules, length, length-append, [], ◌∷◌}
 use Rattle.nr_regions.specs.RegisteredMemory.{claim_of}
 use Rattle.nr_regions.specs.declared.right.Right.TheVariants.{Sink}
 use Rattle.nr_responder.specs.declared.call.OpenSink.{OpenSink}

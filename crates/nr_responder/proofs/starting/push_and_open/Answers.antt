@@ -1,4 +1,4 @@
-use Rattle.std.proofs.Common.{List, length, ap, ◌∙◌}
+use Rattle.std.proofs.Common.{List, length, ap}
 use Rattle.nr_responder.specs.declared.call.ReadEntry.{ReadEntry}
 use Rattle.nr_responder.specs.private.CallsRead.{lists_of}
 use Rattle.nr_responder.proofs.BegunReads.{on_ok, opens_as}

@@ -1,4 +1,4 @@
-use Rattle.std.proofs.Common.{◌≡◌, ◌≤◌, ◌∙◌, List, refl, sym, ap, subst, arith, inl, inr}
+use Rattle.std.proofs.Common.{◌≤◌, ◌∙◌, List, refl, sym, ap, subst, arith, inl, inr}
 use Rattle.nr_header.specs.declared.header.ReadSegment.{ReadSegment}
 use Rattle.nr_header.specs.WithinLimits.{read_total}
 use Rattle.nr_endpoint.specs.LinkState.{LinkSide}
