@@ -148,6 +148,6 @@ fn octets(rt: HostRuntime) {
     let octets = six_bytes(&rt, rt.alloc());
     same(&rt, 1, (octets.len(), octets.is_empty()), (6, false));
     let octets = Octets::from_vec(octets.into_vec());
-    same(&rt, 2, octets.as_slice(), b"six_bytes".as_slice());
+    same(&rt, 2, octets.as_slice(), b"hippos".as_slice());
     same(&rt, 3, Octets::new(rt.alloc()).is_empty(), true);
 }
