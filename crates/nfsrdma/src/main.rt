@@ -1,12 +1,11 @@
 //! The program: it opens the streams of its process and hands them to [`nr_top::run`], or to [`nr_top::refuse`] if it
-//! can't have its arguments. The command `serve` goes to [`nr_serve::run_server`], with the file of its configuration, an
+//! can't have its arguments. The command `serve` goes to [`nr_top::run_server`], with the file of its configuration, an
 //! acceptor over TCP and the system's clock.
 #![tactic(auto)]
 
 use nr_links::{SystemClock, TcpAcceptor};
 use nr_outside::{StdSink, StdSource};
-use nr_serve::run_server;
-use nr_top::{refuse, run};
+use nr_top::{refuse, run, run_server};
 use nr_words::{Command, read_line};
 use std::fs::File;
 use std::io::{ErrorKind, Read};

@@ -38,22 +38,10 @@ use Rattle.nr_script.specs.declared.script.Line.{Line}
 use Rattle.nr_script.specs.declared.script.Line.TheVariants as lines
 use Rattle.nr_script.specs.Script.{ScriptLines, HasWritableCred, IsScript}
 use Rattle.nr_drill.specs.Follows.{after_line, Drains, Makes, MakeAll, Follows, parameters_of, setting_of, opened_drill}
-use Rattle.nr_drill.specs.Drill.{Setting, Drill, Pipes, plain_of, now, unwritten, after_output, after_all_output, settled, pipes_of, with_mark, after_submit, after_feeding, after_feeding_up, after_up, waiting_call, after_answer, after_execution, after_work, after_calls, after_drop, after_raw, after_feeding_down, after_handing, after_done, after_dones, after_outcomes, after_down, answer_of_line, open_xid, after_giving_up, after_forget, after_taking_back, after_revoke, after_all_up, after_all_work, after_all_down, after_moves, after_round, after_opening, after_openings, SerialServer, with_pipes, appended, empty_pipes, start, links_of, cred_of}
+use Rattle.nr_drill.specs.Drill.{link_of, Setting, Drill, Pipes, plain_of, now, unwritten, after_output, after_all_output, settled, pipes_of, with_mark, after_submit, after_feeding, after_feeding_up, after_up, waiting_call, after_answer, after_execution, after_work, after_calls, after_drop, after_raw, after_feeding_down, after_handing, after_done, after_dones, after_outcomes, after_down, answer_of_line, open_xid, after_giving_up, after_forget, after_taking_back, after_revoke, after_all_up, after_all_work, after_all_down, after_moves, after_round, after_opening, after_openings, SerialServer, with_pipes, appended, empty_pipes, start, links_of, cred_of}
 use Rattle.nr_drill.proofs.Lawful.{IsLawful, IsWritten, IsDueOf, Keeps, lawful_mark, left_is, due_more, more_due, due_of, lawful_settled, lawful_drop, lawful_forget, lawful_submit, lawful_after_up, lawful_after_down, lawful_work, lawful_revoke, lawful_moves}
 
 -- ===== marks of other links
-
--- the link of a mark
-abbrev pub link_of : Mark → ℕ
-link_of (marks.Submit l call form answer) = l
-link_of (marks.Wrote l side bytes) = l
-link_of (marks.Fed l side bytes) = l
-link_of (marks.Execute l xid moment payload place reply) = l
-link_of (marks.Done l xid outcome) = l
-link_of (marks.Lost l xid) = l
-link_of (marks.Forget l xid) = l
-link_of (marks.Revoke l xid bytes) = l
-link_of (marks.Drop l) = l
 
 pub apart : (l link : ℕ) → l ≢ link → eqb l link ≡ false
 apart l link ne = by (eqb l link) refl

@@ -19,7 +19,7 @@ use Rattle.nr_reduce.specs.Run.{client, server, output_due, end_of_side}
 use Rattle.nr_reduce.specs.Served.{next_call, first_ready}
 use Rattle.nr_reduce.proofs.Steps.{client_one, server_one}
 use Rattle.nr_laws.specs.Typed.{IsTyped}
-use Rattle.nr_drill.specs.Drill.{Setting, Drill, Pipes, empty_pipes, unwritten, pipes_of, settled, if_standing, waiting_call, after_feeding, after_up, after_down, after_outcomes, after_done, after_dones, after_handing, after_answer, after_execution, after_work, after_calls, after_all_up, after_all_work, after_all_down, after_moves, after_round}
+use Rattle.nr_drill.specs.Drill.{link_of, Setting, Drill, Pipes, empty_pipes, unwritten, pipes_of, settled, if_standing, waiting_call, after_feeding, after_up, after_down, after_outcomes, after_done, after_dones, after_handing, after_answer, after_execution, after_work, after_calls, after_all_up, after_all_work, after_all_down, after_moves, after_round}
 use Rattle.nr_drill.specs.Follows.{is_empty, is_still, Drains}
 use Rattle.nr_drill.specs.WorkLeft.{DrainStep, after_step, frame_len, is_send, send_bytes_left, work_left, stays, IsLess}
 use Rattle.nr_drill.specs.WorkLeft.DrainStep.{AllUp, Work, AllDown}
@@ -27,7 +27,7 @@ use Rattle.nr_drill.specs.Drains.{IsRunning, Moves, StepsKeepTypes, AnswersCalls
 use Rattle.nr_drill.specs.Drill.{links_of}
 use Rattle.nr_drill.specs.Follows.{setting_of}
 use Rattle.nr_drill.proofs.KeptTypes.{steps_keep_types}
-use Rattle.nr_drill.proofs.Followed.{Extends, link_of, no_event, moves_adds}
+use Rattle.nr_drill.proofs.Followed.{Extends, no_event, moves_adds}
 use Rattle.nr_drill.proofs.Carried.{same_here, settled_same, dones_keep}
 use Rattle.nr_drill.proofs.Lawful.{Keeps}
 use Rattle.nr_drill.proofs.LessWork.{same_due, executed_less}

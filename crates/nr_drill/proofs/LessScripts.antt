@@ -32,14 +32,14 @@ use Rattle.nr_script.specs.declared.script.Line.{Line}
 use Rattle.nr_script.specs.declared.script.Line.TheVariants as lines
 use Rattle.nr_script.specs.Script.{ScriptLines, HasWritableCred, IsScript}
 use Rattle.nr_drill.specs.Headline.{is_raw_of, HasNoRaw, IsLink}
-use Rattle.nr_drill.specs.Drill.{SerialServer, Setting, Drill, Pipes, start, links_of, pipes_of, cred_of, settled, after_feeding, after_feeding_up, after_feeding_down, after_outcomes, after_up, after_down, after_round, after_moves, after_submit, after_work, after_forget, after_revoke, after_drop, after_raw, after_opening, after_openings}
+use Rattle.nr_drill.specs.Drill.{link_of, SerialServer, Setting, Drill, Pipes, start, links_of, pipes_of, cred_of, settled, after_feeding, after_feeding_up, after_feeding_down, after_outcomes, after_up, after_down, after_round, after_moves, after_submit, after_work, after_forget, after_revoke, after_drop, after_raw, after_opening, after_openings}
 use Rattle.nr_drill.specs.Follows.{after_line, Drains, Makes, MakeAll, parameters_of, setting_of, opened_drill}
 use Rattle.nr_drill.specs.WorkLeft.{DrainStep, after_step}
 use Rattle.nr_drill.specs.WorkLeft.DrainStep.{AllUp, Work, AllDown}
 use Rattle.nr_drill.specs.Drains.{IsRunning}
 use Rattle.nr_laws.proofs.DistinctKeys.{any_append}
 use Rattle.nr_drill.proofs.Lawful.{IsLawful, Keeps, lawful_settled, lawful_after_up, lawful_work, lawful_after_down}
-use Rattle.nr_drill.proofs.Followed.{Among, among_range, Extends, link_of, no_event, submit_adds, up_adds, down_adds, work_adds, forget_adds, revoke_adds, drop_adds, raw_adds, moves_adds, opening_adds, start_lawful, elsewhere, laws_of, opened_by_script}
+use Rattle.nr_drill.proofs.Followed.{Among, among_range, Extends, no_event, submit_adds, up_adds, down_adds, work_adds, forget_adds, revoke_adds, drop_adds, raw_adds, moves_adds, opening_adds, start_lawful, elsewhere, laws_of, opened_by_script}
 use Rattle.nr_drill.proofs.Carried.{Carries, NamesClient, opened_stands, lines_passed, all_name, neither_raw, carry_settled, carries_up, carries_down, carries_work, carries_elsewhere, same_here, IsSameHere, other_than, are_links, start_carries}
 use Rattle.nr_drill.proofs.LessWork.{leaves_through, settled_leaves, own, no_drop, same_due_down}
 use Rattle.nr_drill.proofs.LessFrames.{frames_one, completed_is, still_heard}

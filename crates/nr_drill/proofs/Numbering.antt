@@ -28,32 +28,21 @@ use Rattle.nr_script.specs.declared.script.Opening.{Opening}
 use Rattle.nr_script.specs.declared.script.Line.{Line}
 use Rattle.nr_script.specs.declared.script.Line.TheVariants as lines
 use Rattle.nr_script.specs.Script.{ScriptLines, IsScript, FollowOn, may_follow, is_client, is_call_line}
-use Rattle.nr_drill.specs.Drill.{SerialServer, Setting, Drill, links_of, start, after_openings, after_opening, after_round, after_moves}
+use Rattle.nr_drill.specs.Drill.{link_of, SerialServer, Setting, Drill, links_of, start, after_openings, after_opening, after_round, after_moves}
 use Rattle.nr_drill.specs.Follows.{after_line, Drains, Makes, MakeAll, Follows, parameters_of, setting_of, opened_drill}
 use Rattle.nr_drill.specs.Headline.{IsDrillRun}
-use Rattle.nr_drill.specs.private.Drafts.{AreNumbered, IsNextXid, NumberedMark, link_of_mark}
+use Rattle.nr_drill.specs.private.Drafts.{AreNumbered, IsNextXid, NumberedMark}
 use Rattle.nr_drill.proofs.DraftSteps.{accepted_one, itself}
-use Rattle.nr_drill.proofs.Followed.{Adds, link_of, submit_adds, up_adds, down_adds, work_adds, forget_adds, revoke_adds, drop_adds, raw_adds, moves_adds, opening_adds}
+use Rattle.nr_drill.proofs.Followed.{Adds, submit_adds, up_adds, down_adds, work_adds, forget_adds, revoke_adds, drop_adds, raw_adds, moves_adds, opening_adds}
 use Rattle.nr_reduce.specs.History.{is_dropped}
 
 -- ===== links
-
-same_link : (mark : Mark) → link_of mark ≡ link_of_mark mark
-same_link (marks.Submit l call form answer) = refl
-same_link (marks.Wrote l side bytes) = refl
-same_link (marks.Fed l side bytes) = refl
-same_link (marks.Execute l xid moment payload place reply) = refl
-same_link (marks.Done l xid outcome) = refl
-same_link (marks.Lost l xid) = refl
-same_link (marks.Forget l xid) = refl
-same_link (marks.Revoke l xid bytes) = refl
-same_link (marks.Drop l) = refl
 
 abbrev IsWithin : ℕ → ℕ → Type 0
 IsWithin clients link = (1 ≤ link) × (link ≤ clients)
 
 abbrev AreWithin : ℕ → List Mark → Type 0
-AreWithin clients run = AllByRecursion (λ (mark : Mark). IsWithin clients (link_of_mark mark)) run
+AreWithin clients run = AllByRecursion (λ (mark : Mark). IsWithin clients (link_of mark)) run
 
 both_within : (clients : ℕ) (xs ys : List Mark) → AreWithin clients xs → AreWithin clients ys → AreWithin clients (xs ++ ys)
 both_within clients [] ys h g = g
@@ -61,7 +50,7 @@ both_within clients (x ∷ xs) ys h g = (h.0, both_within clients xs ys h.1 g)
 
 own_within : (clients link : ℕ) (xs : List Mark) → IsWithin clients link → AllByRecursion (λ (mark : Mark). link_of mark ≡ link) xs → AreWithin clients xs
 own_within clients link [] w own = tt
-own_within clients link (x ∷ xs) w own = (subst (IsWithin clients) (sym own.0 ∙ same_link x) w, own_within clients link xs w own.1)
+own_within clients link (x ∷ xs) w own = (subst (IsWithin clients) (sym own.0) w, own_within clients link xs w own.1)
 
 added_within : (clients link : ℕ) (old new : List Mark) → IsWithin clients link → Adds link old new → AreWithin clients old → AreWithin clients new
 added_within clients link old new w a h = subst (AreWithin clients) (sym a.is) (both_within clients old a.added h (own_within clients link a.added w a.own))
@@ -233,7 +222,7 @@ module _ (o : LinkParameters) where
         quiet_mark (marks.Revoke l xid bytes) (if_quiet (eqb l link && true) (MemoryRevoked (length (bytes_received link Initiator run)) xid ∷ []) (tt, tt)) refl is
     counted_one (marks.Drop l) asked is = quiet_mark (marks.Drop l) tt refl is
 
-  next_xid_is : (before : List Mark) (mark : Mark) → o.first_xid ≡ 1 → AskedMark IsAll o (link_of_mark mark) before mark → IsCounted (link_of_mark mark) before → IsNextXid before mark
+  next_xid_is : (before : List Mark) (mark : Mark) → o.first_xid ≡ 1 → AskedMark IsAll o (link_of mark) before mark → IsCounted (link_of mark) before → IsNextXid before mark
   next_xid_is before (marks.Submit l call form (submissions.Accepted xid)) first asked is = (let e = (asked refl).next in omega (arith, e, is, first))
   next_xid_is before (marks.Submit l call form (submissions.Refused why)) first asked is = tt
   next_xid_is before (marks.Submit l call form submissions.Dropped) first asked is = tt
@@ -250,7 +239,7 @@ module _ (o : LinkParameters) where
       → AreWithin clients run → AtEachMark (NumberedMark clients) before run
   numbered_from clients before [] first asked count w = tt
   numbered_from clients before (mark ∷ run) first asked count w = (
-    record { above = w.0.0; within = w.0.1; xid = next_xid_is before mark first (asked (link_of_mark mark) w.0).0 (count (link_of_mark mark) w.0) },
+    record { above = w.0.0; within = w.0.1; xid = next_xid_is before mark first (asked (link_of mark) w.0).0 (count (link_of mark) w.0) },
     numbered_from clients (before ++ mark ∷ []) run first (λ link i. (asked link i).1) (λ link i. counted_one link before mark (asked link i).0 (count link i)) w.1,
   )
 

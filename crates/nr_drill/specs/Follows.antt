@@ -47,9 +47,12 @@ abbrev pub MakeAll : Setting → ℕ → List Line → Drill → Drill → Type 
 MakeAll s clients [] old new = new ≡ old
 MakeAll s clients (line ∷ others) old new = (mid : Drill) × Makes s clients line old mid × MakeAll s clients others mid new
 
--- what the ends of each link are opened with
+-- what the ends of each link are opened with, by the credits of the script
+abbrev pub opened_with : ℕ → LinkParameters
+opened_with credits = record { first_xid = 1; first_stag = 1; wished = credits; granted = credits }
+
 abbrev pub parameters_of : Opening → ℕ → LinkParameters
-parameters_of opening link = record { first_xid = 1; first_stag = 1; wished = opening.credits; granted = opening.credits }
+parameters_of opening link = opened_with opening.credits
 
 abbrev pub setting_of : SerialServer → Opening → Setting
 setting_of server opening = record { server = server; opened = parameters_of opening }

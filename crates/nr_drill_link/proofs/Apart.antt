@@ -12,28 +12,16 @@ use Rattle.nr_requester.specs.Laws.{GivesUpNothing}
 use Rattle.nr_requester.proofs.AllMarks.{others_leave_it}
 use Rattle.nr_responder.specs.Standing.{RepresentsServer}
 use Rattle.nr_responder.specs.Laws.{IsOfOthers}
-use Rattle.nr_drill.specs.Drill.{Setting, Drill, pipes_of, with_mark, answer_at}
-use Rattle.nr_drill.proofs.Carried.{same_dropped}
-use Rattle.nr_drill.proofs.Followed.{link_of, apart, not_written, no_event, Extends}
+use Rattle.nr_drill.specs.Drill.{link_of, Setting, Drill, pipes_of, with_mark, answer_at}
+use Rattle.nr_drill.proofs.Carried.{not_drop, not_fed, same_dropped}
+use Rattle.nr_drill.proofs.Followed.{apart, not_written, no_event, Extends}
 use Rattle.nr_drill_link.specs.DrillLinkState.{DrillLinkState}
 use Rattle.nr_drill_link.specs.LinkStands.{answers_of, awaited_lines, LinkStands}
-use Rattle.nr_drill_link.specs.Steps.{mark_link}
 use Rattle.nr_drill_link.specs.Laws.{OtherLinksStand}
 use Rattle.nr_drill_link.proofs.Lines.{answers_same, awaited_same}
 use Rattle.nr_drill_link.proofs.Writes.{server_stays}
 
 -- ---- A mark of another link
-
-not_fed : (link : ℕ) (side : Side) (mark : Mark) → link_of mark ≢ link → fed_at link side mark ≡ []
-not_fed link side (marks.Fed l s bytes) ne = ap (λ (b : Bool). if b && same_side s side then bytes else []) (apart l link ne)
-not_fed link side (marks.Wrote l s bytes) ne = refl
-not_fed link side (marks.Submit l call form answer) ne = refl
-not_fed link side (marks.Execute l xid moment payload place reply) ne = refl
-not_fed link side (marks.Done l xid outcome) ne = refl
-not_fed link side (marks.Lost l xid) ne = refl
-not_fed link side (marks.Forget l xid) ne = refl
-not_fed link side (marks.Revoke l xid bytes) ne = refl
-not_fed link side (marks.Drop l) ne = refl
 
 not_answered : (link : ℕ) (mark : Mark) → link_of mark ≢ link → answer_at link mark ≡ []
 not_answered link (marks.Submit l call form answer) ne = ap (λ (b : Bool). if b then answer ∷ [] else []) (apart l link ne)
@@ -57,17 +45,6 @@ not_given_up link (marks.Fed l s bytes) ne xid = refl
 not_given_up link (marks.Wrote l s bytes) ne xid = refl
 not_given_up link (marks.Execute l x moment payload place reply) ne xid = refl
 not_given_up link (marks.Drop l) ne xid = refl
-
-not_drop : (link : ℕ) (mark : Mark) → link_of mark ≢ link → is_drop_of link mark ≡ false
-not_drop link (marks.Drop l) ne = apart l link ne
-not_drop link (marks.Submit l call form answer) ne = refl
-not_drop link (marks.Fed l s bytes) ne = refl
-not_drop link (marks.Wrote l s bytes) ne = refl
-not_drop link (marks.Execute l xid moment payload place reply) ne = refl
-not_drop link (marks.Done l xid outcome) ne = refl
-not_drop link (marks.Lost l xid) ne = refl
-not_drop link (marks.Forget l xid) ne = refl
-not_drop link (marks.Revoke l xid bytes) ne = refl
 
 of_others : (link : ℕ) (mark : Mark) → link_of mark ≢ link → IsOfOthers link mark
 of_others link (marks.Wrote l Initiator bytes) ne = tt
@@ -137,24 +114,9 @@ stands_elsewhere s link other old new v first ne x h =
     stands_by s link (with_marks x.marks.added old) new v x.marks.is (x.pipes link (indices_apart link other h.first first ne)) x.room
     (all_elsewhere s link old v x.marks.added (own_apart link other x.marks.added ne x.marks.own) h)
 
-pub same_link : (mark : Mark) → link_of mark ≡ mark_link mark
-same_link (marks.Drop l) = refl
-same_link (marks.Submit l call form answer) = refl
-same_link (marks.Fed l s bytes) = refl
-same_link (marks.Wrote l s bytes) = refl
-same_link (marks.Execute l xid moment payload place reply) = refl
-same_link (marks.Done l xid outcome) = refl
-same_link (marks.Lost l xid) = refl
-same_link (marks.Forget l xid) = refl
-same_link (marks.Revoke l xid bytes) = refl
-
 -- ---- The law
-
-own_elsewhere : (link other : ℕ) (added : List Mark) → other ≢ link → AllByRecursion (λ (mark : Mark). mark_link mark ≡ other) added → AllByRecursion (λ (mark : Mark). link_of mark ≢ link) added
-own_elsewhere link other [] ne own = tt
-own_elsewhere link other (mark ∷ added) ne own = ((λ e. ne (sym own.0 ∙ sym (same_link mark) ∙ e)), own_elsewhere link other added ne own.1)
 
 pub other_links_stand : OtherLinksStand
 other_links_stand s link other old new v ne x h =
     stands_by s link (with_marks x.added old) new v x.marks (x.pipes link h.first (λ e. ne (sym e))) x.room
-    (all_elsewhere s link old v x.added (own_elsewhere link other x.added ne x.own) h)
+    (all_elsewhere s link old v x.added (own_apart link other x.added ne x.own) h)

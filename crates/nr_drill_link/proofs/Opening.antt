@@ -7,12 +7,12 @@ use Rattle.nr_reduce.specs.declared.mark.LinkParameters.{LinkParameters}
 use Rattle.nr_reduce.specs.declared.mark.Mark.{Mark}
 use Rattle.nr_responder.specs.ResponderState.{end_of}
 use Rattle.nr_drill.specs.Drill.{Setting, Drill, Pipes, pipes_of, settled, after_up, after_down, after_all_up, after_all_down, after_opening}
-use Rattle.nr_drill.proofs.Followed.{link_of}
 use Rattle.nr_drill_link.specs.DrillLinkState.{DrillLinkState}
 use Rattle.nr_drill_link.specs.LinkStands.{awaited_lines, LinkStands}
-use Rattle.nr_drill_link.specs.Steps.{Goes, StandsAt, Opens, IsBeforeOpening, IsFresh, exchanged, opened_with, mark_link}
+use Rattle.nr_drill.specs.Follows.{opened_with}
+use Rattle.nr_drill_link.specs.Steps.{Goes, StandsAt, Opens, IsBeforeOpening, IsFresh}
 use Rattle.nr_drill_link.proofs.Ends.{represents_of}
-use Rattle.nr_drill_link.proofs.Apart.{all_elsewhere, stands_by, same_link}
+use Rattle.nr_drill_link.proofs.Apart.{all_elsewhere, stands_by}
 
 none_awaited : (link : ℕ) → [] ≡ awaited_lines link []
 unfolding awaited_lines
@@ -20,10 +20,6 @@ none_awaited link = refl
 
 abbrev no_marks : Drill → Drill
 no_marks d = record d { marks = [] }
-
-none_apart : (link : ℕ) (run : List Mark) → AllByRecursion (λ (mark : Mark). mark_link mark ≢ link) run → AllByRecursion (λ (mark : Mark). link_of mark ≢ link) run
-none_apart link [] h = tt
-none_apart link (mark ∷ run) h = ((λ e. h.0 (sym (same_link mark) ∙ e)), none_apart link run h.1)
 
 not_memory : (o : Option End) → o ≡ None → o ≢ Some ends.Memory
 not_memory o none e = absurd (let no = sym none ∙ e in cc)
@@ -45,7 +41,7 @@ fresh_stands s link credits d v f opened before =
       awaited = f.awaited ∙ none_awaited link;
     } in
     stands_by s link (record d { marks = [] ++ d.marks }) d v refl refl refl
-    (all_elsewhere s link (no_marks d) v d.marks (none_apart link d.marks before.none) first)
+    (all_elsewhere s link (no_marks d) v d.marks before.none first)
 
 -- ---- All that waits
 
@@ -64,15 +60,14 @@ all_down_goes v v2 run run2 log place n is all goes s link d at =
 
 -- ---- The hellos go to both ends
 
-opening_is : (s : Setting) (link : ℕ) (d : Drill) → after_opening s link d ≡ after_all_down s link (after_all_up s link (settled s link d))
+pub opening_is : (s : Setting) (link : ℕ) (d : Drill) → after_opening s link d ≡ after_all_down s link (after_all_up s link (settled s link d))
 unfolding after_opening
 opening_is s link d = refl
 
-pub opens : (link credits : ℕ) (v v2 : DrillLinkState) (run run2 : List Mark) → IsFresh link credits v → Goes exchanged v v2 run run2 → Opens link credits v2 run run2
+pub opens : (link credits : ℕ) (v v2 : DrillLinkState) (run run2 : List Mark) → IsFresh link credits v → Goes after_opening v v2 run run2 → Opens link credits v2 run run2
 opens link credits v v2 run run2 f goes s d opened before marks_are replies =
-    let first : StandsAt s link d v run = record {
+    goes s link d (record {
       stands = fresh_stands s link credits d v f opened before;
       marks = marks_are;
       replies = replies;
-    } in
-    subst (λ (x : Drill). StandsAt s link x v2 run2) (sym (opening_is s link d)) (goes s link d first)
+    })

@@ -2,16 +2,15 @@
 use Rattle.std.specs.Prelude.{◌≡◌, ◌≢◌, ℕ, ◌≤◌, List, ◌++◌, length}
 use Rattle.std.specs.List.{AllByRecursion}
 use Rattle.nr_reduce.specs.declared.mark.Mark.{Mark}
-use Rattle.nr_drill.specs.Drill.{Setting, Drill, pipes_of}
+use Rattle.nr_drill.specs.Drill.{link_of, Setting, Drill, pipes_of}
 use Rattle.nr_drill_link.specs.DrillLinkState.{DrillLinkState}
 use Rattle.nr_drill_link.specs.LinkStands.{LinkStands}
-use Rattle.nr_drill_link.specs.Steps.{mark_link}
 
 -- marks of this link are added and no others, and what waits in the pipes of other links stays
 pub record IsDoneOn (link : ℕ) (old new : Drill) : Type 0 where
   pub added : List Mark
   pub marks : new.marks ≡ old.marks ++ added
-  pub own : AllByRecursion (λ (mark : Mark). mark_link mark ≡ link) added
+  pub own : AllByRecursion (λ (mark : Mark). link_of mark ≡ link) added
   pub pipes : (other : ℕ) → 1 ≤ other → other ≢ link → pipes_of other new ≡ pipes_of other old
   pub room : length new.pipes ≡ length old.pipes
 

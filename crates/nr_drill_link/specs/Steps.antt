@@ -14,8 +14,9 @@ use Rattle.nr_responder.specs.ResponderState.{ResponderSide, end_of, may_write, 
 use Rattle.nr_responder.specs.Standing.{Stands}
 use Rattle.nr_plain.specs.Setup.{Setup}
 use Rattle.nr_plain.specs.Stands.{PlainServerState, RepresentsJournal}
-use Rattle.nr_drill.specs.Drill.{Setting, Drill, plain_of, pipes_of, empty_pipes, settled, after_work, after_all_up, after_all_down, after_opening}
+use Rattle.nr_drill.specs.Drill.{link_of, Setting, Drill, plain_of, pipes_of, empty_pipes, settled, after_work, after_opening}
 use Rattle.nr_drill.specs.DrillSetup.{server_of}
+use Rattle.nr_drill.specs.Follows.{opened_with}
 use Rattle.nr_drill.specs.InBytes.{RepliedInBytes}
 use Rattle.nr_drill_link.specs.DrillLinkState.{DrillLinkState}
 use Rattle.nr_drill_link.specs.LinkStands.{LinkStands}
@@ -51,29 +52,14 @@ Works step seconds before after run run' kept kept' =
 
 -- ---- A link opens
 
--- the link of a mark
-abbrev pub mark_link : Mark → ℕ
-mark_link (marks.Submit l call form answer) = l
-mark_link (marks.Wrote l side bytes) = l
-mark_link (marks.Fed l side bytes) = l
-mark_link (marks.Execute l xid moment payload place reply) = l
-mark_link (marks.Done l xid outcome) = l
-mark_link (marks.Lost l xid) = l
-mark_link (marks.Forget l xid) = l
-mark_link (marks.Revoke l xid bytes) = l
-mark_link (marks.Drop l) = l
-
 -- A drill in which a link hasn't opened yet: it has empty pipes for it, and no mark of it.
 pub record IsBeforeOpening (link : ℕ) (d : Drill) : Type 0 where
   pub first : 1 ≤ link
   pub room : link ≤ length d.pipes
   pub pipes : pipes_of link d ≡ empty_pipes
-  pub none : AllByRecursion (λ (mark : Mark). mark_link mark ≢ link) d.marks
+  pub none : AllByRecursion (λ (mark : Mark). link_of mark ≢ link) d.marks
 
--- what the ends of a link of a drill are opened with
-abbrev pub opened_with : ℕ → LinkParameters
-opened_with credits = record { first_xid = 1; first_stag = 1; wished = credits; granted = credits }
-
+-- a new link opens in a drill whose links are opened with these credits
 abbrev pub Opens : (link credits : ℕ) → DrillLinkState → (run run' : List Mark) → Type 0
 Opens link credits v run run' =
     (s : Setting) (d : Drill) → s.opened link ≡ opened_with credits → IsBeforeOpening link d → run ≡ d.marks → RepliedInBytes run → StandsAt s link (after_opening s link d) v run'
@@ -91,10 +77,6 @@ pub record IsFresh (link credits : ℕ) (v : DrillLinkState) : Type 0 where
   pub server_live : end_of v.server ≡ None
   pub client : (opened : LinkParameters) (l : ℕ) → opened.first_xid ≡ 1 → opened.first_stag ≡ 1 → opened.wished ≡ credits → RequesterRepresents opened l v.client []
   pub server : (opened : LinkParameters) (l : ℕ) → opened.granted ≡ credits → Stands opened l [] v.server
-
--- both ends write, and each is fed what the other wrote
-abbrev pub exchanged : Setting → ℕ → Drill → Drill
-exchanged s link d = after_all_down s link (after_all_up s link (settled s link d))
 
 -- a client was drained: these are all bytes that it had to write
 pub record ClientWrites (before after : RequesterSide) (bytes : List ℕ) : Type 0 where

@@ -5,10 +5,10 @@ ghost use Rattle.nr_wire.specs.declared.hello.Side.TheVariants.{Initiator, Respo
 ghost use Rattle.nr_reduce.specs.declared.mark.Mark.{Mark};
 ghost use Rattle.nr_reduce.specs.Run.{end_of_side};
 ghost use Rattle.nr_reduce.specs.History.{is_dropped as is_dropped_after};
-ghost use Rattle.nr_drill.specs.Drill.{Setting, Drill, after_drop, after_raw};
+ghost use Rattle.nr_drill.specs.Drill.{Setting, Drill, after_drop, after_opening, after_raw};
 ghost use Rattle.nr_drill.specs.Follows.{is_still as is_still_in};
 ghost use Rattle.nr_drill_link.specs.LinkStands.{LinkStands};
-ghost use Rattle.nr_drill_link.specs.Steps.{exchanged, Goes, IsFresh, Opens};
+ghost use Rattle.nr_drill_link.specs.Steps.{Goes, IsFresh, Opens};
 
 use crate::awaited::AwaitedCall;
 use crate::draining::{add_mark, put};
@@ -117,7 +117,7 @@ impl DrillLink {
     /// Both ends write their hellos, and each is fed that of the other.
     #[tactic(none)]
     fn exchange(&mut self, marks: &mut Vec<Mark>) -> Result<(), Memory>
-        ensures { OnOk result (Goes exchanged self.old self.new marks.old.items marks.new.items) }
+        ensures { OnOk result (Goes after_opening self.old self.new marks.old.items marks.new.items) }
     {
         match self.settle(marks) {
             Ok(()) => match self.all_up(marks) {

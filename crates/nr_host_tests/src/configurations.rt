@@ -4,7 +4,7 @@ use crate::compare::same;
 use crate::connections::{MOMENTS, plan};
 use nr_links::{MemAcceptor, MemClock};
 use nr_outside::{MemSink, MemSource};
-use nr_serve::run_server;
+use nr_top::run_server;
 use std::alloc::Global;
 use std::process::Abort;
 

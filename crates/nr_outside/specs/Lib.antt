@@ -4,4 +4,5 @@ pub mod Faults
 pub mod MemSink
 pub mod MemSource
 pub mod Pipe
+pub mod Streams
 pub mod Whole

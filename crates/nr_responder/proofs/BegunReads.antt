@@ -4,6 +4,7 @@ use Rattle.std.specs.Prelude.{min}
 use Rattle.std.specs.List.{list_any}
 use Rattle.std.proofs.lemmas.Bool.{eq-eqb, ne_eqb}
 use Rattle.std.proofs.lemmas.List.{length-take, length-map}
+use Rattle.nr_header.specs.Constants.{PAYLOAD_MAX}
 use Rattle.nr_header.specs.declared.header.ReadSegment.{ReadSegment}
 use Rattle.nr_link.specs.Limits.{open_reads_max}
 use Rattle.nr_endpoint.specs.EndpointState.{EndpointState}
@@ -115,7 +116,7 @@ rooms_more old new number next read chunks calls none is h = λ k d lt left.
 -- ---- What is kept
 
 pub started_fetched : (f : EndpointState) (old new : List ReadEntry) (number next : ℕ) (read : List ReadSegment) (chunks : List ℕ) (calls later : List Pending) (call : Pending) (room : List ℕ) (sinks : List OpenSink) →
-    AreHeldFrom f.link.state.memory 0 (claims_of sinks) → All (λ (s : OpenSink). s.registration.len ≤ 40960) sinks → NothingOutside f → list_any (λ (c : Pending). eqb c.number number) calls ≡ false → map read_view new ≡ reads_more old number next read chunks →
+    AreHeldFrom f.link.state.memory 0 (claims_of sinks) → All (λ (s : OpenSink). s.registration.len ≤ PAYLOAD_MAX) sinks → NothingOutside f → list_any (λ (c : Pending). eqb c.number number) calls ≡ false → map read_view new ≡ reads_more old number next read chunks →
     payload_room ≤ length room → later ≡ calls ++ with_room call room ∷ [] → All (HasRoom old) calls → AreFetched f later new sinks
 started_fetched f old new number next read chunks calls later call room sinks held short nothing none is long later_is h = record {
   held = held;
@@ -124,7 +125,7 @@ started_fetched f old new number next read chunks calls later call room sinks he
   outside = nothing;
 }
 
-pub kept_fetched : (f : EndpointState) (old new : List ReadEntry) (calls : List Pending) (sinks : List OpenSink) → AreHeldFrom f.link.state.memory 0 (claims_of sinks) → All (λ (s : OpenSink). s.registration.len ≤ 40960) sinks → NothingOutside f → new ≡ old →
+pub kept_fetched : (f : EndpointState) (old new : List ReadEntry) (calls : List Pending) (sinks : List OpenSink) → AreHeldFrom f.link.state.memory 0 (claims_of sinks) → All (λ (s : OpenSink). s.registration.len ≤ PAYLOAD_MAX) sinks → NothingOutside f → new ≡ old →
     All (HasRoom old) calls → AreFetched f calls new sinks
 kept_fetched f old new calls sinks held short nothing is h = record {
   held = held;

@@ -5,6 +5,7 @@ use Rattle.std.specs.List.{filter, list_any}
 use Rattle.std.proofs.lemmas.Bool.{eqb-true, eq-eqb, ne_eqb}
 use Rattle.std.proofs.lemmas.List.{drop_more, length-replicate}
 use Rattle.std.proofs.lemmas.List.Sums.{sum_by-cons}
+use Rattle.nr_header.specs.Constants.{PAYLOAD_MAX}
 use Rattle.nr_header.specs.declared.header.ReadSegment.{ReadSegment}
 use Rattle.nr_header.specs.declared.header.ChunkLists.{ChunkLists}
 use Rattle.nr_header.specs.WithinLimits.{read_total}
@@ -120,15 +121,15 @@ take_taken (suc m) (suc n) (u ∷ us) le = ap (λ vs. u ∷ vs) (take_taken m n 
 pub front_kept : {X : Type 0} (xs ys zs : List X) → take (length xs) ys ≡ xs → length xs ≤ length ys → take (length ys) zs ≡ ys → take (length xs) zs ≡ xs
 front_kept xs ys zs first le second = sym (take_taken (length xs) (length ys) zs le) ∙ ap (λ us. take (length xs) us) second ∙ first
 
-pub total_fits : (p n i : ℕ) (before read : List ReadSegment) → n ≡ total_at p before → before ≡ take i read → read_total read ≤ 40960 → n ≤ 40960
+pub total_fits : (p n i : ℕ) (before read : List ReadSegment) → n ≡ total_at p before → before ≡ take i read → read_total read ≤ PAYLOAD_MAX → n ≤ PAYLOAD_MAX
 total_fits p n i before read is first all =
     let front : n ≡ total_at p (take i read) = is ∙ ap (total_at p) first in
     omega (arith, front, total_within p (take i read), total_first i read, all)
 
-pub total_small : (p n : ℕ) (read : List ReadSegment) → n ≡ total_at p read → read_total read ≤ 40960 → n ≤ 40960
+pub total_small : (p n : ℕ) (read : List ReadSegment) → n ≡ total_at p read → read_total read ≤ PAYLOAD_MAX → n ≤ PAYLOAD_MAX
 total_small p n read is all = omega (arith, is, total_within p read, all)
 
-pub buffer_small : (p : ℕ) (read : List ReadSegment) (buf : List ℕ) → buf ≡ sink_buffer read p → read_total read ≤ 40960 → length buf ≤ 40960
+pub buffer_small : (p : ℕ) (read : List ReadSegment) (buf : List ℕ) → buf ≡ sink_buffer read p → read_total read ≤ PAYLOAD_MAX → length buf ≤ PAYLOAD_MAX
 buffer_small p read buf is all = (let len : length buf ≡ total_at p read = ap (λ (xs : List ℕ). length xs) is ∙ length-replicate (total_at p read) 0 in omega (arith, len, total_within p read, all))
 
 -- the sinks don't depend on the other lists

@@ -1,6 +1,6 @@
 //! The answer to a call: its message and its RDMA Writes (RFC 8166 sections 3.4.6, 3.5).
 
-ghost use Rattle.std.specs.Prelude.{◌≡◌, ℕ, ◌+◌, ◌≤◌, ◌<◌, ◌^◌, length, drop, take, IfOk, OnOk, OnErr, All, option_map, List, [], ◌++◌, IfSome, ◌==◌, if◌then◌else◌};
+ghost use Rattle.std.specs.Prelude.{◌≡◌, ℕ, ◌+◌, ◌≤◌, ◌<◌, ◌^◌, length, drop, take, IfOk, OnOk, OnErr, All, option_map, [], ◌++◌, IfSome, ◌==◌, if◌then◌else◌};
 ghost use Rattle.nr_header.specs.WithinLimits.{ListsWithin, SegmentsEnd};
 ghost use Rattle.nr_endpoint.specs.Offering.{FitsRegion, writes_output};
 ghost use Rattle.nr_link.specs.Output.{write};

@@ -2,7 +2,7 @@
 
 ghost use Rattle.std.specs.Prelude.{◌≡◌, ◌⊎◌, ◌+◌, ◌^◌, ◌==◌, ℕ, ◌<◌, ◌≤◌, None, length, map, true, false};
 ghost use Rattle.std.specs.List.{list_any};
-ghost use Rattle.nr_header.specs.Constants.{FIXED_LEN, PAYLOAD_MAX};
+ghost use Rattle.nr_header.specs.Constants.{PAYLOAD_MAX};
 ghost use Rattle.nr_header.specs.WithinLimits.{read_total};
 ghost use Rattle.nr_responder.specs.private.Handling.{FetchesCall, out};
 ghost use Rattle.nr_responder.specs.Sound.{state_of, InBuffer, IsSound, IsSoundWith, SameInput};

@@ -1,8 +1,8 @@
 //! What a responder makes of a message (RFC 8166 sections 4.2 to 4.5).
 
-ghost use Rattle.std.specs.Prelude.{◌≡◌, ℕ, ◌+◌, ◌≤◌, ◌^◌, length, map};
+ghost use Rattle.std.specs.Prelude.{◌≡◌, ℕ, ◌≤◌, ◌^◌, length, map};
 ghost use Rattle.nr_header.specs.Constants.{FIXED_LEN};
-ghost use Rattle.nr_header.specs.WithinLimits.{CanRead, StreamWithin, stream_after};
+ghost use Rattle.nr_header.specs.WithinLimits.{StreamWithin};
 ghost use Rattle.nr_reduce.specs.ServerState.{ServerState, next_stag};
 ghost use Rattle.nr_reduce.specs.ServerMessages.{has_position};
 ghost use Rattle.nr_responder.specs.Views.{brings_stream, call_view, reads_if, HasStream, Judges, JudgesBody};

@@ -5,12 +5,12 @@
 //! which says how a reply is sent back and what a server of a run owes.
 //!
 //! A message comes as a receive buffer. It is judged once ([`Responder::feed`]): it ends the link, is refused by an error message, or
-//! makes a call pending, which keeps that buffer until its answer has left the queue. So the payload of a call is read in the buffer in which its Send
-//! was placed ([`Responder::payload`]). [`Responder::answer`] queues RDMA Writes and one Send, or ERR_CHUNK, or changes nothing; and
-//! [`Responder::drain_into`] posts the receive of each answer that has left.
+//! makes a call pending, which keeps that buffer until its answer has left the queue. So the payload of an inline call is read in the
+//! buffer in which its Send was placed ([`Responder::payload`]). [`Responder::answer`] queues RDMA Writes and one Send, or ERR_CHUNK, or
+//! changes nothing; and [`Responder::drain_into`] posts the receive of each answer that has left.
 //!
-//! The chunks of a call with a read list are read into sink regions of the responder, at most eight Read Requests at a time, before the
-//! call is ready (RFC 8166 section 3.4.5).
+//! The chunks of a call with a read list are read into regions of the responder (sinks), at most eight Read Requests at a time, before
+//! the call is ready (RFC 8166 section 3.4.5).
 //!
 //! A responder keeps neither marks nor bytes of the past. Each call says, for every list of marks that the value stood for, what it
 //! answers, and that the value stands for that list with the marks of the call.

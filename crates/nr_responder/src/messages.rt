@@ -1,50 +1,24 @@
 //! What a message makes of a responder (RFC 8166 sections 4.2 to 4.5).
 
-ghost use Rattle.std.specs.Prelude.{◌≡◌, ◌≢◌, ℕ, ◌+◌, ◌-◌, ◌<◌, ◌≤◌, ◌^◌, List, [], ◌∷◌, ◌++◌, length, take, drop, get_or, slice_get, map, option_map, Option, None, Some, IfOk, OnOk, OnErr, IfSome, IsOk, is_some, All, MatchOption, MatchResult, true, false, if◌then◌else◌, ◌⊎◌, vec_len, vec_capacity};
-ghost use Rattle.std.specs.VecDeque.{deque_capacity};
-ghost use Rattle.nr_outside.specs.Faults.{Rises};
-ghost use Rattle.nr_endpoint.specs.declared.fault.DrainFault.TheVariants as drains;
-ghost use Rattle.nr_wire.specs.Constants.{FPDU_MAX};
-ghost use Rattle.nr_wire.specs.Feeding.{bytes_taken};
+ghost use Rattle.std.specs.Prelude.{◌≡◌, ℕ, ◌+◌, ◌<◌, ◌≤◌, [], ◌∷◌, ◌++◌, take, map, Option, None, IfOk, IsOk, true, ◌⊎◌};
 ghost use Rattle.nr_link.specs.Limits.{send_max};
 ghost use Rattle.nr_header.specs.Constants.{FIXED_LEN};
 ghost use Rattle.nr_header.specs.WithinLimits.{ListsWithin};
-ghost use Rattle.nr_endpoint.specs.FedBytes.{fed_bytes};
 ghost use Rattle.nr_endpoint.specs.Receives.{IsReceive};
 ghost use Rattle.nr_endpoint.specs.Calls.{after_call, IsStopReason};
 ghost use Rattle.nr_endpoint.specs.Calls.Call.{Stop, Send, OutOfMemory};
-ghost use Rattle.std.specs.Result.{result_err};
-ghost use Rattle.nr_wire.specs.declared.hello.Side.TheVariants.{Responder as ResponderSide};
-ghost use Rattle.nr_link.specs.declared.end.End.TheVariants as ends;
-ghost use Rattle.nr_reduce.specs.declared.mark.LinkParameters.{LinkParameters};
-ghost use Rattle.nr_reduce.specs.declared.mark.Mark.{Mark};
-ghost use Rattle.nr_reduce.specs.declared.mark.Mark.TheVariants as marks;
-ghost use Rattle.nr_outside.specs.declared.moment.Moment.{Moment};
-ghost use Rattle.nr_reduce.specs.Served.{next_call, IsExecuted};
-ghost use Rattle.nr_responder.specs.Answering.{Answers, IsPayload};
-ghost use Rattle.nr_responder.specs.Draining.{Drains};
-ghost use Rattle.nr_responder.specs.private.Handling.{out, Begins, IsTaken, Makes, OrOut, ReadsXid};
-ghost use Rattle.nr_responder.specs.ResponderState.{end_of, opened_side, posted_times, may_write, KeepsStaging};
+ghost use Rattle.nr_responder.specs.private.Handling.{out, Begins, Makes, OrOut};
 ghost use Rattle.nr_reduce.specs.ServerReads.{is_read};
-ghost use Rattle.nr_responder.specs.Sound.{state_of, with_staging, payloads_of, AreSound, HasRoom, InBuffer, IsNext, IsSound, IsSoundWith, SameInput};
-ghost use Rattle.nr_responder.specs.Views.{call_view, read_view};
-ghost use Rattle.nr_responder.specs.Standing.{Stands};
-ghost use Rattle.nr_responder.specs.Steps.{Fed, taken_of};
+ghost use Rattle.nr_responder.specs.Sound.{state_of, HasRoom, InBuffer, IsSound, IsSoundWith, SameInput};
+ghost use Rattle.nr_responder.specs.Views.{read_view};
 
-use crate::answering::{SENDABLE, chunk_error, queue_answer, version_error};
-use crate::call::{OpenSink, Pending, ReadEntry, Ready, Sent, is_read, place_of, stream_of};
+use crate::answering::{chunk_error, version_error};
+use crate::call::{Pending, Ready, is_read, stream_of};
 use crate::judging::{Judged, judge};
 use crate::server_end::{ServerEnd, own_xid, send_error, stop};
-use nr_endpoint::{DrainFault, Endpoint, Event};
 use nr_header::ChunkLists;
-use nr_link::End;
-use nr_link::constants::{REASON_CALL, REASON_HEAD, REASON_KIND, REASON_XID};
-use nr_outside::Sink;
-use nr_rpc::call_xid;
-use nr_wire::Side;
+use nr_link::constants::{REASON_CALL, REASON_KIND};
 use nr_xdr::{Memory, Octets, word_at};
-use std::alloc::Global;
-use std::collections::VecDeque;
 
 impl ServerEnd {
     /// Ends the side because memory ran out.

@@ -1,6 +1,6 @@
 //! The Read Requests that open, as many as may be open at a time (RFC 5040 section 4.4).
 
-ghost use Rattle.std.specs.Prelude.{◌≡◌, ◌≢◌, ◌+◌, ◌^◌, ◌<◌, ◌≤◌, min, map, length, None, All, IfOk, OnOk, OnErr, []};
+ghost use Rattle.std.specs.Prelude.{◌≡◌, ◌≢◌, ◌+◌, ◌<◌, min, map, None, All, IfOk, OnOk, OnErr, []};
 ghost use Rattle.nr_link.specs.Limits.{open_reads_max};
 ghost use Rattle.nr_endpoint.specs.Requesting.{FitsSink};
 ghost use Rattle.nr_responder.specs.private.Reading.{opening, remote_of, with_opened, with_opened_after};

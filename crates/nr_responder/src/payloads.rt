@@ -1,6 +1,6 @@
 //! The payload of a call whose chunks are read (RFC 8166 section 3.4.5).
 
-ghost use Rattle.std.specs.Prelude.{◌≡◌, ℕ, ◌+◌, ◌*◌, ◌^◌, ◌<◌, ◌≤◌, length, drop, take, Some, None, IfErr, IfOk, List, [], Option, option_map, slice_get};
+ghost use Rattle.std.specs.Prelude.{◌≡◌, ℕ, ◌+◌, ◌*◌, ◌^◌, ◌<◌, ◌≤◌, length, Some, None, IfErr, IfOk, List, [], Option, option_map, slice_get};
 ghost use Rattle.nr_link.specs.Limits.{send_max};
 ghost use Rattle.nr_endpoint.specs.Calls.{IsStopReason};
 ghost use Rattle.nr_reduce.specs.Chunks.{call_stream, whole};

@@ -162,6 +162,7 @@ impl ServerEnd {
         ensures input { SameInput self.old.endpoint.link self.new.endpoint.link }
         ensures staging { self.new.endpoint.staging ≡ self.old.endpoint.staging }
     {
+        // Only the contract speaks of it.
         let _done = done;
         match self.read_on(kept) {
             Ok(()) => (),
@@ -226,6 +227,7 @@ impl ServerEnd {
         ensures input { SameInput self.old.endpoint.link self.new.endpoint.link }
         ensures staging { self.new.endpoint.staging ≡ self.old.endpoint.staging }
     {
+        // Only the contract speaks of it.
         let _done = done;
         let room = self.take_room_at(at);
         let call = &self.calls[at];

@@ -75,6 +75,7 @@ pub(crate) fn register_sinks(
     ensures staging { endpoint.new.staging ≡ endpoint.old.staging }
 {
     let mut buffers = buffers;
+    // Only the contract speaks of it.
     let _read = read;
     'chunks: for i in 0..chunks.len() {
         let buf = buffers.remove(0);

@@ -1,6 +1,6 @@
 //! What a responder keeps: its endpoint, the calls that it has not answered, and the receives of answers that haven't left.
 
-ghost use Rattle.std.specs.Prelude.{◌≡◌, ◌≢◌, ℕ, ◌+◌, ◌-◌, ◌<◌, ◌≤◌, ◌^◌, List, [], ◌∷◌, ◌++◌, length, take, drop, get_or, slice_get, map, option_map, Option, None, Some, IfOk, OnOk, OnErr, IfSome, IsOk, is_some, All, MatchOption, MatchResult, true, false, if◌then◌else◌, ◌⊎◌, vec_len, vec_capacity};
+ghost use Rattle.std.specs.Prelude.{◌≡◌, ◌≢◌, ℕ, ◌+◌, ◌-◌, ◌<◌, ◌≤◌, ◌^◌, List, [], ◌∷◌, ◌++◌, length, take, get_or, slice_get, Option, None, Some, IfOk, OnOk, OnErr, IfSome, IsOk, is_some, All, MatchOption, MatchResult, true, false, if◌then◌else◌, ◌⊎◌};
 ghost use Rattle.std.specs.VecDeque.{deque_capacity};
 ghost use Rattle.nr_outside.specs.Faults.{Rises};
 ghost use Rattle.nr_endpoint.specs.declared.fault.DrainFault.TheVariants as drains;
@@ -8,7 +8,6 @@ ghost use Rattle.nr_wire.specs.Constants.{FPDU_MAX};
 ghost use Rattle.nr_wire.specs.Feeding.{bytes_taken};
 ghost use Rattle.nr_link.specs.Limits.{send_max};
 ghost use Rattle.nr_header.specs.Constants.{FIXED_LEN};
-ghost use Rattle.nr_header.specs.WithinLimits.{ListsWithin};
 ghost use Rattle.nr_endpoint.specs.FedBytes.{fed_bytes};
 ghost use Rattle.nr_endpoint.specs.Receives.{IsReceive};
 ghost use Rattle.nr_endpoint.specs.Calls.{after_call, IsStopReason};
@@ -21,24 +20,20 @@ ghost use Rattle.nr_reduce.specs.declared.mark.Mark.{Mark};
 ghost use Rattle.nr_reduce.specs.declared.mark.Mark.TheVariants as marks;
 ghost use Rattle.nr_outside.specs.declared.moment.Moment.{Moment};
 ghost use Rattle.nr_reduce.specs.Served.{next_call, IsExecuted};
-ghost use Rattle.nr_responder.specs.Answering.{Answers, IsPayload};
+ghost use Rattle.nr_responder.specs.Answering.{Answers};
 ghost use Rattle.nr_responder.specs.Draining.{Drains};
-ghost use Rattle.nr_responder.specs.private.Handling.{out, Begins, IsTaken, Makes, OrOut, ReadsXid};
+ghost use Rattle.nr_responder.specs.private.Handling.{out, IsTaken, ReadsXid};
 ghost use Rattle.nr_responder.specs.ResponderState.{end_of, opened_side, posted_times, may_write, KeepsStaging};
-ghost use Rattle.nr_reduce.specs.ServerReads.{is_read};
-ghost use Rattle.nr_responder.specs.Sound.{state_of, with_staging, payloads_of, AreSound, HasRoom, InBuffer, IsNext, IsSound, IsSoundWith, SameInput};
-ghost use Rattle.nr_responder.specs.Views.{call_view, read_view};
+ghost use Rattle.nr_responder.specs.Sound.{state_of, with_staging, payloads_of, IsNext, IsSound};
 ghost use Rattle.nr_responder.specs.Standing.{Stands};
 ghost use Rattle.nr_responder.specs.Steps.{Fed, taken_of};
 
-use crate::answering::{SENDABLE, chunk_error, queue_answer, version_error};
-use crate::call::{OpenSink, Pending, ReadEntry, Ready, Sent, is_read, place_of, stream_of};
-use crate::judging::{Judged, judge};
+use crate::answering::{SENDABLE, queue_answer};
+use crate::call::{OpenSink, Pending, ReadEntry, Ready, Sent, place_of, stream_of};
 use crate::payloads::{first_payload, payload_of};
 use nr_endpoint::{DrainFault, Endpoint, Event};
-use nr_header::ChunkLists;
 use nr_link::End;
-use nr_link::constants::{REASON_CALL, REASON_HEAD, REASON_KIND, REASON_XID};
+use nr_link::constants::{REASON_HEAD, REASON_XID};
 use nr_outside::Sink;
 use nr_rpc::call_xid;
 use nr_wire::Side;

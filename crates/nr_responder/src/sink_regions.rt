@@ -4,7 +4,7 @@ ghost use Rattle.std.specs.Prelude.{◌≡◌, ℕ, ◌+◌, ◌<◌, ◌≤◌,
 ghost use Rattle.std.specs.List.{list_any, remove};
 ghost use Rattle.nr_header.specs.Constants.{PAYLOAD_MAX};
 ghost use Rattle.nr_reduce.specs.ServerReads.{is_read_at};
-ghost use Rattle.nr_responder.specs.private.Reading.{is_sink_over, left_sinks, over_sinks, released, sink_bytes, with_released};
+ghost use Rattle.nr_responder.specs.private.Reading.{is_sink_over, left_sinks, over_sinks, sink_bytes, with_released};
 ghost use Rattle.nr_responder.specs.Sound.{claims_of, AreHeldFrom, NothingOutside};
 ghost use Rattle.nr_responder.specs.Views.{call_view, read_view, sink_view};
 

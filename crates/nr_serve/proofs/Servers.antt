@@ -10,13 +10,13 @@ use Rattle.nr_words.specs.declared.settings.Settings.{Settings}
 use Rattle.nr_words.specs.Lines.{Text}
 use Rattle.nr_host.specs.declared.conn_end.ConnEnd.{ConnEnd}
 use Rattle.nr_outside.specs.Faults.{Rises}
+use Rattle.nr_outside.specs.Streams.{SinkAt, Writes}
 use Rattle.nr_host.specs.Serving.{AcceptorCount, ServesAll, between}
 use Rattle.nr_host.specs.declared.serving.ServeFault.{ServeFault}
 use Rattle.nr_host.specs.declared.serving.ServeFault.TheVariants as faults
 use Rattle.nr_serve.specs.Serving.{AcceptorAt, Opens, Serves, ServesConnections, served_text, setup_of}
 use Rattle.nr_serve.specs.Stops.{IsServeFault, LinksStopped, ServesAndPrints, ServesLinks, ServesLinksOf, StoppedPrinting, StoppedServing, StopsServing, stop_of_serve}
 use Rattle.nr_serve.specs.Stops.StopsServing.{AtPrinting}
-use Rattle.nr_serve.specs.Streams.{OutputAt, Writes}
 use Rattle.nr_serve.specs.declared.stop.ServeStop.{ServeStop}
 use Rattle.nr_serve.proofs.Journals.{journal_after}
 
@@ -64,7 +64,7 @@ module _ (settings : Settings Text) (before after : AcceptorAt) (gave mid gave' 
       (inr (ends, (less, (J, serves))), fault)
 
 -- what was printed of them
-pub printed : {A : Type 0} (settings : Settings Text) (out out' : OutputAt) (before after : AcceptorAt) (gave gave' : Option (List Moment)) (r : Result A ServeStop)
+pub printed : {A : Type 0} (settings : Settings Text) (out out' : SinkAt) (before after : AcceptorAt) (gave gave' : Option (List Moment)) (r : Result A ServeStop)
     (serves : ServesConnections settings before after gave gave') (len : ℕ) → len ≡ length serves.journal
     → MatchResult r (λ (a : A). Writes out out' (served_text settings.connections len)) (λ stop. StoppedPrinting stop out out' (served_text settings.connections len))
     → MatchResult r (λ (a : A). ServesAndPrints settings out out' before after gave gave') (λ stop. StopsServing stop settings out out' before after gave gave')

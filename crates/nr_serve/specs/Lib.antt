@@ -1,4 +1,2 @@
-pub mod Streams
 pub mod Serving
-pub mod Statuses
 pub mod Stops

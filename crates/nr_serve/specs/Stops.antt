@@ -1,6 +1,7 @@
 -- Why a server wasn't opened, or stopped early, and what was done until then.
 use Rattle.std.specs.Prelude.{◌≡◌, ℕ, ◌<◌, ◌≤◌, ◌⊎◌, List, length, Option, IfSome, None, Some}
 use Rattle.nr_outside.specs.Faults.{Rises}
+use Rattle.nr_outside.specs.Streams.{SourceAt, SinkAt, ReadsAll, ReadsWithin, ReadsBeyond, Writes, WritesSome}
 use Rattle.nr_outside.specs.declared.moment.Moment.{Moment}
 use Rattle.nr_reduce.specs.declared.mark.Entry.{Entry}
 use Rattle.nr_words.specs.declared.settings.Settings.{Settings}
@@ -17,24 +18,23 @@ use Rattle.nr_host.specs.Serving.{ServesAll, between}
 use Rattle.nr_host.specs.declared.serving.ServeFault.{ServeFault}
 use Rattle.nr_host.specs.declared.serving.ServeFault.TheVariants as serve_faults
 use Rattle.nr_host.specs.declared.conn_end.ConnEnd.{ConnEnd}
-use Rattle.nr_serve.specs.Streams.{InputAt, OutputAt, ReadsAll, Reads, Writes, WritesSome, config_max}
-use Rattle.nr_serve.specs.Serving.{AcceptorAt, Serves, ServesConnections, served_text}
+use Rattle.nr_serve.specs.Serving.{AcceptorAt, Serves, ServesConnections, config_max, served_text}
 use Rattle.nr_serve.specs.declared.stop.ServeStop.{ServeStop}
 use Rattle.nr_serve.specs.declared.stop.ServeStop.TheVariants as stops
 
 -- the input has this configuration
-pub record ReadsConfig (input input' : InputAt) (settings : Settings Text) : Type 0 where
+pub record ReadsConfig (input input' : SourceAt) (settings : Settings Text) : Type 0 where
   pub text : List ℕ
-  pub whole : ReadsAll input input' text
+  pub whole : ReadsAll config_max input input' text
   pub reads : config_of text ≡ Some settings
 
 -- no configuration was read
-abbrev pub StoppedReading : ServeStop → InputAt → InputAt → Type 0
-StoppedReading stops.Memory input input' = (bytes : List ℕ) × (Reads input input' bytes × (input'.faults ≡ input.faults))
-StoppedReading stops.Input input input' = (bytes : List ℕ) × (Reads input input' bytes × ((length bytes ≤ config_max) × Rises input.faults input'.faults))
+abbrev pub StoppedReading : ServeStop → SourceAt → SourceAt → Type 0
+StoppedReading stops.Memory input input' = ReadsWithin config_max input input' × (input'.faults ≡ input.faults)
+StoppedReading stops.Input input input' = ReadsWithin config_max input input' × Rises input.faults input'.faults
 StoppedReading stops.Budget input input' =
-    IfSome input.left (λ left. config_max < length left) × ((bytes : List ℕ) × (Reads input input' bytes × ((config_max < length bytes) × (input'.faults ≡ input.faults))))
-StoppedReading stops.Configuration input input' = (text : List ℕ) × (ReadsAll input input' text × (config_of text ≡ None))
+    IfSome input.left (λ left. config_max < length left) × ReadsBeyond config_max input input' × (input'.faults ≡ input.faults)
+StoppedReading stops.Configuration input input' = (text : List ℕ) × (ReadsAll config_max input input' text × (config_of text ≡ None))
 StoppedReading stops.Link input input' = ⊥
 StoppedReading stops.Output input input' = ⊥
 
@@ -55,30 +55,30 @@ abbrev pub StoppedServing : ServeStop → Settings Text → AcceptorAt → Accep
 StoppedServing stop settings before after gave gave' = ServesFewer settings before after gave gave' × IsServeFault stop before.faults after.faults
 
 -- what it printed was not complete
-abbrev pub StoppedPrinting : ServeStop → OutputAt → OutputAt → List ℕ → Type 0
+abbrev pub StoppedPrinting : ServeStop → SinkAt → SinkAt → List ℕ → Type 0
 StoppedPrinting stops.Memory out out' text = out' ≡ out
 StoppedPrinting stops.Output out out' text = WritesSome out out' text
 StoppedPrinting _ out out' text = ⊥
 
 -- all connections that the configuration asks for were served, and that was printed
-pub record ServesAndPrints (settings : Settings Text) (out out' : OutputAt) (before after : AcceptorAt) (gave gave' : Option (List Moment)) : Type 0 where
+pub record ServesAndPrints (settings : Settings Text) (out out' : SinkAt) (before after : AcceptorAt) (gave gave' : Option (List Moment)) : Type 0 where
   pub serves : ServesConnections settings before after gave gave'
   pub prints : Writes out out' (served_text settings.connections (length serves.journal))
 
 -- It stopped while it served, or when it printed.
-pub data StopsServing (stop : ServeStop) (settings : Settings Text) (out out' : OutputAt) (before after : AcceptorAt) (gave gave' : Option (List Moment)) : Type 0 where
+pub data StopsServing (stop : ServeStop) (settings : Settings Text) (out out' : SinkAt) (before after : AcceptorAt) (gave gave' : Option (List Moment)) : Type 0 where
   AtServing : StoppedServing stop settings before after gave gave' → out' ≡ out → StopsServing stop settings out out' before after gave gave'
   AtPrinting : (serves : ServesConnections settings before after gave gave') → StoppedPrinting stop out out' (served_text settings.connections (length serves.journal)) →
       StopsServing stop settings out out' before after gave gave'
 
 -- the configuration was read, its connections were served, and that was printed
-pub record Done (input input' : InputAt) (out out' : OutputAt) (before after : AcceptorAt) (gave gave' : Option (List Moment)) : Type 0 where
+pub record Done (input input' : SourceAt) (out out' : SinkAt) (before after : AcceptorAt) (gave gave' : Option (List Moment)) : Type 0 where
   pub settings : Settings Text
   pub reads : ReadsConfig input input' settings
   pub served : ServesAndPrints settings out out' before after gave gave'
 
 -- It stopped while it read the configuration, or after that.
-pub data Stopped (stop : ServeStop) (input input' : InputAt) (out out' : OutputAt) (before after : AcceptorAt) (gave gave' : Option (List Moment)) : Type 0 where
+pub data Stopped (stop : ServeStop) (input input' : SourceAt) (out out' : SinkAt) (before after : AcceptorAt) (gave gave' : Option (List Moment)) : Type 0 where
   AtReading : StoppedReading stop input input' → out' ≡ out → after ≡ before → gave' ≡ gave → Stopped stop input input' out out' before after gave gave'
   AfterReading : (settings : Settings Text) → ReadsConfig input input' settings → StopsServing stop settings out out' before after gave gave' → Stopped stop input input' out out' before after gave gave'
 

@@ -2,7 +2,7 @@
 
 ghost use Rattle.std.specs.Prelude.{◌≡◌, ◌≤◌, ◌<◌, length, IfOk, MatchResult};
 ghost use Rattle.nr_words.specs.Settings.{config_settings};
-ghost use Rattle.nr_serve.specs.Streams.{Writes, input_at, output_at};
+ghost use Rattle.nr_outside.specs.Streams.{Writes, source_at, sink_at};
 ghost use Rattle.nr_serve.specs.Serving.{Opens, acceptor_at, served_text};
 ghost use Rattle.nr_serve.specs.Stops.{Done, InRanges, LinksStopped, ReadsConfig, ServesAndPrints, ServesLinksOf, Stopped, StoppedPrinting, StoppedReading, StopsServing};
 
@@ -24,10 +24,10 @@ const CONFIG_MAX: usize = 16_777_216;
 #[tactic(none)]
 fn read_settings<I: Source>(alloc: Global, input: &mut I) -> Result<Config, ServeStop>
     ensures { MatchResult result
-        (λ config. ReadsConfig (input_at (I.left input.old) (I.given input.old) (I.faults input.old))
-        (input_at (I.left input.new) (I.given input.new) (I.faults input.new)) (config_settings config))
-        (λ stop. StoppedReading stop (input_at (I.left input.old) (I.given input.old) (I.faults input.old))
-        (input_at (I.left input.new) (I.given input.new) (I.faults input.new))) }
+        (λ config. ReadsConfig (source_at (I.left input.old) (I.given input.old) (I.faults input.old))
+        (source_at (I.left input.new) (I.given input.new) (I.faults input.new)) (config_settings config))
+        (λ stop. StoppedReading stop (source_at (I.left input.old) (I.given input.old) (I.faults input.old))
+        (source_at (I.left input.new) (I.given input.new) (I.faults input.new))) }
 {
     let text = match read_whole(alloc, input, CONFIG_MAX) {
         Ok(text) => text,
@@ -105,8 +105,8 @@ fn print_served<O: Sink>(
     journal: u64,
 ) -> Result<(), ServeStop>
     ensures { MatchResult result
-        (λ _. Writes (output_at (O.taken out.old) (O.faults out.old)) (output_at (O.taken out.new) (O.faults out.new)) (served_text connections journal))
-        (λ stop. StoppedPrinting stop (output_at (O.taken out.old) (O.faults out.old)) (output_at (O.taken out.new) (O.faults out.new)) (served_text connections journal)) }
+        (λ _. Writes (sink_at (O.taken out.old) (O.faults out.old)) (sink_at (O.taken out.new) (O.faults out.new)) (served_text connections journal))
+        (λ stop. StoppedPrinting stop (sink_at (O.taken out.old) (O.faults out.old)) (sink_at (O.taken out.new) (O.faults out.new)) (served_text connections journal)) }
 {
     let Ok(text) = format!(in alloc; "served {connections} journal {journal}\n") else {
         return Err(ServeStop::Memory);
@@ -128,9 +128,9 @@ fn serve_by<O: Sink, A: Acceptor, C: Clock>(
 ) -> Result<(), ServeStop>
     requires { InRanges (config_settings config.now) }
     ensures { MatchResult result
-        (λ _. ServesAndPrints (config_settings config.now) (output_at (O.taken out.old) (O.faults out.old)) (output_at (O.taken out.new) (O.faults out.new))
+        (λ _. ServesAndPrints (config_settings config.now) (sink_at (O.taken out.old) (O.faults out.old)) (sink_at (O.taken out.new) (O.faults out.new))
         (acceptor_at (A.asked accept.old) (A.ended accept.old) (A.lost accept.old) (A.faults accept.old)) (acceptor_at (A.asked accept.new) (A.ended accept.new) (A.lost accept.new) (A.faults accept.new)) (C.gave clock.old) (C.gave clock.new))
-        (λ stop. StopsServing stop (config_settings config.now) (output_at (O.taken out.old) (O.faults out.old)) (output_at (O.taken out.new) (O.faults out.new))
+        (λ stop. StopsServing stop (config_settings config.now) (sink_at (O.taken out.old) (O.faults out.old)) (sink_at (O.taken out.new) (O.faults out.new))
         (acceptor_at (A.asked accept.old) (A.ended accept.old) (A.lost accept.old) (A.faults accept.old)) (acceptor_at (A.asked accept.new) (A.ended accept.new) (A.lost accept.new) (A.faults accept.new)) (C.gave clock.old) (C.gave clock.new)) }
 {
     let Ok(mut server) = open_server(alloc, clock, config) else {
@@ -159,11 +159,11 @@ pub fn serve_config<I: Source, O: Sink, A: Acceptor, C: Clock>(
     clock: &mut C,
 ) -> Result<(), ServeStop>
     ensures { MatchResult result
-        (λ _. Done (input_at (I.left input.old) (I.given input.old) (I.faults input.old)) (input_at (I.left input.new) (I.given input.new) (I.faults input.new))
-        (output_at (O.taken out.old) (O.faults out.old)) (output_at (O.taken out.new) (O.faults out.new))
+        (λ _. Done (source_at (I.left input.old) (I.given input.old) (I.faults input.old)) (source_at (I.left input.new) (I.given input.new) (I.faults input.new))
+        (sink_at (O.taken out.old) (O.faults out.old)) (sink_at (O.taken out.new) (O.faults out.new))
         (acceptor_at (A.asked accept.old) (A.ended accept.old) (A.lost accept.old) (A.faults accept.old)) (acceptor_at (A.asked accept.new) (A.ended accept.new) (A.lost accept.new) (A.faults accept.new)) (C.gave clock.old) (C.gave clock.new))
-        (λ stop. Stopped stop (input_at (I.left input.old) (I.given input.old) (I.faults input.old)) (input_at (I.left input.new) (I.given input.new) (I.faults input.new))
-        (output_at (O.taken out.old) (O.faults out.old)) (output_at (O.taken out.new) (O.faults out.new))
+        (λ stop. Stopped stop (source_at (I.left input.old) (I.given input.old) (I.faults input.old)) (source_at (I.left input.new) (I.given input.new) (I.faults input.new))
+        (sink_at (O.taken out.old) (O.faults out.old)) (sink_at (O.taken out.new) (O.faults out.new))
         (acceptor_at (A.asked accept.old) (A.ended accept.old) (A.lost accept.old) (A.faults accept.old)) (acceptor_at (A.asked accept.new) (A.ended accept.new) (A.lost accept.new) (A.faults accept.new)) (C.gave clock.old) (C.gave clock.new)) }
 {
     let config = match read_settings(alloc, input) {

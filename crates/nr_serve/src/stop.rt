@@ -1,3 +1,5 @@
+//! Why a server that a configuration asks for stopped.
+
 ghost use Rattle.std.specs.Prelude.{◌≡◌};
 ghost use Rattle.nr_serve.specs.Stops.{stop_of_config, stop_of_read, stop_of_serve};
 

@@ -1,5 +1,6 @@
 -- What a cause, and what is written for it, say of the status.
 use Rattle.std.proofs.Common.{◌≡◌, ℕ, ◌<◌, ◌≤◌, rules, List, length, codes, Option, Some, IfSome, Result, Ok, Err, IfOk, refl, sym, ap, subst, ◌∙◌, arith, inl, inr, le-ltb, lt-ltb}
+use Rattle.nr_outside.specs.Streams.{SourceAt, SinkAt, Writes, WritesNone}
 use Rattle.nr_script.specs.Limits.{script_max}
 use Rattle.nr_script.specs.Script.{ScriptLines, script_of}
 use Rattle.nr_drill.specs.declared.report.Report.{Report}
@@ -11,10 +12,10 @@ use Rattle.nr_top.specs.Statuses as statuses
 use Rattle.nr_top.specs.declared.words.ScriptSource.{ScriptSource}
 use Rattle.nr_top.specs.declared.words.ScriptSource.TheVariants as sources
 use Rattle.nr_top.specs.Arguments.{source_of, due_status}
-use Rattle.nr_top.specs.Ends.{Done, InputAt, IsGiven, IsPrinted, Silent, SinkAt, StoppedBefore, TookFor, Wrote, BadLine, TooLong, Cause, FaultReport, memory_text, bad_line_text, budget_text, Ends, Stopped, Reported, ReportsFailure}
+use Rattle.nr_top.specs.Ends.{Done, IsGiven, IsPrinted, StoppedBefore, ReadsFor, BadLine, TooLong, Cause, FaultReport, memory_text, bad_line_text, budget_text, Ends, Stopped, Reported, ReportsFailure}
 
 -- the fault count of err rose
-report_fault : (arguments : List (List ℕ)) (status : ℕ) (input input' : InputAt) (out out' err err' : SinkAt) → status ≡ statuses.fault → FaultReport arguments input input' out out' err err' → Ends arguments status input input' out out' err err'
+report_fault : (arguments : List (List ℕ)) (status : ℕ) (input input' : SourceAt) (out out' err err' : SinkAt) → status ≡ statuses.fault → FaultReport arguments input input' out out' err err' → Ends arguments status input input' out out' err err'
 report_fault arguments status input input' out out' err err' is told = record {
   known = inr (inr (inr (inl is)));
   done = λ e. absurd (omega (arith, e, is));
@@ -33,13 +34,13 @@ with_status : (cause : Cause) (status : ℕ) (err err' : SinkAt) → status ≡ 
 with_status cause status err err' is said = subst (λ (s : ℕ). ReportsFailure cause s err err') is said
 
 -- the text of a cause was written, or the fault count of err rose
-said_or : {due : ℕ} {text : List ℕ} (cause : Cause) (arguments : List (List ℕ)) (status : ℕ) (input input' : InputAt) (out out' err err' : SinkAt) → Stopped cause arguments input input' out out' → ReportsFailure cause status err err'
-    → Reported due text status err err' → (status ≡ due → Wrote err err' text → Ends arguments status input input' out out' err err') → Ends arguments status input input' out out' err err'
+said_or : {due : ℕ} {text : List ℕ} (cause : Cause) (arguments : List (List ℕ)) (status : ℕ) (input input' : SourceAt) (out out' err err' : SinkAt) → Stopped cause arguments input input' out out' → ReportsFailure cause status err err'
+    → Reported due text status err err' → (status ≡ due → Writes err err' text → Ends arguments status input input' out out' err err') → Ends arguments status input input' out out' err err'
 said_or cause arguments status input input' out out' err err' stopped said (inl spoke) make = make spoke.0 spoke.1
 said_or cause arguments status input input' out out' err err' stopped said (inr failed) make =
     report_fault arguments status input input' out out' err err' failed.0 (cause, stopped, with_status cause status err err' failed.0 said)
 
-bad_arguments : (arguments : List (List ℕ)) (status : ℕ) (input input' : InputAt) (out out' err err' : SinkAt) → Stopped BadArguments arguments input input' out out' → status ≡ statuses.bad_arguments → Wrote err err' (codes "bad words\n") → Ends arguments status input input' out out' err err'
+bad_arguments : (arguments : List (List ℕ)) (status : ℕ) (input input' : SourceAt) (out out' err err' : SinkAt) → Stopped BadArguments arguments input input' out out' → status ≡ statuses.bad_arguments → Writes err err' (codes "bad words\n") → Ends arguments status input input' out out' err err'
 bad_arguments arguments status input input' out out' err err' stopped is said = record {
   known = inr (inl is);
   done = λ e. absurd (omega (arith, e, is));
@@ -48,16 +49,16 @@ bad_arguments arguments status input input' out out' err err' stopped is said = 
   script = λ e. absurd (omega (arith, e, is));
   budget = λ e. absurd (omega (arith, e, is));
   fault = λ e. absurd (omega (arith, e, is));
-  unfailing = λ _. (ap (λ (i : InputAt). i.faults) stopped.1, ap (λ (o : SinkAt). o.faults) stopped.2, said.unfailing);
+  unfailing = λ _. (ap (λ (i : SourceAt). i.faults) stopped.1, ap (λ (o : SinkAt). o.faults) stopped.2, said.unfailing);
   due = λ text left. inl (rw (stopped.0) is);
   arguments_due = λ _. inl is;
 }
 
-took_unfailing : (source : ScriptSource) (input input' : InputAt) → TookFor source input input' → input'.faults ≡ input.faults
+took_unfailing : (source : ScriptSource) (input input' : SourceAt) → ReadsFor source input input' → input'.faults ≡ input.faults
 took_unfailing sources.Input input input' took = took.1
-took_unfailing (sources.Seed seed clients calls) input input' took = ap (λ (i : InputAt). i.faults) took
+took_unfailing (sources.Seed seed clients calls) input input' took = ap (λ (i : SourceAt). i.faults) took
 
-no_memory : (arguments : List (List ℕ)) (status : ℕ) (input input' : InputAt) (out out' err err' : SinkAt) → Stopped NoMemory arguments input input' out out' → status ≡ statuses.no_memory → Wrote err err' memory_text → Ends arguments status input input' out out' err err'
+no_memory : (arguments : List (List ℕ)) (status : ℕ) (input input' : SourceAt) (out out' err err' : SinkAt) → Stopped NoMemory arguments input input' out out' → status ≡ statuses.no_memory → Writes err err' memory_text → Ends arguments status input input' out out' err err'
 no_memory arguments status input input' out out' err err' stopped is said = record {
   known = inr (inr (inl is));
   done = λ e. absurd (omega (arith, e, is));
@@ -76,10 +77,10 @@ report_same : (left : Option (List ℕ)) (text read : List ℕ) → IfSome left 
 report_same left text read all told = subst (λ (l : Option (List ℕ)). IfSome l (λ given. read ≡ given)) told all
 
 -- the status for a script with an invalid line
-due_of_bad : (arguments : List (List ℕ)) (text : List ℕ) (number : ℕ) → source_of arguments ≡ Some sources.Input → length text ≤ script_max → script_of text ≡ Err number → due_status arguments text ≡ statuses.bad_script
+due_of_bad : (arguments : List (List ℕ)) (text : List ℕ) (number : ℕ) → source_of arguments ≡ Some sources.Input → length text ≤ script_max → script_of text ≡ Err number → due_status arguments text ≡ statuses.bad_input
 due_of_bad arguments text number line within bad = rw (line, le-ltb script_max (length text) within, bad) refl
 
-bad_script : (number : ℕ) (arguments : List (List ℕ)) (status : ℕ) (input input' : InputAt) (out out' err err' : SinkAt) → Stopped (BadScript number) arguments input input' out out' → status ≡ statuses.bad_script → Wrote err err' (bad_line_text number) → Ends arguments status input input' out out' err err'
+bad_script : (number : ℕ) (arguments : List (List ℕ)) (status : ℕ) (input input' : SourceAt) (out out' err err' : SinkAt) → Stopped (BadScript number) arguments input input' out out' → status ≡ statuses.bad_input → Writes err err' (bad_line_text number) → Ends arguments status input input' out out' err err'
 bad_script number arguments status input input' out out' err err' stopped is said =
     let bad : BadLine number arguments input input' = stopped.0 in
     record {
@@ -101,7 +102,7 @@ bad_script number arguments status input input' out out' err err' stopped is sai
 due_of_long : (arguments : List (List ℕ)) (text : List ℕ) → source_of arguments ≡ Some sources.Input → script_max < length text → due_status arguments text ≡ statuses.over_budget
 due_of_long arguments text line long = rw (line, lt-ltb script_max (length text) long) refl
 
-over_budget : (arguments : List (List ℕ)) (status : ℕ) (input input' : InputAt) (out out' err err' : SinkAt) → Stopped OverBudget arguments input input' out out' → status ≡ statuses.over_budget → Wrote err err' budget_text → Ends arguments status input input' out out' err err'
+over_budget : (arguments : List (List ℕ)) (status : ℕ) (input input' : SourceAt) (out out' err err' : SinkAt) → Stopped OverBudget arguments input input' out out' → status ≡ statuses.over_budget → Writes err err' budget_text → Ends arguments status input input' out out' err err'
 over_budget arguments status input input' out out' err err' stopped is said =
     let long : TooLong arguments input = stopped.0 in
     record {
@@ -118,12 +119,12 @@ over_budget arguments status input input' out out' err err' stopped is said =
     }
 
 -- if there is no memory for the text of an invalid line
-without_text : (number : ℕ) (arguments : List (List ℕ)) (input input' : InputAt) (out out' : SinkAt) → Stopped (BadScript number) arguments input input' out out' → Stopped NoMemory arguments input input' out out'
+without_text : (number : ℕ) (arguments : List (List ℕ)) (input input' : SourceAt) (out out' : SinkAt) → Stopped (BadScript number) arguments input input' out out' → Stopped NoMemory arguments input input' out out'
 without_text number arguments input input' out out' stopped =
     (sources.Input, stopped.0.line, ((stopped.0.text, stopped.0.whole.handed, stopped.0.whole.within), stopped.0.whole.unfailing), stopped.1)
 
 -- a cause and what is written for it make an end
-pub ends_of : (cause : Cause) (arguments : List (List ℕ)) (status : ℕ) (input input' : InputAt) (out out' err err' : SinkAt) → Stopped cause arguments input input' out out' → ReportsFailure cause status err err' → Ends arguments status input input' out out' err err'
+pub ends_of : (cause : Cause) (arguments : List (List ℕ)) (status : ℕ) (input input' : SourceAt) (out out' err err' : SinkAt) → Stopped cause arguments input input' out out' → ReportsFailure cause status err err' → Ends arguments status input input' out out' err err'
 ends_of BadArguments arguments status input input' out out' err err' stopped said =
     said_or BadArguments arguments status input input' out out' err err' stopped said said (bad_arguments arguments status input input' out out' err err' stopped)
 ends_of NoMemory arguments status input input' out out' err err' stopped said =
@@ -156,11 +157,11 @@ summed_text (Err error) seed clients calls script report gives is = tt
 
 -- ===== nothing is printed
 
-silent : (out : SinkAt) → Silent out out
+silent : (out : SinkAt) → WritesNone out out
 silent out = record { keeps = search rules; unfailing = refl }
 
 -- a drill that printed nothing
-pub stopped_drill : (cause : Cause) (source : ScriptSource) (arguments : List (List ℕ)) (input input' : InputAt) (out : SinkAt) → source_of arguments ≡ Some source → StoppedBefore source cause input input'
+pub stopped_drill : (cause : Cause) (source : ScriptSource) (arguments : List (List ℕ)) (input input' : SourceAt) (out : SinkAt) → source_of arguments ≡ Some source → StoppedBefore source cause input input'
     → Stopped cause arguments input input' out out
 stopped_drill BadArguments sources.Input arguments input input' out line before = absurd before
 stopped_drill NoMemory sources.Input arguments input input' out line before = (sources.Input, line, before, silent out)
@@ -173,22 +174,22 @@ stopped_drill cause (sources.Seed seed clients calls) arguments input input' out
 
 -- ===== a drill that was printed
 
-given_unfailing : (source : ScriptSource) (input input' : InputAt) (script : ScriptLines) → IsGiven source input input' script → input'.faults ≡ input.faults
+given_unfailing : (source : ScriptSource) (input input' : SourceAt) (script : ScriptLines) → IsGiven source input input' script → input'.faults ≡ input.faults
 given_unfailing sources.Input input input' script given = given.whole.unfailing
-given_unfailing (sources.Seed seed clients calls) input input' script given = ap (λ (i : InputAt). i.faults) given.0
+given_unfailing (sources.Seed seed clients calls) input input' script given = ap (λ (i : SourceAt). i.faults) given.0
 
 -- the status for a script
 due_of_good : (arguments : List (List ℕ)) (text : List ℕ) (script : ScriptLines) → source_of arguments ≡ Some sources.Input → length text ≤ script_max → script_of text ≡ Ok script → due_status arguments text ≡ statuses.done
 due_of_good arguments text script line within good = rw (line, le-ltb script_max (length text) within, good) refl
 
-due_of_done : (source : ScriptSource) (arguments : List (List ℕ)) (text : List ℕ) (input input' : InputAt) (script : ScriptLines) → source_of arguments ≡ Some source → IsGiven source input input' script → input.left ≡ Some text
+due_of_done : (source : ScriptSource) (arguments : List (List ℕ)) (text : List ℕ) (input input' : SourceAt) (script : ScriptLines) → source_of arguments ≡ Some source → IsGiven source input input' script → input.left ≡ Some text
     → due_status arguments text ≡ statuses.done
 due_of_done sources.Input arguments text input input' script line given left =
     let same : given.text ≡ text = report_same input.left text given.text given.whole.all left in
     due_of_good arguments text script line (subst (λ (l : List ℕ). length l ≤ script_max) same given.whole.within) (subst (λ (l : List ℕ). script_of l ≡ Ok script) same given.reads)
 due_of_done (sources.Seed seed clients calls) arguments text input input' script line given left = rw (line) refl
 
-pub done_ends : (arguments : List (List ℕ)) (input input' : InputAt) (out out' err : SinkAt) → Done arguments input input' out out' → Ends arguments statuses.done input input' out out' err err
+pub done_ends : (arguments : List (List ℕ)) (input input' : SourceAt) (out out' err : SinkAt) → Done arguments input input' out out' → Ends arguments statuses.done input input' out out' err err
 done_ends arguments input input' out out' err d = record {
   known = inl refl;
   done = λ _. (d, silent err);

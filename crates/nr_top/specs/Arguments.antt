@@ -6,7 +6,7 @@ use Rattle.nr_script.specs.Script.{ScriptLines, script_of}
 use Rattle.nr_script.specs.Words.{number_within}
 use Rattle.nr_top.specs.declared.words.ScriptSource.{ScriptSource}
 use Rattle.nr_top.specs.declared.words.ScriptSource.TheVariants as sources
-use Rattle.nr_top.specs.Statuses.{done, bad_arguments, bad_script, over_budget}
+use Rattle.nr_top.specs.Statuses.{done, bad_arguments, bad_input, over_budget}
 
 -- an argument, the first being the name under which the program was started
 unfoldable pub word_at : ℕ → List (List ℕ) → List ℕ
@@ -47,7 +47,7 @@ HasRanges (sources.Seed seed clients calls) = (0 < clients) × (clients ≤ clie
 -- the status for a script, or for its first invalid line
 abbrev pub status_of_script : Result ScriptLines ℕ → ℕ
 status_of_script (Ok script) = done
-status_of_script (Err line) = bad_script
+status_of_script (Err line) = bad_input
 
 -- the status that is due for these arguments and this input, if memory lasts and nothing outside fails
 abbrev pub status_by : Option ScriptSource → List ℕ → ℕ

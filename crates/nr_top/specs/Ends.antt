@@ -2,9 +2,8 @@
 -- fault counts are always known.
 use Rattle.std.specs.Prelude.{◌≡◌, ◌≢◌, ℕ, ◌<◌, ◌≤◌, ◌⊎◌, List, ◌++◌, length, take, codes, Option, None, Some, IfSome, Ok, Err}
 use Rattle.std.specs.Fmt.{decimal}
-use Rattle.std.specs.Io.KnownBytes.{Appends, Keeps, IsAtEnd}
-use Rattle.nr_outside.specs.Content.{HandsOut}
 use Rattle.nr_outside.specs.Faults.{Rises}
+use Rattle.nr_outside.specs.Streams.{SourceAt, SinkAt, ReadsAll, ReadsWithin, ReadsBeyond, Writes, WritesNone, WritesSome}
 use Rattle.nr_reduce.specs.declared.mark.Mark.{Mark}
 use Rattle.nr_tree.specs.Tree.{Tree}
 use Rattle.nr_tree.specs.Drill.{IsDrill}
@@ -20,56 +19,6 @@ use Rattle.nr_top.specs.declared.words.ScriptSource.{ScriptSource}
 use Rattle.nr_top.specs.declared.words.ScriptSource.TheVariants as sources
 use Rattle.nr_top.specs.Arguments.{source_of, due_status}
 
--- a source as contracts see it: the bytes left and those handed out, if known, and its fault count
-pub record InputAt : Type 0 where
-  pub left : Option (List ℕ)
-  pub given : Option (List ℕ)
-  pub faults : ℕ
-
-abbrev pub input_at : Option (List ℕ) → Option (List ℕ) → ℕ → InputAt
-input_at left given faults = record { left = left; given = given; faults = faults }
-
--- a sink as contracts see it: the bytes taken, if known, and its fault count
-pub record SinkAt : Type 0 where
-  pub taken : Option (List ℕ)
-  pub faults : ℕ
-
-abbrev pub sink_at : Option (List ℕ) → ℕ → SinkAt
-sink_at taken faults = record { taken = taken; faults = faults }
-
--- the input was read to its end, and this is all of it
-pub record Whole (old new : InputAt) (text : List ℕ) : Type 0 where
-  pub handed : HandsOut old.left old.given new.left new.given text
-  pub all : IfSome old.left (λ left. text ≡ left)
-  pub end : IsAtEnd new.left
-  pub within : length text ≤ script_max
-  pub unfailing : new.faults ≡ old.faults
-
--- the bytes that were read are a prefix of the input, at most script_max long
-abbrev pub Took : InputAt → InputAt → Type 0
-Took old new = (bytes : List ℕ) × HandsOut old.left old.given new.left new.given bytes × (length bytes ≤ script_max)
-
--- the bytes that were read are a prefix of the input, more than script_max long
-abbrev pub TookTooMuch : InputAt → InputAt → Type 0
-TookTooMuch old new = (bytes : List ℕ) × HandsOut old.left old.given new.left new.given bytes × (script_max < length bytes)
-
--- nothing was written
-pub record Silent (old new : SinkAt) : Type 0 where
-  pub keeps : Keeps old.taken new.taken
-  pub unfailing : new.faults ≡ old.faults
-
--- this was written, and nothing else
-pub record Wrote (old new : SinkAt) (text : List ℕ) : Type 0 where
-  pub appends : Appends old.taken new.taken text
-  pub unfailing : new.faults ≡ old.faults
-
--- a proper prefix of this was written, and then the count rose
-pub record CutOff (old new : SinkAt) (text : List ℕ) : Type 0 where
-  pub len : ℕ
-  pub short : len < length text
-  pub appends : Appends old.taken new.taken (take len text)
-  pub rose : Rises old.faults new.faults
-
 -- What a drill prints of a run of a script: what is shown of the run; of a script that was made from a seed the line of sums.
 abbrev pub printed : ScriptSource → Tree → ScriptLines → List Mark → List ℕ
 printed sources.Input tree script run = shown (setting_of (server_of (drill_setup tree script.opening)) script.opening) script.opening.clients run
@@ -81,18 +30,18 @@ pub record IsRunOf (tree : Tree) (script : ScriptLines) (run : List Mark) : Type
   pub keeps : IsDrillRun (server_of (drill_setup tree script.opening)) script run
 
 -- the input was read, and it says this script
-pub record ReadsScript (input input' : InputAt) (script : ScriptLines) : Type 0 where
+pub record ReadsScript (input input' : SourceAt) (script : ScriptLines) : Type 0 where
   pub text : List ℕ
-  pub whole : Whole input input' text
+  pub whole : ReadsAll script_max input input' text
   pub reads : script_of text ≡ Ok script
 
 -- the script that was run, and what was read for it
-abbrev pub IsGiven : ScriptSource → InputAt → InputAt → ScriptLines → Type 0
+abbrev pub IsGiven : ScriptSource → SourceAt → SourceAt → ScriptLines → Type 0
 IsGiven sources.Input input input' script = ReadsScript input input' script
 IsGiven (sources.Seed seed clients calls) input input' script = (input' ≡ input) × (script ≡ made_script seed clients calls)
 
 -- a script was read or made, and run
-pub record Ran (arguments : List (List ℕ)) (input input' : InputAt) : Type 0 where
+pub record Ran (arguments : List (List ℕ)) (input input' : SourceAt) : Type 0 where
   pub source : ScriptSource
   pub line : source_of arguments ≡ Some source
   pub script : ScriptLines
@@ -102,24 +51,24 @@ pub record Ran (arguments : List (List ℕ)) (input input' : InputAt) : Type 0 w
   pub drill : IsRunOf tree script run
 
 -- and what is shown of the run was written
-pub record Done (arguments : List (List ℕ)) (input input' : InputAt) (out out' : SinkAt) : Type 0 where
+pub record Done (arguments : List (List ℕ)) (input input' : SourceAt) (out out' : SinkAt) : Type 0 where
   pub ran : Ran arguments input input'
-  pub prints : Wrote out out' (printed ran.source ran.tree ran.script ran.run)
+  pub prints : Writes out out' (printed ran.source ran.tree ran.script ran.run)
 
 -- and a proper prefix of that was written
-pub record Halfway (arguments : List (List ℕ)) (input input' : InputAt) (out out' : SinkAt) : Type 0 where
+pub record PrintsSome (arguments : List (List ℕ)) (input input' : SourceAt) (out out' : SinkAt) : Type 0 where
   pub ran : Ran arguments input input'
-  pub cut : CutOff out out' (printed ran.source ran.tree ran.script ran.run)
+  pub cut : WritesSome out out' (printed ran.source ran.tree ran.script ran.run)
 
 -- the input is no script: this is the number of its first invalid line
-pub record BadLine (number : ℕ) (arguments : List (List ℕ)) (input input' : InputAt) : Type 0 where
+pub record BadLine (number : ℕ) (arguments : List (List ℕ)) (input input' : SourceAt) : Type 0 where
   pub line : source_of arguments ≡ Some sources.Input
   pub text : List ℕ
-  pub whole : Whole input input' text
+  pub whole : ReadsAll script_max input input' text
   pub bad : script_of text ≡ Err number
 
 -- the input is too long
-pub record TooLong (arguments : List (List ℕ)) (input : InputAt) : Type 0 where
+pub record TooLong (arguments : List (List ℕ)) (input : SourceAt) : Type 0 where
   pub line : source_of arguments ≡ Some sources.Input
   pub long : IfSome input.left (λ left. script_max < length left)
 
@@ -134,18 +83,18 @@ pub data Cause : Type 0 where
   OverBudget : Cause
 
 -- what was read if memory ran out: nothing for a script that is made from a seed
-abbrev pub TookFor : ScriptSource → InputAt → InputAt → Type 0
-TookFor sources.Input input input' = Took input input' × (input'.faults ≡ input.faults)
-TookFor (sources.Seed seed clients calls) input input' = input' ≡ input
+abbrev pub ReadsFor : ScriptSource → SourceAt → SourceAt → Type 0
+ReadsFor sources.Input input input' = ReadsWithin script_max input input' × (input'.faults ≡ input.faults)
+ReadsFor (sources.Seed seed clients calls) input input' = input' ≡ input
 
 -- what holds if a command wasn't done, by the cause
-abbrev pub Stopped : Cause → List (List ℕ) → InputAt → InputAt → SinkAt → SinkAt → Type 0
+abbrev pub Stopped : Cause → List (List ℕ) → SourceAt → SourceAt → SinkAt → SinkAt → Type 0
 Stopped BadArguments arguments input input' out out' = (source_of arguments ≡ None) × (input' ≡ input) × (out' ≡ out)
-Stopped NoMemory arguments input input' out out' = (source : ScriptSource) × (source_of arguments ≡ Some source) × TookFor source input input' × Silent out out'
-Stopped InputFault arguments input input' out out' = (source_of arguments ≡ Some sources.Input) × Took input input' × Rises input.faults input'.faults × Silent out out'
-Stopped OutputFault arguments input input' out out' = Halfway arguments input input' out out'
-Stopped (BadScript number) arguments input input' out out' = BadLine number arguments input input' × Silent out out'
-Stopped OverBudget arguments input input' out out' = TooLong arguments input × TookTooMuch input input' × (input'.faults ≡ input.faults) × Silent out out'
+Stopped NoMemory arguments input input' out out' = (source : ScriptSource) × (source_of arguments ≡ Some source) × ReadsFor source input input' × WritesNone out out'
+Stopped InputFault arguments input input' out out' = (source_of arguments ≡ Some sources.Input) × ReadsWithin script_max input input' × Rises input.faults input'.faults × WritesNone out out'
+Stopped OutputFault arguments input input' out out' = PrintsSome arguments input input' out out'
+Stopped (BadScript number) arguments input input' out out' = BadLine number arguments input input' × WritesNone out out'
+Stopped OverBudget arguments input input' out out' = TooLong arguments input × ReadsBeyond script_max input input' × (input'.faults ≡ input.faults) × WritesNone out out'
 
 -- the texts for memory that ran out, for an input that is too long, and for an invalid line
 abbrev pub memory_text : List ℕ
@@ -160,30 +109,30 @@ bad_line_text number = codes "bad line " ++ decimal number ++ codes "\n"
 
 -- this was written with this status; or only a proper prefix of it was written, with the status of a fault
 abbrev pub Reported : ℕ → List ℕ → ℕ → SinkAt → SinkAt → Type 0
-Reported due text status err err' = ((status ≡ due) × Wrote err err' text) ⊎ ((status ≡ statuses.fault) × CutOff err err' text)
+Reported due text status err err' = ((status ≡ due) × Writes err err' text) ⊎ ((status ≡ statuses.fault) × WritesSome err err' text)
 
 -- what is so if the input was read and gave no script
-abbrev pub StoppedReading : Cause → InputAt → InputAt → Type 0
+abbrev pub StoppedReading : Cause → SourceAt → SourceAt → Type 0
 StoppedReading BadArguments input input' = ⊥
-StoppedReading NoMemory input input' = Took input input' × (input'.faults ≡ input.faults)
-StoppedReading InputFault input input' = Took input input' × Rises input.faults input'.faults
+StoppedReading NoMemory input input' = ReadsWithin script_max input input' × (input'.faults ≡ input.faults)
+StoppedReading InputFault input input' = ReadsWithin script_max input input' × Rises input.faults input'.faults
 StoppedReading OutputFault input input' = ⊥
-StoppedReading (BadScript number) input input' = (text : List ℕ) × Whole input input' text × (script_of text ≡ Err number)
+StoppedReading (BadScript number) input input' = (text : List ℕ) × ReadsAll script_max input input' text × (script_of text ≡ Err number)
 StoppedReading OverBudget input input' =
-    IfSome input.left (λ left. script_max < length left) × TookTooMuch input input' × (input'.faults ≡ input.faults)
+    IfSome input.left (λ left. script_max < length left) × ReadsBeyond script_max input input' × (input'.faults ≡ input.faults)
 
 -- the text is what is printed of a run of the script that keeps the promise of a drill
 abbrev pub IsPrinted : ScriptSource → ScriptLines → List ℕ → Type 0
 IsPrinted source script text = (tree : Tree) × (run : List Mark) × IsRunOf tree script run × (text ≡ printed source tree script run)
 
 -- a script was read or made, and this is printed of a run of it
-pub record Shown (source : ScriptSource) (input input' : InputAt) (text : List ℕ) : Type 0 where
+pub record Shown (source : ScriptSource) (input input' : SourceAt) (text : List ℕ) : Type 0 where
   pub script : ScriptLines
   pub given : IsGiven source input input' script
   pub prints : IsPrinted source script text
 
 -- no script was had, or memory ran out when it was run
-abbrev pub StoppedBefore : ScriptSource → Cause → InputAt → InputAt → Type 0
+abbrev pub StoppedBefore : ScriptSource → Cause → SourceAt → SourceAt → Type 0
 StoppedBefore sources.Input cause input input' = StoppedReading cause input input'
 StoppedBefore (sources.Seed seed clients calls) cause input input' = (cause ≡ NoMemory) × (input' ≡ input)
 
@@ -193,28 +142,28 @@ ReportsFailure BadArguments status err err' = Reported statuses.bad_arguments (c
 ReportsFailure NoMemory status err err' = Reported statuses.no_memory memory_text status err err'
 ReportsFailure InputFault status err err' = Reported statuses.fault (codes "input fault\n") status err err'
 ReportsFailure OutputFault status err err' = Reported statuses.fault (codes "output fault\n") status err err'
-ReportsFailure (BadScript number) status err err' = Reported statuses.bad_script (bad_line_text number) status err err' ⊎ Reported statuses.no_memory memory_text status err err'
+ReportsFailure (BadScript number) status err err' = Reported statuses.bad_input (bad_line_text number) status err err' ⊎ Reported statuses.no_memory memory_text status err err'
 ReportsFailure OverBudget status err err' = Reported statuses.over_budget budget_text status err err'
 
 -- Why the command wasn't done, if a fault count rose, and what was written for it: for a fault of the input or of
 -- the output the complete text, or a proper prefix, if err failed too; for another cause a proper prefix.
-abbrev pub FaultReport : List (List ℕ) → InputAt → InputAt → SinkAt → SinkAt → SinkAt → SinkAt → Type 0
+abbrev pub FaultReport : List (List ℕ) → SourceAt → SourceAt → SinkAt → SinkAt → SinkAt → SinkAt → Type 0
 FaultReport arguments input input' out out' err err' = (cause : Cause) × Stopped cause arguments input input' out out' × ReportsFailure cause statuses.fault err err'
 
 -- What the status of a run says.
-pub record Ends (arguments : List (List ℕ)) (status : ℕ) (input input' : InputAt) (out out' err err' : SinkAt) : Type 0 where
+pub record Ends (arguments : List (List ℕ)) (status : ℕ) (input input' : SourceAt) (out out' err err' : SinkAt) : Type 0 where
   -- it is one of these
   pub known : statuses.IsStatus status
   -- the script was run, the run keeps the promise, and its lines were printed
-  pub done : status ≡ statuses.done → Done arguments input input' out out' × Silent err err'
+  pub done : status ≡ statuses.done → Done arguments input input' out out' × WritesNone err err'
   -- the arguments are not those of a command, and nothing else happened
-  pub arguments_bad : status ≡ statuses.bad_arguments → Stopped BadArguments arguments input input' out out' × Wrote err err' (codes "bad words\n")
+  pub arguments_bad : status ≡ statuses.bad_arguments → Stopped BadArguments arguments input input' out out' × Writes err err' (codes "bad words\n")
   -- memory ran out
-  pub memory : status ≡ statuses.no_memory → Stopped NoMemory arguments input input' out out' × Wrote err err' memory_text
+  pub memory : status ≡ statuses.no_memory → Stopped NoMemory arguments input input' out out' × Writes err err' memory_text
   -- the number of the first invalid line
-  pub script : status ≡ statuses.bad_script → (number : ℕ) × Stopped (BadScript number) arguments input input' out out' × Wrote err err' (bad_line_text number)
+  pub script : status ≡ statuses.bad_input → (number : ℕ) × Stopped (BadScript number) arguments input input' out out' × Writes err err' (bad_line_text number)
   -- the input is longer than a script may be
-  pub budget : status ≡ statuses.over_budget → Stopped OverBudget arguments input input' out out' × Wrote err err' budget_text
+  pub budget : status ≡ statuses.over_budget → Stopped OverBudget arguments input input' out out' × Writes err err' budget_text
   -- a fault count rose
   pub fault : status ≡ statuses.fault → FaultReport arguments input input' out out' err err'
   -- with any other status no fault count rose

@@ -2,15 +2,16 @@
 
 ghost use Rattle.std.specs.Prelude.{◌≡◌, ◌<◌, ◌≤◌, true, false, map, IfOk, MatchResult};
 ghost use Rattle.std.specs.String.{string_bytes};
+ghost use Rattle.nr_outside.specs.Streams.{source_at, sink_at};
 ghost use Rattle.nr_script.specs.Generator.{made_script};
 ghost use Rattle.nr_script.specs.Limits.{clients_max, calls_max};
 ghost use Rattle.nr_top.specs.declared.words.ScriptSource.TheVariants as sources;
 ghost use Rattle.nr_top.specs.Arguments.{HasRanges};
 ghost use Rattle.nr_top.specs.Causes.{cause_of};
-ghost use Rattle.nr_top.specs.Ends.{Ends, Done, IsPrinted, ReadsScript, Stopped, StoppedBefore, StoppedReading, Shown, Reported, ReportsFailure, input_at, sink_at};
+ghost use Rattle.nr_top.specs.Ends.{Ends, Done, IsPrinted, ReadsScript, Stopped, StoppedBefore, StoppedReading, Shown, Reported, ReportsFailure};
 ghost use Rattle.nr_top.specs.Ends.Cause.{NoMemory, BadArguments, BadScript};
 
-use crate::status::{BAD_ARGUMENTS, BAD_SCRIPT, DONE, FAULT, NO_MEMORY, OVER_BUDGET};
+use crate::status::{BAD_ARGUMENTS, BAD_INPUT, DONE, FAULT, NO_MEMORY, OVER_BUDGET};
 use crate::words::{ScriptSource, source_of};
 use nr_drill::{shown, summary};
 use nr_outside::{ReadEnd, Sink, Source, read_whole, write_whole};
@@ -70,10 +71,10 @@ impl From<Memory> for Failure {
 /// Reads a script.
 fn read_drill<I: Source>(alloc: Global, input: &mut I) -> Result<Script, Failure>
     ensures { MatchResult result
-        (λ script. ReadsScript (input_at (I.left input.old) (I.given input.old) (I.faults input.old))
-        (input_at (I.left input.new) (I.given input.new) (I.faults input.new)) script)
-        (λ stop. StoppedReading (cause_of stop) (input_at (I.left input.old) (I.given input.old) (I.faults input.old))
-        (input_at (I.left input.new) (I.given input.new) (I.faults input.new))) }
+        (λ script. ReadsScript (source_at (I.left input.old) (I.given input.old) (I.faults input.old))
+        (source_at (I.left input.new) (I.given input.new) (I.faults input.new)) script)
+        (λ stop. StoppedReading (cause_of stop) (source_at (I.left input.old) (I.given input.old) (I.faults input.old))
+        (source_at (I.left input.new) (I.given input.new) (I.faults input.new))) }
 {
     let text = read_whole(alloc, input, SCRIPT_MAX)?;
     let script = read_script(alloc, text.as_slice())?;
@@ -91,10 +92,10 @@ fn shown_drill(alloc: Global, script: &Script) -> Result<Octets, Memory>
 /// Reads a script and runs it, and gives what is shown of that.
 fn read_and_run<I: Source>(alloc: Global, input: &mut I) -> Result<Octets, Failure>
     ensures { MatchResult result
-        (λ text. Shown sources.Input (input_at (I.left input.old) (I.given input.old) (I.faults input.old))
-        (input_at (I.left input.new) (I.given input.new) (I.faults input.new)) text)
-        (λ stop. StoppedReading (cause_of stop) (input_at (I.left input.old) (I.given input.old) (I.faults input.old))
-        (input_at (I.left input.new) (I.given input.new) (I.faults input.new))) }
+        (λ text. Shown sources.Input (source_at (I.left input.old) (I.given input.old) (I.faults input.old))
+        (source_at (I.left input.new) (I.given input.new) (I.faults input.new)) text)
+        (λ stop. StoppedReading (cause_of stop) (source_at (I.left input.old) (I.given input.old) (I.faults input.old))
+        (source_at (I.left input.new) (I.given input.new) (I.faults input.new))) }
 {
     let script = read_drill(alloc, input)?;
     let printed = shown_drill(alloc, &script)?;
@@ -119,10 +120,10 @@ fn printed_drill<I: Source>(
 ) -> Result<Octets, Failure>
     requires { HasRanges source }
     ensures { MatchResult result
-        (λ text. Shown source (input_at (I.left input.old) (I.given input.old) (I.faults input.old))
-        (input_at (I.left input.new) (I.given input.new) (I.faults input.new)) text)
-        (λ stop. StoppedBefore source (cause_of stop) (input_at (I.left input.old) (I.given input.old) (I.faults input.old))
-        (input_at (I.left input.new) (I.given input.new) (I.faults input.new))) }
+        (λ text. Shown source (source_at (I.left input.old) (I.given input.old) (I.faults input.old))
+        (source_at (I.left input.new) (I.given input.new) (I.faults input.new)) text)
+        (λ stop. StoppedBefore source (cause_of stop) (source_at (I.left input.old) (I.given input.old) (I.faults input.old))
+        (source_at (I.left input.new) (I.given input.new) (I.faults input.new))) }
 {
     match source {
         ScriptSource::Input => read_and_run(alloc, input),
@@ -145,11 +146,11 @@ fn drill<I: Source, O: Sink>(
     out: &mut O,
 ) -> Result<(), Failure>
     ensures { MatchResult result
-        (λ _. Done (map string_bytes arguments.now) (input_at (I.left input.old) (I.given input.old) (I.faults input.old))
-        (input_at (I.left input.new) (I.given input.new) (I.faults input.new))
+        (λ _. Done (map string_bytes arguments.now) (source_at (I.left input.old) (I.given input.old) (I.faults input.old))
+        (source_at (I.left input.new) (I.given input.new) (I.faults input.new))
         (sink_at (O.taken out.old) (O.faults out.old)) (sink_at (O.taken out.new) (O.faults out.new)))
-        (λ stop. Stopped (cause_of stop) (map string_bytes arguments.now) (input_at (I.left input.old) (I.given input.old) (I.faults input.old))
-        (input_at (I.left input.new) (I.given input.new) (I.faults input.new))
+        (λ stop. Stopped (cause_of stop) (map string_bytes arguments.now) (source_at (I.left input.old) (I.given input.old) (I.faults input.old))
+        (source_at (I.left input.new) (I.given input.new) (I.faults input.new))
         (sink_at (O.taken out.old) (O.faults out.old)) (sink_at (O.taken out.new) (O.faults out.new))) }
 {
     let Some(source) = source_of(arguments) else {
@@ -163,7 +164,7 @@ fn drill<I: Source, O: Sink>(
 }
 
 /// Writes a text to `err`, and gives this status, or that of a fault.
-fn write_error<E: Sink>(err: &mut E, text: &[u8], status: u8) -> u8
+pub(crate) fn write_error<E: Sink>(err: &mut E, text: &[u8], status: u8) -> u8
     ensures { Reported status text.now result (sink_at (E.taken err.old) (E.faults err.old)) (sink_at (E.taken err.new) (E.faults err.new)) }
 {
     match write_whole(err, text) {
@@ -178,7 +179,7 @@ fn report_bad_line<E: Sink>(alloc: Global, line: u64, err: &mut E) -> u8
     ensures { ReportsFailure (BadScript line) result (sink_at (E.taken err.old) (E.faults err.old)) (sink_at (E.taken err.new) (E.faults err.new)) }
 {
     match format!(in alloc; "bad line {line}\n") {
-        Ok(text) => write_error(err, text.as_bytes(), BAD_SCRIPT),
+        Ok(text) => write_error(err, text.as_bytes(), BAD_INPUT),
         Err(_) => write_error(err, b"memory\n", NO_MEMORY),
     }
 }
@@ -227,8 +228,8 @@ pub fn run<I: Source, O: Sink, E: Sink>(
     err: &mut E,
 ) -> u8
     ensures { Ends (map string_bytes arguments.now) result
-        (input_at (I.left input.old) (I.given input.old) (I.faults input.old))
-        (input_at (I.left input.new) (I.given input.new) (I.faults input.new))
+        (source_at (I.left input.old) (I.given input.old) (I.faults input.old))
+        (source_at (I.left input.new) (I.given input.new) (I.faults input.new))
         (sink_at (O.taken out.old) (O.faults out.old)) (sink_at (O.taken out.new) (O.faults out.new))
         (sink_at (E.taken err.old) (E.faults err.old)) (sink_at (E.taken err.new) (E.faults err.new)) }
 {

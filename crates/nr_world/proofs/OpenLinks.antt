@@ -16,14 +16,14 @@ use Rattle.nr_tree.specs.Steps.{IsBelow}
 use Rattle.nr_tree.specs.Tree.{Tree}
 use Rattle.nr_plain.specs.Stands.{PlainServerState, RepresentsJournal}
 use Rattle.nr_script.specs.declared.script.Opening.{Opening}
-use Rattle.nr_drill.specs.Drill.{Setting, Drill, plain_of, empty_pipes, start, links_of, after_opening, after_openings}
+use Rattle.nr_drill.specs.Drill.{link_of, Setting, Drill, plain_of, empty_pipes, start, links_of, after_opening, after_openings}
 use Rattle.nr_drill.specs.DrillSetup.{drill_setup, server_of}
 use Rattle.nr_drill.specs.Follows.{opened_drill}
 use Rattle.nr_drill.specs.InBytes.{RepliedInBytes}
-use Rattle.nr_drill.proofs.Followed.{Extends, link_of, opening_adds}
+use Rattle.nr_drill.proofs.Followed.{Extends, opening_adds}
 use Rattle.nr_drill_link.specs.DrillLinkState.{DrillLinkState}
 use Rattle.nr_drill_link.specs.LinkStands.{LinkStands}
-use Rattle.nr_drill_link.specs.Steps.{ServerStands, IsBeforeOpening, Opens, mark_link}
+use Rattle.nr_drill_link.specs.Steps.{ServerStands, IsBeforeOpening, Opens}
 use Rattle.nr_world.specs.declared.world.World.{World}
 use Rattle.nr_world.specs.private.Stands.{drill_setting, HasOpened, WorldStands}
 use Rattle.nr_world.specs.private.Opened.{OpensAll}
@@ -99,21 +99,10 @@ below_more a b t le h = record { next = (let lt = h.next in omega (arith, lt, le
 
 -- ===== one link opens
 
-same_link : (mark : Mark) → mark_link mark ≡ link_of mark
-same_link (marks.Submit l call form answer) = refl
-same_link (marks.Wrote l side bytes) = refl
-same_link (marks.Fed l side bytes) = refl
-same_link (marks.Execute l xid moment payload place reply) = refl
-same_link (marks.Done l xid outcome) = refl
-same_link (marks.Lost l xid) = refl
-same_link (marks.Forget l xid) = refl
-same_link (marks.Revoke l xid bytes) = refl
-same_link (marks.Drop l) = refl
-
-none_more : (link acted : ℕ) (run added : List Mark) → acted ≢ link → AllByRecursion (λ (mark : Mark). mark_link mark ≢ link) run → AllByRecursion (λ (mark : Mark). link_of mark ≡ acted) added →
-    AllByRecursion (λ (mark : Mark). mark_link mark ≢ link) (run ++ added)
+none_more : (link acted : ℕ) (run added : List Mark) → acted ≢ link → AllByRecursion (λ (mark : Mark). link_of mark ≢ link) run → AllByRecursion (λ (mark : Mark). link_of mark ≡ acted) added →
+    AllByRecursion (λ (mark : Mark). link_of mark ≢ link) (run ++ added)
 none_more link acted [] [] ne h g = tt
-none_more link acted [] (mark ∷ added) ne h g = (λ same. ne (sym g.0 ∙ sym (same_link mark) ∙ same), none_more link acted [] added ne tt g.1)
+none_more link acted [] (mark ∷ added) ne h g = (λ same. ne (sym g.0 ∙ same), none_more link acted [] added ne tt g.1)
 none_more link acted (mark ∷ run) added ne h g = (h.0, none_more link acted run added ne h.1 g)
 
 before_stays : (acted link : ℕ) (old new : Drill) → 1 ≤ acted → acted ≢ link → Extends acted old new → IsBeforeOpening link old → IsBeforeOpening link new
@@ -121,7 +110,7 @@ before_stays acted link old new some ne x h = record {
   first = h.first;
   room = subst (λ (n : ℕ). link ≤ n) (sym x.room) h.room;
   pipes = x.pipes link (λ same. ne (let first = h.first in omega (arith, same, first, some))) ∙ h.pipes;
-  none = subst (AllByRecursion (λ (mark : Mark). mark_link mark ≢ link)) (sym x.marks.is) (none_more link acted old.marks x.marks.added ne h.none x.marks.own);
+  none = subst (AllByRecursion (λ (mark : Mark). link_of mark ≢ link)) (sym x.marks.is) (none_more link acted old.marks x.marks.added ne h.none x.marks.own);
 }
 
 -- the world `n` is the world `w` after one more link opened

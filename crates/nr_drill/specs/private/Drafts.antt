@@ -21,6 +21,7 @@ use Rattle.nr_drill.specs.declared.report.LinkEnds.{LinkEnds}
 use Rattle.nr_drill.specs.declared.report.LinkLog.{LinkLog}
 use Rattle.nr_drill.specs.declared.draft.CallTable.{CallTable}
 use Rattle.nr_drill.specs.declared.draft.Draft.{Draft}
+use Rattle.nr_drill.specs.Drill.{link_of}
 use Rattle.nr_drill.specs.Reports.{submitted_state, becomes, place_shown, is_open_as, number_of, last_place, lost_if, side_report, reports_after}
 
 -- ===== what a mark makes of a draft
@@ -104,24 +105,13 @@ Noted (marks.Drop l) old new = Same old new
 -- ===== what a draft stands for
 
 -- the marks of a run are those of this many links, and the xids of each link's accepted calls rise by one from 1
-abbrev pub link_of_mark : Mark → ℕ
-link_of_mark (marks.Submit l call form answer) = l
-link_of_mark (marks.Wrote l side bytes) = l
-link_of_mark (marks.Fed l side bytes) = l
-link_of_mark (marks.Execute l xid moment payload place reply) = l
-link_of_mark (marks.Done l xid outcome) = l
-link_of_mark (marks.Lost l xid) = l
-link_of_mark (marks.Forget l xid) = l
-link_of_mark (marks.Revoke l xid bytes) = l
-link_of_mark (marks.Drop l) = l
-
 abbrev pub IsNextXid : List Mark → Mark → Type 0
 IsNextXid before (marks.Submit l call form (submissions.Accepted xid)) = xid ≡ length (accepted_calls l before) + 1
 IsNextXid before mark = Unit {0}
 
 pub record NumberedMark (clients : ℕ) (before : List Mark) (mark : Mark) : Type 0 where
-  pub above : 1 ≤ link_of_mark mark
-  pub within : link_of_mark mark ≤ clients
+  pub above : 1 ≤ link_of mark
+  pub within : link_of mark ≤ clients
   pub xid : IsNextXid before mark
 
 abbrev pub AreNumbered : ℕ → List Mark → Type 0

@@ -1,4 +1,5 @@
 use Rattle.std.proofs.Common.{◌≡◌, ◌≤◌, ◌∙◌, List, length, All, refl, sym, ap, subst, arith}
+use Rattle.nr_header.specs.Constants.{PAYLOAD_MAX}
 use Rattle.nr_regions.specs.RegisteredMemory.{RegisteredMemory}
 use Rattle.nr_endpoint.specs.LinkState.{LinkSide}
 use Rattle.nr_responder.specs.declared.call.OpenSink.{OpenSink}
@@ -40,7 +41,7 @@ register_sinks-requires-clause-held c =
     (subst (λ (ss : List OpenSink). AreHeldFrom c.args.endpoint.now.link.state.memory 0 (claims_of ss)) (sym c.take_memory.ensures.sinks) c.requires.held)
 
 pub register_sinks-requires-clause-short : goal.register_sinks-requires-clause-short
-register_sinks-requires-clause-short c = subst (λ (ss : List OpenSink). All (λ (s : OpenSink). s.registration.len ≤ 40960) ss) (sym c.take_memory.ensures.sinks) c.requires.short
+register_sinks-requires-clause-short c = subst (λ (ss : List OpenSink). All (λ (s : OpenSink). s.registration.len ≤ PAYLOAD_MAX) ss) (sym c.take_memory.ensures.sinks) c.requires.short
 
 pub register_sinks-requires-clause-total : goal.register_sinks-requires-clause-total
 register_sinks-requires-clause-total c = c.requires.total
@@ -80,7 +81,7 @@ returns-in-Err-open_new-clause-held c =
     (subst (λ (ss : List OpenSink). AreHeldFrom c.args.endpoint.now.link.state.memory 0 (claims_of ss)) (sym c.take_memory.ensures.sinks) c.requires.held)
 
 pub returns-in-Err-open_new-clause-short : goal.returns-in-Err-open_new-clause-short
-returns-in-Err-open_new-clause-short c = subst (λ (ss : List OpenSink). All (λ (s : OpenSink). s.registration.len ≤ 40960) ss) (sym c.take_memory.ensures.sinks) c.requires.short
+returns-in-Err-open_new-clause-short c = subst (λ (ss : List OpenSink). All (λ (s : OpenSink). s.registration.len ≤ PAYLOAD_MAX) ss) (sym c.take_memory.ensures.sinks) c.requires.short
 
 pub returns-in-Err-open_new-clause-outside : goal.returns-in-Err-open_new-clause-outside
 returns-in-Err-open_new-clause-outside c =
@@ -98,7 +99,7 @@ returns-in-Err-clause-held c =
     (subst (λ (ss : List OpenSink). AreHeldFrom c.args.endpoint.now.link.state.memory 0 (claims_of ss)) (sym c.take_memory.ensures.sinks) c.requires.held)
 
 pub returns-in-Err-clause-short : goal.returns-in-Err-clause-short
-returns-in-Err-clause-short c = subst (λ (ss : List OpenSink). All (λ (s : OpenSink). s.registration.len ≤ 40960) ss) (sym c.take_memory.ensures.sinks) c.requires.short
+returns-in-Err-clause-short c = subst (λ (ss : List OpenSink). All (λ (s : OpenSink). s.registration.len ≤ PAYLOAD_MAX) ss) (sym c.take_memory.ensures.sinks) c.requires.short
 
 pub returns-in-Err-clause-outside : goal.returns-in-Err-clause-outside
 returns-in-Err-clause-outside c = same_outside c.args.endpoint.now c.take_memory.new.endpoint (ap (λ (l : LinkSide). l.state.memory.next) c.take_memory.ensures.link) c.take_memory.ensures.outside c.requires.nothing

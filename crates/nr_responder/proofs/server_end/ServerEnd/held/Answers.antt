@@ -1,6 +1,7 @@
 use Rattle.std.proofs.Common.{◌≡◌, ℕ, ◌+◌, ◌*◌, List, length, map, refl, ap, ◌∙◌, arith}
 use Rattle.std.specs.Prelude.{sum_by}
 use Rattle.std.proofs.lemmas.List.{length-map}
+use Rattle.nr_link.specs.Limits.{send_max}
 use Rattle.nr_regions.specs.RegisteredMemory.{outside_held}
 use Rattle.nr_endpoint.specs.EndpointState.{bytes_of}
 use Rattle.nr_responder.specs.ResponderState.{unsent}
@@ -20,5 +21,5 @@ returns c =
           held_sum _ c.held.result (length c.args.self.now.endpoint.staging) (bytes_of c.args.self.now.endpoint.link.state) (outside_held c.args.self.now.endpoint.outside)
           (c.len.result + c.len-2.result) (length (map call_view c.args.self.now.calls.items) + unsent c.args.self.now.endpoint.link.state) (c.rooms_len.result + c.payloads_len.result) refl c.held.ensures.is
           (no_outside c.args.self.now.endpoint c.requires.sound.1.outside) (let same = c.requires.sound.0.unsent_is in omega (arith, same, length-map c.args.self.now.calls.items call_view, c.len.ensures, c.len-2.ensures))
-          ∙ ap (λ (n : ℕ). length c.args.self.now.endpoint.staging + bytes_of c.args.self.now.endpoint.link.state + 1024 * (length (map call_view c.args.self.now.calls.items) + unsent c.args.self.now.endpoint.link.state) + n) rooms;
+          ∙ ap (λ (n : ℕ). length c.args.self.now.endpoint.staging + bytes_of c.args.self.now.endpoint.link.state + send_max * (length (map call_view c.args.self.now.calls.items) + unsent c.args.self.now.endpoint.link.state) + n) rooms;
     }

@@ -1,4 +1,5 @@
 use Rattle.std.proofs.Common.{◌≤◌, ◌∙◌, List, refl, sym, ap, subst, arith, inl, inr}
+use Rattle.nr_header.specs.Constants.{PAYLOAD_MAX}
 use Rattle.nr_header.specs.declared.header.ReadSegment.{ReadSegment}
 use Rattle.nr_header.specs.WithinLimits.{read_total}
 use Rattle.nr_endpoint.specs.LinkState.{LinkSide}
@@ -28,7 +29,7 @@ pub begin_reads-requires-clause-stags : goal.begin_reads-requires-clause-stags
 begin_reads-requires-clause-stags c = c.requires.stags
 
 pub begin_reads-requires-clause-total : goal.begin_reads-requires-clause-total
-begin_reads-requires-clause-total c = subst (λ (read : List ReadSegment). read_total read ≤ 40960) (sym c.as_slice.ensures) c.requires.reads
+begin_reads-requires-clause-total c = subst (λ (read : List ReadSegment). read_total read ≤ PAYLOAD_MAX) (sym c.as_slice.ensures) c.requires.reads
 
 pub push_reading-requires : goal.push_reading-requires
 push_reading-requires c =
