@@ -8,10 +8,10 @@ use Rattle.nr_turnstile.specs.declared.turnstile.Pass.{Pass}
 use Rattle.nr_turnstile.specs.Rule.{Begins, Earlier}
 use Rattle.nr_turnstile.specs.Passes.{IsOutside, home_of, seen_by}
 use Rattle.nr_apart_tests.specs.declared.feeder.Feeder.{Feeder}
-use Rattle.nr_apart_tests.specs.Feeds.{Noted, StandsFor, IsOverHome, closes_none}
+use Rattle.nr_apart_tests.specs.Feeds.{Noted, RepresentsNotes, IsOverHome, closes_none}
 
 abbrev pub Stood : Feeder → List Noted → Type 0
-Stood f h = StandsFor f h × (f.entries ≡ length h)
+Stood f h = RepresentsNotes f h × (f.entries ≡ length h)
 
 one_stands : (f : Feeder) (n : Noted) → IsOutside f.pass → home_of n.value ≡ home_of f.pass → f.entries ≡ 1 → Stood f (n ∷ [])
 one_stands f n outside home one = ((outside, only), one) where

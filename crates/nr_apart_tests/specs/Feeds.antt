@@ -14,8 +14,8 @@ abbrev pub Noted : Type 0
 Noted = Snapshot (Pass Counter ℕ)
 
 -- each entry is a pass of the turnstile that the feeder's pass is of, which is outside
-abbrev pub StandsFor : Feeder → List Noted → Type 0
-StandsFor f h = IsOutside f.pass × ((k : ℕ) (s : Noted) → get_elem? h k ≡ some s → home_of s.value ≡ home_of f.pass)
+abbrev pub RepresentsNotes : Feeder → List Noted → Type 0
+RepresentsNotes f h = IsOutside f.pass × ((k : ℕ) (s : Noted) → get_elem? h k ≡ some s → home_of s.value ≡ home_of f.pass)
 
 abbrev pub closes_none : Noted → Option ℕ
 closes_none e = None

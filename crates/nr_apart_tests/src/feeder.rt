@@ -16,11 +16,11 @@ pub struct Feeder {
 }
 
 impl Machine for Feeder {
-    ghost use Rattle.nr_apart_tests.specs.Feeds.{StandsFor, closes_none};
+    ghost use Rattle.nr_apart_tests.specs.Feeds.{RepresentsNotes, closes_none};
 
     type Entry = Snapshot<Pass<Counter>>;
 
-    ghost stands = { λ f h. StandsFor f h × (f.entries ≡ length h) };
+    ghost stands = { λ f h. RepresentsNotes f h × (f.entries ≡ length h) };
 
     ghost closes = { closes_none };
 

@@ -1,7 +1,7 @@
 //! Reads the records of a stream that comes in pieces.
 
 ghost use Rattle.std.specs.Prelude.{◌≡◌, ◌+◌, ◌<◌, ◌≤◌, ◌^◌, length};
-ghost use Rattle.nr_record.specs.Kept.{kept};
+ghost use Rattle.nr_record.specs.RecordsState.{kept};
 
 use nr_record::{RecordFault, Records};
 use nr_xdr::{Memory, Octets};

@@ -17,11 +17,11 @@ use Rattle.nr_client.specs.Transfers.{LinkBytes, link_bytes}
 use Rattle.nr_client.proofs.Moves.{moves_both, moves_fed, moves_none, moves_wrote, stays}
 
 -- nothing happens
-pub goes_nowhere : (b : LinkBytes) (h : RequesterSide) → GoesOn b b h h
-goes_nowhere b h opened link run fine live = ([], (stays link b, subst (λ (all : List Mark). IsLive opened link h all) (sym (append-nil run)) live))
+pub no_turn : (b : LinkBytes) (h : RequesterSide) → GoesOn b b h h
+no_turn b h opened link run fine live = ([], (stays link b, subst (λ (all : List Mark). IsLive opened link h all) (sym (append-nil run)) live))
 
-pub goes_both : (b c d : LinkBytes) (h i j : RequesterSide) → GoesOn b c h i → GoesOn c d i j → GoesOn b d h j
-goes_both b c d h i j first second opened link run fine live =
+pub turns_compose : (b c d : LinkBytes) (h i j : RequesterSide) → GoesOn b c h i → GoesOn c d i j → GoesOn b d h j
+turns_compose b c d h i j first second opened link run fine live =
     let (moved, (moves, on)) = first opened link run fine live in
     let (more, (moves_more, then_on)) = second opened link (run ++ moved) fine on in (
       moved ++ more,
@@ -31,8 +31,8 @@ goes_both b c d h i j first second opened link run fine live =
       ),
     )
 
-pub goes_to : (end : CallEnd) (b c d : LinkBytes) (h i j : RequesterSide) → GoesOn b c h i → GoesTo end c d i j → GoesTo end b d h j
-goes_to end b c d h i j first second opened link run fine live =
+pub turn_to : (end : CallEnd) (b c d : LinkBytes) (h i j : RequesterSide) → GoesOn b c h i → GoesTo end c d i j → GoesTo end b d h j
+turn_to end b c d h i j first second opened link run fine live =
     let (moved, (moves, on)) = first opened link run fine live in
     let (more, ahead, (moves_more, then_left)) = second opened link (run ++ moved) fine on in (
       moved ++ more,

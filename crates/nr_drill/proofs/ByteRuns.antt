@@ -19,7 +19,7 @@ use Rattle.nr_reduce.specs.EndRules.{EndMachine, EndState, next_end_state, next_
 use Rattle.nr_reduce.specs.ClientState.{call_payload}
 use Rattle.nr_reduce.specs.OfferedRegions.{Region, region_bytes_by, region_bytes, closed_if, regions_closed}
 use Rattle.nr_laws.specs.Typed.{TypedMark, IsTyped}
-use Rattle.nr_laws.proofs.EventOutputs.{IsNext, place_after, GoesOn, FirstGood, goes_from, goes_nothing}
+use Rattle.nr_laws.proofs.EventOutputs.{IsNext, place_after, GoesOn, FirstGood, each_preserves, nothing_preserves}
 use Rattle.nr_laws.proofs.Bytes.{bytes_both}
 use Rattle.nr_script.proofs.ByteLists.{no_bytes_lem}
 
@@ -140,6 +140,6 @@ walk rules Q keeps place r (e ∷ es) goes h =
 pub run_bytes : {S : Type 0} (rules : EndMachine S) (Q : S → Type 0) → KeepsBytes rules Q → (start : EndState S) (link : ℕ) (side : Side) (run : List Mark) → IsTyped run → Q start.state →
     IsBytes (output_for_all rules start (events link side run)) × Q (end_state_after rules start (events link side run)).state
 run_bytes rules Q keeps start link side run typed h =
-    let goes = goes_from rules CarriesBytes (λ r f b. tt) start link side TypedMark
-    (λ before mark t. mark_carries (end_state_after rules start (events link side before)) link side before mark t) [] run typed typed (goes_nothing rules CarriesBytes start link side) in
+    let goes = each_preserves rules CarriesBytes (λ r f b. tt) start link side TypedMark
+    (λ before mark t. mark_carries (end_state_after rules start (events link side before)) link side before mark t) [] run typed typed (nothing_preserves rules CarriesBytes start link side) in
     walk rules Q keeps 0 start (events link side run) goes.goes h

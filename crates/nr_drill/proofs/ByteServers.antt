@@ -41,7 +41,7 @@ use Rattle.nr_reduce.specs.OfferedRegions.{Region, region_grants}
 use Rattle.nr_reduce.specs.Holds.{Answer, Parts, parts_by, parts_in, answer_with, answer_for, fits_reply, answer_size, writes_into, first_chunk, no_segments, answer_writes, answer_body, answer_message, chunk_error, version_error}
 use Rattle.nr_reduce.specs.ServerState.{PendingCall, PendingRead, ReadyCall, ServerState, credit_word, next_stag, is_pending}
 use Rattle.nr_reduce.specs.ServerReads.{chunks_of, regions_from, regions_of, reads_of, sink_of, is_read, is_over}
-use Rattle.nr_reduce.specs.ServerMessages.{Verdict, CallVerdict, verdict, by_need, by_stream, by_body, by_header, by_payload, by_head, call_xid, has_position, no_stream, chunk_bytes, payload_of}
+use Rattle.nr_reduce.specs.ServerMessages.{Verdict, CallVerdict, verdict, by_need, by_stream, by_body, by_header, by_payload, by_head, call_xid, has_position, no_stream, chunk_bytes, pending_payload}
 use Rattle.nr_reduce.specs.ServerMessages.CallVerdict.{Refuses, IsReady}
 use Rattle.nr_reduce.specs.ServerMessages.Verdict.{EndsLink, OtherVersion, BadChunks, MakesPending}
 use Rattle.nr_reduce.specs.ServerFrames.{effect_in, FrameEffect, no_effect, with_verdict, ready_if_whole, message_effect, with_access, frame_effect}
@@ -195,8 +195,8 @@ pub record ServerOfBytes (k : ServerState) : Type 0 where
   pub accesses : AllByRecursion AccessOfBytes k.accesses_received
   pub ready : AllByRecursion ReadyOfBytes k.ready
 
-payload_of_bytes : (k : ServerState) (place : ℕ) (c : PendingCall) → AllByRecursion RegionOfBytes k.regions → AllByRecursion AccessOfBytes k.accesses_received → PendingOfBytes c → IfBytes (payload_of k place c)
-unfolding payload_of
+payload_of_bytes : (k : ServerState) (place : ℕ) (c : PendingCall) → AllByRecursion RegionOfBytes k.regions → AllByRecursion AccessOfBytes k.accesses_received → PendingOfBytes c → IfBytes (pending_payload k place c)
+unfolding pending_payload
 payload_of_bytes k place c regions accesses h =
     conveyed_bytes c.inline c.lists.read (chunk_bytes k place c) h (λ p. memory_bytes (region_grants place k.regions) k.regions k.accesses_received (sink_of k.regions c.number p) regions accesses)
 
@@ -231,8 +231,8 @@ whole_effect : (k : ServerState) (place : ℕ) (c : PendingCall) (s : FrameEffec
     EffectOfBytes (ready_if_whole k place c s)
 whole_effect k place c s regions accesses own h = by (is_read s.reads c.number)
   where
-    by : (b : Bool) → EffectOfBytes (cond b (with_verdict (by_payload c (payload_of k place c)) s) s)
-    by true = verdict_effect (by_payload c (payload_of k place c)) s (payload_ready c (payload_of k place c) (payload_of_bytes k place c regions accesses own)) h
+    by : (b : Bool) → EffectOfBytes (cond b (with_verdict (by_payload c (pending_payload k place c)) s) s)
+    by true = verdict_effect (by_payload c (pending_payload k place c)) s (payload_ready c (pending_payload k place c) (payload_of_bytes k place c regions accesses own)) h
     by false = h
 
 none_of_bytes : (k : ServerState) → ServerOfBytes k → EffectOfBytes (no_effect k)

@@ -553,12 +553,12 @@ follows_keeps_laws server script run is follows link low high =
 -- each call is executed at the journal's end, with the reply of the plain server there
 pub record IsPlainRun (server : SerialServer) (run : List Mark) : Type 0 where
   pub placed : AtEachMark (PlacedMark (plain_of server)) [] run
-  pub plainly : AtEachMark (PlainMark (plain_of server)) [] run
+  pub plain_replies : AtEachMark (PlainMark (plain_of server)) [] run
 
 pub plain_mark : (server : SerialServer) (run : List Mark) (mark : Mark) → PlacedMark (plain_of server) run mark → PlainMark (plain_of server) run mark → IsPlainRun server run → IsPlainRun server (run ++ mark ∷ [])
 plain_mark server run mark p r h = record {
   placed = AtEachMark_more (PlacedMark (plain_of server)) [] run mark h.placed p;
-  plainly = AtEachMark_more (PlainMark (plain_of server)) [] run mark h.plainly r;
+  plain_replies = AtEachMark_more (PlainMark (plain_of server)) [] run mark h.plain_replies r;
 }
 
 pub output_plain : (server : SerialServer) (link : ℕ) (side : Side) (bytes : List ℕ) (d : Drill) → IsPlainRun server d.marks → IsPlainRun server (after_output link side bytes d).marks
@@ -699,7 +699,7 @@ unfolding opened_drill
 follows_is_plain server script run follows =
     let s = setting_of server script.opening in
     let clients = script.opening.clients in
-    let first = openings_plain s (links_of clients) (start clients) (record { placed = tt; plainly = tt }) in
+    let first = openings_plain s (links_of clients) (start clients) (record { placed = tt; plain_replies = tt }) in
     let last = all_plain s clients script.lines (opened_drill server script.opening) follows.last follows.makes first in
     let run_is : IsPlainRun server run = subst (IsPlainRun server) (sym follows.marks_are) last in
-    (record { is = refl; places = run_is.placed }, run_is.plainly)
+    (record { is = refl; places = run_is.placed }, run_is.plain_replies)

@@ -32,7 +32,7 @@ use Rattle.nr_reduce.specs.EndRules.{EndState, live, end_state_after, next_end_s
 use Rattle.nr_reduce.specs.ClientState.{ClientState}
 use Rattle.nr_reduce.specs.ServerState.{ServerState, PendingCall, PendingRead, ReadyCall}
 use Rattle.nr_reduce.specs.ServerReads.{open_reads, is_read}
-use Rattle.nr_reduce.specs.ServerMessages.{CallVerdict, by_payload, payload_of, chunk_bytes}
+use Rattle.nr_reduce.specs.ServerMessages.{CallVerdict, by_payload, pending_payload, chunk_bytes}
 use Rattle.nr_reduce.specs.ServerMessages.CallVerdict.{Refuses, IsReady}
 use Rattle.nr_reduce.specs.Chunks.{is_read_chunk_of_item}
 use Rattle.nr_reduce.specs.ServerFrames.{FrameEffect, no_effect, with_verdict, ready_if_whole, with_refused_call, is_stream_read, read_effect, call_of_number, response_effect, tagged_effect, by_message, with_access, effect_in, frame_effect}
@@ -74,7 +74,7 @@ whole_reads : (k : ServerState) (place : ℕ) (c : PendingCall) (e : FrameEffect
 whole_reads k place c e = by (is_read e.reads c.number)
   where
     v : CallVerdict
-    v = by_payload c (payload_of k place c)
+    v = by_payload c (pending_payload k place c)
 
     by : (b : Bool) → (cond b (with_verdict v e) e).reads ≡ e.reads
     by true = verdict_reads v e

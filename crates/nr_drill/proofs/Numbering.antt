@@ -38,34 +38,34 @@ use Rattle.nr_reduce.specs.History.{is_dropped}
 
 -- ===== links
 
-abbrev IsWithin : ℕ → ℕ → Type 0
-IsWithin clients link = (1 ≤ link) × (link ≤ clients)
+abbrev IsLinkWithin : ℕ → ℕ → Type 0
+IsLinkWithin clients link = (1 ≤ link) × (link ≤ clients)
 
-abbrev AreWithin : ℕ → List Mark → Type 0
-AreWithin clients run = AllByRecursion (λ (mark : Mark). IsWithin clients (link_of mark)) run
+abbrev AreLinksWithin : ℕ → List Mark → Type 0
+AreLinksWithin clients run = AllByRecursion (λ (mark : Mark). IsLinkWithin clients (link_of mark)) run
 
-both_within : (clients : ℕ) (xs ys : List Mark) → AreWithin clients xs → AreWithin clients ys → AreWithin clients (xs ++ ys)
+both_within : (clients : ℕ) (xs ys : List Mark) → AreLinksWithin clients xs → AreLinksWithin clients ys → AreLinksWithin clients (xs ++ ys)
 both_within clients [] ys h g = g
 both_within clients (x ∷ xs) ys h g = (h.0, both_within clients xs ys h.1 g)
 
-own_within : (clients link : ℕ) (xs : List Mark) → IsWithin clients link → AllByRecursion (λ (mark : Mark). link_of mark ≡ link) xs → AreWithin clients xs
+own_within : (clients link : ℕ) (xs : List Mark) → IsLinkWithin clients link → AllByRecursion (λ (mark : Mark). link_of mark ≡ link) xs → AreLinksWithin clients xs
 own_within clients link [] w own = tt
-own_within clients link (x ∷ xs) w own = (subst (IsWithin clients) (sym own.0) w, own_within clients link xs w own.1)
+own_within clients link (x ∷ xs) w own = (subst (IsLinkWithin clients) (sym own.0) w, own_within clients link xs w own.1)
 
-added_within : (clients link : ℕ) (old new : List Mark) → IsWithin clients link → Adds link old new → AreWithin clients old → AreWithin clients new
-added_within clients link old new w a h = subst (AreWithin clients) (sym a.is) (both_within clients old a.added h (own_within clients link a.added w a.own))
+added_within : (clients link : ℕ) (old new : List Mark) → IsLinkWithin clients link → Adds link old new → AreLinksWithin clients old → AreLinksWithin clients new
+added_within clients link old new w a h = subst (AreLinksWithin clients) (sym a.is) (both_within clients old a.added h (own_within clients link a.added w a.own))
 
 both_true : (a b : Bool) → (a && b) ≡ true → (a ≡ true) × (b ≡ true)
 both_true true b e = (refl, e)
 both_true false b e = absurd cc
 
-client_within : (opening : Opening) (client : ℕ) → is_client opening client ≡ true → IsWithin opening.clients client
+client_within : (opening : Opening) (client : ℕ) → is_client opening client ≡ true → IsLinkWithin opening.clients client
 client_within opening client e =
     let both = both_true (leb 1 client) (leb client opening.clients) e in
     (leb-true 1 client both.0, leb-true client opening.clients both.1)
 
 module _ (opening : Opening) (s : Setting) where
-  line_within : (before : List Line) (line : Line) (d : Drill) → may_follow opening before line ≡ true → AreWithin opening.clients d.marks → AreWithin opening.clients (after_line s line d).marks
+  line_within : (before : List Line) (line : Line) (d : Drill) → may_follow opening before line ≡ true → AreLinksWithin opening.clients d.marks → AreLinksWithin opening.clients (after_line s line d).marks
   line_within before (lines.Cred client cred) d e h = h
   line_within before (lines.Call client form prog vers proc args) d e h = added_within opening.clients client d.marks _ (client_within opening client e) (submit_adds s client _ form d).marks h
   line_within before (lines.Up client most) d e h = added_within opening.clients client d.marks _ (client_within opening client e) (up_adds s client most d).marks h
@@ -83,14 +83,14 @@ module _ (opening : Opening) (s : Setting) where
 
   -- for each of these links
   abbrev AllWithin : List ℕ → Type 0
-  AllWithin links = AllByRecursion (IsWithin opening.clients) links
+  AllWithin links = AllByRecursion (IsLinkWithin opening.clients) links
 
-  round_within : (links : List ℕ) (d : Drill) → AllWithin links → AreWithin opening.clients d.marks → AreWithin opening.clients (after_round s links d).marks
+  round_within : (links : List ℕ) (d : Drill) → AllWithin links → AreLinksWithin opening.clients d.marks → AreLinksWithin opening.clients (after_round s links d).marks
   round_within [] d w h = h
   round_within (l ∷ links) d w h = round_within links (after_moves s l d) w.1 (added_within opening.clients l d.marks _ w.0 (moves_adds s l d).marks h)
 
-  drain_within : (links : List ℕ) (rounds : ℕ) (old new : Drill) → AllWithin links → Drains s links rounds old new → AreWithin opening.clients old.marks → AreWithin opening.clients new.marks
-  drain_within links zero old new w e h = subst (λ (d : Drill). AreWithin opening.clients d.marks) (sym e.1) h
+  drain_within : (links : List ℕ) (rounds : ℕ) (old new : Drill) → AllWithin links → Drains s links rounds old new → AreLinksWithin opening.clients old.marks → AreLinksWithin opening.clients new.marks
+  drain_within links zero old new w e h = subst (λ (d : Drill). AreLinksWithin opening.clients d.marks) (sym e.1) h
   drain_within links (suc rounds) old new w e h = drain_within links rounds (after_round s links old) new w e.1 (round_within links old w h)
 
   range_within : (from n : ℕ) → 1 ≤ from → from + n ≤ opening.clients + 1 → AllWithin (range_with_len from n)
@@ -100,33 +100,33 @@ module _ (opening : Opening) (s : Setting) where
   all_links : AllWithin (links_of opening.clients)
   all_links = range_within 1 opening.clients (omega arith) (omega arith)
 
-  made_within : (before : List Line) (line : Line) (old new : Drill) → may_follow opening before line ≡ true → Makes s opening.clients line old new → AreWithin opening.clients old.marks → AreWithin opening.clients new.marks
-  made_within before (lines.Cred client cred) old new f e h = subst (λ (d : Drill). AreWithin opening.clients d.marks) (sym e) (line_within before (lines.Cred client cred) old f h)
-  made_within before (lines.Call client form prog vers proc args) old new f e h = subst (λ (d : Drill). AreWithin opening.clients d.marks) (sym e) (line_within before (lines.Call client form prog vers proc args) old f h)
-  made_within before (lines.Up client most) old new f e h = subst (λ (d : Drill). AreWithin opening.clients d.marks) (sym e) (line_within before (lines.Up client most) old f h)
-  made_within before (lines.Down client most) old new f e h = subst (λ (d : Drill). AreWithin opening.clients d.marks) (sym e) (line_within before (lines.Down client most) old f h)
-  made_within before (lines.Work client) old new f e h = subst (λ (d : Drill). AreWithin opening.clients d.marks) (sym e) (line_within before (lines.Work client) old f h)
-  made_within before (lines.Tick seconds) old new f e h = subst (λ (d : Drill). AreWithin opening.clients d.marks) (sym e) (line_within before (lines.Tick seconds) old f h)
-  made_within before (lines.Forget client number) old new f e h = subst (λ (d : Drill). AreWithin opening.clients d.marks) (sym e) (line_within before (lines.Forget client number) old f h)
-  made_within before (lines.Revoke client number) old new f e h = subst (λ (d : Drill). AreWithin opening.clients d.marks) (sym e) (line_within before (lines.Revoke client number) old f h)
-  made_within before (lines.Drop client) old new f e h = subst (λ (d : Drill). AreWithin opening.clients d.marks) (sym e) (line_within before (lines.Drop client) old f h)
-  made_within before (lines.Raw client side bytes) old new f e h = subst (λ (d : Drill). AreWithin opening.clients d.marks) (sym e) (line_within before (lines.Raw client side bytes) old f h)
+  made_within : (before : List Line) (line : Line) (old new : Drill) → may_follow opening before line ≡ true → Makes s opening.clients line old new → AreLinksWithin opening.clients old.marks → AreLinksWithin opening.clients new.marks
+  made_within before (lines.Cred client cred) old new f e h = subst (λ (d : Drill). AreLinksWithin opening.clients d.marks) (sym e) (line_within before (lines.Cred client cred) old f h)
+  made_within before (lines.Call client form prog vers proc args) old new f e h = subst (λ (d : Drill). AreLinksWithin opening.clients d.marks) (sym e) (line_within before (lines.Call client form prog vers proc args) old f h)
+  made_within before (lines.Up client most) old new f e h = subst (λ (d : Drill). AreLinksWithin opening.clients d.marks) (sym e) (line_within before (lines.Up client most) old f h)
+  made_within before (lines.Down client most) old new f e h = subst (λ (d : Drill). AreLinksWithin opening.clients d.marks) (sym e) (line_within before (lines.Down client most) old f h)
+  made_within before (lines.Work client) old new f e h = subst (λ (d : Drill). AreLinksWithin opening.clients d.marks) (sym e) (line_within before (lines.Work client) old f h)
+  made_within before (lines.Tick seconds) old new f e h = subst (λ (d : Drill). AreLinksWithin opening.clients d.marks) (sym e) (line_within before (lines.Tick seconds) old f h)
+  made_within before (lines.Forget client number) old new f e h = subst (λ (d : Drill). AreLinksWithin opening.clients d.marks) (sym e) (line_within before (lines.Forget client number) old f h)
+  made_within before (lines.Revoke client number) old new f e h = subst (λ (d : Drill). AreLinksWithin opening.clients d.marks) (sym e) (line_within before (lines.Revoke client number) old f h)
+  made_within before (lines.Drop client) old new f e h = subst (λ (d : Drill). AreLinksWithin opening.clients d.marks) (sym e) (line_within before (lines.Drop client) old f h)
+  made_within before (lines.Raw client side bytes) old new f e h = subst (λ (d : Drill). AreLinksWithin opening.clients d.marks) (sym e) (line_within before (lines.Raw client side bytes) old f h)
   made_within before lines.Drain old new f e h = drain_within (links_of opening.clients) e.0 old new all_links e.1 h
 
-  lines_within : (before all : List Line) (old new : Drill) → FollowOn opening before all → MakeAll s opening.clients all old new → AreWithin opening.clients old.marks → AreWithin opening.clients new.marks
-  lines_within before [] old new f e h = subst (λ (d : Drill). AreWithin opening.clients d.marks) (sym e) h
+  lines_within : (before all : List Line) (old new : Drill) → FollowOn opening before all → MakeAll s opening.clients all old new → AreLinksWithin opening.clients old.marks → AreLinksWithin opening.clients new.marks
+  lines_within before [] old new f e h = subst (λ (d : Drill). AreLinksWithin opening.clients d.marks) (sym e) h
   lines_within before (line ∷ others) old new f e h = lines_within (before ++ line ∷ []) others e.0 new f.1 e.2 (made_within before line old e.0 f.0 e.1 h)
 
-  openings_within : (links : List ℕ) (d : Drill) → AllWithin links → AreWithin opening.clients d.marks → AreWithin opening.clients (after_openings s links d).marks
+  openings_within : (links : List ℕ) (d : Drill) → AllWithin links → AreLinksWithin opening.clients d.marks → AreLinksWithin opening.clients (after_openings s links d).marks
   openings_within [] d w h = h
   openings_within (l ∷ links) d w h = openings_within links (after_opening s l d) w.1 (added_within opening.clients l d.marks _ w.0 (opening_adds s l d).marks h)
 
-follows_within : (server : SerialServer) (script : ScriptLines) (run : List Mark) → IsScript script → Follows server script run → AreWithin script.opening.clients run
+follows_within : (server : SerialServer) (script : ScriptLines) (run : List Mark) → IsScript script → Follows server script run → AreLinksWithin script.opening.clients run
 unfolding opened_drill
 follows_within server script run is follows =
     let s = setting_of server script.opening in
     let first = openings_within script.opening s (links_of script.opening.clients) (start script.opening.clients) (all_links script.opening s) tt in
-    subst (AreWithin script.opening.clients) (sym follows.marks_are) (lines_within script.opening s [] script.lines (opened_drill server script.opening) follows.last is.follow_on follows.makes first)
+    subst (AreLinksWithin script.opening.clients) (sym follows.marks_are) (lines_within script.opening s [] script.lines (opened_drill server script.opening) follows.last is.follow_on follows.makes first)
 
 -- ===== xids
 
@@ -235,8 +235,8 @@ module _ (o : LinkParameters) where
   next_xid_is before (marks.Revoke l xid bytes) first asked is = tt
   next_xid_is before (marks.Drop l) first asked is = tt
 
-  numbered_from : (clients : ℕ) (before run : List Mark) → o.first_xid ≡ 1 → ((link : ℕ) → IsWithin clients link → AtEachMark (AskedMark IsAll o link) before run) → ((link : ℕ) → IsWithin clients link → IsCounted link before)
-      → AreWithin clients run → AtEachMark (NumberedMark clients) before run
+  numbered_from : (clients : ℕ) (before run : List Mark) → o.first_xid ≡ 1 → ((link : ℕ) → IsLinkWithin clients link → AtEachMark (AskedMark IsAll o link) before run) → ((link : ℕ) → IsLinkWithin clients link → IsCounted link before)
+      → AreLinksWithin clients run → AtEachMark (NumberedMark clients) before run
   numbered_from clients before [] first asked count w = tt
   numbered_from clients before (mark ∷ run) first asked count w = (
     record { above = w.0.0; within = w.0.1; xid = next_xid_is before mark first (asked (link_of mark) w.0).0 (count (link_of mark) w.0) },

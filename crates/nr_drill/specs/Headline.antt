@@ -29,7 +29,7 @@ use Rattle.nr_laws.specs.Grant.{AcceptsByRule}
 use Rattle.nr_laws.specs.Payloads.{HasPlan}
 use Rattle.nr_laws.specs.PlainReplies.{HasPlainReply}
 use Rattle.nr_laws.specs.ChunkOutcomes.{HasChunkCause, IsAnswered}
-use Rattle.nr_laws.specs.Completion.{HaveCompleted, HasOutcome, IsKept, NothingInTransit}
+use Rattle.nr_laws.specs.Completion.{HaveCompleted, HasOutcome, IsAwaitedStill, NothingInTransit}
 use Rattle.nr_laws.specs.Stays.{HasNoRevoke, AreConveyedOrRefused}
 use Rattle.nr_script.specs.declared.script.Line.{Line}
 use Rattle.nr_script.specs.declared.script.Line.TheVariants as lines
@@ -104,7 +104,7 @@ pub record Stays (script : ScriptLines) (opened : LinkParameters) (link : ℕ) (
   pub client : end_of_side opened link Initiator run ≡ None
   pub server : end_of_side opened link Responder run ≡ None
   pub complete : EndsWithDrain script link → NothingInTransit opened link run × HaveCompleted opened link run
-  pub done : EndsWithDrain script link → (a : AcceptedCall) → IsKept link run a → HasOutcome (completed_calls link run) a.xid
+  pub done : EndsWithDrain script link → (a : AcceptedCall) → IsAwaitedStill link run a → HasOutcome (completed_calls link run) a.xid
 
 -- ===== the run
 
@@ -125,7 +125,7 @@ pub record IsDrillRun (server : SerialServer) (script : ScriptLines) (run : List
   pub follows : Follows server script run
   pub typed : IsTyped run
   pub journaled : Journaled (plain_of server) (journal (plain_of server) run) run
-  pub plainly : AnsweredByPlainServer (plain_of server) run
+  pub plain_replies : AnsweredByPlainServer (plain_of server) run
   pub laws : (link : ℕ) → IsLink script link → KeepsLaws script (parameters_of script.opening link) link run
   pub memory : (link : ℕ) → IsLink script link → KeepsMemory (parameters_of script.opening link) link run
   pub outcomes : (link : ℕ) → IsLink script link → Matched link run → Completes (plain_of server) (journal (plain_of server) run) (parameters_of script.opening link) link run

@@ -6,14 +6,14 @@ use Rattle.nr_reduce.specs.declared.call.Call.{Call}
 use Rattle.nr_requester.specs.RequesterState.{RequesterState}
 use Rattle.nr_requester.specs.OpenCalls.{open_call, KeepsTickets, OpensTicket, ClosesTicket}
 use Rattle.nr_drill_link.specs.declared.awaited.AwaitedCall.{AwaitedCall}
-use Rattle.nr_drill_link.specs.OpenTickets.{IsOpen, AreApart, AreOpen}
+use Rattle.nr_drill_link.specs.OpenTickets.{IsTicketOpen, AreApart, AreOpen}
 
 pub none_open : (r : RequesterState) → AreOpen r []
 none_open r = record { all_open = tt; apart = tt }
 
 -- ---- All stay as they were
 
-all_kept : (r r2 : RequesterState) (calls : List AwaitedCall) → KeepsTickets r r2 → AllByRecursion (IsOpen r) calls → AllByRecursion (IsOpen r2) calls
+all_kept : (r r2 : RequesterState) (calls : List AwaitedCall) → KeepsTickets r r2 → AllByRecursion (IsTicketOpen r) calls → AllByRecursion (IsTicketOpen r2) calls
 all_kept r r2 [] kept all = tt
 all_kept r r2 (call ∷ calls) kept all = (ap (λ (o : Option Call). is_some o) (kept call.ticket) ∙ all.0, all_kept r r2 calls kept all.1)
 
@@ -23,13 +23,13 @@ kept_open r r2 calls kept h = record { all_open = all_kept r r2 calls kept h.all
 -- ---- One more
 
 others_kept : (r r2 : RequesterState) (xid : ℕ) (calls : List AwaitedCall) → ((x : ℕ) → x ≢ xid → open_call x r2 ≡ open_call x r) → AllByRecursion (λ (other : AwaitedCall). other.ticket ≢ xid) calls →
-    AllByRecursion (IsOpen r) calls → AllByRecursion (IsOpen r2) calls
+    AllByRecursion (IsTicketOpen r) calls → AllByRecursion (IsTicketOpen r2) calls
 others_kept r r2 xid [] others apart all = tt
 others_kept r r2 xid (call ∷ calls) others apart all =
     (ap (λ (o : Option Call). is_some o) (others call.ticket apart.0) ∙ all.0, others_kept r r2 xid calls others apart.1 all.1)
 
 -- an xid whose ticket isn't open is none of theirs
-none_is : (r : RequesterState) (xid : ℕ) (calls : List AwaitedCall) → open_call xid r ≡ None → AllByRecursion (IsOpen r) calls → AllByRecursion (λ (other : AwaitedCall). other.ticket ≢ xid) calls
+none_is : (r : RequesterState) (xid : ℕ) (calls : List AwaitedCall) → open_call xid r ≡ None → AllByRecursion (IsTicketOpen r) calls → AllByRecursion (λ (other : AwaitedCall). other.ticket ≢ xid) calls
 none_is r xid [] none all = tt
 none_is r xid (call ∷ calls) none all = (
   (λ e. absurd (let no = sym (ap (λ (x : ℕ). is_some (open_call x r)) e ∙ ap (λ (o : Option Call). is_some o) none) ∙ all.0 in cc)),
@@ -50,7 +50,7 @@ pub more_open : (r r2 : RequesterState) (calls : List AwaitedCall) (call : Await
 more_open r r2 calls call of opens h =
     let apart : AllByRecursion (λ (other : AwaitedCall). other.ticket ≢ call.ticket) calls = none_is r call.ticket calls opens.fresh h.all_open in
     record {
-      all_open = one_more (IsOpen r2) calls call (others_kept r r2 call.ticket calls opens.others apart h.all_open) (ap (λ (o : Option Call). is_some o) opens.own);
+      all_open = one_more (IsTicketOpen r2) calls call (others_kept r r2 call.ticket calls opens.others apart h.all_open) (ap (λ (o : Option Call). is_some o) opens.own);
       apart = apart_more calls call h.apart apart;
     }
 
@@ -61,8 +61,8 @@ all_at P [] at d all within = absurd (omega (arith, within))
 all_at P (c ∷ calls) zero d all within = all.0
 all_at P (c ∷ calls) (suc at) d all within = all_at P calls at d all.1 (omega (arith, within))
 
-pub open_at : (r : RequesterState) (calls : List AwaitedCall) (at : ℕ) (d : AwaitedCall) → AreOpen r calls → at < length calls → IsOpen r (get_or calls at d)
-open_at r calls at d h within = all_at (IsOpen r) calls at d h.all_open within
+pub open_at : (r : RequesterState) (calls : List AwaitedCall) (at : ℕ) (d : AwaitedCall) → AreOpen r calls → at < length calls → IsTicketOpen r (get_or calls at d)
+open_at r calls at d h within = all_at (IsTicketOpen r) calls at d h.all_open within
 
 -- ---- One less
 
@@ -88,6 +88,6 @@ not_it (c ∷ calls) (suc at) d apart within =
 pub less_open : (r r2 : RequesterState) (calls : List AwaitedCall) (at : ℕ) (d : AwaitedCall) → at < length calls → ClosesTicket (get_or calls at d).ticket r r2 → AreOpen r calls → AreOpen r2 (remove calls at)
 less_open r r2 calls at d within closes h =
     record {
-      all_open = others_kept r r2 (get_or calls at d).ticket (remove calls at) closes.others (not_it calls at d h.apart within) (all_less (IsOpen r) calls at h.all_open);
+      all_open = others_kept r r2 (get_or calls at d).ticket (remove calls at) closes.others (not_it calls at d h.apart within) (all_less (IsTicketOpen r) calls at h.all_open);
       apart = apart_less calls at h.apart;
     }

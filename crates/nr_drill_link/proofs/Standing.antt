@@ -81,9 +81,9 @@ pub replied_one : (run : List Mark) (mark : Mark) → ((before : List Mark) → 
 replied_one run mark replied h = AtEachMark_more RepliedMark [] run mark h (replied run)
 
 -- one step after another
-pub goes_then : (f g h : Setting → ℕ → Drill → Drill) (v v1 v2 : DrillLinkState) (run run1 run2 : List Mark) → ((s : Setting) (link : ℕ) (d : Drill) → h s link d ≡ g s link (f s link d)) →
+pub steps_compose : (f g h : Setting → ℕ → Drill → Drill) (v v1 v2 : DrillLinkState) (run run1 run2 : List Mark) → ((s : Setting) (link : ℕ) (d : Drill) → h s link d ≡ g s link (f s link d)) →
     Goes f v v1 run run1 → Goes g v1 v2 run1 run2 → Goes h v v2 run run2
-goes_then f g h v v1 v2 run run1 run2 is first second s link d at =
+steps_compose f g h v v1 v2 run run1 run2 is first second s link d at =
     subst (λ (x : Drill). StandsAt s link x v2 run2) (sym (is s link d)) (second s link (f s link d) (first s link d at))
 
 -- what holds of an Ok

@@ -16,15 +16,15 @@ use Rattle.nr_drill_link.specs.LinkStands.{LinkStands}
 use Rattle.nr_requester.specs.RequesterState.{RequesterState, RequesterSide}
 use Rattle.nr_drill_link.specs.DrillLinkState.{AwaitedLine, DrillLinkState}
 
-abbrev pub IsOpen : RequesterState → AwaitedCall → Type 0
-IsOpen r call = is_some (open_call call.ticket r) ≡ true
+abbrev pub IsTicketOpen : RequesterState → AwaitedCall → Type 0
+IsTicketOpen r call = is_some (open_call call.ticket r) ≡ true
 
 abbrev pub AreApart : List AwaitedCall → Type 0
 AreApart [] = Unit {0}
 AreApart (call ∷ calls) = AllByRecursion (λ (other : AwaitedCall). other.ticket ≢ call.ticket) calls × AreApart calls
 
 pub record AreOpen (r : RequesterState) (calls : List AwaitedCall) : Type 0 where
-  pub all_open : AllByRecursion (IsOpen r) calls
+  pub all_open : AllByRecursion (IsTicketOpen r) calls
   pub apart : AreApart calls
 
 -- ---- The same of the lines

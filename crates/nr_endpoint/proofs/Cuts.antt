@@ -34,10 +34,10 @@ slice_payload bytes i =
 
 -- the FPDU of the segment with this number, and those of the first n segments
 abbrev pub piece : Operation → List ℕ → ℕ → List ℕ
-piece carrier bytes i = encoding (operation_segment carrier (eqb (i + 1) (segment_count bytes)) (segment_max * i) (segment_payload bytes i))
+piece operation bytes i = encoding (operation_segment operation (eqb (i + 1) (segment_count bytes)) (segment_max * i) (segment_payload bytes i))
 
 unfoldable pub pieces : Operation → List ℕ → ℕ → List ℕ
-pieces carrier bytes n = flat_map (piece carrier bytes) (range_with_len 0 n)
+pieces operation bytes n = flat_map (piece operation bytes) (range_with_len 0 n)
 
 -- one number more
 range_more : (a n j : ℕ) → a + n ≡ j → range_with_len a (n + 1) ≡ range_with_len a n ++ j ∷ []
@@ -46,56 +46,56 @@ range_more a n j h =
     ∙ map-range_with_len_more (λ (x : ℕ). x) a n j h
     ∙ ap (λ (xs : List ℕ). xs ++ j ∷ []) (map-id (range_with_len a n))
 
-pub pieces_none : (carrier : Operation) (bytes : List ℕ) → pieces carrier bytes 0 ≡ []
+pub pieces_none : (operation : Operation) (bytes : List ℕ) → pieces operation bytes 0 ≡ []
 unfolding pieces
-pieces_none carrier bytes = refl
+pieces_none operation bytes = refl
 
-pub pieces_more : (carrier : Operation) (bytes : List ℕ) (n : ℕ) →
-    pieces carrier bytes (n + 1) ≡ pieces carrier bytes n ++ piece carrier bytes n
+pub pieces_more : (operation : Operation) (bytes : List ℕ) (n : ℕ) →
+    pieces operation bytes (n + 1) ≡ pieces operation bytes n ++ piece operation bytes n
 unfolding pieces
-pieces_more carrier bytes n =
-    let f = (λ (i : ℕ). piece carrier bytes i) in
+pieces_more operation bytes n =
+    let f = (λ (i : ℕ). piece operation bytes i) in
     ap (flat_map f) (range_more 0 n n (omega arith))
     ∙ flat_map-append f (range_with_len 0 n) (n ∷ [])
     ∙ ap (λ (xs : List ℕ). flat_map f (range_with_len 0 n) ++ xs) (append-nil (f n))
 
-pub pieces_all : (carrier : Operation) (bytes : List ℕ) → pieces carrier bytes (segment_count bytes) ≡ cut (operation_segment carrier) bytes
+pub pieces_all : (operation : Operation) (bytes : List ℕ) → pieces operation bytes (segment_count bytes) ≡ cut (operation_segment operation) bytes
 unfolding pieces cut
-pieces_all carrier bytes = refl
+pieces_all operation bytes = refl
 
 -- a segment of a cut can be written
-pub carried_writable : (carrier : Operation) (last : Bool) (offset : ℕ) (payload : List ℕ) → length payload ≤ segment_max →
-    IsWritable (operation_segment carrier last offset payload)
+pub carried_writable : (operation : Operation) (last : Bool) (offset : ℕ) (payload : List ℕ) → length payload ≤ segment_max →
+    IsWritable (operation_segment operation last offset payload)
 carried_writable (carriers.Send msn) last offset payload h = (omega arith, omega arith)
 carried_writable (carriers.Write stag to) last offset payload h = (omega arith, omega arith)
 carried_writable (carriers.Response stag to) last offset payload h = (omega arith, omega arith)
 
-pub writable_from : (segment : Segment) (carrier : Operation) (last : Bool) (offset : ℕ) (payload : List ℕ) →
-    segment ≡ operation_segment carrier last offset payload → length payload ≤ segment_max → IsWritable segment
-writable_from segment carrier last offset payload is h =
-    subst (λ (s : Segment). IsWritable s) (sym is) (carried_writable carrier last offset payload h)
+pub writable_from : (segment : Segment) (operation : Operation) (last : Bool) (offset : ℕ) (payload : List ℕ) →
+    segment ≡ operation_segment operation last offset payload → length payload ≤ segment_max → IsWritable segment
+writable_from segment operation last offset payload is h =
+    subst (λ (s : Segment). IsWritable s) (sym is) (carried_writable operation last offset payload h)
 
 pub payload_short : (bytes : List ℕ) (i : ℕ) → length (segment_payload bytes i) ≤ segment_max
 payload_short bytes i = omega (arith, length-take segment_max (drop (segment_max * i) bytes))
 
 -- one segment more
-pub piece_pushed : (new old start : List ℕ) (segment : Segment) (carrier : Operation) (bytes : List ℕ) (i : ℕ) →
-    old ≡ start ++ pieces carrier bytes i → new ≡ old ++ encoding segment →
-    segment ≡ operation_segment carrier (eqb (i + 1) (segment_count bytes)) (segment_max * i) (segment_payload bytes i) →
-    new ≡ start ++ pieces carrier bytes (i + 1)
-piece_pushed new old start segment carrier bytes i so_far pushed is =
+pub piece_pushed : (new old start : List ℕ) (segment : Segment) (operation : Operation) (bytes : List ℕ) (i : ℕ) →
+    old ≡ start ++ pieces operation bytes i → new ≡ old ++ encoding segment →
+    segment ≡ operation_segment operation (eqb (i + 1) (segment_count bytes)) (segment_max * i) (segment_payload bytes i) →
+    new ≡ start ++ pieces operation bytes (i + 1)
+piece_pushed new old start segment operation bytes i so_far pushed is =
     pushed
     ∙ (λ t. so_far t ++ encoding (is t))
-    ∙ append_assoc start (pieces carrier bytes i) (piece carrier bytes i)
-    ∙ ap (λ (xs : List ℕ). start ++ xs) (sym (pieces_more carrier bytes i))
+    ∙ append_assoc start (pieces operation bytes i) (piece operation bytes i)
+    ∙ ap (λ (xs : List ℕ). start ++ xs) (sym (pieces_more operation bytes i))
 
 -- and all of them
-pub all_pushed : (new start : List ℕ) (carrier : Operation) (bytes : List ℕ) (i : ℕ) → i ≡ segment_count bytes →
-    new ≡ start ++ pieces carrier bytes i → new ≡ start ++ cut (operation_segment carrier) bytes
-all_pushed new start carrier bytes i here so_far =
+pub all_pushed : (new start : List ℕ) (operation : Operation) (bytes : List ℕ) (i : ℕ) → i ≡ segment_count bytes →
+    new ≡ start ++ pieces operation bytes i → new ≡ start ++ cut (operation_segment operation) bytes
+all_pushed new start operation bytes i here so_far =
     so_far
-    ∙ ap (λ (n : ℕ). start ++ pieces carrier bytes n) here
-    ∙ ap (λ (xs : List ℕ). start ++ xs) (pieces_all carrier bytes)
+    ∙ ap (λ (n : ℕ). start ++ pieces operation bytes n) here
+    ∙ ap (λ (xs : List ℕ). start ++ xs) (pieces_all operation bytes)
 
 -- ---- What carries the bytes of each call
 
@@ -133,43 +133,43 @@ segment_pushed new old header payload tail segment h p t is =
     ∙ append_assoc old (segment_header segment) (payload_in segment ++ segment_tail (ulpdu_size segment))
     ∙ ap (λ (l : List ℕ). old ++ l) (sym (encoded_parts segment))
 
-pub carried_payload : (carrier : Operation) (last : Bool) (offset : ℕ) (payload : List ℕ) → payload_in (operation_segment carrier last offset payload) ≡ payload
+pub carried_payload : (operation : Operation) (last : Bool) (offset : ℕ) (payload : List ℕ) → payload_in (operation_segment operation last offset payload) ≡ payload
 carried_payload (carriers.Send msn) last offset payload = refl
 carried_payload (carriers.Write stag to) last offset payload = refl
 carried_payload (carriers.Response stag to) last offset payload = refl
 
-payload_len : (segment : Segment) (carrier : Operation) (last : Bool) (offset : ℕ) (bytes : List ℕ) (i : ℕ) → segment ≡ operation_segment carrier last offset (segment_payload bytes i)
+payload_len : (segment : Segment) (operation : Operation) (last : Bool) (offset : ℕ) (bytes : List ℕ) (i : ℕ) → segment ≡ operation_segment operation last offset (segment_payload bytes i)
     → length (payload_in segment) ≡ min segment_max (length bytes - segment_max * i)
-payload_len segment carrier last offset bytes i is =
+payload_len segment operation last offset bytes i is =
     ap (λ (s : Segment). length (payload_in s)) is
-    ∙ ap (λ (l : List ℕ). length l) (carried_payload carrier last offset (segment_payload bytes i))
+    ∙ ap (λ (l : List ℕ). length l) (carried_payload operation last offset (segment_payload bytes i))
     ∙ length-take segment_max (drop (segment_max * i) bytes)
     ∙ ap (min segment_max) (length-drop (segment_max * i) bytes)
 
-pub room_for : (segment : Segment) (carrier : Operation) (last : Bool) (offset : ℕ) (bytes : List ℕ) (i spare : ℕ) → segment ≡ operation_segment carrier last offset (segment_payload bytes i)
+pub room_for : (segment : Segment) (operation : Operation) (last : Bool) (offset : ℕ) (bytes : List ℕ) (i spare : ℕ) → segment ≡ operation_segment operation last offset (segment_payload bytes i)
     → i < segment_count bytes → length bytes + 27 * segment_count bytes ≤ spare + (27 * i + min (length bytes) (segment_max * i))
     → length (payload_in segment) + 27 ≤ spare
-room_for segment carrier last offset bytes i spare is lt room =
-    let len = payload_len segment carrier last offset bytes i is in
+room_for segment operation last offset bytes i spare is lt room =
+    let len = payload_len segment operation last offset bytes i is in
     omega (arith, len, lt, room)
 
-pub spare_after : (segment : Segment) (carrier : Operation) (last : Bool) (offset : ℕ) (bytes : List ℕ) (i before spare after : ℕ) → segment ≡ operation_segment carrier last offset (segment_payload bytes i)
+pub spare_after : (segment : Segment) (operation : Operation) (last : Bool) (offset : ℕ) (bytes : List ℕ) (i before spare after : ℕ) → segment ≡ operation_segment operation last offset (segment_payload bytes i)
     → before ≤ spare + (27 * i + min (length bytes) (segment_max * i)) → spare ≤ after + (length (payload_in segment) + 27)
     → before ≤ after + (27 * (i + 1) + min (length bytes) (segment_max * (i + 1)))
-spare_after segment carrier last offset bytes i before spare after is room left =
-    let len = payload_len segment carrier last offset bytes i is in
+spare_after segment operation last offset bytes i before spare after is room left =
+    let len = payload_len segment operation last offset bytes i is in
     omega (arith, len, room, left)
 
 -- bytes that take one segment
-pub cut_one : (carrier : Operation) (bytes : List ℕ) → length bytes ≤ segment_max → cut (operation_segment carrier) bytes ≡ encoding (operation_segment carrier true 0 bytes)
-cut_one carrier bytes le =
+pub cut_one : (operation : Operation) (bytes : List ℕ) → length bytes ≤ segment_max → cut (operation_segment operation) bytes ≡ encoding (operation_segment operation true 0 bytes)
+cut_one operation bytes le =
     let count : segment_count bytes ≡ 1 = omega arith in
     let all : segment_payload bytes 0 ≡ bytes = take_all segment_max bytes le in
-    sym (pieces_all carrier bytes)
-    ∙ ap (pieces carrier bytes) count
-    ∙ pieces_more carrier bytes 0
-    ∙ ap (λ (l : List ℕ). l ++ piece carrier bytes 0) (pieces_none carrier bytes)
-    ∙ (λ i. encoding (operation_segment carrier (eqb 1 (count i)) 0 (all i)))
+    sym (pieces_all operation bytes)
+    ∙ ap (pieces operation bytes) count
+    ∙ pieces_more operation bytes 0
+    ∙ ap (λ (l : List ℕ). l ++ piece operation bytes 0) (pieces_none operation bytes)
+    ∙ (λ i. encoding (operation_segment operation (eqb 1 (count i)) 0 (all i)))
 
 -- the Send of a message in two parts
 pub send_pushed : (new old header front stream tail : List ℕ) (msn : ℕ) → length front + length stream ≤ segment_max

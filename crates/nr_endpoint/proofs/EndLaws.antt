@@ -150,11 +150,11 @@ tagged_faults : (missing : Option Fault) (b : Bool) → MayBe missing → MayBe 
 tagged_faults missing b is =
     first_of_lem (missing ∷ reason_if REASON_RESPONSE b ∷ []) (is, (reason_fault REASON_RESPONSE b (inl (omega arith, omega arith)), tt))
 
-segment_fault : (r : Readiness Denied) (segment : Segment) → MayBe (segment_reason r segment)
+segment_reason_may_be : (r : Readiness Denied) (segment : Segment) → MayBe (segment_reason r segment)
 unfolding segment_reason
-segment_fault r (Tagged last opcode stag to payload) =
+segment_reason_may_be r (Tagged last opcode stag to payload) =
     tagged_faults (missing_fault r.missing) (is_unexpected r opcode last stag to (length payload)) (missing_fault_lem r.missing)
-segment_fault r (Untagged last opcode w queue msn offset payload) =
+segment_reason_may_be r (Untagged last opcode w queue msn offset payload) =
     untagged_faults (not (eqb msn (next_msn r.received queue))) (not (eqb offset (next_offset r.received queue))) (is_malformed opcode last payload) (is_too_many r opcode)
     (message_length_is (nat_lt r.message_max) (message_completed r.received (Untagged last opcode w queue msn offset payload)))
     (message_length_is (λ n. nat_lt n 16) (message_completed r.received (Untagged last opcode w queue msn offset payload)))
@@ -174,7 +174,7 @@ fault_end f segment (Some (PeerTerminated word)) is = refl
 
 pub segment_end_is : (s : LinkState) (f : Frame) (segment : Segment) → IfSome (segment_end s f segment) (IsFrameEnd Fpdu f.at)
 unfolding segment_end
-segment_end_is s f segment = fault_end f segment (segment_reason (readiness s (missing_access s.memory segment)) segment) (segment_fault (readiness s (missing_access s.memory segment)) segment)
+segment_end_is s f segment = fault_end f segment (segment_reason (readiness s (missing_access s.memory segment)) segment) (segment_reason_may_be (readiness s (missing_access s.memory segment)) segment)
 
 -- ---- A frame
 

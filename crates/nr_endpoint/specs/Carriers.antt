@@ -14,10 +14,10 @@ operation_segment (carriers.Write stag to) last offset payload = Tagged last OPC
 operation_segment (carriers.Response stag to) last offset payload = Tagged last OPCODE_READ_RESPONSE stag (to + offset) payload
 
 -- this number of bytes can be carried: their offsets fit
-abbrev pub FitsCarrier : Operation → ℕ → Type 0
-FitsCarrier (carriers.Send msn) n = n < 2 ^ 32
-FitsCarrier (carriers.Write stag to) n = to + n ≤ 2 ^ 64
-FitsCarrier (carriers.Response stag to) n = to + n ≤ 2 ^ 64
+abbrev pub FitsOperation : Operation → ℕ → Type 0
+FitsOperation (carriers.Send msn) n = n < 2 ^ 32
+FitsOperation (carriers.Write stag to) n = to + n ≤ 2 ^ 64
+FitsOperation (carriers.Response stag to) n = to + n ≤ 2 ^ 64
 
 -- the segment at this offset can be carried
 abbrev pub FitsAt : Operation → ℕ → Type 0

@@ -10,7 +10,7 @@ ghost use Rattle.nr_wire.specs.View.{segment as plain, result_view};
 use nr_wire::{Awaited, NextHello, NextSegment, Segment, Side, next_segment, read_hello};
 
 /// Why a hello of this side is refused, if it is (RFC 5044 section 7.1).
-pub fn hello_refusal(side: Side, frame: &[u8]) -> Option<u32>
+pub fn hello_reason(side: Side, frame: &[u8]) -> Option<u32>
     requires { IsFrame (Awaited.Hello side) frame.now }
     ensures { result ≡ result_err (hello_of side frame.now) }
 {

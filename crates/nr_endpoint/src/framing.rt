@@ -4,7 +4,7 @@ ghost use Rattle.std.specs.Prelude.{◌≡◌, ℕ, ◌+◌, ◌*◌, ◌^◌, �
 ghost use Rattle.nr_wire.specs.Segment.{IsWritable, encoding, payload_in};
 ghost use Rattle.nr_wire.specs.View.{segment as plain};
 ghost use Rattle.nr_link.specs.Output.{cut, segment_count, segment_payload, terminate_message};
-ghost use Rattle.nr_endpoint.specs.Carriers.{operation_segment, cut_room, writes_room, FitsAt, FitsCarrier};
+ghost use Rattle.nr_endpoint.specs.Carriers.{operation_segment, cut_room, writes_room, FitsAt, FitsOperation};
 ghost use Rattle.nr_endpoint.specs.Offering.{FitsRegion, writes_output};
 
 use crate::constants::{FRAMING_MAX, SEGMENT_MAX};
@@ -38,11 +38,11 @@ pub struct RemoteWrite<'a> {
 }
 
 /// The segment with these bytes, which lie at `offset` of all.
-pub fn segment(carrier: Operation, last: bool, offset: usize, payload: &[u8]) -> Segment<'_>
-    requires { FitsAt carrier offset }
-    ensures { plain result ≡ operation_segment carrier last offset payload.now }
+pub fn segment(operation: Operation, last: bool, offset: usize, payload: &[u8]) -> Segment<'_>
+    requires { FitsAt operation offset }
+    ensures { plain result ≡ operation_segment operation last offset payload.now }
 {
-    match carrier {
+    match operation {
         Operation::Send { msn } => Segment::Untagged {
             last,
             opcode: OPCODE_SEND,
@@ -110,10 +110,10 @@ fn segment_payload(bytes: &[u8], i: usize) -> &[u8]
 }
 
 /// Puts the segments of some bytes at the end, for which there is room.
-pub fn append_segments(out: &mut Output, carrier: Operation, bytes: &[u8])
-    requires fits { FitsCarrier carrier (length bytes.now) }
+pub fn append_segments(out: &mut Output, operation: Operation, bytes: &[u8])
+    requires fits { FitsOperation operation (length bytes.now) }
     requires room { cut_room FRAMING_MAX bytes.now ≤ out.old.spare }
-    ensures bytes { out.new.items ≡ out.old.items ++ cut (operation_segment carrier) bytes.now }
+    ensures bytes { out.new.items ≡ out.old.items ++ cut (operation_segment operation) bytes.now }
     ensures spare { out.old.spare ≤ out.new.spare + cut_room FRAMING_MAX bytes.now }
 {
     let count = segment_count(bytes);
@@ -121,7 +121,7 @@ pub fn append_segments(out: &mut Output, carrier: Operation, bytes: &[u8])
         let payload = segment_payload(bytes, i);
         append_segment(
             out,
-            &segment(carrier, i + 1 == count, SEGMENT_MAX * i, payload),
+            &segment(operation, i + 1 == count, SEGMENT_MAX * i, payload),
         );
     }
 }
@@ -134,13 +134,13 @@ pub fn cut_room(bytes: &[u8]) -> usize
 }
 
 /// Puts the segments of some bytes at the end. An `Err` leaves the bytes as they were.
-pub fn push_cut(out: &mut Output, carrier: Operation, bytes: &[u8]) -> Result<(), Memory>
-    requires { FitsCarrier carrier (length bytes.now) }
-    ensures ok { OnOk result (out.new.items ≡ out.old.items ++ cut (operation_segment carrier) bytes.now) }
+pub fn push_cut(out: &mut Output, operation: Operation, bytes: &[u8]) -> Result<(), Memory>
+    requires { FitsOperation operation (length bytes.now) }
+    ensures ok { OnOk result (out.new.items ≡ out.old.items ++ cut (operation_segment operation) bytes.now) }
     ensures err { OnErr result (out.new.items ≡ out.old.items) }
 {
     out.reserve(cut_room(bytes))?;
-    append_segments(out, carrier, bytes);
+    append_segments(out, operation, bytes);
     Ok(())
 }
 

@@ -14,7 +14,7 @@ ghost use Rattle.nr_endpoint.specs.SegmentEnds.{IsUntagged};
 ghost use Rattle.nr_endpoint.specs.Judging.{segment_end, with_end_of, with_segment_by, with_fpdu, with_peer_hello, with_frame, next_frame};
 
 use crate::constants::SEND_MAX;
-use crate::frames::{hello_refusal, segment_in_frame};
+use crate::frames::{hello_reason, segment_in_frame};
 use crate::reads::Reads;
 use crate::receive_queue::ReceiveQueue;
 use crate::send_queue::SendQueue;
@@ -146,7 +146,7 @@ impl LinkSide {
         ensures room { self.new.room ≡ self.old.room }
         ensures outside { self.new.outside ≡ self.old.outside }
     {
-        if let Some(reason) = hello_refusal(side, frame) {
+        if let Some(reason) = hello_reason(side, frame) {
             return self.end_with(End::Bad {
                 at: self.place,
                 reason,

@@ -129,7 +129,7 @@ fn retire_first(ends: &mut VecDeque<usize>, n: usize) -> usize
 }
 
 /// Drops the ends that `n` more written bytes reach, and answers how many those were. The others are counted from there on.
-fn pass_ends(ends: &mut VecDeque<usize>, n: usize) -> usize
+fn retire_ends(ends: &mut VecDeque<usize>, n: usize) -> usize
     ensures left { ends.new.items ≡ ends_left n ends.old.items }
     ensures passed { result ≡ ends_passed n ends.old.items }
 {
@@ -442,8 +442,8 @@ impl SendQueue {
           sends_left = min (self.old.sends_left + ends_passed n self.old.send_ends) (2 ^ 64 - 1);
         } }
     {
-        let passed = pass_ends(&mut self.send_ends, n);
-        pass_ends(&mut self.response_ends, n);
+        let passed = retire_ends(&mut self.send_ends, n);
+        retire_ends(&mut self.response_ends, n);
         self.sends_left = self.sends_left.saturating_add(passed as u64);
     }
 

@@ -3,7 +3,7 @@
 ghost use Rattle.std.specs.Prelude.{◌≡◌, ◌+◌, ◌^◌, ◌<◌, ◌≤◌, ◌++◌, length, All, IfOk, OnOk, OnErr};
 ghost use Rattle.nr_wire.specs.Segment.{encoding};
 ghost use Rattle.nr_link.specs.Output.{cut, segment_payload};
-ghost use Rattle.nr_endpoint.specs.Carriers.{operation_segment, FitsAt, FitsCarrier};
+ghost use Rattle.nr_endpoint.specs.Carriers.{operation_segment, FitsAt, FitsOperation};
 ghost use Rattle.nr_endpoint.specs.Offering.{FitsSharedRegion, shared_output};
 
 use crate::constants::{FRAMING_MAX, SEGMENT_MAX, SHARED_MIN};
@@ -39,18 +39,18 @@ fn segment_bytes(bytes: &Bytes, i: usize) -> Result<Bytes, Memory>
 /// Puts a segment at the end, without a copy of its payload. There is room for its framing.
 fn push_shared_segment(
     out: &mut Output,
-    carrier: Operation,
+    operation: Operation,
     last: bool,
     offset: usize,
     payload: Bytes,
 ) -> Result<(), Memory>
-    requires offset { FitsAt carrier offset }
+    requires offset { FitsAt operation offset }
     requires len { length payload ≤ SEGMENT_MAX }
     requires room { FRAMING_MAX ≤ out.old.spare }
-    ensures items { OnOk result (out.new.items ≡ out.old.items ++ encoding (operation_segment carrier last offset payload)) }
+    ensures items { OnOk result (out.new.items ≡ out.old.items ++ encoding (operation_segment operation last offset payload)) }
     ensures spare { OnOk result (out.old.spare ≤ out.new.spare + FRAMING_MAX) }
 {
-    let framed = segment(carrier, last, offset, payload.as_slice());
+    let framed = segment(operation, last, offset, payload.as_slice());
     let header = segment_header(&framed);
     let size = ulpdu_size(&framed);
     out.append(header.as_slice());
@@ -60,15 +60,15 @@ fn push_shared_segment(
 }
 
 /// Puts the segments of some bytes at the end, without a copy of them. The room for their framing is taken once.
-fn push_shared(out: &mut Output, carrier: Operation, bytes: &Bytes) -> Result<(), Memory>
-    requires { FitsCarrier carrier (length bytes.now) }
-    ensures { OnOk result (out.new.items ≡ out.old.items ++ cut (operation_segment carrier) bytes.now) }
+fn push_shared(out: &mut Output, operation: Operation, bytes: &Bytes) -> Result<(), Memory>
+    requires { FitsOperation operation (length bytes.now) }
+    ensures { OnOk result (out.new.items ≡ out.old.items ++ cut (operation_segment operation) bytes.now) }
 {
     let count = segment_count(bytes.as_slice());
     out.reserve(FRAMING_MAX * count)?;
     for i in 0..count {
         let payload = segment_bytes(bytes, i)?;
-        push_shared_segment(out, carrier, i + 1 == count, SEGMENT_MAX * i, payload)?;
+        push_shared_segment(out, operation, i + 1 == count, SEGMENT_MAX * i, payload)?;
     }
     Ok(())
 }
@@ -78,14 +78,14 @@ fn push_write(out: &mut Output, write: &SharedWrite) -> Result<(), Memory>
     requires { FitsSharedRegion write.now }
     ensures { OnOk result (out.new.items ≡ out.old.items ++ cut (operation_segment (Operation.Write write.now.stag write.now.to)) write.now.bytes) }
 {
-    let carrier = Operation::Write {
+    let operation = Operation::Write {
         stag: write.stag,
         to: write.to,
     };
     if write.bytes.len() < SHARED_MIN {
-        return push_cut(out, carrier, write.bytes.as_slice());
+        return push_cut(out, operation, write.bytes.as_slice());
     }
-    push_shared(out, carrier, &write.bytes)
+    push_shared(out, operation, &write.bytes)
 }
 
 /// Puts RDMA Writes at the end. After an `Err` some of them are there.

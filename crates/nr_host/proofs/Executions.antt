@@ -52,14 +52,14 @@ out_before gave gave' kept kept' v moment gives same terms link before left give
 )
 
 -- one step after another
-pub goes_trans : (gave gave' gave'' : Option (List Moment)) (kept kept' kept'' : PlainServerState) (v v' v'' : ResponderSide)
+pub steps_compose : (gave gave' gave'' : Option (List Moment)) (kept kept' kept'' : PlainServerState) (v v' v'' : ResponderSide)
     → GoesOn gave gave' kept kept' v v' → GoesOn gave' gave'' kept' kept'' v' v'' → GoesOn gave gave'' kept kept'' v v''
-goes_trans gave gave' gave'' kept kept' kept'' v v' v'' first second terms link before left given sink ahead run live =
+steps_compose gave gave' gave'' kept kept' kept'' v v' v'' first second terms link before left given sink ahead run live =
     let (run', live') = first terms link before left given sink ahead run live in
     second terms link before left given sink ahead run' live'
 
-pub goes_out : (gave gave' gave'' : Option (List Moment)) (kept kept' kept'' : PlainServerState) (v v' : ResponderSide)
+pub leaves_by : (gave gave' gave'' : Option (List Moment)) (kept kept' kept'' : PlainServerState) (v v' : ResponderSide)
     → GoesOn gave gave' kept kept' v v' → RunsOut gave' gave'' kept' kept'' v' → RunsOut gave gave'' kept kept'' v
-goes_out gave gave' gave'' kept kept' kept'' v v' first second terms link before left given sink ahead run live =
+leaves_by gave gave' gave'' kept kept' kept'' v v' first second terms link before left given sink ahead run live =
     let (run', live') = first terms link before left given sink ahead run live in
     second terms link before left given sink ahead run' live'

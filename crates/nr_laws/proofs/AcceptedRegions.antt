@@ -20,7 +20,7 @@ use Rattle.nr_reduce.specs.RunLaws.{outstanding_from}
 use Rattle.nr_reduce.specs.Asked.{AskedSoFar, IsAccepted}
 use Rattle.nr_reduce.proofs.Steps.{events_one}
 use Rattle.nr_laws.specs.Typed.{IsTyped}
-use Rattle.nr_laws.proofs.EventOutputs.{GoesOn, goes_first}
+use Rattle.nr_laws.proofs.EventOutputs.{GoesOn, first_preserve}
 use Rattle.nr_laws.proofs.ClientRun.{client_goes}
 use Rattle.nr_laws.proofs.ClientSays.{ClientGood, accepted_in, accepted_append}
 use Rattle.nr_laws.proofs.ClientMemory.{HasBuffers, AllBacked, backed_at, keeps_along}
@@ -60,7 +60,7 @@ accepted_regions opened link run earlier later call form xid typed asked is h =
     let s = split_events link run earlier later call form xid is in
     let g = (client_goes opened link run typed asked).goes in
     let early : GoesOn (client_rules opened) (ClientGood opened) 0 (initial_client opened) (events link Initiator earlier) =
-    goes_first (client_rules opened) (ClientGood opened) 0 (initial_client opened) (events link Initiator earlier) (CallSubmitted s.place a ∷ s.rest) (subst (λ (es : List RunEvent). GoesOn (client_rules opened) (ClientGood opened) 0 (initial_client opened) es) s.is g) in
+    first_preserve (client_rules opened) (ClientGood opened) 0 (initial_client opened) (events link Initiator earlier) (CallSubmitted s.place a ∷ s.rest) (subst (λ (es : List RunEvent). GoesOn (client_rules opened) (ClientGood opened) 0 (initial_client opened) es) s.is g) in
     let first = (keeps_along opened (events link Initiator earlier) early).keeps in
     let all = (keeps_along opened (events link Initiator run) g).keeps in
     let xs : List AcceptedCall = accepted_in (events link Initiator earlier) in

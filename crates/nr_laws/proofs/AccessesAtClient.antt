@@ -44,10 +44,10 @@ more_live d ps g (inl h) = inl h
 more_live d ps g (inr h) = inr (omega (arith, h, ap (λ (xs : List ℕ). times g.call xs) (xids_append d ps), times_append g.call (message_xids d) (message_xids ps)))
 
 -- the client goes on with more regions, and says messages that they offer
-goes_on_lem : (opened : LinkParameters) (k t : ClientState) (s : ServerState) (d e all_up said all_down : List FrameContent) (place : ℕ) → AccessesAgree opened k s d all_up all_down place → OffersMore k.regions t.regions
+preserved : (opened : LinkParameters) (k t : ClientState) (s : ServerState) (d e all_up said all_down : List FrameContent) (place : ℕ) → AccessesAgree opened k s d all_up all_down place → OffersMore k.regions t.regions
     → AllByRecursion (IsEarly place) t.regions → AllByRecursion (IsLive (message_xids e)) t.regions → AllByRecursion (MessageOffered t.regions) said → AllByRecursion (CallAsked opened t.regions) t.outstanding
     → AccessesAgree opened t s e (all_up ++ said) all_down place
-goes_on_lem opened k t s d e all_up said all_down place h more early lives says asked = record {
+preserved opened k t s d e all_up said all_down place h more early lives says asked = record {
   early = early;
   lives = lives;
   up_said = each_append (MessageOffered t.regions) all_up said (each_all (MessageOffered k.regions) (MessageOffered t.regions) all_up (message_more k.regions t.regions more) h.up_said) says;
@@ -80,7 +80,7 @@ accessed_submit opened k s d all_up all_down place a plan h is small stags bytes
     subst (λ (p : Plan). SendOffered (map (region_of a.xid place) (buffers k.stag p)) (call_message a.xid opened.wished k.stag p)) (sym same)
     (planned_offered (call_payload a.xid a.call) a.form a.xid opened.wished place k.stag plan (limited_plan k a.xid a.call a.form (Ok plan) limits is) bytes typed small stags) in
     let one : CallAsked opened t.regions o = send_more new t.regions (offers_right k.regions new) (message_of_call opened o) own in
-    goes_on_lem opened k t s d d all_up (client_frames opened k (CallSubmitted place a)) all_down place h (offers_left k.regions new)
+    preserved opened k t s d d all_up (client_frames opened k (CallSubmitted place a)) all_down place h (offers_left k.regions new)
     (each_append (IsEarly place) k.regions new h.early (new_early a.xid place (buffers k.stag o.plan)))
     (each_append (IsLive (message_xids d)) k.regions new h.lives (new_live (message_xids d) a.xid place (buffers k.stag o.plan)))
     (by t.regions o one k.has_hello)
@@ -108,7 +108,7 @@ pub accessed_hello_down : (opened : LinkParameters) (k : ClientState) (s : Serve
 accessed_hello_down opened k s d all_up all_down place f h is =
     subst (λ (t : ClientState). AccessesAgree opened t s (d ++ HelloFrame ∷ []) (all_up ++ client_frames opened k (FrameReceived f)) all_down place) (sym (after_hello opened k f is))
     (subst (λ (ps : List FrameContent). AccessesAgree opened (with_hello opened k) s (d ++ HelloFrame ∷ []) (all_up ++ ps) all_down place) (sym (says_hello opened k f is))
-    (goes_on_lem opened k (with_hello opened k) s d (d ++ HelloFrame ∷ []) all_up (calls_frames opened k.outstanding) all_down place h (offers_same k.regions) h.early
+    (preserved opened k (with_hello opened k) s d (d ++ HelloFrame ∷ []) all_up (calls_frames opened k.outstanding) all_down place h (offers_same k.regions) h.early
     (each_all (IsLive (message_xids d)) (IsLive (message_xids (d ++ HelloFrame ∷ []))) k.regions (more_live d (HelloFrame ∷ [])) h.lives) (asked_said opened k.regions k.outstanding h.asked) h.asked))
 
 -- what the client says for a Read Request are no messages
@@ -130,7 +130,7 @@ other_frame opened k s d all_up all_down place p f segment h behind is same outs
     let more : OffersMore k.regions t.regions = subst (OffersMore k.regions) (sym same) (offers_same k.regions) in
     subst (λ (x : ClientState). AccessesAgree opened x s (d ++ p ∷ []) (all_up ++ client_frames opened k (FrameReceived f)) all_down place) (sym (after_is_lem opened k f (Ok segment) behind is))
     (subst (λ (ps : List FrameContent). AccessesAgree opened t s (d ++ p ∷ []) (all_up ++ ps) all_down place) (sym (says_is opened k f (Ok segment) behind is))
-    (goes_on_lem opened k t s d (d ++ p ∷ []) all_up (response_frames k f.end (segment_request (Ok segment))) all_down place h more
+    (preserved opened k t s d (d ++ p ∷ []) all_up (response_frames k f.end (segment_request (Ok segment))) all_down place h more
     (subst (AllByRecursion (IsEarly place)) (sym same) h.early)
     (subst (AllByRecursion (IsLive (message_xids (d ++ p ∷ [])))) (sym same) (each_all (IsLive (message_xids d)) (IsLive (message_xids (d ++ p ∷ []))) k.regions (more_live d (p ∷ [])) h.lives))
     (response_said t.regions k f.end (segment_request (Ok segment)))
@@ -174,7 +174,7 @@ message_frame opened k s d all_up all_down place message f h completes piece =
     let more : OffersMore k.regions regions = offers_closed (λ r. eqb r.call (word_at 0 whole)) f.end k.regions in
     subst (λ (x : ClientState). AccessesAgree opened x s (d ++ SendFrame message ∷ []) (all_up ++ client_frames opened k (FrameReceived f)) all_down place) (sym (after_is_lem opened k f (Ok segment) piece.behind is))
     (subst (λ (ps : List FrameContent). AccessesAgree opened t s (d ++ SendFrame message ∷ []) (all_up ++ ps) all_down place) (sym (says_is opened k f (Ok segment) piece.behind is))
-    (goes_on_lem opened k t s d (d ++ SendFrame message ∷ []) all_up [] all_down place h more
+    (preserved opened k t s d (d ++ SendFrame message ∷ []) all_up [] all_down place h more
     (closed_early (λ r. eqb r.call (word_at 0 whole)) f.end place k.regions h.early)
     (subst (λ (m : List ℕ). AllByRecursion (IsLive (message_xids (d ++ SendFrame message ∷ []))) (regions_closed (λ r. eqb r.call (word_at 0 m)) f.end k.regions)) same (closed_live f.end d message k.regions h.lives))
     tt

@@ -82,7 +82,7 @@ server_event opened s (QueueWritten taken) other = one_event (server_rules opene
 none_more : (xs more : List ℕ) → more ≡ [] → xs ++ more ≡ xs
 none_more xs more e = ap (λ (ys : List ℕ). xs ++ ys) e ∙ append-nil xs
 
-goes_client : (opened : LinkParameters) (link : ℕ) (run : List Mark) (mark : Mark) (j : RunAgrees opened link run) (event : RunEvent) (said : List FrameContent) (w : Transit) → ((f : Frame) → event ≢ FrameReceived f)
+client_preserves : (opened : LinkParameters) (link : ℕ) (run : List Mark) (mark : Mark) (j : RunAgrees opened link run) (event : RunEvent) (said : List FrameContent) (w : Transit) → ((f : Frame) → event ≢ FrameReceived f)
     → EndsAgree opened (client_state_after opened j.k event) j.s j.u j.d (j.all_up ++ said) j.all_down w → client_output opened j.k event ≡ output_bytes Initiator (total_of sends_in j.all_up) (total_of requests_in j.all_up) said
     → events_at link Initiator run mark ≡ event ∷ [] → events_at link Responder run mark ≡ [] → fed_at link Initiator mark ≡ [] → fed_at link Responder mark ≡ [] → written_at link Responder mark ≡ []
     → bytes_sent link Initiator run ++ written_at link Initiator mark ≡ output_bytes Initiator 0 0 (j.u ++ w.up) → w.down ≡ j.w.down
@@ -90,7 +90,7 @@ goes_client : (opened : LinkParameters) (link : ℕ) (run : List Mark) (mark : M
     → (TypedMark run mark → NotRevokedMark link run mark → AccessesAgree opened j.k j.s j.d j.all_up j.all_down (length (bytes_received link Initiator run))
     → AccessesAgree opened (client_state_after opened j.k event) j.s j.d (j.all_up ++ said) j.all_down (length (bytes_received link Initiator run)))
     → MarkAgrees opened link run mark j
-goes_client opened link run mark j event said w other linked output own theirs fed_i fed_r wrote_r sent same guarded accessed =
+client_preserves opened link run mark j event said w other linked output own theirs fed_i fed_r wrote_r sent same guarded accessed =
     let one = client_event opened j.k event other in
     record {
       k = client_state_after opened j.k event;
@@ -115,7 +115,7 @@ goes_client opened link run mark j event said w other linked output own theirs f
       accessed = λ o typed kept g h. accesses_up opened (client_state_after opened j.k event) j.s j.d (j.all_up ++ said) j.all_down (length (bytes_received link Initiator run)) (accessed typed kept h);
     }
 
-goes_server : (opened : LinkParameters) (link : ℕ) (run : List Mark) (mark : Mark) (j : RunAgrees opened link run) (event : RunEvent) (said : List FrameContent) (w : Transit) → ((f : Frame) → event ≢ FrameReceived f)
+server_preserves : (opened : LinkParameters) (link : ℕ) (run : List Mark) (mark : Mark) (j : RunAgrees opened link run) (event : RunEvent) (said : List FrameContent) (w : Transit) → ((f : Frame) → event ≢ FrameReceived f)
     → EndsAgree opened j.k (server_state_after opened j.s event) j.u j.d j.all_up (j.all_down ++ said) w → server_output opened j.s event ≡ output_bytes Responder (total_of sends_in j.all_down) (total_of requests_in j.all_down) said
     → events_at link Initiator run mark ≡ [] → events_at link Responder run mark ≡ event ∷ [] → fed_at link Initiator mark ≡ [] → fed_at link Responder mark ≡ [] → written_at link Initiator mark ≡ []
     → bytes_sent link Responder run ++ written_at link Responder mark ≡ output_bytes Responder 0 0 (j.d ++ w.down) → w.up ≡ j.w.up
@@ -123,7 +123,7 @@ goes_server : (opened : LinkParameters) (link : ℕ) (run : List Mark) (mark : M
     → (Guards opened j.k j.s j.u j.d j.all_up j.all_down j.w (place_of j.u) → AccessesAgree opened j.k j.s j.d j.all_up j.all_down (length (bytes_received link Initiator run))
     → AccessesAgree opened j.k (server_state_after opened j.s event) j.d j.all_up (j.all_down ++ said) (length (bytes_received link Initiator run)))
     → MarkAgrees opened link run mark j
-goes_server opened link run mark j event said w other linked output theirs own fed_i fed_r wrote_i sent same guarded accessed =
+server_preserves opened link run mark j event said w other linked output theirs own fed_i fed_r wrote_i sent same guarded accessed =
     let one = server_event opened j.s event other in
     record {
       k = j.k;
@@ -154,16 +154,16 @@ room_of : (opened : LinkParameters) (link : ℕ) (run : List Mark) (j : RunAgree
 unfolding calls_outstanding credits_granted
 room_of opened link run j lt = subst (λ (r : EndState ClientState). length r.state.outstanding < r.state.grant) j.client_is lt
 
-pub goes_submit : (opened : LinkParameters) (link : ℕ) (run : List Mark) (call : Call) (form : Form) (xid : ℕ) (j : RunAgrees opened link run) → IsAccepted opened link run call form xid
+pub submit_preserves : (opened : LinkParameters) (link : ℕ) (run : List Mark) (call : Call) (form : Form) (xid : ℕ) (j : RunAgrees opened link run) → IsAccepted opened link run call form xid
     → MarkAgrees opened link run (marks.Submit link call form (submissions.Accepted xid)) j
-goes_submit opened link run call form xid j h =
+submit_preserves opened link run call form xid j h =
     let a : AcceptedCall = record { xid = xid; call = call; form = form } in
     let place = length (bytes_received link Initiator run) in
     let own : xid ≡ next_xid opened j.k = h.next ∙ ap (λ (r : EndState ClientState). next_xid opened r.state) j.client_is in
     let planned = ap (λ (r : EndState ClientState). plan_for r.state xid call form) (sym j.client_is) ∙ h.planned in
     let limits : ClientLimits j.k = subst (λ (r : EndState ClientState). ClientLimits r.state) j.client_is (client_limits_of opened link run) in
     let m = submitted opened j.k j.s j.u j.d j.all_up j.all_down j.w place a h.plan j.linked own planned limits in
-    goes_client opened link run (marks.Submit link call form (submissions.Accepted xid)) j (CallSubmitted place a) m.said (up_more j.w m.said) (λ f e. absurd cc) m.linked m.output
+    client_preserves opened link run (marks.Submit link call form (submissions.Accepted xid)) j (CallSubmitted place a) m.said (up_more j.w m.said) (λ f e. absurd cc) m.linked m.output
     (own_events link (CallSubmitted place a ∷ [])) (other_events (eqb link link) (CallSubmitted (length (bytes_received link Responder run)) a ∷ [])) refl refl refl
     (append-nil (bytes_sent link Initiator run) ∙ j.sent_up) refl
     (λ o within g.
@@ -190,16 +190,16 @@ takes_all_down opened link run bytes s is all =
     let due : s.due ≡ length (output_due opened link Responder run) = ap (λ (r : EndState ServerState). r.state.due) (sym is) ∙ server_bytes_due opened link run stays in
     omega (arith, written, due, length-append (bytes_sent link Responder run) bytes, ap (λ (xs : List ℕ). length xs) all)
 
-pub goes_wrote_up : (opened : LinkParameters) (link : ℕ) (run : List Mark) (bytes : List ℕ) (j : RunAgrees opened link run) → bytes_sent link Initiator run ++ bytes ≡ output_due opened link Initiator run
+pub wrote_up_preserves : (opened : LinkParameters) (link : ℕ) (run : List Mark) (bytes : List ℕ) (j : RunAgrees opened link run) → bytes_sent link Initiator run ++ bytes ≡ output_due opened link Initiator run
     → MarkAgrees opened link run (marks.Wrote link Initiator bytes) j
 unfolding client_output
-goes_wrote_up opened link run bytes j all =
+wrote_up_preserves opened link run bytes j all =
     let n = length bytes in
     let takes = takes_all_up opened link run bytes j.k j.client_is all in
     let ends : ClientEnds j.k = subst (λ (r : EndState ClientState). ClientEnds r.state) j.client_is (client_ends_within opened link run) in
     let l = subst (λ (ps : List FrameContent). EndsAgree opened (client_state_after opened j.k (QueueWritten (length bytes))) j.s j.u j.d ps j.all_down (record { queued_up = []; up = j.w.up ++ j.w.queued_up; queued_down = j.w.queued_down; down = j.w.down }))
     (sym (append-nil j.all_up)) (written_up opened j.k j.s j.u j.d j.all_up j.all_down j.w n takes ends j.linked) in
-    goes_client opened link run (marks.Wrote link Initiator bytes) j (QueueWritten (length bytes)) [] (record { queued_up = []; up = j.w.up ++ j.w.queued_up; queued_down = j.w.queued_down; down = j.w.down }) (λ f e. absurd cc) l refl
+    client_preserves opened link run (marks.Wrote link Initiator bytes) j (QueueWritten (length bytes)) [] (record { queued_up = []; up = j.w.up ++ j.w.queued_up; queued_down = j.w.queued_down; down = j.w.down }) (λ f e. absurd cc) l refl
     (own_events link (QueueWritten (length bytes) ∷ [])) (other_events (eqb link link) (QueueWritten (length bytes) ∷ [])) refl refl (other_bytes (eqb link link) bytes)
     (ap (λ (xs : List ℕ). bytes_sent link Initiator run ++ xs) (own_bytes link bytes) ∙ all ∙ j.due_up ∙ ap (λ (ps : List FrameContent). output_bytes Initiator 0 0 ps) (sym j.linked.parts_up)) refl
     (λ o within g.
@@ -209,29 +209,29 @@ goes_wrote_up opened link run bytes j all =
     accesses_down opened (client_state_after opened j.k (QueueWritten (length bytes))) j.s j.d j.all_up j.all_down (length (bytes_received link Initiator run))
     (accessed_written_up n opened j.k j.s j.d j.all_up j.all_down (length (bytes_received link Initiator run)) agree))
 
-pub goes_revoke : (opened : LinkParameters) (link : ℕ) (run : List Mark) (xid : ℕ) (bytes : List ℕ) (j : RunAgrees opened link run) → MarkAgrees opened link run (marks.Revoke link xid bytes) j
+pub revoke_preserves : (opened : LinkParameters) (link : ℕ) (run : List Mark) (xid : ℕ) (bytes : List ℕ) (j : RunAgrees opened link run) → MarkAgrees opened link run (marks.Revoke link xid bytes) j
 unfolding client_output
-goes_revoke opened link run xid bytes j =
+revoke_preserves opened link run xid bytes j =
     let place = length (bytes_received link Initiator run) in
     let l = subst (λ (ps : List FrameContent). EndsAgree opened (client_state_after opened j.k (MemoryRevoked place xid)) j.s j.u j.d ps j.all_down j.w) (sym (append-nil j.all_up))
     (revoked opened j.k j.s j.u j.d j.all_up j.all_down j.w place xid j.linked) in
-    goes_client opened link run (marks.Revoke link xid bytes) j (MemoryRevoked place xid) [] j.w (λ f e. absurd cc) l refl
+    client_preserves opened link run (marks.Revoke link xid bytes) j (MemoryRevoked place xid) [] j.w (λ f e. absurd cc) l refl
     (own_events link (MemoryRevoked place xid ∷ [])) (other_events (eqb link link) (MemoryRevoked (length (bytes_received link Responder run)) xid ∷ [])) refl refl refl
     (append-nil (bytes_sent link Initiator run) ∙ j.sent_up) refl
     (λ o within g.
     guards_down opened (client_state_after opened j.k (MemoryRevoked place xid)) j.s j.u j.d j.all_up j.all_down j.w (place_of j.u) (guards_revoke opened j.k j.s j.u j.d j.all_up j.all_down j.w (place_of j.u) place xid g))
     (λ typed kept agree. absurd (kept refl))
 
-pub goes_wrote_down : (opened : LinkParameters) (link : ℕ) (run : List Mark) (bytes : List ℕ) (j : RunAgrees opened link run) → bytes_sent link Responder run ++ bytes ≡ output_due opened link Responder run
+pub wrote_down_preserves : (opened : LinkParameters) (link : ℕ) (run : List Mark) (bytes : List ℕ) (j : RunAgrees opened link run) → bytes_sent link Responder run ++ bytes ≡ output_due opened link Responder run
     → MarkAgrees opened link run (marks.Wrote link Responder bytes) j
 unfolding server_output
-goes_wrote_down opened link run bytes j all =
+wrote_down_preserves opened link run bytes j all =
     let n = length bytes in
     let takes = takes_all_down opened link run bytes j.s j.server_is all in
     let ends : ServerEnds j.s = subst (λ (r : EndState ServerState). ServerEnds r.state) j.server_is (server_ends_within opened link run) in
     let l = subst (λ (ps : List FrameContent). EndsAgree opened j.k (server_state_after opened j.s (QueueWritten (length bytes))) j.u j.d j.all_up ps (record { queued_up = j.w.queued_up; up = j.w.up; queued_down = []; down = j.w.down ++ j.w.queued_down }))
     (sym (append-nil j.all_down)) (written_down opened j.k j.s j.u j.d j.all_up j.all_down j.w n takes ends j.linked) in
-    goes_server opened link run (marks.Wrote link Responder bytes) j (QueueWritten (length bytes)) [] (record { queued_up = j.w.queued_up; up = j.w.up; queued_down = []; down = j.w.down ++ j.w.queued_down }) (λ f e. absurd cc) l refl
+    server_preserves opened link run (marks.Wrote link Responder bytes) j (QueueWritten (length bytes)) [] (record { queued_up = j.w.queued_up; up = j.w.up; queued_down = []; down = j.w.down ++ j.w.queued_down }) (λ f e. absurd cc) l refl
     (other_events (eqb link link) (QueueWritten (length bytes) ∷ [])) (own_events link (QueueWritten (length bytes) ∷ [])) refl refl (other_bytes (eqb link link) bytes)
     (ap (λ (xs : List ℕ). bytes_sent link Responder run ++ xs) (own_bytes link bytes) ∙ all ∙ j.due_down ∙ ap (λ (ps : List FrameContent). output_bytes Responder 0 0 ps) (sym j.linked.parts_down)) refl
     (λ o g.
@@ -254,10 +254,10 @@ begun (SendFrame message ∷ ps) h some = absurd h
 begun (RequestFrame sink at size stag to ∷ ps) h some = absurd h
 begun (TaggedFrame last opcode stag to payload ∷ ps) h some = absurd h
 
-pub goes_execute : (opened : LinkParameters) (link : ℕ) (run : List Mark) (xid : ℕ) (moment : Moment) (payload : List ℕ) (place : ℕ) (reply : List ℕ) (j : RunAgrees opened link run) → IsExecuted opened link run xid payload
+pub execute_preserves : (opened : LinkParameters) (link : ℕ) (run : List Mark) (xid : ℕ) (moment : Moment) (payload : List ℕ) (place : ℕ) (reply : List ℕ) (j : RunAgrees opened link run) → IsExecuted opened link run xid payload
     → MarkAgrees opened link run (marks.Execute link xid moment payload place reply) j
 unfolding next_call
-goes_execute opened link run xid moment payload place reply j h =
+execute_preserves opened link run xid moment payload place reply j h =
     let e : ExecutedCall = record { xid = xid; moment = moment; payload = payload; place = place; reply = reply } in
     let ready : slice_get j.s.ready 0 ≡ Some h.call = ap (λ (r : EndState ServerState). first_ready r.state.ready r.ended) (sym j.server_is) ∙ h.is_next in
     let first = first_is j.s.ready h.call ready in
@@ -265,7 +265,7 @@ goes_execute opened link run xid moment payload place reply j h =
     let sends : 0 < total_of sends_in j.u = omega (arith, some_calls xid j.s.calls there, j.linked.counts.waiting, j.linked.sends_up) in
     let hellos = begun j.u (stream_left j.u (j.w.up ++ j.w.queued_up) (subst IsOutput (sym j.linked.parts_up) j.linked.stream_up)) sends in
     let m = executed opened j.k j.s j.u j.d j.all_up j.all_down j.w e h.call first.0 j.linked first.1 h.own (omega (arith, hellos, j.linked.hellos_down)) (subst (λ (r : EndState ServerState). ServerLimits r.state) j.server_is (server_limits_of opened link run)) in
-    goes_server opened link run (marks.Execute link xid moment payload place reply) j (CallExecuted e) m.said (record { queued_up = j.w.queued_up; up = j.w.up; queued_down = j.w.queued_down ++ m.said; down = j.w.down }) (λ f x. absurd cc) m.linked m.output
+    server_preserves opened link run (marks.Execute link xid moment payload place reply) j (CallExecuted e) m.said (record { queued_up = j.w.queued_up; up = j.w.up; queued_down = j.w.queued_down ++ m.said; down = j.w.down }) (λ f x. absurd cc) m.linked m.output
     (other_events (eqb link link) (CallExecuted e ∷ [])) (own_events link (CallExecuted e ∷ [])) refl refl refl
     (append-nil (bytes_sent link Responder run) ∙ j.sent_down) refl
     (λ o g.

@@ -102,8 +102,8 @@ pub record MarkAgrees (opened : LinkParameters) (link : ℕ) (run : List Mark) (
   pub accessed : IsOpened opened → TypedMark run mark → NotRevokedMark link run mark → Guards opened j.k j.s j.u j.d j.all_up j.all_down j.w (place_of j.u)
       → AccessesAgree opened j.k j.s j.d j.all_up j.all_down (length (bytes_received link Initiator run)) → AccessesAgree opened k s d (j.all_up ++ said_up) (j.all_down ++ said_down) (length (bytes_received link Initiator run))
 
-unfoldable pub goes_on_lem : (opened : LinkParameters) (link : ℕ) (run : List Mark) (mark : Mark) (j : RunAgrees opened link run) → MarkAgrees opened link run mark j → RunAgrees opened link (run ++ mark ∷ [])
-goes_on_lem opened link run mark j g =
+unfoldable pub preserved : (opened : LinkParameters) (link : ℕ) (run : List Mark) (mark : Mark) (j : RunAgrees opened link run) → MarkAgrees opened link run mark j → RunAgrees opened link (run ++ mark ∷ [])
+preserved opened link run mark j g =
     let up = received_one link Responder run mark in
     let down = received_one link Initiator run mark in
     record {
@@ -162,9 +162,9 @@ pub accesses_down : (opened : LinkParameters) (k : ClientState) (s : ServerState
 accesses_down opened k s d all_up all_down place h = subst (λ (ps : List FrameContent). AccessesAgree opened k s d ps all_down place) (sym (append-nil all_up)) h
 
 -- a mark that is no event of this link, and brings no bytes
-pub goes_none : (opened : LinkParameters) (link : ℕ) (run : List Mark) (mark : Mark) (j : RunAgrees opened link run) → events_at link Initiator run mark ≡ [] → events_at link Responder run mark ≡ []
+pub none_preserve : (opened : LinkParameters) (link : ℕ) (run : List Mark) (mark : Mark) (j : RunAgrees opened link run) → events_at link Initiator run mark ≡ [] → events_at link Responder run mark ≡ []
     → fed_at link Initiator mark ≡ [] → fed_at link Responder mark ≡ [] → written_at link Initiator mark ≡ [] → written_at link Responder mark ≡ [] → MarkAgrees opened link run mark j
-goes_none opened link run mark j own theirs fed_i fed_r wrote_i wrote_r = record {
+none_preserve opened link run mark j own theirs fed_i fed_r wrote_i wrote_r = record {
   k = j.k;
   s = j.s;
   u = j.u;
@@ -265,9 +265,9 @@ place_more u new =
     sym (ap (λ (fs : List (List ℕ)). length (concat fs)) (frames_append Initiator 0 0 u new) ∙ ap (λ (xs : List ℕ). length xs) (concat-append old more) ∙ length-append (concat old) (concat more))
 
 -- the server is fed bytes
-pub goes_fed_up : (opened : LinkParameters) (link : ℕ) (run : List Mark) (bytes : List ℕ) (j : RunAgrees opened link run) → IsPrefixOf (bytes_received link Responder run ++ bytes) (bytes_sent link Initiator run) → IsBytes bytes
+pub fed_up_preserves : (opened : LinkParameters) (link : ℕ) (run : List Mark) (bytes : List ℕ) (j : RunAgrees opened link run) → IsPrefixOf (bytes_received link Responder run ++ bytes) (bytes_sent link Initiator run) → IsBytes bytes
     → (server opened link (run ++ marks.Fed link Responder bytes ∷ [])).ended ≡ None → MarkAgrees opened link run (marks.Fed link Responder bytes) j
-goes_fed_up opened link run bytes j prefix typed unended =
+fed_up_preserves opened link run bytes j prefix typed unended =
     let mark = marks.Fed link Responder bytes in
     let got = bytes_received link Responder run in
     let all_typed : IsBytes (got ++ bytes) = bytes_both got bytes j.bytes_up typed in
@@ -313,9 +313,9 @@ goes_fed_up opened link run bytes j prefix typed unended =
     }
 
 -- the client is fed bytes
-pub goes_fed_down : (opened : LinkParameters) (link : ℕ) (run : List Mark) (bytes : List ℕ) (j : RunAgrees opened link run) → IsPrefixOf (bytes_received link Initiator run ++ bytes) (bytes_sent link Responder run) → IsBytes bytes
+pub fed_down_preserves : (opened : LinkParameters) (link : ℕ) (run : List Mark) (bytes : List ℕ) (j : RunAgrees opened link run) → IsPrefixOf (bytes_received link Initiator run ++ bytes) (bytes_sent link Responder run) → IsBytes bytes
     → (client opened link (run ++ marks.Fed link Initiator bytes ∷ [])).ended ≡ None → MarkAgrees opened link run (marks.Fed link Initiator bytes) j
-goes_fed_down opened link run bytes j prefix typed unended =
+fed_down_preserves opened link run bytes j prefix typed unended =
     let mark = marks.Fed link Initiator bytes in
     let got = bytes_received link Initiator run in
     let all_typed : IsBytes (got ++ bytes) = bytes_both got bytes j.bytes_down typed in

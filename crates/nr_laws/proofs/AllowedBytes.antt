@@ -108,8 +108,8 @@ record Goes {S : Type 0} (rules : EndMachine S) (r : EndState S) (e : RunEvent) 
   live : r.ended ≡ None
   none : rules.end_at r.state e ≡ None
 
-goes_on_lem : {S : Type 0} (rules : EndMachine S) (r : EndState S) (e : RunEvent) → (next_end_state rules r e).ended ≡ None → Goes rules r e
-goes_on_lem {S} rules r e stays = by r.ended refl stays
+preserved : {S : Type 0} (rules : EndMachine S) (r : EndState S) (e : RunEvent) → (next_end_state rules r e).ended ≡ None → Goes rules r e
+preserved {S} rules r e stays = by r.ended refl stays
   where
     by_why : (o : Option Stop) → r.ended ≡ None → rules.end_at r.state e ≡ o → (next_end_state_by rules r.state e o).ended ≡ None → Goes rules r e
     by_why None live none stays = record { live = live; none = none }
@@ -180,7 +180,7 @@ taken_length size to bytes le =
 pub reads_are_allowed : ReadsAreAllowed
 unfolding client_output
 reads_are_allowed opened link run earlier later f segment request is behind own asks stays =
-    let g = goes_on_lem (client_rules opened) before (FrameReceived f) stays in
+    let g = preserved (client_rules opened) before (FrameReceived f) stays in
     let allowed = client_allows opened earlier f segment access behind own (request_access segment request asks) g.none in
     record {
       bytes = take request.size (drop request.to (client_memory_at k f.end request.stag));

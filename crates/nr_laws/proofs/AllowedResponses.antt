@@ -16,9 +16,9 @@ use Rattle.nr_laws.proofs.LinkInvariants.{Transit, ReadsAgree, AreResponses, Con
 use Rattle.nr_laws.proofs.Sinks.{sink_allowed, sinks_taken}
 use Rattle.nr_laws.proofs.EndsOfFrames.{server_response}
 
-goes_within : (last : Bool) (came n : ℕ) (r : PendingRead) (rs : List PendingRead) (Later : ℕ → List PendingRead → Type 0) → ContinuesRead last came n r rs Later → came + n ≤ r.size
-goes_within true came n r rs Later h = omega (arith, h.0)
-goes_within false came n r rs Later h = omega (arith, h.0)
+continues_within : (last : Bool) (came n : ℕ) (r : PendingRead) (rs : List PendingRead) (Later : ℕ → List PendingRead → Type 0) → ContinuesRead last came n r rs Later → came + n ≤ r.size
+continues_within true came n r rs Later h = omega (arith, h.0)
+continues_within false came n r rs Later h = omega (arith, h.0)
 
 pub server_response_taken : (opened : LinkParameters) (s : ServerState) (w : Transit) (f : Frame) (place : ℕ) (last : Bool) (opcode stag to : ℕ) (payload : List ℕ) (rest : List FrameContent) → ReadsAgree s w → HaveSinks place s.regions s.reads → place < f.end
     → w.up ≡ TaggedFrame last opcode stag to payload ∷ rest → Carries s.received.sends s.received.requests f (TaggedFrame last opcode stag to payload)
@@ -30,7 +30,7 @@ server_response_taken opened s w f place last opcode stag to payload rest c sink
         → server_end opened s (FrameReceived f) ≡ refusal_end f (frame_effect s f).refusal
     by [] parts answers have = absurd answers
     by (r ∷ rs) parts answers have =
-        let within = goes_within last s.response_bytes (length payload) r rs (λ k qs. AreResponses k qs (rest ++ w.queued_up)) answers.3 in
+        let within = continues_within last s.response_bytes (length payload) r rs (λ k qs. AreResponses k qs (rest ++ w.queued_up)) answers.3 in
         let allowed : grant_denial (region_grants f.end s.regions) (record { right = Sink; stag = stag; to = to; len = length payload }) f.end ≡ None =
         subst (λ (x : ℕ). grant_denial (region_grants f.end s.regions) (record { right = Sink; stag = x; to = to; len = length payload }) f.end ≡ None) (sym answers.1)
         (sink_allowed place f.end r s.regions to (length payload) have.0 lt (omega (arith, answers.2, within))) in

@@ -16,7 +16,7 @@ use Rattle.nr_reduce.specs.Holds.{Answer, answer_message, first_chunk, no_segmen
 use Rattle.nr_reduce.specs.ClientState.{OutstandingCall}
 use Rattle.nr_reduce.specs.ServerState.{PendingCall, PendingRead, ServerState, credit_word}
 use Rattle.nr_reduce.specs.ServerReads.{regions_of, reads_of}
-use Rattle.nr_reduce.specs.ServerMessages.{CallVerdict, by_payload, payload_of, verdict}
+use Rattle.nr_reduce.specs.ServerMessages.{CallVerdict, by_payload, pending_payload, verdict}
 use Rattle.nr_reduce.specs.ServerMessages.CallVerdict.{Refuses, IsReady}
 use Rattle.nr_reduce.specs.ServerMessages.Verdict.{MakesPending}
 use Rattle.nr_reduce.specs.ServerFrames.{FrameEffect, no_effect, with_verdict, frame_effect}
@@ -179,7 +179,7 @@ pub pending_send : (k : ServerState) (f : Frame) (message : SentMessage) → Com
     → AnswersPending k.calls (λ x. one_if (eqb (word_at 0 message.bytes) x)) (frame_effect k f)
 pending_send k f message completes lt is =
     send_effect k (λ m. word_at 0 m ≡ word_at 0 message.bytes) (AnswersPending k.calls new) (record {
-      judged = λ t place c s h. pending_judged k.calls new (by_payload c (payload_of t place c)) s h;
+      judged = λ t place c s h. pending_judged k.calls new (by_payload c (pending_payload t place c)) s h;
       ends = λ m reason own is x. omega arith;
       version = λ m own x. omega (arith, ap (λ (n : ℕ). one_if (eqb n x)) (version_error_xid (word_at 0 m) (word_at 4 m) (credit_word k) (omega (arith, own, lt)) ∙ own));
       chunks = λ m own x. omega (arith, ap (λ (n : ℕ). one_if (eqb n x)) (chunk_error_xid (word_at 0 m) (credit_word k) (omega (arith, own, lt)) ∙ own));
@@ -200,7 +200,7 @@ pub pending_tagged : (k : ServerState) (f : Frame) (last : Bool) (opcode stag to
 pending_tagged k f last opcode stag to payload small is =
     tagged_effect_lem k (AnswersPending k.calls (λ x. 0)) (record {
       unchanged = λ x. omega arith;
-      judged = λ t place c s h. pending_judged k.calls (λ x. 0) (by_payload c (payload_of t place c)) s h;
+      judged = λ t place c s h. pending_judged k.calls (λ x. 0) (by_payload c (pending_payload t place c)) s h;
       read = λ r reads is x. omega arith;
       refused = λ r reads c is found x. omega (arith, removed x r.number k.calls c found, ap (λ (m : ℕ). one_if (eqb m x)) (chunk_error_xid c.xid (credit_word k) (small r.number c found)));
     }) f last opcode stag to payload is

@@ -32,7 +32,7 @@ some_of (Some a) h = (a, refl)
 
 pub changes_are_answered : ChangesAreAnswered
 unfolding server
-changes_are_answered reply_to adds opened link run before xid moment payload place reply plain plainly typed served at more =
+changes_are_answered reply_to adds opened link run before xid moment payload place reply plain plain_replies typed served at more =
     let mark : Mark = marks.Execute link xid moment payload place reply in
     let x : IsExecuted opened link before xid payload = at_mark (ServedMark IsPrefixOf opened link) run before mark at.after at.is served refl in
     let first = before_mark TypedMark run before mark at.after at.is typed in
@@ -40,14 +40,14 @@ changes_are_answered reply_to adds opened link run before xid moment payload pla
     let es = events link Responder before in
     let k : ServerState = (server opened link before).state in
     let holds = kept_at_server opened link before first kept es [] (sym (append-nil es)) in
-    let replied = at_mark (PlainReplyMark (server_with reply_to adds) link) run before mark at.after at.is plainly refl in
+    let replied = at_mark (PlainReplyMark (server_with reply_to adds) link) run before mark at.after at.is plain_replies refl in
     let down = (server_limits_of opened link before).down in
     let held = plain.change replied.0 moment payload reply (offer_of k xid) k.down_max replied.1 more (found_fits xid k.calls holds.fit).within (omega (arith, down)) in
     let a = some_of (answer_held opened link before xid payload reply) held in
     record { answer = a.0; is_held = a.1; due = (execute_answered opened link before xid moment payload place reply x).0 a.0 a.1 }
 
 pub chunk_adds_nothing : ChunkAddsNothing
-chunk_adds_nothing reply_to adds opened link run before done xid moment payload place reply plain plainly typed far at chunk = by (adds moment payload reply) refl
+chunk_adds_nothing reply_to adds opened link run before done xid moment payload place reply plain plain_replies typed far at chunk = by (adds moment payload reply) refl
   where
     mark : Mark
     mark = marks.Execute link xid moment payload place reply
@@ -65,7 +65,7 @@ chunk_adds_nothing reply_to adds opened link run before done xid moment payload 
     none (inr u) more =
         let s = one_execute opened link done before u.before xid moment u.moment payload u.payload place u.place reply u.reply (before_mark TypedMark run done (marks.Done link xid outcomes.Chunk) chunk.after chunk.is typed)
         (far_before opened link run done (marks.Done link xid outcomes.Chunk) chunk.after chunk.is far) there u.at in
-        let a = changes_are_answered reply_to adds opened link run before xid moment payload place reply plain plainly typed far.served at more in
+        let a = changes_are_answered reply_to adds opened link run before xid moment payload place reply plain plain_replies typed far.served at more in
         let wrong : Some a.answer ≡ None = sym a.is_held ∙ (λ i. answer_held opened link (s.place i) xid (s.payload_is i) (s.reply_is i)) ∙ u.none in
         absurd cc
 

@@ -33,7 +33,7 @@ use Rattle.nr_laws.proofs.OwnMessages.{no_own_plan_is_refused}
 use Rattle.nr_laws.proofs.Basics.{some_is_lem}
 
 pub auto_has_replies : AutoHasReplies
-auto_has_replies reply_to adds opened link run earlier before call xid outcome plain plainly typed far at done = by outcome done
+auto_has_replies reply_to adds opened link run earlier before call xid outcome plain plain_replies typed far at done = by outcome done
   where
     submit : Mark
     submit = marks.Submit link call forms.Auto (submissions.Accepted xid)
@@ -67,7 +67,7 @@ auto_has_replies reply_to adds opened link run earlier before call xid outcome p
         let executed = mark_later run before mark chunk.after u.before execute chunk.is u.at in
         let own : call_payload xid call ≡ u.payload =
         some_is_lem (call_payload xid call) u.payload (payloads_are_own opened link run u.before xid plan u.moment u.payload u.place u.reply typed far has executed) in
-        let replied = at_mark (PlainReplyMark (server_with reply_to adds) link) run u.before execute executed.after executed.is plainly refl in
+        let replied = at_mark (PlainReplyMark (server_with reply_to adds) link) run u.before execute executed.after executed.is plain_replies refl in
         plain.auto replied.0 u.moment u.payload u.reply send_max send_max (client opened link earlier).state.stag plan (subst IsBytes own bytes) replied.1 (omega arith)
         (ap (λ (x : List ℕ). plan_of x forms.Auto send_max send_max) (sym own) ∙ planned)
         (sym (held_by_plan opened link run u.before xid plan u.moment u.payload u.place u.reply typed far has executed) ∙ u.none)

@@ -31,7 +31,7 @@ use Rattle.nr_reduce.specs.ClientState.{ClientState, responses_owed}
 use Rattle.nr_reduce.specs.Client.{client_rules, client_end, client_state_after, initial_client, with_hello, with_message, with_request, with_segment, due_with_response}
 use Rattle.nr_reduce.specs.ServerState.{ServerState, PendingCall, receives_in_use}
 use Rattle.nr_reduce.specs.ServerReads.{is_read, reads_of, regions_of}
-use Rattle.nr_reduce.specs.ServerMessages.{CallVerdict, Verdict, by_payload, payload_of, verdict}
+use Rattle.nr_reduce.specs.ServerMessages.{CallVerdict, Verdict, by_payload, pending_payload, verdict}
 use Rattle.nr_reduce.specs.ServerMessages.CallVerdict.{Refuses, IsReady}
 use Rattle.nr_reduce.specs.ServerMessages.Verdict.{EndsLink, OtherVersion, BadChunks, MakesPending}
 use Rattle.nr_reduce.specs.ServerFrames.{FrameEffect, frame_effect, no_effect, with_verdict, ready_if_whole, message_effect, with_refused_call, with_access, call_of_number}
@@ -169,8 +169,8 @@ verdict_same (IsReady r) s = (refl, refl)
 pub whole_same : (k : ServerState) (place : ℕ) (c : PendingCall) (s : FrameEffect) → ((ready_if_whole k place c s).calls ≡ s.calls) × ((ready_if_whole k place c s).errors ≡ s.errors)
 whole_same k place c s = by (is_read s.reads c.number)
   where
-    by : (b : Bool) → ((cond b (with_verdict (by_payload c (payload_of k place c)) s) s).calls ≡ s.calls) × ((cond b (with_verdict (by_payload c (payload_of k place c)) s) s).errors ≡ s.errors)
-    by true = verdict_same (by_payload c (payload_of k place c)) s
+    by : (b : Bool) → ((cond b (with_verdict (by_payload c (pending_payload k place c)) s) s).calls ≡ s.calls) × ((cond b (with_verdict (by_payload c (pending_payload k place c)) s) s).errors ≡ s.errors)
+    by true = verdict_same (by_payload c (pending_payload k place c)) s
     by false = (refl, refl)
 
 -- the pending calls and error messages of an effect

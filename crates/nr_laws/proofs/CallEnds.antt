@@ -22,7 +22,7 @@ use Rattle.nr_reduce.specs.RunLaws.{server_by}
 use Rattle.nr_laws.proofs.EndReasons.{IsCallReason}
 use Rattle.nr_laws.specs.MatchedSoFar.{MatchedSoFar}
 use Rattle.nr_laws.specs.Typed.{IsTyped}
-use Rattle.nr_laws.proofs.EventOutputs.{GoesOn, goes_behind}
+use Rattle.nr_laws.proofs.EventOutputs.{GoesOn, later_preserve}
 use Rattle.nr_laws.proofs.CallRefusals.{RefusedBy, refused_by, frame_other}
 use Rattle.nr_laws.proofs.EndingEvents.{ends_at_lem}
 use Rattle.nr_laws.proofs.HeldChunks.{server_good}
@@ -87,7 +87,7 @@ unfolding server server_end
 refused_at_lem opened link run typed far at reason own e =
     let es : List RunEvent = events link Responder run in
     let r = ends_at_lem (server_rules opened) (initial_server opened) es (ends.Bad at reason) refl e in
-    let good = goes_behind (server_rules opened) ServerGood 0 (initial_server opened) r.earlier (r.event ∷ r.later)
+    let good = later_preserve (server_rules opened) ServerGood 0 (initial_server opened) r.earlier (r.event ∷ r.later)
     (subst (λ (ev : List RunEvent). GoesOn (server_rules opened) ServerGood 0 (initial_server opened) ev) r.is (server_good opened link run typed far.asked far.served far.matched)) in
     by r.earlier r.event r.later r.is r.live good.1 r.ends
   where

@@ -10,7 +10,7 @@ use Rattle.nr_link.specs.Ending.{frame_segment, frame_end, frame_end_by, missing
 use Rattle.nr_regions.specs.Access.{Grant}
 use Rattle.nr_reduce.specs.ServerState.{ServerState, PendingCall, PendingRead}
 use Rattle.nr_reduce.specs.ServerReads.{is_read, reads_of, regions_of}
-use Rattle.nr_reduce.specs.ServerMessages.{Verdict, CallVerdict, verdict, by_payload, payload_of}
+use Rattle.nr_reduce.specs.ServerMessages.{Verdict, CallVerdict, verdict, by_payload, pending_payload}
 use Rattle.nr_reduce.specs.ServerMessages.Verdict.{EndsLink, OtherVersion, BadChunks, MakesPending}
 use Rattle.nr_reduce.specs.ServerMessages.CallVerdict.{Refuses, IsReady}
 use Rattle.nr_reduce.specs.ServerFrames.{FrameEffect, no_effect, with_verdict, ready_if_whole, message_effect, with_refused_call, call_of_number, with_access, frame_effect}
@@ -53,26 +53,26 @@ verdict_other k message =
 
 pub data RefusedBy (k : ServerState) (f : Frame) (segment : Segment) (reason : ℕ) : Type 0 where
   AtMessage : (message : List ℕ) (c : PendingCall) → message_completed k.received segment ≡ Some message → verdict k message ≡ MakesPending c → is_read (k.reads ++ reads_of (k.regions ++ regions_of k f.end c) c) c.number ≡ true
-      → by_payload c (payload_of k f.end c) ≡ Refuses reason → RefusedBy k f segment reason
+      → by_payload c (pending_payload k f.end c) ≡ Refuses reason → RefusedBy k f segment reason
   AtRead : (q : PendingRead) (rest : List PendingRead) (c : PendingCall) → ends_response segment ≡ true → k.reads ≡ q ∷ rest → call_of_number k q.number ≡ Some c → is_read rest c.number ≡ true
-      → by_payload c (payload_of (with_access k f segment) f.end c) ≡ Refuses reason → RefusedBy k f segment reason
+      → by_payload c (pending_payload (with_access k f segment) f.end c) ≡ Refuses reason → RefusedBy k f segment reason
 
 none_of_lem : {W : Type 0} (reason : ℕ) (o : Option ℕ) → o ≡ None → o ≡ Some reason → W
 none_of_lem reason o none e = absurd (let t = sym none ∙ e in cc)
 
 record WholeRefused (k : ServerState) (place : ℕ) (c : PendingCall) (reads : List PendingRead) (reason : ℕ) : Type 0 where
   read : is_read reads c.number ≡ true
-  refuses : by_payload c (payload_of k place c) ≡ Refuses reason
+  refuses : by_payload c (pending_payload k place c) ≡ Refuses reason
 
 whole_refused : (k : ServerState) (place : ℕ) (c : PendingCall) (s : FrameEffect) (reason : ℕ) → s.refusal ≡ None → (ready_if_whole k place c s).refusal ≡ Some reason → WholeRefused k place c s.reads reason
 whole_refused k place c s reason none e = by (is_read s.reads c.number) refl e
   where
-    by_verdict : (v : CallVerdict) → by_payload c (payload_of k place c) ≡ v → (with_verdict v s).refusal ≡ Some reason → by_payload c (payload_of k place c) ≡ Refuses reason
+    by_verdict : (v : CallVerdict) → by_payload c (pending_payload k place c) ≡ v → (with_verdict v s).refusal ≡ Some reason → by_payload c (pending_payload k place c) ≡ Refuses reason
     by_verdict (Refuses other) is e = is ∙ ap (λ (n : ℕ). Refuses n) (some_is_lem other reason e)
     by_verdict (IsReady r) is e = none_of_lem reason s.refusal none e
 
-    by : (b : Bool) → is_read s.reads c.number ≡ b → (cond b (with_verdict (by_payload c (payload_of k place c)) s) s).refusal ≡ Some reason → WholeRefused k place c s.reads reason
-    by true is e = record { read = is; refuses = by_verdict (by_payload c (payload_of k place c)) refl e }
+    by : (b : Bool) → is_read s.reads c.number ≡ b → (cond b (with_verdict (by_payload c (pending_payload k place c)) s) s).refusal ≡ Some reason → WholeRefused k place c s.reads reason
+    by true is e = record { read = is; refuses = by_verdict (by_payload c (pending_payload k place c)) refl e }
     by false is e = none_of_lem reason s.refusal none e
 
 message_refused : (k : ServerState) (f : Frame) (segment : Segment) (message : List ℕ) (reason : ℕ) → IsCallReason reason → message_completed k.received segment ≡ Some message → (v : Verdict) → verdict k message ≡ v

@@ -27,7 +27,7 @@ use Rattle.nr_reduce.specs.Events.{RunEvent, events}
 use Rattle.nr_reduce.specs.Events.RunEvent.{FrameReceived}
 use Rattle.nr_reduce.specs.ServerState.{PendingCall, PendingRead}
 use Rattle.nr_reduce.specs.ServerReads.{is_read, sink_of, reads_of, reads_from, regions_of}
-use Rattle.nr_reduce.specs.ServerMessages.{verdict, payload_of, chunk_bytes}
+use Rattle.nr_reduce.specs.ServerMessages.{verdict, pending_payload, chunk_bytes}
 use Rattle.nr_reduce.specs.ServerMessages.Verdict.{MakesPending}
 use Rattle.nr_link.specs.ReceiveState.{message_completed}
 use Rattle.nr_reduce.specs.ServerFrames.{call_of_number, with_access}
@@ -149,8 +149,8 @@ module _ (opened : LinkParameters) (link : ℕ) (run : List Mark) (typed : IsTyp
     (live : (end_state_after (server_rules opened) (initial_server opened) es).ended ≡ None) where
   -- of a call that its message completes
   pub conveyed_by_message : (message : List ℕ) (c : PendingCall) → message_completed (server_by opened es).received segment ≡ Some message → verdict (server_by opened es) message ≡ MakesPending c
-      → is_read ((server_by opened es).reads ++ reads_of ((server_by opened es).regions ++ regions_of (server_by opened es) f.end c) c) c.number ≡ true → ConveyedAt opened link run c (payload_of (server_by opened es) f.end c)
-  unfolding payload_of
+      → is_read ((server_by opened es).reads ++ reads_of ((server_by opened es).regions ++ regions_of (server_by opened es) f.end c) c) c.number ≡ true → ConveyedAt opened link run c (pending_payload (server_by opened es) f.end c)
+  unfolding pending_payload
   conveyed_by_message message c whole v read =
       let k = server_by opened es in
       let w = frame_message opened link run typed asked matched es f more segment message all behind is whole live in
@@ -175,8 +175,8 @@ module _ (opened : LinkParameters) (link : ℕ) (run : List Mark) (typed : IsTyp
 
   -- and of one that the last read for it completes, if the access of the frame is allowed
   pub conveyed_by_read : missing_access (region_grants f.end (server_by opened es).regions) f segment ≡ None → (q : PendingRead) (rest : List PendingRead) (c : PendingCall) → ends_response segment ≡ true → (server_by opened es).reads ≡ q ∷ rest
-      → call_of_number (server_by opened es) q.number ≡ Some c → is_read rest c.number ≡ true → ConveyedAt opened link run c (payload_of (with_access (server_by opened es) f segment) f.end c)
-  unfolding payload_of
+      → call_of_number (server_by opened es) q.number ≡ Some c → is_read rest c.number ≡ true → ConveyedAt opened link run c (pending_payload (with_access (server_by opened es) f segment) f.end c)
+  unfolding pending_payload
   conveyed_by_read allowed q rest c ends reads found read =
       let k = server_by opened es in
       let known : Known opened es k = known_from opened [] es (record { calls = tt; ready = tt }) in

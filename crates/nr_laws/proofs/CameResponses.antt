@@ -20,7 +20,7 @@ use Rattle.nr_reduce.specs.Server.{server_rules, initial_server}
 use Rattle.nr_reduce.specs.Run.{client}
 use Rattle.nr_reduce.specs.RunLaws.{server_by, ends_response}
 use Rattle.nr_laws.specs.Typed.{IsTyped}
-use Rattle.nr_laws.proofs.EventOutputs.{GoesOn, goes_first, outputs_for, outputs_all}
+use Rattle.nr_laws.proofs.EventOutputs.{GoesOn, first_preserve, outputs_for, outputs_all}
 use Rattle.nr_laws.proofs.Brought.{Brings}
 use Rattle.nr_laws.proofs.ClientRun.{client_goes, client_outs}
 use Rattle.nr_laws.proofs.ClientResponses.{Answered, EachData, responses_of, requests_of, tagged_one, tagged_in, tagged_append, heard_brought, answers_along}
@@ -109,7 +109,7 @@ unfolding client client_outs
 came_responses opened link run typed asked served matched es f more segment q rest all behind is live ends reads =
     let k : ServerState = server_by opened es in
     let fine = subst (λ (xs : List RunEvent). GoesOn (server_rules opened) ServerFine 0 (initial_server opened) xs) all (server_fine opened link run typed asked served matched) in
-    let at_es : ReadsAt opened es k (outs_of opened es) = (reads_along opened es (goes_first (server_rules opened) ServerFine 0 (initial_server opened) es (FrameReceived f ∷ more) fine)).reads live in
+    let at_es : ReadsAt opened es k (outs_of opened es) = (reads_along opened es (first_preserve (server_rules opened) ServerFine 0 (initial_server opened) es (FrameReceived f ∷ more) fine)).reads live in
     let rc = server_receives_of opened link run typed asked matched in
     let at = brings_at es f more rc.came (subst (λ (xs : List RunEvent). Brings xs rc.came) all rc.brings) in
     let own_is : at.own ≡ ASegment segment = own_segment at.own f segment at.brought behind is in

@@ -28,7 +28,7 @@ use Rattle.nr_reduce.proofs.Steps.{events_one, output_for_all_append, end_state_
 use Rattle.nr_reduce.proofs.Standing.{AtEachMark_more}
 use Rattle.nr_laws.specs.Typed.{TypedMark, IsTyped}
 use Rattle.nr_laws.proofs.Completions.{completed_from, completes_none}
-use Rattle.nr_laws.proofs.EventOutputs.{IsNext, Goes, goes_from, goes_nothing, FirstGood, along, outputs_by, outputs_in, outputs_for, outputs_all, place_after, places_after, whole_bytes}
+use Rattle.nr_laws.proofs.EventOutputs.{IsNext, Goes, each_preserves, nothing_preserves, FirstGood, along, outputs_by, outputs_in, outputs_for, outputs_all, place_after, places_after, whole_bytes}
 use Rattle.nr_laws.proofs.Outputs.{Output, bytes_of_all, bytes_append, message_of_call, client_says, client_said, final_outputs, final_said}
 use Rattle.nr_laws.proofs.ClientSays.{ClientGood, accepted_in, accepted_append, asked, ClientSays, Says}
 use Rattle.nr_laws.proofs.ClientAlong.{client_step}
@@ -84,8 +84,8 @@ first_good opened link before (marks.Drop l) h = tt
 pub client_goes : (opened : LinkParameters) (link : ℕ) (run : List Mark) → IsTyped run → AskedSoFar opened link run → Goes (client_rules opened) (ClientGood opened) (initial_client opened) link Initiator run
 unfolding client
 client_goes opened link run typed asked =
-    goes_from (client_rules opened) (ClientGood opened) (λ r f h. tt) (initial_client opened) link Initiator (ClientMark opened link) (first_good opened link) [] run typed
-    (each_both (AskedMark IsPrefixOf opened link) TypedMark [] run asked typed) (goes_nothing (client_rules opened) (ClientGood opened) (initial_client opened) link Initiator)
+    each_preserves (client_rules opened) (ClientGood opened) (λ r f h. tt) (initial_client opened) link Initiator (ClientMark opened link) (first_good opened link) [] run typed
+    (each_both (AskedMark IsPrefixOf opened link) TypedMark [] run asked typed) (nothing_preserves (client_rules opened) (ClientGood opened) (initial_client opened) link Initiator)
 
 -- ---- The output of a run
 

@@ -45,7 +45,7 @@ use Rattle.nr_laws.proofs.Outcomes.{client_by}
 use Rattle.nr_laws.proofs.DoneCalls.{gives_by, AnsweredBy, answered_by_lem, verdict_xid}
 use Rattle.nr_laws.proofs.Following.{DoneAt, done_at}
 use Rattle.nr_laws.proofs.Replied.{word_behind_lem, error_kind, error_read}
-use Rattle.nr_laws.proofs.ReplyStreams.{IsStreamBody, IsReply, Plainly, plainly, answer_plainly, plain_reply_lem}
+use Rattle.nr_laws.proofs.ReplyStreams.{IsStreamBody, IsReply, IsServerMessage, is_server_message, answer_is_server_message, plain_reply_lem}
 use Rattle.nr_laws.proofs.ReplyStreams.IsStreamBody.{Inline, Long}
 
 -- ---- A call of these clients is of version 1
@@ -58,9 +58,9 @@ call_stream_lem (Some position) lists = by (eqb position 0)
     by true = Long lists
     by false = Inline lists 0
 
-pub call_plainly : (xid credit stag : ℕ) (p : Plan) → Plainly (call_message xid credit stag p)
+pub call_is_server_message : (xid credit stag : ℕ) (p : Plan) → IsServerMessage (call_message xid credit stag p)
 unfolding call_message
-call_plainly xid credit stag p = plainly xid credit (plans.body_by p.read_at (lists_of stag p)) p.inline (call_stream_lem p.read_at (lists_of stag p))
+call_is_server_message xid credit stag p = is_server_message xid credit (plans.body_by p.read_at (lists_of stag p)) p.inline (call_stream_lem p.read_at (lists_of stag p))
 
 abbrev NotOther : Verdict → Type 0
 NotOther (EndsLink reason) = Unit {0}
@@ -179,7 +179,7 @@ outcome_cause opened link run before after xid outcome typed far is = by d.said.
     refused s (ByVersion message whole bad own) =
         let w = frame_message opened link before d.typed d.far.asked d.far.matched s.earlier s.frame s.later s.segment message s.is s.behind s.is_segment whole s.live in
         absurd (version_not (server_by opened s.earlier) message
-        (ap (λ (y : List ℕ). word_at 4 y) w.message_is ∙ (call_plainly w.xid opened.wished (client opened link w.earlier).state.stag w.accepted.plan).version) bad)
+        (ap (λ (y : List ℕ). word_at 4 y) w.message_is ∙ (call_is_server_message w.xid opened.wished (client opened link w.earlier).state.stag w.accepted.plan).version) bad)
     refused s (ByChunks message whole bad own) =
         let r = refused_submit opened link before d.typed d.far.asked d.far.matched m s in
         OfChunk (chunk_brings k place m xid outcome (word_at 0 message) (credit_word (server_by opened s.earlier)) own d.said.given.given) (SendRefused s r (sym r.xid ∙ sym own_xid))
@@ -195,7 +195,7 @@ outcome_cause opened link run before after xid outcome typed far is = by d.said.
         OfChunk (chunk_brings k place m xid outcome s.call.xid (credit_word (server_by opened s.earlier)) s.message d.said.given.given)
         (NotHeld s a (sym (chunk_error_xid s.call.xid (credit_word (server_by opened s.earlier)) (omega (arith, f))) ∙ ap (λ (x : List ℕ). word_at 0 x) (sym s.message) ∙ sym own_xid))
     by (IsAnswer s) =
-        let p = answer_plainly s.call.xid (credit_word (server_by opened s.earlier)) (Rattle.nr_reduce.specs.Server.offer_of (server_by opened s.earlier) s.call.xid) s.answer in
+        let p = answer_is_server_message s.call.xid (credit_word (server_by opened s.earlier)) (Rattle.nr_reduce.specs.Server.offer_of (server_by opened s.earlier) s.call.xid) s.answer in
         OfAnswer (plain_reply_lem k place m xid outcome (subst (λ (y : List ℕ). Rattle.nr_laws.proofs.ReplyStreams.IsPlainKind (word_at 12 y)) (sym s.message) p.kind) d.said.given.given)
 
 -- no call completes with Version

@@ -22,7 +22,7 @@ use Rattle.nr_reduce.proofs.PlanKinds.{MessageKind, IsKind, offered, shape, is_p
 use Rattle.nr_reduce.proofs.PlanKinds.MessageKind.{Short, Chunked, Long}
 use Rattle.nr_reduce.proofs.Asking.{asks}
 use Rattle.nr_reduce.proofs.Sizes.{is_formed}
-use Rattle.nr_reduce.proofs.Undone.{reducible, moved_length}
+use Rattle.nr_reduce.proofs.Rebuilding.{reducible, moved_length}
 use Rattle.nr_laws.specs.Typed.{IsTypedForm}
 use Rattle.nr_laws.specs.Payloads.{form_conveyed}
 use Rattle.nr_laws.proofs.PlanLists.{stream_known}

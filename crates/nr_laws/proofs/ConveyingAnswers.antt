@@ -19,7 +19,7 @@ use Rattle.nr_reduce.specs.Chunks.{chunk_total, filled_chunk, whole, some_bytes}
 use Rattle.nr_reduce.specs.Holds.{Answer, Parts, parts_by, parts_in, answer_size, fits_reply, answer_with, answer_for, written_chunks, first_chunk, no_segments}
 use Rattle.nr_reduce.specs.ChunkBytes.{one_write, write_segments, chunk_segments, answer_segments}
 use Rattle.nr_reduce.specs.Server.{answer_of_target}
-use Rattle.nr_reduce.proofs.Undone.{reducible, moved_length, rebuilt}
+use Rattle.nr_reduce.proofs.Rebuilding.{reducible, moved_length, rebuilt}
 use Rattle.nr_laws.specs.AnswersConvey.{payloads_of, moved_returned, stream_returned, moved_brought, stream_brought, replied_by}
 use Rattle.nr_link.specs.Limits.{segment_max}
 

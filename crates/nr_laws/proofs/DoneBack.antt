@@ -29,7 +29,7 @@ use Rattle.nr_reduce.proofs.Steps.{end_state_after_append}
 use Rattle.nr_laws.specs.Typed.{TypedMark, IsTyped}
 use Rattle.nr_laws.specs.ClientRegions.{IsMessageOf, IsClosedForCall}
 use Rattle.nr_laws.specs.HandedBack.{Stands, DoneHandsBack}
-use Rattle.nr_laws.proofs.EventOutputs.{GoesOn, goes_first, goes_behind}
+use Rattle.nr_laws.proofs.EventOutputs.{GoesOn, first_preserve, later_preserve}
 use Rattle.nr_laws.proofs.ClientSays.{ClientGood}
 use Rattle.nr_laws.proofs.ClientRun.{client_goes}
 use Rattle.nr_laws.proofs.DoneCalls.{GivesBy, gives_by, verdict_xid}
@@ -185,8 +185,8 @@ closed_by_outcome opened link run c typed asked w =
     let k : ClientState = before.state in
     let g = client_goes opened link run typed asked in
     let all : GoesOn rules (ClientGood opened) 0 (initial_client opened) (w.earlier ++ FrameReceived w.frame ∷ w.later) = subst (λ (es : List RunEvent). GoesOn rules (ClientGood opened) 0 (initial_client opened) es) w.is g.goes in
-    let rest = goes_behind rules (ClientGood opened) 0 (initial_client opened) w.earlier (FrameReceived w.frame ∷ w.later) all in
-    let numbers : OwnXids opened k = keeps_all opened (λ (t : ClientState). OwnXids opened t) (own_event opened) 0 (initial_client opened) w.earlier (goes_first rules (ClientGood opened) 0 (initial_client opened) w.earlier (FrameReceived w.frame ∷ w.later) all) (start_own opened) in
+    let rest = later_preserve rules (ClientGood opened) 0 (initial_client opened) w.earlier (FrameReceived w.frame ∷ w.later) all in
+    let numbers : OwnXids opened k = keeps_all opened (λ (t : ClientState). OwnXids opened t) (own_event opened) 0 (initial_client opened) w.earlier (first_preserve rules (ClientGood opened) 0 (initial_client opened) w.earlier (FrameReceived w.frame ∷ w.later) all) (start_own opened) in
     let by : GivesBy k w.frame.end w.message c.xid (Some c.outcome) = gives_by k w.frame.end w.message c.xid (Some c.outcome) w.given in
     let under = found_below _ (next_xid opened k) k.outstanding by.call by.is_call numbers.below in
     let same = by.call_xid in

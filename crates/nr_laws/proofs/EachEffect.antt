@@ -18,7 +18,7 @@ use Rattle.nr_reduce.specs.Holds.{chunk_error, version_error}
 use Rattle.nr_reduce.specs.RunLaws.{ends_response}
 use Rattle.nr_reduce.specs.ServerState.{ServerState, PendingCall, PendingRead, credit_word, next_stag, is_pending}
 use Rattle.nr_reduce.specs.ServerReads.{open_reads, is_read, reads_of, regions_of, chunks_of}
-use Rattle.nr_reduce.specs.ServerMessages.{Verdict, CallVerdict, verdict, by_need, by_stream, by_body, by_header, by_payload, has_position, no_stream, chunk_bytes, payload_of}
+use Rattle.nr_reduce.specs.ServerMessages.{Verdict, CallVerdict, verdict, by_need, by_stream, by_body, by_header, by_payload, has_position, no_stream, chunk_bytes, pending_payload}
 use Rattle.nr_reduce.specs.ServerMessages.CallVerdict.{Refuses, IsReady}
 use Rattle.nr_reduce.specs.OfferedRegions.{Region}
 use Rattle.nr_reduce.specs.ServerMessages.Verdict.{EndsLink, OtherVersion, BadChunks, MakesPending}
@@ -120,7 +120,7 @@ effect_case k f segment is = subst (λ (r : Result Segment ℕ). EffectCase k f 
 
 -- what a message makes of a server: `Good` is what the messages have that are judged
 pub record MessageRule (k : ServerState) (Good : List ℕ → Type 0) (P : FrameEffect → Type 0) : Type 0 where
-  pub judged : (t : ServerState) (place : ℕ) (c : PendingCall) (s : FrameEffect) → P s → P (with_verdict (by_payload c (payload_of t place c)) s)
+  pub judged : (t : ServerState) (place : ℕ) (c : PendingCall) (s : FrameEffect) → P s → P (with_verdict (by_payload c (pending_payload t place c)) s)
   pub ends : (message : List ℕ) (reason : ℕ) → Good message → verdict k message ≡ EndsLink reason → P (record (no_effect k) { refusal = Some reason })
   pub version : (message : List ℕ) → Good message → P (record (no_effect k) { errors = version_error (word_at 0 message) (word_at 4 message) (credit_word k) ∷ [] })
   pub chunks : (message : List ℕ) → Good message → P (record (no_effect k) { errors = chunk_error (word_at 0 message) (credit_word k) ∷ [] })
@@ -130,14 +130,14 @@ pub record MessageRule (k : ServerState) (Good : List ℕ → Type 0) (P : Frame
 -- what the last segment of a Read Response makes of it
 pub record ResponseRule (k : ServerState) (P : FrameEffect → Type 0) : Type 0 where
   pub unchanged : P (no_effect k)
-  pub judged : (t : ServerState) (place : ℕ) (c : PendingCall) (s : FrameEffect) → P s → P (with_verdict (by_payload c (payload_of t place c)) s)
+  pub judged : (t : ServerState) (place : ℕ) (c : PendingCall) (s : FrameEffect) → P s → P (with_verdict (by_payload c (pending_payload t place c)) s)
   pub read : (r : PendingRead) (reads : List PendingRead) → k.reads ≡ r ∷ reads → P (record (no_effect k) { reads = reads; kept = length (open_reads k) - 1 })
   pub refused : (r : PendingRead) (reads : List PendingRead) (c : PendingCall) → k.reads ≡ r ∷ reads → call_of_number k r.number ≡ Some c → P (with_refused_call k c (record (no_effect k) { reads = reads; kept = length (open_reads k) - 1 }))
 
-pub whole_rule : (P : FrameEffect → Type 0) (t : ServerState) (place : ℕ) (c : PendingCall) (s : FrameEffect) → (P s → P (with_verdict (by_payload c (payload_of t place c)) s)) → P s → P (ready_if_whole t place c s)
+pub whole_rule : (P : FrameEffect → Type 0) (t : ServerState) (place : ℕ) (c : PendingCall) (s : FrameEffect) → (P s → P (with_verdict (by_payload c (pending_payload t place c)) s)) → P s → P (ready_if_whole t place c s)
 whole_rule P t place c s judged h = by (is_read s.reads c.number)
   where
-    by : (b : Bool) → P (cond b (with_verdict (by_payload c (payload_of t place c)) s) s)
+    by : (b : Bool) → P (cond b (with_verdict (by_payload c (pending_payload t place c)) s) s)
     by true = judged h
     by false = h
 
@@ -194,7 +194,7 @@ pub held_messages : (k : ServerState) (Good : List ℕ → Type 0) (Q : List Pen
     → ((place : ℕ) (message : List ℕ) (c : PendingCall) → Good message → verdict k message ≡ MakesPending c → Q (k.calls ++ c ∷ []) (k.reads ++ reads_of (k.regions ++ regions_of k place c) c) (k.regions ++ regions_of k place c))
     → MessageRule k Good (λ s. Q s.calls s.reads s.regions)
 held_messages k Good Q same pending = record {
-  judged = λ t place c s h. judged_held Q (by_payload c (payload_of t place c)) s h;
+  judged = λ t place c s h. judged_held Q (by_payload c (pending_payload t place c)) s h;
   ends = λ message reason good is. same;
   version = λ message good. same;
   chunks = λ message good. same;
@@ -206,7 +206,7 @@ pub held_responses : (k : ServerState) (Q : List PendingCall → List PendingRea
     → ResponseRule k (λ s. Q s.calls s.reads s.regions)
 held_responses k Q same refused read = record {
   unchanged = same;
-  judged = λ t place c s h. judged_held Q (by_payload c (payload_of t place c)) s h;
+  judged = λ t place c s h. judged_held Q (by_payload c (pending_payload t place c)) s h;
   read = read;
   refused = λ r reads c is found. refused c (record (no_effect k) { reads = reads; kept = length (open_reads k) - 1 }) (read r reads is);
 }

@@ -26,8 +26,8 @@ use Rattle.nr_laws.proofs.TotalsAtClient.{totals_first}
 use Rattle.nr_reduce.specs.Opening.{IsOpened}
 use Rattle.nr_laws.proofs.Guards.{Guards}
 use Rattle.nr_laws.proofs.OfferedAccesses.{AccessesAgree}
-use Rattle.nr_laws.proofs.AgreeingRuns.{place_of, RunAgrees, MarkAgrees, goes_on_lem, goes_none, goes_fed_up, goes_fed_down}
-use Rattle.nr_laws.proofs.AgreeingMarks.{goes_submit, goes_wrote_up, goes_wrote_down, goes_execute, goes_revoke}
+use Rattle.nr_laws.proofs.AgreeingRuns.{place_of, RunAgrees, MarkAgrees, preserved, none_preserve, fed_up_preserves, fed_down_preserves}
+use Rattle.nr_laws.proofs.AgreeingMarks.{submit_preserves, wrote_up_preserves, wrote_down_preserves, execute_preserves, revoke_preserves}
 use Rattle.nr_laws.proofs.ReceivedMessages.{was_live_lem}
 
 -- ---- A side that has ended stays so
@@ -130,63 +130,63 @@ no_bytes_lem : (b c : Bool) (bytes : List ℕ) → b ≡ false → cond (b && c)
 no_bytes_lem true c bytes e = absurd cc
 no_bytes_lem false c bytes e = refl
 
-pub goes_mark : (opened : LinkParameters) (link : ℕ) (run : List Mark) (mark : Mark) (j : RunAgrees opened link run) → AskedMark IsAll opened link run mark → ServedMark IsAll opened link run mark → MatchedMark link run mark → TypedMark run mark
+pub mark_preserves : (opened : LinkParameters) (link : ℕ) (run : List Mark) (mark : Mark) (j : RunAgrees opened link run) → AskedMark IsAll opened link run mark → ServedMark IsAll opened link run mark → MatchedMark link run mark → TypedMark run mark
     → (client opened link (run ++ mark ∷ [])).ended ≡ None → (server opened link (run ++ mark ∷ [])).ended ≡ None → MarkAgrees opened link run mark j
-goes_mark opened link run (marks.Submit l call form (submissions.Accepted xid)) j asked served matched typed up down = by (eqb l link) refl
+mark_preserves opened link run (marks.Submit l call form (submissions.Accepted xid)) j asked served matched typed up down = by (eqb l link) refl
   where
     by : (b : Bool) → eqb l link ≡ b → MarkAgrees opened link run (marks.Submit l call form (submissions.Accepted xid)) j
     by true e =
         let same = eqb-true l link e in
-        subst (λ (n : ℕ). MarkAgrees opened link run (marks.Submit n call form (submissions.Accepted xid)) j) (sym same) (goes_submit opened link run call form xid j (asked same))
-    by false e = goes_none opened link run (marks.Submit l call form (submissions.Accepted xid)) j (no_events_lem (eqb l link) true _ e) (no_events_lem (eqb l link) false _ e) refl refl refl refl
-goes_mark opened link run (marks.Submit l call form (submissions.Refused why)) j asked served matched typed up down = goes_none opened link run (marks.Submit l call form (submissions.Refused why)) j refl refl refl refl refl refl
-goes_mark opened link run (marks.Submit l call form submissions.Dropped) j asked served matched typed up down = goes_none opened link run (marks.Submit l call form submissions.Dropped) j refl refl refl refl refl refl
-goes_mark opened link run (marks.Wrote l Initiator bytes) j asked served matched typed up down = by (eqb l link) refl
+        subst (λ (n : ℕ). MarkAgrees opened link run (marks.Submit n call form (submissions.Accepted xid)) j) (sym same) (submit_preserves opened link run call form xid j (asked same))
+    by false e = none_preserve opened link run (marks.Submit l call form (submissions.Accepted xid)) j (no_events_lem (eqb l link) true _ e) (no_events_lem (eqb l link) false _ e) refl refl refl refl
+mark_preserves opened link run (marks.Submit l call form (submissions.Refused why)) j asked served matched typed up down = none_preserve opened link run (marks.Submit l call form (submissions.Refused why)) j refl refl refl refl refl refl
+mark_preserves opened link run (marks.Submit l call form submissions.Dropped) j asked served matched typed up down = none_preserve opened link run (marks.Submit l call form submissions.Dropped) j refl refl refl refl refl refl
+mark_preserves opened link run (marks.Wrote l Initiator bytes) j asked served matched typed up down = by (eqb l link) refl
   where
     by : (b : Bool) → eqb l link ≡ b → MarkAgrees opened link run (marks.Wrote l Initiator bytes) j
     by true e =
         let same = eqb-true l link e in
-        subst (λ (n : ℕ). MarkAgrees opened link run (marks.Wrote n Initiator bytes) j) (sym same) (goes_wrote_up opened link run bytes j (asked same))
-    by false e = goes_none opened link run (marks.Wrote l Initiator bytes) j (no_events_lem (eqb l link) true _ e) (no_events_lem (eqb l link) false _ e) refl refl (no_bytes_lem (eqb l link) true bytes e) (no_bytes_lem (eqb l link) false bytes e)
-goes_mark opened link run (marks.Wrote l Responder bytes) j asked served matched typed up down = by (eqb l link) refl
+        subst (λ (n : ℕ). MarkAgrees opened link run (marks.Wrote n Initiator bytes) j) (sym same) (wrote_up_preserves opened link run bytes j (asked same))
+    by false e = none_preserve opened link run (marks.Wrote l Initiator bytes) j (no_events_lem (eqb l link) true _ e) (no_events_lem (eqb l link) false _ e) refl refl (no_bytes_lem (eqb l link) true bytes e) (no_bytes_lem (eqb l link) false bytes e)
+mark_preserves opened link run (marks.Wrote l Responder bytes) j asked served matched typed up down = by (eqb l link) refl
   where
     by : (b : Bool) → eqb l link ≡ b → MarkAgrees opened link run (marks.Wrote l Responder bytes) j
     by true e =
         let same = eqb-true l link e in
-        subst (λ (n : ℕ). MarkAgrees opened link run (marks.Wrote n Responder bytes) j) (sym same) (goes_wrote_down opened link run bytes j (served same))
-    by false e = goes_none opened link run (marks.Wrote l Responder bytes) j (no_events_lem (eqb l link) false _ e) (no_events_lem (eqb l link) true _ e) refl refl (no_bytes_lem (eqb l link) false bytes e) (no_bytes_lem (eqb l link) true bytes e)
-goes_mark opened link run (marks.Fed l Initiator bytes) j asked served matched typed up down = by (eqb l link) refl
+        subst (λ (n : ℕ). MarkAgrees opened link run (marks.Wrote n Responder bytes) j) (sym same) (wrote_down_preserves opened link run bytes j (served same))
+    by false e = none_preserve opened link run (marks.Wrote l Responder bytes) j (no_events_lem (eqb l link) false _ e) (no_events_lem (eqb l link) true _ e) refl refl (no_bytes_lem (eqb l link) false bytes e) (no_bytes_lem (eqb l link) true bytes e)
+mark_preserves opened link run (marks.Fed l Initiator bytes) j asked served matched typed up down = by (eqb l link) refl
   where
     by : (b : Bool) → eqb l link ≡ b → MarkAgrees opened link run (marks.Fed l Initiator bytes) j
     by true e =
         let same = eqb-true l link e in
         subst (λ (n : ℕ). MarkAgrees opened link run (marks.Fed n Initiator bytes) j) (sym same)
-        (goes_fed_down opened link run bytes j (matched same) typed (ap (λ (n : ℕ). (client opened link (run ++ marks.Fed n Initiator bytes ∷ [])).ended) (sym same) ∙ up))
-    by false e = goes_none opened link run (marks.Fed l Initiator bytes) j (no_events_lem (eqb l link) true _ e) (no_events_lem (eqb l link) false _ e) (no_bytes_lem (eqb l link) true bytes e) (no_bytes_lem (eqb l link) false bytes e) refl refl
-goes_mark opened link run (marks.Fed l Responder bytes) j asked served matched typed up down = by (eqb l link) refl
+        (fed_down_preserves opened link run bytes j (matched same) typed (ap (λ (n : ℕ). (client opened link (run ++ marks.Fed n Initiator bytes ∷ [])).ended) (sym same) ∙ up))
+    by false e = none_preserve opened link run (marks.Fed l Initiator bytes) j (no_events_lem (eqb l link) true _ e) (no_events_lem (eqb l link) false _ e) (no_bytes_lem (eqb l link) true bytes e) (no_bytes_lem (eqb l link) false bytes e) refl refl
+mark_preserves opened link run (marks.Fed l Responder bytes) j asked served matched typed up down = by (eqb l link) refl
   where
     by : (b : Bool) → eqb l link ≡ b → MarkAgrees opened link run (marks.Fed l Responder bytes) j
     by true e =
         let same = eqb-true l link e in
         subst (λ (n : ℕ). MarkAgrees opened link run (marks.Fed n Responder bytes) j) (sym same)
-        (goes_fed_up opened link run bytes j (matched same) typed (ap (λ (n : ℕ). (server opened link (run ++ marks.Fed n Responder bytes ∷ [])).ended) (sym same) ∙ down))
-    by false e = goes_none opened link run (marks.Fed l Responder bytes) j (no_events_lem (eqb l link) false _ e) (no_events_lem (eqb l link) true _ e) (no_bytes_lem (eqb l link) false bytes e) (no_bytes_lem (eqb l link) true bytes e) refl refl
-goes_mark opened link run (marks.Execute l xid moment payload place reply) j asked served matched typed up down = by (eqb l link) refl
+        (fed_up_preserves opened link run bytes j (matched same) typed (ap (λ (n : ℕ). (server opened link (run ++ marks.Fed n Responder bytes ∷ [])).ended) (sym same) ∙ down))
+    by false e = none_preserve opened link run (marks.Fed l Responder bytes) j (no_events_lem (eqb l link) false _ e) (no_events_lem (eqb l link) true _ e) (no_bytes_lem (eqb l link) false bytes e) (no_bytes_lem (eqb l link) true bytes e) refl refl
+mark_preserves opened link run (marks.Execute l xid moment payload place reply) j asked served matched typed up down = by (eqb l link) refl
   where
     by : (b : Bool) → eqb l link ≡ b → MarkAgrees opened link run (marks.Execute l xid moment payload place reply) j
     by true e =
         let same = eqb-true l link e in
-        subst (λ (n : ℕ). MarkAgrees opened link run (marks.Execute n xid moment payload place reply) j) (sym same) (goes_execute opened link run xid moment payload place reply j (served same))
-    by false e = goes_none opened link run (marks.Execute l xid moment payload place reply) j (no_events_lem (eqb l link) false _ e) (no_events_lem (eqb l link) true _ e) refl refl refl refl
-goes_mark opened link run (marks.Done l xid outcome) j asked served matched typed up down = goes_none opened link run (marks.Done l xid outcome) j refl refl refl refl refl refl
-goes_mark opened link run (marks.Lost l xid) j asked served matched typed up down = goes_none opened link run (marks.Lost l xid) j refl refl refl refl refl refl
-goes_mark opened link run (marks.Forget l xid) j asked served matched typed up down = goes_none opened link run (marks.Forget l xid) j refl refl refl refl refl refl
-goes_mark opened link run (marks.Revoke l xid bytes) j asked served matched typed up down = by (eqb l link) refl
+        subst (λ (n : ℕ). MarkAgrees opened link run (marks.Execute n xid moment payload place reply) j) (sym same) (execute_preserves opened link run xid moment payload place reply j (served same))
+    by false e = none_preserve opened link run (marks.Execute l xid moment payload place reply) j (no_events_lem (eqb l link) false _ e) (no_events_lem (eqb l link) true _ e) refl refl refl refl
+mark_preserves opened link run (marks.Done l xid outcome) j asked served matched typed up down = none_preserve opened link run (marks.Done l xid outcome) j refl refl refl refl refl refl
+mark_preserves opened link run (marks.Lost l xid) j asked served matched typed up down = none_preserve opened link run (marks.Lost l xid) j refl refl refl refl refl refl
+mark_preserves opened link run (marks.Forget l xid) j asked served matched typed up down = none_preserve opened link run (marks.Forget l xid) j refl refl refl refl refl refl
+mark_preserves opened link run (marks.Revoke l xid bytes) j asked served matched typed up down = by (eqb l link) refl
   where
     by : (b : Bool) → eqb l link ≡ b → MarkAgrees opened link run (marks.Revoke l xid bytes) j
-    by true e = subst (λ (n : ℕ). MarkAgrees opened link run (marks.Revoke n xid bytes) j) (sym (eqb-true l link e)) (goes_revoke opened link run xid bytes j)
-    by false e = goes_none opened link run (marks.Revoke l xid bytes) j (no_events_lem (eqb l link) true _ e) (no_events_lem (eqb l link) false _ e) refl refl refl refl
-goes_mark opened link run (marks.Drop l) j asked served matched typed up down = goes_none opened link run (marks.Drop l) j refl refl refl refl refl refl
+    by true e = subst (λ (n : ℕ). MarkAgrees opened link run (marks.Revoke n xid bytes) j) (sym (eqb-true l link e)) (revoke_preserves opened link run xid bytes j)
+    by false e = none_preserve opened link run (marks.Revoke l xid bytes) j (no_events_lem (eqb l link) true _ e) (no_events_lem (eqb l link) false _ e) refl refl refl refl
+mark_preserves opened link run (marks.Drop l) j asked served matched typed up down = none_preserve opened link run (marks.Drop l) j refl refl refl refl refl refl
 
 -- ---- Each run
 
@@ -197,9 +197,9 @@ joins_from opened link (m ∷ run) before j asked served matched typed up down =
     let assoc : (before ++ m ∷ []) ++ run ≡ before ++ m ∷ run = append_assoc before (m ∷ []) run in
     let up_all : (client opened link ((before ++ m ∷ []) ++ run)).ended ≡ None = ap (λ (r : List Mark). (client opened link r).ended) assoc ∙ up in
     let down_all : (server opened link ((before ++ m ∷ []) ++ run)).ended ≡ None = ap (λ (r : List Mark). (server opened link r).ended) assoc ∙ down in
-    let g = goes_mark opened link before m j asked.0 served.0 matched.0 typed.0 (client_unended opened link (before ++ m ∷ []) run up_all) (server_unended opened link (before ++ m ∷ []) run down_all) in
+    let g = mark_preserves opened link before m j asked.0 served.0 matched.0 typed.0 (client_unended opened link (before ++ m ∷ []) run up_all) (server_unended opened link (before ++ m ∷ []) run down_all) in
     subst (RunAgrees opened link) assoc
-    (joins_from opened link run (before ++ m ∷ []) (goes_on_lem opened link before m j g) asked.1 served.1 matched.1 typed.1 up_all down_all)
+    (joins_from opened link run (before ++ m ∷ []) (preserved opened link before m j g) asked.1 served.1 matched.1 typed.1 up_all down_all)
 
 pub joins : (opened : LinkParameters) (link : ℕ) (run : List Mark) → AtEachMark (AskedMark IsAll opened link) [] run → AtEachMark (ServedMark IsAll opened link) [] run → AtEachMark (MatchedMark link) [] run
     → AtEachMark TypedMark [] run → (client opened link run).ended ≡ None → (server opened link run).ended ≡ None → RunAgrees opened link run

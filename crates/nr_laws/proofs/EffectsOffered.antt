@@ -11,7 +11,7 @@ use Rattle.nr_reduce.specs.Chunks.{total_at}
 use Rattle.nr_reduce.specs.OfferedRegions.{Region}
 use Rattle.nr_reduce.specs.ServerState.{ServerState, PendingCall, PendingRead}
 use Rattle.nr_reduce.specs.ServerReads.{open_reads, read_of, reads_from, reads_of, regions_of}
-use Rattle.nr_reduce.specs.ServerMessages.{CallVerdict, by_payload, payload_of, verdict}
+use Rattle.nr_reduce.specs.ServerMessages.{CallVerdict, by_payload, pending_payload, verdict}
 use Rattle.nr_reduce.specs.ServerMessages.CallVerdict.{Refuses, IsReady}
 use Rattle.nr_reduce.specs.ServerMessages.Verdict.{MakesPending}
 use Rattle.nr_reduce.specs.ServerFrames.{FrameEffect, no_effect, with_verdict, with_refused_call, frame_effect}
@@ -111,7 +111,7 @@ pub effect_send : (regions : List Region) (k : ServerState) (f : Frame) (message
     → frame_segment f ≡ Ok (last_segment k.received.sends message) → EffectOffered regions (frame_effect k f)
 effect_send regions k f message completes own calls waiting is =
     send_effect k (SendOffered regions) (EffectOffered regions) (record {
-      judged = λ t place c s g. judged_more regions (by_payload c (payload_of t place c)) s g;
+      judged = λ t place c s g. judged_more regions (by_payload c (pending_payload t place c)) s g;
       ends = λ message reason own is. record { calls = h.calls; waiting = h.waiting; few = h.few };
       version = λ message own. record { calls = h.calls; waiting = h.waiting; few = h.few };
       chunks = λ message own. record { calls = h.calls; waiting = h.waiting; few = h.few };
@@ -146,7 +146,7 @@ pub effect_tagged : (regions : List Region) (k : ServerState) (f : Frame) (last 
     → frame_segment f ≡ Ok (Tagged last opcode stag to payload) → EffectOffered regions (frame_effect k f)
 effect_tagged regions k f last opcode stag to payload calls waiting is =
     tagged_effect_lem k (EffectOffered regions)
-    (record { unchanged = none_more regions k calls waiting; judged = λ t place c s g. judged_more regions (by_payload c (payload_of t place c)) s g; read = read; refused = λ r reads c is found. refused_more regions k c _ (read r reads is) }) f last opcode stag to payload is
+    (record { unchanged = none_more regions k calls waiting; judged = λ t place c s g. judged_more regions (by_payload c (pending_payload t place c)) s g; read = read; refused = λ r reads c is found. refused_more regions k c _ (read r reads is) }) f last opcode stag to payload is
   where
     read : (r : PendingRead) (reads : List PendingRead) → k.reads ≡ r ∷ reads → EffectOffered regions (record (no_effect k) { reads = reads; kept = length (open_reads k) - 1 })
     read r reads is =

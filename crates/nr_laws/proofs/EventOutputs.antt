@@ -71,20 +71,20 @@ module _ {S : Type 0} (rules : EndMachine S) (Good : EndState S → RunEvent →
   GoesOn place r [] = Unit {0}
   GoesOn place r (e ∷ es) = IsNext place e × Good r e × GoesOn (place_after place e) (next_end_state rules r e) es
 
-pub goes_append : {S : Type 0} (rules : EndMachine S) (Good : EndState S → RunEvent → Type 0) (place : ℕ) (r : EndState S) (es more : List RunEvent) →
+pub appended_preserve : {S : Type 0} (rules : EndMachine S) (Good : EndState S → RunEvent → Type 0) (place : ℕ) (r : EndState S) (es more : List RunEvent) →
     GoesOn rules Good place r es → GoesOn rules Good (places_after place es) (end_state_after rules r es) more → GoesOn rules Good place r (es ++ more)
-goes_append rules Good place r [] more h g = g
-goes_append rules Good place r (e ∷ es) more h g = (h.0, h.1, goes_append rules Good (place_after place e) (next_end_state rules r e) es more h.2 g)
+appended_preserve rules Good place r [] more h g = g
+appended_preserve rules Good place r (e ∷ es) more h g = (h.0, h.1, appended_preserve rules Good (place_after place e) (next_end_state rules r e) es more h.2 g)
 
-pub goes_first : {S : Type 0} (rules : EndMachine S) (Good : EndState S → RunEvent → Type 0) (place : ℕ) (r : EndState S) (es more : List RunEvent) →
+pub first_preserve : {S : Type 0} (rules : EndMachine S) (Good : EndState S → RunEvent → Type 0) (place : ℕ) (r : EndState S) (es more : List RunEvent) →
     GoesOn rules Good place r (es ++ more) → GoesOn rules Good place r es
-goes_first rules Good place r [] more h = tt
-goes_first rules Good place r (e ∷ es) more h = (h.0, h.1, goes_first rules Good (place_after place e) (next_end_state rules r e) es more h.2)
+first_preserve rules Good place r [] more h = tt
+first_preserve rules Good place r (e ∷ es) more h = (h.0, h.1, first_preserve rules Good (place_after place e) (next_end_state rules r e) es more h.2)
 
-pub goes_behind : {S : Type 0} (rules : EndMachine S) (Good : EndState S → RunEvent → Type 0) (place : ℕ) (r : EndState S) (es more : List RunEvent) →
+pub later_preserve : {S : Type 0} (rules : EndMachine S) (Good : EndState S → RunEvent → Type 0) (place : ℕ) (r : EndState S) (es more : List RunEvent) →
     GoesOn rules Good place r (es ++ more) → GoesOn rules Good (places_after place es) (end_state_after rules r es) more
-goes_behind rules Good place r [] more h = h
-goes_behind rules Good place r (e ∷ es) more h = goes_behind rules Good (place_after place e) (next_end_state rules r e) es more h.2
+later_preserve rules Good place r [] more h = h
+later_preserve rules Good place r (e ∷ es) more h = later_preserve rules Good (place_after place e) (next_end_state rules r e) es more h.2
 
 pub places_append : (place : ℕ) (es more : List RunEvent) → places_after place (es ++ more) ≡ places_after (places_after place es) more
 places_append place [] more = refl
@@ -259,12 +259,12 @@ mark_goes rules Good good r link side before (marks.Lost l xid) old new h = quie
 mark_goes rules Good good r link side before (marks.Forget l xid) old new h = quiet_goes rules Good r link side before (marks.Forget l xid) refl (tt, refl)
 mark_goes rules Good good r link side before (marks.Drop l) old new h = quiet_goes rules Good r link side before (marks.Drop l) refl (tt, refl)
 
-pub goes_from : {S : Type 0} (rules : EndMachine S) (Good : EndState S → RunEvent → Type 0) → ((r : EndState S) (f : Frame) → IsBytes f.bytes → Good r (FrameReceived f))
+pub each_preserves : {S : Type 0} (rules : EndMachine S) (Good : EndState S → RunEvent → Type 0) → ((r : EndState S) (f : Frame) → IsBytes f.bytes → Good r (FrameReceived f))
     → (start : EndState S) (link : ℕ) (side : Side) (P : List Mark → Mark → Type 0)
     → ((before : List Mark) (mark : Mark) → P before mark → FirstGood Good (end_state_after rules start (events link side before)) (events_at link side before mark))
     → (before run : List Mark) → AtEachMark TypedMark before run → AtEachMark P before run → Goes rules Good start link side before → Goes rules Good start link side (before ++ run)
-goes_from rules Good good start link side P firsts before [] typed each g = subst (λ (b : List Mark). Goes rules Good start link side b) (sym (append-nil before)) g
-goes_from rules Good good start link side P firsts before (mark ∷ run) typed each g =
+each_preserves rules Good good start link side P firsts before [] typed each g = subst (λ (b : List Mark). Goes rules Good start link side b) (sym (append-nil before)) g
+each_preserves rules Good good start link side P firsts before (mark ∷ run) typed each g =
     let r = end_state_after rules start (events link side before) in
     let es = events link side before in
     let more = events_at link side before mark in
@@ -274,10 +274,10 @@ goes_from rules Good good start link side P firsts before (mark ∷ run) typed e
       bytes = new;
       place = ap (λ (x : List RunEvent). places_after 0 x) (events_one link side before mark) ∙ places_append 0 es more ∙ ap (λ (p : ℕ). places_after p more) g.place ∙ one.1;
       goes = subst (λ (x : List RunEvent). GoesOn rules Good 0 start x) (sym (events_one link side before mark))
-          (goes_append rules Good 0 start es more g.goes (subst (λ (p : ℕ). GoesOn rules Good p r more) (sym g.place) one.0));
+          (appended_preserve rules Good 0 start es more g.goes (subst (λ (p : ℕ). GoesOn rules Good p r more) (sym g.place) one.0));
     } in
-    subst (λ (b : List Mark). Goes rules Good start link side b) (append_assoc before (mark ∷ []) run) (goes_from rules Good good start link side P firsts (before ++ mark ∷ []) run typed.1 each.1 next)
+    subst (λ (b : List Mark). Goes rules Good start link side b) (append_assoc before (mark ∷ []) run) (each_preserves rules Good good start link side P firsts (before ++ mark ∷ []) run typed.1 each.1 next)
 
-pub goes_nothing : {S : Type 0} (rules : EndMachine S) (Good : EndState S → RunEvent → Type 0) (start : EndState S) (link : ℕ) (side : Side) → Goes rules Good start link side []
+pub nothing_preserves : {S : Type 0} (rules : EndMachine S) (Good : EndState S → RunEvent → Type 0) (start : EndState S) (link : ℕ) (side : Side) → Goes rules Good start link side []
 unfolding events bytes_received split
-goes_nothing rules Good start link side = record { bytes = λ i. omega arith; place = refl; goes = tt }
+nothing_preserves rules Good start link side = record { bytes = λ i. omega arith; place = refl; goes = tt }

@@ -21,7 +21,7 @@ use Rattle.nr_reduce.proofs.Touches.{server_touched}
 use Rattle.nr_reduce.proofs.Steps.{end_state_after_append}
 use Rattle.nr_laws.specs.Typed.{IsTyped}
 use Rattle.nr_laws.specs.Payloads.{form_conveyed}
-use Rattle.nr_laws.proofs.EventOutputs.{GoesOn, goes_behind}
+use Rattle.nr_laws.proofs.EventOutputs.{GoesOn, later_preserve}
 use Rattle.nr_laws.proofs.CallsAtFrames.{conveyed_by_message, conveyed_by_read}
 use Rattle.nr_laws.proofs.ClientRun.{WasSubmitted}
 use Rattle.nr_laws.proofs.ExecutedCalls.{live_server, live_part}
@@ -62,7 +62,7 @@ read_call_lem opened link before xid payload typed asked served matched h =
     let live = live_first (server_rules opened) (initial_server opened) ra.earlier (FrameReceived ra.frame ∷ []) after in
     let r = end_state_after (server_rules opened) (initial_server opened) ra.earlier in
     let stays = stays_by opened r.state (FrameReceived ra.frame) r.ended live (ap (λ (x : EndState ServerState). x.ended) (sym (end_state_after_append (server_rules opened) (initial_server opened) ra.earlier (FrameReceived ra.frame ∷ []))) ∙ after) in
-    let good = goes_behind (server_rules opened) ServerGood 0 (initial_server opened) ra.earlier (FrameReceived ra.frame ∷ ra.later) (subst (λ (ev : List RunEvent). GoesOn (server_rules opened) ServerGood 0 (initial_server opened) ev) ra.is (server_good opened link before typed asked served matched)) in
+    let good = later_preserve (server_rules opened) ServerGood 0 (initial_server opened) ra.earlier (FrameReceived ra.frame ∷ ra.later) (subst (λ (ev : List RunEvent). GoesOn (server_rules opened) ServerGood 0 (initial_server opened) ev) ra.is (server_good opened link before typed asked served matched)) in
     let s = is_segment_lem ra.frame ra.behind good.1 in
     by ra s.0 s.1 live stays (ready_by (server_by opened ra.earlier) ra.frame s.0 h.call s.1 ra.ready)
   where

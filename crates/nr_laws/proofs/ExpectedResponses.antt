@@ -13,10 +13,10 @@ use Rattle.nr_laws.proofs.LinkInvariants.{AreResponses, ContinuesRead}
 
 -- ---- Answers after answers
 
-goes_more : (last : Bool) (came n : ℕ) (r : PendingRead) (rs others : List PendingRead) (Later NewFrames : ℕ → List PendingRead → Type 0) → ((c : ℕ) (qs : List PendingRead) → Later c qs → NewFrames c (qs ++ others))
+continues_more : (last : Bool) (came n : ℕ) (r : PendingRead) (rs others : List PendingRead) (Later NewFrames : ℕ → List PendingRead → Type 0) → ((c : ℕ) (qs : List PendingRead) → Later c qs → NewFrames c (qs ++ others))
     → ContinuesRead last came n r rs Later → ContinuesRead last came n r (rs ++ others) NewFrames
-goes_more true came n r rs others Later NewFrames f h = (h.0, f 0 rs h.1)
-goes_more false came n r rs others Later NewFrames f h = (h.0, f (came + n) (r ∷ rs) h.1)
+continues_more true came n r rs others Later NewFrames f h = (h.0, f 0 rs h.1)
+continues_more false came n r rs others Later NewFrames f h = (h.0, f (came + n) (r ∷ rs) h.1)
 
 pub answers_append : (came : ℕ) (rs : List PendingRead) (ps : List FrameContent) (others : List PendingRead) (more : List FrameContent) → AreResponses came rs ps → AreResponses 0 others more → AreResponses came (rs ++ others) (ps ++ more)
 answers_append came rs [] others more h k =
@@ -27,7 +27,7 @@ answers_append came rs (SendFrame message ∷ ps) others more h k = answers_appe
 answers_append came rs (RequestFrame sink at size stag to ∷ ps) others more h k = answers_append came rs ps others more h k
 answers_append came [] (TaggedFrame last opcode stag to payload ∷ ps) others more h k = absurd h
 answers_append came (r ∷ rs) (TaggedFrame last opcode stag to payload ∷ ps) others more h k =
-    (h.0, h.1, h.2, goes_more last came (length payload) r rs others (λ c qs. AreResponses c qs ps) (λ c qs. AreResponses c qs (ps ++ more)) (λ c qs later. answers_append c qs ps others more later k) h.3)
+    (h.0, h.1, h.2, continues_more last came (length payload) r rs others (λ c qs. AreResponses c qs ps) (λ c qs. AreResponses c qs (ps ++ more)) (λ c qs later. answers_append c qs ps others more later k) h.3)
 
 -- messages are no responses
 pub send_answers : (message : List ℕ) → AreResponses 0 [] (send_frames message)

@@ -36,9 +36,9 @@ use Rattle.nr_laws.proofs.Writable.{IsOutput}
 use Rattle.nr_laws.proofs.Guards.{Guards}
 use Rattle.nr_laws.proofs.ServerFrames.{events_of, server_ends}
 use Rattle.nr_laws.proofs.ClientFrames.{client_ends}
-use Rattle.nr_laws.proofs.AgreeingRuns.{RunAgrees, MarkAgrees, place_of, goes_on_lem, arrives, other_events}
+use Rattle.nr_laws.proofs.AgreeingRuns.{RunAgrees, MarkAgrees, place_of, preserved, arrives, other_events}
 use Rattle.nr_laws.proofs.AgreeingMarks.{client_event, server_event}
-use Rattle.nr_laws.proofs.EachRun.{starts, goes_mark, no_events_lem, client_unended, server_unended}
+use Rattle.nr_laws.proofs.EachRun.{starts, mark_preserves, no_events_lem, client_unended, server_unended}
 
 -- ---- With guards, from mark to mark
 
@@ -48,8 +48,8 @@ pub record Guarded (opened : LinkParameters) (link : ℕ) (run : List Mark) : Ty
 
 guarded_more : (opened : LinkParameters) (link : ℕ) (run : List Mark) (mark : Mark) (j : RunAgrees opened link run) → MarkAgrees opened link run mark j → IsOpened opened → WithinGrant opened link run mark
     → Guards opened j.k j.s j.u j.d j.all_up j.all_down j.w (place_of j.u) → Guarded opened link (run ++ mark ∷ [])
-unfolding goes_on_lem
-guarded_more opened link run mark j g o within guards = record { joined = goes_on_lem opened link run mark j g; guards = g.guarded o within guards }
+unfolding preserved
+guarded_more opened link run mark j g o within guards = record { joined = preserved opened link run mark j g; guards = g.guarded o within guards }
 
 -- ---- The server
 
@@ -134,7 +134,7 @@ server_from opened link o end (m ∷ run) before g asked served matched grant ty
 
     by : (x : Option End) → (server opened link (before ++ m ∷ [])).ended ≡ x → (Guarded opened link (before ++ m ∷ []) → EndsForCall end) → EndsForCall end
     by None is later =
-        later (guarded_more opened link before m g.joined (goes_mark opened link before m g.joined asked.0 served.0 matched.0 typed.0 (client_unended opened link (before ++ m ∷ []) run up_all) is) o grant.0 g.guards)
+        later (guarded_more opened link before m g.joined (mark_preserves opened link before m g.joined asked.0 served.0 matched.0 typed.0 (client_unended opened link (before ++ m ∷ []) run up_all) is) o grant.0 g.guards)
     by (Some x) is later =
         let same : Some x ≡ Some end = sym (server_last opened link (before ++ m ∷ []) run x is) ∙ down_all in
         server_mark opened link before m g o matched.0 typed.0 end (ap (λ (r : EndState ServerState). r.ended) (sym one) ∙ is ∙ same)
@@ -234,7 +234,7 @@ client_first opened link State joined Kept end Lasting more fed (m ∷ run) befo
 
     by : (x : Option End) → (client opened link (before ++ m ∷ [])).ended ≡ x → (State (before ++ m ∷ []) → Lasting) → Lasting
     by None is next =
-        next (more before m a (goes_mark opened link before m j asked.0 served.0 matched.0 typed.0 is (server_unended opened link (before ++ m ∷ []) run down_all)) typed.0 kept.0)
+        next (more before m a (mark_preserves opened link before m j asked.0 served.0 matched.0 typed.0 is (server_unended opened link (before ++ m ∷ []) run down_all)) typed.0 kept.0)
     by (Some x) is next =
         let same : Some x ≡ Some end = sym (client_last opened link (before ++ m ∷ []) run x is) ∙ up_all in
         fed_ends opened link before m j.k end Lasting matched.0 typed.0 (λ bytes prefix typed e. fed before bytes a prefix typed e) (ap (λ (r : EndState ClientState). r.ended) (sym one) ∙ is ∙ same)

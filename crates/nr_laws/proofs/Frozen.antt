@@ -313,12 +313,12 @@ frozen_mark opened link before xid stag given r there own live =
     ∙ ap (λ (o : Option Stop). next_end_state_in (client_rules opened) c.state (MemoryRevoked p xid) o) live in
     subst (λ (x : EndState ClientState). Frozen stag p r.bytes c.state.accesses_received x.state) (sym one) (frozen_state opened link before xid stag r there own)
 
-record Kept (opened : LinkParameters) (link : ℕ) (before run : List Mark) (stag : ℕ) (bytes : List ℕ) : Type 0 where
+record KeepsRevoked (opened : LinkParameters) (link : ℕ) (before run : List Mark) (stag : ℕ) (bytes : List ℕ) : Type 0 where
   has : HasRegion (client opened link run).state.regions stag bytes
   same : after_parts stag bytes (parts_of (client opened link run).state.accesses_received) ≡ after_parts stag bytes (parts_of (client opened link before).state.accesses_received)
 
 kept : (opened : LinkParameters) (link : ℕ) (before after : List Mark) (xid stag : ℕ) (given : List ℕ) (r : Region) → find (λ x. eqb x.stag stag) (client opened link before).state.regions ≡ Some r → r.call ≡ xid
-    → (o : Option Stop) → (client opened link before).ended ≡ o → Kept opened link before (before ++ marks.Revoke link xid given ∷ after) stag r.bytes
+    → (o : Option Stop) → (client opened link before).ended ≡ o → KeepsRevoked opened link before (before ++ marks.Revoke link xid given ∷ after) stag r.bytes
 kept opened link before after xid stag given r there own (Some end) is =
     let all = ended_run opened link before (marks.Revoke link xid given ∷ after) end is in
     let numbers = client_known opened link before in
@@ -355,8 +355,8 @@ revoke_stands opened link run before xid bytes typed asked at =
           let numbers = client_known opened link before in
           let found = found_at_lem opened.first_stag there.0 k.regions r numbers.regions there.1 there.2 in
           let low = low_found opened.first_stag r.stag k.regions r numbers.regions found in
-          let s : Kept opened link before run r.stag r.bytes =
-          subst (λ (b : List Mark). Kept opened link before b r.stag r.bytes) (sym at.is) (kept opened link before at.after xid r.stag bytes r found own (client opened link before).ended refl) in
+          let s : KeepsRevoked opened link before run r.stag r.bytes =
+          subst (λ (b : List Mark). KeepsRevoked opened link before b r.stag r.bytes) (sym at.is) (kept opened link before at.after xid r.stag bytes r found own (client opened link before).ended refl) in
           run_holds opened link r.stag r.bytes run typed asked s.has ∙ s.same
           ∙ sym (run_holds opened link r.stag r.bytes before typed_before asked_before (record { region = r; there = found; own = refl; holds = refl }));
     }

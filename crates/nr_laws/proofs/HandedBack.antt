@@ -29,7 +29,7 @@ use Rattle.nr_reduce.proofs.StagsLeft.{request_stag, message_stag}
 use Rattle.nr_reduce.proofs.Steps.{AtEachMark_first, end_state_after_append}
 use Rattle.nr_laws.specs.Typed.{TypedMark, IsTyped}
 use Rattle.nr_laws.specs.HandedBack.{Stands, ClosedRegionsStand, EndedRegionsStand, ClosedRegionsHoldWhatStood, LostHandsBack}
-use Rattle.nr_laws.proofs.EventOutputs.{GoesOn, goes_first, goes_behind, places_after}
+use Rattle.nr_laws.proofs.EventOutputs.{GoesOn, first_preserve, later_preserve, places_after}
 use Rattle.nr_laws.proofs.ClientSays.{ClientGood}
 use Rattle.nr_laws.proofs.ClientRun.{client_goes}
 use Rattle.nr_laws.proofs.ClientMemory.{HasRegion, has_closed, keeps_along}
@@ -199,9 +199,9 @@ closed_regions_hold_what_stood opened link run earlier later frame segment messa
     let found = found_at_lem opened.first_stag there.0 k.regions r numbers.regions there.1 there.2 in
     let g = client_goes opened link run typed asked in
     let all : GoesOn rules (ClientGood opened) 0 (initial_client opened) (earlier ++ FrameReceived frame ∷ later) = subst (λ (es : List RunEvent). GoesOn rules (ClientGood opened) 0 (initial_client opened) es) is g.goes in
-    let rest = goes_behind rules (ClientGood opened) 0 (initial_client opened) earlier (FrameReceived frame ∷ later) all in
+    let rest = later_preserve rules (ClientGood opened) 0 (initial_client opened) earlier (FrameReceived frame ∷ later) all in
     let next = rest.0.1 in
-    let kept = keeps_along opened earlier (goes_first rules (ClientGood opened) 0 (initial_client opened) earlier (FrameReceived frame ∷ later) all) in
+    let kept = keeps_along opened earlier (first_preserve rules (ClientGood opened) 0 (initial_client opened) earlier (FrameReceived frame ∷ later) all) in
     let settled : Settled frame.end k.regions k.accesses_received = settled_later (places_after 0 earlier) frame.end k.regions k.accesses_received (omega (arith, next)) kept.keeps.settled in
     let is_after : after ≡ record { state = with_segment k frame (Ok segment); ended = None } = goes_to opened before (FrameReceived frame) stays ∙ ap (λ (x : ClientState). record { state = x; ended = None }) (segment_after opened k frame segment behind is_segment) in
     let one : Frozen r.stag frame.end r.bytes k.accesses_received after.state = subst (λ (x : EndState ClientState). Frozen r.stag frame.end r.bytes k.accesses_received x.state) (sym is_after) (message_freezes opened k frame segment message r numbers whole own found live) in

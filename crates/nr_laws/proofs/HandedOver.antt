@@ -9,7 +9,7 @@ use Rattle.nr_reduce.specs.Events.RunEvent.{FrameReceived}
 use Rattle.nr_reduce.specs.Client.{client_rules, initial_client}
 use Rattle.nr_reduce.specs.Asked.{AskedSoFar}
 use Rattle.nr_laws.specs.Typed.{IsTyped}
-use Rattle.nr_laws.proofs.EventOutputs.{GoesOn, goes_behind, places_after}
+use Rattle.nr_laws.proofs.EventOutputs.{GoesOn, later_preserve, places_after}
 use Rattle.nr_laws.proofs.ClientSays.{ClientGood}
 use Rattle.nr_laws.proofs.ClientRun.{client_goes}
 use Rattle.nr_laws.proofs.Outcomes.{OutcomeSaid}
@@ -19,7 +19,7 @@ pub outcome_frame : (opened : LinkParameters) (link : ℕ) (run : List Mark) (c 
 outcome_frame opened link run c typed asked d =
     let w = d.given in
     let g = client_goes opened link run typed asked in
-    let rest = goes_behind (client_rules opened) (ClientGood opened) 0 (initial_client opened) w.earlier (FrameReceived w.frame ∷ w.later)
+    let rest = later_preserve (client_rules opened) (ClientGood opened) 0 (initial_client opened) w.earlier (FrameReceived w.frame ∷ w.later)
     (subst (λ (xs : List RunEvent). GoesOn (client_rules opened) (ClientGood opened) 0 (initial_client opened) xs) w.is g.goes) in
     let next = rest.0 in
     (next.1, next.2)

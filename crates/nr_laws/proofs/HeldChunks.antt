@@ -27,7 +27,7 @@ use Rattle.nr_reduce.specs.RunLaws.{server_by, ends_response}
 use Rattle.nr_reduce.specs.ChunkBytes.{bytes_after_segments}
 use Rattle.nr_reduce.proofs.WrittenChunks.{added_up}
 use Rattle.nr_laws.specs.Typed.{IsTyped}
-use Rattle.nr_laws.proofs.EventOutputs.{GoesOn, goes_first, goes_behind, places_after}
+use Rattle.nr_laws.proofs.EventOutputs.{GoesOn, first_preserve, later_preserve, places_after}
 use Rattle.nr_laws.proofs.CameResponses.{came_responses}
 use Rattle.nr_laws.proofs.ClientResponses.{responses_of}
 use Rattle.nr_laws.proofs.ExecutedCalls.{server_receives_of}
@@ -36,7 +36,7 @@ use Rattle.nr_laws.proofs.FewRegions.{few_regions}
 use Rattle.nr_laws.proofs.FilledSinks.{SinkOf, IsFilled, filled}
 use Rattle.nr_laws.proofs.Memory.{held_parts, after_parts}
 use Rattle.nr_laws.proofs.PendingSinks.{CallReads, EachReads}
-use Rattle.nr_laws.proofs.ServerAlong.{ServerGood, goes_hello}
+use Rattle.nr_laws.proofs.ServerAlong.{ServerGood, hello_preserves}
 use Rattle.nr_laws.proofs.ServerMemory.{settled_along, accesses_settled}
 use Rattle.nr_laws.proofs.ServerSide.{server_goes}
 use Rattle.nr_laws.proofs.SinkReads.{own_reads, into, into_append, OfNumber, own_number, number_right, nothing_left_lem, SinksBelow, below_more}
@@ -87,7 +87,7 @@ pub server_good : (opened : LinkParameters) (link : ℕ) (run : List Mark) → I
 server_good opened link run typed asked served matched =
     let g = server_goes opened link run typed served in
     let r = server_receives_of opened link run typed asked matched in
-    goes_hello opened 0 (initial_server opened) (events link Responder run) r.came g.goes r.brings r.from
+    hello_preserves opened 0 (initial_server opened) (events link Responder run) r.came g.goes r.brings r.from
 
 -- ---- What the sink holds
 
@@ -137,8 +137,8 @@ sink_holds opened link run typed asked served matched es f more segment q rest c
     let laid : bytes_after_segments x.sink old (responses_of came.others) ≡ p.region =
     filled z (client opened link run).state.regions p.holds done came.others 0 p.lengths old came.requests came.holds own below (omega (arith, size)) start in
     let good = subst (λ (ev : List RunEvent). GoesOn (server_rules opened) ServerGood 0 (initial_server opened) ev) all (server_good opened link run typed asked served matched) in
-    let settled = settled_along opened es (goes_first (server_rules opened) ServerGood 0 (initial_server opened) es (FrameReceived f ∷ more) good) in
-    let next = goes_behind (server_rules opened) ServerGood 0 (initial_server opened) es (FrameReceived f ∷ more) good in
+    let settled = settled_along opened es (first_preserve (server_rules opened) ServerGood 0 (initial_server opened) es (FrameReceived f ∷ more) good) in
+    let next = later_preserve (server_rules opened) ServerGood 0 (initial_server opened) es (FrameReceived f ∷ more) good in
     let fine = accesses_settled (places_after 0 es) k f segment (let n = next.0.1 in omega (arith, n)) allowed settled in
     let r = x.region some in
     ap (λ (s : ℕ). region_bytes (region_grants f.end k.regions) k.regions (k.accesses_received ++ tagged_access f segment) s) (ap (λ (n : ℕ). sink_of k.regions c.number n) (sym position) ∙ x.found some)

@@ -44,7 +44,7 @@ use Rattle.nr_laws.specs.MatchedSoFar.{MatchedSoFar}
 use Rattle.nr_laws.specs.Typed.{TypedMark, IsTyped}
 use Rattle.nr_laws.specs.Payloads.{HasPlan}
 use Rattle.nr_laws.specs.PlainLinks.{server_with, HasPlainReplies, PlainReplyMark}
-use Rattle.nr_laws.proofs.EventOutputs.{GoesOn, goes_behind, places_after}
+use Rattle.nr_laws.proofs.EventOutputs.{GoesOn, later_preserve, places_after}
 use Rattle.nr_laws.proofs.Outputs.Output.{ASegment}
 use Rattle.nr_laws.proofs.ServerAlong.{outs_of, SaidAnswer}
 use Rattle.nr_laws.proofs.ExecuteMarks.{execute_mark, ExecuteMark}
@@ -208,7 +208,7 @@ answer_judges opened link run reason opens typed far d j s = record {
 
     -- what the client's memory holds
     next : places_after 0 d.earlier < place
-    next = (let g = client_goes opened link run typed far.asked in let rest = goes_behind (client_rules opened) (ClientGood opened) 0 (initial_client opened) d.earlier (FrameReceived d.frame ∷ d.later)
+    next = (let g = client_goes opened link run typed far.asked in let rest = later_preserve (client_rules opened) (ClientGood opened) 0 (initial_client opened) d.earlier (FrameReceived d.frame ∷ d.later)
         (subst (λ (xs : List RunEvent). GoesOn (client_rules opened) (ClientGood opened) 0 (initial_client opened) xs) d.is g.goes) in let one = rest.0 in one.1)
 
     settled : Settled place k.regions k.accesses_received
@@ -234,7 +234,7 @@ answer_judges opened link run reason opens typed far d j s = record {
 pub answer_ends_none : (reply_to : List Entry → Moment → List ℕ → Option (List ℕ)) (adds : Moment → List ℕ → List ℕ → List Entry) (opened : LinkParameters) (link : ℕ) (run : List Mark) (reason : ℕ) → IsOpened opened → IsTyped run → MatchedSoFar opened link run
     → HasPlainReplies (server_with reply_to adds) link run → KeepsReplyLimits (server_with reply_to adds)
     → (d : EndsFor opened link run reason) → JudgedBy (client_by opened d.earlier).state d.frame.end d.message reason → SaidAnswer opened (events link Responder run) d.before d.message → ⊥
-answer_ends_none reply_to adds opened link run reason opens typed far plainly plain d j s = own_reply_judged j.call.xid e.reply reason reply_xid r.by_reply
+answer_ends_none reply_to adds opened link run reason opens typed far plain_replies plain d j s = own_reply_judged j.call.xid e.reply reason reply_xid r.by_reply
   where
     e : ExecutedCall
     e = s.call
@@ -247,7 +247,7 @@ answer_ends_none reply_to adds opened link run reason opens typed far plainly pl
 
     -- the reply has the call's xid
     replied : (entries : List Entry) × (server_with reply_to adds).Replies entries e.moment e.payload e.reply
-    replied = at_mark (PlainReplyMark (server_with reply_to adds) link) run m.earlier (execute_mark link e) m.later m.is plainly refl
+    replied = at_mark (PlainReplyMark (server_with reply_to adds) link) run m.earlier (execute_mark link e) m.later m.is plain_replies refl
 
     reply_xid : xid_of_reply (reply_of e.reply) ≡ Some j.call.xid
     reply_xid =

@@ -23,7 +23,7 @@ use Rattle.nr_reduce.specs.Served.{ServedSoFar}
 use Rattle.nr_reduce.proofs.Once.{after_goes, whole_with}
 use Rattle.nr_laws.specs.Typed.{IsTyped}
 use Rattle.nr_laws.proofs.LinkInvariants.{PendingAgree}
-use Rattle.nr_laws.proofs.EventOutputs.{IsNext, place_after, GoesOn, goes_first}
+use Rattle.nr_laws.proofs.EventOutputs.{IsNext, place_after, GoesOn, first_preserve}
 use Rattle.nr_laws.proofs.Words.{payload_bytes_lem}
 use Rattle.nr_laws.proofs.ServerOutputs.{CallsFit, fine_frame, CallFits}
 use Rattle.nr_laws.proofs.ServerAlong.{ServerPlain}
@@ -142,5 +142,5 @@ pub kept_at_server : (opened : LinkParameters) (link : ℕ) (run : List Mark) �
 kept_at_server opened link run typed served es more is =
     let g = server_goes opened link run typed served in
     holds_along opened 0 (initial_server opened) es
-    (goes_first (server_rules opened) ServerPlain 0 (initial_server opened) es more (subst (λ (xs : List RunEvent). GoesOn (server_rules opened) ServerPlain 0 (initial_server opened) xs) is g.goes))
+    (first_preserve (server_rules opened) ServerPlain 0 (initial_server opened) es more (subst (λ (xs : List RunEvent). GoesOn (server_rules opened) ServerPlain 0 (initial_server opened) xs) is g.goes))
     (initial_holds opened)

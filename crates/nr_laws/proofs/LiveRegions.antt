@@ -22,7 +22,7 @@ use Rattle.nr_reduce.proofs.Steps.{end_state_after_append}
 use Rattle.nr_laws.specs.Typed.{IsTyped}
 use Rattle.nr_laws.proofs.LinkInvariants.{IsUnused, AreDistinct, AreWhole, PendingAgree}
 use Rattle.nr_laws.specs.ServerRegions.{IsPendingNumber, HasReadLeft, LiveServerRegionsAreRead}
-use Rattle.nr_laws.proofs.EventOutputs.{GoesOn, goes_behind, places_after}
+use Rattle.nr_laws.proofs.EventOutputs.{GoesOn, later_preserve, places_after}
 use Rattle.nr_laws.proofs.DistinctKeys.{or_right_lem}
 use Rattle.nr_laws.proofs.KeptAtServer.{KeptAtServer, kept_at_server}
 use Rattle.nr_laws.proofs.Basics.{each_all}
@@ -207,7 +207,7 @@ module _ (opened : LinkParameters) (link : ℕ) (run : List Mark) (typed : IsTyp
       let s : EndState ServerState = end_state_after (server_rules opened) (initial_server opened) front in
       let kept : KeptAtServer s.state = kept_at_server opened link run typed served front (e ∷ (es ++ more)) is in
       let goes : GoesOn (server_rules opened) ServerPlain (places_after 0 front) s (e ∷ (es ++ more)) =
-      goes_behind (server_rules opened) ServerPlain 0 (initial_server opened) front (e ∷ (es ++ more)) (subst (λ (xs : List RunEvent). GoesOn (server_rules opened) ServerPlain 0 (initial_server opened) xs) is (server_goes opened link run typed served).goes) in
+      later_preserve (server_rules opened) ServerPlain 0 (initial_server opened) front (e ∷ (es ++ more)) (subst (λ (xs : List RunEvent). GoesOn (server_rules opened) ServerPlain 0 (initial_server opened) xs) is (server_goes opened link run typed served).goes) in
       let one : AllLive (next_end_state (server_rules opened) s e).state = counts_or_not opened AllLive s e h (λ stays. live_event opened s e kept.agree goes.1 h) in
       let next : AllLive (server_by opened (front ++ e ∷ [])) = subst (λ (r : EndState ServerState). AllLive r.state) (sym (end_state_after_append (server_rules opened) (initial_server opened) front (e ∷ []))) one in
       subst (λ (xs : List RunEvent). AllLive (server_by opened xs)) (append_assoc front (e ∷ []) es) (live_along (front ++ e ∷ []) es more (is ∙ sym (append_assoc front (e ∷ []) (es ++ more))) next)

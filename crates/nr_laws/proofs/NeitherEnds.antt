@@ -63,7 +63,7 @@ record AreAsked (reply_to : List Entry → Moment → List ℕ → Option (List 
   laws : KeepLaws opened link run
   kept : HasNoRevoke link run
   conveyed : AreConveyedOrRefused opened link run
-  plainly : HasPlainReplies (server_with reply_to adds) link run
+  plain_replies : HasPlainReplies (server_with reply_to adds) link run
 
 asked_before_lem : (reply_to : List Entry → Moment → List ℕ → Option (List ℕ)) (adds : Moment → List ℕ → List ℕ → List Entry) (opened : LinkParameters) (link : ℕ) (run more : List Mark) → AreAsked reply_to adds opened link (run ++ more) → AreAsked reply_to adds opened link run
 asked_before_lem reply_to adds opened link run more h = record {
@@ -71,7 +71,7 @@ asked_before_lem reply_to adds opened link run more h = record {
   laws = laws_kept_before opened link run more h.laws;
   kept = AtEachMark_first (NotRevokedMark link) [] run more h.kept;
   conveyed = AtEachMark_first (ConveyedMark opened link) [] run more h.conveyed;
-  plainly = AtEachMark_first (PlainReplyMark (server_with reply_to adds) link) [] run more h.plainly;
+  plain_replies = AtEachMark_first (PlainReplyMark (server_with reply_to adds) link) [] run more h.plain_replies;
 }
 
 -- ---- From mark to mark
@@ -81,7 +81,7 @@ module _ (reply_to : List Entry → Moment → List ℕ → Option (List ℕ)) (
   client_stays_lem run h down end up = by (client_ends_for_replies opened link run opens h.typed h.laws down end up)
     where
       by : IsReplyEnd end ⊎ IsDenied end → ⊥
-      by (inl (at, reason, is, own)) = client_reads_replies reply_to adds opened link run opens h.typed (laws_so_far_lem opened link run h.laws.client h.laws.server h.laws.matched) h.plainly plain at reason own (up ∙ ap (λ (x : End). Some x) is)
+      by (inl (at, reason, is, own)) = client_reads_replies reply_to adds opened link run opens h.typed (laws_so_far_lem opened link run h.laws.client h.laws.server h.laws.matched) h.plain_replies plain at reason own (up ∙ ap (λ (x : End). Some x) is)
       by (inr (stag, offset, why, is)) = client_not_denied opened link run opens h.typed h.laws h.kept down stag offset why (up ∙ ap (λ (x : End). Some x) is)
 
   mark_stays : (before : List Mark) (mark : Mark) → AreAsked reply_to adds opened link (before ++ mark ∷ []) → (client opened link before).ended ≡ None → (server opened link before).ended ≡ None
@@ -123,13 +123,13 @@ server_nothing opened link = refl
 
 pub links_stay : MatchedLinksStayOpen
 unfolding end_of_side
-links_stay reply_to adds opened link run opens typed laws kept conveyed plain plainly =
-    run_stays reply_to adds plain opened link opens run [] (record { typed = typed; laws = laws; kept = kept; conveyed = conveyed; plainly = plainly }) (client_nothing opened link) (server_nothing opened link)
+links_stay reply_to adds opened link run opens typed laws kept conveyed plain plain_replies =
+    run_stays reply_to adds plain opened link opens run [] (record { typed = typed; laws = laws; kept = kept; conveyed = conveyed; plain_replies = plain_replies }) (client_nothing opened link) (server_nothing opened link)
 
 pub matched_calls_complete : MatchedCallsComplete
-matched_calls_complete reply_to adds opened link run opens typed full kept conveyed plain plainly nothing_waits =
+matched_calls_complete reply_to adds opened link run opens typed full kept conveyed plain plain_replies nothing_waits =
     let laws : KeepLaws opened link run = record { client = full.asked.each; server = full.served.each; matched = full.matched; grant = full.grant } in
-    let stays = links_stay reply_to adds opened link run opens typed laws kept conveyed plain plainly in
+    let stays = links_stay reply_to adds opened link run opens typed laws kept conveyed plain plain_replies in
     calls_complete_lem opened link run typed full.asked full.served full.matched (record { client_stays = stays.0; server_stays = stays.1; nothing_waits = nothing_waits })
 
 pub no_access_denied : NoAccessIsDenied
@@ -140,10 +140,10 @@ no_access_denied opened link run opens typed laws kept down end up = by (client_
     by (inr (stag, offset, why, is)) = absurd (client_not_denied opened link run opens typed laws kept down stag offset why (up ∙ ap (λ (x : End). Some x) is))
 
 pub clients_stay : ClientsStayOpen
-clients_stay reply_to adds opened link run opens typed laws kept plain plainly down = by (end_of_side opened link Initiator run) refl
+clients_stay reply_to adds opened link run opens typed laws kept plain plain_replies down = by (end_of_side opened link Initiator run) refl
   where
     ends : (end : End) → end_of_side opened link Initiator run ≡ Some end → IsReplyEnd end → ⊥
-    ends end up (at, reason, is, own) = client_reads_replies reply_to adds opened link run opens typed (laws_so_far_lem opened link run laws.client laws.server laws.matched) plainly plain at reason own (up ∙ ap (λ (x : End). Some x) is)
+    ends end up (at, reason, is, own) = client_reads_replies reply_to adds opened link run opens typed (laws_so_far_lem opened link run laws.client laws.server laws.matched) plain_replies plain at reason own (up ∙ ap (λ (x : End). Some x) is)
 
     by : (o : Option End) → end_of_side opened link Initiator run ≡ o → end_of_side opened link Initiator run ≡ None
     by None e = e

@@ -51,7 +51,7 @@ use Rattle.nr_laws.proofs.GuardsAtClient.{front_down, asked_of}
 use Rattle.nr_laws.proofs.ClientStep.{LacksAccess, step_down}
 use Rattle.nr_laws.proofs.ClientFrame.{client_took}
 use Rattle.nr_laws.proofs.ServerFrames.{AreSome, events_of, place_next_lem, ends_first}
-use Rattle.nr_laws.proofs.AgreeingRuns.{MarkAgrees, place_of, goes_on_lem, arrives}
+use Rattle.nr_laws.proofs.AgreeingRuns.{MarkAgrees, place_of, preserved, arrives}
 use Rattle.nr_laws.proofs.EachRun.{starts}
 use Rattle.nr_laws.proofs.FirstEnds.{Guarded, client_first}
 use Rattle.nr_laws.proofs.AnsweredCalls.{message_xids}
@@ -154,13 +154,13 @@ later opened k s d all_up all_down place end le h = record {
 
 accessed_more : (opened : LinkParameters) (link : ℕ) (run : List Mark) (mark : Mark) (a : Accessed opened link run) → MarkAgrees opened link run mark a.guarded.joined → IsOpened opened → WithinGrant opened link run mark → TypedMark run mark → NotRevokedMark link run mark
     → Accessed opened link (run ++ mark ∷ [])
-unfolding goes_on_lem
+unfolding preserved
 accessed_more opened link run mark a g o within typed kept =
     let j = a.guarded.joined in
     let longer : length (bytes_received link Initiator run) ≤ length (bytes_received link Initiator (run ++ mark ∷ [])) =
     omega (arith, ap (λ (xs : List ℕ). length xs) (received_one link Initiator run mark), length-append (bytes_received link Initiator run) (fed_at link Initiator mark)) in
     record {
-      guarded = record { joined = goes_on_lem opened link run mark j g; guards = g.guarded o within a.guarded.guards };
+      guarded = record { joined = preserved opened link run mark j g; guards = g.guarded o within a.guarded.guards };
       agree = later opened g.k g.s g.d (j.all_up ++ g.said_up) (j.all_down ++ g.said_down) (length (bytes_received link Initiator run)) (length (bytes_received link Initiator (run ++ mark ∷ []))) longer (g.accessed o typed kept a.guarded.guards a.agree);
     }
 

@@ -28,7 +28,7 @@ use Rattle.nr_reduce.specs.ServerState.{ServerState}
 use Rattle.nr_reduce.specs.Server.{server_rules, initial_server, received_by}
 use Rattle.nr_reduce.specs.RunLaws.{server_by}
 use Rattle.nr_laws.specs.Typed.{IsTyped}
-use Rattle.nr_laws.proofs.EventOutputs.{IsNext, place_after, GoesOn, goes_behind}
+use Rattle.nr_laws.proofs.EventOutputs.{IsNext, place_after, GoesOn, later_preserve}
 use Rattle.nr_laws.proofs.Words.{payload_bytes_lem}
 use Rattle.nr_laws.proofs.ReceivedMessages.{received_event, one_step_lem, was_live_lem, server_receives}
 use Rattle.nr_laws.proofs.ServerEvents.{received_bytes as bytes-after, completed_bytes}
@@ -96,6 +96,6 @@ unfolding frame_segment
 received_bytes opened link run typed asked served matched es f rest s message all behind is whole live =
     let g = server_goes opened link run typed served in
     let goes = subst (λ (xs : List RunEvent). GoesOn (server_rules opened) ServerPlain 0 (initial_server opened) xs) all g.goes in
-    let next = (goes_behind (server_rules opened) ServerPlain 0 (initial_server opened) es (FrameReceived f ∷ rest) goes).0 in
+    let next = (later_preserve (server_rules opened) ServerPlain 0 (initial_server opened) es (FrameReceived f ∷ rest) goes).0 in
     let begun = begun_along opened 0 (initial_server opened) es (FrameReceived f ∷ rest) goes live (λ i. omega arith) in
     completed_bytes (server_by opened es).received s message begun (payload_bytes_lem f.bytes s next.2 is) whole

@@ -8,7 +8,7 @@ use Rattle.nr_reduce.specs.History.{ExecutedCall}
 use Rattle.nr_reduce.specs.Events.RunEvent.{CallExecuted}
 use Rattle.nr_reduce.specs.ServerState.{ServerState, PendingCall, PendingRead, ReadyCall}
 use Rattle.nr_reduce.specs.ServerFrames.{FrameEffect, with_verdict, ready_if_whole, with_refused_call, read_effect, is_stream_read}
-use Rattle.nr_reduce.specs.ServerMessages.{CallVerdict, by_payload, payload_of, chunk_bytes}
+use Rattle.nr_reduce.specs.ServerMessages.{CallVerdict, by_payload, pending_payload, chunk_bytes}
 use Rattle.nr_reduce.specs.ServerReads.{is_read}
 use Rattle.nr_reduce.specs.Server.{server_state_after}
 use Rattle.nr_reduce.specs.ServerMessages.CallVerdict.{Refuses, IsReady}
@@ -257,7 +257,7 @@ state_with s calls reads ready = record s { calls = calls; reads = reads; ready 
 
 to_whole : (s t c_k : ServerState) (place : ℕ) (r : PendingRead) (others : List PendingRead) (c : PendingCall) (st : FrameEffect) (o : CallVerdict) (b : Bool) → PendingAgree s → s.reads ≡ r ∷ others → r.number ≡ c.number
     → list_any (λ (x : PendingCall). eqb x.number c.number && eqb x.xid c.xid) s.calls ≡ true
-    → st.calls ≡ s.calls → st.reads ≡ others → st.ready ≡ [] → is_read others c.number ≡ b → by_payload c (payload_of c_k place c) ≡ o
+    → st.calls ≡ s.calls → st.reads ≡ others → st.ready ≡ [] → is_read others c.number ≡ b → by_payload c (pending_payload c_k place c) ≡ o
     → AfterEffect s t (cond b (with_verdict o st) st) 0 → (cond b (with_verdict o st) st).refusal ≡ None → PendingAgree t
 to_whole s t c_k place r others c st o false w first own there calls reads none read is b goes_on =
     let ready_calls : AreReady (r ∷ others) s.ready s.calls = subst (λ (rs : List PendingRead). AreReady rs s.ready s.calls) first w.ready_calls in
@@ -276,7 +276,7 @@ to_whole s t c_k place r others c st o false w first own there calls reads none 
     (b.calls ∙ calls) (b.reads ∙ reads) (b.ready ∙ ap (λ (xs : List ReadyCall). s.ready ++ xs) none) (omega (arith, b.sends_are))
 to_whole s t c_k place r others c st (Refuses reason) true w first own there calls reads none read is b goes_on = absurd cc
 to_whole s t c_k place r others c st (IsReady x) true w first own there calls reads none read is b goes_on =
-    let mine = payload_own c (payload_of c_k place c) x is in
+    let mine = payload_own c (pending_payload c_k place c) x is in
     let ready_calls : AreReady (r ∷ others) s.ready s.calls = subst (λ (rs : List PendingRead). AreReady rs s.ready s.calls) first w.ready_calls in
     let whole_calls : AreWhole (r ∷ others) s.calls s.ready = subst (λ (rs : List PendingRead). AreWhole rs s.calls s.ready) first w.whole_calls in
     let at = state_with s s.calls others (s.ready ++ x ∷ []) in
@@ -357,5 +357,5 @@ pending_agree_read s t c_k place r others (Some c) st w first found calls reads 
         })
         (b.calls ∙ ap (λ (cs : List PendingCall). filter p cs) calls) (b.reads ∙ ap (λ (rs : List PendingRead). dropped st.kept c.number rs) reads) (b.ready ∙ ap (λ (xs : List ReadyCall). s.ready ++ xs) none) (omega (arith, b.sends_are))
     by false b goes_on =
-        to_whole s t c_k place r others c st (by_payload c (payload_of c_k place c)) (is_read st.reads c.number) w first (sym own) (found_there r.number s.calls c found) calls reads none
+        to_whole s t c_k place r others c st (by_payload c (pending_payload c_k place c)) (is_read st.reads c.number) w first (sym own) (found_there r.number s.calls c found) calls reads none
         (ap (λ (rs : List PendingRead). is_read rs c.number) (sym reads)) refl b goes_on

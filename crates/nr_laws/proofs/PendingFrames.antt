@@ -12,7 +12,7 @@ use Rattle.nr_reduce.specs.OfferedRegions.{Region}
 use Rattle.nr_reduce.specs.Events.RunEvent.{FrameReceived}
 use Rattle.nr_reduce.specs.ServerState.{ServerState, PendingCall, PendingRead}
 use Rattle.nr_reduce.specs.ServerFrames.{FrameEffect, frame_effect, effect_in, message_effect, no_effect, response_effect, read_effect, with_refused_call, ready_if_whole, with_verdict, call_of_number, with_access, is_stream_read}
-use Rattle.nr_reduce.specs.ServerMessages.{Verdict, CallVerdict, verdict, by_payload, payload_of, chunk_bytes}
+use Rattle.nr_reduce.specs.ServerMessages.{Verdict, CallVerdict, verdict, by_payload, pending_payload, chunk_bytes}
 use Rattle.nr_reduce.specs.ServerReads.{open_reads, regions_of, reads_of}
 use Rattle.nr_reduce.specs.Server.{server_state_after}
 use Rattle.nr_reduce.specs.ServerMessages.Verdict.{EndsLink, OtherVersion, BadChunks, MakesPending}
@@ -82,7 +82,7 @@ ready_sinks place st (Refuses reason) h = h
 ready_sinks place st (IsReady x) h = h
 
 whole_sinks : (k : ServerState) (place : ℕ) (c : PendingCall) (st : FrameEffect) (at : ℕ) → StepSinks at st → StepSinks at (ready_if_whole k place c st)
-whole_sinks k place c st at h = whole_rule (StepSinks at) k place c st (λ g. ready_sinks at st (by_payload c (payload_of k place c)) g) h
+whole_sinks k place c st at h = whole_rule (StepSinks at) k place c st (λ g. ready_sinks at st (by_payload c (pending_payload k place c)) g) h
 
 message_sinks : (k : ServerState) (place : ℕ) (message : List ℕ) (v : Verdict) → verdict k message ≡ v → AreKnown k → HaveSinks place k.regions k.reads → StepSinks place (message_effect k place message v)
 message_sinks k place message (EndsLink reason) is a h = h

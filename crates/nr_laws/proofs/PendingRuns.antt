@@ -13,7 +13,7 @@ use Rattle.nr_reduce.specs.Server.{server_rules, initial_server}
 use Rattle.nr_reduce.specs.Served.{ServedSoFar}
 use Rattle.nr_reduce.specs.RunLaws.{server_by}
 use Rattle.nr_laws.specs.Typed.{IsTyped}
-use Rattle.nr_laws.proofs.EventOutputs.{GoesOn, goes_behind}
+use Rattle.nr_laws.proofs.EventOutputs.{GoesOn, later_preserve}
 use Rattle.nr_laws.proofs.PendingExecuted.{executed_there}
 use Rattle.nr_laws.proofs.KeptAtServer.{kept_at_server}
 use Rattle.nr_laws.proofs.ServerAlong.{IsGoodExecution, ServerPlain}
@@ -25,6 +25,6 @@ executes_pending opened link run typed served es e more is =
     let rules = server_rules opened in
     let g = server_goes opened link run typed served in
     let goes : GoesOn rules ServerPlain 0 (initial_server opened) (es ++ CallExecuted e ∷ more) = subst (λ (xs : List RunEvent). GoesOn rules ServerPlain 0 (initial_server opened) xs) is g.goes in
-    let rest = goes_behind rules ServerPlain 0 (initial_server opened) es (CallExecuted e ∷ more) goes in
+    let rest = later_preserve rules ServerPlain 0 (initial_server opened) es (CallExecuted e ∷ more) goes in
     let x : IsGoodExecution (end_state_after rules (initial_server opened) es) e = rest.1 in
     executed_there (server_by opened es) e.xid x.call x.others (kept_at_server opened link run typed served es (CallExecuted e ∷ more) is).agree x.is_next x.xid

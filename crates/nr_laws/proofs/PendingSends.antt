@@ -9,7 +9,7 @@ use Rattle.nr_reduce.specs.Chunks.{total_at}
 use Rattle.nr_reduce.specs.OfferedRegions.{Region}
 use Rattle.nr_reduce.specs.ServerState.{ServerState, PendingCall, PendingRead, ReadyCall, is_pending}
 use Rattle.nr_reduce.specs.ServerFrames.{FrameEffect, no_effect, message_effect, with_verdict}
-use Rattle.nr_reduce.specs.ServerMessages.{Verdict, CallVerdict, verdict, by_payload, by_head, payload_of, call_xid}
+use Rattle.nr_reduce.specs.ServerMessages.{Verdict, CallVerdict, verdict, by_payload, by_head, pending_payload, call_xid}
 use Rattle.nr_reduce.specs.ServerReads.{is_read, reads_of, reads_from, read_of, regions_of}
 use Rattle.nr_reduce.specs.ServerMessages.Verdict.{EndsLink, OtherVersion, BadChunks, MakesPending}
 use Rattle.nr_reduce.specs.ServerMessages.CallVerdict.{Refuses, IsReady}
@@ -167,11 +167,11 @@ pending_agree_opened k t c news new w is free of calls reads ready sends b whole
     whole_by false e = subst (λ (xs : List ReadyCall). AreWhole (k.reads ++ news) (k.calls ++ c ∷ []) xs) (sym (a.partial e)) tt
 
 -- the step of a message
-opens_adds : (k : ServerState) (place : ℕ) (c : PendingCall) (o : CallVerdict) (st : FrameEffect) (b : Bool) → is_read st.reads c.number ≡ b → st.ready ≡ [] → by_payload c (payload_of k place c) ≡ o
+opens_adds : (k : ServerState) (place : ℕ) (c : PendingCall) (o : CallVerdict) (st : FrameEffect) (b : Bool) → is_read st.reads c.number ≡ b → st.ready ≡ [] → by_payload c (pending_payload k place c) ≡ o
     → (cond b (with_verdict o st) st).refusal ≡ None → Adds st.reads c (cond b (with_verdict o st) st).ready
 opens_adds k place c (Refuses reason) st true e none is goes_on = absurd cc
 opens_adds k place c (IsReady x) st true e none is goes_on = record {
-  whole = λ f. (x, refl, (payload_own c (payload_of k place c) x is).0, (payload_own c (payload_of k place c) x is).1);
+  whole = λ f. (x, refl, (payload_own c (pending_payload k place c) x is).0, (payload_own c (pending_payload k place c) x is).1);
   partial = λ f. absurd (differ (sym e ∙ f));
 }
   where
@@ -199,7 +199,7 @@ pending_agree_message k t place message (MakesPending c) is w b goes_on =
     let regions = k.regions ++ regions_of k place c in
     let news = reads_of regions c in
     let st : FrameEffect = record (no_effect k) { calls = k.calls ++ c ∷ []; reads = k.reads ++ news; regions = regions } in
-    let o = by_payload c (payload_of k place c) in
+    let o = by_payload c (pending_payload k place c) in
     let whole = is_read st.reads c.number in
     let same = kept_by_lem o st whole in
     pending_agree_opened k t c news (cond whole (with_verdict o st) st).ready w

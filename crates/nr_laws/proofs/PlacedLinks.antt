@@ -17,19 +17,19 @@ each_is P [] before h = tt
 each_is P (m ∷ run) before h = (h before m run refl, each_is P run (before ++ m ∷ []) (λ b n after is. h b n after (sym (append_assoc before (m ∷ []) run) ∙ is)))
 
 placed_mark : (plain : PlainServer) (J : List Entry) (link : ℕ) (run before : List Mark) (mark : Mark) (after : List Mark) → Journaled plain J run → run ≡ before ++ mark ∷ after → PlainOnMark plain link before mark → AtPlaceOnMark plain J link before mark
-placed_mark plain J link run before (marks.Submit l call form answer) after journaled is plainly = tt
-placed_mark plain J link run before (marks.Wrote l side bytes) after journaled is plainly = tt
-placed_mark plain J link run before (marks.Fed l side bytes) after journaled is plainly = tt
-placed_mark plain J link run before (marks.Execute l xid moment payload place reply) after journaled is plainly = λ own. at_place plain J run before after l xid moment payload place reply is journaled (plainly own)
-placed_mark plain J link run before (marks.Done l xid outcome) after journaled is plainly = tt
-placed_mark plain J link run before (marks.Lost l xid) after journaled is plainly = tt
-placed_mark plain J link run before (marks.Forget l xid) after journaled is plainly = tt
-placed_mark plain J link run before (marks.Revoke l xid bytes) after journaled is plainly = tt
-placed_mark plain J link run before (marks.Drop l) after journaled is plainly = tt
+placed_mark plain J link run before (marks.Submit l call form answer) after journaled is plain_replies = tt
+placed_mark plain J link run before (marks.Wrote l side bytes) after journaled is plain_replies = tt
+placed_mark plain J link run before (marks.Fed l side bytes) after journaled is plain_replies = tt
+placed_mark plain J link run before (marks.Execute l xid moment payload place reply) after journaled is plain_replies = λ own. at_place plain J run before after l xid moment payload place reply is journaled (plain_replies own)
+placed_mark plain J link run before (marks.Done l xid outcome) after journaled is plain_replies = tt
+placed_mark plain J link run before (marks.Lost l xid) after journaled is plain_replies = tt
+placed_mark plain J link run before (marks.Forget l xid) after journaled is plain_replies = tt
+placed_mark plain J link run before (marks.Revoke l xid bytes) after journaled is plain_replies = tt
+placed_mark plain J link run before (marks.Drop l) after journaled is plain_replies = tt
 
 pub at_places_on : (plain : PlainServer) (J : List Entry) (link : ℕ) (run : List Mark) → Journaled plain J run → AnsweredByPlainServerOn plain link run → AtPlacesOn plain J link run
-at_places_on plain J link run journaled plainly =
-    each_is (AtPlaceOnMark plain J link) run [] (λ before mark after is. placed_mark plain J link run before mark after journaled is (at_mark (PlainOnMark plain link) run before mark after is plainly))
+at_places_on plain J link run journaled plain_replies =
+    each_is (AtPlaceOnMark plain J link) run [] (λ before mark after is. placed_mark plain J link run before mark after journaled is (at_mark (PlainOnMark plain link) run before mark after is plain_replies))
 
 reply_at_place : (plain : PlainServer) (J : List Entry) (link : ℕ) (before : List Mark) (mark : Mark) → AtPlaceOnMark plain J link before mark → PlainReplyMark plain link before mark
 reply_at_place plain J link before (marks.Submit l call form answer) placed = tt
@@ -43,15 +43,15 @@ reply_at_place plain J link before (marks.Revoke l xid bytes) placed = tt
 reply_at_place plain J link before (marks.Drop l) placed = tt
 
 reply_by_journal : (plain : PlainServer) (link : ℕ) (before : List Mark) (mark : Mark) → PlainOnMark plain link before mark → PlainReplyMark plain link before mark
-reply_by_journal plain link before (marks.Submit l call form answer) plainly = tt
-reply_by_journal plain link before (marks.Wrote l side bytes) plainly = tt
-reply_by_journal plain link before (marks.Fed l side bytes) plainly = tt
-reply_by_journal plain link before (marks.Execute l xid moment payload place reply) plainly = λ own. (journal plain before, plainly own)
-reply_by_journal plain link before (marks.Done l xid outcome) plainly = tt
-reply_by_journal plain link before (marks.Lost l xid) plainly = tt
-reply_by_journal plain link before (marks.Forget l xid) plainly = tt
-reply_by_journal plain link before (marks.Revoke l xid bytes) plainly = tt
-reply_by_journal plain link before (marks.Drop l) plainly = tt
+reply_by_journal plain link before (marks.Submit l call form answer) plain_replies = tt
+reply_by_journal plain link before (marks.Wrote l side bytes) plain_replies = tt
+reply_by_journal plain link before (marks.Fed l side bytes) plain_replies = tt
+reply_by_journal plain link before (marks.Execute l xid moment payload place reply) plain_replies = λ own. (journal plain before, plain_replies own)
+reply_by_journal plain link before (marks.Done l xid outcome) plain_replies = tt
+reply_by_journal plain link before (marks.Lost l xid) plain_replies = tt
+reply_by_journal plain link before (marks.Forget l xid) plain_replies = tt
+reply_by_journal plain link before (marks.Revoke l xid bytes) plain_replies = tt
+reply_by_journal plain link before (marks.Drop l) plain_replies = tt
 
 pub journaled_links_are_at_places : JournaledLinksAreAtPlaces
 journaled_links_are_at_places reply_to adds = at_places_on (server_with reply_to adds)
@@ -61,5 +61,5 @@ placed_links_have_plain_replies reply_to adds J link run placed =
     AtEachMark_each (AtPlaceOnMark (server_with reply_to adds) J link) (PlainReplyMark (server_with reply_to adds) link) [] run (reply_at_place (server_with reply_to adds) J link) placed
 
 pub plain_links_have_plain_replies : PlainLinksHavePlainReplies
-plain_links_have_plain_replies reply_to adds link run plainly =
-    AtEachMark_each (PlainOnMark (server_with reply_to adds) link) (PlainReplyMark (server_with reply_to adds) link) [] run (reply_by_journal (server_with reply_to adds) link) plainly
+plain_links_have_plain_replies reply_to adds link run plain_replies =
+    AtEachMark_each (PlainOnMark (server_with reply_to adds) link) (PlainReplyMark (server_with reply_to adds) link) [] run (reply_by_journal (server_with reply_to adds) link) plain_replies

@@ -27,12 +27,12 @@ any_replies_are_plain plain J opened link run before xid plan reply typed far pl
     let there = mark_later run before (marks.Done link xid (outcomes.Reply reply)) at.after own.before execute at.is own.at in
     record {
       own = own;
-      plainly = at_mark (AtPlaceOnMark plain J link) run own.before execute there.after there.is placed refl;
+      plain_replies = at_mark (AtPlaceOnMark plain J link) run own.before execute there.after there.is placed refl;
     }
 
 pub replies_are_plain_at_places : RepliesArePlainAtPlaces
 replies_are_plain_at_places reply_to adds = any_replies_are_plain (server_with reply_to adds)
 
 pub replies_are_plain : RepliesArePlain
-replies_are_plain reply_to adds J opened link run before xid plan reply typed far journaled plainly =
-    any_replies_are_plain (server_with reply_to adds) J opened link run before xid plan reply typed far (at_places_on (server_with reply_to adds) J link run journaled plainly)
+replies_are_plain reply_to adds J opened link run before xid plan reply typed far journaled plain_replies =
+    any_replies_are_plain (server_with reply_to adds) J opened link run before xid plan reply typed far (at_places_on (server_with reply_to adds) J link run journaled plain_replies)

@@ -17,7 +17,7 @@ use Rattle.nr_reduce.specs.Opening.{IsOpened}
 use Rattle.nr_reduce.specs.OfferedRegions.{region_grants}
 use Rattle.nr_reduce.specs.ClientState.{call_payload}
 use Rattle.nr_reduce.specs.ServerState.{ServerState, PendingCall}
-use Rattle.nr_reduce.specs.ServerMessages.{payload_of, by_payload, by_head}
+use Rattle.nr_reduce.specs.ServerMessages.{pending_payload, by_payload, by_head}
 use Rattle.nr_rpc.specs.declared.head.CallHead.{CallHead}
 use Rattle.nr_rpc.specs.Reading.{call_of}
 use Rattle.nr_link.specs.declared.end.End.TheVariants as ends
@@ -77,10 +77,10 @@ not_refused_lem opened link run reason typed far refuses r = by r.cause
 
     by : RefusedBy k r.frame r.segment reason → ⊥
     by (AtMessage message c whole v read e) =
-        refuses c (payload_of k r.frame.end c)
+        refuses c (pending_payload k r.frame.end c)
         (conveyed_by_message opened link run typed far.asked far.served far.matched r.earlier r.frame r.later r.segment r.is r.behind r.is_segment r.live message c whole v read) e
     by (AtRead q rest c ends reads found read e) =
-        refuses c (payload_of (with_access k r.frame r.segment) r.frame.end c)
+        refuses c (pending_payload (with_access k r.frame r.segment) r.frame.end c)
         (conveyed_by_read opened link run typed far.asked far.served far.matched r.earlier r.frame r.later r.segment r.is r.behind r.is_segment r.live (response_allowed opened k r.frame r.segment r.is_segment ends r.fits) q rest c ends reads found read) e
 
 abbrev reason_in : CallVerdict → ℕ

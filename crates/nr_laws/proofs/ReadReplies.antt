@@ -60,7 +60,7 @@ message_ends_for_reply opened link run opens typed far at reason bad e = by d.sa
 pub client_reads_replies : (reply_to : List Entry → Moment → List ℕ → Option (List ℕ)) (adds : Moment → List ℕ → List ℕ → List Entry) (opened : LinkParameters) (link : ℕ) (run : List Mark) → IsOpened opened → IsTyped run → MatchedSoFar opened link run
     → HasPlainReplies (server_with reply_to adds) link run → KeepsReplyLimits (server_with reply_to adds) → (at reason : ℕ) → IsReplyReason reason → end_of_side opened link Initiator run ≡ Some (ends.Bad at reason) → ⊥
 unfolding end_of_side
-client_reads_replies reply_to adds opened link run opens typed far plainly plain at reason own e = by d.said
+client_reads_replies reply_to adds opened link run opens typed far plain_replies plain at reason own e = by d.said
   where
     d : EndsFor opened link run reason
     d = ends_for opened link run at reason typed far (inr own) e
@@ -74,7 +74,7 @@ client_reads_replies reply_to adds opened link run opens typed far plainly plain
     by : Said opened (events link Responder run) d.before d.message → ⊥
     by (IsRefusal s) = error_ends_none k d.frame.end d.message reason j (error_kind d.message s.kind)
     by (IsNoAnswer s) = error_ends_none k d.frame.end d.message reason j (error_kind d.message (OfChunks s.call.xid (credit_word (server_by opened s.earlier)) s.message))
-    by (IsAnswer s) = answer_ends_none reply_to adds opened link run reason opens typed far plainly plain d j s
+    by (IsAnswer s) = answer_ends_none reply_to adds opened link run reason opens typed far plain_replies plain d j s
 
 -- On a matched link whose server hasn't ended the client ends for what a reply is, or for a denied access.
 pub client_ends_for_replies : ClientEndsForReplies

@@ -14,7 +14,7 @@ use Rattle.nr_link.specs.Ending.{frame_segment}
 use Rattle.nr_reduce.specs.Events.RunEvent.{FrameReceived}
 use Rattle.nr_reduce.specs.ServerState.{ServerState, PendingCall, PendingRead}
 use Rattle.nr_reduce.specs.ServerFrames.{FrameEffect, frame_effect, effect_in, message_effect, no_effect, ready_if_whole, with_verdict, with_refused_call, read_effect, response_effect, call_of_number, is_stream_read, with_access}
-use Rattle.nr_reduce.specs.ServerMessages.{Verdict, CallVerdict, verdict, by_payload, payload_of, chunk_bytes}
+use Rattle.nr_reduce.specs.ServerMessages.{Verdict, CallVerdict, verdict, by_payload, pending_payload, chunk_bytes}
 use Rattle.nr_reduce.specs.ServerReads.{open_reads, is_read, reads_of, regions_of}
 use Rattle.nr_reduce.specs.Server.{newly_open_reads, server_state_after}
 use Rattle.nr_reduce.specs.ServerMessages.Verdict.{EndsLink, OtherVersion, BadChunks, MakesPending}
@@ -38,7 +38,7 @@ front_ready st xs (Refuses reason) h = h
 front_ready st xs (IsReady r) h = h
 
 front_whole : (k : ServerState) (place : ℕ) (c : PendingCall) (st : FrameEffect) (xs : List PendingRead) → take st.kept st.reads ≡ xs → take (ready_if_whole k place c st).kept (ready_if_whole k place c st).reads ≡ xs
-front_whole k place c st xs h = whole_rule (λ x. take x.kept x.reads ≡ xs) k place c st (λ g. front_ready st xs (by_payload c (payload_of k place c)) g) h
+front_whole k place c st xs h = whole_rule (λ x. take x.kept x.reads ≡ xs) k place c st (λ g. front_ready st xs (by_payload c (pending_payload k place c)) g) h
 
 taken_again : {A : Type 0} (n : ℕ) (xs : List A) → take (length (take n xs)) xs ≡ take n xs
 taken_again zero xs = refl
@@ -79,7 +79,7 @@ kept_read k place r (Some c) st le all = by (is_stream_read c r st.reads && not 
     by true =
         let others = filter (λ (x : PendingRead). not (eqb x.number c.number)) (drop st.kept st.reads) in
         omega (arith, le, all, length-take open_reads_max st.reads, length-take st.kept st.reads, length-take open_reads_max (take st.kept st.reads ++ others), length-append (take st.kept st.reads) others)
-    by false = whole_same (is_read st.reads c.number) (by_payload c (payload_of k place c))
+    by false = whole_same (is_read st.reads c.number) (by_payload c (pending_payload k place c))
 
 -- the reads that are open after a step: those that stay, and those that are opened by it
 open_parts_lem : (st : FrameEffect) (xs : List PendingRead) → st.kept ≤ length (take open_reads_max st.reads) → take st.kept st.reads ≡ xs → take open_reads_max st.reads ≡ xs ++ newly_open_reads st

@@ -15,7 +15,7 @@ use Rattle.nr_reduce.specs.Events.RunEvent.{FrameReceived, CallSubmitted, Memory
 use Rattle.nr_reduce.specs.EndRules.{EndState, next_end_state_by, next_end_state_in, end_state_after}
 use Rattle.nr_reduce.specs.ServerState.{ServerState, PendingCall, PendingRead, ReadyCall}
 use Rattle.nr_reduce.specs.ServerReads.{is_read, reads_of, regions_of}
-use Rattle.nr_reduce.specs.ServerMessages.{Verdict, CallVerdict, verdict, payload_of, by_payload, by_head, call_xid}
+use Rattle.nr_reduce.specs.ServerMessages.{Verdict, CallVerdict, verdict, pending_payload, by_payload, by_head, call_xid}
 use Rattle.nr_reduce.specs.ServerMessages.Verdict.{EndsLink, OtherVersion, BadChunks, MakesPending}
 use Rattle.nr_reduce.specs.ServerMessages.CallVerdict.{Refuses, IsReady}
 use Rattle.nr_reduce.specs.ServerFrames.{FrameEffect, no_effect, with_verdict, ready_if_whole, message_effect, with_refused_call, call_of_number, with_access, frame_effect}
@@ -31,7 +31,7 @@ use Rattle.nr_laws.proofs.EachEffect.EffectCase.{Unchanged, OfMessage, OfRead, O
 
 -- the payload that is conveyed to a call that is ready
 pub record Conveyed (k : ServerState) (place : ℕ) (c : PendingCall) (r : ReadyCall) : Type 0 where
-  pub payload : payload_of k place c ≡ Some r.payload
+  pub payload : pending_payload k place c ≡ Some r.payload
   pub number : r.number ≡ c.number
   pub xid : r.xid ≡ c.xid
 
@@ -43,7 +43,7 @@ record WholeBy (k : ServerState) (place : ℕ) (c : PendingCall) (reads : List P
   read : is_read reads c.number ≡ true
   conveyed : Conveyed k place c r
 
-head_cause : (k : ServerState) (place : ℕ) (c : PendingCall) (payload : List ℕ) (h : Result CallHead ℕ) (s : FrameEffect) (r : ReadyCall) → payload_of k place c ≡ Some payload → s.ready ≡ [] → (with_verdict (by_head c payload h) s).ready ≡ r ∷ [] → Conveyed k place c r
+head_cause : (k : ServerState) (place : ℕ) (c : PendingCall) (payload : List ℕ) (h : Result CallHead ℕ) (s : FrameEffect) (r : ReadyCall) → pending_payload k place c ≡ Some payload → s.ready ≡ [] → (with_verdict (by_head c payload h) s).ready ≡ r ∷ [] → Conveyed k place c r
 head_cause k place c payload (Err at) s r is none e = none_one_lem r s.ready none e
 head_cause k place c payload (Ok head) s r is none e = by (eqb (call_xid head) c.xid) e
   where
@@ -56,15 +56,15 @@ head_cause k place c payload (Ok head) s r is none e = by (eqb (call_xid head) c
         one a b e = cc
     by false e = none_one_lem r s.ready none e
 
-payload_cause : (k : ServerState) (place : ℕ) (c : PendingCall) (o : Option (List ℕ)) (s : FrameEffect) (r : ReadyCall) → payload_of k place c ≡ o → s.ready ≡ [] → (with_verdict (by_payload c o) s).ready ≡ r ∷ [] → Conveyed k place c r
+payload_cause : (k : ServerState) (place : ℕ) (c : PendingCall) (o : Option (List ℕ)) (s : FrameEffect) (r : ReadyCall) → pending_payload k place c ≡ o → s.ready ≡ [] → (with_verdict (by_payload c o) s).ready ≡ r ∷ [] → Conveyed k place c r
 payload_cause k place c None s r is none e = none_one_lem r s.ready none e
 payload_cause k place c (Some payload) s r is none e = head_cause k place c payload (call_of payload) s r is none e
 
 whole_cause : (k : ServerState) (place : ℕ) (c : PendingCall) (s : FrameEffect) (r : ReadyCall) → s.ready ≡ [] → (ready_if_whole k place c s).ready ≡ r ∷ [] → WholeBy k place c s.reads r
 whole_cause k place c s r none e = by (is_read s.reads c.number) refl e
   where
-    by : (b : Bool) → is_read s.reads c.number ≡ b → (cond b (with_verdict (by_payload c (payload_of k place c)) s) s).ready ≡ r ∷ [] → WholeBy k place c s.reads r
-    by true is e = record { read = is; conveyed = payload_cause k place c (payload_of k place c) s r refl none e }
+    by : (b : Bool) → is_read s.reads c.number ≡ b → (cond b (with_verdict (by_payload c (pending_payload k place c)) s) s).ready ≡ r ∷ [] → WholeBy k place c s.reads r
+    by true is e = record { read = is; conveyed = payload_cause k place c (pending_payload k place c) s r refl none e }
     by false is e = none_one_lem r s.ready none e
 
 message_cause : (k : ServerState) (f : Frame) (segment : Segment) (message : List ℕ) (r : ReadyCall) → message_completed k.received segment ≡ Some message → (v : Verdict) → verdict k message ≡ v → (message_effect k f.end message v).ready ≡ r ∷ [] → ReadyBy k f segment r
@@ -106,8 +106,8 @@ few_frame k f =
     (record { judged = judged; ends = λ message reason good is. tt; version = λ message good. tt; chunks = λ message good. tt; pending = λ place message c good is. tt })
     (record { unchanged = tt; judged = judged; read = λ r reads is. tt; refused = λ r reads c is found. tt }) f (λ s m is e. tt)
   where
-    judged : (t : ServerState) (place : ℕ) (c : PendingCall) (s : FrameEffect) → AtMostReady s.ready → AtMostReady (with_verdict (by_payload c (payload_of t place c)) s).ready
-    judged t place c s h = few_verdict (by_payload c (payload_of t place c)) s h
+    judged : (t : ServerState) (place : ℕ) (c : PendingCall) (s : FrameEffect) → AtMostReady s.ready → AtMostReady (with_verdict (by_payload c (pending_payload t place c)) s).ready
+    judged t place c s h = few_verdict (by_payload c (pending_payload t place c)) s h
 
 -- ---- Along the events of a server
 

@@ -15,7 +15,7 @@ use Rattle.nr_reduce.specs.Holds.{chunk_error, version_error}
 use Rattle.nr_reduce.specs.Chunks.{is_read_chunk_of_item}
 use Rattle.nr_reduce.specs.ServerState.{ServerState, PendingCall, credit_word}
 use Rattle.nr_reduce.specs.ServerReads.{reads_of, regions_of}
-use Rattle.nr_reduce.specs.ServerMessages.{Verdict, CallVerdict, verdict, chunk_bytes, payload_of, by_payload}
+use Rattle.nr_reduce.specs.ServerMessages.{Verdict, CallVerdict, verdict, chunk_bytes, pending_payload, by_payload}
 use Rattle.nr_reduce.specs.ServerMessages.Verdict.{EndsLink, OtherVersion, BadChunks, MakesPending}
 use Rattle.nr_reduce.specs.ServerMessages.CallVerdict.{Refuses, IsReady}
 use Rattle.nr_reduce.specs.ServerFrames.{FrameEffect, no_effect, with_verdict, ready_if_whole, message_effect, with_refused_call, is_stream_read, with_access, frame_effect}
@@ -45,7 +45,7 @@ same_errors (Refuses reason) s = refl
 same_errors (IsReady r) s = refl
 
 whole_errors : (k : ServerState) (place : ℕ) (c : PendingCall) (s : FrameEffect) → (ready_if_whole k place c s).errors ≡ s.errors
-whole_errors k place c s = whole_rule (λ x. x.errors ≡ s.errors) k place c s (λ same. same_errors (by_payload c (payload_of k place c)) s) refl
+whole_errors k place c s = whole_rule (λ x. x.errors ≡ s.errors) k place c s (λ same. same_errors (by_payload c (pending_payload k place c)) s) refl
 
 one_of_lem : (a b : List ℕ) → a ∷ [] ≡ b ∷ [] → b ≡ a
 one_of_lem a b e = (let t : a ≡ b = cc in sym t)

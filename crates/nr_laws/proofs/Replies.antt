@@ -20,7 +20,7 @@ use Rattle.nr_link.specs.Ending.{frame_segment}
 use Rattle.nr_reduce.specs.Limits.{send_max}
 use Rattle.nr_reduce.specs.Holds.{Answer, answer_for, answer_message, answer_lists, answer_size, chunk_error, version_error, no_segments}
 use Rattle.nr_reduce.specs.ServerState.{PendingCall, ServerState}
-use Rattle.nr_reduce.specs.ServerMessages.{CallVerdict, by_payload, payload_of}
+use Rattle.nr_reduce.specs.ServerMessages.{CallVerdict, by_payload, pending_payload}
 use Rattle.nr_reduce.specs.ServerMessages.CallVerdict.{Refuses, IsReady}
 use Rattle.nr_reduce.specs.ServerFrames.{FrameEffect, with_verdict, frame_effect}
 use Rattle.nr_reduce.proofs.AnswerMessages.{answer_length}
@@ -81,7 +81,7 @@ pub replies_send : (k : ServerState) (f : Frame) (message : SentMessage) → Com
     → frame_segment f ≡ Ok (last_segment k.received.sends message) → AreReplies k.credit (frame_effect k f).errors
 replies_send k f message completes xid version lt is =
     send_effect k (λ m. (word_at 0 m < 2 ^ 32) × (word_at 4 m < 2 ^ 32)) (λ s. AreReplies k.credit s.errors) (record {
-      judged = λ t place c s h. replies_verdict k.credit (by_payload c (payload_of t place c)) s h;
+      judged = λ t place c s h. replies_verdict k.credit (by_payload c (pending_payload t place c)) s h;
       ends = λ m reason fit is. tt;
       version = λ m fit. (version_error_reply (word_at 0 m) (word_at 4 m) k.credit fit.0 fit.1 lt, tt);
       chunks = λ m fit. (chunk_error_reply (word_at 0 m) k.credit fit.0 lt, tt);
@@ -93,7 +93,7 @@ pub replies_tagged : (k : ServerState) (f : Frame) (last : Bool) (opcode stag to
 replies_tagged k f last opcode stag to payload small lt is =
     tagged_effect_lem k (λ s. AreReplies k.credit s.errors) (record {
       unchanged = tt;
-      judged = λ t place c s h. replies_verdict k.credit (by_payload c (payload_of t place c)) s h;
+      judged = λ t place c s h. replies_verdict k.credit (by_payload c (pending_payload t place c)) s h;
       read = λ r reads is. tt;
       refused = λ r reads c is found. (chunk_error_reply c.xid k.credit (small r.number c found) lt, tt);
     }) f last opcode stag to payload is

@@ -41,7 +41,7 @@ quad a b c d r s =
     append_assoc a (b ++ (c ++ (d ++ r))) s
     ∙ ap (λ (x : List ℕ). a ++ x) (append_assoc b (c ++ (d ++ r)) s ∙ ap (λ (x : List ℕ). b ++ x) (append_assoc c (d ++ r) s ∙ ap (λ (x : List ℕ). c ++ x) (append_assoc d r s)))
 
-pub record Plainly (m : List ℕ) : Type 0 where
+pub record IsServerMessage (m : List ℕ) : Type 0 where
   pub version : word_at 4 m ≡ 1
   pub kind : IsPlainKind (word_at 12 m)
 
@@ -52,11 +52,11 @@ words a c d r s fits =
       ap (λ (x : List ℕ). word_at 12 x) e ∙ kind_word a 1 c d (r ++ s) fits,
     )
 
-pub plainly : (xid credit : ℕ) (b : Body) (s : List ℕ) → IsStreamBody b → Plainly (header_encoding (record { xid = xid; credit = credit; body = b }) ++ s)
-plainly xid credit (Msg lists at) s (Inline l a) = (let w = words xid credit 0 (encodings (lists_items lists)) s (omega arith) in record { version = w.0; kind = OfMsg w.1 })
-plainly xid credit (Nomsg lists) s (Long l) = (let w = words xid credit 1 (encodings (lists_items lists)) s (omega arith) in record { version = w.0; kind = OfNomsg w.1 })
-plainly xid credit (ErrVers version low high) s w = elim w [ ]
-plainly xid credit (ErrChunk version) s w = elim w [ ]
+pub is_server_message : (xid credit : ℕ) (b : Body) (s : List ℕ) → IsStreamBody b → IsServerMessage (header_encoding (record { xid = xid; credit = credit; body = b }) ++ s)
+is_server_message xid credit (Msg lists at) s (Inline l a) = (let w = words xid credit 0 (encodings (lists_items lists)) s (omega arith) in record { version = w.0; kind = OfMsg w.1 })
+is_server_message xid credit (Nomsg lists) s (Long l) = (let w = words xid credit 1 (encodings (lists_items lists)) s (omega arith) in record { version = w.0; kind = OfNomsg w.1 })
+is_server_message xid credit (ErrVers version low high) s w = elim w [ ]
+is_server_message xid credit (ErrChunk version) s w = elim w [ ]
 
 answer_stream : (offer : ChunkLists) (a : Answer) → IsStreamBody (answer_body offer a)
 answer_stream offer a = by a.long
@@ -65,9 +65,9 @@ answer_stream offer a = by a.long
     by true = Long (answer_lists offer a)
     by false = Inline (answer_lists offer a) 0
 
-pub answer_plainly : (xid credit : ℕ) (offer : ChunkLists) (a : Answer) → Plainly (answer_message xid credit offer a)
+pub answer_is_server_message : (xid credit : ℕ) (offer : ChunkLists) (a : Answer) → IsServerMessage (answer_message xid credit offer a)
 unfolding answer_message
-answer_plainly xid credit offer a = plainly xid credit (answer_body offer a) (cond a.long [] a.stream) (answer_stream offer a)
+answer_is_server_message xid credit offer a = is_server_message xid credit (answer_body offer a) (cond a.long [] a.stream) (answer_stream offer a)
 
 -- ---- Its header
 

@@ -21,7 +21,7 @@ use Rattle.nr_reduce.specs.EndRules.{EndState, next_end_state, next_end_state_by
 use Rattle.nr_reduce.specs.OfferedRegions.{Region, closed_if, regions_closed}
 use Rattle.nr_reduce.specs.ServerState.{ServerState, PendingCall, PendingRead, next_stag}
 use Rattle.nr_reduce.specs.ServerReads.{open_reads, chunks_of, regions_from, regions_of, reads_of, is_read, is_over}
-use Rattle.nr_reduce.specs.ServerMessages.{Verdict, CallVerdict, verdict, by_payload, payload_of, chunk_bytes}
+use Rattle.nr_reduce.specs.ServerMessages.{Verdict, CallVerdict, verdict, by_payload, pending_payload, chunk_bytes}
 use Rattle.nr_reduce.specs.ServerMessages.CallVerdict.{Refuses, IsReady}
 use Rattle.nr_reduce.specs.ServerMessages.Verdict.{EndsLink, OtherVersion, BadChunks, MakesPending}
 use Rattle.nr_reduce.specs.ServerFrames.{FrameEffect, no_effect, with_verdict, ready_if_whole, with_refused_call, is_stream_read, read_effect, response_effect, call_of_number, message_effect, by_message, with_access, effect_in, frame_effect}
@@ -50,7 +50,7 @@ chunks_in k f (Ok (Tagged last opcode stag to payload)) = []
 chunks_in k f (Ok (Untagged last opcode w queue msn offset payload)) = chunks_of_message k f.end (message_completed k.received (Untagged last opcode w queue msn offset payload))
 
 whole_same : (k : ServerState) (place : ℕ) (c : PendingCall) (s : FrameEffect) → (ready_if_whole k place c s).regions ≡ s.regions
-whole_same k place c s = by (is_read s.reads c.number) (by_payload c (payload_of k place c))
+whole_same k place c s = by (is_read s.reads c.number) (by_payload c (pending_payload k place c))
   where
     by : (b : Bool) (o : CallVerdict) → (cond b (with_verdict o s) s).regions ≡ s.regions
     by true (Refuses reason) = refl

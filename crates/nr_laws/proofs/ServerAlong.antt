@@ -62,25 +62,25 @@ ServerPlain r (MemoryRevoked p xid) = Unit {0}
 ServerPlain r (CallExecuted e) = IsGoodExecution r e
 ServerPlain r (QueueWritten taken) = Unit {0}
 
-goes_fpdu : (opened : LinkParameters) (place : ℕ) (r : EndState ServerState) (es : List RunEvent) (came : List Output) → GoesOn (server_rules opened) ServerPlain place r es → Brings es came → AreFrom Fpdu came → GoesOn (server_rules opened) ServerGood place r es
-goes_fpdu opened place r [] came g b from = tt
-goes_fpdu opened place r (FrameReceived f ∷ es) [] g b from = absurd b
-goes_fpdu opened place r (FrameReceived f ∷ es) (AHello bytes ∷ came) g b from = absurd from
-goes_fpdu opened place r (FrameReceived f ∷ es) (ASegment s ∷ came) g b from = (g.0, inr (s, b.0.0, b.0.1), goes_fpdu opened f.end (next_end_state (server_rules opened) r (FrameReceived f)) es came g.2 b.1 from.1)
-goes_fpdu opened place r (CallSubmitted p a ∷ es) came g b from = (g.0, g.1, goes_fpdu opened place (next_end_state (server_rules opened) r (CallSubmitted p a)) es came g.2 b from)
-goes_fpdu opened place r (MemoryRevoked p xid ∷ es) came g b from = (g.0, g.1, goes_fpdu opened place (next_end_state (server_rules opened) r (MemoryRevoked p xid)) es came g.2 b from)
-goes_fpdu opened place r (CallExecuted e ∷ es) came g b from = (g.0, g.1, goes_fpdu opened place (next_end_state (server_rules opened) r (CallExecuted e)) es came g.2 b from)
-goes_fpdu opened place r (QueueWritten taken ∷ es) came g b from = (g.0, g.1, goes_fpdu opened place (next_end_state (server_rules opened) r (QueueWritten taken)) es came g.2 b from)
+fpdus_preserve : (opened : LinkParameters) (place : ℕ) (r : EndState ServerState) (es : List RunEvent) (came : List Output) → GoesOn (server_rules opened) ServerPlain place r es → Brings es came → AreFrom Fpdu came → GoesOn (server_rules opened) ServerGood place r es
+fpdus_preserve opened place r [] came g b from = tt
+fpdus_preserve opened place r (FrameReceived f ∷ es) [] g b from = absurd b
+fpdus_preserve opened place r (FrameReceived f ∷ es) (AHello bytes ∷ came) g b from = absurd from
+fpdus_preserve opened place r (FrameReceived f ∷ es) (ASegment s ∷ came) g b from = (g.0, inr (s, b.0.0, b.0.1), fpdus_preserve opened f.end (next_end_state (server_rules opened) r (FrameReceived f)) es came g.2 b.1 from.1)
+fpdus_preserve opened place r (CallSubmitted p a ∷ es) came g b from = (g.0, g.1, fpdus_preserve opened place (next_end_state (server_rules opened) r (CallSubmitted p a)) es came g.2 b from)
+fpdus_preserve opened place r (MemoryRevoked p xid ∷ es) came g b from = (g.0, g.1, fpdus_preserve opened place (next_end_state (server_rules opened) r (MemoryRevoked p xid)) es came g.2 b from)
+fpdus_preserve opened place r (CallExecuted e ∷ es) came g b from = (g.0, g.1, fpdus_preserve opened place (next_end_state (server_rules opened) r (CallExecuted e)) es came g.2 b from)
+fpdus_preserve opened place r (QueueWritten taken ∷ es) came g b from = (g.0, g.1, fpdus_preserve opened place (next_end_state (server_rules opened) r (QueueWritten taken)) es came g.2 b from)
 
-pub goes_hello : (opened : LinkParameters) (place : ℕ) (r : EndState ServerState) (es : List RunEvent) (came : List Output) → GoesOn (server_rules opened) ServerPlain place r es → Brings es came → AreFrom (HelloFrom Initiator) came → GoesOn (server_rules opened) ServerGood place r es
-goes_hello opened place r [] came g b from = tt
-goes_hello opened place r (FrameReceived f ∷ es) [] g b from = absurd b
-goes_hello opened place r (FrameReceived f ∷ es) (AHello bytes ∷ came) g b from = (g.0, inl (b.0.0, b.0.1 ∙ from.0), goes_fpdu opened f.end (next_end_state (server_rules opened) r (FrameReceived f)) es came g.2 b.1 from.1)
-goes_hello opened place r (FrameReceived f ∷ es) (ASegment s ∷ came) g b from = absurd from
-goes_hello opened place r (CallSubmitted p a ∷ es) came g b from = (g.0, g.1, goes_hello opened place (next_end_state (server_rules opened) r (CallSubmitted p a)) es came g.2 b from)
-goes_hello opened place r (MemoryRevoked p xid ∷ es) came g b from = (g.0, g.1, goes_hello opened place (next_end_state (server_rules opened) r (MemoryRevoked p xid)) es came g.2 b from)
-goes_hello opened place r (CallExecuted e ∷ es) came g b from = (g.0, g.1, goes_hello opened place (next_end_state (server_rules opened) r (CallExecuted e)) es came g.2 b from)
-goes_hello opened place r (QueueWritten taken ∷ es) came g b from = (g.0, g.1, goes_hello opened place (next_end_state (server_rules opened) r (QueueWritten taken)) es came g.2 b from)
+pub hello_preserves : (opened : LinkParameters) (place : ℕ) (r : EndState ServerState) (es : List RunEvent) (came : List Output) → GoesOn (server_rules opened) ServerPlain place r es → Brings es came → AreFrom (HelloFrom Initiator) came → GoesOn (server_rules opened) ServerGood place r es
+hello_preserves opened place r [] came g b from = tt
+hello_preserves opened place r (FrameReceived f ∷ es) [] g b from = absurd b
+hello_preserves opened place r (FrameReceived f ∷ es) (AHello bytes ∷ came) g b from = (g.0, inl (b.0.0, b.0.1 ∙ from.0), fpdus_preserve opened f.end (next_end_state (server_rules opened) r (FrameReceived f)) es came g.2 b.1 from.1)
+hello_preserves opened place r (FrameReceived f ∷ es) (ASegment s ∷ came) g b from = absurd from
+hello_preserves opened place r (CallSubmitted p a ∷ es) came g b from = (g.0, g.1, hello_preserves opened place (next_end_state (server_rules opened) r (CallSubmitted p a)) es came g.2 b from)
+hello_preserves opened place r (MemoryRevoked p xid ∷ es) came g b from = (g.0, g.1, hello_preserves opened place (next_end_state (server_rules opened) r (MemoryRevoked p xid)) es came g.2 b from)
+hello_preserves opened place r (CallExecuted e ∷ es) came g b from = (g.0, g.1, hello_preserves opened place (next_end_state (server_rules opened) r (CallExecuted e)) es came g.2 b from)
+hello_preserves opened place r (QueueWritten taken ∷ es) came g b from = (g.0, g.1, hello_preserves opened place (next_end_state (server_rules opened) r (QueueWritten taken)) es came g.2 b from)
 
 -- ---- Why a message is said
 

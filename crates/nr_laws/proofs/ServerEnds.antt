@@ -18,7 +18,7 @@ use Rattle.nr_reduce.specs.declared.mark.LinkParameters.{LinkParameters}
 use Rattle.nr_reduce.specs.OfferedRegions.{region_grants}
 use Rattle.nr_reduce.specs.Events.RunEvent.{FrameReceived}
 use Rattle.nr_reduce.specs.ServerState.{ServerState, PendingCall}
-use Rattle.nr_reduce.specs.ServerMessages.{Verdict, CallVerdict, verdict, by_head, by_payload, call_xid, payload_of}
+use Rattle.nr_reduce.specs.ServerMessages.{Verdict, CallVerdict, verdict, by_head, by_payload, call_xid, pending_payload}
 use Rattle.nr_reduce.specs.ServerMessages.Verdict.{EndsLink, OtherVersion, BadChunks, MakesPending}
 use Rattle.nr_reduce.specs.ServerMessages.CallVerdict.{Refuses, IsReady}
 use Rattle.nr_reduce.specs.ServerFrames.{FrameEffect, with_verdict, frame_effect}
@@ -77,8 +77,8 @@ effect_big k f =
     (record { judged = judged; ends = λ message reason good is. subst BigVerdict is (verdict_big k message); version = λ message good. tt; chunks = λ message good. tt; pending = λ place message c good is. tt })
     (record { unchanged = tt; judged = judged; read = λ r reads is. tt; refused = λ r reads c is found. tt }) f (λ s m is e. tt)
   where
-    judged : (t : ServerState) (place : ℕ) (c : PendingCall) (s : FrameEffect) → BigReason s.refusal → BigReason (with_verdict (by_payload c (payload_of t place c)) s).refusal
-    judged t place c s h = with_big (by_payload c (payload_of t place c)) s (payload_big c (payload_of t place c)) h
+    judged : (t : ServerState) (place : ℕ) (c : PendingCall) (s : FrameEffect) → BigReason s.refusal → BigReason (with_verdict (by_payload c (pending_payload t place c)) s).refusal
+    judged t place c s h = with_big (by_payload c (pending_payload t place c)) s (payload_big c (pending_payload t place c)) h
 
 -- ---- Ends
 

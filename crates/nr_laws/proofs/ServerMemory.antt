@@ -13,7 +13,7 @@ use Rattle.nr_reduce.specs.Events.RunEvent.{FrameReceived, CallSubmitted, Memory
 use Rattle.nr_reduce.specs.EndRules.{next_end_state_by, next_end_state_in, end_state_after}
 use Rattle.nr_reduce.specs.ServerState.{ServerState, PendingCall}
 use Rattle.nr_reduce.specs.ServerReads.{regions_of, is_over}
-use Rattle.nr_reduce.specs.ServerMessages.{CallVerdict, payload_of, by_payload}
+use Rattle.nr_reduce.specs.ServerMessages.{CallVerdict, pending_payload, by_payload}
 use Rattle.nr_reduce.specs.ServerMessages.CallVerdict.{Refuses, IsReady}
 use Rattle.nr_reduce.specs.ServerFrames.{FrameEffect, with_verdict, frame_effect}
 use Rattle.nr_reduce.specs.Server.{server_rules, server_end, server_state_after, initial_server, with_effect, tagged_accesses, with_own_hello}
@@ -46,8 +46,8 @@ new_effect k f =
       pending = λ place message c good is. record { new = regions_of k place c; is = refl };
     }) (record { unchanged = none_new k.regions _ refl; judged = judged; read = λ r reads is. none_new k.regions _ refl; refused = λ r reads c is found. none_new k.regions _ refl }) f (λ s m is e. tt)
   where
-    judged : (t : ServerState) (place : ℕ) (c : PendingCall) (s : FrameEffect) → HasNew k.regions s → HasNew k.regions (with_verdict (by_payload c (payload_of t place c)) s)
-    judged t place c s h = new_verdict k.regions (by_payload c (payload_of t place c)) s h
+    judged : (t : ServerState) (place : ℕ) (c : PendingCall) (s : FrameEffect) → HasNew k.regions s → HasNew k.regions (with_verdict (by_payload c (pending_payload t place c)) s)
+    judged t place c s h = new_verdict k.regions (by_payload c (pending_payload t place c)) s h
 
 -- ---- Each access was allowed
 

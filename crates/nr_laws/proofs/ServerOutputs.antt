@@ -19,7 +19,7 @@ use Rattle.nr_reduce.specs.History.{ExecutedCall}
 use Rattle.nr_reduce.specs.Holds.{Answer, answer_for, answer_size, answer_message, chunk_error, version_error, first_chunk, no_segments}
 use Rattle.nr_reduce.specs.ChunkBytes.{answer_segments, chunk_segments}
 use Rattle.nr_reduce.specs.ServerState.{ServerState, PendingCall, PendingRead, credit_word}
-use Rattle.nr_reduce.specs.ServerMessages.{CallVerdict, payload_of, by_payload}
+use Rattle.nr_reduce.specs.ServerMessages.{CallVerdict, pending_payload, by_payload}
 use Rattle.nr_reduce.specs.ServerMessages.CallVerdict.{Refuses, IsReady}
 use Rattle.nr_reduce.specs.ServerFrames.{FrameEffect, with_verdict, frame_effect}
 use Rattle.nr_reduce.specs.Server.{offer_by, offer_of, answer_of_target, newly_open_reads}
@@ -94,7 +94,7 @@ fine_verdict (IsReady r) s h = record { errors = h.errors; fit = h.fit }
 
 pub fine_messages : (k : ServerState) → CallsFit k.calls → MessageRule k IsBytes IsFine
 fine_messages k h = record {
-  judged = λ t place c s g. fine_verdict (by_payload c (payload_of t place c)) s g;
+  judged = λ t place c s g. fine_verdict (by_payload c (pending_payload t place c)) s g;
   ends = λ message reason bytes is. record { errors = NoError; fit = h };
   version = λ message bytes. record { errors = OneError _ (OfVersion (word_at 0 message) (word_at 4 message) (credit_word k) refl); fit = h };
   chunks = λ message bytes. record { errors = OneError _ (OfChunks (word_at 0 message) (credit_word k) refl); fit = h };
@@ -104,7 +104,7 @@ fine_messages k h = record {
 pub fine_responses : (k : ServerState) → CallsFit k.calls → ResponseRule k IsFine
 fine_responses k h = record {
   unchanged = record { errors = NoError; fit = h };
-  judged = λ t place c s g. fine_verdict (by_payload c (payload_of t place c)) s g;
+  judged = λ t place c s g. fine_verdict (by_payload c (pending_payload t place c)) s g;
   read = λ r reads is. record { errors = NoError; fit = h };
   refused = λ r reads c is found. record { errors = OneError _ (OfChunks c.xid (credit_word k) refl); fit = each_kept CallFits (λ other. not (eqb other.number c.number)) k.calls h };
 }

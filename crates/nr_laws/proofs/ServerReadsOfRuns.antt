@@ -43,7 +43,7 @@ use Rattle.nr_laws.proofs.OnceByXid.{at_mark}
 use Rattle.nr_laws.proofs.Outputs.Output.{AHello}
 use Rattle.nr_link.specs.Output.{own_hello}
 use Rattle.nr_laws.proofs.ReadsAlong.{ReadsAt, last_of, OwnMessages, frame_reads, executed_reads, other_reads}
-use Rattle.nr_laws.proofs.ServerAlong.{ServerGood, goes_hello, outs_of}
+use Rattle.nr_laws.proofs.ServerAlong.{ServerGood, hello_preserves, outs_of}
 use Rattle.nr_laws.proofs.ServerSide.{server_goes}
 use Rattle.nr_laws.proofs.SinksKept.{IsOwnRead}
 use Rattle.nr_laws.proofs.MadePending.{made_pending}
@@ -100,13 +100,13 @@ own_event opened link run typed asked matched es (MemoryRevoked p xid) more all 
 own_event opened link run typed asked matched es (CallExecuted e) more all = tt
 own_event opened link run typed asked matched es (QueueWritten taken) more all = tt
 
-goes_fine : (opened : LinkParameters) (link : ℕ) (run : List Mark) → IsTyped run → AskedSoFar opened link run → Matched link run
+runs_preserve : (opened : LinkParameters) (link : ℕ) (run : List Mark) → IsTyped run → AskedSoFar opened link run → Matched link run
     → (es more : List RunEvent) (place : ℕ) (r : EndState ServerState) → events link Responder run ≡ es ++ more → r ≡ end_state_after (server_rules opened) (initial_server opened) es → GoesOn (server_rules opened) ServerGood place r more → GoesOn (server_rules opened) ServerFine place r more
-goes_fine opened link run typed asked matched es [] place r all same g = tt
-goes_fine opened link run typed asked matched es (e ∷ more) place r all same g = (
+runs_preserve opened link run typed asked matched es [] place r all same g = tt
+runs_preserve opened link run typed asked matched es (e ∷ more) place r all same g = (
   g.0,
   (g.1, subst (λ (x : EndState ServerState). ServerOwn x e) (sym same) (own_event opened link run typed asked matched es e more all)),
-  goes_fine opened link run typed asked matched (es ++ e ∷ []) more (place_after place e) (next_end_state (server_rules opened) r e) (all ∙ sym (append_assoc es (e ∷ []) more))
+  runs_preserve opened link run typed asked matched (es ++ e ∷ []) more (place_after place e) (next_end_state (server_rules opened) r e) (all ∙ sym (append_assoc es (e ∷ []) more))
       (ap (λ (x : EndState ServerState). next_end_state (server_rules opened) x e) same ∙ sym (end_state_after_append (server_rules opened) (initial_server opened) es (e ∷ []))) g.2,
 )
 
@@ -117,7 +117,7 @@ server_fine opened link run typed asked served matched =
     let g = server_goes opened link run typed served in
     let r = server_receives_of opened link run typed asked matched in
     let es = events link Responder run in
-    goes_fine opened link run typed asked matched [] es 0 (initial_server opened) refl refl (goes_hello opened 0 (initial_server opened) es r.came g.goes r.brings r.from)
+    runs_preserve opened link run typed asked matched [] es 0 (initial_server opened) refl refl (hello_preserves opened 0 (initial_server opened) es r.came g.goes r.brings r.from)
 
 pub record ReadsKept (opened : LinkParameters) (es : List RunEvent) (r : EndState ServerState) (outs : List Output) : Type 0 where
   pub state : r ≡ end_state_after (server_rules opened) (initial_server opened) es

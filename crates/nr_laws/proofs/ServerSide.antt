@@ -20,12 +20,12 @@ use Rattle.nr_reduce.specs.Asked.{AskedSoFar}
 use Rattle.nr_reduce.specs.Served.{ServedMark, ServedSoFar, next_call, first_ready}
 use Rattle.nr_laws.specs.Typed.{TypedMark, IsTyped}
 use Rattle.nr_laws.proofs.Flows.{flows_down}
-use Rattle.nr_laws.proofs.EventOutputs.{GoesOn, Goes, goes_from, goes_nothing, FirstGood, along, places_after, whole_bytes}
+use Rattle.nr_laws.proofs.EventOutputs.{GoesOn, Goes, each_preserves, nothing_preserves, FirstGood, along, places_after, whole_bytes}
 use Rattle.nr_laws.proofs.Outputs.{Output, server_says, server_final_outputs}
 use Rattle.nr_laws.proofs.Outputs.Output.{ASegment}
 use Rattle.nr_laws.proofs.Brought.{AreFrom, Receives, receives}
 use Rattle.nr_laws.proofs.ClientRun.{each_both}
-use Rattle.nr_laws.proofs.ServerAlong.{ServerGood, ServerPlain, goes_hello, outs_of, ServerTells, Shape}
+use Rattle.nr_laws.proofs.ServerAlong.{ServerGood, ServerPlain, hello_preserves, outs_of, ServerTells, Shape}
 use Rattle.nr_laws.proofs.ServerEvents.{server_step}
 use Rattle.nr_laws.proofs.ExecutedCalls.{server_receives_of}
 
@@ -83,8 +83,8 @@ first_good opened link before (marks.Drop l) h = tt
 pub server_goes : (opened : LinkParameters) (link : ℕ) (run : List Mark) → IsTyped run → ServedSoFar opened link run → Goes (server_rules opened) ServerPlain (initial_server opened) link Responder run
 unfolding server
 server_goes opened link run typed served =
-    goes_from (server_rules opened) ServerPlain (λ r f h. tt) (initial_server opened) link Responder (ServerMark opened link) (first_good opened link) [] run typed
-    (each_both (ServedMark IsPrefixOf opened link) TypedMark [] run served typed) (goes_nothing (server_rules opened) ServerPlain (initial_server opened) link Responder)
+    each_preserves (server_rules opened) ServerPlain (λ r f h. tt) (initial_server opened) link Responder (ServerMark opened link) (first_good opened link) [] run typed
+    (each_both (ServedMark IsPrefixOf opened link) TypedMark [] run served typed) (nothing_preserves (server_rules opened) ServerPlain (initial_server opened) link Responder)
 
 tells_nothing : (opened : LinkParameters) → ServerTells opened [] 0 (initial_server opened) []
 tells_nothing opened = record {
@@ -109,7 +109,7 @@ server_tells opened link run typed asked served matched =
     let g = server_goes opened link run typed served in
     let r = server_receives_of opened link run typed asked matched in
     let es = events link Responder run in
-    let goes : GoesOn (server_rules opened) ServerGood 0 (initial_server opened) es = goes_hello opened 0 (initial_server opened) es r.came g.goes r.brings r.from in
+    let goes : GoesOn (server_rules opened) ServerGood 0 (initial_server opened) es = hello_preserves opened 0 (initial_server opened) es r.came g.goes r.brings r.from in
     let t : ServerTells opened es (places_after 0 es) (end_state_after (server_rules opened) (initial_server opened) es) (outs_of opened es) =
     along (server_rules opened) (server_says opened) server_final_outputs ServerGood (ServerTells opened)
     (λ es place r outs e next good t. server_step opened es place r.state r.ended outs e next good t) [] 0 (initial_server opened) [] es goes (tells_nothing opened) in

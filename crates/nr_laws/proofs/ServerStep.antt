@@ -34,7 +34,7 @@ use Rattle.nr_reduce.specs.OfferedRegions.{region_grants}
 use Rattle.nr_reduce.specs.ClientState.{ClientState}
 use Rattle.nr_reduce.specs.ServerState.{ServerState, PendingCall, is_pending, next_stag}
 use Rattle.nr_reduce.specs.ServerReads.{chunks_of}
-use Rattle.nr_reduce.specs.ServerMessages.{by_head, by_payload, call_xid, payload_of, Verdict, verdict, by_need, by_stream, by_body, by_header, has_position, no_stream}
+use Rattle.nr_reduce.specs.ServerMessages.{by_head, by_payload, call_xid, pending_payload, Verdict, verdict, by_need, by_stream, by_body, by_header, has_position, no_stream}
 use Rattle.nr_reduce.specs.ServerMessages.CallVerdict.{Refuses, IsReady}
 use Rattle.nr_reduce.specs.ServerMessages.Verdict.{EndsLink, OtherVersion, BadChunks, MakesPending}
 use Rattle.nr_reduce.specs.ServerFrames.{FrameEffect, with_verdict, frame_effect}
@@ -123,13 +123,13 @@ reason_verdict k message kind again room bytes one =
 
 refused_tagged : (k : ServerState) (f : Frame) (last : Bool) (opcode stag to : ℕ) (payload : List ℕ) → frame_segment f ≡ Ok (Tagged last opcode stag to payload) → Refusal (frame_effect k f).refusal
 refused_tagged k f last opcode stag to payload is =
-    tagged_effect_lem k (λ s. Refusal s.refusal) (record { unchanged = tt; judged = λ t place c s h. refused_payload c (payload_of t place c) s h; read = λ r reads is. tt; refused = λ r reads c is found. tt }) f last opcode stag to payload is
+    tagged_effect_lem k (λ s. Refusal s.refusal) (record { unchanged = tt; judged = λ t place c s h. refused_payload c (pending_payload t place c) s h; read = λ r reads is. tt; refused = λ r reads c is found. tt }) f last opcode stag to payload is
 
 refused_send_lem : (k : ServerState) (f : Frame) (message : SentMessage) → CompletesMessage k.received message → word_at 12 message.bytes ≤ 1 → is_pending k (word_at 0 message.bytes) ≡ false → next_stag k + 1 ≤ 4294967296 → IsBytes message.bytes → OneChunk message.bytes
     → frame_segment f ≡ Ok (last_segment k.received.sends message) → Refusal (frame_effect k f).refusal
 refused_send_lem k f message completes kind again room bytes one is =
     send_effect k (λ m. VerdictReason (verdict k m)) (λ s. Refusal s.refusal) (record {
-      judged = λ t place c s h. refused_payload c (payload_of t place c) s h;
+      judged = λ t place c s h. refused_payload c (pending_payload t place c) s h;
       ends = λ message reason h is. subst VerdictReason is h;
       version = λ message h. tt;
       chunks = λ message h. tt;

@@ -23,7 +23,7 @@ use Rattle.nr_reduce.specs.Asked.{Asked}
 use Rattle.nr_reduce.specs.Served.{Served, first_ready, next_call}
 use Rattle.nr_reduce.specs.Matched.{Matched}
 use Rattle.nr_laws.specs.Typed.{IsTyped}
-use Rattle.nr_laws.specs.Completion.{IsQuiescent, IsKept, HasOutcome, CallsComplete}
+use Rattle.nr_laws.specs.Completion.{IsQuiescent, IsAwaitedStill, HasOutcome, CallsComplete}
 use Rattle.nr_laws.proofs.FrameContents.{FrameContent, numbered_segment, output_bytes, sends_in, requests_in}
 use Rattle.nr_laws.proofs.LinkInvariants.{Transit, TotalsAgree}
 use Rattle.nr_laws.proofs.StreamFrames.{AreWritableFrom, proper_frame, IsOf, frames_at, length_frames, spelled_concat}
@@ -119,7 +119,7 @@ left_over true c e none = refl
 left_over false true e none = absurd cc
 left_over false false e none = absurd cc
 
-outcome_of : (opened : LinkParameters) (link : ℕ) (run : List Mark) → (client opened link run).ended ≡ None → (client opened link run).state.outstanding ≡ [] → (a : AcceptedCall) → IsKept link run a → has_outcome (client opened link run).state.outcomes a.xid ≡ true
+outcome_of : (opened : LinkParameters) (link : ℕ) (run : List Mark) → (client opened link run).ended ≡ None → (client opened link run).state.outstanding ≡ [] → (a : AcceptedCall) → IsAwaitedStill link run a → has_outcome (client opened link run).state.outcomes a.xid ≡ true
 outcome_of opened link run stays none a kept =
     let k = (client opened link run).state in
     let h = of_call_lem (IsAccounted (gone_in link run) k) (accepted_calls link run) a (accounts opened link run stays).each kept.accepted in
@@ -166,7 +166,7 @@ other_of : (b c : Bool) → (b || c) ≡ true → b ≡ false → c ≡ true
 other_of true c e none = absurd cc
 other_of false c e none = e
 
-handed_over_lem : (opened : LinkParameters) (link : ℕ) (run : List Mark) → outcomes_due opened link run ≡ [] → (a : AcceptedCall) → IsKept link run a → has_outcome (client opened link run).state.outcomes a.xid ≡ true → has_outcome (completed_calls link run) a.xid ≡ true
+handed_over_lem : (opened : LinkParameters) (link : ℕ) (run : List Mark) → outcomes_due opened link run ≡ [] → (a : AcceptedCall) → IsAwaitedStill link run a → has_outcome (client opened link run).state.outcomes a.xid ≡ true → has_outcome (completed_calls link run) a.xid ≡ true
 unfolding outcomes_due
 handed_over_lem opened link run none a kept some =
     let outs = (client opened link run).state.outcomes in

@@ -16,7 +16,7 @@ use Rattle.nr_reduce.specs.Events.RunEvent.{FrameReceived, CallSubmitted, Memory
 use Rattle.nr_reduce.specs.EndRules.{EndState, end_state_after}
 use Rattle.nr_reduce.specs.ServerState.{ServerState, PendingCall, PendingRead, next_stag}
 use Rattle.nr_reduce.specs.ServerReads.{regions_from, regions_of, chunks_of, is_read, is_over}
-use Rattle.nr_reduce.specs.ServerMessages.{Verdict, CallVerdict, verdict, by_payload, payload_of}
+use Rattle.nr_reduce.specs.ServerMessages.{Verdict, CallVerdict, verdict, by_payload, pending_payload}
 use Rattle.nr_reduce.specs.ServerMessages.Verdict.{EndsLink, OtherVersion, BadChunks, MakesPending}
 use Rattle.nr_reduce.specs.ServerMessages.CallVerdict.{Refuses, IsReady}
 use Rattle.nr_reduce.specs.ServerFrames.{FrameEffect, no_effect, with_verdict, ready_if_whole, message_effect, with_refused_call, read_effect, call_of_number, response_effect, by_message, with_access, effect_in, frame_effect}
@@ -62,7 +62,7 @@ effect_verdict (Refuses reason) s h = h
 effect_verdict (IsReady r) s h = h
 
 effect_whole : (k : ServerState) (place : ℕ) (c : PendingCall) (s : FrameEffect) → AreSinks s.regions → AreSinks (ready_if_whole k place c s).regions
-effect_whole k place c s h = effect_if (is_read s.reads c.number) _ s (effect_verdict (by_payload c (payload_of k place c)) s h) h
+effect_whole k place c s h = effect_if (is_read s.reads c.number) _ s (effect_verdict (by_payload c (pending_payload k place c)) s h) h
 
 effect_message : (k : ServerState) (place : ℕ) (message : List ℕ) (v : Verdict) → AreSinks k.regions → AreSinks (message_effect k place message v).regions
 effect_message k place message (EndsLink reason) h = h

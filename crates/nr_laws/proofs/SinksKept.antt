@@ -9,7 +9,7 @@ use Rattle.nr_reduce.specs.Plans.{entries_from}
 use Rattle.nr_reduce.specs.OfferedRegions.{Region}
 use Rattle.nr_reduce.specs.ServerState.{ServerState, PendingCall, PendingRead, next_stag}
 use Rattle.nr_reduce.specs.ServerReads.{open_reads, regions_from, regions_of, stag_by, sink_of, reads_from, reads_of, is_read}
-use Rattle.nr_reduce.specs.ServerMessages.{CallVerdict, chunk_bytes, payload_of, by_payload}
+use Rattle.nr_reduce.specs.ServerMessages.{CallVerdict, chunk_bytes, pending_payload, by_payload}
 use Rattle.nr_reduce.specs.ServerMessages.CallVerdict.{Refuses, IsReady}
 use Rattle.nr_reduce.specs.ServerFrames.{FrameEffect, no_effect, with_verdict, ready_if_whole, with_refused_call, is_stream_read, read_effect}
 use Rattle.nr_reduce.specs.Server.{newly_open_reads}
@@ -69,8 +69,8 @@ ready_kept k t place c done later s sends h = by (is_read s.reads c.number)
     by_verdict (Refuses reason) = record { calls = h.calls; sinks = h.sinks; owners = h.owners; opened = h.opened }
     by_verdict (IsReady r) = record { calls = h.calls; sinks = h.sinks; owners = h.owners; opened = h.opened }
 
-    by : (b : Bool) → EffectKept k done later (cond b (with_verdict (by_payload c (payload_of t place c)) s) s) sends
-    by true = by_verdict (by_payload c (payload_of t place c))
+    by : (b : Bool) → EffectKept k done later (cond b (with_verdict (by_payload c (pending_payload t place c)) s) s) sends
+    by true = by_verdict (by_payload c (pending_payload t place c))
     by false = h
 
 -- ---- A call that becomes pending

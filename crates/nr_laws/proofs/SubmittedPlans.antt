@@ -21,7 +21,7 @@ use Rattle.nr_reduce.specs.Asked.{AskedSoFar, IsAccepted}
 use Rattle.nr_reduce.proofs.Placing.{xids_differ}
 use Rattle.nr_laws.specs.Typed.{IsTyped}
 use Rattle.nr_laws.specs.Payloads.{HasPlan}
-use Rattle.nr_laws.proofs.EventOutputs.{GoesOn, goes_first, places_after}
+use Rattle.nr_laws.proofs.EventOutputs.{GoesOn, first_preserve, places_after}
 use Rattle.nr_laws.proofs.Memory.{Settled}
 use Rattle.nr_laws.proofs.ClientSays.{ClientGood, accepted_in, accepted_append, asked}
 use Rattle.nr_laws.proofs.ClientRun.{SubmittedCall, client_goes, each_submitted}
@@ -65,7 +65,7 @@ pub answered_submit : (opened : LinkParameters) (link : ℕ) (run : List Mark) �
 answered_submit opened link run typed asked_so es more is xid o found =
     let g = client_goes opened link run typed asked_so in
     let goes : GoesOn (client_rules opened) (ClientGood opened) 0 (initial_client opened) es =
-    goes_first (client_rules opened) (ClientGood opened) 0 (initial_client opened) es more (subst (λ (xs : List RunEvent). GoesOn (client_rules opened) (ClientGood opened) 0 (initial_client opened) xs) is g.goes) in
+    first_preserve (client_rules opened) (ClientGood opened) 0 (initial_client opened) es more (subst (λ (xs : List RunEvent). GoesOn (client_rules opened) (ClientGood opened) 0 (initial_client opened) xs) is g.goes) in
     let k = keeps_along opened es goes in
     let a = asked_found opened es (λ (x : OutstandingCall). eqb x.xid xid && is_sent (client_by opened es).state x) (client_by opened es).state.outstanding o k.keeps.owns found in
     let later = asked_append opened es more in

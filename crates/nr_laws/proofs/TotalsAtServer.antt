@@ -16,7 +16,7 @@ use Rattle.nr_link.specs.Ending.{frame_segment}
 use Rattle.nr_reduce.specs.Events.RunEvent.{FrameReceived, CallExecuted, QueueWritten}
 use Rattle.nr_reduce.specs.ServerState.{ServerState, PendingCall, PendingRead, credit_word}
 use Rattle.nr_reduce.specs.ServerFrames.{FrameEffect, frame_effect, effect_in, message_effect, no_effect, ready_if_whole, with_verdict, with_refused_call, read_effect, response_effect, call_of_number, is_stream_read, with_access}
-use Rattle.nr_reduce.specs.ServerMessages.{Verdict, CallVerdict, verdict, by_payload, payload_of, chunk_bytes}
+use Rattle.nr_reduce.specs.ServerMessages.{Verdict, CallVerdict, verdict, by_payload, pending_payload, chunk_bytes}
 use Rattle.nr_reduce.specs.ServerReads.{open_reads, reads_of, regions_of, is_over}
 use Rattle.nr_reduce.specs.Server.{with_own_hello, effect_output, send_ends_from, execution_output, with_effect, newly_open_reads, server_state_after, offer_of, answer_of_target, received_by, response_bytes_after, tagged_accesses}
 use Rattle.nr_reduce.specs.ServerMessages.Verdict.{EndsLink, OtherVersion, BadChunks, MakesPending}
@@ -50,7 +50,7 @@ shape_ready k st new kept (Refuses reason) h = record { counted = h.counted; kep
 shape_ready k st new kept (IsReady r) h = record { counted = h.counted; kept_is = h.kept_is; kept_there = h.kept_there }
 
 shape_whole : (k c_k : ServerState) (place : ℕ) (c : PendingCall) (st : FrameEffect) (new kept : ℕ) → EffectTotals k st new kept → EffectTotals k (ready_if_whole c_k place c st) new kept
-shape_whole k c_k place c st new kept h = whole_rule (λ x. EffectTotals k x new kept) c_k place c st (λ g. shape_ready k st new kept (by_payload c (payload_of c_k place c)) g) h
+shape_whole k c_k place c st new kept h = whole_rule (λ x. EffectTotals k x new kept) c_k place c st (λ g. shape_ready k st new kept (by_payload c (pending_payload c_k place c)) g) h
 
 -- more reads at the end
 taken_more : (n : ℕ) (xs ys : List PendingRead) → length (take n xs) ≤ length (take n (xs ++ ys))

@@ -29,7 +29,7 @@ use Rattle.nr_reduce.specs.KeepsReplyLimits.{KeepsReplyLimits}
 use Rattle.nr_laws.specs.MarkAt.{MarkAt}
 use Rattle.nr_laws.specs.MatchedSoFar.{MatchedSoFar}
 use Rattle.nr_laws.specs.Typed.{IsTyped}
-use Rattle.nr_laws.specs.Completion.{IsQuiescent, IsKept}
+use Rattle.nr_laws.specs.Completion.{IsQuiescent, IsAwaitedStill}
 use Rattle.nr_laws.specs.Payloads.{HasPlan}
 use Rattle.nr_laws.specs.RefusedMessages.{HasRefusedMessage}
 use Rattle.nr_laws.specs.PlainLinks.{server_with, HasPlainReplies}
@@ -66,7 +66,7 @@ OthersHaveNoCause = (opened : LinkParameters) (link : ℕ) (run before : List Ma
 -- up has its Done with Chunk.
 abbrev pub CausedCallsComplete : Type 0
 CausedCallsComplete = (opened : LinkParameters) (link : ℕ) (run : List Mark) → IsTyped run → Asked opened link run → Served opened link run → Matched link run →
-    IsQuiescent opened link run → outcomes_due opened link run ≡ [] → (a : AcceptedCall) → IsKept link run a → HasChunkCause opened link run a.xid →
+    IsQuiescent opened link run → outcomes_due opened link run ≡ [] → (a : AcceptedCall) → IsAwaitedStill link run a → HasChunkCause opened link run a.xid →
     Contains (completed_calls link run) (record { xid = a.xid; outcome = outcomes.Chunk })
 
 -- On a matched link no call completes with another version: both sides use version 1 (RFC 8166 section 4.2.2).

@@ -27,7 +27,7 @@ pub record IsQuiescent (opened : LinkParameters) (link : ℕ) (run : List Mark) 
   pub nothing_waits : NothingInTransit opened link run
 
 -- an accepted call that wasn't given up
-pub record IsKept (link : ℕ) (run : List Mark) (a : AcceptedCall) : Type 0 where
+pub record IsAwaitedStill (link : ℕ) (run : List Mark) (a : AcceptedCall) : Type 0 where
   pub accepted : Contains (accepted_calls link run) a
   pub kept : is_abandoned link a.xid run ≡ false
 
@@ -39,8 +39,8 @@ HasOutcome calls xid = (outcome : Outcome) × Contains calls (record { xid = xid
 -- outcomes that are due are handed over, each of these has its Done.
 pub record HaveCompleted (opened : LinkParameters) (link : ℕ) (run : List Mark) : Type 0 where
   pub none_outstanding : calls_outstanding opened link run ≡ 0
-  pub has_outcome : (a : AcceptedCall) → IsKept link run a → HasOutcome (client opened link run).state.outcomes a.xid
-  pub has_done : outcomes_due opened link run ≡ [] → (a : AcceptedCall) → IsKept link run a → HasOutcome (completed_calls link run) a.xid
+  pub has_outcome : (a : AcceptedCall) → IsAwaitedStill link run a → HasOutcome (client opened link run).state.outcomes a.xid
+  pub has_done : outcomes_due opened link run ≡ [] → (a : AcceptedCall) → IsAwaitedStill link run a → HasOutcome (completed_calls link run) a.xid
 
 abbrev pub CallsComplete : Type 0
 CallsComplete = (opened : LinkParameters) (link : ℕ) (run : List Mark) → IsTyped run → Asked opened link run → Served opened link run → Matched link run → IsQuiescent opened link run → HaveCompleted opened link run

@@ -22,7 +22,7 @@ use Rattle.nr_laws.specs.PlainLinks.{server_with, AnsweredByPlainServerOn, AtPla
 -- that over the first entries of the journal, the number that its place gives; what the call adds follows them.
 pub record HasPlainReply (plain : PlainServer) (J : List Entry) (link : ℕ) (run : List Mark) (xid : ℕ) (call : Call) (form : Form) (reply : List ℕ) : Type 0 where
   pub own : HasReply link run xid call form reply
-  pub plainly : AtPlace plain J own.moment own.payload own.place reply
+  pub plain_replies : AtPlace plain J own.moment own.payload own.place reply
 
 -- On a matched link whose calls are answered as the plain server answers, each at its place in a journal, each reply that is handed over is such a
 -- reply: whatever the run's marks of other links are. It holds of any plain server, by a lemma in `proofs/`. A clause can't quantify over records of

@@ -3,7 +3,7 @@
 ghost use Rattle.std.specs.Prelude.{◌≡◌, ◌+◌, ◌≤◌, [], length, IfOk};
 ghost use Rattle.std.specs.Option.{option_to_list};
 ghost use Rattle.nr_reduce.specs.declared.mark.Entry.{Entry};
-ghost use Rattle.nr_plain.specs.private.Code.{IsWithin};
+ghost use Rattle.nr_plain.specs.private.Code.{IsHeadWithin};
 ghost use Rattle.nr_plain.specs.Journal.{nfs_procedure_of};
 ghost use Rattle.nr_plain.specs.Replies.{cred_refusal, entries_if};
 ghost use Rattle.nr_plain.specs.Added.{accept_stat_at, entries_by_cred, entries_by_head, entries_by_procedure, entries_by_program, entries_of_call, has_succeeded, has_word, reply_stat_at, status_at};
@@ -67,7 +67,7 @@ fn entry_of_head(
     reply: &[u8],
     head: CallHead,
 ) -> Result<Option<Entry>, Memory>
-    requires { IsWithin payload.now head }
+    requires { IsHeadWithin payload.now head }
     ensures { IfOk result (λ entry. option_to_list entry ≡ entries_by_head moment payload.now reply.now head) }
 {
     match head {

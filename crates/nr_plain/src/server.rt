@@ -9,7 +9,7 @@ ghost use Rattle.nr_rpc.specs.Reading.{call_of};
 ghost use Rattle.nr_tree.specs.Rules.{IsWithinCapacity, entry_cost as cost_of_entry};
 ghost use Rattle.nr_tree.specs.Steps.{IsBelow, IsBounded};
 ghost use Rattle.nr_plain.specs.Setup.{Setup, Parameters, caller_of, space_of, time_of};
-ghost use Rattle.nr_plain.specs.private.Code.{IsWithin, changes_from, entry_of, reply_from, tree_from};
+ghost use Rattle.nr_plain.specs.private.Code.{IsHeadWithin, changes_from, entry_of, reply_from, tree_from};
 ghost use Rattle.nr_plain.specs.Journal.{nfs_procedure_of, cost_of};
 ghost use Rattle.nr_plain.specs.Replies.{nfs_by_procedure, nfs_call, mount_call, program_call, call_by_cred, cred_refusal, answer_to};
 ghost use Rattle.nr_plain.specs.Stands.{RepresentsJournal, ExecutesCall, IsCause, state_kept, state_after_answer};
@@ -241,7 +241,7 @@ impl Server {
         payload: &[u8],
         head: &CallHead,
     ) -> Result<Octets, Memory>
-        requires { IsWithin payload.now head.now }
+        requires { IsHeadWithin payload.now head.now }
         ensures reply { IfOk result (λ o. o ≡ (answer_to self.old.parameters (state_kept self.old) now payload.now head.now).reply) }
         ensures kept { OnOk result (self.new ≡ state_after_answer self.old (answer_to self.old.parameters (state_kept self.old) now payload.now head.now).entries) }
         ensures err { OnErr result (self.new ≡ self.old) }

@@ -8,7 +8,7 @@ use Rattle.nr_record.specs.declared.fault.RecordFault.{RecordFault}
 use Rattle.nr_record.specs.declared.fault.RecordFault.TheVariants.{Bad, Memory}
 use Rattle.nr_record.specs.Constants.{RECORD_MAX, REASON_RECORD}
 use Rattle.nr_record.specs.Records.{header, fragment, fragments, Cut, encoding, IsShort, Fits, encodings, IsBegun, IsAboveAt}
-use Rattle.nr_record.specs.Kept.{Kept, IsWithin, InHeader, InFragment, IsLess, IsAbove, IsState, Stands, StandsFor, IsFaultOf}
+use Rattle.nr_record.specs.RecordsState.{RecordsState, IsContentInLimit, InHeader, InFragment, IsLess, IsAbove, IsState, Stands, RepresentsStream, IsFaultOf}
 use Rattle.nr_record.proofs.Unique.{parts, same_header, same_fragment, one_encoding, no_more, regrouped}
 use Rattle.nr_record.proofs.Begun.{all_short, within_fits, all_fit, state_begun}
 
@@ -37,7 +37,7 @@ none_in sum (c ∷ bs) b x (g ∷ gs) m n y p q r lt le above e =
     s.rest
 
 -- what stands after the fragments of a record that is begun: what is less than a fragment has no header above the limit
-none_less : (k : Kept) (begun : List (List ℕ)) (partial : List ℕ) (sum : ℕ) (gs : List (List ℕ)) (m : Bool) (n : ℕ) (y : List ℕ) → IsLess k begun partial → sum ≡ length (concat begun) → AllByRecursion IsShort gs → n < 2 ^ 31
+none_less : (k : RecordsState) (begun : List (List ℕ)) (partial : List ℕ) (sum : ℕ) (gs : List (List ℕ)) (m : Bool) (n : ℕ) (y : List ℕ) → IsLess k begun partial → sum ≡ length (concat begun) → AllByRecursion IsShort gs → n < 2 ^ 31
     → RECORD_MAX < sum + (length (concat gs) + n) → ¬ (partial ≡ fragments gs ++ (header m n ++ y))
 none_less k begun partial sum [] m n y less is r lt above e = ⊎_elim
     (λ (h : InHeader k.payload k.head k.left begun partial). absurd (omega (arith, h.short, ap length h.partial_is, ap length e, length-append (header m n) y, length_word (2 ^ 31 * bit m + n))))
@@ -58,7 +58,7 @@ none_less k begun partial sum (g ∷ gs) m n y less is r lt above e = ⊎_elim
     absurd (omega (arith, len, ap length t.1, length-append g rest, h.0)))
     less
 
-none_begun : (k : Kept) (whole : List (List ℕ)) (partial : List ℕ) (sum : ℕ) (begun gs : List (List ℕ)) (m : Bool) (n : ℕ) (y : List ℕ) → IsLess k whole partial → sum + length (concat begun) ≡ length (concat whole) → length (concat whole) ≤ RECORD_MAX
+none_begun : (k : RecordsState) (whole : List (List ℕ)) (partial : List ℕ) (sum : ℕ) (begun gs : List (List ℕ)) (m : Bool) (n : ℕ) (y : List ℕ) → IsLess k whole partial → sum + length (concat begun) ≡ length (concat whole) → length (concat whole) ≤ RECORD_MAX
     → AllByRecursion IsShort begun → AllByRecursion IsShort gs → n < 2 ^ 31 → RECORD_MAX < sum + (length (concat gs) + n) → ¬ (fragments begun ++ partial ≡ fragments gs ++ (header m n ++ y))
 none_begun k whole partial sum [] gs m n y less is within p r lt above e = none_less k whole partial sum gs m n y less (omega (arith, is)) r lt above e
 none_begun k whole partial sum (b ∷ begun) [] m n y less is within p r lt above e =
@@ -70,7 +70,7 @@ none_begun k whole partial sum (b ∷ begun) (g ∷ gs) m n y less is within p r
     let len : length b ≡ length g = ap length s.payload in
     none_begun k whole partial (sum + length b) begun gs m n y less (omega (arith, is, length-append b (concat begun))) within p.1 r.1 lt (omega (arith, above, len, length-append g (concat gs))) s.rest
 
-pub none_list : (cuts ds : List Cut) (rest : List ℕ) (gs : List (List ℕ)) (m : Bool) (n : ℕ) (y : List ℕ) → AllByRecursion IsWithin cuts → AllByRecursion Fits ds → AllByRecursion IsShort gs → n < 2 ^ 31 → RECORD_MAX < length (concat gs) + n
+pub none_list : (cuts ds : List Cut) (rest : List ℕ) (gs : List (List ℕ)) (m : Bool) (n : ℕ) (y : List ℕ) → AllByRecursion IsContentInLimit cuts → AllByRecursion Fits ds → AllByRecursion IsShort gs → n < 2 ^ 31 → RECORD_MAX < length (concat gs) + n
     → IsBegun rest → ¬ (rest ≡ fragments gs ++ (header m n ++ y)) → ¬ (encodings cuts ++ rest ≡ (encodings ds ++ fragments gs) ++ (header m n ++ y))
 none_list [] [] rest gs m n y p q r lt above begun other e = other e
 none_list [] (d ∷ ds) rest gs m n y p q r lt above begun other e =
@@ -82,7 +82,7 @@ none_list (c ∷ cuts) (d ∷ ds) rest gs m n y p q r lt above begun other e =
     (sym (append_assoc (encoding c) (encodings cuts) rest) ∙ (e ∙ regrouped (encoding d) (encodings ds) (fragments gs) (header m n ++ y))) in
     none_list cuts ds rest gs m n y p.1 q.1 r lt above begun other s.1
 
-pub none_above : (k : Kept) (stream : List ℕ) (taken at : ℕ) → StandsFor k stream taken → k.fault ≡ None → ¬ (IsAboveAt stream at)
+pub none_above : (k : RecordsState) (stream : List ℕ) (taken at : ℕ) → RepresentsStream k stream taken → k.fault ≡ None → ¬ (IsAboveAt stream at)
 none_above k stream taken at start none a =
     none_list s.cuts a.cuts (fragments s.begun ++ s.partial) a.begun a.last a.len a.more s.within a.fit a.begun_fit a.short a.above
     (state_begun None k s.begun s.partial s.unread (length (encodings s.cuts ++ fragments s.begun)) s.begun_within s.state)
@@ -119,7 +119,7 @@ first_begun sum (b ∷ begun) z (g ∷ gs) m n y le p r lt above e =
     let h = first_begun (sum + length b) begun z gs m n y (omega (arith, le, length-append b (concat begun))) p.1 r.1 lt (omega (arith, above, len, length-append g (concat gs))) s.rest in
     omega (arith, h, ap (λ (l : List ℕ). length (fragment false l)) s.payload, length-append (fragment false b) (fragments begun), length-append (fragment false g) (fragments gs))
 
-first_list : (cuts ds : List Cut) (begun : List (List ℕ)) (z : List ℕ) (gs : List (List ℕ)) (m : Bool) (n : ℕ) (y : List ℕ) → AllByRecursion IsWithin cuts → AllByRecursion Fits ds → length (concat begun) ≤ RECORD_MAX → AllByRecursion IsShort begun → AllByRecursion IsShort gs
+first_list : (cuts ds : List Cut) (begun : List (List ℕ)) (z : List ℕ) (gs : List (List ℕ)) (m : Bool) (n : ℕ) (y : List ℕ) → AllByRecursion IsContentInLimit cuts → AllByRecursion Fits ds → length (concat begun) ≤ RECORD_MAX → AllByRecursion IsShort begun → AllByRecursion IsShort gs
     → n < 2 ^ 31 → RECORD_MAX < length (concat gs) + n → encodings cuts ++ (fragments begun ++ z) ≡ (encodings ds ++ fragments gs) ++ (header m n ++ y) → length (encodings cuts ++ fragments begun) ≤ length (encodings ds ++ fragments gs)
 first_list [] [] begun z gs m n y p q le all r lt above e = first_begun 0 begun z gs m n y (omega (arith, le)) all r lt (omega (arith, above)) e
 first_list [] (d ∷ ds) begun z gs m n y p q le all r lt above e =
@@ -143,7 +143,7 @@ first_list (c ∷ cuts) (d ∷ ds) begun z gs m n y p q le all r lt above e =
       length-append (encodings ds) (fragments gs),
     )
 
-pub bad_above : (k : Kept) (stream : List ℕ) (taken at reason : ℕ) → StandsFor k stream taken → k.fault ≡ Some (Bad at reason) → (reason ≡ REASON_RECORD) × IsAboveAt stream at × ((other : ℕ) → IsAboveAt stream other → at ≤ other)
+pub bad_above : (k : RecordsState) (stream : List ℕ) (taken at reason : ℕ) → RepresentsStream k stream taken → k.fault ≡ Some (Bad at reason) → (reason ≡ REASON_RECORD) × IsAboveAt stream at × ((other : ℕ) → IsAboveAt stream other → at ≤ other)
 bad_above k stream taken at reason start bad = (s.state.1, here, first) where
   s : Stands (IsState (Some (Bad at reason)) k) k stream taken
   s = subst (λ (f : Option RecordFault). Stands (IsState f k) k stream taken) bad start
@@ -181,11 +181,11 @@ bad_above k stream taken at reason start bad = (s.state.1, here, first) where
       (sym (s.stream_is ∙ (append_assoc e (f ++ s.partial) s.unread ∙ ap (λ (l : List ℕ). e ++ l) (append_assoc f s.partial s.unread))) ∙ b.stream_is) in
       omega (arith, h, s.state.0, b.at_is)
 
-pub answer_ok : (r : Result Unit RecordFault) (k : Kept) (stream : List ℕ) (taken : ℕ) → StandsFor k stream taken → OnOk r (k.fault ≡ None) → OnOk r ((at : ℕ) → ¬ (IsAboveAt stream at))
+pub answer_ok : (r : Result Unit RecordFault) (k : RecordsState) (stream : List ℕ) (taken : ℕ) → RepresentsStream k stream taken → OnOk r (k.fault ≡ None) → OnOk r ((at : ℕ) → ¬ (IsAboveAt stream at))
 answer_ok (Ok x) k stream taken s e = λ at. none_above k stream taken at s e
 answer_ok (Err f) k stream taken s e = tt
 
-pub answer_err : (r : Result Unit RecordFault) (k : Kept) (stream : List ℕ) (taken : ℕ) → StandsFor k stream taken → IfErr r (λ fault. k.fault ≡ Some fault) → IfErr r (IsFaultOf stream)
+pub answer_err : (r : Result Unit RecordFault) (k : RecordsState) (stream : List ℕ) (taken : ℕ) → RepresentsStream k stream taken → IfErr r (λ fault. k.fault ≡ Some fault) → IfErr r (IsFaultOf stream)
 answer_err (Ok x) k stream taken s e = tt
 answer_err (Err (Bad at reason)) k stream taken s e = bad_above k stream taken at reason s e
 answer_err (Err Memory) k stream taken s e = tt

@@ -7,7 +7,7 @@ use Rattle.nr_record.specs.declared.fault.RecordFault.{RecordFault}
 use Rattle.nr_record.specs.declared.fault.RecordFault.TheVariants.{Bad, Memory}
 use Rattle.nr_record.specs.Constants.{RECORD_MAX}
 use Rattle.nr_record.specs.Records.{header, fragments, IsShort, contents, encodings, as_one, IsBegun, IsAboveAt, RecordsEncode}
-use Rattle.nr_record.specs.Kept.{Kept, IsInLimit, IsWithin, IsOutOfMemory, IsState, StandsFor, read_in, rest_in}
+use Rattle.nr_record.specs.RecordsState.{RecordsState, IsInLimit, IsContentInLimit, IsOutOfMemory, IsState, RepresentsStream, read_in, rest_in}
 use Rattle.nr_record.proofs.Unique.{parts, one_list, one_reading, begun_none, written}
 use Rattle.nr_record.proofs.Begun.{all_short, all_fit, header_begun, records_encoded, all_read, cut_alike}
 use Rattle.nr_record.proofs.Above.{none_above, bad_above, none_list}
@@ -17,13 +17,13 @@ begun_alone : (begun : List (List ℕ)) → length (concat begun) ≤ RECORD_MAX
 begun_alone begun within =
     subst IsBegun (append-nil (fragments begun)) (header_begun begun [] (all_short begun RECORD_MAX within (omega arith)) (λ i. omega arith) (omega arith))
 
-fault_place : (f : Option RecordFault) (k : Kept) (begun : List (List ℕ)) (partial unread : List ℕ) (place at reason : ℕ) → f ≡ Some (Bad at reason) → IsState f k begun partial unread place → at ≡ place
+fault_place : (f : Option RecordFault) (k : RecordsState) (begun : List (List ℕ)) (partial unread : List ℕ) (place at reason : ℕ) → f ≡ Some (Bad at reason) → IsState f k begun partial unread place → at ≡ place
 fault_place f k begun partial unread place at reason e h = (subst (λ (g : Option RecordFault). IsState g k begun partial unread place) e h).0
 
 regrouped_front : (e f p u stream : List ℕ) → stream ≡ (e ++ (f ++ p)) ++ u → stream ≡ (e ++ f) ++ (p ++ u)
 regrouped_front e f p u stream is = is ∙ (ap (λ (l : List ℕ). l ++ u) (sym (append_assoc e f p)) ∙ append_assoc (e ++ f) p u)
 
-bad_alike : (k l : Kept) (stream : List ℕ) (i j at reason other : ℕ) (s : StandsFor k stream i) (t : StandsFor l stream j) → k.fault ≡ Some (Bad at reason) → l.fault ≡ Some (Bad at other) → contents s.cuts ≡ contents t.cuts
+bad_alike : (k l : RecordsState) (stream : List ℕ) (i j at reason other : ℕ) (s : RepresentsStream k stream i) (t : RepresentsStream l stream j) → k.fault ≡ Some (Bad at reason) → l.fault ≡ Some (Bad at other) → contents s.cuts ≡ contents t.cuts
 bad_alike k l stream i j at reason other s t a b =
     let e : List ℕ = encodings s.cuts in let f : List ℕ = fragments s.begun in let g : List ℕ = encodings t.cuts in let h : List ℕ = fragments t.begun in
     let here : at ≡ length (e ++ f) = fault_place k.fault k s.begun s.partial s.unread (length (e ++ f)) at reason a s.state in
@@ -32,7 +32,7 @@ bad_alike k l stream i j at reason other s t a b =
     parts (e ++ f) (g ++ h) (s.partial ++ s.unread) (t.partial ++ t.unread) at (sym here) (sym there) (sym (regrouped_front e f s.partial s.unread stream s.stream_is) ∙ regrouped_front g h t.partial t.unread stream t.stream_is) in
     ap contents (one_list s.cuts t.cuts f h (all_fit s.cuts s.within) (all_fit t.cuts t.within) (begun_alone s.begun s.begun_within) (begun_alone t.begun t.begun_within) front.0).0
 
-pub alike : (k l : Kept) (stream : List ℕ) (i j : ℕ) (s : StandsFor k stream i) (t : StandsFor l stream j) → ¬ (IsOutOfMemory k) → ¬ (IsOutOfMemory l) → (contents s.cuts ≡ contents t.cuts) × (k.fault ≡ l.fault)
+pub alike : (k l : RecordsState) (stream : List ℕ) (i j : ℕ) (s : RepresentsStream k stream i) (t : RepresentsStream l stream j) → ¬ (IsOutOfMemory k) → ¬ (IsOutOfMemory l) → (contents s.cuts ≡ contents t.cuts) × (k.fault ≡ l.fault)
 alike k l stream i j s t some_k some_l = by_faults k.fault l.fault refl refl where
   by_faults : (f g : Option RecordFault) → k.fault ≡ f → l.fault ≡ g → (contents s.cuts ≡ contents t.cuts) × (k.fault ≡ l.fault)
   by_faults None None a b = (cut_alike k l stream i j s t a b, a ∙ sym b)
@@ -47,7 +47,7 @@ alike k l stream i j s t some_k some_l = by_faults k.fault l.fault refl refl whe
       let same : at ≡ place = omega (arith, low, high) in let why : reason ≡ other = x.0 ∙ sym y.0 in
       (bad_alike k l stream i j at reason other s t a (b ∙ (λ n. Some (Bad (sym same n) other))), a ∙ ((λ n. Some (Bad (same n) (why n))) ∙ sym b))
 
-as_within : (records : List (List ℕ)) → AllByRecursion IsInLimit records → AllByRecursion IsWithin (as_one records)
+as_within : (records : List (List ℕ)) → AllByRecursion IsInLimit records → AllByRecursion IsContentInLimit (as_one records)
 as_within [] all = tt
 as_within (r ∷ rs) all = (all.0, as_within rs all.1)
 
@@ -61,7 +61,7 @@ none_written records at all a =
     (λ e. omega (arith, ap length e, length-append (fragments a.begun) (header a.last a.len ++ a.more), length-append (header a.last a.len) a.more, length_word (2 ^ 31 * bit a.last + a.len)))
     (append-nil (encodings (as_one records)) ∙ a.stream_is)
 
-pub read_back : (k : Kept) (records : List (List ℕ)) (taken : ℕ) (s : StandsFor k (encodings (as_one records)) taken) → AllByRecursion IsInLimit records → ¬ (IsOutOfMemory k) → (k.fault ≡ None) × (contents s.cuts ≡ records) × (rest_in s ≡ [])
+pub read_back : (k : RecordsState) (records : List (List ℕ)) (taken : ℕ) (s : RepresentsStream k (encodings (as_one records)) taken) → AllByRecursion IsInLimit records → ¬ (IsOutOfMemory k) → (k.fault ≡ None) × (contents s.cuts ≡ records) × (rest_in s ≡ [])
 read_back k records taken s all some = by_fault k.fault refl where
   stream : List ℕ
   stream = encodings (as_one records)

@@ -8,7 +8,7 @@ use Rattle.nr_record.specs.declared.fault.RecordFault.{RecordFault}
 use Rattle.nr_record.specs.declared.fault.RecordFault.TheVariants.{Bad, Memory}
 use Rattle.nr_record.specs.Constants.{RECORD_MAX, HEADER_LEN}
 use Rattle.nr_record.specs.Records.{header, fragment, fragments, Cut, IsShort, Fits, contents, encodings, IsBegun, RecordsEncode}
-use Rattle.nr_record.specs.Kept.{Kept, IsWithin, InHeader, InFragment, IsLess, IsAbove, IsState, StandsFor, read_in, rest_in}
+use Rattle.nr_record.specs.RecordsState.{RecordsState, IsContentInLimit, InHeader, InFragment, IsLess, IsAbove, IsState, RepresentsStream, read_in, rest_in}
 use Rattle.nr_record.proofs.Lists.{fragments_end, all_end}
 use Rattle.nr_record.proofs.Standing.{halves, bytes_end}
 use Rattle.nr_record.proofs.Unique.{one_list}
@@ -17,10 +17,10 @@ pub all_short : (fs : List (List ℕ)) (m : ℕ) → length (concat fs) ≤ m �
 all_short [] m le lt = tt
 all_short (f ∷ fs) m le lt = let h = length-append f (concat fs) in (omega (arith, h), all_short fs m (omega (arith, h)) lt)
 
-pub within_fits : (c : Cut) → IsWithin c → Fits c
+pub within_fits : (c : Cut) → IsContentInLimit c → Fits c
 within_fits c w = let h = length-append (concat c.before) c.last in (all_short c.before RECORD_MAX (omega (arith, h)) (omega arith), omega (arith, h))
 
-pub all_fit : (cuts : List Cut) → AllByRecursion IsWithin cuts → AllByRecursion Fits cuts
+pub all_fit : (cuts : List Cut) → AllByRecursion IsContentInLimit cuts → AllByRecursion Fits cuts
 all_fit [] all = tt
 all_fit (c ∷ cuts) all = (within_fits c all.0, all_fit cuts all.1)
 
@@ -95,7 +95,7 @@ fragment_begun begun last came left all some short =
       whole : fragment last (came ++ zeros) ≡ (header last (length came + left) ++ came) ++ zeros
       whole = ap (λ (m : ℕ). header last m ++ (came ++ zeros)) len ∙ sym (append_assoc (header last (length came + left)) came zeros)
 
-less_begun : (k : Kept) (begun : List (List ℕ)) (partial : List ℕ) → length (concat begun) ≤ RECORD_MAX → IsLess k begun partial → IsBegun (fragments begun ++ partial)
+less_begun : (k : RecordsState) (begun : List (List ℕ)) (partial : List ℕ) → length (concat begun) ≤ RECORD_MAX → IsLess k begun partial → IsBegun (fragments begun ++ partial)
 less_begun k begun partial within less = let all : AllByRecursion IsShort begun = all_short begun RECORD_MAX within (omega arith) in ⊎_elim
     (λ (h : InHeader k.payload k.head k.left begun partial). subst (λ (l : List ℕ). IsBegun (fragments begun ++ l)) (sym h.partial_is) (header_begun begun k.head all h.bytes h.short))
     (λ (h : (0 < k.left) × InFragment k.payload k.head k.last k.left begun partial). let m = h.1 in subst (λ (l : List ℕ). IsBegun (fragments begun ++ l)) (sym m.partial_is)
@@ -107,12 +107,12 @@ above_begun begun partial within a = let all : AllByRecursion IsShort begun = al
     let z : 0 + a.len ≡ a.len = omega arith in
     subst (λ (l : List ℕ). IsBegun (fragments begun ++ l)) (append-nil (header a.last (0 + a.len)) ∙ (ap (header a.last) z ∙ sym a.partial_is)) (fragment_begun begun a.last [] a.len all (omega (arith, a.above, within)) (omega (arith, a.short)))
 
-pub state_begun : (f : Option RecordFault) (k : Kept) (begun : List (List ℕ)) (partial unread : List ℕ) (place : ℕ) → length (concat begun) ≤ RECORD_MAX → IsState f k begun partial unread place → IsBegun (fragments begun ++ partial)
+pub state_begun : (f : Option RecordFault) (k : RecordsState) (begun : List (List ℕ)) (partial unread : List ℕ) (place : ℕ) → length (concat begun) ≤ RECORD_MAX → IsState f k begun partial unread place → IsBegun (fragments begun ++ partial)
 state_begun None k begun partial unread place within s = less_begun k begun partial within s.1
 state_begun (Some Memory) k begun partial unread place within s = less_begun k begun partial within s
 state_begun (Some (Bad at reason)) k begun partial unread place within s = above_begun begun partial within s.2
 
-pub records_encoded : (k : Kept) (stream : List ℕ) (taken : ℕ) (s : StandsFor k stream taken) → RecordsEncode (read_in s) (contents s.cuts) (rest_in s)
+pub records_encoded : (k : RecordsState) (stream : List ℕ) (taken : ℕ) (s : RepresentsStream k stream taken) → RecordsEncode (read_in s) (contents s.cuts) (rest_in s)
 records_encoded k stream taken s = record {
   cuts = s.cuts;
   fit = all_fit s.cuts s.within;
@@ -121,12 +121,12 @@ records_encoded k stream taken s = record {
   begun = state_begun k.fault k s.begun s.partial s.unread (length (encodings s.cuts ++ fragments s.begun)) s.begun_within s.state;
 }
 
-pub all_read : (k : Kept) (stream : List ℕ) (taken : ℕ) (s : StandsFor k stream taken) → k.fault ≡ None → read_in s ≡ stream
+pub all_read : (k : RecordsState) (stream : List ℕ) (taken : ℕ) (s : RepresentsStream k stream taken) → k.fault ≡ None → read_in s ≡ stream
 all_read k stream taken s e = sym (s.stream_is ∙ (ap (λ (l : List ℕ). read_in s ++ l) (none k.fault e s.state) ∙ append-nil (read_in s))) where
   none : (f : Option RecordFault) → f ≡ None → IsState f k s.begun s.partial s.unread (length (encodings s.cuts ++ fragments s.begun)) → s.unread ≡ []
   none f e h = (subst (λ (g : Option RecordFault). IsState g k s.begun s.partial s.unread (length (encodings s.cuts ++ fragments s.begun))) e h).0
 
-pub cut_alike : (k l : Kept) (stream : List ℕ) (i j : ℕ) (s : StandsFor k stream i) (t : StandsFor l stream j) → k.fault ≡ None → l.fault ≡ None → contents s.cuts ≡ contents t.cuts
+pub cut_alike : (k l : RecordsState) (stream : List ℕ) (i j : ℕ) (s : RepresentsStream k stream i) (t : RepresentsStream l stream j) → k.fault ≡ None → l.fault ≡ None → contents s.cuts ≡ contents t.cuts
 cut_alike k l stream i j s t a b =
     let p = records_encoded k stream i s in let q = records_encoded l stream j t in
     ap contents (one_list s.cuts t.cuts (rest_in s) (rest_in t) (all_fit s.cuts s.within) (all_fit t.cuts t.within) p.begun q.begun (all_read k stream i s a ∙ sym (all_read l stream j t b))).0

@@ -3,7 +3,7 @@ use Rattle.std.proofs.Common.{◌≡◌, ℕ, zero, suc, ◌+◌, ◌≤◌, Lis
 use Rattle.std.specs.List.{concat, AllByRecursion}
 use Rattle.nr_record.specs.declared.records.WaitingRecord.{WaitingRecord}
 use Rattle.nr_record.specs.Records.{fragment, fragments, Cut, content, encoding, encodings}
-use Rattle.nr_record.specs.Kept.{waiting_from}
+use Rattle.nr_record.specs.RecordsState.{waiting_from}
 
 pub encodings_end : (cuts : List Cut) (c : Cut) → encodings (cuts ++ c ∷ []) ≡ encodings cuts ++ encoding c
 encodings_end [] c = append-nil (encoding c)

@@ -11,7 +11,7 @@ use Rattle.nr_record.specs.declared.fault.RecordFault.TheVariants.{Bad, Memory}
 use Rattle.nr_record.specs.declared.records.WaitingRecord.{WaitingRecord}
 use Rattle.nr_record.specs.Constants.{RECORD_MAX, HEADER_LEN, REASON_RECORD}
 use Rattle.nr_record.specs.Records.{header, fragment, fragments, Cut, content, encodings}
-use Rattle.nr_record.specs.Kept.{Kept, IsWithin, waiting_from, InHeader, InFragment, IsState, Stands, StandsFor}
+use Rattle.nr_record.specs.RecordsState.{RecordsState, IsContentInLimit, waiting_from, InHeader, InFragment, IsState, Stands, RepresentsStream}
 use Rattle.nr_record.specs.private.Step.{with_record, ended, with_header, with_byte, with_payload, with_fault}
 use Rattle.nr_record.proofs.Lists.{encodings_end, fragments_end, concat_end, waiting_end, waiting_length, drop_end, all_end, read_more, count_more}
 
@@ -19,21 +19,21 @@ abbrev pub State : Type 1
 State = List (List ℕ) → List ℕ → List ℕ → ℕ → Type 0
 
 -- all bytes were read, and a fragment has its header
-abbrev pub Middle : Kept → State
+abbrev pub Middle : RecordsState → State
 Middle k begun partial unread place = (unread ≡ []) × InFragment k.payload k.head k.last k.left begun partial
 
 -- all bytes were read, and a header is there
-pub record AtHeader (n : ℕ) (k : Kept) (begun : List (List ℕ)) (partial : List ℕ) (unread : List ℕ) (place : ℕ) : Type 0 where
+pub record AtHeader (n : ℕ) (k : RecordsState) (begun : List (List ℕ)) (partial : List ℕ) (unread : List ℕ) (place : ℕ) : Type 0 where
   pub read : unread ≡ []
   pub no_head : k.head ≡ []
   pub payload_is : k.payload ≡ concat begun
   pub partial_is : partial ≡ word n
   pub below : n < 2 ^ 32
 
-faultless : (k : Kept) (stream : List ℕ) (taken : ℕ) → k.fault ≡ None → StandsFor k stream taken → Stands (IsState None k) k stream taken
+faultless : (k : RecordsState) (stream : List ℕ) (taken : ℕ) → k.fault ≡ None → RepresentsStream k stream taken → Stands (IsState None k) k stream taken
 faultless k stream taken e s = subst (λ (f : Option RecordFault). Stands (IsState f k) k stream taken) e s
 
-unfaulted : (k : Kept) (stream : List ℕ) (taken : ℕ) → k.fault ≡ None → Stands (IsState None k) k stream taken → StandsFor k stream taken
+unfaulted : (k : RecordsState) (stream : List ℕ) (taken : ℕ) → k.fault ≡ None → Stands (IsState None k) k stream taken → RepresentsStream k stream taken
 unfaulted k stream taken e s = subst (λ (f : Option RecordFault). Stands (IsState f k) k stream taken) (sym e) s
 
 flat : (e f p u stream : List ℕ) → stream ≡ (e ++ (f ++ p)) ++ u → u ≡ [] → stream ≡ e ++ (f ++ p)
@@ -42,12 +42,12 @@ flat e f p u stream is none = is ∙ (ap (λ (l : List ℕ). (e ++ (f ++ p)) ++ 
 flat_again : (e x stream : List ℕ) → stream ≡ e ++ x → stream ≡ (e ++ x) ++ []
 flat_again e x stream is = is ∙ sym (append-nil (e ++ x))
 
-either_stands : (b : Bool) (x y : Kept) (stream : List ℕ) (taken : ℕ) → (b ≡ true → StandsFor x stream taken) → (b ≡ false → StandsFor y stream taken) → StandsFor (if b then x else y) stream taken
+either_stands : (b : Bool) (x y : RecordsState) (stream : List ℕ) (taken : ℕ) → (b ≡ true → RepresentsStream x stream taken) → (b ≡ false → RepresentsStream y stream taken) → RepresentsStream (if b then x else y) stream taken
 either_stands true x y stream taken one other = one refl
 either_stands false x y stream taken one other = other refl
 
 -- memory ran out, and nothing was read
-pub fault_stands : (k : Kept) (stream : List ℕ) (taken : ℕ) → k.fault ≡ None → StandsFor k stream taken → StandsFor (with_fault k) (stream ++ []) taken
+pub fault_stands : (k : RecordsState) (stream : List ℕ) (taken : ℕ) → k.fault ≡ None → RepresentsStream k stream taken → RepresentsStream (with_fault k) (stream ++ []) taken
 fault_stands k stream taken e start = let s = faultless k stream taken e start in record {
   cuts = s.cuts;
   begun = s.begun;
@@ -64,7 +64,7 @@ fault_stands k stream taken e start = let s = faultless k stream taken e start i
 }
 
 -- after a fault more bytes are not read
-pub later_stands : (k : Kept) (stream more : List ℕ) (taken : ℕ) (fault : RecordFault) → k.fault ≡ Some fault → StandsFor k stream taken → StandsFor k (stream ++ more) taken
+pub later_stands : (k : RecordsState) (stream more : List ℕ) (taken : ℕ) (fault : RecordFault) → k.fault ≡ Some fault → RepresentsStream k stream taken → RepresentsStream k (stream ++ more) taken
 later_stands k stream more taken fault e start = subst (λ (f : Option RecordFault). Stands (IsState f k) k (stream ++ more) taken) (sym e) (by_fault fault (subst (λ (f : Option RecordFault). Stands (IsState f k) k stream taken) e start)) where
   by_fault : (f : RecordFault) → Stands (IsState (Some f) k) k stream taken → Stands (IsState (Some f) k) k (stream ++ more) taken
   by_fault f s = record {
@@ -86,7 +86,7 @@ later_stands k stream more taken fault e start = subst (λ (f : Option RecordFau
     still (Bad at reason) begun partial unread place h = h
 
 -- a fragment with nothing missing ends, and the last one ends its record
-pub ended_stands : (k : Kept) (stream : List ℕ) (taken : ℕ) → k.fault ≡ None → Stands (Middle k) k stream taken → StandsFor (ended k) stream taken
+pub ended_stands : (k : RecordsState) (stream : List ℕ) (taken : ℕ) → k.fault ≡ None → Stands (Middle k) k stream taken → RepresentsStream (ended k) stream taken
 unfolding ended
 ended_stands k stream taken none s = either_stands (eqb k.left 0 && k.last) (with_record k) k stream taken
     (λ y. let t = and_parts (eqb k.left 0) k.last y in ends (eqb-true k.left 0 t.0) t.1)
@@ -117,7 +117,7 @@ ended_stands k stream taken none s = either_stands (eqb k.left 0 && k.last) (wit
       bytes : IsBytes k.head
       bytes = subst IsBytes (sym m.no_head) (λ i. omega arith)
 
-      goes_on : 0 < k.left → StandsFor k stream taken
+      goes_on : 0 < k.left → RepresentsStream k stream taken
       goes_on any = unfaulted k stream taken none (record {
         cuts = s.cuts;
         begun = s.begun;
@@ -136,7 +136,7 @@ ended_stands k stream taken none s = either_stands (eqb k.left 0 && k.last) (wit
       whole_fragment : k.left ≡ 0 → k.last ≡ false → f ++ s.partial ≡ fragments (s.begun ++ m.came ∷ []) ++ []
       whole_fragment a b = ap (λ (l : List ℕ). f ++ l) (partial_is false a b) ∙ (sym (fragments_end s.begun m.came) ∙ sym (append-nil (fragments (s.begun ++ m.came ∷ []))))
 
-      next_fragment : k.left ≡ 0 → k.last ≡ false → StandsFor k stream taken
+      next_fragment : k.left ≡ 0 → k.last ≡ false → RepresentsStream k stream taken
       next_fragment a b = unfaulted k stream taken none (record {
         cuts = s.cuts;
         begun = s.begun ++ m.came ∷ [];
@@ -163,13 +163,13 @@ ended_stands k stream taken none s = either_stands (eqb k.left 0 && k.last) (wit
           ∙ (sym (drop_end taken old (record { at = 0 + length e; bytes = content cut }) (omega (arith, s.taken_some, waiting_length 0 s.cuts)))
           ∙ ap (drop taken) (sym (waiting_end 0 s.cuts cut)))))
 
-      ends : k.left ≡ 0 → k.last ≡ true → StandsFor (with_record k) stream taken
+      ends : k.left ≡ 0 → k.last ≡ true → RepresentsStream (with_record k) stream taken
       ends a b = unfaulted (with_record k) stream taken none (record {
         cuts = s.cuts ++ cut ∷ [];
         begun = [];
         partial = [];
         unread = [];
-        within = all_end IsWithin s.cuts cut s.within (omega (arith, m.within, ap length m.payload_is));
+        within = all_end IsContentInLimit s.cuts cut s.within (omega (arith, m.within, ap length m.payload_is));
         begun_within = omega arith;
         stream_is = flat_again (encodings (s.cuts ++ cut ∷ [])) [] stream (is ∙ whole_record a b);
         taken_some = omega (arith, s.taken_some, length-append s.cuts (cut ∷ []));
@@ -180,13 +180,13 @@ ended_stands k stream taken none s = either_stands (eqb k.left 0 && k.last) (wit
       })
 
 -- more payload of a fragment is read
-pub payload_stands : (k : Kept) (more stream : List ℕ) (taken : ℕ) → k.fault ≡ None → 0 < k.left → length more ≤ k.left → StandsFor k stream taken → StandsFor (with_payload more k) (stream ++ more) taken
+pub payload_stands : (k : RecordsState) (more stream : List ℕ) (taken : ℕ) → k.fault ≡ None → 0 < k.left → length more ≤ k.left → RepresentsStream k stream taken → RepresentsStream (with_payload more k) (stream ++ more) taken
 unfolding with_payload
 payload_stands k more stream taken none any fits start = ended_stands l (stream ++ more) taken none (⊎_elim (λ h. absurd (omega (arith, h.none_left))) (λ h. grown h.1) s.state.1) where
   s : Stands (IsState None k) k stream taken
   s = faultless k stream taken none start
 
-  l : Kept
+  l : RecordsState
   l = record k { count = k.count + length more; payload = k.payload ++ more; left = k.left - length more }
 
   e : List ℕ
@@ -230,7 +230,7 @@ halves n below = by_bit (leb (2 ^ 31) n) refl where
   by_bit false e = omega (arith, below, leb-false (2 ^ 31) n e)
 
 -- a header is read: its fragment begins, or is refused
-pub header_stands : (n : ℕ) (k : Kept) (stream : List ℕ) (taken : ℕ) → k.fault ≡ None → Stands (AtHeader n k) k stream taken → StandsFor (with_header n k) stream taken
+pub header_stands : (n : ℕ) (k : RecordsState) (stream : List ℕ) (taken : ℕ) → k.fault ≡ None → Stands (AtHeader n k) k stream taken → RepresentsStream (with_header n k) stream taken
 unfolding with_header
 header_stands n k stream taken none s = either_stands (ltb RECORD_MAX (length k.payload + len)) refused l_ended stream taken above (λ y. ended_stands l stream taken none (begins y)) where
   len : ℕ
@@ -239,13 +239,13 @@ header_stands n k stream taken none s = either_stands (ltb RECORD_MAX (length k.
   last : Bool
   last = leb (2 ^ 31) n
 
-  refused : Kept
+  refused : RecordsState
   refused = record k { fault = Some (Bad (k.count - HEADER_LEN) REASON_RECORD) }
 
-  l : Kept
+  l : RecordsState
   l = record k { last = last; left = len }
 
-  l_ended : Kept
+  l_ended : RecordsState
   l_ended = ended l
 
   h : AtHeader n k s.begun s.partial s.unread (length (encodings s.cuts ++ fragments s.begun))
@@ -254,7 +254,7 @@ header_stands n k stream taken none s = either_stands (ltb RECORD_MAX (length k.
   partial_is : s.partial ≡ header last len
   partial_is = h.partial_is ∙ ap word (halves n h.below)
 
-  above : ltb RECORD_MAX (length k.payload + len) ≡ true → StandsFor refused stream taken
+  above : ltb RECORD_MAX (length k.payload + len) ≡ true → RepresentsStream refused stream taken
   above y = record {
     cuts = s.cuts;
     begun = s.begun;
@@ -306,7 +306,7 @@ bytes_end (x ∷ xs) b all lt zero = all 0
 bytes_end (x ∷ xs) b all lt (suc i) = bytes_end xs b (λ j. all (suc j)) lt i
 
 -- one more byte of a header is read
-pub byte_stands : (byte : ℕ) (k : Kept) (stream : List ℕ) (taken : ℕ) → byte < 256 → k.fault ≡ None → k.left ≡ 0 → StandsFor k stream taken → StandsFor (with_byte byte k) (stream ++ byte ∷ []) taken
+pub byte_stands : (byte : ℕ) (k : RecordsState) (stream : List ℕ) (taken : ℕ) → byte < 256 → k.fault ≡ None → k.left ≡ 0 → RepresentsStream k stream taken → RepresentsStream (with_byte byte k) (stream ++ byte ∷ []) taken
 unfolding with_byte
 byte_stands byte k stream taken lt none out start = either_stands (ltb (length head) HEADER_LEN) l with_word (stream ++ byte ∷ []) taken
     (λ y. unfaulted l (stream ++ byte ∷ []) taken none (goes_on (ltb-true (length head) HEADER_LEN y)))
@@ -317,13 +317,13 @@ byte_stands byte k stream taken lt none out start = either_stands (ltb (length h
       head : List ℕ
       head = k.head ++ byte ∷ []
 
-      l : Kept
+      l : RecordsState
       l = record k { count = k.count + 1; head = head }
 
-      full : Kept
+      full : RecordsState
       full = record k { count = k.count + 1; head = [] }
 
-      with_word : Kept
+      with_word : RecordsState
       with_word = with_header (word_at 0 head) full
 
       h : InHeader k.payload k.head k.left s.begun s.partial

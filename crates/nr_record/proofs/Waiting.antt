@@ -10,12 +10,12 @@ use Rattle.nr_record.specs.declared.fault.RecordFault.TheVariants.{Bad, Memory}
 use Rattle.nr_record.specs.declared.records.WaitingRecord.{WaitingRecord}
 use Rattle.nr_record.specs.Constants.{RECORD_MAX, HEADER_LEN, REASON_RECORD}
 use Rattle.nr_record.specs.Records.{fragments, Cut, contents, encoding, encodings}
-use Rattle.nr_record.specs.Kept.{Kept, KeepsWaiting, waiting_from, IsState, Stands, StandsFor}
+use Rattle.nr_record.specs.RecordsState.{RecordsState, KeepsWaiting, waiting_from, IsState, Stands, RepresentsStream}
 use Rattle.nr_record.specs.private.Step.{with_record, ended, with_header, with_byte, with_payload}
 use Rattle.nr_record.proofs.Lists.{waiting_length}
 
 -- the first record that waits
-pub record First (k : Kept) (cuts : List Cut) (taken : ℕ) (w : WaitingRecord) (others : List WaitingRecord) : Type 0 where
+pub record First (k : RecordsState) (cuts : List Cut) (taken : ℕ) (w : WaitingRecord) (others : List WaitingRecord) : Type 0 where
   pub place : w.at ≡ length (encodings (take taken cuts))
   pub below : taken < length cuts
   pub is : get_elem? (contents cuts) taken ≡ some w.bytes
@@ -43,17 +43,17 @@ first_from at (c ∷ cuts) (suc n) w others e = let h = first_from (at + length 
   rest = h.rest;
 }
 
-pub first_of : (State : List (List ℕ) → List ℕ → List ℕ → ℕ → Type 0) (k : Kept) (stream : List ℕ) (taken : ℕ) (s : Stands State k stream taken) (w : WaitingRecord) (others : List WaitingRecord) → k.waiting ≡ w ∷ others → First k s.cuts taken w others
+pub first_of : (State : List (List ℕ) → List ℕ → List ℕ → ℕ → Type 0) (k : RecordsState) (stream : List ℕ) (taken : ℕ) (s : Stands State k stream taken) (w : WaitingRecord) (others : List WaitingRecord) → k.waiting ≡ w ∷ others → First k s.cuts taken w others
 first_of State k stream taken s w others e = let h = first_from 0 s.cuts taken w others (sym s.waiting_is ∙ e) in record { place = omega (arith, h.place); below = h.below; is = h.is; rest = h.rest }
 
-pub none_of : (State : List (List ℕ) → List ℕ → List ℕ → ℕ → Type 0) (k : Kept) (stream : List ℕ) (taken : ℕ) (s : Stands State k stream taken) → k.waiting ≡ [] → taken ≡ length s.cuts
+pub none_of : (State : List (List ℕ) → List ℕ → List ℕ → ℕ → Type 0) (k : RecordsState) (stream : List ℕ) (taken : ℕ) (s : Stands State k stream taken) → k.waiting ≡ [] → taken ≡ length s.cuts
 none_of State k stream taken s e = omega (arith, s.taken_some, ap length (sym s.waiting_is ∙ e), length-drop taken (waiting_from 0 s.cuts), waiting_length 0 s.cuts)
 
-pub start_of : (State : List (List ℕ) → List ℕ → List ℕ → ℕ → Type 0) (k : Kept) (stream : List ℕ) (taken : ℕ) (s : Stands State k stream taken) → k.waiting ≡ [] → k.start ≡ length (encodings (take taken s.cuts))
+pub start_of : (State : List (List ℕ) → List ℕ → List ℕ → ℕ → Type 0) (k : RecordsState) (stream : List ℕ) (taken : ℕ) (s : Stands State k stream taken) → k.waiting ≡ [] → k.start ≡ length (encodings (take taken s.cuts))
 start_of State k stream taken s e = s.start_is ∙ ap (λ (l : List Cut). length (encodings l)) (sym (take_all taken s.cuts (omega (arith, none_of State k stream taken s e))))
 
 -- the first record that waits is taken
-pub next_stands : (k : Kept) (stream : List ℕ) (taken : ℕ) (w : WaitingRecord) (others : List WaitingRecord) → StandsFor k stream taken → k.waiting ≡ w ∷ others → StandsFor (record k { waiting = others }) stream (taken + 1)
+pub next_stands : (k : RecordsState) (stream : List ℕ) (taken : ℕ) (w : WaitingRecord) (others : List WaitingRecord) → RepresentsStream k stream taken → k.waiting ≡ w ∷ others → RepresentsStream (record k { waiting = others }) stream (taken + 1)
 next_stands k stream taken w others s e = record {
   cuts = s.cuts;
   begun = s.begun;
@@ -89,7 +89,7 @@ by_none [] none = refl
 by_none (y ∷ ys) none = absurd (omega arith)
 
 -- nothing was fed
-pub new_stands : (waiting : List WaitingRecord) (payload head : List ℕ) (last : Bool) → waiting ≡ [] → payload ≡ [] → head ≡ [] → StandsFor (record { waiting = waiting; start = 0; count = 0; payload = payload; head = head; last = last; left = 0; fault = None }) [] 0
+pub new_stands : (waiting : List WaitingRecord) (payload head : List ℕ) (last : Bool) → waiting ≡ [] → payload ≡ [] → head ≡ [] → RepresentsStream (record { waiting = waiting; start = 0; count = 0; payload = payload; head = head; last = last; left = 0; fault = None }) [] 0
 new_stands waiting payload head last w p h = record {
   cuts = [];
   begun = [];
@@ -106,72 +106,72 @@ new_stands waiting payload head last w p h = record {
 }
 
 -- the number of bytes that were read
-ended_count : (k : Kept) → (ended k).count ≡ k.count
+ended_count : (k : RecordsState) → (ended k).count ≡ k.count
 unfolding ended
 ended_count k = either_count (eqb k.left 0 && k.last) where
   either_count : (b : Bool) → (if b then with_record k else k).count ≡ k.count
   either_count true = refl
   either_count false = refl
 
-header_count : (n : ℕ) (k : Kept) → (with_header n k).count ≡ k.count
+header_count : (n : ℕ) (k : RecordsState) → (with_header n k).count ≡ k.count
 unfolding with_header
 header_count n k = either_count (ltb RECORD_MAX (length k.payload + n % 2 ^ 31)) where
-  l : Kept
+  l : RecordsState
   l = record k { last = leb (2 ^ 31) n; left = n % 2 ^ 31 }
 
   either_count : (b : Bool) → (if b then record k { fault = Some (Bad (k.count - HEADER_LEN) REASON_RECORD) } else ended l).count ≡ k.count
   either_count true = refl
   either_count false = ended_count l
 
-pub byte_count : (byte : ℕ) (k : Kept) → (with_byte byte k).count ≡ k.count + 1
+pub byte_count : (byte : ℕ) (k : RecordsState) → (with_byte byte k).count ≡ k.count + 1
 unfolding with_byte
 byte_count byte k = either_count (ltb (length (k.head ++ byte ∷ [])) HEADER_LEN) where
-  l : Kept
+  l : RecordsState
   l = record k { count = k.count + 1; head = [] }
 
   either_count : (b : Bool) → (if b then record k { count = k.count + 1; head = k.head ++ byte ∷ [] } else with_header (word_at 0 (k.head ++ byte ∷ [])) l).count ≡ k.count + 1
   either_count true = refl
   either_count false = header_count (word_at 0 (k.head ++ byte ∷ [])) l
 
-pub payload_count : (bytes : List ℕ) (k : Kept) → (with_payload bytes k).count ≡ k.count + length bytes
+pub payload_count : (bytes : List ℕ) (k : RecordsState) → (with_payload bytes k).count ≡ k.count + length bytes
 unfolding with_payload
 payload_count bytes k = ended_count (record k { count = k.count + length bytes; payload = k.payload ++ bytes; left = k.left - length bytes })
 
 -- the records that wait
-pub keeps_same : (k l : Kept) → l.waiting ≡ k.waiting → KeepsWaiting k l
+pub keeps_same : (k l : RecordsState) → l.waiting ≡ k.waiting → KeepsWaiting k l
 keeps_same k l e = ([], e ∙ sym (append-nil k.waiting))
 
-pub keeps_on : (k l m : Kept) → KeepsWaiting k l → KeepsWaiting l m → KeepsWaiting k m
+pub keeps_on : (k l m : RecordsState) → KeepsWaiting k l → KeepsWaiting l m → KeepsWaiting k m
 keeps_on k l m a b = (a.0 ++ b.0, b.1 ∙ (ap (λ (w : List WaitingRecord). w ++ b.0) a.1 ∙ append_assoc k.waiting a.0 b.0))
 
-ended_keeps : (k : Kept) → KeepsWaiting k (ended k)
+ended_keeps : (k : RecordsState) → KeepsWaiting k (ended k)
 unfolding ended
 ended_keeps k = either_keeps (eqb k.left 0 && k.last) where
   either_keeps : (b : Bool) → KeepsWaiting k (if b then with_record k else k)
   either_keeps true = (record { at = k.start; bytes = k.payload } ∷ [], refl)
   either_keeps false = keeps_same k k refl
 
-header_keeps : (n : ℕ) (k : Kept) → KeepsWaiting k (with_header n k)
+header_keeps : (n : ℕ) (k : RecordsState) → KeepsWaiting k (with_header n k)
 unfolding with_header
 header_keeps n k = either_keeps (ltb RECORD_MAX (length k.payload + n % 2 ^ 31)) where
-  l : Kept
+  l : RecordsState
   l = record k { last = leb (2 ^ 31) n; left = n % 2 ^ 31 }
 
   either_keeps : (b : Bool) → KeepsWaiting k (if b then record k { fault = Some (Bad (k.count - HEADER_LEN) REASON_RECORD) } else ended l)
   either_keeps true = keeps_same k (record k { fault = Some (Bad (k.count - HEADER_LEN) REASON_RECORD) }) refl
   either_keeps false = ended_keeps l
 
-pub byte_keeps : (byte : ℕ) (k : Kept) → KeepsWaiting k (with_byte byte k)
+pub byte_keeps : (byte : ℕ) (k : RecordsState) → KeepsWaiting k (with_byte byte k)
 unfolding with_byte
 byte_keeps byte k = either_keeps (ltb (length (k.head ++ byte ∷ [])) HEADER_LEN) where
-  l : Kept
+  l : RecordsState
   l = record k { count = k.count + 1; head = [] }
 
   either_keeps : (b : Bool) → KeepsWaiting k (if b then record k { count = k.count + 1; head = k.head ++ byte ∷ [] } else with_header (word_at 0 (k.head ++ byte ∷ [])) l)
   either_keeps true = keeps_same k (record k { count = k.count + 1; head = k.head ++ byte ∷ [] }) refl
   either_keeps false = header_keeps (word_at 0 (k.head ++ byte ∷ [])) l
 
-pub payload_keeps : (bytes : List ℕ) (k : Kept) → KeepsWaiting k (with_payload bytes k)
+pub payload_keeps : (bytes : List ℕ) (k : RecordsState) → KeepsWaiting k (with_payload bytes k)
 unfolding with_payload
 payload_keeps bytes k = ended_keeps (record k { count = k.count + length bytes; payload = k.payload ++ bytes; left = k.left - length bytes })
 

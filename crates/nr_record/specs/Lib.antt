@@ -1,4 +1,4 @@
 pub mod Constants
 pub mod Records
-pub mod Kept
+pub mod RecordsState
 pub mod private

@@ -10,7 +10,7 @@ use nr_xdr::{Octets, word_at};
 use std::mem;
 
 impl Records {
-    ghost use Rattle.nr_record.specs.Kept.{kept, StandsFor, IsFaultOf, KeepsWaiting};
+    ghost use Rattle.nr_record.specs.RecordsState.{kept, RepresentsStream, IsFaultOf, KeepsWaiting};
     ghost use Rattle.nr_record.specs.Records.{IsAboveAt};
     ghost use Rattle.nr_record.specs.private.Step.{ended, with_header, with_byte, with_payload, with_fault};
 
@@ -20,9 +20,9 @@ impl Records {
     /// bytes may be fed in all.
     pub fn feed(&mut self, piece: &[u8]) -> Result<(), RecordFault>
         requires { (kept self.old).count + length piece.now ≤ 2 ^ 62 }
-        ensures stands { (stream : List ℕ) (taken : ℕ) → StandsFor (kept self.old) stream taken → StandsFor (kept self.new) (stream ++ piece.now) taken }
-        ensures ok { (stream : List ℕ) (taken : ℕ) → StandsFor (kept self.old) stream taken → OnOk result ((at : ℕ) → ¬ (IsAboveAt (stream ++ piece.now) at)) }
-        ensures err { (stream : List ℕ) (taken : ℕ) → StandsFor (kept self.old) stream taken → IfErr result (IsFaultOf (stream ++ piece.now)) }
+        ensures stands { (stream : List ℕ) (taken : ℕ) → RepresentsStream (kept self.old) stream taken → RepresentsStream (kept self.new) (stream ++ piece.now) taken }
+        ensures ok { (stream : List ℕ) (taken : ℕ) → RepresentsStream (kept self.old) stream taken → OnOk result ((at : ℕ) → ¬ (IsAboveAt (stream ++ piece.now) at)) }
+        ensures err { (stream : List ℕ) (taken : ℕ) → RepresentsStream (kept self.old) stream taken → IfErr result (IsFaultOf (stream ++ piece.now)) }
         ensures fault { OnOk result ((kept self.new).fault ≡ None) × IfErr result (λ fault. (kept self.new).fault ≡ Some fault) }
         ensures stays { (fault : RecordFault) → (kept self.old).fault ≡ Some fault → kept self.new ≡ kept self.old }
         ensures count { (kept self.new).count ≤ (kept self.old).count + length piece.now }
@@ -34,7 +34,7 @@ impl Records {
 
     fn feed_inner(&mut self, piece: &[u8]) -> Result<(), RecordFault>
         requires { (kept self.old).count + length piece.now ≤ 2 ^ 62 }
-        ensures stands { (stream : List ℕ) (taken : ℕ) → StandsFor (kept self.old) stream taken → StandsFor (kept self.new) (stream ++ piece.now) taken }
+        ensures stands { (stream : List ℕ) (taken : ℕ) → RepresentsStream (kept self.old) stream taken → RepresentsStream (kept self.new) (stream ++ piece.now) taken }
         ensures ok { OnOk result ((kept self.new).fault ≡ None) }
         ensures err { IfErr result (λ fault. (kept self.new).fault ≡ Some fault) }
         ensures stays { (fault : RecordFault) → (kept self.old).fault ≡ Some fault → kept self.new ≡ kept self.old }
@@ -62,7 +62,7 @@ impl Records {
         requires some { 0 < length bytes.now }
         requires fault { self.old.fault ≡ None }
         requires within { self.old.count + length bytes.now ≤ 2 ^ 62 }
-        ensures stands { (stream : List ℕ) (taken : ℕ) → StandsFor (kept self.old) stream taken → StandsFor (kept self.new) (stream ++ take result bytes.now) taken }
+        ensures stands { (stream : List ℕ) (taken : ℕ) → RepresentsStream (kept self.old) stream taken → RepresentsStream (kept self.new) (stream ++ take result bytes.now) taken }
         ensures some { self.new.fault ≡ None → 0 < result }
         ensures within { result ≤ length bytes.now }
         ensures count { self.new.count ≡ self.old.count + result }
@@ -83,7 +83,7 @@ impl Records {
         requires state { (self.old.fault ≡ None) × (self.old.left ≡ 0) }
         requires within { self.old.count < 2 ^ 62 }
         requires room { deque_len self.old.waiting < deque_capacity self.old.waiting }
-        ensures stands { (stream : List ℕ) (taken : ℕ) → StandsFor (kept self.old) stream taken → StandsFor (kept self.new) (stream ++ byte ∷ []) taken }
+        ensures stands { (stream : List ℕ) (taken : ℕ) → RepresentsStream (kept self.old) stream taken → RepresentsStream (kept self.new) (stream ++ byte ∷ []) taken }
         ensures count { self.new.count ≡ self.old.count + 1 }
         ensures keeps { KeepsWaiting (kept self.old) (kept self.new) }
     {
@@ -95,7 +95,7 @@ impl Records {
         requires fault { self.old.fault ≡ None }
         requires within { self.old.count + length bytes.now ≤ 2 ^ 62 }
         requires room { deque_len self.old.waiting < deque_capacity self.old.waiting }
-        ensures stands { (stream : List ℕ) (taken : ℕ) → StandsFor (kept self.old) stream taken → StandsFor (kept self.new) (stream ++ take result bytes.now) taken }
+        ensures stands { (stream : List ℕ) (taken : ℕ) → RepresentsStream (kept self.old) stream taken → RepresentsStream (kept self.new) (stream ++ take result bytes.now) taken }
         ensures some { self.new.fault ≡ None → 0 < result }
         ensures within { result ≤ length bytes.now }
         ensures count { self.new.count ≡ self.old.count + result }

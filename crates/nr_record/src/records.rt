@@ -47,11 +47,11 @@ pub struct Records {
 
 impl Records {
     ghost use Rattle.nr_record.specs.Records.{contents, encodings};
-    ghost use Rattle.nr_record.specs.Kept.{kept, StandsFor};
+    ghost use Rattle.nr_record.specs.RecordsState.{kept, RepresentsStream};
 
     /// A reader at the beginning of a stream.
     pub fn new(alloc: Global) -> Records
-        ensures stands { StandsFor (kept result) [] 0 }
+        ensures stands { RepresentsStream (kept result) [] 0 }
         ensures count { (kept result).count ≡ 0 }
     {
         Records {
@@ -71,12 +71,12 @@ impl Records {
 impl Records {
     ghost use Rattle.std.specs.Prelude.{◌<◌, ◌∷◌, Option, None, Some, IfNone};
     ghost use Rattle.nr_record.specs.Records.{contents, encodings};
-    ghost use Rattle.nr_record.specs.Kept.{kept, StandsFor, IsAt};
+    ghost use Rattle.nr_record.specs.RecordsState.{kept, RepresentsStream, IsAt};
 
     /// The next record of the stream, in their order. `None` if and only if no complete record waits. Takes no memory.
     pub fn next_record(&mut self) -> Option<Octets>
-        ensures next { (stream : List ℕ) (taken : ℕ) (s : StandsFor (kept self.old) stream taken) →
-            MatchOption result (taken ≡ length s.cuts) (λ bytes. IsAt (contents s.cuts) taken bytes × StandsFor (kept self.new) stream (taken + 1)) }
+        ensures next { (stream : List ℕ) (taken : ℕ) (s : RepresentsStream (kept self.old) stream taken) →
+            MatchOption result (taken ≡ length s.cuts) (λ bytes. IsAt (contents s.cuts) taken bytes × RepresentsStream (kept self.new) stream (taken + 1)) }
         ensures none { IfNone result (kept self.new ≡ kept self.old) }
         ensures others { kept self.new ≡ record (kept self.old) { waiting = (kept self.new).waiting } }
     {
@@ -89,7 +89,7 @@ impl Records {
     /// The offset of the first byte of the record that `next_record` would give. If it would give none, the offset of the first byte
     /// after the complete records. Takes no memory.
     pub fn at(&self) -> u64
-        ensures { (stream : List ℕ) (taken : ℕ) (s : StandsFor (kept self.now) stream taken) → result ≡ length (encodings (take taken s.cuts)) }
+        ensures { (stream : List ℕ) (taken : ℕ) (s : RepresentsStream (kept self.now) stream taken) → result ≡ length (encodings (take taken s.cuts)) }
     {
         match self.waiting.front() {
             Some(record) => record.at,

@@ -18,7 +18,7 @@ use Rattle.nr_reduce.specs.declared.item.Of.TheVariants.{Reply}
 use Rattle.nr_reduce.specs.Plans.{has_segment, segments_from, write_list, reply_chunk}
 use Rattle.nr_reduce.specs.Chunks.{Bytes, joined_bytes, chunk_total, filled_chunk, whole, some_bytes, reply_moved, reply_stream, reply_conveyed, are_empty, returns, returns_each, fills_first, returns_none, returns_stream, answers_offer}
 use Rattle.nr_reduce.specs.Holds.{Answer, Parts, parts_by, parts_in, answer_size, fits_reply, answer_with, answer_for, written_chunks, first_chunk, no_segments, writes_into, answer_writes, answer_lists}
-use Rattle.nr_reduce.proofs.Undone.{reducible, moved_length, rebuilt}
+use Rattle.nr_reduce.proofs.Rebuilding.{reducible, moved_length, rebuilt}
 use Rattle.nr_reduce.proofs.WrittenChunks.{laid_append, laid_chunk, laid_other, chunk_spells, joined_filled, chunk_added, added_up, sum_added}
 
 pub answer_spells : (offer : ChunkLists) (a : Answer) → answer_writes offer a ≡ flat_map encoding (answer_segments offer a)

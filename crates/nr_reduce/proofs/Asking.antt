@@ -26,7 +26,7 @@ use Rattle.nr_reduce.specs.declared.outline.Plan.{Plan}
 use Rattle.nr_reduce.specs.Plans.{has_segment, one_if, read_stag, regions_needed, write_list, reply_chunk, lists_of, body_by, call_message, plan_of}
 use Rattle.nr_reduce.specs.Chunks.{Bytes, item_position, position_of, call_moved, whole, call_conveyed, read_bytes}
 use Rattle.nr_reduce.proofs.ItemSearch.{item_stands}
-use Rattle.nr_reduce.proofs.Undone.{reducible, moved_length, rebuilt}
+use Rattle.nr_reduce.proofs.Rebuilding.{reducible, moved_length, rebuilt}
 use Rattle.nr_reduce.proofs.PlanKinds.{Offering, offered, IsSmall, MessageKind, shape, IsKind, is_plan}
 use Rattle.nr_reduce.proofs.PlanKinds.Offering.{Nothing, One}
 use Rattle.nr_reduce.proofs.PlanKinds.MessageKind.{Short, Chunked, Long}

@@ -33,7 +33,7 @@ use Rattle.nr_reduce.specs.ClientState.{ClientState, call_payload, plan_for}
 use Rattle.nr_reduce.specs.Client.{client_rules, client_end, client_output, client_state_after, with_segment, plan_or, outstanding_of, call_output, calls_output, response_output, segment_request, with_hello}
 use Rattle.nr_reduce.specs.ServerState.{ServerState, ReadyCall, PendingCall, PendingRead}
 use Rattle.nr_reduce.specs.ServerReads.{open_reads, is_read, regions_of, reads_of}
-use Rattle.nr_reduce.specs.ServerMessages.{Verdict, CallVerdict, verdict, by_payload, by_head, payload_of, call_xid, chunk_bytes}
+use Rattle.nr_reduce.specs.ServerMessages.{Verdict, CallVerdict, verdict, by_payload, by_head, pending_payload, call_xid, chunk_bytes}
 use Rattle.nr_reduce.specs.ServerMessages.Verdict.{EndsLink, OtherVersion, BadChunks, MakesPending}
 use Rattle.nr_reduce.specs.ServerMessages.CallVerdict.{Refuses, IsReady}
 use Rattle.nr_reduce.specs.ServerFrames.{FrameEffect, no_effect, with_verdict, ready_if_whole, message_effect, with_refused_call, is_stream_read, read_effect, call_of_number, response_effect, tagged_effect, by_message, with_access, effect_by, effect_in, frame_effect}
@@ -174,7 +174,7 @@ payload_made c None s h = h
 payload_made c (Some payload) s h = head_made c payload (call_of payload) s refl h
 
 whole_heads : (k : ServerState) (place : ℕ) (c : PendingCall) (s : FrameEffect) → AreHeads s.ready → AreHeads (ready_if_whole k place c s).ready
-whole_heads k place c s h = heads_if (is_read s.reads c.number) (with_verdict (by_payload c (payload_of k place c)) s) s (payload_made c (payload_of k place c) s h) h
+whole_heads k place c s h = heads_if (is_read s.reads c.number) (with_verdict (by_payload c (pending_payload k place c)) s) s (payload_made c (pending_payload k place c) s h) h
 
 message_heads : (k : ServerState) (place : ℕ) (message : List ℕ) (v : Verdict) → AreHeads (message_effect k place message v).ready
 message_heads k place message (EndsLink reason) = tt
@@ -347,7 +347,7 @@ keeps_verdict (Refuses reason) s kept h = record { is = h.is; fits = h.fits }
 keeps_verdict (IsReady r) s kept h = record { is = h.is; fits = h.fits }
 
 keeps_whole_lem : (k : ServerState) (place : ℕ) (c : PendingCall) (s : FrameEffect) (kept : ℕ) → Keeps s kept → Keeps (ready_if_whole k place c s) kept
-keeps_whole_lem k place c s kept h = keeps_if (is_read s.reads c.number) _ s kept (keeps_verdict (by_payload c (payload_of k place c)) s kept h) h
+keeps_whole_lem k place c s kept h = keeps_if (is_read s.reads c.number) _ s kept (keeps_verdict (by_payload c (pending_payload k place c)) s kept h) h
 
 keeps_message_lem : (k : ServerState) (place : ℕ) (message : List ℕ) (v : Verdict) → Keeps (message_effect k place message v) (length (open_reads k))
 keeps_message_lem k place message (EndsLink reason) = record { is = refl; fits = omega arith }

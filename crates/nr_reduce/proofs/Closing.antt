@@ -11,7 +11,7 @@ use Rattle.nr_reduce.specs.Written.{ends_written}
 use Rattle.nr_reduce.specs.ClientState.{OutstandingCall, ClientState}
 use Rattle.nr_reduce.proofs.OwnStags.{closed_stag}
 use Rattle.nr_reduce.specs.KeptCalls.{KeptCall, AreKept}
-use Rattle.nr_reduce.specs.KeptClient.{CallsKeep, IsOwned, IsOpen, IsAmong, AreRising, OpensFor, AreBelow, released_all, without}
+use Rattle.nr_reduce.specs.KeptClient.{CallsKeep, IsOwned, IsRegionOpen, IsAmong, AreRising, OpensFor, AreBelow, released_all, without}
 use Rattle.nr_reduce.proofs.Conveying.{all_among}
 
 release_next : (m : RegisteredMemory) (stag : ℕ) → (after_release m stag).next ≡ m.next
@@ -99,7 +99,7 @@ pub releases_closed : (calls : List KeptCall) (next_xid : ℕ) (k : ClientState)
     ReleasesClosed (of_call c.xid) k.regions m (released_all m c.stags)
 releases_closed calls next_xid k place m c keeps holds there stag = elim (among_or_not stag c.stags) [
   | inl is ↦
-      let o : IsOpen k.regions c.xid stag = all_among (λ (s : ℕ). IsOpen k.regions c.xid s) c.stags stag (all_among (OpensFor k.regions) calls c keeps.opens there) is in
+      let o : IsRegionOpen k.regions c.xid stag = all_among (λ (s : ℕ). IsRegionOpen k.regions c.xid s) c.stags stag (all_among (OpensFor k.regions) calls c keeps.opens there) is in
       let closes : is_closed_by (of_call c.xid) (region_at k.regions stag) ≡ true = ap (is_closed_by (of_call c.xid)) o.there ∙ eq-eqb o.region.call c.xid o.own in
       live_held (released_all m c.stags) stag ∙ released_dead c.stags m stag is ∙ ap (λ (b : Bool). cond b None (live_region m stag)) (sym closes)
   | inr never ↦
@@ -167,7 +167,7 @@ among_without xid d (c ∷ cs) (inr is) other = by (eqb c.xid xid) (among_withou
     by true rest = rest
     by false rest = inr rest
 
-pub open_closed : (xid other place : ℕ) (regions : List Region) (s : ℕ) → eqb other xid ≡ false → IsOpen regions other s → IsOpen (regions_closed (of_call xid) place regions) other s
+pub open_closed : (xid other place : ℕ) (regions : List Region) (s : ℕ) → eqb other xid ≡ false → IsRegionOpen regions other s → IsRegionOpen (regions_closed (of_call xid) place regions) other s
 open_closed xid other place regions s apart o =
     let kept_open : of_call xid o.region ≡ false = ap (λ (n : ℕ). eqb n xid) o.own ∙ apart in
     record {
@@ -181,7 +181,7 @@ opens_closed : (xid place : ℕ) (regions : List Region) (cs : List KeptCall) �
 opens_closed xid place regions [] h = tt
 opens_closed xid place regions (c ∷ cs) h = by (eqb c.xid xid) refl (opens_closed xid place regions cs h.1)
   where
-    each : (ss : List ℕ) → eqb c.xid xid ≡ false → AllByRecursion (λ s. IsOpen regions c.xid s) ss → AllByRecursion (λ s. IsOpen (regions_closed (of_call xid) place regions) c.xid s) ss
+    each : (ss : List ℕ) → eqb c.xid xid ≡ false → AllByRecursion (λ s. IsRegionOpen regions c.xid s) ss → AllByRecursion (λ s. IsRegionOpen (regions_closed (of_call xid) place regions) c.xid s) ss
     each [] apart o = tt
     each (s ∷ ss) apart o = (open_closed xid c.xid place regions s apart o.0, each ss apart o.1)
 

@@ -22,7 +22,7 @@ use Rattle.nr_reduce.specs.Events.RunEvent.{FrameReceived, CallSubmitted, Memory
 use Rattle.nr_reduce.specs.EndRules.{EndState, end_state_after, next_end_state_by, next_end_state_in}
 use Rattle.nr_reduce.specs.ServerState.{ServerState, ReadyCall, PendingRead, PendingCall, next_stag, is_pending}
 use Rattle.nr_reduce.specs.ServerReads.{is_read, chunks_of}
-use Rattle.nr_reduce.specs.ServerMessages.{Verdict, CallVerdict, chunk_bytes, verdict, by_header, by_body, by_stream, by_need, has_position, no_stream, by_payload, payload_of}
+use Rattle.nr_reduce.specs.ServerMessages.{Verdict, CallVerdict, chunk_bytes, verdict, by_header, by_body, by_stream, by_need, has_position, no_stream, by_payload, pending_payload}
 use Rattle.nr_reduce.specs.ServerMessages.Verdict.{EndsLink, OtherVersion, BadChunks, MakesPending}
 use Rattle.nr_reduce.specs.ServerMessages.CallVerdict.{Refuses, IsReady}
 use Rattle.nr_reduce.specs.ServerFrames.{FrameEffect, no_effect, with_verdict, ready_if_whole, with_refused_call, read_effect, response_effect, call_of_number, is_stream_read, message_effect, by_message, with_access, effect_by, effect_in, frame_effect}
@@ -127,7 +127,7 @@ calls_verdict P (Refuses reason) s h = h
 calls_verdict P (IsReady r) s h = h
 
 calls_whole : (P : PendingCall → Type 0) (k : ServerState) (place : ℕ) (c : PendingCall) (s : FrameEffect) → Each P s.calls → Each P (ready_if_whole k place c s).calls
-calls_whole P k place c s h = calls_if P (is_read s.reads c.number) (with_verdict (by_payload c (payload_of k place c)) s) s (calls_verdict P (by_payload c (payload_of k place c)) s h) h
+calls_whole P k place c s h = calls_if P (is_read s.reads c.number) (with_verdict (by_payload c (pending_payload k place c)) s) s (calls_verdict P (by_payload c (pending_payload k place c)) s h) h
 
 calls_read : (P : PendingCall → Type 0) (k : ServerState) (place : ℕ) (r : PendingRead) (o : Option PendingCall) (s : FrameEffect) → Each P s.calls → Each P (read_effect k place r o s).calls
 calls_read P k place r None s h = h

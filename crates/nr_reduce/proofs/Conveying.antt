@@ -25,12 +25,12 @@ use Rattle.nr_reduce.specs.OfferedMemory.{held_if_open, registered_region, Holds
 use Rattle.nr_reduce.specs.ClientState.{OutstandingCall, ClientState, is_sent, client_memory_at}
 use Rattle.nr_reduce.specs.ClientMessages.{ReplyVerdict, reply_verdict, reply_by_payload, by_lists, reply_by_body, by_call, reply_by_header, answered_call}
 use Rattle.nr_reduce.specs.ClientMessages.ReplyVerdict.{GivesOutcome}
-use Rattle.nr_reduce.specs.KeptCalls.{KeptCall, IsKept, AreKept, stags_unless, kept_payload, kept_lists, kept_body, kept_call, kept_by, kept_header, kept_verdict}
-use Rattle.nr_reduce.specs.KeptClient.{IsAmong, IsOpen, OpensFor, bytes_under}
+use Rattle.nr_reduce.specs.KeptCalls.{KeptCall, IsKeptCall, AreKept, stags_unless, kept_payload, kept_lists, kept_body, kept_call, kept_by, kept_header, kept_verdict}
+use Rattle.nr_reduce.specs.KeptClient.{IsAmong, IsRegionOpen, OpensFor, bytes_under}
 
 -- ---- The bytes under the STag of an open region
 
-pub open_bytes : (k : ClientState) (place : ℕ) (m : RegisteredMemory) (xid stag : ℕ) → HoldsRegions k.regions k.accesses_received place m → IsOpen k.regions xid stag → bytes_under m stag ≡ client_memory_at k place stag
+pub open_bytes : (k : ClientState) (place : ℕ) (m : RegisteredMemory) (xid stag : ℕ) → HoldsRegions k.regions k.accesses_received place m → IsRegionOpen k.regions xid stag → bytes_under m stag ≡ client_memory_at k place stag
 unfolding region_bytes
 open_bytes k place m xid stag holds o =
     ap bytes_in (holds stag)
@@ -172,7 +172,7 @@ offered_agrees m n stag p same = record {
 
 pub data FoundAlike (k : ClientState) (calls : List KeptCall) (os : List OutstandingCall) : Option KeptCall → Option OutstandingCall → Type 0 where
   NoCall : FoundAlike k calls os None None
-  ThisCall : (c : KeptCall) (o : OutstandingCall) → IsKept k c o → IsAmong c calls → FoundAlike k calls os (Some c) (Some o)
+  ThisCall : (c : KeptCall) (o : OutstandingCall) → IsKeptCall k c o → IsAmong c calls → FoundAlike k calls os (Some c) (Some o)
 
 found_alike : (k : ClientState) (xid : ℕ) (cs : List KeptCall) (os : List OutstandingCall) → AreKept k cs os → FoundAlike k cs os (kept_by cs xid) (find (λ o. eqb o.xid xid && is_sent k o) os)
 found_alike k xid [] [] is = NoCall
@@ -202,7 +202,7 @@ all_among P [] x h is = absurd is
 all_among P (y ∷ xs) x h (inl e) = subst P e h.0
 all_among P (y ∷ xs) x h (inr is) = all_among P xs x h.1 is
 
-payload_alike : (k : ClientState) (place : ℕ) (m : Bytes) (c : KeptCall) (o : OutstandingCall) (inline : Option (List ℕ)) (lists : ChunkLists) → IsKept k c o → (o.is_revoked ≡ false → ListsAgree m (client_memory_at k place) lists) →
+payload_alike : (k : ClientState) (place : ℕ) (m : Bytes) (c : KeptCall) (o : OutstandingCall) (inline : Option (List ℕ)) (lists : ChunkLists) → IsKeptCall k c o → (o.is_revoked ≡ false → ListsAgree m (client_memory_at k place) lists) →
     kept_payload c.xid c.call inline lists m ≡ cond o.is_revoked (GivesOutcome o.xid None) (reply_by_payload o.xid (reply_conveyed o.call.prog o.call.vers o.call.proc inline lists (client_memory_at k place)))
 payload_alike k place m c o inline lists is agree = by c.call is.revoked is.call
   where
@@ -217,20 +217,20 @@ payload_alike k place m c o inline lists is agree = by c.call is.revoked is.call
         ∙ ap (λ (p : Option (List ℕ)). reply_by_payload o.xid p) (conveyed_alike m (client_memory_at k place) o.call.prog o.call.vers o.call.proc inline lists a.write a.reply)
         ∙ ap (λ (b : Bool). cond b (GivesOutcome o.xid None) other) e
 
-lists_alike : (k : ClientState) (place : ℕ) (m : Bytes) (c : KeptCall) (o : OutstandingCall) (inline : Option (List ℕ)) (lists : ChunkLists) (b : Bool) → IsKept k c o → (b ≡ true → o.is_revoked ≡ false → ListsAgree m (client_memory_at k place) lists) →
+lists_alike : (k : ClientState) (place : ℕ) (m : Bytes) (c : KeptCall) (o : OutstandingCall) (inline : Option (List ℕ)) (lists : ChunkLists) (b : Bool) → IsKeptCall k c o → (b ≡ true → o.is_revoked ≡ false → ListsAgree m (client_memory_at k place) lists) →
     kept_lists c inline lists m b ≡ by_lists k place o inline lists b
 lists_alike k place m c o inline lists true is agree = payload_alike k place m c o inline lists is (agree refl)
 lists_alike k place m c o inline lists false is agree = refl
 
-answers_alike : (k : ClientState) (c : KeptCall) (o : OutstandingCall) (long : Bool) (back : ChunkLists) → IsKept k c o → answers_offer long c.offered back ≡ answers_offer long (lists_of o.stag o.plan) back
+answers_alike : (k : ClientState) (c : KeptCall) (o : OutstandingCall) (long : Bool) (back : ChunkLists) → IsKeptCall k c o → answers_offer long c.offered back ≡ answers_offer long (lists_of o.stag o.plan) back
 unfolding answers_offer
 answers_alike k c o long back is =
     λ i. eqb (length back.read) 0 && (returns_each (is.write i) back.write && (fills_first back.write && cond long (returns_stream (is.reply i) back.reply) (returns_none (is.reply i) back.reply)))
 
-agree_for : (k : ClientState) (place : ℕ) (m : RegisteredMemory) (c : KeptCall) (o : OutstandingCall) → IsKept k c o → HoldsRegions k.regions k.accesses_received place m → OpensFor k.regions c → o.is_revoked ≡ false →
+agree_for : (k : ClientState) (place : ℕ) (m : RegisteredMemory) (c : KeptCall) (o : OutstandingCall) → IsKeptCall k c o → HoldsRegions k.regions k.accesses_received place m → OpensFor k.regions c → o.is_revoked ≡ false →
     ListsAgree (bytes_under m) (client_memory_at k place) (lists_of o.stag o.plan)
 agree_for k place m c o is holds opens live =
-    offered_agrees (bytes_under m) (client_memory_at k place) o.stag o.plan (λ x among. open_bytes k place m c.xid x holds (all_among (λ (s : ℕ). IsOpen k.regions c.xid s) c.stags x opens (mine x among)))
+    offered_agrees (bytes_under m) (client_memory_at k place) o.stag o.plan (λ x among. open_bytes k place m c.xid x holds (all_among (λ (s : ℕ). IsRegionOpen k.regions c.xid s) c.stags x opens (mine x among)))
   where
     stags_are : c.stags ≡ map (λ b. b.stag) (buffers o.stag o.plan)
     stags_are = is.stags ∙ ap (λ (b : Bool). stags_unless b (buffers o.stag o.plan)) live
@@ -238,7 +238,7 @@ agree_for k place m c o is holds opens live =
     mine : (x : ℕ) → IsAmong x (map (λ b. b.stag) (buffers o.stag o.plan)) → IsAmong x c.stags
     mine x among = subst (λ (ss : List ℕ). IsAmong x ss) (sym stags_are) among
 
-body_alike : (k : ClientState) (place : ℕ) (m : RegisteredMemory) (message : List ℕ) (body : Body) (c : KeptCall) (o : OutstandingCall) → IsKept k c o → HoldsRegions k.regions k.accesses_received place m → OpensFor k.regions c →
+body_alike : (k : ClientState) (place : ℕ) (m : RegisteredMemory) (message : List ℕ) (body : Body) (c : KeptCall) (o : OutstandingCall) → IsKeptCall k c o → HoldsRegions k.regions k.accesses_received place m → OpensFor k.regions c →
     kept_body c (bytes_under m) message body ≡ reply_by_body k place o message body
 body_alike k place m message (Msg lists at) c o is holds opens =
     ap (λ (b : Bool). kept_lists c (Some (drop at message)) lists (bytes_under m) b) (answers_alike k c o false lists is)

@@ -36,7 +36,7 @@ pub mod Placing
 pub mod PlanKinds
 pub mod Standing
 pub mod Steps
-pub mod Undone
+pub mod Rebuilding
 pub mod Waiting
 pub mod Conveyed
 pub mod Refusals

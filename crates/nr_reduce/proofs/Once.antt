@@ -34,7 +34,7 @@ use Rattle.nr_reduce.specs.Events.RunEvent.{FrameReceived, CallSubmitted, Memory
 use Rattle.nr_reduce.specs.Plans.{one_if}
 use Rattle.nr_reduce.specs.ServerState.{ServerState, ReadyCall, PendingRead, PendingCall, next_stag, is_pending}
 use Rattle.nr_reduce.specs.ServerReads.{is_read, reads_of, reads_from, read_of, chunks_of, regions_of}
-use Rattle.nr_reduce.specs.ServerMessages.{Verdict, CallVerdict, chunk_bytes, verdict, by_header, by_body, by_stream, by_need, has_position, no_stream, by_payload, by_head, payload_of, call_xid}
+use Rattle.nr_reduce.specs.ServerMessages.{Verdict, CallVerdict, chunk_bytes, verdict, by_header, by_body, by_stream, by_need, has_position, no_stream, by_payload, by_head, pending_payload, call_xid}
 use Rattle.nr_reduce.specs.ServerFrames.{FrameEffect, no_effect, with_verdict, ready_if_whole, with_pending_call, with_refused_call, read_effect, response_effect, call_of_number, is_stream_read, tagged_effect, message_effect, by_message, with_access, effect_in, frame_effect}
 use Rattle.nr_reduce.specs.Server.{with_effect, received_by, server_state_after, server_end, server_rules, initial_server, with_own_hello}
 use Rattle.nr_reduce.specs.ServerMessages.Verdict.{EndsLink, OtherVersion, BadChunks, MakesPending}
@@ -143,7 +143,7 @@ whole_adds : (k : ServerState) (place : ℕ) (c : PendingCall) (s : FrameEffect)
 whole_adds k place c s n e = by (eqb c.number n) refl (is_read s.reads c.number) refl
   where
     o : CallVerdict
-    o = by_payload c (payload_of k place c)
+    o = by_payload c (pending_payload k place c)
 
     small : (b : Bool) → one_if b ≤ 1
     small true = omega arith
@@ -153,7 +153,7 @@ whole_adds k place c s n e = by (eqb c.number n) refl (is_read s.reads c.number)
     idle = ap (λ (xs : List ReadyCall). times_ready n xs) e
 
     one : times_ready n (with_verdict o s).ready ≤ one_if (eqb c.number n)
-    one = ready_times_ready n c.number o s e (payload_number c (payload_of k place c))
+    one = ready_times_ready n c.number o s e (payload_number c (pending_payload k place c))
 
     kept : read_for n (with_verdict o s).reads ≡ read_for n s.reads
     kept = ap (λ (xs : List PendingRead). read_for n xs) (same_reads_lem o s)
@@ -312,13 +312,13 @@ pub record Goes (k after : ServerState) : Type 0 where
 stays : (k after : ServerState) → after.received.sends ≡ k.received.sends → ((n : ℕ) → tokens after n ≤ tokens k n) → Goes k after
 stays k after e h = record { rises = omega (arith, e); known = λ n le. h n; new = λ n. (let a = h n in omega (arith, a)); beyond = λ n lt. h n }
 
-goes_none : (k : ServerState) (f : Frame) (s : FrameEffect) → k.received.sends ≤ (received_by k.received (frame_segment f)).sends → Adds k s none → Goes k (with_effect k f s)
-goes_none k f s rises h =
+none_preserves : (k : ServerState) (f : Frame) (s : FrameEffect) → k.received.sends ≤ (received_by k.received (frame_segment f)).sends → Adds k s none → Goes k (with_effect k f s)
+none_preserves k f s rises h =
     let same : (n : ℕ) → tokens (with_effect k f s) n ≤ tokens k n = λ n. (let a = h n in let b = times_ready_append n k.ready s.ready in omega (arith, a, b)) in
     record { rises = rises; known = λ n le. same n; new = λ n. (let a = same n in omega (arith, a)); beyond = λ n lt. same n }
 
-goes_fresh : (k : ServerState) (f : Frame) (s : FrameEffect) → (received_by k.received (frame_segment f)).sends ≡ k.received.sends + 1 → Adds k s (fresh k) → Goes k (with_effect k f s)
-goes_fresh k f s one h = record {
+fresh_preserved : (k : ServerState) (f : Frame) (s : FrameEffect) → (received_by k.received (frame_segment f)).sends ≡ k.received.sends + 1 → Adds k s (fresh k) → Goes k (with_effect k f s)
+fresh_preserved k f s one h = record {
   rises = omega (arith, one);
   known = λ n le. (let a = h n in let b = times_ready_append n k.ready s.ready in let c = not_new n (λ e. omega (arith, e, le)) in omega (arith, a, b, c));
   new = λ n. (let a = h n in let b = times_ready_append n k.ready s.ready in let c = at_most (eqb (k.received.sends + 1) n) in omega (arith, a, b, c));
@@ -360,14 +360,14 @@ whole_with h (Untagged last opcode w queue msn offset payload) message e = by (i
 
 by_message_goes : (k : ServerState) (f : Frame) (o : Option (List ℕ)) → k.received.sends ≤ (received_by k.received (frame_segment f)).sends → ((message : List ℕ) → o ≡ Some message → (received_by k.received (frame_segment f)).sends ≡ k.received.sends + 1)
     → Goes k (with_effect k f (by_message k f.end o))
-by_message_goes k f None rises h = goes_none k f (no_effect k) rises (quiet k (no_effect k) refl refl)
-by_message_goes k f (Some message) rises h = goes_fresh k f (message_effect k f.end message (verdict k message)) (h message refl) (message_adds k f.end message (verdict k message) (verdict_number k message))
+by_message_goes k f None rises h = none_preserves k f (no_effect k) rises (quiet k (no_effect k) refl refl)
+by_message_goes k f (Some message) rises h = fresh_preserved k f (message_effect k f.end message (verdict k message)) (h message refl) (message_adds k f.end message (verdict k message) (verdict_number k message))
 
 frame_goes : (k : ServerState) (f : Frame) (r : Result Segment ℕ) → frame_segment f ≡ r → Goes k (with_effect k f (effect_in k f r))
-frame_goes k f (Err reason) e = goes_none k f (no_effect k) (let a = ap (λ (q : Result Segment ℕ). (received_by k.received q).sends) e in omega (arith, a)) (quiet k (no_effect k) refl refl)
+frame_goes k f (Err reason) e = none_preserves k f (no_effect k) (let a = ap (λ (q : Result Segment ℕ). (received_by k.received q).sends) e in omega (arith, a)) (quiet k (no_effect k) refl refl)
 frame_goes k f (Ok (Tagged last opcode stag to payload)) e =
     let segment : Segment = Tagged last opcode stag to payload in
-    goes_none k f (tagged_effect (with_access k f segment) f.end opcode last)
+    none_preserves k f (tagged_effect (with_access k f segment) f.end opcode last)
     (let a = ap (λ (q : Result Segment ℕ). (received_by k.received q).sends) e in omega (arith, a))
     (tagged_adds (with_access k f segment) f.end opcode last)
 frame_goes k f (Ok (Untagged last opcode w queue msn offset payload)) e =

@@ -27,7 +27,7 @@ use Rattle.nr_reduce.specs.ServerState.{ServerState, is_pending}
 use Rattle.nr_reduce.specs.ServerMessages.{Verdict, verdict, by_header, by_body, by_stream, by_need}
 use Rattle.nr_reduce.specs.ServerMessages.Verdict.{BadChunks}
 use Rattle.nr_reduce.proofs.ItemSearch.{item_stands}
-use Rattle.nr_reduce.proofs.Undone.{reducible}
+use Rattle.nr_reduce.proofs.Rebuilding.{reducible}
 use Rattle.nr_reduce.proofs.PlanKinds.{Offering, offered, IsSmall, MessageKind, shape, IsKind, is_plan}
 use Rattle.nr_reduce.proofs.PlanKinds.MessageKind.{Short, Chunked, Long}
 use Rattle.nr_reduce.proofs.Asking.{lists, lists_shape, body_of, stream_in, reads_shape}

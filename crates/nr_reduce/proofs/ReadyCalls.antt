@@ -12,7 +12,7 @@ use Rattle.nr_link.specs.Ending.{frame_segment}
 use Rattle.nr_reduce.specs.Chunks.{is_read_chunk_of_item}
 use Rattle.nr_reduce.specs.ServerState.{ServerState, ReadyCall, PendingCall, PendingRead}
 use Rattle.nr_reduce.specs.ServerReads.{is_read}
-use Rattle.nr_reduce.specs.ServerMessages.{Verdict, verdict, by_payload, by_head, payload_of, call_xid, chunk_bytes}
+use Rattle.nr_reduce.specs.ServerMessages.{Verdict, verdict, by_payload, by_head, pending_payload, call_xid, chunk_bytes}
 use Rattle.nr_reduce.specs.ServerMessages.Verdict.{EndsLink, OtherVersion, BadChunks, MakesPending}
 use Rattle.nr_reduce.specs.ServerMessages.CallVerdict.{Refuses, IsReady}
 use Rattle.nr_reduce.specs.ServerFrames.{FrameEffect, no_effect, with_verdict, ready_if_whole, message_effect, with_refused_call, is_stream_read, read_effect, call_of_number, response_effect, by_message, with_access, effect_by, effect_in, frame_effect}
@@ -22,7 +22,7 @@ use Rattle.nr_reduce.specs.RunLaws.{IsCallOf, IsConveyed}
 pub record Conveys (k : ServerState) (place : ℕ) (Own : PendingCall → Type 0) (r : ReadyCall) : Type 0 where
   pub call : PendingCall
   pub own : Own call
-  pub payload : payload_of k place call ≡ Some r.payload
+  pub payload : pending_payload k place call ≡ Some r.payload
   pub number : r.number ≡ call.number
   pub xid : r.xid ≡ call.xid
 
@@ -34,7 +34,7 @@ conveyed_if : (k : ServerState) (place : ℕ) (Own : PendingCall → Type 0) (b 
 conveyed_if k place Own true s t h g = h
 conveyed_if k place Own false s t h g = g
 
-conveyed_head : (k : ServerState) (place : ℕ) (Own : PendingCall → Type 0) (c : PendingCall) (payload : List ℕ) (h : Result CallHead ℕ) (s : FrameEffect) → Own c → payload_of k place c ≡ Some payload → s.ready ≡ []
+conveyed_head : (k : ServerState) (place : ℕ) (Own : PendingCall → Type 0) (c : PendingCall) (payload : List ℕ) (h : Result CallHead ℕ) (s : FrameEffect) → Own c → pending_payload k place c ≡ Some payload → s.ready ≡ []
     → AllConveyed k place Own (with_verdict (by_head c payload h) s).ready
 conveyed_head k place Own c payload (Err at) s own is none = subst (λ (xs : List ReadyCall). AllConveyed k place Own xs) (sym none) tt
 conveyed_head k place Own c payload (Ok head) s own is none = by (eqb (call_xid head) c.xid)
@@ -43,15 +43,15 @@ conveyed_head k place Own c payload (Ok head) s own is none = by (eqb (call_xid 
     by true = (record { call = c; own = own; payload = is; number = refl; xid = refl }, tt)
     by false = subst (λ (xs : List ReadyCall). AllConveyed k place Own xs) (sym none) tt
 
-conveyed_payload : (k : ServerState) (place : ℕ) (Own : PendingCall → Type 0) (c : PendingCall) (p : Option (List ℕ)) (s : FrameEffect) → Own c → payload_of k place c ≡ p → s.ready ≡ []
+conveyed_payload : (k : ServerState) (place : ℕ) (Own : PendingCall → Type 0) (c : PendingCall) (p : Option (List ℕ)) (s : FrameEffect) → Own c → pending_payload k place c ≡ p → s.ready ≡ []
     → AllConveyed k place Own (with_verdict (by_payload c p) s).ready
 conveyed_payload k place Own c None s own is none = subst (λ (xs : List ReadyCall). AllConveyed k place Own xs) (sym none) tt
 conveyed_payload k place Own c (Some payload) s own is none = conveyed_head k place Own c payload (call_of payload) s own is none
 
 conveyed_whole : (k : ServerState) (place : ℕ) (Own : PendingCall → Type 0) (c : PendingCall) (s : FrameEffect) → Own c → s.ready ≡ [] → AllConveyed k place Own (ready_if_whole k place c s).ready
 conveyed_whole k place Own c s own none =
-    conveyed_if k place Own (is_read s.reads c.number) (with_verdict (by_payload c (payload_of k place c)) s) s
-    (conveyed_payload k place Own c (payload_of k place c) s own refl none) (subst (λ (xs : List ReadyCall). AllConveyed k place Own xs) (sym none) tt)
+    conveyed_if k place Own (is_read s.reads c.number) (with_verdict (by_payload c (pending_payload k place c)) s) s
+    (conveyed_payload k place Own c (pending_payload k place c) s own refl none) (subst (λ (xs : List ReadyCall). AllConveyed k place Own xs) (sym none) tt)
 
 conveyed_message : (k : ServerState) (f : Frame) (segment : Segment) (message : List ℕ) (v : Verdict) → message_completed k.received segment ≡ Some message → verdict k message ≡ v
     → AllConveyed k f.end (IsCallOf k segment) (message_effect k f.end message v).ready

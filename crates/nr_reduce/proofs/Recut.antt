@@ -9,7 +9,7 @@ use Rattle.nr_reduce.specs.declared.fault.Mismatch.TheVariants as mismatches
 use Rattle.nr_reduce.specs.Items.{reducible_item, stream_of, moved_of}
 use Rattle.nr_reduce.specs.Cuts.{cut_at, cut_of, joined_by, rebuilt_of}
 use Rattle.nr_reduce.proofs.ItemSearch.{item_stands}
-use Rattle.nr_reduce.proofs.Undone.{reducible, restored_moved, moved_length, right_length}
+use Rattle.nr_reduce.proofs.Rebuilding.{reducible, restored_moved, moved_length, right_length}
 
 abbrev some : Cut → Option Cut
 some c = Some c

@@ -18,7 +18,7 @@ use Rattle.nr_reduce.specs.EndRules.{EndState, end_state_after, next_end_state, 
 use Rattle.nr_reduce.specs.Plans.{one_if}
 use Rattle.nr_reduce.specs.ServerState.{ServerState, ReadyCall, PendingRead, PendingCall}
 use Rattle.nr_reduce.specs.ServerReads.{is_read, open_reads}
-use Rattle.nr_reduce.specs.ServerMessages.{Verdict, CallVerdict, chunk_bytes, verdict, by_payload, payload_of}
+use Rattle.nr_reduce.specs.ServerMessages.{Verdict, CallVerdict, chunk_bytes, verdict, by_payload, pending_payload}
 use Rattle.nr_reduce.specs.ServerMessages.Verdict.{EndsLink, OtherVersion, BadChunks, MakesPending}
 use Rattle.nr_reduce.specs.ServerMessages.CallVerdict.{Refuses, IsReady}
 use Rattle.nr_reduce.specs.ServerFrames.{FrameEffect, no_effect, with_verdict, ready_if_whole, with_refused_call, read_effect, response_effect, call_of_number, is_stream_read, message_effect, by_message, with_access, effect_in, frame_effect}
@@ -92,13 +92,13 @@ same_calls (IsReady r) s = refl
 left_whole : (n : ℕ) (k : ServerState) (place : ℕ) (c : PendingCall) (s : FrameEffect) → eqb c.number n ≡ false → s.ready ≡ [] → pending_of n s.calls ≡ false → Left n (ready_if_whole k place c s)
 left_whole n k place c s other idle h = left_if n (is_read s.reads c.number) (with_verdict o s) s
     (record {
-      ready = (let a = ready_times_ready n c.number o s idle (payload_number c (payload_of k place c)) in let b = ap one_if other in omega (arith, a, b));
+      ready = (let a = ready_times_ready n c.number o s idle (payload_number c (pending_payload k place c)) in let b = ap one_if other in omega (arith, a, b));
       calls = ap (λ (cs : List PendingCall). pending_of n cs) (same_calls o s) ∙ h;
     })
     (record { ready = ap (λ (xs : List ReadyCall). times_ready n xs) idle; calls = h })
   where
     o : CallVerdict
-    o = by_payload c (payload_of k place c)
+    o = by_payload c (pending_payload k place c)
 
 left_message : (n : ℕ) (k : ServerState) (place : ℕ) (message : List ℕ) (v : Verdict) → n ≤ k.received.sends → pending_of n k.calls ≡ false → NumberIs (k.received.sends + 1) v → Left n (message_effect k place message v)
 left_message n k place message (EndsLink reason) sent h is = record { ready = refl; calls = h }

@@ -13,7 +13,7 @@ use Rattle.nr_reduce.specs.OfferedRegions.{Region}
 use Rattle.nr_reduce.specs.OfferedMemory.{region_at, AreOffered, AreReceived, HoldsRegions}
 use Rattle.nr_reduce.specs.Client.{region_of}
 use Rattle.nr_reduce.proofs.MemorySteps.{holds_registered, offered_registered}
-use Rattle.nr_reduce.specs.KeptClient.{AreBelow, IsOpen, IsAmong, registered_all}
+use Rattle.nr_reduce.specs.KeptClient.{AreBelow, IsRegionOpen, IsAmong, registered_all}
 
 -- buffers under STags one after the other
 abbrev pub AreNumbered : ℕ → List Buffer → Type 0
@@ -127,7 +127,7 @@ stags_from (b ∷ bs) next h = ((let e = h.0 in omega (arith, e)), weaker (map (
     weaker (s ∷ ss) h = ((let le = h.0 in omega (arith, le)), weaker ss h.1)
 
 -- the region of each buffer is open, for its call
-opens_own : (xid place : ℕ) (bs : List Buffer) (next : ℕ) → AreNumbered next bs → AllByRecursion (λ s. IsOpen (map (region_of xid place) bs) xid s) (map (λ b. b.stag) bs)
+opens_own : (xid place : ℕ) (bs : List Buffer) (next : ℕ) → AreNumbered next bs → AllByRecursion (λ s. IsRegionOpen (map (region_of xid place) bs) xid s) (map (λ b. b.stag) bs)
 opens_own xid place [] next h = tt
 opens_own xid place (b ∷ bs) next h = (
   record { region = region_of xid place b; there = ap (λ (x : Bool). cond x (Some (region_of xid place b)) (region_at others b.stag)) (eq-eqb b.stag b.stag refl); is_open = refl; own = refl },
@@ -137,7 +137,7 @@ opens_own xid place (b ∷ bs) next h = (
     others : List Region
     others = map (region_of xid place) bs
 
-    one : (s : ℕ) → next + 1 ≤ s → IsOpen others xid s → IsOpen (region_of xid place b ∷ others) xid s
+    one : (s : ℕ) → next + 1 ≤ s → IsRegionOpen others xid s → IsRegionOpen (region_of xid place b ∷ others) xid s
     one s le o = record {
       region = o.region;
       there = ap (λ (x : Bool). cond x (Some (region_of xid place b)) (region_at others s)) (ne_eqb b.stag s (λ e. (let first = h.0 in omega (arith, e, first, le)))) ∙ o.there;
@@ -145,13 +145,13 @@ opens_own xid place (b ∷ bs) next h = (
       own = o.own;
     }
 
-    lift : (ss : List ℕ) → AllByRecursion (λ s. next + 1 ≤ s) ss → AllByRecursion (λ s. IsOpen others xid s) ss → AllByRecursion (λ s. IsOpen (region_of xid place b ∷ others) xid s) ss
+    lift : (ss : List ℕ) → AllByRecursion (λ s. next + 1 ≤ s) ss → AllByRecursion (λ s. IsRegionOpen others xid s) ss → AllByRecursion (λ s. IsRegionOpen (region_of xid place b ∷ others) xid s) ss
     lift [] le o = tt
     lift (s ∷ ss) le o = (one s le.0 o.0, lift ss le.1 o.1)
 
 -- and with other regions before it
 pub opens_new : (xid place : ℕ) (regions : List Region) (bs : List Buffer) (next : ℕ) → AreBelow regions next → AreNumbered next bs →
-    AllByRecursion (λ s. IsOpen (regions ++ map (region_of xid place) bs) xid s) (map (λ b. b.stag) bs)
+    AllByRecursion (λ s. IsRegionOpen (regions ++ map (region_of xid place) bs) xid s) (map (λ b. b.stag) bs)
 opens_new xid place regions bs next below h = lift (map (λ (x : Buffer). x.stag) bs) (stags_from bs next h) (opens_own xid place bs next h)
   where
     fresh : (s : ℕ) → next ≤ s → region_at regions s ≡ None
@@ -161,7 +161,7 @@ opens_new xid place regions bs next below h = lift (map (λ (x : Buffer). x.stag
         by None e = e
         by (Some r) e = absurd (let lt = below s r e in omega (arith, lt, le))
 
-    one : (s : ℕ) → next ≤ s → IsOpen (map (region_of xid place) bs) xid s → IsOpen (regions ++ map (region_of xid place) bs) xid s
+    one : (s : ℕ) → next ≤ s → IsRegionOpen (map (region_of xid place) bs) xid s → IsRegionOpen (regions ++ map (region_of xid place) bs) xid s
     one s le o = record {
       region = o.region;
       there = at_both regions (map (region_of xid place) bs) s ∙ ap (λ (x : Option Region). or_region x (region_at (map (region_of xid place) bs) s)) (fresh s le) ∙ o.there;
@@ -169,11 +169,11 @@ opens_new xid place regions bs next below h = lift (map (λ (x : Buffer). x.stag
       own = o.own;
     }
 
-    lift : (ss : List ℕ) → AllByRecursion (λ s. next ≤ s) ss → AllByRecursion (λ s. IsOpen (map (region_of xid place) bs) xid s) ss → AllByRecursion (λ s. IsOpen (regions ++ map (region_of xid place) bs) xid s) ss
+    lift : (ss : List ℕ) → AllByRecursion (λ s. next ≤ s) ss → AllByRecursion (λ s. IsRegionOpen (map (region_of xid place) bs) xid s) ss → AllByRecursion (λ s. IsRegionOpen (regions ++ map (region_of xid place) bs) xid s) ss
     lift [] le o = tt
     lift (s ∷ ss) le o = (one s le.0 o.0, lift ss le.1 o.1)
 
-pub opens_old : (regions more : List Region) (xid s : ℕ) → IsOpen regions xid s → IsOpen (regions ++ more) xid s
+pub opens_old : (regions more : List Region) (xid s : ℕ) → IsRegionOpen regions xid s → IsRegionOpen (regions ++ more) xid s
 opens_old regions more xid s o = record {
   region = o.region;
   there = at_both regions more s ∙ ap (λ (x : Option Region). or_region x (region_at more s)) o.there;

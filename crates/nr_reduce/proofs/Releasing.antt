@@ -15,9 +15,9 @@ use Rattle.nr_reduce.specs.Events.RunEvent.{MemoryRevoked}
 use Rattle.nr_reduce.specs.EndRules.{next_end_state, live}
 use Rattle.nr_reduce.specs.ClientState.{OutstandingCall, ClientState, client_memory_at}
 use Rattle.nr_reduce.specs.Client.{client_rules, client_end, client_state_after, revoked_call, with_message}
-use Rattle.nr_reduce.specs.KeptCalls.{KeptCall, IsKept, AreKept, stags_unless}
+use Rattle.nr_reduce.specs.KeptCalls.{KeptCall, IsKeptCall, AreKept, stags_unless}
 use Rattle.nr_reduce.specs.Plans.{buffers}
-use Rattle.nr_reduce.specs.KeptClient.{KeptClient, ClientKeeps, CallsKeep, MemoryKeeps, HoldsFor, IsOwned, IsOpen, IsAmong, AreRising, OpensFor, IsWaiting, HasRegions, HasRegionsOf, bytes_under, released_all, stags_in, stags_for, without, revoked_if, revoked_kept, kept_revoked, kept_handed_back, kept_completed}
+use Rattle.nr_reduce.specs.KeptClient.{KeptClient, ClientKeeps, CallsKeep, MemoryKeeps, HoldsFor, IsOwned, IsRegionOpen, IsAmong, AreRising, OpensFor, IsWaiting, HasRegions, HasRegionsOf, bytes_under, released_all, stags_in, stags_for, without, revoked_if, revoked_kept, kept_revoked, kept_handed_back, kept_completed}
 use Rattle.nr_reduce.specs.StandingLaws.{KeptStays, KeptRevokes, KeptHandsBack, KeptCompletes}
 use Rattle.nr_reduce.proofs.OfferedMemory.{grants_from, contents_same, AreAlike, alike_offers}
 use Rattle.nr_reduce.proofs.MemorySteps.{holds_closed, holds_later, offered_closed, offered_later, received_later}
@@ -86,10 +86,10 @@ releases_any calls next_xid xid k place m keeps holds = by (with_xid xid calls) 
 
 -- ---- The calls
 
-one_revoked : (k : ClientState) (xid : ℕ) (c : KeptCall) (o : OutstandingCall) → IsKept k c o → IsKept k (revoked_kept xid c) (revoked_call xid o)
-one_revoked k xid c o is = subst (λ (n : ℕ). IsKept k (revoked_if (eqb c.xid xid) c) (cond (eqb n xid) (record o { is_revoked = true }) o)) is.xid (by (eqb c.xid xid))
+one_revoked : (k : ClientState) (xid : ℕ) (c : KeptCall) (o : OutstandingCall) → IsKeptCall k c o → IsKeptCall k (revoked_kept xid c) (revoked_call xid o)
+one_revoked k xid c o is = subst (λ (n : ℕ). IsKeptCall k (revoked_if (eqb c.xid xid) c) (cond (eqb n xid) (record o { is_revoked = true }) o)) is.xid (by (eqb c.xid xid))
   where
-    by : (b : Bool) → IsKept k (revoked_if b c) (cond b (record o { is_revoked = true }) o)
+    by : (b : Bool) → IsKeptCall k (revoked_if b c) (cond b (record o { is_revoked = true }) o)
     by true = record { xid = is.xid; sent = is.sent; revoked = refl; call = tt; write = is.write; reply = is.reply; stags = refl }
     by false = is
 
@@ -126,7 +126,7 @@ opens_revoked : (xid place : ℕ) (regions : List Region) (cs : List KeptCall) �
 opens_revoked xid place regions [] h = tt
 opens_revoked xid place regions (c ∷ cs) h = (by (eqb c.xid xid) refl, opens_revoked xid place regions cs h.1)
   where
-    each : (ss : List ℕ) → eqb c.xid xid ≡ false → AllByRecursion (λ s. IsOpen regions c.xid s) ss → AllByRecursion (λ s. IsOpen (regions_closed (of_call xid) place regions) c.xid s) ss
+    each : (ss : List ℕ) → eqb c.xid xid ≡ false → AllByRecursion (λ s. IsRegionOpen regions c.xid s) ss → AllByRecursion (λ s. IsRegionOpen (regions_closed (of_call xid) place regions) c.xid s) ss
     each [] apart o = tt
     each (s ∷ ss) apart o = (open_closed xid c.xid place regions s apart o.0, each ss apart o.1)
 
@@ -156,13 +156,13 @@ opens_still xid regions (c ∷ cs) h = (by (eqb c.xid xid), opens_still xid regi
     by false = h.0
 
 -- an STag of another call isn't released
-not_its : (regions : List Region) (calls : List KeptCall) (xid other s : ℕ) → AllByRecursion (OpensFor regions) calls → eqb other xid ≡ false → IsOpen regions other s → IsAmong s (stags_for xid calls) → ⊥
+not_its : (regions : List Region) (calls : List KeptCall) (xid other s : ℕ) → AllByRecursion (OpensFor regions) calls → eqb other xid ≡ false → IsRegionOpen regions other s → IsAmong s (stags_for xid calls) → ⊥
 not_its regions calls xid other s opens apart o is = by (with_xid xid calls) refl is
   where
     own : (c : KeptCall) → with_xid xid calls ≡ Some c → IsAmong s c.stags → ⊥
     own c e there =
         let found = first_found xid calls c e in
-        let p : IsOpen regions c.xid s = all_among (λ (x : ℕ). IsOpen regions c.xid x) c.stags s (all_among (OpensFor regions) calls c opens found.0) there in
+        let p : IsRegionOpen regions c.xid s = all_among (λ (x : ℕ). IsRegionOpen regions c.xid x) c.stags s (all_among (OpensFor regions) calls c opens found.0) there in
         let same : o.region ≡ p.region = (let t : Some o.region ≡ Some p.region = sym o.there ∙ p.there in cc) in
         let xids : other ≡ xid = sym o.own ∙ ap (λ (r : Region). r.call) same ∙ p.own ∙ found.1 in
         (let wrong : true ≡ false = sym (eq-eqb other xid xids) ∙ apart in cc)
@@ -171,7 +171,7 @@ not_its regions calls xid other s opens apart o is = by (with_xid xid calls) ref
     by None e there = subst (λ (x : Option KeptCall). IsAmong s (stags_in x)) e there
     by (Some c) e there = own c e (subst (λ (x : Option KeptCall). IsAmong s (stags_in x)) e there)
 
-stags_still : (xid other : ℕ) (m : RegisteredMemory) (k : ClientState) (count : ℕ) (calls : List KeptCall) (stags : List ℕ) → AllByRecursion (OpensFor k.regions) calls → eqb other xid ≡ false → AllByRecursion (λ s. IsOpen k.regions other s) stags →
+stags_still : (xid other : ℕ) (m : RegisteredMemory) (k : ClientState) (count : ℕ) (calls : List KeptCall) (stags : List ℕ) → AllByRecursion (OpensFor k.regions) calls → eqb other xid ≡ false → AllByRecursion (λ s. IsRegionOpen k.regions other s) stags →
     AllByRecursion (λ s. bytes_under m s ≡ client_memory_at k count s) stags → AllByRecursion (λ s. bytes_under (released_all m (stags_for xid calls)) s ≡ client_memory_at k count s) stags
 stags_still xid other m k count calls [] opens apart o h = tt
 stags_still xid other m k count calls (s ∷ stags) opens apart o h = (
@@ -204,7 +204,7 @@ holds_without xid m k count calls (c ∷ cs) opens o h = by (eqb c.xid xid) refl
 
 -- ---- What the memory holds
 
-stags_hold : (k : ClientState) (count xid : ℕ) (m : RegisteredMemory) (stags : List ℕ) → HoldsRegions k.regions k.accesses_received count m → AllByRecursion (λ s. IsOpen k.regions xid s) stags → AllByRecursion (λ s. bytes_under m s ≡ client_memory_at k count s) stags
+stags_hold : (k : ClientState) (count xid : ℕ) (m : RegisteredMemory) (stags : List ℕ) → HoldsRegions k.regions k.accesses_received count m → AllByRecursion (λ s. IsRegionOpen k.regions xid s) stags → AllByRecursion (λ s. bytes_under m s ≡ client_memory_at k count s) stags
 stags_hold k count xid m [] holds h = tt
 stags_hold k count xid m (s ∷ stags) holds h = (open_bytes k count m xid s holds h.0, stags_hold k count xid m stags holds h.1)
 
@@ -265,10 +265,10 @@ kept_stays opened kept e count later keeps le = record {
   holds = holds_on e.state count later kept.memory kept.calls le keeps.accesses keeps.holds;
 }
 
-has_regions : (k : ClientState) (c : KeptCall) (o : OutstandingCall) → IsKept k c o → HasRegions c o
+has_regions : (k : ClientState) (c : KeptCall) (o : OutstandingCall) → IsKeptCall k c o → HasRegions c o
 has_regions k c o is = record { call = is.call; stags = is.stags ∙ ap (λ (b : Bool). stags_unless b (buffers o.stag o.plan)) (sym is.revoked) }
 
-waits_first : (k : ClientState) (c : KeptCall) (o : OutstandingCall) (os : List OutstandingCall) → IsKept k c o → IsWaiting (o ∷ os) c
+waits_first : (k : ClientState) (c : KeptCall) (o : OutstandingCall) (os : List OutstandingCall) → IsKeptCall k c o → IsWaiting (o ∷ os) c
 waits_first k c o os is =
     subst (λ (b : Bool). HasRegionsOf c (cond b (Some o) (find (λ (p : OutstandingCall). eqb p.xid c.xid) os))) (sym (eq-eqb o.xid c.xid (sym is.xid))) (has_regions k c o is)
 

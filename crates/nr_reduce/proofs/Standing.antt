@@ -160,12 +160,12 @@ module _ {K S : Type 0} (Keeps : K → EndState S → ℕ → Type 0) (rules : E
 
 -- ---- Whatever is kept
 
-pub goes_by_input : {S : Type 0} (rules : EndMachine S) (link : ℕ) (side : Side) (state_of : List Mark → EndState S) (due : List Mark → List ℕ) (run : List Mark) (mark : Mark) (input : InputState) →
+pub preserved_by_input : {S : Type 0} (rules : EndMachine S) (link : ℕ) (side : Side) (state_of : List Mark → EndState S) (due : List Mark → List ℕ) (run : List Mark) (mark : Mark) (input : InputState) →
     state_of (run ++ mark ∷ []) ≡ end_state_after rules (state_of run) (events_at link side run mark) →
     due (run ++ mark ∷ []) ≡ due run ++ output_for_all rules (state_of run) (events_at link side run mark) →
     ((state_of run).ended ≡ None → input ≡ input_of (other side) (bytes_received link side run)) →
     GoesByInput rules link side state_of due input run mark
-goes_by_input rules link side state_of due run mark input state_one due_one is =
+preserved_by_input rules link side state_of due run mark input state_one due_one is =
     let es = input_events link side input mark in
     let same : SameAfter rules (state_of run) es (events_at link side run mark) =
     same_after_lem rules (state_of run) es (events_at link side run mark)
@@ -193,12 +193,12 @@ client_stands opened link kept next input next_input queue left run mark s on fe
 
 pub client_by_input_lem : ClientGoesByInput
 client_by_input_lem opened link input run mark is =
-    goes_by_input (client_rules opened) link Initiator (client opened link) (output_due opened link Initiator) run mark input
+    preserved_by_input (client_rules opened) link Initiator (client opened link) (output_due opened link Initiator) run mark input
     (client_one opened link run mark) (output_due_up_one opened link run mark) is
 
 pub server_by_input_lem : ServerGoesByInput
 server_by_input_lem opened link input run mark is =
-    goes_by_input (server_rules opened) link Responder (server opened link) (output_due opened link Responder) run mark input
+    preserved_by_input (server_rules opened) link Responder (server opened link) (output_due opened link Responder) run mark input
     (server_one opened link run mark) (output_due_down_one opened link run mark) is
 
 pub server_stands : ServerStandsOn

@@ -18,8 +18,8 @@ use Rattle.nr_reduce.specs.Written.{ends_written}
 use Rattle.nr_reduce.specs.Events.RunEvent.{CallSubmitted}
 use Rattle.nr_reduce.specs.ClientState.{OutstandingCall, ClientState, call_payload, plan_for}
 use Rattle.nr_reduce.specs.Client.{client_end, client_state_after, outstanding_of, plan_or, region_of, with_hello, call_ends, submitted_ends}
-use Rattle.nr_reduce.specs.KeptCalls.{KeptCall, IsKept, AreKept}
-use Rattle.nr_reduce.specs.KeptClient.{CallsKeep, MemoryKeeps, HoldsFor, IsOwned, IsOpen, IsAmong, AreRising, AreBelow, OpensFor, registered_all, kept_placed, sent_kept, kept_sent, kept_of, kept_submitted}
+use Rattle.nr_reduce.specs.KeptCalls.{KeptCall, IsKeptCall, AreKept}
+use Rattle.nr_reduce.specs.KeptClient.{CallsKeep, MemoryKeeps, HoldsFor, IsOwned, IsRegionOpen, IsAmong, AreRising, AreBelow, OpensFor, registered_all, kept_placed, sent_kept, kept_sent, kept_of, kept_submitted}
 use Rattle.nr_reduce.specs.StandingLaws.{KeptPlaces, KeptWrites, KeptGreets, KeptSubmits}
 use Rattle.nr_reduce.proofs.MemorySteps.{holds_access, received_one, offered_later}
 use Rattle.nr_reduce.proofs.Releasing.{keeps_live}
@@ -171,7 +171,7 @@ kept_greets opened kept k count keeps within =
 
 -- ---- A call that is accepted
 
-kept_more : (k : ClientState) (cs : List KeptCall) (os : List OutstandingCall) (c : KeptCall) (o : OutstandingCall) → AreKept k cs os → IsKept k c o → AreKept k (cs ++ c ∷ []) (os ++ o ∷ [])
+kept_more : (k : ClientState) (cs : List KeptCall) (os : List OutstandingCall) (c : KeptCall) (o : OutstandingCall) → AreKept k cs os → IsKeptCall k c o → AreKept k (cs ++ c ∷ []) (os ++ o ∷ [])
 kept_more k [] [] c o is one = (one, tt)
 kept_more k [] (x ∷ os) c o is one = absurd is
 kept_more k (x ∷ cs) [] c o is one = absurd is
@@ -199,7 +199,7 @@ among_last : {X : Type 0} (x : X) (xs : List X) → IsAmong x (xs ++ x ∷ [])
 among_last x [] = inl refl
 among_last x (y ∷ xs) = inr (among_last x xs)
 
-opens_stags : (regions more : List Region) (xid : ℕ) (ss : List ℕ) → AllByRecursion (λ s. IsOpen regions xid s) ss → AllByRecursion (λ s. IsOpen (regions ++ more) xid s) ss
+opens_stags : (regions more : List Region) (xid : ℕ) (ss : List ℕ) → AllByRecursion (λ s. IsRegionOpen regions xid s) ss → AllByRecursion (λ s. IsRegionOpen (regions ++ more) xid s) ss
 opens_stags regions more xid [] is = tt
 opens_stags regions more xid (s ∷ ss) is = (opens_old regions more xid s is.0, opens_stags regions more xid ss is.1)
 
@@ -208,13 +208,13 @@ opens_more regions more [] c is one = (one, tt)
 opens_more regions more (x ∷ cs) c is one = (opens_stags regions more x.xid x.stags is.0, opens_more regions more cs c is.1 one)
 
 calls_submitted : (opened : LinkParameters) (calls : List KeptCall) (next_xid : ℕ) (k : ClientState) (count : ℕ) (a : AcceptedCall) (c : KeptCall) → CallsKeep calls next_xid k → AreBelow k.regions k.stag →
-    SendsStay k (client_state_after opened k (CallSubmitted count a)) → a.xid ≡ next_xid → IsKept (client_state_after opened k (CallSubmitted count a)) c (outstanding_of k a) → CallsKeep (calls ++ c ∷ []) (next_xid + 1) (client_state_after opened k (CallSubmitted count a))
+    SendsStay k (client_state_after opened k (CallSubmitted count a)) → a.xid ≡ next_xid → IsKeptCall (client_state_after opened k (CallSubmitted count a)) c (outstanding_of k a) → CallsKeep (calls ++ c ∷ []) (next_xid + 1) (client_state_after opened k (CallSubmitted count a))
 unfolding client_state_after
 calls_submitted opened calls next_xid k count a c keeps below stay next is = record {
   kept = kept_more after calls k.outstanding c o (kept_stay k after calls k.outstanding stay keeps.kept) is;
   rising = rising_more calls c next_xid keeps.rising (is.xid ∙ next);
   owned = λ stag r there is_open. own stag r is_open (region_at k.regions stag) refl (sym (at_both k.regions new stag) ∙ there);
-  opens = opens_more k.regions new calls c keeps.opens (subst (λ (ss : List ℕ). AllByRecursion (λ s. IsOpen (k.regions ++ new) c.xid s) ss) (sym is.stags) (subst (λ (x : ℕ). AllByRecursion (λ s. IsOpen (k.regions ++ new) x s) (map (λ (b : Buffer). b.stag) (buffers k.stag o.plan))) (sym is.xid) (opens_new a.xid count k.regions (buffers k.stag o.plan) k.stag below (buffers_numbered k.stag o.plan))));
+  opens = opens_more k.regions new calls c keeps.opens (subst (λ (ss : List ℕ). AllByRecursion (λ s. IsRegionOpen (k.regions ++ new) c.xid s) ss) (sym is.stags) (subst (λ (x : ℕ). AllByRecursion (λ s. IsRegionOpen (k.regions ++ new) x s) (map (λ (b : Buffer). b.stag) (buffers k.stag o.plan))) (sym is.xid) (opens_new a.xid count k.regions (buffers k.stag o.plan) k.stag below (buffers_numbered k.stag o.plan))));
 }
   where
     after : ClientState
@@ -263,7 +263,7 @@ kept_submits opened kept k count a plan keeps next is within few =
     subst (λ (n : ℕ). Registers (k.regions ++ map (region_of a.xid count) (buffers k.stag o.plan)) k.accesses_received count (registered_all kept.memory (buffers n plan)) (k.stag + regions_needed o.plan)) (sym memory.next)
     (subst (λ (p : Plan). Registers (k.regions ++ map (region_of a.xid count) (buffers k.stag p)) k.accesses_received count (registered_all kept.memory (buffers k.stag plan)) (k.stag + regions_needed p)) (sym plan_is)
     (subst (λ (n : ℕ). Registers (k.regions ++ map (region_of a.xid count) (buffers k.stag plan)) k.accesses_received count (registered_all kept.memory (buffers k.stag plan)) (k.stag + n)) (buffers_count k.stag plan) registered)) in
-    let own : IsKept after (kept_of kept.next_xid a.call plan kept.memory.next) o = record {
+    let own : IsKeptCall after (kept_of kept.next_xid a.call plan kept.memory.next) o = record {
       xid = sym next;
       sent = sym (ap (λ (n : ℕ). ltb (a.xid - k.first_xid) n) left ∙ not_sent a.xid k.first_xid (ends_written k.written k.send_ends) few);
       revoked = refl;

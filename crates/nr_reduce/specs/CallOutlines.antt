@@ -11,17 +11,17 @@ use Rattle.nr_reduce.specs.declared.parts.CallParts.{CallParts}
 use Rattle.nr_reduce.specs.Plans.{TooLarge, given_region}
 
 -- the payload of a call
-abbrev pub payload_of : CallParts → List ℕ
-payload_of p = p.head.now ++ p.args.now
+abbrev pub parts_payload : CallParts → List ℕ
+parts_payload p = p.head.now ++ p.args.now
 
 -- the parts are those of a call: its head asks for this, and ends where its arguments begin
 abbrev pub IsCall : CallParts → Type 0
-IsCall p = (target_of (call_of (payload_of p)) ≡ Some p.target) × (p.target.args_at ≡ length p.head.now)
+IsCall p = (target_of (call_of (parts_payload p)) ≡ Some p.target) × (p.target.args_at ≡ length p.head.now)
 
 -- the parts of a payload; it has none if it begins with no call head of RPC version 2
 abbrev pub ArePartsOf : Option CallParts → List ℕ → Type 0
 ArePartsOf None payload = target_of (call_of payload) ≡ None
-ArePartsOf (Some p) payload = IsCall p × (payload_of p ≡ payload)
+ArePartsOf (Some p) payload = IsCall p × (parts_payload p ≡ payload)
 
 -- the lengths of the segments of a chunk
 abbrev pub lengths_of : ChunkLengths → List ℕ

@@ -31,7 +31,7 @@ stags_unless true bs = []
 stags_unless false bs = map (λ b. b.stag) bs
 
 -- it is kept of this call of a client in this state
-pub record IsKept (k : ClientState) (c : KeptCall) (o : OutstandingCall) : Type 0 where
+pub record IsKeptCall (k : ClientState) (c : KeptCall) (o : OutstandingCall) : Type 0 where
   pub xid : c.xid ≡ o.xid
   pub sent : c.is_sent ≡ is_sent k o
   pub revoked : is_none c.call ≡ o.is_revoked
@@ -44,7 +44,7 @@ abbrev pub AreKept : ClientState → List KeptCall → List OutstandingCall → 
 AreKept k [] [] = Unit {0}
 AreKept k [] (o ∷ os) = ⊥
 AreKept k (c ∷ cs) [] = ⊥
-AreKept k (c ∷ cs) (o ∷ os) = IsKept k c o × AreKept k cs os
+AreKept k (c ∷ cs) (o ∷ os) = IsKeptCall k c o × AreKept k cs os
 
 -- ---- What is made of a message, by the bytes that memory holds under an STag
 

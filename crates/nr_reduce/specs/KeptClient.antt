@@ -60,7 +60,7 @@ pub record IsOwned (calls : List KeptCall) (xid stag : ℕ) : Type 0 where
   pub own : IsAmong stag call.stags
 
 -- the open region under an STag of a kept call
-pub record IsOpen (regions : List Region) (xid stag : ℕ) : Type 0 where
+pub record IsRegionOpen (regions : List Region) (xid stag : ℕ) : Type 0 where
   pub region : Region
   pub there : region_at regions stag ≡ Some region
   pub is_open : region.until ≡ None
@@ -72,7 +72,7 @@ AreRising [] below = Unit {0}
 AreRising (c ∷ cs) below = (c.xid < below) × (AllByRecursion (λ d. c.xid < d.xid) cs × AreRising cs below)
 
 abbrev pub OpensFor : List Region → KeptCall → Type 0
-OpensFor regions c = AllByRecursion (λ stag. IsOpen regions c.xid stag) c.stags
+OpensFor regions c = AllByRecursion (λ stag. IsRegionOpen regions c.xid stag) c.stags
 
 -- each kept call is an outstanding one, and the open regions are those of the kept calls
 pub record CallsKeep (calls : List KeptCall) (next : ℕ) (k : ClientState) : Type 0 where

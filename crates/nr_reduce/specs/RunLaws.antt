@@ -44,7 +44,7 @@ use Rattle.nr_reduce.specs.ClientState.{OutstandingCall, ClientState}
 use Rattle.nr_reduce.specs.Client.{client_rules, client_end, outstanding_of, calls_output, initial_client}
 use Rattle.nr_reduce.specs.ServerState.{ServerState, ReadyCall, PendingCall, PendingRead, is_pending}
 use Rattle.nr_reduce.specs.ServerReads.{open_reads}
-use Rattle.nr_reduce.specs.ServerMessages.{verdict, by_need, no_stream, call_xid, chunk_bytes, payload_of}
+use Rattle.nr_reduce.specs.ServerMessages.{verdict, by_need, no_stream, call_xid, chunk_bytes, pending_payload}
 use Rattle.nr_reduce.specs.ServerFrames.{frame_effect, call_of_number, is_stream_read, with_access}
 use Rattle.nr_reduce.specs.Chunks.{is_read_chunk_of_item}
 use Rattle.nr_reduce.specs.ServerMessages.Verdict.{BadChunks, OtherVersion, MakesPending}
@@ -97,7 +97,7 @@ IsCallOf k segment c =
 pub record IsConveyed (k : ServerState) (f : Frame) (segment : Segment) (r : ReadyCall) : Type 0 where
   pub call : PendingCall
   pub own : IsCallOf k segment call
-  pub payload : payload_of (with_access k f segment) f.end call ≡ Some r.payload
+  pub payload : pending_payload (with_access k f segment) f.end call ≡ Some r.payload
   pub number : r.number ≡ call.number
   pub xid : r.xid ≡ call.xid
 
@@ -302,7 +302,7 @@ pub record WasConveyed (opened : LinkParameters) (es : List RunEvent) (r : Ready
   pub behind_hello : is_hello frame ≡ false
   pub is_segment : frame_segment frame ≡ Ok segment
   pub own : IsReceivedCall opened (earlier ++ FrameReceived frame ∷ []) call
-  pub payload : payload_of (with_access (server_by opened earlier) frame segment) frame.end call ≡ Some r.payload
+  pub payload : pending_payload (with_access (server_by opened earlier) frame segment) frame.end call ≡ Some r.payload
   pub number : r.number ≡ call.number
   pub xid : r.xid ≡ call.xid
 

@@ -12,7 +12,7 @@ use Rattle.nr_link.specs.Ending.{tagged_access, frame_segment}
 use Rattle.nr_reduce.specs.OfferedRegions.{Region}
 use Rattle.nr_reduce.specs.ServerState.{PendingCall, PendingRead, ReadyCall, ServerState, credit_word}
 use Rattle.nr_reduce.specs.ServerReads.{open_reads, regions_of, reads_of, is_read, is_read_at}
-use Rattle.nr_reduce.specs.ServerMessages.{chunk_bytes, payload_of, CallVerdict, by_payload, Verdict, verdict}
+use Rattle.nr_reduce.specs.ServerMessages.{chunk_bytes, pending_payload, CallVerdict, by_payload, Verdict, verdict}
 use Rattle.nr_reduce.specs.ServerMessages.CallVerdict.{Refuses, IsReady}
 use Rattle.nr_reduce.specs.ServerMessages.Verdict.{EndsLink, OtherVersion, BadChunks, MakesPending}
 use Rattle.nr_xdr.specs.Fields.{word_at}
@@ -45,7 +45,7 @@ with_verdict (IsReady r) s = record s { ready = r ∷ [] }
 
 -- a call is complete once nothing is left to be read for it
 abbrev pub ready_if_whole : ServerState → ℕ → PendingCall → FrameEffect → FrameEffect
-ready_if_whole k place c s = if is_read s.reads c.number then with_verdict (by_payload c (payload_of k place c)) s else s
+ready_if_whole k place c s = if is_read s.reads c.number then with_verdict (by_payload c (pending_payload k place c)) s else s
 
 -- a Send that makes a call pending
 abbrev pub with_pending_call : ServerState → ℕ → PendingCall → FrameEffect → FrameEffect

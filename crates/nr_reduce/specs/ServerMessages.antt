@@ -23,8 +23,8 @@ use Rattle.nr_xdr.specs.Fields.{word_at}
 abbrev pub chunk_bytes : ServerState → ℕ → PendingCall → ℕ → List ℕ
 chunk_bytes k place c position = memory_at k place (sink_of k.regions c.number position)
 
-unfoldable pub payload_of : ServerState → ℕ → PendingCall → Option (List ℕ)
-payload_of k place c = call_conveyed c.inline c.lists.read (chunk_bytes k place c)
+unfoldable pub pending_payload : ServerState → ℕ → PendingCall → Option (List ℕ)
+pending_payload k place c = call_conveyed c.inline c.lists.read (chunk_bytes k place c)
 
 abbrev pub call_xid : CallHead → ℕ
 call_xid (calls.Version2 xid prog vers proc cred args_at) = xid

@@ -8,7 +8,7 @@ ghost use Rattle.nr_xdr.specs.Reading.{Cursor};
 ghost use Rattle.nr_reduce.specs.Items.{from_place, ends_with_item, call_item, reducible_item};
 ghost use Rattle.nr_reduce.specs.Largest.{largest_reply};
 ghost use Rattle.nr_reduce.specs.Plans.{write_offer};
-ghost use Rattle.nr_reduce.specs.CallOutlines.{payload_of, IsCall, ArePartsOf};
+ghost use Rattle.nr_reduce.specs.CallOutlines.{parts_payload, IsCall, ArePartsOf};
 ghost use Rattle.nr_reduce.specs.PlanSizes.{facts_of, ItemFits};
 ghost use Rattle.nr_reduce.specs.declared.item.Of.TheVariants.{Call};
 
@@ -76,7 +76,7 @@ pub fn written_parts<'a>(
     requires head { head.now ≡ call_head (call_of_target target cred.now) }
     ensures call { IsCall result }
     ensures target { result.target ≡ record { xid = target.xid; prog = target.prog; vers = target.vers; proc = target.proc; args_at = length head.now } }
-    ensures payload { payload_of result ≡ call_encoding (call_of_target target cred.now) args.now }
+    ensures payload { parts_payload result ≡ call_encoding (call_of_target target cred.now) args.now }
 {
     cred_fits(cred);
     words_fit(target.xid, target.prog, target.vers, target.proc);
@@ -96,7 +96,7 @@ pub fn written_parts<'a>(
 /// A reader at the arguments.
 fn arguments<'a>(parts: CallParts<'a>) -> Reader<'a>
     requires { IsCall parts }
-    ensures { result ≡ from_place parts.entry.target.args_at (payload_of parts.entry) }
+    ensures { result ≡ from_place parts.entry.target.args_at (parts_payload parts.entry) }
 {
     Reader::at_place(parts.head.len(), parts.args)
 }
@@ -104,7 +104,7 @@ fn arguments<'a>(parts: CallParts<'a>) -> Reader<'a>
 /// The most bytes that the reply to a call has: that of [`crate::largest_reply`] for its payload. Takes no memory.
 pub fn largest_reply_of(parts: CallParts<'_>) -> u32
     requires { IsCall parts }
-    ensures { result ≡ largest_reply (payload_of parts.entry) }
+    ensures { result ≡ largest_reply (parts_payload parts.entry) }
 {
     let target = parts.target;
     program_reply_max(target.prog, target.vers, target.proc, arguments(parts))
@@ -124,8 +124,8 @@ fn item_in(target: CallTarget, head: &[u8], args: &[u8]) -> Option<Item>
 /// The item of a call: that of [`crate::call_item`] for its payload. Takes no memory.
 pub fn call_item_of(parts: CallParts<'_>) -> Option<Item>
     requires { IsCall parts }
-    ensures exact { result ≡ call_item (payload_of parts.entry) }
-    ensures inside { IfSome result (λ i. i.pos ≤ length (payload_of parts.entry)) }
+    ensures exact { result ≡ call_item (parts_payload parts.entry) }
+    ensures inside { IfSome result (λ i. i.pos ≤ length (parts_payload parts.entry)) }
 {
     item_in(parts.target, parts.head, parts.args)
 }
@@ -133,7 +133,7 @@ pub fn call_item_of(parts: CallParts<'_>) -> Option<Item>
 /// How many bytes the write chunk has that a call may offer: a READ and a READLINK may.
 fn write_offer_of(parts: CallParts<'_>) -> Option<u32>
     requires { IsCall parts }
-    ensures { result ≡ write_offer (payload_of parts.entry) }
+    ensures { result ≡ write_offer (parts_payload parts.entry) }
 {
     let target = parts.target;
     argument_offer(target.prog, target.vers, target.proc, arguments(parts))
@@ -141,8 +141,8 @@ fn write_offer_of(parts: CallParts<'_>) -> Option<u32>
 
 /// Whether the item's bytes and a pad of zeros are all that stands after its length word.
 fn ends_with_item(parts: CallParts<'_>, item: Item) -> bool
-    requires { item.pos ≤ length (payload_of parts) }
-    ensures { result ≡ ends_with_item (payload_of parts.entry) item }
+    requires { item.pos ≤ length (parts_payload parts) }
+    ensures { result ≡ ends_with_item (parts_payload parts.entry) item }
 {
     let len = item.len as usize;
     let left = parts.head.len() + parts.args.len() - item.pos;
@@ -157,8 +157,8 @@ fn ends_with_item(parts: CallParts<'_>, item: Item) -> bool
 #[tactic(auto, unfolding(crate::specs::Items::reducible_item))]
 fn reducible_item_of(parts: CallParts<'_>) -> Option<Item>
     requires { IsCall parts }
-    ensures exact { result ≡ reducible_item Call (payload_of parts.entry) }
-    ensures inside { IfSome result (λ i. i.pos + i.len ≤ length (payload_of parts.entry)) }
+    ensures exact { result ≡ reducible_item Call (parts_payload parts.entry) }
+    ensures inside { IfSome result (λ i. i.pos + i.len ≤ length (parts_payload parts.entry)) }
 {
     match call_item_of(parts) {
         Some(item) => if ends_with_item(parts, item) {
@@ -173,7 +173,7 @@ fn reducible_item_of(parts: CallParts<'_>) -> Option<Item>
 /// What a plan depends on of a call.
 pub(crate) fn facts_of_call(parts: CallParts<'_>) -> PayloadFacts
     requires { IsCall parts }
-    ensures exact { result ≡ facts_of (payload_of parts.entry) }
+    ensures exact { result ≡ facts_of (parts_payload parts.entry) }
     ensures fits { ItemFits result.len result.item }
 {
     PayloadFacts {

@@ -4,7 +4,7 @@ ghost use Rattle.std.specs.Prelude.{◌≡◌, ℕ, List, ◌+◌, ◌*◌, ◌^
 ghost use Rattle.nr_reduce.specs.Plans.{total, given_total, given_region, given_plan, write_size, reply_size, plan_size, within, plan_of};
 ghost use Rattle.nr_reduce.specs.Limits.{given_max};
 ghost use Rattle.nr_reduce.specs.PlanSizes.{facts_of, ItemFits, KindFits, PlanAnswers, outline_within};
-ghost use Rattle.nr_reduce.specs.CallOutlines.{payload_of, IsCall, lengths_of, chunk_lengths, outline_plan, OutlineAnswers};
+ghost use Rattle.nr_reduce.specs.CallOutlines.{parts_payload, IsCall, lengths_of, chunk_lengths, outline_plan, OutlineAnswers};
 
 use crate::call::{Form, Lengths, Offer};
 use crate::fault::{PayloadFault, TooLarge};
@@ -188,7 +188,7 @@ pub fn outline_of<'a>(
     down: u32,
 ) -> Result<Outline<'a>, TooLarge>
     requires { IsCall parts }
-    ensures { OutlineAnswers (payload_of parts.entry) result (plan_of (payload_of parts.entry) form.now up down) }
+    ensures { OutlineAnswers (parts_payload parts.entry) result (plan_of (parts_payload parts.entry) form.now up down) }
 {
     outline_by(facts_of_call(parts), form, up, down)
 }

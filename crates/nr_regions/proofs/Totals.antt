@@ -12,7 +12,7 @@ use Rattle.std.specs.FinMap.{FinMap, empty, entries, find, put, get, insert, rem
 use Rattle.std.specs.FinMap.Entries.{by_order}
 use Rattle.nr_regions.specs.RegisteredMemory.{Region, Outside, RegionTable, RegisteredMemory, Claim, IsHeld, after_place, after_place_in, bytes_after_write, held_region, live_region}
 use Rattle.nr_regions.specs.declared.denied.Denied.{Denied}
-use Rattle.nr_regions.specs.Table.{IsSound, region_len}
+use Rattle.nr_regions.specs.Table.{IsTotal, region_len}
 use Rattle.nr_regions.proofs.Holding.{get_insert_here, get_insert_other, get_remove_here, get_remove_other, length_bytes_after_write}
 
 module _ {X : Type 0} (size : X → ℕ) where
@@ -82,7 +82,7 @@ module _ {X : Type 0} (size : X → ℕ) where
   there_is : (o : Option X) (x : X) → o ≡ Some x → is_some o ≡ false → ⊥
   there_is o x e f = let wrong : true ≡ false = ap is_some (sym e) ∙ f in absurd cc
 
-  pub sound_initial : (first : ℕ) → first ≤ 2 ^ 32 → IsSound size first 0 empty
+  pub sound_initial : (first : ℕ) → first ≤ 2 ^ 32 → IsTotal size first 0 empty
   sound_initial first fits = record {
     next_fits = fits;
     not_given = λ stag le. ap is_some (get-empty nat_cmp stag);
@@ -90,8 +90,8 @@ module _ {X : Type 0} (size : X → ℕ) where
     bytes_fit = omega arith;
   }
 
-  pub sound_register : (next bytes : ℕ) (held : FinMap nat_cmp X) (x : X) → IsSound size next bytes held → next < 2 ^ 32 → size x < 2 ^ 64
-      → IsSound size (next + 1) (bytes + size x) (insert held next x)
+  pub sound_register : (next bytes : ℕ) (held : FinMap nat_cmp X) (x : X) → IsTotal size next bytes held → next < 2 ^ 32 → size x < 2 ^ 64
+      → IsTotal size (next + 1) (bytes + size x) (insert held next x)
   sound_register next bytes held x s lt small =
       let none = not_there (get held next) (s.not_given next (omega arith)) in record {
         next_fits = omega arith;
@@ -101,11 +101,11 @@ module _ {X : Type 0} (size : X → ℕ) where
       }
 
   -- its size is among the bytes
-  pub sound_counts : (next bytes : ℕ) (held : FinMap nat_cmp X) (stag : ℕ) (x : X) → IsSound size next bytes held → get held stag ≡ Some x → size x ≤ bytes
+  pub sound_counts : (next bytes : ℕ) (held : FinMap nat_cmp X) (stag : ℕ) (x : X) → IsTotal size next bytes held → get held stag ≡ Some x → size x ≤ bytes
   sound_counts next bytes held stag x s there = omega (arith, s.bytes_are, total_remove held stag x there)
 
-  pub sound_release : (next bytes : ℕ) (held : FinMap nat_cmp X) (stag : ℕ) (x : X) → IsSound size next bytes held → get held stag ≡ Some x
-      → IsSound size next (bytes - size x) (remove held stag)
+  pub sound_release : (next bytes : ℕ) (held : FinMap nat_cmp X) (stag : ℕ) (x : X) → IsTotal size next bytes held → get held stag ≡ Some x
+      → IsTotal size next (bytes - size x) (remove held stag)
   sound_release next bytes held stag x s there = record {
     next_fits = s.next_fits;
     not_given = λ q le. ap is_some (get_remove_other held stag q (λ e. there_is (get held stag) x there (s.not_given stag (omega arith)))) ∙ s.not_given q le;
@@ -113,8 +113,8 @@ module _ {X : Type 0} (size : X → ℕ) where
     bytes_fit = omega (arith, s.bytes_fit);
   }
 
-  pub sound_change : (next bytes : ℕ) (held : FinMap nat_cmp X) (stag : ℕ) (x after : X) → IsSound size next bytes held → get held stag ≡ Some x
-      → size after ≡ size x → IsSound size next bytes (insert held stag after)
+  pub sound_change : (next bytes : ℕ) (held : FinMap nat_cmp X) (stag : ℕ) (x after : X) → IsTotal size next bytes held → get held stag ≡ Some x
+      → size after ≡ size x → IsTotal size next bytes (insert held stag after)
   sound_change next bytes held stag x after s there len = record {
     next_fits = s.next_fits;
     not_given = λ q le. ap is_some (get_insert_other held stag after q (λ e. there_is (get held stag) x there (s.not_given stag (omega arith)))) ∙ s.not_given q le;
@@ -127,18 +127,18 @@ abbrev Placed : Result Unit Denied → (held after : FinMap nat_cmp Region) → 
 Placed r held after stag to payload =
     OnOk r (IfSome (get held stag) (λ region. after ≡ insert held stag (record { right = region.right; buf = bytes_after_write region.buf to payload })))
 
-pub sound_placed : (r : Result Unit Denied) (next bytes : ℕ) (held after : FinMap nat_cmp Region) (stag to : ℕ) (payload : List ℕ) → IsSound region_len next bytes held
+pub sound_placed : (r : Result Unit Denied) (next bytes : ℕ) (held after : FinMap nat_cmp Region) (stag to : ℕ) (payload : List ℕ) → IsTotal region_len next bytes held
     → OnOk r (is_some (get held stag) ≡ true) → OnOk r (IfSome (get held stag) (λ region. to + length payload ≤ length region.buf))
-    → Placed r held after stag to payload → OnErr r (after ≡ held) → IsSound region_len next bytes after
-sound_placed (Err denied) next bytes held after stag to payload s found le is err = subst (λ (m : FinMap nat_cmp Region). IsSound region_len next bytes m) (sym err) s
+    → Placed r held after stag to payload → OnErr r (after ≡ held) → IsTotal region_len next bytes after
+sound_placed (Err denied) next bytes held after stag to payload s found le is err = subst (λ (m : FinMap nat_cmp Region). IsTotal region_len next bytes m) (sym err) s
 sound_placed (Ok _) next bytes held after stag to payload s found le is err = by (get held stag) refl found le is
   where
     by : (o : Option Region) → get held stag ≡ o → is_some o ≡ true → IfSome o (λ region. to + length payload ≤ length region.buf)
-        → IfSome o (λ region. after ≡ insert held stag (record { right = region.right; buf = bytes_after_write region.buf to payload })) → IsSound region_len next bytes after
+        → IfSome o (λ region. after ≡ insert held stag (record { right = region.right; buf = bytes_after_write region.buf to payload })) → IsTotal region_len next bytes after
     by None e f l i = absurd cc
     by (Some region) e f l i =
         let w : Region = record { right = region.right; buf = bytes_after_write region.buf to payload } in
-        subst (λ (m : FinMap nat_cmp Region). IsSound region_len next bytes m) (sym i)
+        subst (λ (m : FinMap nat_cmp Region). IsTotal region_len next bytes m) (sym i)
         (sound_change region_len next bytes held stag region w s e (length_bytes_after_write region.buf to payload l))
 
 pub placed_memory : (r : Result Unit Denied) (next : ℕ) (held after : FinMap nat_cmp Region) (stag to : ℕ) (payload : List ℕ)

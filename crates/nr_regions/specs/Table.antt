@@ -33,12 +33,12 @@ abbrev pub outsides : {S : Type 0} → HashMap ℕ HeldBuffer S → FinMap nat_c
 outsides m = mapped outside_of m
 
 -- An STag that wasn't given has nothing in the map, and `bytes` is the sum of the sizes there.
-pub record IsSound {X : Type 0} (size : X → ℕ) (next bytes : ℕ) (held : FinMap nat_cmp X) : Type 0 where
+pub record IsTotal {X : Type 0} (size : X → ℕ) (next bytes : ℕ) (held : FinMap nat_cmp X) : Type 0 where
   pub next_fits : next ≤ 2 ^ 32
   pub not_given : (stag : ℕ) → next ≤ stag → contains_key held stag ≡ false
   pub bytes_are : bytes ≡ sum_by size (values held)
   pub bytes_fit : bytes ≤ next * 2 ^ 64
 
 -- Both sums are right: that of the regions, and that of the bytes outside of them.
-abbrev pub AreSound : {S : Type 0} → (next bytes bytes_outside : ℕ) → HashMap ℕ HeldBuffer S → Type 0
-AreSound next bytes bytes_outside m = IsSound region_len next bytes (table m) × IsSound outside_len next bytes_outside (outsides m)
+abbrev pub AreTotal : {S : Type 0} → (next bytes bytes_outside : ℕ) → HashMap ℕ HeldBuffer S → Type 0
+AreTotal next bytes bytes_outside m = IsTotal region_len next bytes (table m) × IsTotal outside_len next bytes_outside (outsides m)

@@ -42,11 +42,11 @@ impl Model for Regions {
     ghost coded = { table_code };
 
     ghost use Rattle.std.specs.HashMap.{spare};
-    ghost use Rattle.nr_regions.specs.Table.{table, outsides, AreSound};
+    ghost use Rattle.nr_regions.specs.Table.{table, outsides, AreTotal};
 
     ghost view = { λ r. record { memory = record { next = r.next; held = table r.held }; room = spare r.held; outside = outsides r.held } };
 
-    ghost invariant = { λ r. AreSound r.next r.bytes r.bytes_outside r.held };
+    ghost invariant = { λ r. AreTotal r.next r.bytes r.bytes_outside r.held };
 }
 
 /// The region that an access may reach, or why the access is denied.

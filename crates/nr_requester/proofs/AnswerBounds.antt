@@ -22,7 +22,7 @@ use Rattle.nr_requester.specs.Buffers.{with_memory}
 use Rattle.nr_requester.specs.Judged.{SameCalls, outcome_by}
 use Rattle.nr_requester.specs.Fed.{CallsSound}
 use Rattle.nr_requester.specs.Views.{IsAnswered, stored_view}
-use Rattle.nr_requester.specs.HeldBytes.{NothingOutside, call_bytes, stored_bytes, outcome_bytes, buffer_len, buffers_len, LinkFits, RegionsHave, AreFrom, CountsFit, unsent, claims_len, claims_total, CallFits, AnswerFits, AreDistinct, IsWithin, IsBounded}
+use Rattle.nr_requester.specs.HeldBytes.{NothingOutside, call_bytes, stored_bytes, outcome_bytes, buffer_len, buffers_len, LinkFits, RegionsHave, AreFrom, CountsFit, unsent, claims_len, claims_total, CallFits, AnswerFits, AreDistinct, RequesterBounds, IsBounded}
 use Rattle.nr_requester.proofs.ChangedCalls.{nth_of, not_found}
 use Rattle.nr_requester.proofs.RegionBounds.{released_both}
 use Rattle.nr_requester.proofs.AnswerSteps.{all_append}
@@ -185,7 +185,7 @@ completed_bounded sent first next n room number e e2 calls calls2 answers answer
     let sum : claims_total calls - claims_len c.claims ≡ claims_total left = omega (arith, total_removed n calls d lt) in
     let le = b.1 in
     let waiting = w.counts.waiting in
-    let all : IsWithin e2 first next left more = record {
+    let all : RequesterBounds e2 first next left more = record {
       staging = ap (λ (xs : List ℕ). length xs) same ∙ w.staging;
       outside = none w.outside;
       from = all_removed (λ (x : OutstandingCall). first ≤ x.xid) n calls w.from;
@@ -207,6 +207,6 @@ completed_bounded sent first next n room number e e2 calls calls2 answers answer
           (answer_fits s.memory c f (awaited_call (stored_view c)) (outcome_by f c.room) refl refl (nth_of CallFits n calls d lt w.each) held);
       distinct = distinct_answer number n calls d answers s.memory (awaited_call (stored_view c)) (outcome_by f c.room) lt sound.apart w.distinct;
     } in (
-      subst (λ (cs : List OutstandingCall). IsWithin e2 first next cs answers2) (sym calls_are) (subst (λ (ys : List AnsweredCall). IsWithin e2 first next left ys) (sym answers_are) all),
+      subst (λ (cs : List OutstandingCall). RequesterBounds e2 first next cs answers2) (sym calls_are) (subst (λ (ys : List AnsweredCall). RequesterBounds e2 first next left ys) (sym answers_are) all),
       subst (λ (x : LinkState). sent ≤ x.send_queue.sends_left) (sym state) le,
     )

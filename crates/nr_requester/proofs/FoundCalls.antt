@@ -22,7 +22,7 @@ use Rattle.nr_reduce.specs.Chunks.{Bytes, answers_offer, reply_conveyed}
 use Rattle.nr_reduce.specs.ClientState.{ClientState, OutstandingCall}
 use Rattle.nr_reduce.specs.ClientMessages.{ReplyVerdict, reply_xid, reply_by_head, reply_by_payload}
 use Rattle.nr_reduce.specs.ClientMessages.ReplyVerdict.{EndsLink, GivesOutcome}
-use Rattle.nr_reduce.specs.KeptCalls.{KeptCall, IsKept, AreKept, stags_unless, kept_payload, kept_lists, kept_body, kept_call as by_kept_call, kept_by, kept_header, kept_verdict}
+use Rattle.nr_reduce.specs.KeptCalls.{KeptCall, IsKeptCall, AreKept, stags_unless, kept_payload, kept_lists, kept_body, kept_call as by_kept_call, kept_by, kept_header, kept_verdict}
 use Rattle.nr_requester.specs.RequesterState.{StoredCall, stags_of, kept_call}
 use Rattle.nr_requester.specs.CallRegions.{call_stags, OffersPlan}
 use Rattle.nr_requester.specs.AfterPiece.{call_of}
@@ -62,7 +62,7 @@ stags_in_state k next first sent xid c [] os offers kept there has = absurd (let
 stags_in_state k next first sent xid c (d ∷ cs) [] offers kept there has = absurd kept
 stags_in_state k next first sent xid c (d ∷ cs) (o ∷ os) offers kept there has = by (eqb d.xid xid) refl (λ e. stags_in_state k next first sent xid c cs os offers.1 kept.1 e has) there
   where
-    is : IsKept k (kept_call first sent d) o
+    is : IsKeptCall k (kept_call first sent d) o
     is = kept.0
 
     by : (b : Bool) → eqb d.xid xid ≡ b → (find (λ d. eqb d.xid xid) cs ≡ Some c → stags_of c.claims ≡ call_stags xid k.regions) → cond b (Some d) (find (λ d. eqb d.xid xid) cs) ≡ Some c → stags_of c.claims ≡ call_stags xid k.regions

@@ -16,8 +16,8 @@ use Rattle.nr_requester.specs.Buffers.{with_memory}
 use Rattle.nr_requester.specs.HeldClaims.{call_claims, all_claims, AreHeldFrom, OffersOwn}
 use Rattle.nr_requester.specs.OpenCalls.{open_call, call_with, buffers_with, buffers_of}
 use Rattle.nr_requester.specs.Standing.{RequesterRepresents, RequesterRunsOut, StandsOn, StaysOut, StopsRevoked}
-use Rattle.nr_requester.specs.Views.{HasRoom, IsSound, IsAnswered, AreRising, stored_view, given_up, forgot, requester_view}
-use Rattle.nr_requester.specs.HeldBytes.{NothingOutside, LinkFits, RegionsHave, CountsFit, claims_len, claims_total, CallFits, AnswerFits, IsWithin}
+use Rattle.nr_requester.specs.Views.{HasRoom, RequesterInvariant, IsAnswered, AreRising, stored_view, given_up, forgot, requester_view}
+use Rattle.nr_requester.specs.HeldBytes.{NothingOutside, LinkFits, RegionsHave, CountsFit, claims_len, claims_total, CallFits, AnswerFits, RequesterBounds}
 use Rattle.nr_requester.proofs.Releases.{all_released, held_middle, stags_are_of}
 use Rattle.nr_requester.proofs.RegionBounds.{released_both}
 use Rattle.nr_requester.proofs.ChangedCalls.{changed_by, LeavesOthers, found_at, none_found, one_changed, none_changed, count_stays, each_stays, nth_of, rising_stays, from_stays, waiting_stays, claims_around, claims_changed, total_changed, apart_stays, others_answered}
@@ -51,14 +51,14 @@ others_held m n calls d lt h =
     (all_released m 0 (all_claims (take n calls)) (call_claims (get_or calls n d).claims) (all_claims (drop (suc n) calls))
     (subst (λ (cs : List Claim). AreHeldFrom m 0 cs) (claims_around n calls d lt) h)))
 
-pub given_up_sound : (link link2 : LinkSide) (next grant room n : ℕ) (calls calls2 : List OutstandingCall) (answers : List AnsweredCall) (d : OutstandingCall) → IsSound link next grant calls answers room → n < length calls →
-    link2 ≡ with_memory (released_all link.state.memory (stags_of (get_or calls n d).claims)) link → calls2 ≡ set calls n (given_up (get_or calls n d)) → IsSound link2 next grant calls2 answers room
+pub given_up_sound : (link link2 : LinkSide) (next grant room n : ℕ) (calls calls2 : List OutstandingCall) (answers : List AnsweredCall) (d : OutstandingCall) → RequesterInvariant link next grant calls answers room → n < length calls →
+    link2 ≡ with_memory (released_all link.state.memory (stags_of (get_or calls n d).claims)) link → calls2 ≡ set calls n (given_up (get_or calls n d)) → RequesterInvariant link2 next grant calls2 answers room
 given_up_sound link link2 next grant room n calls calls2 answers d s lt link_is are =
     let after : LinkSide = with_memory (released_all link.state.memory (stags_of (get_or calls n d).claims)) link in
     let y : OutstandingCall = given_up (get_or calls n d) in
     let left : List OutstandingCall = set calls n y in
     let count = count_stays n calls y in
-    let all : IsSound after next grant left answers room = record {
+    let all : RequesterInvariant after next grant left answers room = record {
       xid = s.xid;
       few = (let few = s.few in omega (arith, few, count));
       some = s.some;
@@ -73,10 +73,10 @@ given_up_sound link link2 next grant room n calls calls2 answers d s lt link_is 
       apart = apart_stays next n calls y d answers refl lt s.apart;
       has_room = (let has = s.has_room in omega (arith, has, count));
     } in
-    subst (λ (l : LinkSide). IsSound l next grant calls2 answers room) (sym link_is) (subst (λ (cs : List OutstandingCall). IsSound after next grant cs answers room) (sym are) all)
+    subst (λ (l : LinkSide). RequesterInvariant l next grant calls2 answers room) (sym link_is) (subst (λ (cs : List OutstandingCall). RequesterInvariant after next grant cs answers room) (sym are) all)
 
-pub given_up_within : (e e2 : EndpointState) (first next n : ℕ) (calls calls2 : List OutstandingCall) (answers : List AnsweredCall) (d : OutstandingCall) → IsWithin e first next calls answers → AreHeldFrom e.link.state.memory 0 (all_claims calls) → n < length calls →
-    e2.staging ≡ e.staging → (NothingOutside e → NothingOutside e2) → e2.link ≡ with_memory (released_all e.link.state.memory (stags_of (get_or calls n d).claims)) e.link → calls2 ≡ set calls n (given_up (get_or calls n d)) → IsWithin e2 first next calls2 answers
+pub given_up_within : (e e2 : EndpointState) (first next n : ℕ) (calls calls2 : List OutstandingCall) (answers : List AnsweredCall) (d : OutstandingCall) → RequesterBounds e first next calls answers → AreHeldFrom e.link.state.memory 0 (all_claims calls) → n < length calls →
+    e2.staging ≡ e.staging → (NothingOutside e → NothingOutside e2) → e2.link ≡ with_memory (released_all e.link.state.memory (stags_of (get_or calls n d).claims)) e.link → calls2 ≡ set calls n (given_up (get_or calls n d)) → RequesterBounds e2 first next calls2 answers
 given_up_within e e2 first next n calls calls2 answers d w held lt same none link_is are =
     let s : LinkState = e.link.state in
     let c : OutstandingCall = get_or calls n d in
@@ -86,7 +86,7 @@ given_up_within e e2 first next n calls calls2 answers d w held lt same none lin
     let state : e2.link.state ≡ record s { memory = memory } = ap (λ (l : LinkSide). l.state) link_is in
     let both = released_both s.memory c.claims (claims_total calls) (own_held s.memory n calls d lt held) (w.link.regions, w.regions) in
     let sum : claims_total calls - claims_len c.claims ≡ claims_total left = omega (arith, total_changed n calls y d lt) in
-    let all : IsWithin e2 first next left answers = record {
+    let all : RequesterBounds e2 first next left answers = record {
       staging = ap (λ (xs : List ℕ). length xs) same ∙ w.staging;
       outside = none w.outside;
       from = from_stays first n calls y d refl lt w.from;
@@ -107,19 +107,19 @@ given_up_within e e2 first next n calls calls2 answers d w held lt same none lin
       kept = w.kept;
       distinct = w.distinct;
     } in
-    subst (λ (cs : List OutstandingCall). IsWithin e2 first next cs answers) (sym are) all
+    subst (λ (cs : List OutstandingCall). RequesterBounds e2 first next cs answers) (sym are) all
 
 -- ---- A call is forgotten
 
-pub forgot_sound : (link : LinkSide) (next grant room n : ℕ) (calls calls2 : List OutstandingCall) (answers : List AnsweredCall) (d : OutstandingCall) → IsSound link next grant calls answers room → n < length calls →
-    calls2 ≡ set calls n (forgot (get_or calls n d)) → IsSound link next grant calls2 answers room
+pub forgot_sound : (link : LinkSide) (next grant room n : ℕ) (calls calls2 : List OutstandingCall) (answers : List AnsweredCall) (d : OutstandingCall) → RequesterInvariant link next grant calls answers room → n < length calls →
+    calls2 ≡ set calls n (forgot (get_or calls n d)) → RequesterInvariant link next grant calls2 answers room
 forgot_sound link next grant room n calls calls2 answers d s lt are =
     let c : OutstandingCall = get_or calls n d in
     let y : OutstandingCall = forgot c in
     let left : List OutstandingCall = set calls n y in
     let count = count_stays n calls y in
     let claims : all_claims left ≡ all_claims calls = claims_changed n calls y lt ∙ sym (claims_around n calls d lt) in
-    let all : IsSound link next grant left answers room = record {
+    let all : RequesterInvariant link next grant left answers room = record {
       xid = s.xid;
       few = (let few = s.few in omega (arith, few, count));
       some = s.some;
@@ -134,17 +134,17 @@ forgot_sound link next grant room n calls calls2 answers d s lt are =
       apart = apart_stays next n calls y d answers refl lt s.apart;
       has_room = (let has = s.has_room in omega (arith, has, count));
     } in
-    subst (λ (cs : List OutstandingCall). IsSound link next grant cs answers room) (sym are) all
+    subst (λ (cs : List OutstandingCall). RequesterInvariant link next grant cs answers room) (sym are) all
 
-pub forgot_within : (e : EndpointState) (first next n : ℕ) (calls calls2 : List OutstandingCall) (answers : List AnsweredCall) (d : OutstandingCall) → IsWithin e first next calls answers → n < length calls → calls2 ≡ set calls n (forgot (get_or calls n d)) →
-    IsWithin e first next calls2 answers
+pub forgot_within : (e : EndpointState) (first next n : ℕ) (calls calls2 : List OutstandingCall) (answers : List AnsweredCall) (d : OutstandingCall) → RequesterBounds e first next calls answers → n < length calls → calls2 ≡ set calls n (forgot (get_or calls n d)) →
+    RequesterBounds e first next calls2 answers
 forgot_within e first next n calls calls2 answers d w lt are =
     let c : OutstandingCall = get_or calls n d in
     let y : OutstandingCall = forgot c in
     let left : List OutstandingCall = set calls n y in
     let fits : CallFits c = nth_of CallFits n calls d lt w.each in
     let sum : claims_total calls ≡ claims_total left = omega (arith, total_changed n calls y d lt) in
-    let all : IsWithin e first next left answers = record {
+    let all : RequesterBounds e first next left answers = record {
       staging = w.staging;
       outside = w.outside;
       from = from_stays first n calls y d refl lt w.from;
@@ -156,14 +156,14 @@ forgot_within e first next n calls calls2 answers d w lt are =
       kept = w.kept;
       distinct = w.distinct;
     } in
-    subst (λ (cs : List OutstandingCall). IsWithin e first next cs answers) (sym are) all
+    subst (λ (cs : List OutstandingCall). RequesterBounds e first next cs answers) (sym are) all
 
 -- ---- An answer is taken
 
-pub taken_sound : (link : LinkSide) (next grant room room2 xid : ℕ) (calls : List OutstandingCall) (answers answers2 : List AnsweredCall) → IsSound link next grant calls answers room → answers2 ≡ without_answer xid answers → room2 ≡ room → IsSound link next grant calls answers2 room2
+pub taken_sound : (link : LinkSide) (next grant room room2 xid : ℕ) (calls : List OutstandingCall) (answers answers2 : List AnsweredCall) → RequesterInvariant link next grant calls answers room → answers2 ≡ without_answer xid answers → room2 ≡ room → RequesterInvariant link next grant calls answers2 room2
 taken_sound link next grant room room2 xid calls answers answers2 s are same =
     let fewer = fewer_left xid answers in
-    let all : IsSound link next grant calls (without_answer xid answers) room2 = record {
+    let all : RequesterInvariant link next grant calls (without_answer xid answers) room2 = record {
       xid = s.xid;
       few = s.few;
       some = s.some;
@@ -178,11 +178,11 @@ taken_sound link next grant room room2 xid calls answers answers2 s are same =
       apart = all_left (IsAnswered next calls) xid answers s.apart;
       has_room = (let has = s.has_room in omega (arith, has, fewer, same));
     } in
-    subst (λ (ys : List AnsweredCall). IsSound link next grant calls ys room2) (sym are) all
+    subst (λ (ys : List AnsweredCall). RequesterInvariant link next grant calls ys room2) (sym are) all
 
-pub taken_within : (e : EndpointState) (first next xid : ℕ) (calls : List OutstandingCall) (answers answers2 : List AnsweredCall) → IsWithin e first next calls answers → answers2 ≡ without_answer xid answers → IsWithin e first next calls answers2
+pub taken_within : (e : EndpointState) (first next xid : ℕ) (calls : List OutstandingCall) (answers answers2 : List AnsweredCall) → RequesterBounds e first next calls answers → answers2 ≡ without_answer xid answers → RequesterBounds e first next calls answers2
 taken_within e first next xid calls answers answers2 w are =
-    let all : IsWithin e first next calls (without_answer xid answers) = record {
+    let all : RequesterBounds e first next calls (without_answer xid answers) = record {
       staging = w.staging;
       outside = w.outside;
       from = w.from;
@@ -194,7 +194,7 @@ taken_within e first next xid calls answers answers2 w are =
       kept = all_left AnswerFits xid answers w.kept;
       distinct = distinct_left xid answers w.distinct;
     } in
-    subst (λ (ys : List AnsweredCall). IsWithin e first next calls ys) (sym are) all
+    subst (λ (ys : List AnsweredCall). RequesterBounds e first next calls ys) (sym are) all
 
 -- ---- As contracts see it
 

@@ -19,7 +19,7 @@ use Rattle.nr_requester.specs.declared.outstanding.OutstandingCall.{OutstandingC
 use Rattle.nr_requester.specs.HeldClaims.{claim_list, call_claims, all_claims, AreHeldFrom, SentHeld, OffersOwn}
 use Rattle.nr_requester.specs.declared.answer.AnsweredCall.{AnsweredCall}
 use Rattle.nr_requester.proofs.Releases.{from_lower}
-use Rattle.nr_requester.specs.Views.{claim_len, HasRoom, AreRising, IsAnswered, IsSound}
+use Rattle.nr_requester.specs.Views.{claim_len, HasRoom, AreRising, IsAnswered, RequesterInvariant}
 use Rattle.std.proofs.lemmas.List.{length-replicate}
 use Rattle.nr_link.specs.Limits.{send_max}
 use Rattle.nr_reduce.specs.declared.outline.Plan.{Plan}
@@ -133,8 +133,8 @@ apart_append next xs o (a ∷ answers) own h = (((let lt = h.0.0 in omega (arith
         by true rest e = absurd cc
         by false rest e = rest e
 
-pub sent_sound : (link link2 : LinkSide) (xid grant room room2 : ℕ) (items items2 : List OutstandingCall) (answers answers2 : List AnsweredCall) (o : OutstandingCall) → IsSound link xid grant items answers room → SentHeld link.state.memory link2.state.memory o.claims → link2.state.receive_queue ≡ link.state.receive_queue → OffersOwn o → HasRoom o → link2.state.reads ≡ link.state.reads →
-    xid < 2 ^ 32 → length items < grant → items2 ≡ items ++ o ∷ [] → answers2 ≡ answers → o.xid ≡ xid → length answers + (length items + 1) ≤ room2 → IsSound link2 (xid + 1) grant items2 answers2 room2
+pub sent_sound : (link link2 : LinkSide) (xid grant room room2 : ℕ) (items items2 : List OutstandingCall) (answers answers2 : List AnsweredCall) (o : OutstandingCall) → RequesterInvariant link xid grant items answers room → SentHeld link.state.memory link2.state.memory o.claims → link2.state.receive_queue ≡ link.state.receive_queue → OffersOwn o → HasRoom o → link2.state.reads ≡ link.state.reads →
+    xid < 2 ^ 32 → length items < grant → items2 ≡ items ++ o ∷ [] → answers2 ≡ answers → o.xid ≡ xid → length answers + (length items + 1) ≤ room2 → RequesterInvariant link2 (xid + 1) grant items2 answers2 room2
 sent_sound link link2 xid grant room room2 items items2 answers answers2 o s h queue own has reads fits credit more same number more_room =
     let len = ap (λ (xs : List OutstandingCall). length xs) more ∙ length-append items (o ∷ []) in
     let count = ap (λ (xs : List AnsweredCall). length xs) same in
@@ -164,8 +164,8 @@ unfolding after_call
 drain_leaves link n = (refl, (refl, refl))
 
 -- the same with another side of the link, which has its regions and receives
-pub same_sound : (link link2 : LinkSide) (xid grant room room2 : ℕ) (items : List OutstandingCall) (answers : List AnsweredCall) → IsSound link xid grant items answers room → link2.state.memory ≡ link.state.memory → link2.state.receive_queue ≡ link.state.receive_queue → link2.state.reads ≡ link.state.reads →
-    room ≤ room2 → IsSound link2 xid grant items answers room2
+pub same_sound : (link link2 : LinkSide) (xid grant room room2 : ℕ) (items : List OutstandingCall) (answers : List AnsweredCall) → RequesterInvariant link xid grant items answers room → link2.state.memory ≡ link.state.memory → link2.state.receive_queue ≡ link.state.receive_queue → link2.state.reads ≡ link.state.reads →
+    room ≤ room2 → RequesterInvariant link2 xid grant items answers room2
 same_sound link link2 xid grant room room2 items answers s memory queue reads le = record {
   xid = s.xid;
   few = s.few;
@@ -182,15 +182,15 @@ same_sound link link2 xid grant room room2 items answers s memory queue reads le
   has_room = (let room_was = s.has_room in omega (arith, room_was, le));
 }
 
-pub drain_sound : (link link2 : LinkSide) (n xid grant room : ℕ) (items : List OutstandingCall) (answers : List AnsweredCall) → IsSound link xid grant items answers room → link2 ≡ after_call link (Drain n) → IsSound link2 xid grant items answers room
+pub drain_sound : (link link2 : LinkSide) (n xid grant room : ℕ) (items : List OutstandingCall) (answers : List AnsweredCall) → RequesterInvariant link xid grant items answers room → link2 ≡ after_call link (Drain n) → RequesterInvariant link2 xid grant items answers room
 drain_sound link link2 n xid grant room items answers s is =
     same_sound link link2 xid grant room room items answers s (ap (λ (l : LinkSide). l.state.memory) is ∙ (drain_leaves link n).0) (ap (λ (l : LinkSide). l.state.receive_queue) is ∙ (drain_leaves link n).1.0) (ap (λ (l : LinkSide). l.state.reads) is ∙ (drain_leaves link n).1.1) (omega arith)
 
-first_sound : (first_stag xid room : ℕ) → xid ≤ 2 ^ 32 → IsSound (initial_link Initiator 1 first_stag) xid 1 [] [] room
+first_sound : (first_stag xid room : ℕ) → xid ≤ 2 ^ 32 → RequesterInvariant (initial_link Initiator 1 first_stag) xid 1 [] [] room
 unfolding initial_link
 first_sound first_stag xid room fits = record { xid = fits; few = omega arith; some = omega arith; granted = omega arith; none_waits = refl; none_lent = refl; held = omega arith; offers = tt; rooms = tt; no_reads = refl; rising = tt; apart = tt; has_room = omega arith }
 
-pub opened_sound : (link : LinkSide) (first_xid first_stag n room : ℕ) (items : List OutstandingCall) (answers : List AnsweredCall) → link ≡ initial_link Initiator 1 first_stag → n ≡ first_xid → first_xid < 2 ^ 32 → items ≡ [] → answers ≡ [] → IsSound link n 1 items answers room
+pub opened_sound : (link : LinkSide) (first_xid first_stag n room : ℕ) (items : List OutstandingCall) (answers : List AnsweredCall) → link ≡ initial_link Initiator 1 first_stag → n ≡ first_xid → first_xid < 2 ^ 32 → items ≡ [] → answers ≡ [] → RequesterInvariant link n 1 items answers room
 opened_sound link first_xid first_stag n room items answers is xid fits none empty =
-    subst (λ (l : LinkSide). IsSound l n 1 items answers room) (sym is) (subst (λ (ys : List AnsweredCall). IsSound (initial_link Initiator 1 first_stag) n 1 items ys room) (sym empty)
-    (subst (λ (xs : List OutstandingCall). IsSound (initial_link Initiator 1 first_stag) n 1 xs [] room) (sym none) (first_sound first_stag n room (omega (arith, xid, fits)))))
+    subst (λ (l : LinkSide). RequesterInvariant l n 1 items answers room) (sym is) (subst (λ (ys : List AnsweredCall). RequesterInvariant (initial_link Initiator 1 first_stag) n 1 items ys room) (sym empty)
+    (subst (λ (xs : List OutstandingCall). RequesterInvariant (initial_link Initiator 1 first_stag) n 1 xs [] room) (sym none) (first_sound first_stag n room (omega (arith, xid, fits)))))

@@ -8,7 +8,7 @@ use Rattle.nr_regions.proofs.Holding.{get_remove_here, get_remove_other}
 use Rattle.nr_regions.specs.declared.right.Right.{Right}
 use Rattle.nr_regions.specs.declared.right.Right.TheVariants.{Fetch, Fill}
 use Rattle.nr_regions.specs.RegisteredMemory.{RegisteredMemory, Outside, outside_len, nothing_outside, initial_memory, after_release, after_register}
-use Rattle.nr_regions.specs.Table.{IsSound}
+use Rattle.nr_regions.specs.Table.{IsTotal}
 use Rattle.nr_regions.proofs.Totals.{sound_initial, sound_register, sound_release}
 use Rattle.nr_wire.specs.declared.hello.Side.TheVariants.{Initiator}
 use Rattle.nr_endpoint.specs.declared.offering.Offered.{Offered}
@@ -28,7 +28,7 @@ initial_next first_stag = refl
 pub opened_outside : (e : EndpointState) (first_stag : ℕ) → e.link ≡ initial_link Initiator 1 first_stag → e.outside ≡ empty → first_stag ≤ 2 ^ 32 → NothingOutside e
 opened_outside e first_stag is none fits =
     let next : e.link.state.memory.next ≡ first_stag = ap (λ (l : LinkSide). l.state.memory.next) is ∙ initial_next first_stag in
-    subst (λ (n : ℕ). IsSound outside_len n 0 e.outside) (sym next) (subst (λ (m : FinMap nat_cmp Outside). IsSound outside_len first_stag 0 m) (sym none) (sound_initial outside_len first_stag fits))
+    subst (λ (n : ℕ). IsTotal outside_len n 0 e.outside) (sym next) (subst (λ (m : FinMap nat_cmp Outside). IsTotal outside_len first_stag 0 m) (sym none) (sound_initial outside_len first_stag fits))
 
 -- ---- A region is released
 
@@ -43,15 +43,15 @@ not_there stag outside none =
       | inr ne ↦ get_remove_other outside stag q ne
     ])
 
-released_by : (next stag : ℕ) (outside : FinMap nat_cmp Outside) (o : Option Outside) → get outside stag ≡ o → IsSound outside_len next 0 outside → IsSound outside_len next 0 (remove outside stag)
-released_by next stag outside None there s = subst (λ (m : FinMap nat_cmp Outside). IsSound outside_len next 0 m) (sym (not_there stag outside there)) s
-released_by next stag outside (Some x) there s = subst (λ (n : ℕ). IsSound outside_len next n (remove outside stag)) (omega arith) (sound_release outside_len next 0 outside stag x s there)
+released_by : (next stag : ℕ) (outside : FinMap nat_cmp Outside) (o : Option Outside) → get outside stag ≡ o → IsTotal outside_len next 0 outside → IsTotal outside_len next 0 (remove outside stag)
+released_by next stag outside None there s = subst (λ (m : FinMap nat_cmp Outside). IsTotal outside_len next 0 m) (sym (not_there stag outside there)) s
+released_by next stag outside (Some x) there s = subst (λ (n : ℕ). IsTotal outside_len next n (remove outside stag)) (omega arith) (sound_release outside_len next 0 outside stag x s there)
 
 pub released_outside : (e e2 : EndpointState) (stag : ℕ) → e2.link ≡ after_call e.link (Release stag) → e2.outside ≡ remove e.outside stag → NothingOutside e → NothingOutside e2
 released_outside e e2 stag link_is is s =
     let next : e2.link.state.memory.next ≡ e.link.state.memory.next = ap (λ (l : LinkSide). l.state.memory.next) link_is ∙ release_next e.link stag in
-    subst (λ (n : ℕ). IsSound outside_len n 0 e2.outside) (sym next)
-    (subst (λ (m : FinMap nat_cmp Outside). IsSound outside_len e.link.state.memory.next 0 m) (sym is) (released_by e.link.state.memory.next stag e.outside (get e.outside stag) refl s))
+    subst (λ (n : ℕ). IsTotal outside_len n 0 e2.outside) (sym next)
+    (subst (λ (m : FinMap nat_cmp Outside). IsTotal outside_len e.link.state.memory.next 0 m) (sym is) (released_by e.link.state.memory.next stag e.outside (get e.outside stag) refl s))
 
 -- ---- Buffers are registered
 
@@ -60,7 +60,7 @@ unfolding after_register
 next_one m right None = omega arith
 next_one m right (Some buf) = refl
 
-one_more : (m : RegisteredMemory) (right : Right) (buf : Option (List ℕ)) (outside : FinMap nat_cmp Outside) → m.next + one_of buf ≤ 2 ^ 32 → IsSound outside_len m.next 0 outside → IsSound outside_len (with_buffer m right buf).next 0 (outside_buffer m buf outside)
+one_more : (m : RegisteredMemory) (right : Right) (buf : Option (List ℕ)) (outside : FinMap nat_cmp Outside) → m.next + one_of buf ≤ 2 ^ 32 → IsTotal outside_len m.next 0 outside → IsTotal outside_len (with_buffer m right buf).next 0 (outside_buffer m buf outside)
 unfolding after_register
 one_more m right None outside fits s = s
 one_more m right (Some buf) outside fits s = sound_register outside_len m.next 0 outside nothing_outside s (omega (arith, fits)) (omega arith)
@@ -73,8 +73,8 @@ offered_outside e e2 o memory is fits s =
     let first = one_more m Fetch o.read e.outside (omega (arith, fits)) s in
     let second = one_more (with_read m o) Fill o.write (outside_buffer m o.read e.outside) (omega (arith, fits, n1)) first in
     let third = one_more (with_write_buffer m o) Fill o.reply (outside_buffer (with_read m o) o.write (outside_buffer m o.read e.outside)) (omega (arith, fits, n1, n2)) second in
-    subst (λ (n : RegisteredMemory). IsSound outside_len n.next 0 e2.outside) (sym memory) (subst (λ (x : FinMap nat_cmp Outside). IsSound outside_len (with_offered m o).next 0 x) (sym is) third)
+    subst (λ (n : RegisteredMemory). IsTotal outside_len n.next 0 e2.outside) (sym memory) (subst (λ (x : FinMap nat_cmp Outside). IsTotal outside_len (with_offered m o).next 0 x) (sym is) third)
 
 pub same_outside : (e e2 : EndpointState) → e2.link.state.memory.next ≡ e.link.state.memory.next → e2.outside ≡ e.outside → NothingOutside e → NothingOutside e2
 same_outside e e2 next is s =
-    subst (λ (n : ℕ). IsSound outside_len n 0 e2.outside) (sym next) (subst (λ (m : FinMap nat_cmp Outside). IsSound outside_len e.link.state.memory.next 0 m) (sym is) s)
+    subst (λ (n : ℕ). IsTotal outside_len n 0 e2.outside) (sym next) (subst (λ (m : FinMap nat_cmp Outside). IsTotal outside_len e.link.state.memory.next 0 m) (sym is) s)

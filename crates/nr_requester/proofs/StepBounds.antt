@@ -7,12 +7,12 @@ use Rattle.nr_endpoint.specs.Calls.{after_call}
 use Rattle.nr_endpoint.specs.Calls.Call.{FeedOne, OutOfMemory}
 use Rattle.nr_requester.specs.declared.answer.AnsweredCall.{AnsweredCall}
 use Rattle.nr_requester.specs.declared.outstanding.OutstandingCall.{OutstandingCall}
-use Rattle.nr_requester.specs.Views.{IsSound}
+use Rattle.nr_requester.specs.Views.{RequesterInvariant}
 use Rattle.nr_requester.specs.HeldBytes.{IsBounded}
 use Rattle.nr_requester.proofs.FedBounds.{fed_bounded, out_bounded}
 use Rattle.nr_requester.proofs.StepSides.{FedOne, by_other, by_memory}
 
-pub err_bounded : (sent first next grant room : ℕ) (items : List OutstandingCall) (answers : List AnsweredCall) (e e2 : EndpointState) (piece : List ℕ) (r : Result ℕ End) (end : End) → FedOne e.link e2.link piece r → e2.link.state.ended ≡ Some end → e.link.state.ended ≡ None → IsSound e.link next grant items answers room →
+pub err_bounded : (sent first next grant room : ℕ) (items : List OutstandingCall) (answers : List AnsweredCall) (e e2 : EndpointState) (piece : List ℕ) (r : Result ℕ End) (end : End) → FedOne e.link e2.link piece r → e2.link.state.ended ≡ Some end → e.link.state.ended ≡ None → RequesterInvariant e.link next grant items answers room →
     length e2.staging ≡ length e.staging → e2.outside ≡ e.outside → IsBounded sent first next e items answers → IsBounded sent first next e2 items answers
 err_bounded sent first next grant room items answers e e2 piece r end f is lives s staging outside b = by end (by_other e.link e2.link piece r f end is) (by_memory e.link e2.link piece r f end is)
   where

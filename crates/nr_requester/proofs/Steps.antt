@@ -30,7 +30,7 @@ use Rattle.nr_requester.specs.RequesterState.{RequesterState, RequesterSide, kep
 use Rattle.nr_requester.specs.AfterPiece.{taken, judged, with_deliveries, unless_ended, requester_ended, after_frame, RanOut}
 use Rattle.nr_requester.specs.Judged.{kept_views}
 use Rattle.nr_requester.specs.Fed.{OneWaits, CallsSound, IsReady, JudgesTo, with_deliveries_side, Told, one_step, StepOut, IsStep}
-use Rattle.nr_requester.specs.Views.{IsSound, stored_view, requester_view}
+use Rattle.nr_requester.specs.Views.{RequesterInvariant, stored_view, requester_view}
 use Rattle.nr_requester.proofs.Stepping.{link_of, told_of, step_fed}
 use Rattle.nr_requester.proofs.StepLeaves.{Delivers, Leaves, StepLeaves, step_leaves, held_still}
 
@@ -272,14 +272,14 @@ module _ (h : RequesterSide) (piece : List ℕ) (lives : h.state.side.ended ≡ 
 
 -- ---- What holds of the code's values
 
-pub calls_sound : (link : LinkSide) (next grant room : ℕ) (items : List OutstandingCall) (answers : List AnsweredCall) → IsSound link next grant items answers room → CallsSound link.state.memory next items answers room
+pub calls_sound : (link : LinkSide) (next grant room : ℕ) (items : List OutstandingCall) (answers : List AnsweredCall) → RequesterInvariant link next grant items answers room → CallsSound link.state.memory next items answers room
 calls_sound link next grant room items answers s = record { held = s.held; offers = s.offers; rooms = s.rooms; rising = s.rising; apart = s.apart; has_room = s.has_room }
 
 pub leaves_calls : (s t : LinkState) (next room : ℕ) (items : List OutstandingCall) (answers : List AnsweredCall) → Leaves s t → CallsSound s.memory next items answers room → CallsSound t.memory next items answers room
 leaves_calls s t next room items answers l c =
     record { held = held_still s.memory t.memory 0 _ l.held l.next c.held; offers = c.offers; rooms = c.rooms; rising = c.rising; apart = c.apart; has_room = c.has_room }
 
-pub ready_lem : (link link2 : LinkSide) (piece : List ℕ) (next grant room : ℕ) (items : List OutstandingCall) (answers : List AnsweredCall) → IsSound link next grant items answers room → link.state.ended ≡ None → link2 ≡ after_call link (FeedOne piece) → link2.state.ended ≡ None →
+pub ready_lem : (link link2 : LinkSide) (piece : List ℕ) (next grant room : ℕ) (items : List OutstandingCall) (answers : List AnsweredCall) → RequesterInvariant link next grant items answers room → link.state.ended ≡ None → link2 ≡ after_call link (FeedOne piece) → link2.state.ended ≡ None →
     IsReady link2 items answers room
 ready_lem link link2 piece next grant room items answers s lives is live2 =
     let a : LinkSide = after_call link (FeedOne piece) in
@@ -299,17 +299,17 @@ ready_lem link link2 piece next grant room items answers s lives is live2 =
     by a w (inr d) (inr r) = inr (record { number = d.number; message = d.message; is = d.is; rest = r.0 })
 
 -- after the step ended the side
-pub ended_sound : (link link2 : LinkSide) (piece : List ℕ) (next grant room : ℕ) (items : List OutstandingCall) (answers : List AnsweredCall) (end : End) → IsSound link next grant items answers room → link.state.ended ≡ None → link2.state.ended ≡ Some end →
-    (end ≢ ends.Memory → link2 ≡ after_call link (FeedOne piece)) → (end ≡ ends.Memory → link2 ≡ after_call link OutOfMemory) → IsSound link2 next grant items answers room
+pub ended_sound : (link link2 : LinkSide) (piece : List ℕ) (next grant room : ℕ) (items : List OutstandingCall) (answers : List AnsweredCall) (end : End) → RequesterInvariant link next grant items answers room → link.state.ended ≡ None → link2.state.ended ≡ Some end →
+    (end ≢ ends.Memory → link2 ≡ after_call link (FeedOne piece)) → (end ≡ ends.Memory → link2 ≡ after_call link OutOfMemory) → RequesterInvariant link2 next grant items answers room
 unfolding after_call
 ended_sound link link2 piece next grant room items answers end s lives e other memory = by end e other memory
   where
-    after : (end : End) → link2.state.ended ≡ Some end → link2 ≡ after_call link (FeedOne piece) → IsSound link2 next grant items answers room
+    after : (end : End) → link2.state.ended ≡ Some end → link2 ≡ after_call link (FeedOne piece) → RequesterInvariant link2 next grant items answers room
     after end e is =
         let a : LinkSide = after_call link (FeedOne piece) in
         let w : StepLeaves link piece a = step_leaves link piece lives s.none_waits s.no_reads in
         let c = leaves_calls link.state a.state next room items answers w.leaves (calls_sound link next grant room items answers s) in
-        subst (λ (x : LinkSide). IsSound x next grant items answers room) (sym is) (record {
+        subst (λ (x : LinkSide). RequesterInvariant x next grant items answers room) (sym is) (record {
           xid = s.xid;
           few = s.few;
           some = s.some;
@@ -325,8 +325,8 @@ ended_sound link link2 piece next grant room items answers end s lives e other m
           has_room = c.has_room;
         })
 
-    out : link2 ≡ after_call link OutOfMemory → IsSound link2 next grant items answers room
-    out is = subst (λ (x : LinkSide). IsSound x next grant items answers room) (sym (is ∙ ap (λ (o : Option End). record { awaited = link.awaited; rest = []; state = cond (is_some o) link.state (record link.state { ended = Some ends.Memory }) }) lives)) (record {
+    out : link2 ≡ after_call link OutOfMemory → RequesterInvariant link2 next grant items answers room
+    out is = subst (λ (x : LinkSide). RequesterInvariant x next grant items answers room) (sym (is ∙ ap (λ (o : Option End). record { awaited = link.awaited; rest = []; state = cond (is_some o) link.state (record link.state { ended = Some ends.Memory }) }) lives)) (record {
       xid = s.xid;
       few = s.few;
       some = s.some;
@@ -342,7 +342,7 @@ ended_sound link link2 piece next grant room items answers end s lives e other m
       has_room = s.has_room;
     })
 
-    by : (x : End) → link2.state.ended ≡ Some x → (x ≢ ends.Memory → link2 ≡ after_call link (FeedOne piece)) → (x ≡ ends.Memory → link2 ≡ after_call link OutOfMemory) → IsSound link2 next grant items answers room
+    by : (x : End) → link2.state.ended ≡ Some x → (x ≢ ends.Memory → link2 ≡ after_call link (FeedOne piece)) → (x ≡ ends.Memory → link2 ≡ after_call link OutOfMemory) → RequesterInvariant link2 next grant items answers room
     by ends.Memory e other memory = out (memory refl)
     by (ends.Bad at reason) e other memory = after (ends.Bad at reason) e (other (λ eq. cc))
     by (ends.Denied stag to why) e other memory = after (ends.Denied stag to why) e (other (λ eq. cc))

@@ -39,7 +39,7 @@ use Rattle.nr_requester.specs.declared.outstanding.OutstandingCall.{OutstandingC
 use Rattle.nr_requester.specs.AfterCalls.{submitted, sent_unless}
 use Rattle.nr_requester.specs.Sending.{IsPlan, offered_of}
 use Rattle.nr_requester.specs.Views.{AreRising}
-use Rattle.nr_requester.specs.HeldBytes.{NothingOutside, cred_bytes, call_bytes, stored_bytes, call_max, QueueFits, LinkFits, RegionsHave, CountsFit, claims_len, claims_total, CallFits, PlanFits, IsWithin}
+use Rattle.nr_requester.specs.HeldBytes.{NothingOutside, cred_bytes, call_bytes, stored_bytes, call_max, QueueFits, LinkFits, RegionsHave, CountsFit, claims_len, claims_total, CallFits, PlanFits, RequesterBounds}
 use Rattle.nr_requester.proofs.OutputBounds.{send_fits, written_fits, count_fewer}
 use Rattle.nr_requester.proofs.PlanBounds.{plan_bounds, payload_small}
 use Rattle.nr_requester.proofs.OutsideBounds.{opened_outside, same_outside}
@@ -82,10 +82,10 @@ first_counts : (first first_stag : ℕ) → CountsFit first first (initial_link 
 unfolding initial_link
 first_counts first first_stag = record { waiting = omega arith; numbered = omega arith }
 
-pub opened_within : (e : EndpointState) (first first_stag next : ℕ) (calls : List OutstandingCall) (answers : List AnsweredCall) → length e.staging ≡ FPDU_MAX → e.outside ≡ empty → e.link ≡ initial_link Initiator 1 first_stag → first_stag < 2 ^ 32 → next ≡ first → calls ≡ [] → answers ≡ [] → IsWithin e first next calls answers
+pub opened_within : (e : EndpointState) (first first_stag next : ℕ) (calls : List OutstandingCall) (answers : List AnsweredCall) → length e.staging ≡ FPDU_MAX → e.outside ≡ empty → e.link ≡ initial_link Initiator 1 first_stag → first_stag < 2 ^ 32 → next ≡ first → calls ≡ [] → answers ≡ [] → RequesterBounds e first next calls answers
 opened_within e first first_stag next calls answers staging nothing is fits same none empty =
     let l = first_link first_stag (omega (arith, fits)) in
-    let all : IsWithin e first first [] [] = record {
+    let all : RequesterBounds e first first [] [] = record {
       staging = staging;
       outside = opened_outside e first_stag is nothing (omega (arith, fits));
       from = tt;
@@ -97,8 +97,8 @@ opened_within e first first_stag next calls answers staging nothing is fits same
       kept = tt;
       distinct = tt;
     } in
-    subst (λ (n : ℕ). IsWithin e first n calls answers) (sym same)
-    (subst (λ (cs : List OutstandingCall). IsWithin e first first cs answers) (sym none) (subst (λ (ys : List AnsweredCall). IsWithin e first first [] ys) (sym empty) all))
+    subst (λ (n : ℕ). RequesterBounds e first n calls answers) (sym same)
+    (subst (λ (cs : List OutstandingCall). RequesterBounds e first first cs answers) (sym none) (subst (λ (ys : List AnsweredCall). RequesterBounds e first first [] ys) (sym empty) all))
 
 -- ---- A call more
 
@@ -135,9 +135,9 @@ sent_state s plan xid credit total i lives stags l have =
       after.1,
     )
 
-pub sent_within : (e e2 : EndpointState) (first next xid credit : ℕ) (calls calls2 : List OutstandingCall) (answers answers2 : List AnsweredCall) (o : OutstandingCall) (plan : Plan) → IsWithin e first next calls answers → AreRising calls next → e2.staging ≡ e.staging → (NothingOutside e → NothingOutside e2) →
+pub sent_within : (e e2 : EndpointState) (first next xid credit : ℕ) (calls calls2 : List OutstandingCall) (answers answers2 : List AnsweredCall) (o : OutstandingCall) (plan : Plan) → RequesterBounds e first next calls answers → AreRising calls next → e2.staging ≡ e.staging → (NothingOutside e → NothingOutside e2) →
     e2.link ≡ with_state (submitted e.link.state (call_message xid credit e.link.state.memory.next plan) (buffers e.link.state.memory.next plan)) e.link → IsPlan plan → e.link.state.ended ≡ None →
-    e.link.state.memory.next + regions_needed plan ≤ 2 ^ 32 → o.claims ≡ claims_of e.link.state.memory (offered_of plan) → stored_bytes o.call ≤ call_max → length o.room ≤ send_max + (total plan.write + (total plan.reply + 3)) → o.xid ≡ next → calls2 ≡ calls ++ o ∷ [] → answers2 ≡ answers → IsWithin e2 first (next + 1) calls2 answers2
+    e.link.state.memory.next + regions_needed plan ≤ 2 ^ 32 → o.claims ≡ claims_of e.link.state.memory (offered_of plan) → stored_bytes o.call ≤ call_max → length o.room ≤ send_max + (total plan.write + (total plan.reply + 3)) → o.xid ≡ next → calls2 ≡ calls ++ o ∷ [] → answers2 ≡ answers → RequesterBounds e2 first (next + 1) calls2 answers2
 sent_within e e2 first next xid credit calls calls2 answers answers2 o plan w rising same none link_is i lives stags claims small room number more kept =
     let s : LinkState = e.link.state in
     let after : LinkState = submitted s (call_message xid credit s.memory.next plan) (buffers s.memory.next plan) in
@@ -147,7 +147,7 @@ sent_within e e2 first next xid credit calls calls2 answers answers2 o plan w ri
     let sum : claims_total calls + claims_len (claims_of s.memory (offered_of plan)) ≡ claims_total (calls ++ o ∷ []) = omega (arith, len, total_append calls o) in
     let fits : PlanFits plan = plan_bounds i.payload i.form plan i.is in
     let short = plan_len s.memory plan fits in
-    let all : IsWithin e2 first (next + 1) (calls ++ o ∷ []) answers = record {
+    let all : RequesterBounds e2 first (next + 1) (calls ++ o ∷ []) answers = record {
       staging = ap (λ (xs : List ℕ). length xs) same ∙ w.staging;
       outside = none w.outside;
       from = all_append (λ (c : OutstandingCall). first ≤ c.xid) calls o w.from (omega (arith, number, w.order));
@@ -160,7 +160,7 @@ sent_within e e2 first next xid credit calls calls2 answers answers2 o plan w ri
       kept = w.kept;
       distinct = w.distinct;
     } in
-    subst (λ (cs : List OutstandingCall). IsWithin e2 first (next + 1) cs answers2) (sym more) (subst (λ (ys : List AnsweredCall). IsWithin e2 first (next + 1) (calls ++ o ∷ []) ys) (sym kept) all)
+    subst (λ (cs : List OutstandingCall). RequesterBounds e2 first (next + 1) cs answers2) (sym more) (subst (λ (ys : List AnsweredCall). RequesterBounds e2 first (next + 1) (calls ++ o ∷ []) ys) (sym kept) all)
 
 -- a call that has a plan is short
 cred_small : (cred : Cred) → CanWriteCred cred → cred_bytes cred ≤ 255
@@ -202,8 +202,8 @@ drain_is : (link : LinkSide) (n : ℕ) → (after_call link (Drain n)).state ≡
 unfolding after_call
 drain_is link n = refl
 
-pub drained_within : (e e2 : EndpointState) (first next n : ℕ) (calls : List OutstandingCall) (answers : List AnsweredCall) → IsWithin e first next calls answers → AreRising calls next → e2.staging ≡ e.staging → e2.outside ≡ e.outside → e2.link ≡ after_call e.link (Drain n) →
-    IsWithin e2 first next calls answers
+pub drained_within : (e e2 : EndpointState) (first next n : ℕ) (calls : List OutstandingCall) (answers : List AnsweredCall) → RequesterBounds e first next calls answers → AreRising calls next → e2.staging ≡ e.staging → e2.outside ≡ e.outside → e2.link ≡ after_call e.link (Drain n) →
+    RequesterBounds e2 first next calls answers
 drained_within e e2 first next n calls answers w rising same out is =
     let s : LinkState = e.link.state in
     let state : e2.link.state ≡ record s { send_queue = written n s.send_queue } = ap (λ (l : LinkSide). l.state) is ∙ drain_is e.link n in

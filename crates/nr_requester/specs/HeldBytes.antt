@@ -5,7 +5,7 @@ use Rattle.nr_rpc.specs.declared.cred.Cred.{Cred}
 use Rattle.nr_rpc.specs.declared.cred.Cred.TheVariants as creds
 use Rattle.nr_regions.specs.RegisteredMemory.{Region, RegisteredMemory, Claim, held_region, outside_len}
 use Rattle.nr_endpoint.specs.declared.offering.Claims.{Claims}
-use Rattle.nr_regions.specs.Table.{IsSound, region_len}
+use Rattle.nr_regions.specs.Table.{IsTotal, region_len}
 use Rattle.nr_wire.specs.Constants.{FPDU_MAX, HELLO_LEN}
 use Rattle.nr_wire.specs.declared.hello.Side.TheVariants.{Initiator}
 use Rattle.nr_link.specs.Limits.{send_max, open_reads_max}
@@ -129,11 +129,11 @@ pub record LinkFits (s : LinkState) : Type 0 where
 
 -- its regions have this number of bytes together
 abbrev pub RegionsHave : RegisteredMemory → ℕ → Type 0
-RegionsHave m total = IsSound region_len m.next total m.held
+RegionsHave m total = IsTotal region_len m.next total m.held
 
 -- no buffer has bytes outside its region
 abbrev pub NothingOutside : EndpointState → Type 0
-NothingOutside e = IsSound outside_len e.link.state.memory.next 0 e.outside
+NothingOutside e = IsTotal outside_len e.link.state.memory.next 0 e.outside
 
 -- the xids of these calls are at least the first one
 abbrev pub AreFrom : ℕ → List OutstandingCall → Type 0
@@ -182,9 +182,9 @@ abbrev pub AreDistinct : List AnsweredCall → Type 0
 AreDistinct [] = Unit {0}
 AreDistinct (a ∷ answers) = AllByRecursion (λ (b : AnsweredCall). b.xid ≢ a.xid) answers × AreDistinct answers
 
--- What holds of each requester beside `IsSound`: the size of its staging buffer, and the bounds of its side of the link, of its regions, its
+-- What holds of each requester beside `RequesterInvariant`: the size of its staging buffer, and the bounds of its side of the link, of its regions, its
 -- calls and its answers; a Send that waits is that of an outstanding call.
-pub record IsWithin (e : EndpointState) (first next : ℕ) (calls : List OutstandingCall) (answers : List AnsweredCall) : Type 0 where
+pub record RequesterBounds (e : EndpointState) (first next : ℕ) (calls : List OutstandingCall) (answers : List AnsweredCall) : Type 0 where
   pub staging : length e.staging ≡ FPDU_MAX
   pub outside : NothingOutside e
   pub from : AreFrom first calls
@@ -198,4 +198,4 @@ pub record IsWithin (e : EndpointState) (first next : ℕ) (calls : List Outstan
 
 -- Of the number of Sends that it knows to have left, each has.
 abbrev pub IsBounded : (sent first next : ℕ) → EndpointState → List OutstandingCall → List AnsweredCall → Type 0
-IsBounded sent first next e calls answers = IsWithin e first next calls answers × (sent ≤ e.link.state.send_queue.sends_left)
+IsBounded sent first next e calls answers = RequesterBounds e first next calls answers × (sent ≤ e.link.state.send_queue.sends_left)

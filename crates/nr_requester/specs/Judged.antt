@@ -51,11 +51,11 @@ outcome_by founds.Chunk room = Some outcomes.Chunk
 outcome_by (founds.Version low high) room = Some (outcomes.Version low high)
 
 -- the payload lies within the room
-abbrev pub IsWithin : Found → List ℕ → Type 0
-IsWithin founds.Nothing room = Unit {0}
-IsWithin (founds.Reply len) room = len ≤ length room
-IsWithin founds.Chunk room = Unit {0}
-IsWithin (founds.Version low high) room = Unit {0}
+abbrev pub LiesWithin : Found → List ℕ → Type 0
+LiesWithin founds.Nothing room = Unit {0}
+LiesWithin (founds.Reply len) room = len ≤ length room
+LiesWithin founds.Chunk room = Unit {0}
+LiesWithin (founds.Version low high) room = Unit {0}
 
 -- what a reply with this stream, and what moved beside it, makes of its call
 abbrev pub by_stream : ℕ → Call → List ℕ → Option (List ℕ) → ReplyVerdict
@@ -89,5 +89,5 @@ SameCalls (b ∷ before) (a ∷ after) = SameCall b a × SameCalls before after
 pub record Brings (first many : ℕ) (before after : List OutstandingCall) (memory : ℕ → List ℕ) (message : List ℕ) (at : ℕ) (f : Found) : Type 0 where
   pub within : at < length after
   pub verdict : (d : OutstandingCall) → kept_verdict (kept_views first many before) memory message ≡ GivesOutcome (get_or before at d).xid (outcome_by f (get_or after at d).room)
-  pub fits : (d : OutstandingCall) → IsWithin f (get_or after at d).room
+  pub fits : (d : OutstandingCall) → LiesWithin f (get_or after at d).room
   pub sent : (d : OutstandingCall) → (get_or before at d).xid - first < many

@@ -42,7 +42,7 @@ forgot c = record { xid = c.xid; call = c.call; is_forgotten = true; offered = c
 -- What holds of each requester: its numbers are in range, a credit is granted, and no more calls are outstanding than can be; no event waits
 -- and no receive is lent; the regions of its calls are held, and are those that the calls offer; xids rise; it reads nothing of
 -- its peer; and there is room for each reply, and for the answers of all calls that are outstanding.
-pub record IsSound (link : LinkSide) (next_xid grant : ℕ) (outstanding : List OutstandingCall) (answered : List AnsweredCall) (room : ℕ) : Type 0 where
+pub record RequesterInvariant (link : LinkSide) (next_xid grant : ℕ) (outstanding : List OutstandingCall) (answered : List AnsweredCall) (room : ℕ) : Type 0 where
   pub xid : next_xid ≤ 2 ^ 32
   pub few : length outstanding ≤ credits_max
   pub some : 1 ≤ grant

@@ -11,7 +11,7 @@ ghost use Rattle.nr_reduce.specs.ClientMessages.ReplyVerdict.{GivesOutcome};
 ghost use Rattle.nr_reduce.specs.KeptCalls.{kept_body, kept_by, kept_verdict};
 ghost use Rattle.nr_reduce.specs.KeptClient.{bytes_under};
 ghost use Rattle.nr_requester.specs.HeldClaims.{AreHeldFrom, call_claims, all_claims, OffersOwn};
-ghost use Rattle.nr_requester.specs.Judged.{header_reason, Ends, SameCall, outcome_by, IsWithin, kept_view, kept_views, SameCalls, Brings};
+ghost use Rattle.nr_requester.specs.Judged.{header_reason, Ends, SameCall, outcome_by, LiesWithin, kept_view, kept_views, SameCalls, Brings};
 ghost use Rattle.nr_requester.specs.Views.{HasRoom};
 
 use crate::outstanding::OutstandingCall;
@@ -70,7 +70,7 @@ fn found(
     requires stream { StreamWithin body.now (length message.now) }
     requires message { length message.now ≤ send_max }
     ensures ok { IfOk result (λ f. (first sent : ℕ) → kept_body (kept_view first sent call.old) (bytes_under regions.now.memory) message.now body.now ≡ GivesOutcome call.old.xid (outcome_by f call.new.room)) }
-    ensures within { IfOk result (λ f. IsWithin f call.new.room) }
+    ensures within { IfOk result (λ f. LiesWithin f call.new.room) }
     ensures err { IfErr result (λ reason. (first sent : ℕ) → Ends (kept_body (kept_view first sent call.old) (bytes_under regions.now.memory) message.now body.now) reason) }
     ensures same { SameCall call.old call.new }
 {

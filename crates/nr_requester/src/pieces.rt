@@ -19,7 +19,7 @@ ghost use Rattle.nr_requester.specs.RequesterState.{stags_of, awaited_call};
 ghost use Rattle.nr_requester.specs.HeldClaims.{AreHeldFrom, call_claims};
 ghost use Rattle.nr_requester.specs.AfterPiece.{answered_as, after_piece};
 ghost use Rattle.nr_requester.specs.Buffers.{with_memory};
-ghost use Rattle.nr_requester.specs.Judged.{outcome_by, IsWithin, kept_views};
+ghost use Rattle.nr_requester.specs.Judged.{outcome_by, LiesWithin, kept_views};
 ghost use Rattle.nr_requester.specs.Fed.{answer_with, CallsSound, IsReady, JudgesTo, Told, IsStep, RanOutAt, fed_bytes};
 ghost use Rattle.nr_requester.specs.HeldBytes.{NothingOutside, IsBounded};
 ghost use Rattle.nr_requester.specs.OpenCalls.{KeepsTickets};
@@ -94,7 +94,7 @@ fn awaited(call: Option<Call>, is_forgotten: bool) -> Option<Call>
 
 /// What a message brings, with the room in which its payload is.
 fn outcome_in(found: Found, room: Octets) -> Option<Outcome>
-    requires { IsWithin found room }
+    requires { LiesWithin found room }
     ensures { result ≡ outcome_by found room }
 {
     match found {
@@ -116,7 +116,7 @@ fn complete(
 )
     requires at { at < length outstanding.old.items }
     requires held { (d : OutstandingCall) → AreHeldFrom endpoint.old.link.state.memory 0 (call_claims (get_or outstanding.old.items at d).claims) }
-    requires within { (d : OutstandingCall) → IsWithin found (get_or outstanding.old.items at d).room }
+    requires within { (d : OutstandingCall) → LiesWithin found (get_or outstanding.old.items at d).room }
     requires room { vec_len answered.old < vec_capacity answered.old }
     ensures link { (d : OutstandingCall) → endpoint.new.link ≡ with_memory (released_all endpoint.old.link.state.memory (stags_of (get_or outstanding.old.items at d).claims)) endpoint.old.link }
     ensures outstanding { outstanding.new.items ≡ remove outstanding.old.items at }

@@ -9,7 +9,7 @@ ghost use Rattle.nr_reduce.specs.declared.call.Call.{Call};
 ghost use Rattle.nr_reduce.specs.declared.call.Outcome.TheVariants as outcomes;
 ghost use Rattle.nr_reduce.specs.declared.item.Of.TheVariants.{Reply as OfReply};
 ghost use Rattle.nr_requester.specs.Views.{claim_len};
-ghost use Rattle.nr_requester.specs.Judged.{ComesBack, WriteComesBack, ReplyComesBack, Ends, SameCall, outcome_by, IsWithin, by_stream};
+ghost use Rattle.nr_requester.specs.Judged.{ComesBack, WriteComesBack, ReplyComesBack, Ends, SameCall, outcome_by, LiesWithin, by_stream};
 
 use crate::outstanding::OutstandingCall;
 use nr_header::{Chunk, RdmaSegment};
@@ -171,7 +171,7 @@ pub fn reply_found(
     requires room { length stream.now + (claim_len call.old.claims.write + 3) ≤ length call.old.room }
     requires few { length call.old.room < 2 ^ 32 }
     ensures ok { IfOk result (λ f. (c : Call) → call.old.call ≡ Some c → by_stream call.old.xid c stream.now (reply_moved (bytes_under regions.now.memory) written.now) ≡ GivesOutcome call.old.xid (outcome_by f call.new.room)) }
-    ensures within { IfOk result (λ f. IsWithin f call.new.room) }
+    ensures within { IfOk result (λ f. LiesWithin f call.new.room) }
     ensures err { IfErr result (λ reason. (c : Call) → call.old.call ≡ Some c → Ends (by_stream call.old.xid c stream.now (reply_moved (bytes_under regions.now.memory) written.now)) reason) }
     ensures same { SameCall call.old call.new }
 {

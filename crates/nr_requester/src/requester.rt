@@ -56,11 +56,11 @@ impl Model for Requester {
 
     ghost view = { λ r. requester_view r.endpoint.link r.sent r.wished r.first_xid r.next_xid r.grant r.outstanding.items r.answered.items };
 
-    ghost use Rattle.nr_requester.specs.Views.{IsSound};
+    ghost use Rattle.nr_requester.specs.Views.{RequesterInvariant};
     ghost use Rattle.nr_requester.specs.HeldBytes.{IsBounded};
     ghost use Rattle.std.specs.Prelude.{vec_capacity};
 
-    ghost invariant = { λ r. IsSound r.endpoint.link r.next_xid r.grant r.outstanding.items r.answered.items (vec_capacity r.answered) × IsBounded r.sent r.first_xid r.next_xid r.endpoint r.outstanding.items r.answered.items };
+    ghost invariant = { λ r. RequesterInvariant r.endpoint.link r.next_xid r.grant r.outstanding.items r.answered.items (vec_capacity r.answered) × IsBounded r.sent r.first_xid r.next_xid r.endpoint r.outstanding.items r.answered.items };
 }
 
 impl Requester {

@@ -25,7 +25,7 @@ use Rattle.nr_responder.specs.private.CallsRead.{chunk_positions, reading_call, 
 use Rattle.nr_responder.specs.private.Handling.{out}
 use Rattle.nr_responder.specs.private.Reading.{opening, with_opened}
 use Rattle.nr_responder.specs.private.Starting.{BeginsReads, OpensReads, reads_more, with_room}
-use Rattle.nr_responder.specs.Sound.{AreFetched, AreHeldFrom, AreSound, HasRoom, InBuffer, NothingOutside, SameInput, claims_of, payload_room, payloads_of, state_of, xids_of}
+use Rattle.nr_responder.specs.Sound.{AreFetched, AreHeldFrom, QueuesInvariant, HasRoom, InBuffer, NothingOutside, SameInput, claims_of, payload_room, payloads_of, state_of, xids_of}
 use Rattle.nr_responder.specs.Views.{call_view, read_view, sink_view}
 use Rattle.nr_responder.proofs.ListedReads.{same_sinks}
 use Rattle.nr_responder.proofs.ReadEffects.{requests_ends}
@@ -153,7 +153,7 @@ started_input number read chunks old new sinks later before after b = record {
 }
 
 pub started_sound : (number : ℕ) (read : List ReadSegment) (chunks : List ℕ) (old new : List ReadEntry) (sinks after_sinks : List OpenSink) (before after : LinkSide) (calls later : List Pending) (call : Pending) (room : List ℕ) (ready : List Ready) (used : List (List ℕ)) (a b c a2 : ℕ) →
-    BeginsReads number read chunks old new sinks after_sinks before after → InBuffer call → later ≡ calls ++ with_room call room ∷ [] → a2 ≡ a → AreSound 1 before.state calls ready used a b c → AreSound 0 after.state later ready used a2 b c
+    BeginsReads number read chunks old new sinks after_sinks before after → InBuffer call → later ≡ calls ++ with_room call room ∷ [] → a2 ≡ a → QueuesInvariant 1 before.state calls ready used a b c → QueuesInvariant 0 after.state later ready used a2 b c
 started_sound number read chunks old new sinks after_sinks before after calls later call room ready used a b c a2 begins whole later_is cap h =
     let same : (after.state.receive_queue ≡ before.state.receive_queue) × (after.state.send_queue.send_ends ≡ before.state.send_queue.send_ends) = started_link number read chunks old new sinks after_sinks before after begins in
     let count : length later ≡ length calls + 1 = ap (λ (xs : List Pending). length xs) later_is ∙ length-append calls (with_room call room ∷ []) in
@@ -171,7 +171,7 @@ started_sound number read chunks old new sinks after_sinks before after calls la
     }
 
 -- there is room for a call more
-pub call_fits : (s : LinkState) (calls : List Pending) (ready : List Ready) (used : List (List ℕ)) (a b c : ℕ) → s.receive_queue.lent ≤ s.receive_queue.receives → AreSound 1 s calls ready used a b c → length calls < a
+pub call_fits : (s : LinkState) (calls : List Pending) (ready : List Ready) (used : List (List ℕ)) (a b c : ℕ) → s.receive_queue.lent ≤ s.receive_queue.receives → QueuesInvariant 1 s calls ready used a b c → length calls < a
 call_fits s calls ready used a b c le h = omega (arith, le, h.lent, h.calls_fit)
 
 -- ---- The state

@@ -25,7 +25,7 @@ use Rattle.nr_reduce.specs.Events.RunEvent.{FrameReceived}
 use Rattle.nr_reduce.specs.EndRules.{EndState, live, next_end_state}
 use Rattle.nr_reduce.specs.ServerState.{PendingCall, PendingRead, ReadyCall, ServerState, is_pending, next_stag}
 use Rattle.nr_reduce.specs.ServerReads.{chunks_of, is_over, is_read, open_reads, reads_from, reads_of, regions_from, regions_of, sink_of, stag_by}
-use Rattle.nr_reduce.specs.ServerMessages.{CallVerdict, Verdict, by_payload, payload_of, verdict}
+use Rattle.nr_reduce.specs.ServerMessages.{CallVerdict, Verdict, by_payload, pending_payload, verdict}
 use Rattle.nr_reduce.specs.ServerMessages.CallVerdict.{IsReady, Refuses}
 use Rattle.nr_reduce.specs.ServerMessages.Verdict.{MakesPending}
 use Rattle.nr_reduce.specs.ServerFrames.{FrameEffect, by_message, frame_effect, message_effect, ready_if_whole, with_verdict}
@@ -80,8 +80,8 @@ no_sink k place number position before numbered own =
     ap (λ (o : Option Region). region_bytes_by (region_grants place k.regions) k.accesses_received (find (λ r. eqb r.stag (stag_by o)) k.regions)) none
     ∙ ap (region_bytes_by (region_grants place k.regions) k.accesses_received) (no_zero_stag 0 k.regions numbered)
 
-payload_same : (k : ServerState) (at place : ℕ) (c : PendingCall) → IsServer k at → c.number ≡ k.received.sends + 1 → payload_of k place c ≡ payload_at_once c
-unfolding payload_of
+payload_same : (k : ServerState) (at place : ℕ) (c : PendingCall) → IsServer k at → c.number ≡ k.received.sends + 1 → pending_payload k place c ≡ payload_at_once c
+unfolding pending_payload
 payload_same k at place c is own = λ i. call_conveyed c.inline c.lists.read (λ position. no_sink k place c.number position is.regions_before is.numbered own i)
 
 complete_message : (k : ServerState) (at place : ℕ) (message : List ℕ) (c : PendingCall) → IsServer k at → c.number ≡ k.received.sends + 1 → verdict k message ≡ MakesPending c → HasNoBytes c.lists.read →
@@ -98,7 +98,7 @@ complete_message k at place message c is own judged none =
     let read : is_read k.reads c.number ≡ true = ap (is_read k.reads) own ∙ new_is_read k is.reads_before in
     ap (λ (v : Verdict). message_effect k place message v) judged
     ∙ ap (λ (s : FrameEffect). ready_if_whole k place c s) same
-    ∙ ap (λ (b : Bool). cond b (with_verdict (by_payload c (payload_of k place c)) plain) plain) read
+    ∙ ap (λ (b : Bool). cond b (with_verdict (by_payload c (pending_payload k place c)) plain) plain) read
     ∙ ap (λ (p : Option (List ℕ)). with_verdict (by_payload c p) plain) (payload_same k at place c is own)
 
 -- the payload ends the link

@@ -29,7 +29,7 @@ use Rattle.nr_reduce.specs.Events.RunEvent.{FrameReceived}
 use Rattle.nr_reduce.specs.EndRules.{EndState, live, next_end_state}
 use Rattle.nr_reduce.specs.ServerState.{PendingCall, PendingRead, ReadyCall, ServerState, next_stag, is_pending}
 use Rattle.nr_reduce.specs.ServerReads.{chunks_of, is_over, is_read, is_read_at, open_reads, reads_from, reads_of, regions_from, regions_of, sink_of, stag_by}
-use Rattle.nr_reduce.specs.ServerMessages.{Verdict, by_payload, payload_of, verdict}
+use Rattle.nr_reduce.specs.ServerMessages.{Verdict, by_payload, pending_payload, verdict}
 use Rattle.nr_reduce.specs.ServerMessages.Verdict.{MakesPending}
 use Rattle.nr_reduce.specs.ServerFrames.{FrameEffect, by_message, frame_effect, message_effect, with_verdict}
 use Rattle.nr_reduce.specs.Server.{server_rules, with_effect, received_by, response_bytes_after, requests_from, tagged_accesses}
@@ -194,7 +194,7 @@ reading_effect k place c = record {
 reading_message : (k : ServerState) (place : ℕ) (message : List ℕ) (c : PendingCall) → verdict k message ≡ MakesPending c → is_read (k.reads ++ new_reads k place c) c.number ≡ false → by_message k place (Some message) ≡ reading_effect k place c
 reading_message k place message c is more =
     ap (λ (v : Verdict). message_effect k place message v) is
-    ∙ ap (λ (b : Bool). cond b (with_verdict (by_payload c (payload_of k place c)) (reading_effect k place c)) (reading_effect k place c)) more
+    ∙ ap (λ (b : Bool). cond b (with_verdict (by_payload c (pending_payload k place c)) (reading_effect k place c)) (reading_effect k place c)) more
 
 abbrev with_reading : ServerState → ReceiveState → ℕ → PendingCall → ServerState
 with_reading k h place c = record k {

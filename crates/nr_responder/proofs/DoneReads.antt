@@ -22,7 +22,7 @@ use Rattle.nr_responder.specs.Fetching.{Fetching}
 use Rattle.nr_responder.specs.ResponderState.{ResponderSide, unsent}
 use Rattle.nr_responder.specs.private.Handling.{IsServerOf, OrOut, out}
 use Rattle.nr_responder.specs.Keeping.{IsReadyOf, OwnNumbers, OwnReady, OwnXids}
-use Rattle.nr_responder.specs.Sound.{AreFetched, AreHeldFrom, AreSound, NothingOutside, claims_of, HasRoom, InBuffer, IsSound, payloads_of, state_of, xids_of}
+use Rattle.nr_responder.specs.Sound.{AreFetched, AreHeldFrom, QueuesInvariant, NothingOutside, claims_of, HasRoom, InBuffer, ServerEndInvariant, payloads_of, state_of, xids_of}
 use Rattle.nr_responder.specs.Views.{call_view, read_view, sink_view}
 use Rattle.nr_responder.specs.private.Reading.{opening}
 use Rattle.nr_responder.specs.private.DoneReads.{IsOfCall, ReadsOn, ReadyMade}
@@ -408,7 +408,7 @@ dropped_fetched e f m kept calls reads later sinks is memory outside h =
 
 -- the message of a call was queued, and its receive waits until that has left
 pub refused_sound : (s t : LinkState) (at : ℕ) (call : Pending) (calls later : List Pending) (ready : List Ready) (used after : List (List ℕ)) (a b c d e : ℕ) → t.receive_queue ≡ s.receive_queue → length t.send_queue.send_ends ≡ unsent s + 1 → at < length calls → InBuffer call → later ≡ remove calls at →
-    length ready < length calls → after ≡ used ++ call.buf ∷ [] → d ≡ a → e ≡ c → AreSound 0 s calls ready used a b c → AreSound 0 t later ready after d b e
+    length ready < length calls → after ≡ used ++ call.buf ∷ [] → d ≡ a → e ≡ c → QueuesInvariant 0 s calls ready used a b c → QueuesInvariant 0 t later ready after d b e
 refused_sound s t at call calls later ready used after a b c d e queue ends lt whole left few used_is calls_room used_room h =
     let count : length later + 1 ≡ length calls = ap (λ (xs : List Pending). length xs + 1) left ∙ length_removed calls at lt in
     let used_count : length after ≡ length used + 1 = ap (λ (xs : List (List ℕ)). length xs) used_is ∙ length-append used (call.buf ∷ []) in
@@ -438,8 +438,8 @@ refused_link message opened over l m n sent closed = closed ∙ ap (λ (x : Link
 pub emptied : Pending → Pending
 emptied c = record { number = c.number; xid = c.xid; lists = c.lists; buf = c.buf; len = c.len; stream_at = c.stream_at; inline = c.inline; room = None }
 
-pub emptied_sound : (r : ServerEnd) (at : ℕ) (c : Pending) (calls : List Pending) → calls ≡ set r.calls.items at c → InBuffer c → HasRoom r.reads.items c → IsSound r →
-    AreSound 0 r.endpoint.link.state calls r.ready.items r.used.items (vec_capacity r.calls) (deque_capacity r.ready) (deque_capacity r.used) × AreFetched r.endpoint calls r.reads.items r.sinks.items
+pub emptied_sound : (r : ServerEnd) (at : ℕ) (c : Pending) (calls : List Pending) → calls ≡ set r.calls.items at c → InBuffer c → HasRoom r.reads.items c → ServerEndInvariant r →
+    QueuesInvariant 0 r.endpoint.link.state calls r.ready.items r.used.items (vec_capacity r.calls) (deque_capacity r.ready) (deque_capacity r.used) × AreFetched r.endpoint calls r.reads.items r.sinks.items
 emptied_sound r at c calls is whole room h =
     let count : length calls ≡ length r.calls.items = ap (λ (xs : List Pending). length xs) is ∙ length-set r.calls.items at c in (
       record {

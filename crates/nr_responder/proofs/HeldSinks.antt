@@ -11,7 +11,7 @@ use Rattle.nr_responder.specs.private.Reading.{with_released}
 use Rattle.std.specs.Ordering.{nat_cmp}
 use Rattle.std.proofs.lemmas.List.Elements.{All-nil}
 use Rattle.nr_regions.specs.RegisteredMemory.{RegisteredMemory, Outside, Claim, IsHeld, after_release, outside_len, outside_held, initial_memory}
-use Rattle.nr_regions.specs.Table.{IsSound as IsTotal}
+use Rattle.nr_regions.specs.Table.{IsTotal}
 use Rattle.nr_regions.proofs.Totals.{sound_initial, sound_release}
 use Rattle.nr_wire.specs.declared.hello.Side.TheVariants.{Responder}
 use Rattle.nr_link.specs.declared.end.End.{End}

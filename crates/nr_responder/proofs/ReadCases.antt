@@ -13,7 +13,7 @@ use Rattle.nr_reduce.specs.Chunks.{is_read_chunk_of_item}
 use Rattle.nr_reduce.specs.OfferedRegions.{Region}
 use Rattle.nr_reduce.specs.ServerState.{PendingCall, PendingRead, ReadyCall, ServerState}
 use Rattle.nr_reduce.specs.ServerReads.{is_over, is_read, is_read_at, open_reads}
-use Rattle.nr_reduce.specs.ServerMessages.{CallVerdict, chunk_bytes, payload_of, by_payload}
+use Rattle.nr_reduce.specs.ServerMessages.{CallVerdict, chunk_bytes, pending_payload, by_payload}
 use Rattle.nr_reduce.specs.ServerMessages.CallVerdict.{Refuses, IsReady}
 use Rattle.nr_reduce.specs.ServerFrames.{FrameEffect, with_verdict, ready_if_whole, with_refused_call, is_stream_read, read_effect, call_of_number, response_effect, effect_in, frame_effect}
 use Rattle.nr_responder.specs.Keeping.{OwnXids, OwnReady, IsReadyOf, IsServer}
@@ -51,21 +51,21 @@ pub call_waits : (k h : ServerState) (place : ℕ) (r : PendingRead) (rest : Lis
     read_effect h place r (call_of_number k r.number) (read_off k rest) ≡ read_off k rest
 call_waits k h place r rest c found fine more =
     fine_by k h place r rest c found fine
-    ∙ ap (λ (b : Bool). cond b (with_verdict (by_payload c (payload_of h place c)) (read_off k rest)) (read_off k rest)) more
+    ∙ ap (λ (b : Bool). cond b (with_verdict (by_payload c (pending_payload h place c)) (read_off k rest)) (read_off k rest)) more
 
 judged_by : (k h : ServerState) (place : ℕ) (r : PendingRead) (rest : List PendingRead) (c : PendingCall) (v : CallVerdict) → call_of_number k r.number ≡ Some c → is_bad_stream h place c r rest ≡ false → is_read rest c.number ≡ true →
-    by_payload c (payload_of h place c) ≡ v → read_effect h place r (call_of_number k r.number) (read_off k rest) ≡ with_verdict v (read_off k rest)
+    by_payload c (pending_payload h place c) ≡ v → read_effect h place r (call_of_number k r.number) (read_off k rest) ≡ with_verdict v (read_off k rest)
 judged_by k h place r rest c v found fine read is =
     fine_by k h place r rest c found fine
-    ∙ ap (λ (b : Bool). cond b (with_verdict (by_payload c (payload_of h place c)) (read_off k rest)) (read_off k rest)) read
+    ∙ ap (λ (b : Bool). cond b (with_verdict (by_payload c (pending_payload h place c)) (read_off k rest)) (read_off k rest)) read
     ∙ ap (λ (w : CallVerdict). with_verdict w (read_off k rest)) is
 
 pub call_ready : (k h : ServerState) (place : ℕ) (r : PendingRead) (rest : List PendingRead) (c : PendingCall) (q : ReadyCall) → call_of_number k r.number ≡ Some c → is_bad_stream h place c r rest ≡ false → is_read rest c.number ≡ true →
-    by_payload c (payload_of h place c) ≡ IsReady q → read_effect h place r (call_of_number k r.number) (read_off k rest) ≡ done_effect k k.calls rest (q ∷ []) (length (open_reads k) - 1)
+    by_payload c (pending_payload h place c) ≡ IsReady q → read_effect h place r (call_of_number k r.number) (read_off k rest) ≡ done_effect k k.calls rest (q ∷ []) (length (open_reads k) - 1)
 call_ready k h place r rest c q found fine read is = judged_by k h place r rest c (IsReady q) found fine read is
 
 pub call_stops : (k h : ServerState) (place : ℕ) (r : PendingRead) (rest : List PendingRead) (c : PendingCall) (reason : ℕ) → call_of_number k r.number ≡ Some c → is_bad_stream h place c r rest ≡ false → is_read rest c.number ≡ true →
-    by_payload c (payload_of h place c) ≡ Refuses reason → (read_effect h place r (call_of_number k r.number) (read_off k rest)).refusal ≡ Some reason
+    by_payload c (pending_payload h place c) ≡ Refuses reason → (read_effect h place r (call_of_number k r.number) (read_off k rest)).refusal ≡ Some reason
 call_stops k h place r rest c reason found fine read is = ap (λ (s : FrameEffect). s.refusal) (judged_by k h place r rest c (Refuses reason) found fine read is)
 
 pub call_refused : (k h : ServerState) (place : ℕ) (r : PendingRead) (rest : List PendingRead) (c : PendingCall) → call_of_number k r.number ≡ Some c → is_bad_stream h place c r rest ≡ true →

@@ -10,7 +10,7 @@ use Rattle.nr_reduce.specs.OfferedRegions.{Region}
 use Rattle.nr_reduce.specs.OfferedMemory.{AreOffered, HoldsRegions}
 use Rattle.nr_reduce.specs.ServerState.{PendingCall, PendingRead, ServerState}
 use Rattle.nr_reduce.specs.ServerReads.{is_over, is_read, is_read_at}
-use Rattle.nr_reduce.specs.ServerMessages.{chunk_bytes, payload_of}
+use Rattle.nr_reduce.specs.ServerMessages.{chunk_bytes, pending_payload}
 use Rattle.nr_reduce.specs.ServerFrames.{call_of_number}
 use Rattle.nr_responder.specs.Keeping.{IsServer}
 use Rattle.nr_responder.specs.Fetching.{open_sinks}
@@ -52,7 +52,7 @@ sinks_hold k at place position a r rest c m reads found is offered holds =
     (regions_open k.calls r rest c k.regions found (subst (λ (rs : List PendingRead). AllByRecursion (λ g. is_some g.until ≡ is_over k.calls rs g) k.regions) reads is.closed)) holds
 
 pub payload_is_read : (k : ServerState) (at place : ℕ) (a : TaggedSegment) (r : PendingRead) (rest : List PendingRead) (c : PendingCall) (m : RegisteredMemory) → k.reads ≡ r ∷ rest → call_of_number k r.number ≡ Some c → IsServer k at → AreOffered place k.regions →
-    HoldsRegions k.regions (k.accesses_received ++ a ∷ []) place m → payload_of (heard k a) place c ≡ call_conveyed c.inline c.lists.read (sink_bytes m (open_sinks k.regions) c.number)
-unfolding payload_of
+    HoldsRegions k.regions (k.accesses_received ++ a ∷ []) place m → pending_payload (heard k a) place c ≡ call_conveyed c.inline c.lists.read (sink_bytes m (open_sinks k.regions) c.number)
+unfolding pending_payload
 payload_is_read k at place a r rest c m reads found is offered holds =
     λ i. call_conveyed c.inline c.lists.read (λ position. sinks_hold k at place position a r rest c m reads found is offered holds i)

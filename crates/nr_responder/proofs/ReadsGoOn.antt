@@ -11,7 +11,7 @@ use Rattle.nr_responder.specs.declared.call.Ready.{Ready}
 use Rattle.nr_responder.specs.declared.call.ReadEntry.{ReadEntry}
 use Rattle.nr_responder.specs.declared.call.OpenSink.{OpenSink}
 use Rattle.nr_responder.specs.private.Reading.{with_opened, with_released, with_requests}
-use Rattle.nr_responder.specs.Sound.{AreFetched, AreHeldFrom, AreSound, NothingOutside, claims_of}
+use Rattle.nr_responder.specs.Sound.{AreFetched, AreHeldFrom, QueuesInvariant, NothingOutside, claims_of}
 use Rattle.nr_responder.proofs.HeldSinks.{same_outside}
 use Rattle.nr_responder.proofs.Sounds.{sound_as}
 
@@ -21,7 +21,7 @@ requests_ends (r ∷ reads) q = requests_ends reads (with_request r.sink r.at r.
 
 pub opened_closed_sound : (e f g : EndpointState) (opened : List PendingRead) (over : List SinkRegion) (calls : List Pending) (ready : List Ready) (used : List (List ℕ)) (reads : List ReadEntry) (sinks left : List OpenSink) (a b c : ℕ) → f.link ≡ with_opened opened e.link → f.outside ≡ e.outside →
     g.link ≡ with_released over f.link → AreHeldFrom g.link.state.memory 0 (claims_of left) → All (λ s. s.registration.len ≤ PAYLOAD_MAX) left → (NothingOutside f → NothingOutside g) →
-    AreSound 0 e.link.state calls ready used a b c × AreFetched e calls reads sinks → AreSound 0 g.link.state calls ready used a b c × AreFetched g calls reads left
+    QueuesInvariant 0 e.link.state calls ready used a b c × AreFetched e calls reads sinks → QueuesInvariant 0 g.link.state calls ready used a b c × AreFetched g calls reads left
 opened_closed_sound e f g opened over calls ready used reads sinks left a b c link outside closed held short keeps h = (
   sound_as 0 0 e.link.state g.link.state calls ready used a b c (omega arith)
       (ap (λ (l : LinkSide). l.state.receive_queue.lent) closed ∙ ap (λ (l : LinkSide). l.state.receive_queue.lent) link)

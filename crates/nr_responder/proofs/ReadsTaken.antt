@@ -30,7 +30,7 @@ use Rattle.nr_reduce.specs.Events.RunEvent.{FrameReceived}
 use Rattle.nr_reduce.specs.EndRules.{EndState, live, next_end_state, output_for}
 use Rattle.nr_reduce.specs.ServerState.{PendingCall, PendingRead, ReadyCall, ServerState}
 use Rattle.nr_reduce.specs.ServerReads.{is_over, open_reads}
-use Rattle.nr_reduce.specs.ServerMessages.{by_payload, payload_of}
+use Rattle.nr_reduce.specs.ServerMessages.{by_payload, pending_payload}
 use Rattle.nr_reduce.specs.ServerFrames.{FrameEffect, no_effect, frame_effect, call_of_number, is_stream_read, with_refused_call}
 use Rattle.nr_reduce.specs.Server.{server_rules, with_effect, newly_open_reads, requests_from}
 use Rattle.nr_reduce.specs.Holds.{chunk_error}
@@ -238,7 +238,7 @@ done_takes opened k so_far v frame x rest ready payloads h some long lives r is 
 pub record Same (k : ServerState) (v : ResponderSide) (f : Frame) (a : TaggedSegment) (x : PendingRead) (rest : List PendingRead) (t : LinkState) (c : PendingCall) : Type 0 where
   pub found : call_of_number k x.number ≡ Some c
   pub bad : is_bad_stream (heard k a) f.end c x rest ≡ has_bad_chunk (on_link v (record { awaited = Fpdu; rest = []; state = t })) c x rest
-  pub payload : payload_of (heard k a) f.end c ≡ read_payload (on_link v (record { awaited = Fpdu; rest = []; state = t })) c
+  pub payload : pending_payload (heard k a) f.end c ≡ read_payload (on_link v (record { awaited = Fpdu; rest = []; state = t })) c
 
 pub found_same : (k : ServerState) (v : ResponderSide) (x : PendingRead) (o : Option PendingCall) → v.calls ≡ k.calls → find (λ c. eqb c.number x.number) v.calls ≡ o → call_of_number k x.number ≡ o
 found_same k v x o same is = ap (λ (cs : List PendingCall). find (λ c. eqb c.number x.number) cs) (sym same) ∙ is

@@ -8,7 +8,7 @@ use Rattle.nr_header.specs.declared.header.ReadSegment.{ReadSegment}
 use Rattle.nr_regions.specs.declared.right.Right.{Right}
 use Rattle.nr_regions.specs.declared.right.Right.TheVariants.{Sink}
 use Rattle.nr_regions.specs.RegisteredMemory.{RegisteredMemory, Claim, IsHeld, Outside, after_register, claim_of, nothing_outside, outside_len}
-use Rattle.nr_regions.specs.Table.{IsSound as IsTotal}
+use Rattle.nr_regions.specs.Table.{IsTotal}
 use Rattle.nr_regions.proofs.Totals.{sound_register}
 use Rattle.nr_endpoint.specs.EndpointState.{EndpointState}
 use Rattle.nr_endpoint.specs.LinkState.{LinkSide}

@@ -15,7 +15,7 @@ use Rattle.nr_reduce.specs.Chunks.{call_conveyed, item_position}
 use Rattle.nr_reduce.specs.OfferedRegions.{Region, until_at, closed_if, regions_closed}
 use Rattle.nr_reduce.specs.ServerState.{PendingCall, PendingRead, ReadyCall, ServerState}
 use Rattle.nr_reduce.specs.ServerReads.{open_reads, is_read, is_read_at, is_over}
-use Rattle.nr_reduce.specs.ServerMessages.{payload_of, by_payload, by_head, call_xid, Verdict, verdict}
+use Rattle.nr_reduce.specs.ServerMessages.{pending_payload, by_payload, by_head, call_xid, Verdict, verdict}
 use Rattle.nr_reduce.specs.ServerMessages.CallVerdict.{Refuses, IsReady}
 use Rattle.nr_reduce.specs.ServerMessages.Verdict.{MakesPending}
 use Rattle.nr_reduce.specs.ServerFrames.{FrameEffect, no_effect, with_verdict, ready_if_whole, by_message, message_effect, effect_in, frame_effect}
@@ -111,8 +111,8 @@ pub new_is_read : (k : ServerState) → AllByRecursion (λ r. r.number ≤ k.rec
 new_is_read k before = ap (λ (b : Bool). not b) (none_of_number k.received.sends k.reads before)
 
 inline_payload : (k : ServerState) (place xid : ℕ) (write : List (List RdmaSegment)) (reply : Option (List RdmaSegment)) (stream : List ℕ) →
-    payload_of k place (inline_call k xid write reply stream) ≡ Some stream
-unfolding payload_of call_conveyed item_position
+    pending_payload k place (inline_call k xid write reply stream) ≡ Some stream
+unfolding pending_payload call_conveyed item_position
 inline_payload k place xid write reply stream = refl
 
 -- what such a call makes of a server
@@ -147,7 +147,7 @@ inline_message_lem k place message xid write reply stream whole is =
     let same : pending ≡ plain = λ i. record { calls = k.calls ++ c ∷ []; reads = append-nil k.reads i; regions = append-nil k.regions i; ready = []; errors = []; kept = length (open_reads k); refusal = None } in
     ap (λ (v : Verdict). message_effect k place message v) is
     ∙ ap (λ (s : FrameEffect). ready_if_whole k place c s) same
-    ∙ ap (λ (b : Bool). cond b (with_verdict (by_payload c (payload_of k place c)) plain) plain) whole
+    ∙ ap (λ (b : Bool). cond b (with_verdict (by_payload c (pending_payload k place c)) plain) plain) whole
     ∙ ap (λ (p : Option (List ℕ)). with_verdict (by_payload c p) plain) (inline_payload k place xid write reply stream)
 
 pub inline_ready : (k : ServerState) (f : Frame) (message : List ℕ) (xid : ℕ) (write : List (List RdmaSegment)) (reply : Option (List RdmaSegment)) (stream : List ℕ) (head : CallHead) →

@@ -13,7 +13,7 @@ use Rattle.nr_endpoint.specs.Calls.Call.{NextEvent, Stop, Send, OutOfMemory}
 use Rattle.nr_responder.specs.declared.call.Pending.{Pending}
 use Rattle.nr_responder.specs.declared.call.Ready.{Ready}
 use Rattle.nr_responder.specs.ResponderState.{unsent, drained_posted, left_by}
-use Rattle.nr_responder.specs.Sound.{InBuffer, AreSound, IsSound, IsSoundWith}
+use Rattle.nr_responder.specs.Sound.{InBuffer, QueuesInvariant, ServerEndInvariant, ServerEndInvariantWith}
 use Rattle.nr_responder.specs.declared.server_end.ServerEnd.{ServerEnd}
 use Rattle.nr_responder.proofs.Executed.{with_answer, fewer_wait}
 use Rattle.nr_responder.proofs.FrameCounts.{SameCounts}
@@ -22,7 +22,7 @@ use Rattle.nr_responder.proofs.Removed.{length_removed, all_removed, all_pushed_
 
 -- with the same counts, and no more lent than before
 pub sound_as : (n m : ℕ) (s t : LinkState) (calls : List Pending) (ready : List Ready) (used : List (List ℕ)) (a b c : ℕ) → m ≤ n → t.receive_queue.lent ≡ s.receive_queue.lent → t.receive_queue.receives ≡ s.receive_queue.receives →
-    t.send_queue.send_ends ≡ s.send_queue.send_ends → AreSound n s calls ready used a b c → AreSound m t calls ready used a b c
+    t.send_queue.send_ends ≡ s.send_queue.send_ends → QueuesInvariant n s calls ready used a b c → QueuesInvariant m t calls ready used a b c
 sound_as n m s t calls ready used a b c le lent receives ends h = record {
   unsent_is = h.unsent_is ∙ ap (λ (xs : List ℕ). length xs) (sym ends);
   lent = omega (arith, h.lent, lent, le);
@@ -34,18 +34,18 @@ sound_as n m s t calls ready used a b c le lent receives ends h = record {
   used_fit = omega (arith, h.used_fit, receives);
 }
 
-pub sound_step : (s t : LinkState) (calls : List Pending) (ready : List Ready) (used : List (List ℕ)) (a b c : ℕ) → SameCounts s t → AreSound 0 s calls ready used a b c → AreSound 0 t calls ready used a b c
+pub sound_step : (s t : LinkState) (calls : List Pending) (ready : List Ready) (used : List (List ℕ)) (a b c : ℕ) → SameCounts s t → QueuesInvariant 0 s calls ready used a b c → QueuesInvariant 0 t calls ready used a b c
 sound_step s t calls ready used a b c same h = sound_as 0 0 s t calls ready used a b c (omega arith) same.lent same.receives same.ends_are h
 
 pub sound_ended : (n reason : ℕ) (l m : LinkSide) (calls : List Pending) (ready : List Ready) (used : List (List ℕ)) (a b c : ℕ) → (m ≡ after_call l (Stop reason)) ⊎ (m ≡ after_call l OutOfMemory) →
-    AreSound n l.state calls ready used a b c → AreSound 0 m.state calls ready used a b c
+    QueuesInvariant n l.state calls ready used a b c → QueuesInvariant 0 m.state calls ready used a b c
 sound_ended n reason l m calls ready used a b c is h =
     let same = ended_as l m reason is in
     sound_as n 0 l.state m.state calls ready used a b c (omega arith) (ap (λ (q : ReceiveQueue). q.lent) same.input.queue) (ap (λ (q : ReceiveQueue). q.receives) same.input.queue) same.ends_are h
 
 -- an event is delivered: a message lends its receive
 pub sound_told : (l m : LinkSide) (number : ℕ) (invalidated : Option ℕ) (message : List ℕ) (rest : List DeliveredEvent) (calls : List Pending) (ready : List Ready) (used : List (List ℕ)) (a b c : ℕ) → m ≡ after_call l NextEvent →
-    l.state.receive_queue.deliveries ≡ MessageReceived number invalidated message ∷ rest → AreSound 0 l.state calls ready used a b c → AreSound 1 m.state calls ready used a b c
+    l.state.receive_queue.deliveries ≡ MessageReceived number invalidated message ∷ rest → QueuesInvariant 0 l.state calls ready used a b c → QueuesInvariant 1 m.state calls ready used a b c
 sound_told l m number invalidated message rest calls ready used a b c is one h =
     let t = told_link_lem l m is in
     let lends : lent_for l.state.receive_queue.deliveries ≡ 1 = ap lent_for one in
@@ -60,7 +60,7 @@ sound_told l m number invalidated message rest calls ready used a b c is one h =
       used_fit = omega (arith, h.used_fit, ap (λ (q : ReceiveQueue). q.receives) t.queue);
     }
 
-pub sound_read : (l m : LinkSide) (calls : List Pending) (ready : List Ready) (used : List (List ℕ)) (a b c : ℕ) → m ≡ after_call l NextEvent → AreSound 0 l.state calls ready used a b c → AreSound 0 m.state calls ready used a b c
+pub sound_read : (l m : LinkSide) (calls : List Pending) (ready : List Ready) (used : List (List ℕ)) (a b c : ℕ) → m ≡ after_call l NextEvent → QueuesInvariant 0 l.state calls ready used a b c → QueuesInvariant 0 m.state calls ready used a b c
 sound_read l m calls ready used a b c is h =
     let t = told_link_lem l m is in
     record {
@@ -76,7 +76,7 @@ sound_read l m calls ready used a b c is h =
 
 -- a Send is queued for the message of a buffer
 pub sound_sent : (l m : LinkSide) (message : List ℕ) (calls : List Pending) (ready : List Ready) (used after : List (List ℕ)) (buf : List ℕ) (a b c : ℕ) → l.state.ended ≡ None → m ≡ after_call l (Send message) → IsReceive send_max buf →
-    after ≡ used ++ buf ∷ [] → AreSound 1 l.state calls ready used a b c → AreSound 0 m.state calls ready after a b c
+    after ≡ used ++ buf ∷ [] → QueuesInvariant 1 l.state calls ready used a b c → QueuesInvariant 0 m.state calls ready after a b c
 sound_sent l m message calls ready used after buf a b c live is whole more h =
     let now = sent_link l m message live is in
     let count : length after ≡ length used + 1 = ap (λ (xs : List (List ℕ)). length xs) more ∙ length-append used (buf ∷ []) in
@@ -95,13 +95,13 @@ sound_sent l m message calls ready used after buf a b c live is whole more h =
 
 -- and of one that was made
 pub sound_refused : {E : Type 0} (made : Result (List ℕ) E) (l m : LinkSide) (calls : List Pending) (ready : List Ready) (used after : List (List ℕ)) (buf : List ℕ) (a b c : ℕ) → l.state.ended ≡ None →
-    IfOk made (λ x. m ≡ after_call l (Send x)) × IsOk made → IsReceive send_max buf → after ≡ used ++ buf ∷ [] → AreSound 1 l.state calls ready used a b c → AreSound 0 m.state calls ready after a b c
+    IfOk made (λ x. m ≡ after_call l (Send x)) × IsOk made → IsReceive send_max buf → after ≡ used ++ buf ∷ [] → QueuesInvariant 1 l.state calls ready used a b c → QueuesInvariant 0 m.state calls ready after a b c
 sound_refused (Ok x) l m calls ready used after buf a b c live sent whole more h = sound_sent l m x calls ready used after buf a b c live sent.0 whole more h
 sound_refused (Err e) l m calls ready used after buf a b c live sent whole more h = absurd (let wrong : false ≡ true = sent.1 in cc)
 
 -- a call more, which is ready
 pub sound_pushed : (s : LinkState) (calls later : List Pending) (call : Pending) (q : Ready) (ready more : List Ready) (used : List (List ℕ)) (a b c : ℕ) → InBuffer call → later ≡ calls ++ call ∷ [] → more ≡ ready ++ q ∷ [] →
-    AreSound 1 s calls ready used a b c → AreSound 0 s later more used a b c
+    QueuesInvariant 1 s calls ready used a b c → QueuesInvariant 0 s later more used a b c
 sound_pushed s calls later call q ready more used a b c whole is ready_is h =
     let count : length later ≡ length calls + 1 = ap (λ (xs : List Pending). length xs) is ∙ length-append calls (call ∷ []) in
     let ready_count : length more ≡ length ready + 1 = ap (λ (xs : List Ready). length xs) ready_is ∙ length-append ready (q ∷ []) in
@@ -117,7 +117,7 @@ sound_pushed s calls later call q ready more used a b c whole is ready_is h =
     }
 
 -- with the same room
-pub sound_room_as : (n : ℕ) (s : LinkState) (calls : List Pending) (ready : List Ready) (used : List (List ℕ)) (a b c d e f : ℕ) → d ≡ a → e ≡ b → f ≡ c → AreSound n s calls ready used a b c → AreSound n s calls ready used d e f
+pub sound_room_as : (n : ℕ) (s : LinkState) (calls : List Pending) (ready : List Ready) (used : List (List ℕ)) (a b c d e f : ℕ) → d ≡ a → e ≡ b → f ≡ c → QueuesInvariant n s calls ready used a b c → QueuesInvariant n s calls ready used d e f
 sound_room_as n s calls ready used a b c d e f first second third h = record {
   unsent_is = h.unsent_is;
   lent = h.lent;
@@ -130,13 +130,13 @@ sound_room_as n s calls ready used a b c d e f first second third h = record {
 }
 
 -- how many there are at most
-pub sound_room : (n : ℕ) (s : LinkState) (calls : List Pending) (ready : List Ready) (used : List (List ℕ)) (a b c : ℕ) → AreSound n s calls ready used a b c → receives_kept s.receive_queue + s.receive_queue.lent ≡ s.receive_queue.receives →
+pub sound_room : (n : ℕ) (s : LinkState) (calls : List Pending) (ready : List Ready) (used : List (List ℕ)) (a b c : ℕ) → QueuesInvariant n s calls ready used a b c → receives_kept s.receive_queue + s.receive_queue.lent ≡ s.receive_queue.receives →
     (length calls + n ≤ a) × ((length ready + n ≤ b) × (length used + n ≤ c))
 sound_room n s calls ready used a b c h all = (omega (arith, h.lent, h.calls_fit, all), (omega (arith, h.lent, h.few, h.ready_fit, all), omega (arith, h.lent, h.used_fit, all)))
 
 -- the answer to the call at a place is queued
 pub sound_answered : (s t : LinkState) (writes message : List ℕ) (at : ℕ) (call : Pending) (calls later : List Pending) (ready more : List Ready) (used after : List (List ℕ)) (a b c : ℕ) → t ≡ with_answer s writes message → at < length calls → InBuffer call →
-    later ≡ remove calls at → more ≡ drop 1 ready → 0 < length ready → after ≡ used ++ call.buf ∷ [] → AreSound 0 s calls ready used a b c → AreSound 0 t later more after a b c
+    later ≡ remove calls at → more ≡ drop 1 ready → 0 < length ready → after ≡ used ++ call.buf ∷ [] → QueuesInvariant 0 s calls ready used a b c → QueuesInvariant 0 t later more after a b c
 sound_answered s t writes message at call calls later ready more used after a b c is lt whole left ready_is some used_is h =
     let q : SendQueue = with_fpdus writes s.send_queue in
     let count : length later + 1 ≡ length calls = ap (λ (xs : List Pending). length xs + 1) left ∙ length_removed calls at lt in
@@ -161,7 +161,7 @@ sound_answered s t writes message at call calls later ready more used after a b 
 
 -- n bytes were written, and the receives of the answers that left are posted again
 pub sound_drained : (s t : LinkState) (n : ℕ) (calls : List Pending) (ready : List Ready) (used after : List (List ℕ)) (a b c later : ℕ) → t ≡ drained_posted s n (left_by s n) → length after ≡ length (written n s.send_queue).send_ends →
-    All (IsReceive send_max) after → later ≡ c → AreSound 0 s calls ready used a b c → AreSound 0 t calls ready after a b later
+    All (IsReceive send_max) after → later ≡ c → QueuesInvariant 0 s calls ready used a b c → QueuesInvariant 0 t calls ready after a b later
 sound_drained s t n calls ready used after a b c later is count bufs room h =
     let few : length (written n s.send_queue).send_ends ≤ unsent s = fewer_wait s n in
     record {
@@ -175,5 +175,5 @@ sound_drained s t n calls ready used after a b c later is count bufs room h =
       used_fit = omega (arith, h.used_fit, room, ap (λ (x : LinkState). x.receive_queue.receives) is);
     }
 
-pub sound_less : (r : ServerEnd) → IsSoundWith 1 r → IsSound r
+pub sound_less : (r : ServerEnd) → ServerEndInvariantWith 1 r → ServerEndInvariant r
 sound_less r h = (sound_as 1 0 r.endpoint.link.state r.endpoint.link.state r.calls.items r.ready.items r.used.items _ _ _ (omega arith) refl refl refl h.0, h.1)

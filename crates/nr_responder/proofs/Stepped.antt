@@ -34,7 +34,7 @@ use Rattle.nr_endpoint.specs.FedBytes.{fed_bytes}
 use Rattle.nr_endpoint.proofs.FedBytes.{fed_one_within}
 use Rattle.nr_responder.specs.declared.call.Pending.{Pending}
 use Rattle.nr_responder.specs.declared.call.Ready.{Ready}
-use Rattle.nr_responder.specs.Sound.{AreSound}
+use Rattle.nr_responder.specs.Sound.{QueuesInvariant}
 use Rattle.nr_responder.proofs.Handled.{Goes, RanOutOf, makes_handled, step_counts, same_fed, told_server_of}
 use Rattle.nr_responder.proofs.Posted.{memory_as}
 use Rattle.nr_responder.proofs.Sounds.{sound_step, sound_ended}
@@ -61,13 +61,13 @@ step_failed v piece m ends.Memory live p fed out ended =
 
 -- what a side keeps of its own then
 pub failed_sound : (l m : LinkSide) (piece : List ℕ) (end : End) (calls : List Pending) (ready : List Ready) (used : List (List ℕ)) (a b c : ℕ) → l.state.ended ≡ None → IsPartial l.awaited l.rest → (end ≢ ends.Memory → m ≡ after_call l (FeedOne piece)) →
-    (end ≡ ends.Memory → m ≡ after_call l OutOfMemory) → AreSound 0 l.state calls ready used a b c → AreSound 0 m.state calls ready used a b c
+    (end ≡ ends.Memory → m ≡ after_call l OutOfMemory) → QueuesInvariant 0 l.state calls ready used a b c → QueuesInvariant 0 m.state calls ready used a b c
 failed_sound l m piece end calls ready used a b c live p fed out h = by end fed out
   where
-    went : m ≡ after_call l (FeedOne piece) → AreSound 0 m.state calls ready used a b c
+    went : m ≡ after_call l (FeedOne piece) → QueuesInvariant 0 m.state calls ready used a b c
     went is = sound_step l.state m.state calls ready used a b c (step_counts l m piece (step_of l m piece p live is)) h
 
-    by : (end : End) → (end ≢ ends.Memory → m ≡ after_call l (FeedOne piece)) → (end ≡ ends.Memory → m ≡ after_call l OutOfMemory) → AreSound 0 m.state calls ready used a b c
+    by : (end : End) → (end ≢ ends.Memory → m ≡ after_call l (FeedOne piece)) → (end ≡ ends.Memory → m ≡ after_call l OutOfMemory) → QueuesInvariant 0 m.state calls ready used a b c
     by (ends.Bad at reason) fed out = went (fed (λ e. absurd cc))
     by (ends.Denied stag offset why) fed out = went (fed (λ e. absurd cc))
     by (ends.NoBuffer msn) fed out = went (fed (λ e. absurd cc))

@@ -2,7 +2,7 @@
 use Rattle.std.specs.Prelude.{◌≡◌, ◌⊎◌, ℕ, ◌+◌, ◌*◌, ◌≤◌, false, List, [], ◌∷◌, length, map, sum_by, Option, None, Some, All, slice_get, vec_capacity}
 use Rattle.std.specs.VecDeque.{deque_capacity}
 use Rattle.nr_regions.specs.RegisteredMemory.{Claim, RegisteredMemory, IsHeld, outside_len}
-use Rattle.nr_regions.specs.Table.{IsSound as IsTotal}
+use Rattle.nr_regions.specs.Table.{IsTotal}
 use Rattle.nr_header.specs.WithinLimits.{ListsWithin}
 use Rattle.nr_header.specs.Constants.{PAYLOAD_MAX}
 use Rattle.nr_reduce.specs.ServerReads.{is_read}
@@ -65,7 +65,7 @@ pub record SameInput (l m : LinkSide) : Type 0 where
 
 -- A receive is lent for each call that is pending, for each Send that hasn't left, and for n more; and there is room for a call and for
 -- a buffer of each receive.
-pub record AreSound (n : ℕ) (s : LinkState) (calls : List Pending) (ready : List Ready) (used : List (List ℕ)) (calls_room ready_room used_room : ℕ) : Type 0 where
+pub record QueuesInvariant (n : ℕ) (s : LinkState) (calls : List Pending) (ready : List Ready) (used : List (List ℕ)) (calls_room ready_room used_room : ℕ) : Type 0 where
   pub unsent_is : length used ≡ unsent s
   pub lent : length used + length calls + n ≤ s.receive_queue.lent
   pub few : length ready ≤ length calls
@@ -106,13 +106,13 @@ pub record AreFetched (e : EndpointState) (calls : List Pending) (reads : List R
   pub rooms : All (HasRoom reads) calls
   pub outside : NothingOutside e
 
-abbrev pub IsSoundWith : ℕ → ServerEnd → Type 0
-IsSoundWith n r =
-    AreSound n r.endpoint.link.state r.calls.items r.ready.items r.used.items (vec_capacity r.calls) (deque_capacity r.ready) (deque_capacity r.used)
+abbrev pub ServerEndInvariantWith : ℕ → ServerEnd → Type 0
+ServerEndInvariantWith n r =
+    QueuesInvariant n r.endpoint.link.state r.calls.items r.ready.items r.used.items (vec_capacity r.calls) (deque_capacity r.ready) (deque_capacity r.used)
     × AreFetched r.endpoint r.calls.items r.reads.items r.sinks.items
 
-abbrev pub IsSound : ServerEnd → Type 0
-IsSound r = IsSoundWith 0 r
+abbrev pub ServerEndInvariant : ServerEnd → Type 0
+ServerEndInvariant r = ServerEndInvariantWith 0 r
 
 -- the call is the first that waits to be executed
 abbrev pub IsNext : ResponderSide → ℕ → Type 0

@@ -9,7 +9,7 @@ ghost use Rattle.nr_reduce.specs.Plans.{one_if};
 ghost use Rattle.nr_reduce.specs.Run.{server};
 ghost use Rattle.nr_reduce.specs.ServerState.{receives_in_use};
 ghost use Rattle.nr_responder.specs.ResponderState.{bytes_held_by, end_of, unsent};
-ghost use Rattle.nr_responder.specs.Sound.{room_len, state_of, with_staging, IsSound};
+ghost use Rattle.nr_responder.specs.Sound.{room_len, state_of, with_staging, ServerEndInvariant};
 ghost use Rattle.nr_responder.specs.Standing.{Stands};
 
 use crate::call::{Pending, Ready};
@@ -86,7 +86,7 @@ impl ServerEnd {
 
     /// How many receives are in use.
     pub fn in_use(&self) -> usize
-        requires sound { IsSound self.now }
+        requires sound { ServerEndInvariant self.now }
         ensures of_run { end_of (state_of self.now) ≡ None → (opened : LinkParameters) (link : ℕ) (run : List Mark) → Stands opened link run (state_of self.now) → result ≡ receives_in_use (server opened link run).state }
         ensures exact { result ≡ length self.now.calls.items + (unsent self.now.endpoint.link.state + one_if (is_begun self.now.endpoint.link.state.receive_queue.received.begun)) }
     {
@@ -94,7 +94,7 @@ impl ServerEnd {
     }
 
     fn in_use_inner(&self) -> usize
-        requires sound { IsSound self.now }
+        requires sound { ServerEndInvariant self.now }
         ensures { result ≡ length self.now.calls.items + (unsent self.now.endpoint.link.state + one_if (is_begun self.now.endpoint.link.state.receive_queue.received.begun)) }
     {
         self.endpoint.facts();
@@ -104,7 +104,7 @@ impl ServerEnd {
 
     /// How many bytes all byte buffers have that are kept.
     pub fn held(&self) -> u128
-        requires sound { IsSound self.now }
+        requires sound { ServerEndInvariant self.now }
         ensures is { result ≡ bytes_held_by (with_staging self.now) }
     {
         self.endpoint.facts();

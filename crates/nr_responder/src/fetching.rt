@@ -5,7 +5,7 @@ ghost use Rattle.std.specs.List.{list_any};
 ghost use Rattle.nr_header.specs.Constants.{PAYLOAD_MAX};
 ghost use Rattle.nr_header.specs.WithinLimits.{read_total};
 ghost use Rattle.nr_responder.specs.private.Handling.{FetchesCall, out};
-ghost use Rattle.nr_responder.specs.Sound.{state_of, InBuffer, IsSound, IsSoundWith, SameInput};
+ghost use Rattle.nr_responder.specs.Sound.{state_of, InBuffer, ServerEndInvariant, ServerEndInvariantWith, SameInput};
 ghost use Rattle.nr_reduce.specs.ServerReads.{is_read};
 ghost use Rattle.nr_responder.specs.private.CallsRead.{chunk_positions, has_bytes, HasBytes, HasNoBytes, reading_call};
 ghost use Rattle.nr_responder.specs.Views.{call_view, read_view};
@@ -28,14 +28,14 @@ fn has_bytes(read: &[ReadSegment]) -> bool
 impl ServerEnd {
     /// A call with a read list.
     pub(crate) fn fetch(&mut self, call: Pending)
-        requires sound { IsSoundWith 1 self.old }
+        requires sound { ServerEndInvariantWith 1 self.old }
         requires live { self.old.endpoint.link.state.ended ≡ None }
         requires frame { 0 < self.old.endpoint.link.state.place }
         requires call { InBuffer call }
         requires reads { read_total call.lists.read ≤ PAYLOAD_MAX }
         requires fresh { is_read (map read_view self.old.reads.items) call.number ≡ true }
         ensures fetched { FetchesCall (state_of self.old) (state_of self.new) (call_view call) }
-        ensures sound { IsSound self.new }
+        ensures sound { ServerEndInvariant self.new }
         ensures input { SameInput self.old.endpoint.link self.new.endpoint.link }
         ensures staging { self.new.endpoint.staging ≡ self.old.endpoint.staging }
     {
@@ -48,7 +48,7 @@ impl ServerEnd {
 
     /// A call whose read list has bytes.
     fn fetch_chunks(&mut self, call: Pending)
-        requires sound { IsSoundWith 1 self.old }
+        requires sound { ServerEndInvariantWith 1 self.old }
         requires live { self.old.endpoint.link.state.ended ≡ None }
         requires frame { 0 < self.old.endpoint.link.state.place }
         requires call { InBuffer call }
@@ -56,7 +56,7 @@ impl ServerEnd {
         requires bytes { HasBytes call.lists.read }
         requires fresh { is_read (map read_view self.old.reads.items) call.number ≡ true }
         ensures fetched { FetchesCall (state_of self.old) (state_of self.new) (call_view call) }
-        ensures sound { IsSound self.new }
+        ensures sound { ServerEndInvariant self.new }
         ensures input { SameInput self.old.endpoint.link self.new.endpoint.link }
         ensures staging { self.new.endpoint.staging ≡ self.old.endpoint.staging }
     {
@@ -68,14 +68,14 @@ impl ServerEnd {
 
     /// A call with these chunks that have bytes.
     fn fetch_into(&mut self, call: Pending, chunks: &[u32])
-        requires sound { IsSoundWith 1 self.old }
+        requires sound { ServerEndInvariantWith 1 self.old }
         requires live { self.old.endpoint.link.state.ended ≡ None }
         requires frame { 0 < self.old.endpoint.link.state.place }
         requires call { InBuffer call }
         requires reads { read_total call.lists.read ≤ PAYLOAD_MAX }
         requires chunks { chunks.now ≡ chunk_positions call.lists.read }
         ensures fetched { FetchesCall (state_of self.old) (state_of self.new) (call_view call) }
-        ensures sound { IsSound self.new }
+        ensures sound { ServerEndInvariant self.new }
         ensures input { SameInput self.old.endpoint.link self.new.endpoint.link }
         ensures staging { self.new.endpoint.staging ≡ self.old.endpoint.staging }
     {
@@ -94,7 +94,7 @@ impl ServerEnd {
     /// A call whose reads may begin.
     #[tactic(none)]
     fn start_reads(&mut self, call: Pending, chunks: &[u32])
-        requires sound { IsSoundWith 1 self.old }
+        requires sound { ServerEndInvariantWith 1 self.old }
         requires live { self.old.endpoint.link.state.ended ≡ None }
         requires call { InBuffer call }
         requires reads { read_total call.lists.read ≤ PAYLOAD_MAX }
@@ -102,7 +102,7 @@ impl ServerEnd {
         requires stags { self.old.endpoint.link.state.memory.next + length chunks.now ≤ 2 ^ 32 }
         requires own { list_any (λ c. c.number == call.number) self.old.calls.items ≡ false }
         ensures started { (state_of self.new ≡ reading_call (state_of self.old) (call_view call)) ⊎ (state_of self.new ≡ out (state_of self.old)) }
-        ensures sound { IsSound self.new }
+        ensures sound { ServerEndInvariant self.new }
         ensures input { SameInput self.old.endpoint.link self.new.endpoint.link }
         ensures staging { self.new.endpoint.staging ≡ self.old.endpoint.staging }
     {
@@ -123,14 +123,14 @@ impl ServerEnd {
 
     /// A call whose read list has no bytes: it is ready, or ends the link.
     fn complete_at_once(&mut self, call: Pending)
-        requires sound { IsSoundWith 1 self.old }
+        requires sound { ServerEndInvariantWith 1 self.old }
         requires live { self.old.endpoint.link.state.ended ≡ None }
         requires frame { 0 < self.old.endpoint.link.state.place }
         requires call { InBuffer call }
         requires none { HasNoBytes call.lists.read }
         requires fresh { is_read (map read_view self.old.reads.items) call.number ≡ true }
         ensures fetched { FetchesCall (state_of self.old) (state_of self.new) (call_view call) }
-        ensures sound { IsSound self.new }
+        ensures sound { ServerEndInvariant self.new }
         ensures input { SameInput self.old.endpoint.link self.new.endpoint.link }
         ensures staging { self.new.endpoint.staging ≡ self.old.endpoint.staging }
     {

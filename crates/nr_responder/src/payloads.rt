@@ -118,7 +118,7 @@ pub(crate) fn first_payload(ready: &VecDeque<Ready>) -> Option<&Octets>
 }
 
 /// The payload of this call, which is the first that is ready. `Err` if it is neither in its message nor read: no call is so.
-pub(crate) fn payload_of<'a>(
+pub(crate) fn ready_payload<'a>(
     ready: &'a VecDeque<Ready>,
     call: &'a Pending,
 ) -> Result<&'a [u8], Memory>

@@ -11,7 +11,7 @@ ghost use Rattle.nr_reduce.specs.Chunks.{call_conveyed, call_stream};
 ghost use Rattle.nr_responder.specs.private.Reading.{opening, sink_bytes, with_opened_after};
 ghost use Rattle.nr_responder.specs.private.ReadsDone.{has_bad_chunk, reads_without, still_open, HandlesRead, NothingReady};
 ghost use Rattle.nr_responder.specs.private.DoneReads.{IsOfCall, ReadsOn, ReadyMade};
-ghost use Rattle.nr_responder.specs.Sound.{payload_room, claims_of, state_of, AreHeldFrom, InBuffer, IsRoom, IsSound, SameInput};
+ghost use Rattle.nr_responder.specs.Sound.{payload_room, claims_of, state_of, AreHeldFrom, InBuffer, IsRoom, ServerEndInvariant, SameInput};
 ghost use Rattle.nr_responder.specs.Views.{call_view, read_view, sink_view};
 
 use crate::answering::chunk_error;
@@ -130,7 +130,7 @@ fn queue_refusal(
 impl ServerEnd {
     /// Opens the reads that may open, and closes the sinks that are over. An `Err` changes nothing: some may open, and memory ran out.
     fn read_on(&mut self, kept: usize) -> Result<(), Memory>
-        requires sound { IsSound self.old }
+        requires sound { ServerEndInvariant self.old }
         requires live { self.old.endpoint.link.state.ended ≡ None }
         ensures ok { OnOk result (ReadsOn self.old.endpoint.link.state kept self.old self.new) }
         ensures err { OnErr result (state_of self.new ≡ state_of self.old) }
@@ -138,7 +138,7 @@ impl ServerEnd {
         ensures ready { self.new.ready ≡ self.old.ready }
         ensures count { length self.new.calls.items ≡ length self.old.calls.items }
         ensures live { OnErr result (self.new.endpoint.link.state.ended ≡ None) }
-        ensures sound { IsSound self.new }
+        ensures sound { ServerEndInvariant self.new }
         ensures staging { self.new.endpoint.staging ≡ self.old.endpoint.staging }
     {
         open_reads(&mut self.endpoint, self.alloc, self.reads.as_slice(), kept)?;
@@ -153,12 +153,12 @@ impl ServerEnd {
 
     /// The call of the read that is done waits for more, or was answered or refused before.
     fn go_on(&mut self, done: ReadEntry, kept: usize)
-        requires sound { IsSound self.old }
+        requires sound { ServerEndInvariant self.old }
         requires live { self.old.endpoint.link.state.ended ≡ None }
         requires kept { kept ≡ still_open (read_view done) (map read_view self.old.reads.items) }
         requires nothing { NothingReady (state_of self.old) (read_view done) (map read_view self.old.reads.items) }
         ensures handled { HandlesRead (state_of self.old) (read_view done) (map read_view self.old.reads.items) (state_of self.new) }
-        ensures sound { IsSound self.new }
+        ensures sound { ServerEndInvariant self.new }
         ensures input { SameInput self.old.endpoint.link self.new.endpoint.link }
         ensures staging { self.new.endpoint.staging ≡ self.old.endpoint.staging }
     {
@@ -172,11 +172,11 @@ impl ServerEnd {
 
     /// A call is ready with this payload.
     fn make_ready(&mut self, xid: u32, payload: Octets, kept: usize)
-        requires sound { IsSound self.old }
+        requires sound { ServerEndInvariant self.old }
         requires live { self.old.endpoint.link.state.ended ≡ None }
         requires few { length self.old.ready.items < length self.old.calls.items }
         ensures made { ReadyMade (state_of self.old) kept xid payload (state_of self.new) }
-        ensures sound { IsSound self.new }
+        ensures sound { ServerEndInvariant self.new }
         ensures input { SameInput self.old.endpoint.link self.new.endpoint.link }
         ensures staging { self.new.endpoint.staging ≡ self.old.endpoint.staging }
     {
@@ -192,7 +192,7 @@ impl ServerEnd {
 
     /// The room of the payload of the call at this place, which is read.
     fn take_room_at(&mut self, at: usize) -> Octets
-        requires sound { IsSound self.old }
+        requires sound { ServerEndInvariant self.old }
         requires at { at < length self.old.calls.items }
         requires read { (d : Pending) → is_read (map read_view self.old.reads.items) (get_or self.old.calls.items at d).number ≡ true }
         requires room { (d : Pending) → IsRoom (get_or self.old.calls.items at d).room }
@@ -203,7 +203,7 @@ impl ServerEnd {
         ensures same { state_of self.new ≡ state_of self.old }
         ensures endpoint { self.new.endpoint ≡ self.old.endpoint }
         ensures ready { self.new.ready ≡ self.old.ready }
-        ensures sound { IsSound self.new }
+        ensures sound { ServerEndInvariant self.new }
     {
         match take_out_room(&mut self.calls[at]) {
             Some(room) => room,
@@ -213,7 +213,7 @@ impl ServerEnd {
 
     /// The call at this place is complete by the read that is done: it is ready, or ends the link.
     fn complete(&mut self, at: usize, done: ReadEntry, kept: usize)
-        requires sound { IsSound self.old }
+        requires sound { ServerEndInvariant self.old }
         requires live { self.old.endpoint.link.state.ended ≡ None }
         requires frame { 0 < self.old.endpoint.link.state.place }
         requires at { at < length self.old.calls.items }
@@ -223,7 +223,7 @@ impl ServerEnd {
         requires read { (d : Pending) → is_read (map read_view self.old.reads.items) (get_or self.old.calls.items at d).number ≡ true }
         requires room { (d : Pending) → IsRoom (get_or self.old.calls.items at d).room }
         ensures handled { HandlesRead (state_of self.old) (read_view done) (map read_view self.old.reads.items) (state_of self.new) }
-        ensures sound { IsSound self.new }
+        ensures sound { ServerEndInvariant self.new }
         ensures input { SameInput self.old.endpoint.link self.new.endpoint.link }
         ensures staging { self.new.endpoint.staging ≡ self.old.endpoint.staging }
     {
@@ -241,7 +241,7 @@ impl ServerEnd {
 
     /// Whether the stream of the call at this place is there by the read that is done, and its read chunk isn't that of its item.
     fn has_bad_chunk(&self, at: usize, done: ReadEntry) -> bool
-        requires sound { IsSound self.now }
+        requires sound { ServerEndInvariant self.now }
         requires at { at < length self.now.calls.items }
         ensures { (d : Pending) → result ≡ has_bad_chunk (state_of self.now) (call_view (get_or self.now.calls.items at d)) (read_view done) (map read_view self.now.reads.items) }
     {
@@ -255,14 +255,14 @@ impl ServerEnd {
 
     /// The call at this place is refused by ERR_CHUNK (RFC 8166 section 4.5.3), and its reads that wait are dropped.
     fn refuse_read(&mut self, at: usize, done: ReadEntry, kept: usize)
-        requires sound { IsSound self.old }
+        requires sound { ServerEndInvariant self.old }
         requires live { self.old.endpoint.link.state.ended ≡ None }
         requires at { at < length self.old.calls.items }
         requires call { (d : Pending) → IsOfCall (state_of self.old) (read_view done) kept at (call_view (get_or self.old.calls.items at d)) }
         requires few { length self.old.ready.items < length self.old.calls.items }
         requires bad { (d : Pending) → has_bad_chunk (state_of self.old) (call_view (get_or self.old.calls.items at d)) (read_view done) (map read_view self.old.reads.items) ≡ true }
         ensures handled { HandlesRead (state_of self.old) (read_view done) (map read_view self.old.reads.items) (state_of self.new) }
-        ensures sound { IsSound self.new }
+        ensures sound { ServerEndInvariant self.new }
         ensures input { SameInput self.old.endpoint.link self.new.endpoint.link }
         ensures staging { self.new.endpoint.staging ≡ self.old.endpoint.staging }
     {
@@ -293,14 +293,14 @@ impl ServerEnd {
 
     /// The read that is done is of the call at this place.
     fn read_of_call(&mut self, at: usize, done: ReadEntry, kept: usize)
-        requires sound { IsSound self.old }
+        requires sound { ServerEndInvariant self.old }
         requires live { self.old.endpoint.link.state.ended ≡ None }
         requires frame { 0 < self.old.endpoint.link.state.place }
         requires at { at < length self.old.calls.items }
         requires call { (d : Pending) → IsOfCall (state_of self.old) (read_view done) kept at (call_view (get_or self.old.calls.items at d)) }
         requires room { (d : Pending) → IsRoom (get_or self.old.calls.items at d).room }
         ensures handled { HandlesRead (state_of self.old) (read_view done) (map read_view self.old.reads.items) (state_of self.new) }
-        ensures sound { IsSound self.new }
+        ensures sound { ServerEndInvariant self.new }
         ensures input { SameInput self.old.endpoint.link self.new.endpoint.link }
         ensures staging { self.new.endpoint.staging ≡ self.old.endpoint.staging }
     {
@@ -320,11 +320,11 @@ impl ServerEnd {
 
     /// The oldest read is done.
     pub(crate) fn read_done(&mut self)
-        requires sound { IsSound self.old }
+        requires sound { ServerEndInvariant self.old }
         requires live { self.old.endpoint.link.state.ended ≡ None }
         requires frame { 0 < self.old.endpoint.link.state.place }
         ensures handled { (r : PendingRead) (rest : List PendingRead) → map read_view self.old.reads.items ≡ r ∷ rest → HandlesRead (state_of self.old) r rest (state_of self.new) }
-        ensures sound { IsSound self.new }
+        ensures sound { ServerEndInvariant self.new }
         ensures input { SameInput self.old.endpoint.link self.new.endpoint.link }
         ensures staging { self.new.endpoint.staging ≡ self.old.endpoint.staging }
     {

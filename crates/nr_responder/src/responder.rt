@@ -49,11 +49,11 @@ impl Model for Responder {
 
     ghost coded = { responder_code };
 
-    ghost use Rattle.nr_responder.specs.Sound.{rooms_of, state_of, IsSound};
+    ghost use Rattle.nr_responder.specs.Sound.{rooms_of, state_of, ServerEndInvariant};
 
     ghost view = { λ r. record { side = state_of r.end; staging = r.end.endpoint.staging; rooms = rooms_of r.end.calls.items r.end.ready.items } };
 
-    ghost invariant = { λ r. IsSound r.end };
+    ghost invariant = { λ r. ServerEndInvariant r.end };
 }
 
 impl Responder {

@@ -24,13 +24,13 @@ ghost use Rattle.nr_responder.specs.Answering.{Answers};
 ghost use Rattle.nr_responder.specs.Draining.{Drains};
 ghost use Rattle.nr_responder.specs.private.Handling.{out, IsTaken, ReadsXid};
 ghost use Rattle.nr_responder.specs.ResponderState.{end_of, opened_side, posted_times, may_write, KeepsStaging};
-ghost use Rattle.nr_responder.specs.Sound.{state_of, with_staging, payloads_of, IsNext, IsSound};
+ghost use Rattle.nr_responder.specs.Sound.{state_of, with_staging, payloads_of, IsNext, ServerEndInvariant};
 ghost use Rattle.nr_responder.specs.Standing.{Stands};
 ghost use Rattle.nr_responder.specs.Steps.{Fed, taken_of};
 
 use crate::answering::{SENDABLE, queue_answer};
 use crate::call::{OpenSink, Pending, ReadEntry, Ready, Sent, place_of, stream_of};
-use crate::payloads::{first_payload, payload_of};
+use crate::payloads::{first_payload, ready_payload};
 use nr_endpoint::{DrainFault, Endpoint, Event};
 use nr_link::End;
 use nr_link::constants::{REASON_HEAD, REASON_XID};
@@ -140,7 +140,7 @@ fn taken_at(end: Option<End>, all: usize, part: usize) -> usize
 impl ServerEnd {
     /// The server end of a link that grants this number of credits.
     pub fn open(alloc: Global, credits: u32) -> Result<ServerEnd, Memory>
-        ensures sound { IfOk result IsSound }
+        ensures sound { IfOk result ServerEndInvariant }
         ensures state { IfOk result (λ r. state_of r ≡ opened_side credits) }
         ensures live { IfOk result (λ r. end_of (state_of r) ≡ None) }
         ensures fed { IfOk result (λ r. fed_bytes r.endpoint.link ≡ 0) }
@@ -165,7 +165,7 @@ impl ServerEnd {
 
     /// Takes a piece of the client's stream. Once the side has ended it takes no more.
     pub fn feed(&mut self, piece: &[u8]) -> Result<(), End>
-        requires sound { IsSound self.old }
+        requires sound { ServerEndInvariant self.old }
         requires within { fed_bytes self.old.endpoint.link + length piece.now ≤ 2 ^ 62 }
         ensures ended { result_err result ≡ end_of (state_of self.new) }
         ensures goes { Fed (state_of self.old) piece.now (state_of self.new) }
@@ -174,7 +174,7 @@ impl ServerEnd {
         ensures kept { is_some (end_of (state_of self.old)) ≡ true → with_staging self.new ≡ with_staging self.old }
         ensures within { fed_bytes self.new.endpoint.link ≤ fed_bytes self.old.endpoint.link + length piece.now }
         ensures staging { (opened : LinkParameters) (link : ℕ) (run : List Mark) → Stands opened link run (state_of self.old) → KeepsStaging (with_staging self.old) (with_staging self.new) piece.now }
-        ensures sound { IsSound self.new }
+        ensures sound { ServerEndInvariant self.new }
     {
         if let Some(end) = self.endpoint.end() {
             return Err(end);
@@ -192,7 +192,7 @@ impl ServerEnd {
 
     /// Takes a piece up to the end of the frame that it completes, or all of it. Once the side has ended it takes no more.
     pub fn feed_one(&mut self, piece: &[u8]) -> Result<usize, End>
-        requires sound { IsSound self.old }
+        requires sound { ServerEndInvariant self.old }
         requires within { fed_bytes self.old.endpoint.link + length piece.now ≤ 2 ^ 62 }
         ensures ended { result_err result ≡ end_of (state_of self.new) }
         ensures taken { IfOk result (λ n. n ≡ bytes_taken self.old.endpoint.link.awaited self.old.endpoint.link.rest piece.now) }
@@ -204,7 +204,7 @@ impl ServerEnd {
         ensures kept { is_some (end_of (state_of self.old)) ≡ true → with_staging self.new ≡ with_staging self.old }
         ensures within { fed_bytes self.new.endpoint.link ≤ fed_bytes self.old.endpoint.link + length piece.now }
         ensures staging { (opened : LinkParameters) (link : ℕ) (run : List Mark) → Stands opened link run (state_of self.old) → KeepsStaging (with_staging self.old) (with_staging self.new) piece.now }
-        ensures sound { IsSound self.new }
+        ensures sound { ServerEndInvariant self.new }
     {
         if let Some(end) = self.endpoint.end() {
             return Err(end);
@@ -235,7 +235,7 @@ impl ServerEnd {
 
     /// The payload of the next call.
     pub fn payload(&self, xid: u32) -> &[u8]
-        requires sound { IsSound self.now }
+        requires sound { ServerEndInvariant self.now }
         requires live { end_of (state_of self.now) ≡ None }
         requires next { IsNext (state_of self.now) xid }
         ensures exact { (opened : LinkParameters) (link : ℕ) (run : List Mark) → Stands opened link run (state_of self.now) → IsExecuted opened link run xid result.now }
@@ -248,7 +248,7 @@ impl ServerEnd {
 
     /// The payload of the next call, if that is the stream of its Send.
     fn inline_payload(&self, xid: u32) -> &[u8]
-        requires sound { IsSound self.now }
+        requires sound { ServerEndInvariant self.now }
         requires live { end_of (state_of self.now) ≡ None }
         requires next { IsNext (state_of self.now) xid }
         requires inline { slice_get (payloads_of self.now.ready.items) 0 ≡ Some None }
@@ -265,7 +265,7 @@ impl ServerEnd {
 
     /// Takes a piece up to the end of the frame that it completes, and all of it if the side ends; answers the bytes taken.
     fn step(&mut self, piece: &[u8]) -> usize
-        requires sound { IsSound self.old }
+        requires sound { ServerEndInvariant self.old }
         requires live { self.old.endpoint.link.state.ended ≡ None }
         requires within { fed_bytes self.old.endpoint.link + length piece.now ≤ 2 ^ 62 }
         ensures taken { result ≡ (if is_some self.new.endpoint.link.state.ended then length piece.now else bytes_taken self.old.endpoint.link.awaited self.old.endpoint.link.rest piece.now) }
@@ -275,7 +275,7 @@ impl ServerEnd {
         ensures first { Fed (state_of self.old) (take (bytes_taken self.old.endpoint.link.awaited self.old.endpoint.link.rest piece.now) piece.now) (state_of self.new) }
         ensures staging { self.old.endpoint.link.state.receive_queue.deliveries ≡ [] → KeepsStaging (with_staging self.old) (with_staging self.new) piece.now }
         ensures rest { (self.new.endpoint.link.rest ≡ []) ⊎ (result ≡ length piece.now) }
-        ensures sound { IsSound self.new }
+        ensures sound { ServerEndInvariant self.new }
         ensures within { fed_bytes self.new.endpoint.link ≤ fed_bytes self.old.endpoint.link + result }
     {
         self.endpoint.facts();
@@ -294,10 +294,10 @@ impl ServerEnd {
 
     /// Takes what the link delivered, if anything.
     fn take_event(&mut self)
-        requires sound { IsSound self.old }
+        requires sound { ServerEndInvariant self.old }
         requires live { self.old.endpoint.link.state.ended ≡ None }
         ensures taken { IsTaken (state_of self.old) (state_of self.new) }
-        ensures sound { IsSound self.new }
+        ensures sound { ServerEndInvariant self.new }
         ensures fed { fed_bytes self.new.endpoint.link ≤ fed_bytes self.old.endpoint.link }
         ensures rest { (self.new.endpoint.link.rest ≡ self.old.endpoint.link.rest) ⊎ (self.new.endpoint.link.rest ≡ []) }
         ensures staging { self.new.endpoint.staging ≡ self.old.endpoint.staging }
@@ -318,7 +318,7 @@ impl ServerEnd {
 
     /// Queues the answer to the call at this place, which has this xid and is the first that is ready. An `Err` changes nothing.
     fn answer_at(&mut self, at: usize, xid: u32, reply: &[u8]) -> Result<Sent, Memory>
-        requires sound { IsSound self.old }
+        requires sound { ServerEndInvariant self.old }
         requires live { self.old.endpoint.link.state.ended ≡ None }
         requires at { at < length self.old.calls.items }
         requires own { (d : Pending) → (get_or self.old.calls.items at d).xid ≡ xid }
@@ -327,10 +327,10 @@ impl ServerEnd {
         ensures err { OnErr result (with_staging self.new ≡ with_staging self.old) }
         ensures fed { fed_bytes self.new.endpoint.link ≡ fed_bytes self.old.endpoint.link }
         ensures staging { self.new.endpoint.staging ≡ self.old.endpoint.staging }
-        ensures sound { IsSound self.new }
+        ensures sound { ServerEndInvariant self.new }
     {
         self.endpoint.facts();
-        let stream = payload_of(&self.ready, &self.calls[at])?;
+        let stream = ready_payload(&self.ready, &self.calls[at])?;
         let sent = queue_answer(
             &mut self.endpoint,
             self.alloc,
@@ -347,7 +347,7 @@ impl ServerEnd {
 
     /// Queues the answer to the call with this xid, which is the first that is ready. An `Err` changes nothing.
     pub fn answer(&mut self, xid: u32, reply: &[u8]) -> Result<Sent, Memory>
-        requires sound { IsSound self.old }
+        requires sound { ServerEndInvariant self.old }
         requires live { self.old.endpoint.link.state.ended ≡ None }
         requires next { IsNext (state_of self.old) xid }
         ensures answers { IfOk result (λ sent. Answers (state_of self.old) (state_of self.new) xid reply.now sent) }
@@ -356,7 +356,7 @@ impl ServerEnd {
         ensures err { OnErr result (with_staging self.new ≡ with_staging self.old) }
         ensures fed { fed_bytes self.new.endpoint.link ≡ fed_bytes self.old.endpoint.link }
         ensures staging { self.new.endpoint.staging ≡ self.old.endpoint.staging }
-        ensures sound { IsSound self.new }
+        ensures sound { ServerEndInvariant self.new }
     {
         match place_of(self.calls.as_slice(), xid) {
             Some(at) => self.answer_at(at, xid, reply),
@@ -367,13 +367,13 @@ impl ServerEnd {
 
     /// Hands the output to a sink, in order, and posts the receives of the answers that left.
     pub fn drain_into<K: Sink>(&mut self, sink: &mut K) -> Result<(), DrainFault>
-        requires sound { IsSound self.old }
+        requires sound { ServerEndInvariant self.old }
         ensures taken { (n : ℕ) × (Drains (state_of self.old) (state_of self.new) (K.taken sink.old) (K.taken sink.new) n × OnOk result (n ≡ length (may_write (state_of self.old)))) }
         ensures counted { MatchResult result
             (λ _. K.faults sink.new ≡ K.faults sink.old) (λ e. (e ≡ drains.LinkWrite) × Rises (K.faults sink.old) (K.faults sink.new)) }
         ensures never_falls { K.faults sink.old ≤ K.faults sink.new }
         ensures fed { fed_bytes self.new.endpoint.link ≡ fed_bytes self.old.endpoint.link }
-        ensures sound { IsSound self.new }
+        ensures sound { ServerEndInvariant self.new }
         ensures staging { self.new.endpoint.staging ≡ self.old.endpoint.staging }
     {
         let result = self.endpoint.drain_into(sink);

@@ -145,15 +145,15 @@ CookiesAscend_remove from (e ∷ es) next zero up = rise_from from (e.cookie + 1
 CookiesAscend_remove from (e ∷ es) next (suc k) up = (up.0, CookiesAscend_remove (e.cookie + 1) es next k up.1)
 
 -- a place before or after the one that is removed
-record IsKept (xs ys : List ℕ) (k q a : ℕ) : Type 0 where
+record IsIndexKept (xs ys : List ℕ) (k q a : ℕ) : Type 0 where
   within : a < length xs
   other : a ≡ k → ⊥
   first : slice_index (remove xs k) q ≡ slice_index xs a
   second : slice_index (remove ys k) q ≡ slice_index ys a
 
-kept_from : (xs ys : List ℕ) (k q : ℕ) → length ys ≡ length xs → k < length xs → q < length (remove xs k) → (a : ℕ) × IsKept xs ys k q a
+kept_from : (xs ys : List ℕ) (k q : ℕ) → length ys ≡ length xs → k < length xs → q < length (remove xs k) → (a : ℕ) × IsIndexKept xs ys k q a
 kept_from xs ys k q len lt less = by (cases_lt q k) where
-  by : (q < k) ⊎ (k ≤ q) → (a : ℕ) × IsKept xs ys k q a
+  by : (q < k) ⊎ (k ≤ q) → (a : ℕ) × IsIndexKept xs ys k q a
   by (inl below) = (
     q,
     record {
@@ -227,7 +227,7 @@ module _ (es : List Entry) (order : List ℕ) (next i k j : ℕ) (d : Entry) (h 
       same_ordered (swap_remove es i d) es (remove (set order j i) k) (remove order k)
       (omega (arith, moved_length, length-remove (set order j i) k (omega (arith, lk, moved_length)), length-remove order k lk))
       (λ q less.
-      let a : (a : ℕ) × IsKept (set order j i) order k q a = kept_from (set order j i) order k q (sym moved_length) (omega (arith, lk, moved_length)) less in
+      let a : (a : ℕ) × IsIndexKept (set order j i) order k q a = kept_from (set order j i) order k q (sym moved_length) (omega (arith, lk, moved_length)) less in
       let s : IsSwapped es (swap_remove es i d) (slice_index (set order j i) a.0) (slice_index order a.0) = swapped_at a.0 (omega (arith, a.1.within, moved_length)) a.1.other in
       ap (at (swap_remove es i d)) a.1.first ∙ s.same ∙ ap (at es) (sym a.1.second))
       ∙ map-remove (λ x. get_or es x no_entry) order k
@@ -236,7 +236,7 @@ module _ (es : List Entry) (order : List ℕ) (next i k j : ℕ) (d : Entry) (h 
   taken_ordered = record {
     count = omega (arith, swapped_length es i d, h.count, moved_length, length-remove (set order j i) k (omega (arith, lk, moved_length)));
     within = λ q less.
-        let a : (a : ℕ) × IsKept (set order j i) order k q a = kept_from (set order j i) order k q (sym moved_length) (omega (arith, lk, moved_length)) less in
+        let a : (a : ℕ) × IsIndexKept (set order j i) order k q a = kept_from (set order j i) order k q (sym moved_length) (omega (arith, lk, moved_length)) less in
         let s : IsSwapped es (swap_remove es i d) (slice_index (set order j i) a.0) (slice_index order a.0) = swapped_at a.0 (omega (arith, a.1.within, moved_length)) a.1.other in
         omega (arith, s.within, a.1.first, swapped_length es i d);
     found = λ x less. found_at x (omega (arith, less, swapped_length es i d)) (cases_eq x i);
@@ -306,7 +306,7 @@ module _ (es : List Entry) (order : List ℕ) (next i k : ℕ) (e : Entry) (h : 
       map-append (λ x. get_or (set es i e) x no_entry) (remove order k) (i ∷ [])
       ∙ ap (λ (x : Entry). ordered (set es i e) (remove order k) ++ x ∷ []) (get_or-set_same es i e no_entry li)
       ∙ ap (λ (l : List Entry). l ++ e ∷ []) (same_ordered (set es i e) es (remove order k) (remove order k) refl (λ q less.
-      let a : (a : ℕ) × IsKept order order k q a = kept_from order order k q refl lk less in
+      let a : (a : ℕ) × IsIndexKept order order k q a = kept_from order order k q refl lk less in
       let other : slice_index (remove order k) q ≡ i → ⊥ = λ l. a.1.other (one_place es order next a.0 k h a.1.within lk (sym a.1.first ∙ l ∙ sym at_k)) in
       get_or-set_other es i (slice_index (remove order k) q) e no_entry other)
       ∙ map-remove (λ x. get_or es x no_entry) order k)
@@ -323,7 +323,7 @@ module _ (es : List Entry) (order : List ℕ) (next i k : ℕ) (e : Entry) (h : 
   } where
     within_at : (q : ℕ) → q < length (remove order k ++ i ∷ []) → (q < length (remove order k)) ⊎ (length (remove order k) ≤ q) → slice_index (remove order k ++ i ∷ []) q < length es
     within_at q less (inl lt) =
-        let a : (a : ℕ) × IsKept order order k q a = kept_from order order k q refl lk lt in
+        let a : (a : ℕ) × IsIndexKept order order k q a = kept_from order order k q refl lk lt in
         omega (arith, h.within a.0 a.1.within, get_or-append (remove order k) (i ∷ []) 0 q lt ∙ a.1.first)
     within_at q less (inr ge) =
         let last : q ≡ length (remove order k) = omega (arith, less, ge, again, fewer) in

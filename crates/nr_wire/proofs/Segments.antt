@@ -11,7 +11,7 @@ use Rattle.nr_xdr.specs.Fields.{word_at}
 use Rattle.nr_wire.specs.Constants.{ULPDU_MAX}
 use Rattle.nr_wire.specs.Fields.{half_word, hyper_at}
 use Rattle.nr_wire.specs.Hello.{value_unless}
-use Rattle.nr_wire.specs.Segment.{Segment, Fits, IsSupported, Reads, flaw_by, frame_reason, segment_of, segment_by_form, is_tagged, is_last, ddp_version, rdmap_version, opcode_of, queue_of, queue_for, ulpdu_len, ulpdu_size, payload_of, header, fpdu_with, tail_len, fpdu_size, fpdu_len, is_tagged_opcode, is_untagged_opcode, is_supported, is_of_other_form, is_of_other_queue, header_len, encoding}
+use Rattle.nr_wire.specs.Segment.{Segment, Fits, IsSupported, Reads, flaw_by, frame_reason, segment_of, segment_by_form, is_tagged, is_last, ddp_version, rdmap_version, opcode_of, queue_of, queue_for, ulpdu_len, ulpdu_size, frame_payload, header, fpdu_with, tail_len, fpdu_size, fpdu_len, is_tagged_opcode, is_untagged_opcode, is_supported, is_of_other_form, is_of_other_queue, header_len, encoding}
 use Rattle.nr_wire.specs.Segment.Segment.{Tagged, Untagged}
 use Rattle.nr_wire.specs.Stream.{is_whole, IsFrame, IsPartial}
 use Rattle.nr_wire.specs.Next.{Next, frame_answer, segment_in}
@@ -78,7 +78,7 @@ tagged_says last opcode stag to payload reserved spare tail fits lt known r s ta
       opcode_is = second_opcode spare opcode fits.0;
       queue_is = refl;
     } in
-    let payload_is : payload_of 14 frame ≡ payload = ap (λ (k : ℕ). take (k - 14) (payload ++ tail)) j.size_is ∙ take_at payload tail (n - 14) (omega arith) in
+    let payload_is : frame_payload 14 frame ≡ payload = ap (λ (k : ℕ). take (k - 14) (payload ++ tail)) j.size_is ∙ take_at payload tail (n - 14) (omega arith) in
     let value : segment_by_form true frame ≡ segment =
     λ i. Tagged (first_last reserved true last r i) (j.opcode_is i) (word_of_word stag fits.1 i) (hyper_of_hyper to fits.2 i) (payload_is i) in
     let flaw = flaw_is frame n true opcode (queue_of frame) j ∙ tagged_passes n opcode (queue_of frame) (omega arith) known in
@@ -107,7 +107,7 @@ untagged_says last opcode w queue msn offset payload reserved spare tail fits lt
       opcode_is = second_opcode spare opcode fits.0;
       queue_is = word_of_word queue fits.2;
     } in
-    let payload_is : payload_of 18 frame ≡ payload = ap (λ (k : ℕ). take (k - 18) (payload ++ tail)) j.size_is ∙ take_at payload tail (n - 18) (omega arith) in
+    let payload_is : frame_payload 18 frame ≡ payload = ap (λ (k : ℕ). take (k - 18) (payload ++ tail)) j.size_is ∙ take_at payload tail (n - 18) (omega arith) in
     let value : segment_by_form false frame ≡ segment =
     λ i. Untagged (first_last reserved false last r i) (j.opcode_is i) (word_of_word w fits.1 i) (j.queue_is i) (word_of_word msn fits.3 i) (word_of_word offset fits.4 i) (payload_is i) in
     let flaw = flaw_is frame n false opcode queue j ∙ untagged_passes n opcode queue (omega arith) known own in
@@ -202,9 +202,9 @@ passed_in frame tagged t e =
 
 -- the position of the payload
 record Payload (n : ℕ) (frame : List ℕ) : Type 0 where
-  len : n + length (payload_of n frame) ≡ ulpdu_len frame
-  tail_len_is : length (drop (ulpdu_len frame - n) (drop (2 + n) frame)) ≡ tail_len (n + length (payload_of n frame))
-  behind : drop (2 + n) frame ≡ payload_of n frame ++ drop (ulpdu_len frame - n) (drop (2 + n) frame)
+  len : n + length (frame_payload n frame) ≡ ulpdu_len frame
+  tail_len_is : length (drop (ulpdu_len frame - n) (drop (2 + n) frame)) ≡ tail_len (n + length (frame_payload n frame))
+  behind : drop (2 + n) frame ≡ frame_payload n frame ++ drop (ulpdu_len frame - n) (drop (2 + n) frame)
 
 payload_there : (n : ℕ) (frame : List ℕ) → n ≤ ulpdu_len frame → IsFrame Fpdu frame → Payload n frame
 unfolding fpdu_len fpdu_size
@@ -230,7 +230,7 @@ tagged_there frame fits f t e =
     let p = passed_in frame true t e in
     let le : 14 ≤ ulpdu_len frame = ltb-false _ _ p.short in
     let there = payload_there 14 frame le f in
-    let payload = payload_of 14 frame in
+    let payload = frame_payload 14 frame in
     let tail = drop (ulpdu_len frame - 14) (drop 16 frame) in
     let long : 16 ≤ length frame = omega (arith, fpdu_holds frame f) in
     let below : ulpdu_len frame < 2 ^ 16 = half_word_of_below (take 2 frame) (IsBytes_take 2 frame fits) in
@@ -262,7 +262,7 @@ untagged_there frame fits f t e =
     let p = passed_in frame false t e in
     let le : 18 ≤ ulpdu_len frame = ltb-false _ _ p.short in
     let there = payload_there 18 frame le f in
-    let payload = payload_of 18 frame in
+    let payload = frame_payload 18 frame in
     let tail = drop (ulpdu_len frame - 18) (drop 20 frame) in
     let long : 20 ≤ length frame = omega (arith, fpdu_holds frame f) in
     let below : ulpdu_len frame < 2 ^ 16 = half_word_of_below (take 2 frame) (IsBytes_take 2 frame fits) in

@@ -132,8 +132,8 @@ abbrev pub header_len : Bool → ℕ
 header_len tagged = if tagged then TAGGED_LEN else UNTAGGED_LEN
 
 -- the payload: the bytes of the ULPDU after a header of n bytes
-abbrev pub payload_of : ℕ → List ℕ → List ℕ
-payload_of n frame = take (ulpdu_len frame - n) (drop (LENGTH_LEN + n) frame)
+abbrev pub frame_payload : ℕ → List ℕ → List ℕ
+frame_payload n frame = take (ulpdu_len frame - n) (drop (LENGTH_LEN + n) frame)
 
 abbrev pub queue_of : List ℕ → ℕ
 queue_of frame = word_at 8 frame
@@ -141,9 +141,9 @@ queue_of frame = word_at 8 frame
 -- the segment that a frame holds, read in the tagged or in the untagged form
 abbrev pub segment_by_form : Bool → List ℕ → Segment
 segment_by_form true frame =
-    Tagged (is_last frame) (opcode_of frame) (word_at 4 frame) (hyper_at 8 frame) (payload_of TAGGED_LEN frame)
+    Tagged (is_last frame) (opcode_of frame) (word_at 4 frame) (hyper_at 8 frame) (frame_payload TAGGED_LEN frame)
 segment_by_form false frame =
-    Untagged (is_last frame) (opcode_of frame) (word_at 4 frame) (queue_of frame) (word_at 12 frame) (word_at 16 frame) (payload_of UNTAGGED_LEN frame)
+    Untagged (is_last frame) (opcode_of frame) (word_at 4 frame) (queue_of frame) (word_at 12 frame) (word_at 16 frame) (frame_payload UNTAGGED_LEN frame)
 
 -- whether the tagged bit, or the queue of an untagged FPDU, isn't the opcode's
 abbrev pub is_of_other_form : Bool → ℕ → Bool

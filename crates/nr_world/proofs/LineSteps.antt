@@ -25,7 +25,7 @@ use Rattle.nr_drill_link.specs.LinkStands.{LinkStands}
 use Rattle.nr_drill_link.specs.Steps.{ServerStands}
 use Rattle.nr_world.specs.declared.world.World.{World}
 use Rattle.nr_world.specs.private.Stands.{drill_setting, WorldStands, NoneDueBefore, Steps, StepsIfNoneDue, MakesLine, MakesLines}
-use Rattle.nr_world.specs.private.Within.{IsClient, IsWithin, AreWithin, CanMake, CanMakeAll}
+use Rattle.nr_world.specs.private.Within.{IsClient, IsLineWithin, AreWithin, CanMake, CanMakeAll}
 use Rattle.nr_world.proofs.Others.{link_stays}
 use Rattle.nr_world.proofs.Progress.{round_more}
 use Rattle.nr_world.proofs.SameServer.{up_leaves, down_leaves, submit_leaves, forget_leaves, revoke_leaves, drop_leaves, raw_leaves, work_clock, moves_clock}
@@ -59,7 +59,7 @@ Names (lines.Drop client) c = client ≡ c
 Names (lines.Raw client side bytes) c = client ≡ c
 Names lines.Drain c = ⊥
 
-names_client : (clients seconds client : ℕ) (line : Line) → Names line client → IsWithin clients seconds line → IsClient clients client
+names_client : (clients seconds client : ℕ) (line : Line) → Names line client → IsLineWithin clients seconds line → IsClient clients client
 names_client clients seconds client (lines.Cred c cred) e h = subst (IsClient clients) e h.0
 names_client clients seconds client (lines.Call c form prog vers proc args) e h = subst (IsClient clients) e h
 names_client clients seconds client (lines.Up c most) e h = subst (IsClient clients) e h
@@ -74,11 +74,11 @@ names_client clients seconds client lines.Drain e h = absurd e
 
 pub client_of : (w : World) (line is : Line) (client : ℕ) → line ≡ is → Names is client → CanMake line w → HasClient w client
 client_of w line is client e names (tree, opening, d, stands, within) =
-    has_client tree opening d w client stands (names_client opening.clients d.seconds client is names (subst (IsWithin opening.clients d.seconds) e within))
+    has_client tree opening d w client stands (names_client opening.clients d.seconds client is names (subst (IsLineWithin opening.clients d.seconds) e within))
 
 pub clock_of : (w : World) (line : Line) (more : ℕ) → line ≡ lines.Tick more → CanMake line w → w.seconds + more ≤ number_max
 clock_of w line more e (tree, opening, d, stands, within) =
-    let bound : d.seconds + more ≤ number_max = subst (IsWithin opening.clients d.seconds) e within in
+    let bound : d.seconds + more ≤ number_max = subst (IsLineWithin opening.clients d.seconds) e within in
     subst (λ (n : ℕ). n + more ≤ number_max) (sym stands.seconds) bound
 
 -- ===== what a line makes

@@ -16,10 +16,10 @@ use Rattle.nr_drill.proofs.Carried.{both_true}
 use Rattle.nr_drill.proofs.Handed.{handed_after}
 use Rattle.nr_drill.proofs.Headed.{drill_is_run}
 use Rattle.nr_world.specs.declared.world.World.{World}
-use Rattle.nr_world.specs.private.Opened.{IsOpen}
+use Rattle.nr_world.specs.private.Opened.{HasOpenLinks}
 use Rattle.nr_world.specs.private.Results.{ReportsWorld}
 use Rattle.nr_world.specs.private.Stands.{drill_setting, NoneDueBefore, MakesLines}
-use Rattle.nr_world.specs.private.Within.{IsClient, IsWithin, AreWithin, CanMakeAll}
+use Rattle.nr_world.specs.private.Within.{IsClient, IsLineWithin, AreWithin, CanMakeAll}
 use Rattle.nr_world.proofs.SameServer.{openings_clock}
 
 client_is : (opening : Opening) (client : ℕ) → is_client opening client ≡ true → IsClient opening.clients client
@@ -27,7 +27,7 @@ client_is opening client e =
     let both = both_true (leb 1 client) (leb client opening.clients) e in
     (leb-true 1 client both.0, leb-true client opening.clients both.1)
 
-within : (opening : Opening) (before : List Line) (line : Line) → may_follow opening before line ≡ true → HasWritableCred line → IsWithin opening.clients (seconds_after before) line
+within : (opening : Opening) (before : List Line) (line : Line) → may_follow opening before line ≡ true → HasWritableCred line → IsLineWithin opening.clients (seconds_after before) line
 within opening before (lines.Cred client cred) e w = (client_is opening client e, w)
 within opening before (lines.Call client form prog vers proc args) e w = client_is opening client e
 within opening before (lines.Up client most) e w = client_is opening client e
@@ -77,7 +77,7 @@ none_due tree script is =
     none_due_from server script [] script.lines (opened_drill server script.opening) is refl refl
 
 -- a world that has just opened can make all lines of the script
-pub lines_fit : (script : ScriptLines) (w : World) → IsScript script → IsOpen script.opening w → CanMakeAll script.lines w
+pub lines_fit : (script : ScriptLines) (w : World) → IsScript script → HasOpenLinks script.opening w → CanMakeAll script.lines w
 lines_fit script w is (tree, sane, stands) = (
   tree,
   script.opening,
@@ -87,7 +87,7 @@ lines_fit script w is (tree, sane, stands) = (
   subst (λ (n : ℕ). AreWithin script.opening.clients n script.lines) (none_before ∙ sym (opened_clock tree script.opening)) (all_within script.opening [] script.lines is.follow_on is.creds),
 )
 
-pub runs_script : (script : ScriptLines) (w n : World) (report : Report) → IsScript script → IsOpen script.opening w → MakesLines script.lines w n → ReportsWorld n report → GivesReport script report
+pub runs_script : (script : ScriptLines) (w n : World) (report : Report) → IsScript script → HasOpenLinks script.opening w → MakesLines script.lines w n → ReportsWorld n report → GivesReport script report
 runs_script script w n report is (tree, sane, stands) makes told =
     let server = server_of (drill_setup tree script.opening) in
     let (last, made, there) = makes tree script.opening (opened_drill server script.opening) stands (none_due tree script is) in
@@ -95,19 +95,19 @@ runs_script script w n report is (tree, sane, stands) makes told =
     (tree, sane.drill, told tree script last there is (drill_is_run tree script last.marks sane.sane is there.replies follows))
 
 -- as many links as clients, at most as many as a script has
-pub few_links : (script : ScriptLines) (w n : World) → IsScript script → IsOpen script.opening w → MakesLines script.lines w n → length n.links.items ≤ clients_max
+pub few_links : (script : ScriptLines) (w n : World) → IsScript script → HasOpenLinks script.opening w → MakesLines script.lines w n → length n.links.items ≤ clients_max
 few_links script w n is (tree, sane, stands) makes =
     let (last, made, there) = makes tree script.opening (opened_drill (server_of (drill_setup tree script.opening)) script.opening) stands (none_due tree script is) in
     omega (arith, there.count, is.few_clients)
 
 -- ===== as the code has it: the first line and the lines of a script
 
-pub lines_fit_as : (script : ScriptLines) (opening : Opening) (all : List Line) (w : World) → opening ≡ script.opening → all ≡ script.lines → IsScript script → IsOpen opening w → CanMakeAll all w
-lines_fit_as script opening all w o e is h = subst (λ (lines : List Line). CanMakeAll lines w) (sym e) (lines_fit script w is (subst (λ (x : Opening). IsOpen x w) o h))
+pub lines_fit_as : (script : ScriptLines) (opening : Opening) (all : List Line) (w : World) → opening ≡ script.opening → all ≡ script.lines → IsScript script → HasOpenLinks opening w → CanMakeAll all w
+lines_fit_as script opening all w o e is h = subst (λ (lines : List Line). CanMakeAll lines w) (sym e) (lines_fit script w is (subst (λ (x : Opening). HasOpenLinks x w) o h))
 
-pub few_links_as : (script : ScriptLines) (opening : Opening) (all : List Line) (w n : World) → opening ≡ script.opening → all ≡ script.lines → IsScript script → IsOpen opening w → MakesLines all w n → length n.links.items ≤ clients_max
-few_links_as script opening all w n o e is h makes = few_links script w n is (subst (λ (x : Opening). IsOpen x w) o h) (subst (λ (lines : List Line). MakesLines lines w n) e makes)
+pub few_links_as : (script : ScriptLines) (opening : Opening) (all : List Line) (w n : World) → opening ≡ script.opening → all ≡ script.lines → IsScript script → HasOpenLinks opening w → MakesLines all w n → length n.links.items ≤ clients_max
+few_links_as script opening all w n o e is h makes = few_links script w n is (subst (λ (x : Opening). HasOpenLinks x w) o h) (subst (λ (lines : List Line). MakesLines lines w n) e makes)
 
-pub runs_script_as : (script : ScriptLines) (opening : Opening) (all : List Line) (w n : World) (report : Report) → opening ≡ script.opening → all ≡ script.lines → IsScript script → IsOpen opening w → MakesLines all w n → ReportsWorld n report → GivesReport script report
+pub runs_script_as : (script : ScriptLines) (opening : Opening) (all : List Line) (w n : World) (report : Report) → opening ≡ script.opening → all ≡ script.lines → IsScript script → HasOpenLinks opening w → MakesLines all w n → ReportsWorld n report → GivesReport script report
 runs_script_as script opening all w n report o e is h makes told =
-    runs_script script w n report is (subst (λ (x : Opening). IsOpen x w) o h) (subst (λ (lines : List Line). MakesLines lines w n) e makes) told
+    runs_script script w n report is (subst (λ (x : Opening). HasOpenLinks x w) o h) (subst (λ (lines : List Line). MakesLines lines w n) e makes) told

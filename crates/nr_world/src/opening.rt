@@ -3,7 +3,7 @@
 ghost use Rattle.std.specs.Prelude.{◌≡◌, ◌≤◌, [], replicate, IfOk, OnOk};
 ghost use Rattle.nr_rpc.specs.declared.cred.Cred.TheVariants as credentials;
 ghost use Rattle.nr_script.specs.Limits.{capacity_max};
-ghost use Rattle.nr_world.specs.private.Opened.{IsDrillServer, IsOpen, IsStarted, OpensAll};
+ghost use Rattle.nr_world.specs.private.Opened.{IsDrillServer, HasOpenLinks, IsStarted, OpensAll};
 
 use crate::world::World;
 use nr_drill_link::DrillLink;
@@ -81,7 +81,7 @@ impl World {
     /// The world of a drill whose links are open.
     pub(crate) fn open(alloc: Global, opening: Opening) -> Result<World, Memory>
         requires { opening.capacity ≤ capacity_max }
-        ensures { IfOk result (IsOpen opening) }
+        ensures { IfOk result (HasOpenLinks opening) }
     {
         let mut world = World::start(alloc, opening)?;
         match world.openings(alloc, opening) {

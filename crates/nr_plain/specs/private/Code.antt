@@ -73,6 +73,6 @@ abbrev pub mount_reply : ℕ → List ℕ → MountProcedure → List ℕ → Li
 mount_reply xid export p args = reply_with xid (mount_results_codec p) (mount_results export p) (read_all (mount_arguments_codec p) args)
 
 -- a head ends within the payload
-abbrev pub IsWithin : List ℕ → CallHead → Type 0
-IsWithin payload (calls.Version2 xid prog vers proc cred args_at) = args_at ≤ length payload
-IsWithin payload (calls.Other xid rpcvers) = Unit {0}
+abbrev pub IsHeadWithin : List ℕ → CallHead → Type 0
+IsHeadWithin payload (calls.Version2 xid prog vers proc cred args_at) = args_at ≤ length payload
+IsHeadWithin payload (calls.Other xid rpcvers) = Unit {0}

@@ -27,5 +27,5 @@ IsStarted opening w = (tree : Tree) × IsDrillTree tree × HasOpened tree openin
 abbrev pub OpensAll : Opening → World → World → Type 0
 OpensAll opening old new = (tree : Tree) → HasOpened tree opening 0 (start opening.clients) old → WorldStands tree opening (opened_drill (server_of (drill_setup tree opening)) opening) new
 
-abbrev pub IsOpen : Opening → World → Type 0
-IsOpen opening w = (tree : Tree) × IsDrillTree tree × WorldStands tree opening (opened_drill (server_of (drill_setup tree opening)) opening) w
+abbrev pub HasOpenLinks : Opening → World → Type 0
+HasOpenLinks opening w = (tree : Tree) × IsDrillTree tree × WorldStands tree opening (opened_drill (server_of (drill_setup tree opening)) opening) w

@@ -1,5 +1,5 @@
 use Rattle.std.proofs.Common.{ℕ, ◌+◌, ◌≤◌, ◌^◌, length}
-use Rattle.nr_record.specs.Kept.{kept}
+use Rattle.nr_record.specs.RecordsState.{kept}
 use Rattle.nr_apart_tests.proofs.pieces.read_in_pieces.Given as goal
 
 abbrev pub invariant-loop-fault : goal.invariant-loop-fault

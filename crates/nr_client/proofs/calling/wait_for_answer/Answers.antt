@@ -2,13 +2,13 @@ use Rattle.std.proofs.Common.{◌≡◌, false, is_some, arith, refl, ◌∙◌}
 use Rattle.nr_requester.specs.OpenCalls.{found_answer}
 use Rattle.nr_client.proofs.Unanswered.{lacks_after}
 use Rattle.nr_client.specs.Transfers.{link_bytes}
-use Rattle.nr_client.proofs.Turns.{goes_both, goes_nowhere, goes_to, same_source, same_sink}
+use Rattle.nr_client.proofs.Turns.{turns_compose, no_turn, turn_to, same_source, same_sink}
 use Rattle.nr_client.proofs.calling.wait_for_answer.Goals as goal
 
 pub returns-in-Err-clause-err : goal.returns-in-Err-clause-err
 returns-in-Err-clause-err g c =
     let (fits, tickets, sources, sinks, goes) = c.loop-requester.invariant in
-    goes_to c.in-Err.end (link_bytes (g.I.Source.left c.args.source.now) (g.I.Source.given c.args.source.now) (g.O.Sink.taken c.args.sink.now) c.args.read.now)
+    turn_to c.in-Err.end (link_bytes (g.I.Source.left c.args.source.now) (g.I.Source.given c.args.source.now) (g.O.Sink.taken c.args.sink.now) c.args.read.now)
     (link_bytes (g.I.Source.left c.loop-requester.source) (g.I.Source.given c.loop-requester.source) (g.O.Sink.taken c.loop-requester.sink) c.loop-requester.read)
     (link_bytes (g.I.Source.left c.transfer.new.source) (g.I.Source.given c.transfer.new.source) (g.O.Sink.taken c.transfer.new.sink) c.transfer.new.read)
     c.args.requester.now c.loop-requester.requester c.transfer.new.requester goes c.in-Err.ensures.err
@@ -37,7 +37,7 @@ loop-requester-preserved g c =
       λ xid. c.in-Ok.ensures.tickets xid ∙ tickets xid,
       c.in-Ok.ensures.source_count ∙ sources,
       c.in-Ok.ensures.sink_count ∙ sinks,
-      goes_both (link_bytes (g.I.Source.left c.args.source.now) (g.I.Source.given c.args.source.now) (g.O.Sink.taken c.args.sink.now) c.args.read.now)
+      turns_compose (link_bytes (g.I.Source.left c.args.source.now) (g.I.Source.given c.args.source.now) (g.O.Sink.taken c.args.sink.now) c.args.read.now)
           (link_bytes (g.I.Source.left c.loop-requester.source) (g.I.Source.given c.loop-requester.source) (g.O.Sink.taken c.loop-requester.sink) c.loop-requester.read)
           (link_bytes (g.I.Source.left c.transfer.new.source) (g.I.Source.given c.transfer.new.source) (g.O.Sink.taken c.transfer.new.sink) c.transfer.new.read)
           c.args.requester.now c.loop-requester.requester c.transfer.new.requester goes c.in-Ok.ensures.ok,
@@ -49,7 +49,7 @@ loop-requester-init g c = (
   λ xid. refl,
   refl,
   refl,
-  goes_nowhere (link_bytes (g.I.Source.left c.args.source.now) (g.I.Source.given c.args.source.now) (g.O.Sink.taken c.args.sink.now) c.args.read.now) c.args.requester.now,
+  no_turn (link_bytes (g.I.Source.left c.args.source.now) (g.I.Source.given c.args.source.now) (g.O.Sink.taken c.args.sink.now) c.args.read.now) c.args.requester.now,
 )
 
 pub returns-in-Err-clause-unanswered : goal.returns-in-Err-clause-unanswered

@@ -1,12 +1,12 @@
 use Rattle.std.proofs.Common.{arith, refl, ◌∙◌}
 use Rattle.nr_client.specs.Transfers.{link_bytes}
-use Rattle.nr_client.proofs.Turns.{goes_both, goes_nowhere, goes_to, same_source, same_sink}
+use Rattle.nr_client.proofs.Turns.{turns_compose, no_turn, turn_to, same_source, same_sink}
 use Rattle.nr_client.proofs.calling.wait_for_credit.Goals as goal
 
 pub returns-in-Err-clause-err : goal.returns-in-Err-clause-err
 returns-in-Err-clause-err g c =
     let (fits, sources, sinks, goes) = c.loop-requester.invariant in
-    goes_to c.in-Err.end (link_bytes (g.I.Source.left c.args.source.now) (g.I.Source.given c.args.source.now) (g.O.Sink.taken c.args.sink.now) c.args.read.now)
+    turn_to c.in-Err.end (link_bytes (g.I.Source.left c.args.source.now) (g.I.Source.given c.args.source.now) (g.O.Sink.taken c.args.sink.now) c.args.read.now)
     (link_bytes (g.I.Source.left c.loop-requester.source) (g.I.Source.given c.loop-requester.source) (g.O.Sink.taken c.loop-requester.sink) c.loop-requester.read)
     (link_bytes (g.I.Source.left c.transfer.new.source) (g.I.Source.given c.transfer.new.source) (g.O.Sink.taken c.transfer.new.sink) c.transfer.new.read)
     c.args.requester.now c.loop-requester.requester c.transfer.new.requester goes c.in-Err.ensures.err
@@ -34,7 +34,7 @@ loop-requester-preserved g c =
       c.in-Ok.ensures.fits,
       c.in-Ok.ensures.source_count ∙ sources,
       c.in-Ok.ensures.sink_count ∙ sinks,
-      goes_both (link_bytes (g.I.Source.left c.args.source.now) (g.I.Source.given c.args.source.now) (g.O.Sink.taken c.args.sink.now) c.args.read.now)
+      turns_compose (link_bytes (g.I.Source.left c.args.source.now) (g.I.Source.given c.args.source.now) (g.O.Sink.taken c.args.sink.now) c.args.read.now)
           (link_bytes (g.I.Source.left c.loop-requester.source) (g.I.Source.given c.loop-requester.source) (g.O.Sink.taken c.loop-requester.sink) c.loop-requester.read)
           (link_bytes (g.I.Source.left c.transfer.new.source) (g.I.Source.given c.transfer.new.source) (g.O.Sink.taken c.transfer.new.sink) c.transfer.new.read)
           c.args.requester.now c.loop-requester.requester c.transfer.new.requester goes c.in-Ok.ensures.ok,
@@ -45,5 +45,5 @@ loop-requester-init g c = (
   c.requires.fits,
   refl,
   refl,
-  goes_nowhere (link_bytes (g.I.Source.left c.args.source.now) (g.I.Source.given c.args.source.now) (g.O.Sink.taken c.args.sink.now) c.args.read.now) c.args.requester.now,
+  no_turn (link_bytes (g.I.Source.left c.args.source.now) (g.I.Source.given c.args.source.now) (g.O.Sink.taken c.args.sink.now) c.args.read.now) c.args.requester.now,
 )

@@ -1,6 +1,6 @@
 use Rattle.std.proofs.Common.{inr}
 use Rattle.nr_client.specs.Transfers.{link_bytes}
-use Rattle.nr_client.proofs.Turns.{ends_there, goes_both, goes_to}
+use Rattle.nr_client.proofs.Turns.{ends_there, turns_compose, turn_to}
 use Rattle.nr_client.proofs.Unanswered.{answers_after}
 use Rattle.nr_client.proofs.transfer.transfer.Goals as goal
 
@@ -13,7 +13,7 @@ returns-in-Err-clause-err g c =
 
 pub returns-in-Ok-read_piece-clause-ok : goal.returns-in-Ok-read_piece-clause-ok
 returns-in-Ok-read_piece-clause-ok g c =
-    goes_both (link_bytes (g.I.Source.left c.args.source.now) (g.I.Source.given c.args.source.now) (g.O.Sink.taken c.args.sink.now) c.args.read.now)
+    turns_compose (link_bytes (g.I.Source.left c.args.source.now) (g.I.Source.given c.args.source.now) (g.O.Sink.taken c.args.sink.now) c.args.read.now)
     (link_bytes (g.I.Source.left c.args.source.now) (g.I.Source.given c.args.source.now) (g.O.Sink.taken c.write_due.new.sink) c.args.read.now)
     (link_bytes (g.I.Source.left c.read_piece.new.source) (g.I.Source.given c.read_piece.new.source) (g.O.Sink.taken c.write_due.new.sink) c.read_piece.new.read)
     c.args.requester.now c.write_due.new.requester c.read_piece.new.requester
@@ -22,7 +22,7 @@ returns-in-Ok-read_piece-clause-ok g c =
 
 pub returns-in-Err-read_piece-clause-err : goal.returns-in-Err-read_piece-clause-err
 returns-in-Err-read_piece-clause-err g c =
-    goes_to c.in-Err-read_piece.end (link_bytes (g.I.Source.left c.args.source.now) (g.I.Source.given c.args.source.now) (g.O.Sink.taken c.args.sink.now) c.args.read.now)
+    turn_to c.in-Err-read_piece.end (link_bytes (g.I.Source.left c.args.source.now) (g.I.Source.given c.args.source.now) (g.O.Sink.taken c.args.sink.now) c.args.read.now)
     (link_bytes (g.I.Source.left c.args.source.now) (g.I.Source.given c.args.source.now) (g.O.Sink.taken c.write_due.new.sink) c.args.read.now)
     (link_bytes (g.I.Source.left c.read_piece.new.source) (g.I.Source.given c.read_piece.new.source) (g.O.Sink.taken c.write_due.new.sink) c.read_piece.new.read)
     c.args.requester.now c.write_due.new.requester c.read_piece.new.requester

@@ -9,7 +9,7 @@ use Rattle.nr_endpoint.proofs.sharing.push_shared.Goals as goal
 pub loop-i-init : goal.loop-i-init
 loop-i-init c =
     record {
-      items = rw (pieces_none c.args.carrier c.args.bytes.now, append-nil) refl;
+      items = rw (pieces_none c.args.operation c.args.bytes.now, append-nil) refl;
       spare = omega (arith, c.in_ok-reserve.ensures.ok);
     }
 
@@ -23,8 +23,8 @@ pub loop-i-preserved : goal.loop-i-preserved
 loop-i-preserved c =
     let count = rw (c.as_slice.ensures) at c.segment_count-count.ensures in
     record {
-      items = piece_pushed _ _ _ _ c.args.carrier c.args.bytes.now c.loop-i.i c.loop-i.invariant.items c.in_ok-push_shared_segment.ensures.items
-          (λ t. operation_segment c.args.carrier (eqb (c.loop-i.i + 1) (count t)) (segment_max * c.loop-i.i) (c.in_ok-payload.ensures t));
+      items = piece_pushed _ _ _ _ c.args.operation c.args.bytes.now c.loop-i.i c.loop-i.invariant.items c.in_ok-push_shared_segment.ensures.items
+          (λ t. operation_segment c.args.operation (eqb (c.loop-i.i + 1) (count t)) (segment_max * c.loop-i.i) (c.in_ok-payload.ensures t));
       spare = omega (arith, c.loop-i.invariant.spare, c.in_ok-push_shared_segment.ensures.spare);
     }
 
@@ -32,5 +32,5 @@ pub returns : goal.returns
 returns c =
     let count = rw (c.as_slice.ensures) at c.segment_count-count.ensures in
     let here : c.loop-i.i ≡ segment_count c.args.bytes.now = omega (arith, count) in
-    all_pushed _ _ c.args.carrier c.args.bytes.now c.loop-i.i here c.loop-i.invariant.items
-    ∙ ap (λ (items : List ℕ). items ++ cut (operation_segment c.args.carrier) c.args.bytes.now) c.in_ok-reserve.ensures.items
+    all_pushed _ _ c.args.operation c.args.bytes.now c.loop-i.i here c.loop-i.invariant.items
+    ∙ ap (λ (items : List ℕ). items ++ cut (operation_segment c.args.operation) c.args.bytes.now) c.in_ok-reserve.ensures.items

@@ -1,5 +1,5 @@
 use Rattle.nr_reduce.proofs.Recut.{cut_rebuilt}
-use Rattle.nr_reduce.proofs.Undone.{rebuilt}
+use Rattle.nr_reduce.proofs.Rebuilding.{rebuilt}
 use Rattle.nr_reduce.proofs.RefusedChunks.{refused_has_none}
 use Rattle.nr_reduce.proofs.laws.rebuild_undoes_cut.Goals as goal
 

@@ -1,7 +1,7 @@
 use Rattle.std.proofs.Common.{sym, ap, ◌∙◌, Some}
 use Rattle.nr_xdr.specs.Reading.{Cursor}
 use Rattle.nr_reduce.specs.Largest.{program_reply_max}
-use Rattle.nr_reduce.specs.CallOutlines.{payload_of}
+use Rattle.nr_reduce.specs.CallOutlines.{parts_payload}
 use Rattle.nr_reduce.proofs.Places.{largest_by}
 use Rattle.nr_reduce.proofs.parts.largest_reply_of.Goals as goal
 
@@ -9,4 +9,4 @@ pub returns : goal.returns
 returns c =
     c.program_reply_max.ensures
     ∙ ap (λ (r : Cursor). program_reply_max c.args.parts.target.prog c.args.parts.target.vers c.args.parts.target.proc r) c.arguments.ensures
-    ∙ largest_by (payload_of c.args.parts) (Some c.args.parts.target) (sym c.requires.0)
+    ∙ largest_by (parts_payload c.args.parts) (Some c.args.parts.target) (sym c.requires.0)

@@ -1,5 +1,5 @@
 use Rattle.std.proofs.Common.{drop}
-use Rattle.nr_record.specs.Kept.{kept, IsState}
+use Rattle.nr_record.specs.RecordsState.{kept, IsState}
 use Rattle.nr_record.proofs.Waiting.{first_of, start_of, by_first, by_none}
 use Rattle.nr_record.proofs.records.Records.at.Goals as goal
 

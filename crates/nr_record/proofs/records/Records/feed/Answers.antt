@@ -1,5 +1,5 @@
 use Rattle.std.proofs.Common.{◌++◌}
-use Rattle.nr_record.specs.Kept.{kept}
+use Rattle.nr_record.specs.RecordsState.{kept}
 use Rattle.nr_record.proofs.Above.{answer_ok, answer_err}
 use Rattle.nr_record.proofs.records.Records.feed.Goals as goal
 

@@ -1,5 +1,5 @@
 use Rattle.std.proofs.Common.{ℕ, List, sym, ap, ◌∙◌}
-use Rattle.nr_record.specs.Kept.{kept, IsState}
+use Rattle.nr_record.specs.RecordsState.{kept, IsState}
 use mathlib.Core.Option.{some}
 use Rattle.nr_record.proofs.Waiting.{by_itself, first_of, none_of, next_stands}
 use Rattle.nr_record.proofs.records.Records.next_record.Goals as goal

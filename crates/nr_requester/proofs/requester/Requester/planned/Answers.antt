@@ -1,7 +1,7 @@
 use Rattle.std.proofs.Common.{ap, sym, ◌∙◌}
 use Rattle.nr_rpc.specs.declared.head.CallTarget.{CallTarget}
 use Rattle.nr_rpc.specs.Call.{call_head, call_of_target}
-use Rattle.nr_reduce.specs.CallOutlines.{payload_of}
+use Rattle.nr_reduce.specs.CallOutlines.{parts_payload}
 use Rattle.nr_requester.specs.RequesterState.{RequesterSide}
 use Rattle.nr_requester.specs.Sending.{head_under}
 use Rattle.nr_requester.proofs.Answered.{outlined_by}
@@ -16,5 +16,5 @@ written_parts-parts-requires-clause-head c =
 pub returns : goal.returns
 returns c =
     let next = ap (λ (h : RequesterSide). h.state.next_xid) c.self.view_is in
-    outlined_by c.args.self.now.state c.args.call.now c.args.form.now c.self.inside.next_xid c.target_under.result c.args.head.now c.as_slice.result.now (payload_of c.written_parts-parts.result) c.outline_of.result (sym next) c.self.invariant.0.xid
+    outlined_by c.args.self.now.state c.args.call.now c.args.form.now c.self.inside.next_xid c.target_under.result c.args.head.now c.as_slice.result.now (parts_payload c.written_parts-parts.result) c.outline_of.result (sym next) c.self.invariant.0.xid
     c.target_under.ensures c.as_slice.ensures c.requires.head c.written_parts-parts.ensures.payload c.outline_of.ensures

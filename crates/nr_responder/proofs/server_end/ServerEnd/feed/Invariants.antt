@@ -6,7 +6,7 @@ use Rattle.nr_reduce.specs.declared.mark.Mark.{Mark}
 use Rattle.nr_responder.specs.ResponderState.{KeepsStaging}
 use Rattle.nr_responder.specs.Standing.{Stands}
 use Rattle.nr_responder.specs.Steps.{Fed}
-use Rattle.nr_responder.specs.Sound.{state_of, with_staging, IsSound}
+use Rattle.nr_responder.specs.Sound.{state_of, with_staging, ServerEndInvariant}
 use Rattle.nr_responder.proofs.Staging.{IsFirst}
 use Rattle.nr_responder.proofs.server_end.ServerEnd.feed.Given as goal
 
@@ -15,7 +15,7 @@ invariant-pieces l = record {
   at : l.at ≤ length l.fn.piece;
   over : is_some l.self.endpoint.link.state.ended ≡ true → l.at ≡ length l.fn.piece;
   goes : Fed (state_of l.fn.self) (take l.at l.fn.piece) (state_of l.self);
-  sound : IsSound l.self;
+  sound : ServerEndInvariant l.self;
   within : fed_bytes l.self.endpoint.link ≤ fed_bytes l.fn.self.endpoint.link + l.at;
   staging : (opened : LinkParameters) (link : ℕ) (run : List Mark) → Stands opened link run (state_of l.fn.self) → KeepsStaging (with_staging l.fn.self) (with_staging l.self) l.fn.piece;
   first : IsFirst (with_staging l.fn.self) (with_staging l.self) l.at l.fn.piece;

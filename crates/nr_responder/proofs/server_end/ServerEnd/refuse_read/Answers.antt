@@ -10,7 +10,7 @@ use Rattle.nr_responder.specs.ResponderState.{ResponderSide}
 use Rattle.nr_responder.specs.private.DoneReads.{IsOfCall}
 use Rattle.nr_responder.specs.private.Reading.{left_sinks, opening, over_sinks, with_opened_after, with_released}
 use Rattle.nr_responder.specs.private.ReadsDone.{has_bad_chunk}
-use Rattle.nr_responder.specs.Sound.{AreSound, InBuffer, payloads_of, state_of, xids_of}
+use Rattle.nr_responder.specs.Sound.{QueuesInvariant, InBuffer, payloads_of, state_of, xids_of}
 use Rattle.nr_responder.specs.Views.{call_view, read_view, sink_view}
 use Rattle.nr_responder.proofs.DoneReads.{dropped_fetched, refused_ends, refused_fetched, refused_link, refused_sound, refuses}
 use Rattle.nr_responder.proofs.Removed.{map_removed}
@@ -19,7 +19,7 @@ use Rattle.nr_responder.proofs.server_end.ServerEnd.refuse_read.Goals as goal
 pub run_out-requires : goal.run_out-requires
 run_out-requires c = record {
   sound = (
-    subst (λ (l : LinkSide). AreSound 0 l.state c.args.self.now.calls.items c.args.self.now.ready.items c.args.self.now.used.items (vec_capacity c.args.self.now.calls) (deque_capacity c.args.self.now.ready) (deque_capacity c.args.self.now.used)) (sym c.in-Err.ensures.err) c.requires.sound.0,
+    subst (λ (l : LinkSide). QueuesInvariant 0 l.state c.args.self.now.calls.items c.args.self.now.ready.items c.args.self.now.used.items (vec_capacity c.args.self.now.calls) (deque_capacity c.args.self.now.ready) (deque_capacity c.args.self.now.used)) (sym c.in-Err.ensures.err) c.requires.sound.0,
     dropped_fetched c.args.self.now.endpoint c.queue_refusal.new.endpoint c.args.done.number c.args.kept c.args.self.now.calls.items c.args.self.now.reads.items c.drop_waiting.new.reads.items c.args.self.now.sinks.items c.drop_waiting.ensures
         (ap (λ (l : LinkSide). l.state.memory) c.in-Err.ensures.err) c.queue_refusal.ensures.outside c.requires.sound.1,
   );

@@ -2,7 +2,7 @@ use Rattle.std.proofs.Common.{sym, ap, ◌∙◌}
 use Rattle.nr_wire.specs.Hello.{hello_of}
 use Rattle.nr_wire.specs.View.{hello as plain, next_hello}
 use Rattle.nr_endpoint.proofs.WholeFrames.{hello_answer_lem, not_more_lem, no_reason_lem, that_reason}
-use Rattle.nr_endpoint.proofs.frames.hello_refusal.Goals as goal
+use Rattle.nr_endpoint.proofs.frames.hello_reason.Goals as goal
 
 pub unreachable-requires : goal.unreachable-requires
 unreachable-requires c =

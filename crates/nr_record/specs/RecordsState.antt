@@ -13,7 +13,7 @@ use Rattle.nr_record.specs.Records.{IsAboveAt, header, fragments, Cut, content, 
 
 -- `start` is the offset of the record that is begun, `count` that of the next byte, `payload` what came of the record that is begun,
 -- `head` the bytes of a header that is begun, `left` how many bytes of a fragment are missing, `last` whether it is the last
-pub record Kept : Type 0 where
+pub record RecordsState : Type 0 where
   pub waiting : List WaitingRecord
   pub start : ℕ
   pub count : ℕ
@@ -23,15 +23,15 @@ pub record Kept : Type 0 where
   pub left : ℕ
   pub fault : Option RecordFault
 
-abbrev pub kept : Records → Kept
+abbrev pub kept : Records → RecordsState
 kept r = record { waiting = r.waiting.items; start = r.start; count = r.count; payload = r.payload; head = r.head.items; last = r.last; left = r.left; fault = r.fault }
 
 -- memory ran out
-abbrev pub IsOutOfMemory : Kept → Type 0
+abbrev pub IsOutOfMemory : RecordsState → Type 0
 IsOutOfMemory k = k.fault ≡ Some Memory
 
 -- no record that waits is lost or changed between these two moments: more may wait after them
-abbrev pub KeepsWaiting : Kept → Kept → Type 0
+abbrev pub KeepsWaiting : RecordsState → RecordsState → Type 0
 KeepsWaiting k l = (more : List WaitingRecord) × (l.waiting ≡ k.waiting ++ more)
 
 -- x is at this index of the list
@@ -42,8 +42,8 @@ IsAt xs k x = get_elem? xs k ≡ some x
 abbrev pub IsInLimit : List ℕ → Type 0
 IsInLimit bytes = length bytes ≤ RECORD_MAX
 
-abbrev pub IsWithin : Cut → Type 0
-IsWithin c = IsInLimit (content c)
+abbrev pub IsContentInLimit : Cut → Type 0
+IsContentInLimit c = IsInLimit (content c)
 
 -- the records of these encodings, the first of them at this offset
 abbrev pub waiting_from : ℕ → List Cut → List WaitingRecord
@@ -67,7 +67,7 @@ pub record InFragment (payload head : List ℕ) (last : Bool) (left : ℕ) (begu
   pub within : length payload + left ≤ RECORD_MAX
 
 -- less than a fragment is begun
-abbrev pub IsLess : Kept → List (List ℕ) → List ℕ → Type 0
+abbrev pub IsLess : RecordsState → List (List ℕ) → List ℕ → Type 0
 IsLess k begun partial =
     InHeader k.payload k.head k.left begun partial ⊎ ((0 < k.left) × InFragment k.payload k.head k.last k.left begun partial)
 
@@ -80,19 +80,19 @@ pub record IsAbove (begun : List (List ℕ)) (partial : List ℕ) : Type 0 where
   pub above : RECORD_MAX < length (concat begun) + len
 
 -- what is kept of the record that is begun, by the fault. Without one all bytes were read.
-abbrev pub IsState : Option RecordFault → Kept → List (List ℕ) → List ℕ → List ℕ → ℕ → Type 0
+abbrev pub IsState : Option RecordFault → RecordsState → List (List ℕ) → List ℕ → List ℕ → ℕ → Type 0
 IsState None k begun partial unread place = (unread ≡ []) × IsLess k begun partial
 IsState (Some Memory) k begun partial unread place = IsLess k begun partial
 IsState (Some (Bad at reason)) k begun partial unread place = (at ≡ place) × (reason ≡ REASON_RECORD) × IsAbove begun partial
 
 -- The stream is the encodings of the records, the fragments of a record that is begun, less than a fragment, and what was not read.
 -- `taken` of the records are no longer kept.
-pub record Stands (State : List (List ℕ) → List ℕ → List ℕ → ℕ → Type 0) (k : Kept) (stream : List ℕ) (taken : ℕ) : Type 0 where
+pub record Stands (State : List (List ℕ) → List ℕ → List ℕ → ℕ → Type 0) (k : RecordsState) (stream : List ℕ) (taken : ℕ) : Type 0 where
   pub cuts : List Cut
   pub begun : List (List ℕ)
   pub partial : List ℕ
   pub unread : List ℕ
-  pub within : AllByRecursion IsWithin cuts
+  pub within : AllByRecursion IsContentInLimit cuts
   pub begun_within : length (concat begun) ≤ RECORD_MAX
   pub stream_is : stream ≡ (encodings cuts ++ (fragments begun ++ partial)) ++ unread
   pub taken_some : taken ≤ length cuts
@@ -102,11 +102,11 @@ pub record Stands (State : List (List ℕ) → List ℕ → List ℕ → ℕ →
   pub state : State begun partial unread (length (encodings cuts ++ fragments begun))
 
 -- the value stands for this stream, with this number of its records taken
-abbrev pub StandsFor : Kept → List ℕ → ℕ → Type 0
-StandsFor k stream taken = Stands (IsState k.fault k) k stream taken
+abbrev pub RepresentsStream : RecordsState → List ℕ → ℕ → Type 0
+RepresentsStream k stream taken = Stands (IsState k.fault k) k stream taken
 
 -- the bytes that were read, and those after the complete records
-module _ {State : List (List ℕ) → List ℕ → List ℕ → ℕ → Type 0} {k : Kept} {stream : List ℕ} {taken : ℕ} where
+module _ {State : List (List ℕ) → List ℕ → List ℕ → ℕ → Type 0} {k : RecordsState} {stream : List ℕ} {taken : ℕ} where
   abbrev pub read_in : Stands State k stream taken → List ℕ
   read_in s = encodings s.cuts ++ (fragments s.begun ++ s.partial)
 

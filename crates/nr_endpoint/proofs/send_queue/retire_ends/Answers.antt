@@ -2,7 +2,7 @@ use Rattle.std.proofs.Common.{◌+◌, ◌≤◌, ◌<◌, length, refl, arith, 
 use Rattle.std.proofs.lemmas.List.{take_all}
 use Rattle.nr_endpoint.specs.SendQueue.{ends_passed}
 use Rattle.nr_endpoint.proofs.SendQueues.{looked_at_none, looked_at_all, looked_at_more, passed_more, passed_within}
-use Rattle.nr_endpoint.proofs.send_queue.pass_ends.Goals as goal
+use Rattle.nr_endpoint.proofs.send_queue.retire_ends.Goals as goal
 
 pub loop-i-init : goal.loop-i-init
 loop-i-init c = record { ends = sym (looked_at_none c.args.n c.args.ends.now.items); passed = refl }

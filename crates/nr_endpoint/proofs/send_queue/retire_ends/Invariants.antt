@@ -1,7 +1,7 @@
 use Rattle.std.proofs.Common.{◌≡◌, take}
 use Rattle.nr_endpoint.specs.SendQueue.{ends_passed}
 use Rattle.nr_endpoint.proofs.SendQueues.{looked_at}
-use Rattle.nr_endpoint.proofs.send_queue.pass_ends.Given as goal
+use Rattle.nr_endpoint.proofs.send_queue.retire_ends.Given as goal
 
 abbrev pub invariant-loop-i : goal.invariant-loop-i
 invariant-loop-i l = record {
