@@ -36,7 +36,7 @@ use Rattle.nr_requester.specs.KeptAnswers.{is_due, client_by, KeepsAnswers}
 use Rattle.nr_requester.specs.AfterPiece.{requester_ended, after_frame, after_piece}
 use Rattle.nr_requester.specs.Laws.{PieceIsAMark}
 use Rattle.nr_requester.proofs.Marks.{state_of, lives_as, due_is, own_events}
-use Rattle.nr_requester.proofs.FrameMoves.{KeepsClient, KeptEnd}
+use Rattle.nr_requester.proofs.FrameMoves.{KeepsLiveClient, KeptEnd}
 use Rattle.nr_requester.proofs.CallRegions.{none_if, none_in_frames}
 use Rattle.nr_requester.proofs.AnswerSteps.{due_same, by_events}
 use Rattle.nr_requester.proofs.FrameAnswers.{ended_answers}
@@ -123,7 +123,7 @@ module _ (opened : LinkParameters) (link : ℕ) (h : RequesterSide) (run : List 
       let count : ℕ = length stream in
       let e_is : client opened link run ≡ live k = lives_as (client opened link run) none in
       let side_live : h.state.side.ended ≡ None = s.kept.keeps.ended ∙ none in
-      let kept : KeepsClient opened h.state k count = record {
+      let kept : KeepsLiveClient opened h.state k count = record {
         client = subst (λ (e : EndState ClientState). ClientKeeps opened (kept_client h.state) e count) e_is s.kept.keeps;
         side = s.side side_live;
         sent = s.sent side_live;
@@ -200,7 +200,7 @@ module _ (opened : LinkParameters) (link : ℕ) (h : RequesterSide) (run : List 
       let client_stands_on : ClientRepresents opened link (kept_client after.state) (input_kept after) (queue_of after.state) (run ++ mark ∷ []) =
       client_stands opened link (kept_client h.state) (kept_client after.state) input (input_kept after) (queue_of h.state) (queue_of after.state) run mark s.kept
       (record { keeps = g.keeps.client; output = g.queue }) g.input_is in
-      let next : after.state.side.ended ≡ None → KeepsClient opened after.state (end_state_after (client_rules opened) (client opened link run) (input_events link Initiator input mark)).state (length stream + length (fed_at link Initiator mark)) =
+      let next : after.state.side.ended ≡ None → KeepsLiveClient opened after.state (end_state_after (client_rules opened) (client opened link run) (input_events link Initiator input mark)).state (length stream + length (fed_at link Initiator mark)) =
       λ lives. g.keeps.live_one (sym g.keeps.client.ended ∙ lives) in
       record {
         first = g.keeps.first;

@@ -24,7 +24,7 @@ use Rattle.nr_reduce.proofs.Releasing.{kept_stays}
 use Rattle.nr_reduce.proofs.Steps.{ended_stays}
 use Rattle.nr_requester.specs.RequesterState.{RequesterState, queue_of, kept_client}
 use Rattle.nr_requester.specs.AfterPiece.{requester_ended, after_frame}
-use Rattle.nr_requester.proofs.FrameMoves.{KeepsClient, KeptEnd, FrameTaken}
+use Rattle.nr_requester.proofs.FrameMoves.{KeepsLiveClient, KeptEnd, FrameTaken}
 use Rattle.nr_requester.proofs.Frames.{fpdu_taken}
 use Rattle.nr_requester.proofs.Greeting.{hello_taken}
 use Rattle.nr_requester.specs.KeptAnswers.{client_by, KeepsAnswers}
@@ -37,7 +37,7 @@ keeps_later opened r e count later le keeps = record {
   client = kept_stays opened (kept_client r) e count later keeps.client le;
   first = keeps.first;
   wished = keeps.wished;
-  live_one = λ none. (let k : KeepsClient opened r e.state count = keeps.live_one none in record {
+  live_one = λ none. (let k : KeepsLiveClient opened r e.state count = keeps.live_one none in record {
     client = kept_stays opened (kept_client r) (live e.state) count later k.client le;
     side = k.side;
     sent = k.sent;
@@ -48,7 +48,7 @@ keeps_later opened r e count later le keeps = record {
 }
 
 -- a live one, as an end
-pub kept_live : (opened : LinkParameters) (r : RequesterState) (k : ClientState) (count : ℕ) → KeepsClient opened r k count → KeptEnd opened r (live k) count
+pub kept_live : (opened : LinkParameters) (r : RequesterState) (k : ClientState) (count : ℕ) → KeepsLiveClient opened r k count → KeptEnd opened r (live k) count
 kept_live opened r k count keeps = record { client = keeps.client; first = keeps.first; wished = keeps.wished; live_one = λ none. keeps }
 
 -- ---- A frame
@@ -59,7 +59,7 @@ IsAwaited (HelloFrom side) place = (side ≡ Responder) × (place ≡ 0)
 IsAwaited Fpdu place = 0 < place
 
 -- the place of a side after a frame that doesn't end it
-next_awaited : (opened : LinkParameters) (r : RequesterState) (k : ClientState) (count : ℕ) (a : Awaited) (frame : List ℕ) → KeepsClient opened r k count → IsAwaited a r.side.place → count < r.side.place + length frame →
+next_awaited : (opened : LinkParameters) (r : RequesterState) (k : ClientState) (count : ℕ) (a : Awaited) (frame : List ℕ) → KeepsLiveClient opened r k count → IsAwaited a r.side.place → count < r.side.place + length frame →
     FrameTaken opened r k (next_frame r.side frame) (after_frame r a frame)
 next_awaited opened r k count (HelloFrom side) frame keeps is lt =
     subst (λ (x : Side). FrameTaken opened r k (next_frame r.side frame) (after_frame r (HelloFrom x) frame)) (sym is.0) (hello_taken opened r k count frame keeps lt is.1)
@@ -110,7 +110,7 @@ awaited_fpdu : (a : Awaited) (frames : List (List ℕ)) → a ≡ Fpdu → await
 awaited_fpdu a [] e = e
 awaited_fpdu a (f ∷ frames) e = refl
 
-none_along : (opened : LinkParameters) (r : RequesterState) (k : ClientState) (count : ℕ) (rest : List ℕ) (a : Awaited) → KeepsClient opened r k count → count ≤ r.side.place + length rest → Along opened r (live k) r.side.place [] rest a (feeding_after_frames requester_ended after_frame [] rest a r)
+none_along : (opened : LinkParameters) (r : RequesterState) (k : ClientState) (count : ℕ) (rest : List ℕ) (a : Awaited) → KeepsLiveClient opened r k count → count ≤ r.side.place + length rest → Along opened r (live k) r.side.place [] rest a (feeding_after_frames requester_ended after_frame [] rest a r)
 none_along opened r k count rest a keeps le = record {
   keeps = keeps_later opened r (live k) count (r.side.place + (0 + length rest)) (omega (arith, le)) (kept_live opened r k count keeps);
   queue = sym (append-nil (queue_of r));
@@ -122,7 +122,7 @@ none_along opened r k count rest a keeps le = record {
 
 -- the rest of the frames, once the first was taken
 then_along : (opened : LinkParameters) (r r1 : RequesterState) (k : ClientState) (count : ℕ) (a : Awaited) (frame : List ℕ) (frames : List (List ℕ)) (rest : List ℕ) (after : Feeding RequesterState) → r.side.ended ≡ None →
-    KeepsClient opened r k count → count ≤ r.side.place + length frame → FrameTaken opened r k (next_frame r.side frame) r1 →
+    KeepsLiveClient opened r k count → count ≤ r.side.place + length frame → FrameTaken opened r k (next_frame r.side frame) r1 →
     queue_of r1 ≡ queue_of r ++ output_for (client_rules opened) (live k) (FrameReceived (next_frame r.side frame)) →
     Along opened r1 (next_end_state (client_rules opened) (live k) (FrameReceived (next_frame r.side frame))) (r.side.place + length frame) frames rest Fpdu after →
     Along opened r (live k) r.side.place (frame ∷ frames) rest a after
@@ -163,14 +163,14 @@ ended_along opened r k end count place frames rest a keeps le =
 abbrev ended_as : EndState ClientState → Option End → EndState ClientState
 ended_as e x = record { state = e.state; ended = x }
 
-pub frames_along : (opened : LinkParameters) (frames : List (List ℕ)) (rest : List ℕ) (a : Awaited) (r : RequesterState) (k : ClientState) (count : ℕ) → KeepsClient opened r k count → IsAwaited a r.side.place → AreFrames a frames → IsBeyond count r.side.place frames rest →
+pub frames_along : (opened : LinkParameters) (frames : List (List ℕ)) (rest : List ℕ) (a : Awaited) (r : RequesterState) (k : ClientState) (count : ℕ) → KeepsLiveClient opened r k count → IsAwaited a r.side.place → AreFrames a frames → IsBeyond count r.side.place frames rest →
     Along opened r (live k) r.side.place frames rest a (feeding_after_frames requester_ended after_frame frames rest a r)
 frames_along opened [] rest a r k count keeps is each beyond = none_along opened r k count rest a keeps beyond
 frames_along opened (frame ∷ frames) rest a r k count keeps is each beyond =
     let t : FrameTaken opened r k f r1 = next_awaited opened r k count a frame keeps is beyond in
     subst (λ (b : Bool). Along opened r (live k) r.side.place (frame ∷ frames) rest a (cond b (feeding_in requester_ended after_frame a [] r) (feeding_after_frames requester_ended after_frame frames rest Fpdu r1))) (sym going)
     (then_along opened r r1 k count a frame frames rest (feeding_after_frames requester_ended after_frame frames rest Fpdu r1) keeps.client.ended keeps (let lt = beyond in omega (arith, lt)) t t.queue
-    (by e1.ended refl t.keeps t.place (λ (k1 : ClientState) (kept : KeepsClient opened r1 k1 f.end) (at : r1.side.place ≡ f.end).
+    (by e1.ended refl t.keeps t.place (λ (k1 : ClientState) (kept : KeepsLiveClient opened r1 k1 f.end) (at : r1.side.place ≡ f.end).
     subst (λ (n : ℕ). Along opened r1 (live k1) n frames rest Fpdu (feeding_after_frames requester_ended after_frame frames rest Fpdu r1)) at
     (frames_along opened frames rest Fpdu r1 k1 f.end kept (let some = frame_some a frame each.0 in omega (arith, at, some)) each.1 (later_beyond frames r1.side.place f.end at each.1)))))
   where
@@ -191,7 +191,7 @@ frames_along opened (frame ∷ frames) rest a r k count keeps is each beyond =
     later_beyond (g ∷ gs) place count at each = (let some = frame_some Fpdu g each.0 in omega (arith, at, some))
 
     by : (x : Option End) → e1.ended ≡ x → KeptEnd opened r1 e1 f.end → (r1.side.ended ≡ None → r1.side.place ≡ f.end) →
-        ((k1 : ClientState) → KeepsClient opened r1 k1 f.end → r1.side.place ≡ f.end → Along opened r1 (live k1) f.end frames rest Fpdu (feeding_after_frames requester_ended after_frame frames rest Fpdu r1)) →
+        ((k1 : ClientState) → KeepsLiveClient opened r1 k1 f.end → r1.side.place ≡ f.end → Along opened r1 (live k1) f.end frames rest Fpdu (feeding_after_frames requester_ended after_frame frames rest Fpdu r1)) →
         Along opened r1 e1 f.end frames rest Fpdu (feeding_after_frames requester_ended after_frame frames rest Fpdu r1)
     by None is kept at go =
         subst (λ (x : Option End). Along opened r1 (ended_as e1 x) f.end frames rest Fpdu (feeding_after_frames requester_ended after_frame frames rest Fpdu r1)) (sym is)

@@ -35,7 +35,7 @@ use Rattle.nr_requester.proofs.FoundCalls.{found_one, found_xid, stags_in_state,
 use Rattle.nr_requester.proofs.AnswerSteps.{all_as, all_append, all_filter, filter_append, back_more, quiet_more}
 use Rattle.nr_requester.specs.OpenCalls.{call_with}
 use Rattle.nr_requester.proofs.Tickets.{moved_open, due_calls, gives_some}
-use Rattle.nr_requester.proofs.FrameMoves.{KeepsClient, Quiet, Completes, Moves, FrameTaken}
+use Rattle.nr_requester.proofs.FrameMoves.{KeepsLiveClient, Quiet, Completes, Moves, FrameTaken}
 
 -- one event more
 pub one_more_event : (opened : LinkParameters) (e : EndState ClientState) (f : Frame) (past : List RunEvent) → e ≡ client_by opened past → next_end_state (client_rules opened) e (FrameReceived f) ≡ client_by opened (past ++ FrameReceived f ∷ [])
@@ -95,7 +95,7 @@ some_call false call o e = e
 if_call : (P : Call → Type 0) (o : Option Call) (call : Call) → IfSome o P → o ≡ Some call → P call
 if_call P o call h e = (let g : IfSome (Some call) P = subst (λ (x : Option Call). IfSome x P) e h in g)
 
-module _ (opened : LinkParameters) (r after : RequesterState) (k : ClientState) (count : ℕ) (f : Frame) (past : List RunEvent) (due : ℕ → Bool) (asked : List AcceptedCall) (is : live k ≡ client_by opened past) (keeps : KeepsClient opened r k count) (le : count ≤ f.end) (h : KeepsAnswers opened past due asked r) where
+module _ (opened : LinkParameters) (r after : RequesterState) (k : ClientState) (count : ℕ) (f : Frame) (past : List RunEvent) (due : ℕ → Bool) (asked : List AcceptedCall) (is : live k ≡ client_by opened past) (keeps : KeepsLiveClient opened r k count) (le : count ≤ f.end) (h : KeepsAnswers opened past due asked r) where
   abbrev es : List RunEvent
   es = past ++ FrameReceived f ∷ []
 
@@ -199,7 +199,7 @@ module _ (opened : LinkParameters) (r after : RequesterState) (k : ClientState) 
       )
 
 -- after a frame
-pub frame_answers : (opened : LinkParameters) (r after : RequesterState) (k : ClientState) (count : ℕ) (f : Frame) (past : List RunEvent) (due : ℕ → Bool) (asked : List AcceptedCall) → live k ≡ client_by opened past → KeepsClient opened r k count → count ≤ f.end →
+pub frame_answers : (opened : LinkParameters) (r after : RequesterState) (k : ClientState) (count : ℕ) (f : Frame) (past : List RunEvent) (due : ℕ → Bool) (asked : List AcceptedCall) → live k ≡ client_by opened past → KeepsLiveClient opened r k count → count ≤ f.end →
     FrameTaken opened r k f after → KeepsAnswers opened past due asked r → KeepsAnswers opened (past ++ FrameReceived f ∷ []) due asked after
 frame_answers opened r after k count f past due asked is keeps le t h = by t.moves
   where

@@ -43,7 +43,7 @@ use Rattle.nr_requester.specs.AfterPiece.{without_call, answer_to, call_of, judg
 use Rattle.nr_requester.proofs.KeptCalls.{stags_alike}
 
 -- A requester that hasn't ended keeps this client, after `count` bytes were received.
-pub record KeepsClient (opened : LinkParameters) (r : RequesterState) (k : ClientState) (count : ℕ) : Type 0 where
+pub record KeepsLiveClient (opened : LinkParameters) (r : RequesterState) (k : ClientState) (count : ℕ) : Type 0 where
   pub client : ClientKeeps opened (kept_client r) (live k) count
   pub side : LinkKeeps opened r.side k
   pub sent : r.sent ≡ r.side.send_queue.sends_left
@@ -56,7 +56,7 @@ pub record KeptEnd (opened : LinkParameters) (r : RequesterState) (e : EndState 
   pub client : ClientKeeps opened (kept_client r) e count
   pub first : r.first_xid ≡ opened.first_xid
   pub wished : r.wished ≡ opened.wished
-  pub live_one : e.ended ≡ None → KeepsClient opened r e.state count
+  pub live_one : e.ended ≡ None → KeepsLiveClient opened r e.state count
 
 -- What a frame makes of the answers: it leaves them, or it completes the message of a call.
 pub record Quiet (r after : RequesterState) (k next : ClientState) : Type 0 where
@@ -92,7 +92,7 @@ pub record FrameTaken (opened : LinkParameters) (r : RequesterState) (k : Client
 
 -- ---- A frame that ends the client, and one that doesn't
 
-pub taken_ended : (opened : LinkParameters) (r : RequesterState) (k : ClientState) (count : ℕ) (f : Frame) (after : RequesterState) (end : End) → KeepsClient opened r k count → client_end k (FrameReceived f) ≡ Some end →
+pub taken_ended : (opened : LinkParameters) (r : RequesterState) (k : ClientState) (count : ℕ) (f : Frame) (after : RequesterState) (end : End) → KeepsLiveClient opened r k count → client_end k (FrameReceived f) ≡ Some end →
     kept_client after ≡ record (kept_client r) { ended = Some end } → after.first_xid ≡ r.first_xid → after.wished ≡ r.wished → count ≤ f.end → queue_of after ≡ queue_of r ++ final_output end →
     after.next_xid ≡ r.next_xid → after.answered ≡ r.answered → after.outstanding ≡ r.outstanding → FrameTaken opened r k f after
 taken_ended opened r k count f after end keeps is kept first wished le queue next answered outstanding =
@@ -132,7 +132,7 @@ written_still opened k f = by (is_hello f)
     by true = refl
     by false = by_segment (frame_segment f)
 
-pub taken_live : (opened : LinkParameters) (r : RequesterState) (k : ClientState) (count : ℕ) (f : Frame) (after : RequesterState) → KeepsClient opened r k count → client_end k (FrameReceived f) ≡ None →
+pub taken_live : (opened : LinkParameters) (r : RequesterState) (k : ClientState) (count : ℕ) (f : Frame) (after : RequesterState) → KeepsLiveClient opened r k count → client_end k (FrameReceived f) ≡ None →
     ClientKeeps opened (kept_client after) (next_end_state (client_rules opened) (live k) (FrameReceived f)) f.end → LinkKeeps opened after.side (client_state_after opened k (FrameReceived f)) → after.sent ≡ r.sent → after.side.send_queue.sends_left ≡ r.side.send_queue.sends_left →
     after.first_xid ≡ r.first_xid → after.wished ≡ r.wished →
     queue_of after ≡ queue_of r ++ client_output opened k (FrameReceived f) → after.side.place ≡ f.end → after.next_xid ≡ r.next_xid → Moves opened r after k (client_state_after opened k (FrameReceived f)) f → FrameTaken opened r k f after
@@ -143,7 +143,7 @@ taken_live opened r k count f after keeps is client side sent left first wished 
     let still = written_still opened k f in
     let was = keeps.due in
     let long : length (queue_of after) ≡ length (queue_of r) + length (client_output opened k (FrameReceived f)) = ap (λ (xs : List ℕ). length xs) queue ∙ length-append (queue_of r) (client_output opened k (FrameReceived f)) in
-    let next : KeepsClient opened after (client_state_after opened k (FrameReceived f)) f.end = record {
+    let next : KeepsLiveClient opened after (client_state_after opened k (FrameReceived f)) f.end = record {
       client = subst (λ (x : EndState ClientState). ClientKeeps opened (kept_client after) x f.end) e_is client;
       side = side;
       sent = sent ∙ keeps.sent ∙ sym left;
@@ -156,7 +156,7 @@ taken_live opened r k count f after keeps is client side sent left first wished 
         client = client;
         first = first ∙ keeps.first;
         wished = wished ∙ keeps.wished;
-        live_one = λ none. subst (λ (x : ClientState). KeepsClient opened after x f.end) (sym (ap (λ (x : EndState ClientState). x.state) e_is)) next;
+        live_one = λ none. subst (λ (x : ClientState). KeepsLiveClient opened after x f.end) (sym (ap (λ (x : EndState ClientState). x.state) e_is)) next;
       };
       queue = queue ∙ ap (λ (x : Option End). queue_of r ++ output_for_by (client_rules opened) k (FrameReceived f) x) (sym is);
       place = λ none. place;

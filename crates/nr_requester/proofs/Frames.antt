@@ -45,11 +45,11 @@ use Rattle.nr_requester.specs.AfterPiece.{judged, with_deliveries, unless_ended,
 use Rattle.nr_requester.proofs.Faults.{ends_alike}
 use Rattle.nr_requester.proofs.OneReceive.{MessageAt, message_at}
 use Rattle.nr_requester.proofs.FrameSides.{has_greeted, TaggedFine, tagged_fine, link_tagged, RequestFine, request_fine, queue_request, link_untagged, link_message}
-use Rattle.nr_requester.proofs.FrameMoves.{KeepsClient, FrameTaken, taken_ended, taken_live, queue_ended, ended_shape, Lives, lives_by_lem, Reads, reads, quiet_segment, message_segment, not_long, completed_is}
+use Rattle.nr_requester.proofs.FrameMoves.{KeepsLiveClient, FrameTaken, taken_ended, taken_live, queue_ended, ended_shape, Lives, lives_by_lem, Reads, reads, quiet_segment, message_segment, not_long, completed_is}
 
 -- ---- A frame that doesn't end the side of the link
 
-module _ (opened : LinkParameters) (r : RequesterState) (k : ClientState) (count : ℕ) (f : Frame) (keeps : KeepsClient opened r k count) (lt : count < f.end) (later : r.side.place ≢ 0) where
+module _ (opened : LinkParameters) (r : RequesterState) (k : ClientState) (count : ℕ) (f : Frame) (keeps : KeepsLiveClient opened r k count) (lt : count < f.end) (later : r.side.place ≢ 0) where
   hello : r.side.has_hello ≡ true
   hello = keeps.side.has_hello ∙ has_greeted opened r.side k keeps.side later
 
@@ -216,7 +216,7 @@ module _ (opened : LinkParameters) (r : RequesterState) (k : ClientState) (count
   segment_taken (Untagged last opcode w queue msn offset payload) lives none said = untagged_taken last opcode w queue msn offset payload lives none said
 
 -- An FPDU makes of a requester what it makes of its client, and queues what is due.
-pub fpdu_taken : (opened : LinkParameters) (r : RequesterState) (k : ClientState) (count : ℕ) (frame : List ℕ) → KeepsClient opened r k count → count < (next_frame r.side frame).end → r.side.place ≢ 0 →
+pub fpdu_taken : (opened : LinkParameters) (r : RequesterState) (k : ClientState) (count : ℕ) (frame : List ℕ) → KeepsLiveClient opened r k count → count < (next_frame r.side frame).end → r.side.place ≢ 0 →
     FrameTaken opened r k (next_frame r.side frame) (after_fpdu r frame)
 unfolding after_fpdu frame_segment client_end
 fpdu_taken opened r k count frame keeps lt later = by (with_frame r.side Fpdu frame).ended refl

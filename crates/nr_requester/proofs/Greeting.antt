@@ -27,7 +27,7 @@ use Rattle.nr_reduce.proofs.Releasing.{kept_stays}
 use Rattle.nr_reduce.proofs.Submits.{kept_greets}
 use Rattle.nr_requester.specs.RequesterState.{RequesterState, queue_of, kept_client}
 use Rattle.nr_requester.specs.Standing.{HasEnds, sends_ends, LinkKeeps}
-use Rattle.nr_requester.proofs.FrameMoves.{KeepsClient, FrameTaken, taken_live, taken_ended}
+use Rattle.nr_requester.proofs.FrameMoves.{KeepsLiveClient, FrameTaken, taken_live, taken_ended}
 
 -- the requester after it
 abbrev pub after_hello : RequesterState → List ℕ → RequesterState
@@ -69,7 +69,7 @@ unfolding with_peer_hello
 hello_reason s frame reason lives is =
     (subst (λ (e : Option End). IfSome e (IsFrameEnd (HelloFrom Responder) s.place)) (ap (λ (r : Result Hello ℕ). (with_peer_hello (next_frame s frame) r s).ended) is) (frames_end_for_these s (HelloFrom Responder) frame lives)).1.1
 
-pub hello_taken : (opened : LinkParameters) (r : RequesterState) (k : ClientState) (count : ℕ) (frame : List ℕ) → KeepsClient opened r k count → count < (next_frame r.side frame).end → r.side.place ≡ 0 →
+pub hello_taken : (opened : LinkParameters) (r : RequesterState) (k : ClientState) (count : ℕ) (frame : List ℕ) → KeepsLiveClient opened r k count → count < (next_frame r.side frame).end → r.side.place ≡ 0 →
     FrameTaken opened r k (next_frame r.side frame) (after_hello r frame)
 unfolding with_peer_hello client_end client_output client_state_after with_end
 hello_taken opened r k count frame keeps lt first = by (hello_of Responder frame) refl
