@@ -11,7 +11,7 @@ ghost use Rattle.nr_link.specs.declared.end.End.TheVariants as ends;
 ghost use Rattle.nr_link.specs.Limits.{send_max, open_reads_max};
 ghost use Rattle.nr_endpoint.specs.declared.fault.ReadRefused.TheVariants as refusals;
 ghost use Rattle.nr_endpoint.specs.declared.fault.DrainFault.TheVariants as drains;
-ghost use Rattle.nr_endpoint.specs.SendQueue.{writable};
+ghost use Rattle.nr_endpoint.specs.SendQueue.{writable, output_len};
 ghost use Rattle.nr_endpoint.specs.Calls.{after_call, IsStopReason, StandsOn};
 ghost use Rattle.nr_endpoint.specs.Calls.Call.{NextEvent, Post, Stop, OutOfMemory, Send, WriteRemote, ReadRemote, Drain, Register, Release};
 ghost use Rattle.nr_endpoint.specs.EndpointState.{bytes_kept};
@@ -335,6 +335,13 @@ impl Endpoint {
         ensures { result ≡ length self.now.link.state.send_queue.send_ends }
     {
         self.link.send_queue.sends_waiting()
+    }
+
+    /// How many bytes of output wait.
+    pub fn output_len(&self) -> u128
+        ensures { result ≡ output_len self.now.link.state.send_queue }
+    {
+        self.link.send_queue.len()
     }
 
     /// Why the side takes no more input, once it has ended.

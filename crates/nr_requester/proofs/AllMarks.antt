@@ -1,5 +1,5 @@
 -- What a requester stands for, mark by mark: its client and its answers.
-use Rattle.std.proofs.Common.{◌≡◌, ℕ, ◌+◌, ◌<◌, Bool, true, false, cond, eqb, List, [], ◌∷◌, ◌++◌, length, take, map, None, refl, sym, ap, subst, ◌∙◌, arith, append-nil}
+use Rattle.std.proofs.Common.{◌≡◌, ℕ, ◌+◌, ◌<◌, Bool, true, false, cond, eqb, List, [], ◌∷◌, ◌++◌, ◌&&◌, length, take, map, None, refl, sym, ap, subst, ◌∙◌, arith, append-nil}
 use Rattle.std.specs.List.{AllByRecursion, Contains, find}
 use Rattle.std.proofs.lemmas.List.Elements.{Contains-push}
 use Rattle.nr_wire.specs.declared.hello.Side.TheVariants.{Initiator}
@@ -24,17 +24,20 @@ use Rattle.nr_reduce.specs.Standing.{ClientRepresents, ClientRunsOut}
 use Rattle.nr_reduce.proofs.Steps.{client_one, end_state_after_append}
 use Rattle.nr_reduce.proofs.Standing.{itself, received_one, client_stays_out_lem}
 use Rattle.nr_requester.specs.declared.answer.AnsweredCall.{AnsweredCall}
-use Rattle.nr_requester.specs.RequesterState.{StoredCall, RequesterState, RequesterSide, kept_call, kept_client, queue_of, input_kept}
-use Rattle.nr_requester.specs.KeptAnswers.{is_due, client_by, KeepsAnswers}
+use Rattle.nr_requester.specs.RequesterState.{StoredCall, RequesterState, RequesterFeeding, RequesterSide, feeding_of, kept_call, kept_client, queue_of, input_kept}
+use Rattle.nr_requester.specs.KeptAnswers.{is_due, client_by, StillHolds, KeepsAnswers}
 use Rattle.nr_requester.specs.Standing.{KeepsClient, AnswersAfter, RequesterRepresents, RequesterRunsOut}
 use Rattle.nr_requester.specs.AfterCalls.{opened_as, stored_call, after_submit, after_drain, after_revoke, revoked_if, forgotten_if, forgotten_call, after_forget}
-use Rattle.nr_requester.specs.AfterPiece.{after_piece, RanOut}
+use Rattle.nr_requester.specs.AfterPiece.{after_piece, after_fed, RanOut}
+use Rattle.nr_requester.specs.CountedMarks.{has_bytes, is_counted, marks_of, counted_marks, marks_if}
 use Rattle.nr_requester.specs.Laws.{Begins, SubmitIsAMark, DrainIsAMark, PieceRunsOut, RevokeIsAMark, RevokeStaysOut, ForgetIsAMark, DoneIsAMark, OthersLeaveIt, OthersStayOut}
 use Rattle.nr_requester.proofs.CallRegions.{SubmitNothing, Offers, none_if, submit_offers}
 use Rattle.nr_requester.proofs.Marks.{lives_as, own_events, drain_stands, drain_stays_out, revoke_stands, revoke_stays_out_lem, others_leave_client, begins_client}
 use Rattle.nr_requester.proofs.Accepting.{submit_client}
-use Rattle.nr_requester.proofs.AnswerSteps.{all_as, all_append, AreNoFrames, IsQuiet, back_more, asked_more, some_asked, quiet_more, quiet_mark, quiet_outcomes, by_events, due_same, forgets, revokes, GivesUp, given_state, given_mark, forget_gives, revoke_gives, done_gives}
+use Rattle.nr_requester.proofs.AnswerSteps.{all_as, all_append, AreNoFrames, IsQuiet, Still, back_more, asked_more, some_asked, quiet_more, quiet_mark, quiet_outcomes, by_events, due_same, forgets, revokes, GivesUp, given_state, given_mark, forget_gives, revoke_gives, done_gives}
 use Rattle.nr_requester.proofs.Fed.{fed_client, fed_answers}
+use Rattle.nr_requester.proofs.CountedMarks.{counted_more, same_count, own_bytes, others_uncounted}
+use Rattle.nr_requester.proofs.AnsweredRegions.{submit_still}
 use Rattle.nr_requester.proofs.Tickets.{submit_stays, submit_own}
 
 no_frames_if : (b : Bool) (es : List RunEvent) → AreNoFrames es → AreNoFrames (if_own b es)
@@ -44,10 +47,11 @@ no_frames_if false es h = tt
 -- ---- As it is opened
 
 pub begins : Begins
-unfolding opened_as events completed_calls accepted_calls
-begins opened link = record {
+unfolding opened_as events completed_calls accepted_calls marks_of
+begins opened link staging = record {
   keeps = begins_client opened link;
-  answers = record { outcomes = refl; hands_back = tt; calls = tt; awaited = tt; submitted = tt; tickets = tt; to_come = λ xid le. refl; regions = record { before = tt; calls = tt } };
+  answers = record { outcomes = refl; hands_back = tt; holds = tt; calls = tt; awaited = tt; submitted = tt; tickets = tt; to_come = λ xid le. refl; regions = record { before = tt; calls = tt } };
+  counted = refl;
 }
 
 -- ---- An accepted call
@@ -71,6 +75,8 @@ submit_answers opened link h run call form plan s k =
     let next : KeepsAnswers opened (es ++ event ∷ []) due2 (asked ++ a ∷ []) (after_submit h call plan).state = record {
       outcomes = k.outcomes ∙ (λ i. Rattle.std.specs.List.filter (λ (x : Rattle.nr_reduce.specs.History.CompletedCall). sym (same x.xid) i) (sym outs i));
       hands_back = all_as h.state.answered (back_more opened es (event ∷ [])) k.hands_back;
+      holds = all_as h.state.answered (λ (x : AnsweredCall) g. subst (λ (d : EndState ClientState). StillHolds (next_xid opened d.state) d.state x) (sym (end_state_after_append (client_rules opened) (initial_client opened) es (event ∷ [])))
+          (submit_still opened e.state e.ended (length (bytes_received link Initiator run)) a x xid_is g)) k.holds;
       calls = all_as h.state.answered (λ (x : AnsweredCall) g. asked_more asked (a ∷ []) x.xid x.call g) k.calls;
       awaited = all_append _ h.state.outstanding (c ∷ []) (all_as h.state.outstanding (λ (x : StoredCall) g. g ∙ sym (same x.xid)) k.awaited) (sym (same h.state.next_xid ∙ k.to_come h.state.next_xid (omega arith)), tt);
       submitted = all_append _ h.state.outstanding (c ∷ []) (all_as h.state.outstanding (λ (x : StoredCall) g. some_asked asked (a ∷ []) x.xid x.call g) k.submitted) ((form, Contains-push asked a), tt);
@@ -87,12 +93,25 @@ pub submit_is_a_mark : SubmitIsAMark
 submit_is_a_mark h call form plan none number is opened link run s = record {
   keeps = submit_client opened link h run call form plan none is s.keeps;
   answers = submit_answers opened link h run call form plan s.keeps s.answers;
+  counted = counted_more link run (marks.Submit link call form (submissions.Accepted h.state.next_xid)) h.marks true (itself link) s.counted;
 }
 
 -- ---- A drain
 
 wrote_quiet : (link : ℕ) (run : List Mark) (bytes : List ℕ) → IsQuiet link run (marks.Wrote link Initiator bytes)
 wrote_quiet link run bytes = (no_frames_if _ (QueueWritten (length bytes) ∷ []) (tt, tt), none_if _ (QueueWritten (length bytes) ∷ []) (tt, tt))
+
+wrote_own : (link : ℕ) (bytes : List ℕ) → is_counted link (marks.Wrote link Initiator bytes) ≡ has_bytes bytes
+wrote_own link bytes = ap (λ (b : Bool). b && has_bytes bytes) (itself link)
+
+drain_marks : (h : RequesterSide) (n : ℕ) → (after_drain n h).marks ≡ marks_if (has_bytes (take n (queue_of h.state))) h.marks
+unfolding after_drain
+drain_marks h n = refl
+
+drain_counted : (h : RequesterSide) (n link : ℕ) (run : List Mark) → h.marks ≡ counted_marks link run → (after_drain n h).marks ≡ counted_marks link (run ++ marks.Wrote link Initiator (take n (queue_of h.state)) ∷ [])
+drain_counted h n link run is =
+    let bytes : List ℕ = take n (queue_of h.state) in
+    drain_marks h n ∙ counted_more link run (marks.Wrote link Initiator bytes) h.marks (has_bytes bytes) (wrote_own link bytes) is
 
 record DrainLeaves (h : RequesterSide) (n : ℕ) : Type 0 where
   pub answered : (after_drain n h).state.answered ≡ h.state.answered
@@ -127,18 +146,19 @@ drain_out opened link h stopped run n out =
       same = client_next opened link run mark (QueueWritten (length bytes)) (own_events link (QueueWritten (length bytes) ∷ []))
           ∙ ap (λ (e : EndState ClientState). next_end_state (client_rules opened) e (QueueWritten (length bytes))) out.same;
       answers = drain_answers opened link h run n bytes out.answers;
+      counted = drain_counted h n link run out.counted;
     }
 
 pub drain_is_a_mark : DrainIsAMark
 drain_is_a_mark h n le fits = (
-  λ opened link run s. record { keeps = drain_stands h n le fits opened link run s.keeps; answers = drain_answers opened link h run n (take n (queue_of h.state)) s.answers },
+  λ opened link run s. record { keeps = drain_stands h n le fits opened link run s.keeps; answers = drain_answers opened link h run n (take n (queue_of h.state)) s.answers; counted = drain_counted h n link run s.counted },
   λ opened link stopped run out. drain_out opened link h stopped run n out,
 )
 
 -- ---- Out of memory
 
 -- what it keeps of its client, but for why it ended
-kept_out : (before after : RequesterSide) → before.state.side.ended ≡ None → RanOut before after → kept_client before.state ≡ record (kept_client after.state) { ended = None }
+kept_out : (before after : RequesterFeeding) → before.state.side.ended ≡ None → RanOut before after → kept_client before.state ≡ record (kept_client after.state) { ended = None }
 kept_out before after lives out =
     (λ i. record (kept_client before.state) { ended = lives i; memory = sym out.memory i })
     ∙ (λ i. record (kept_client (sym out.same i)) { ended = None; memory = after.state.side.memory })
@@ -147,22 +167,22 @@ same_answers : (opened : LinkParameters) (es : List RunEvent) (due : ℕ → Boo
 same_answers opened es due asked r r2 k answered outstanding next =
     subst (λ (xs : List RunEvent). KeepsAnswers opened xs due asked r2) (append-nil es)
     (subst (λ (xs : List AcceptedCall). KeepsAnswers opened (es ++ []) due xs r2) (append-nil asked)
-    (quiet_more opened es [] due due asked [] r r2 k (ap (λ (xs : List RunEvent). (client_by opened xs).state.outcomes) (append-nil es)) (subst (λ (xs : List RunEvent). Offers opened (client_by opened xs).state) (sym (append-nil es)) k.regions)
+    (quiet_more opened es [] due due asked [] r r2 k (λ a g. subst (λ (xs : List RunEvent). Still opened xs a) (sym (append-nil es)) g) (ap (λ (xs : List RunEvent). (client_by opened xs).state.outcomes) (append-nil es)) (subst (λ (xs : List RunEvent). Offers opened (client_by opened xs).state) (sym (append-nil es)) k.regions)
     (λ x. refl) answered outstanding (omega (arith, next)) refl))
 
 pub piece_runs_out : PieceRunsOut
-piece_runs_out h after piece lives out opened link run s =
+piece_runs_out h after piece lives out more opened link run s =
     let mark : Mark = marks.Fed link Initiator piece in
     let all : List Mark = run ++ mark ∷ [] in
-    let before : RequesterSide = after_piece h piece in
-    let c : KeepsClient opened link before all = fed_client opened link h run piece s.keeps in
-    let k : AnswersAfter opened link before all = fed_answers opened link h run piece s.keeps s.answers in
+    let before : RequesterSide = after_fed h piece h.staging in
+    let c : KeepsClient opened link before all = fed_client opened link h run piece h.staging s.keeps in
+    let k : AnswersAfter opened link before all = fed_answers opened link h run piece h.staging s.keeps s.answers in
     let is_live : (client opened link all).ended ≡ None = sym c.kept.keeps.ended ∙ lives in
     let queued : bytes_sent link Initiator all ++ queue_of after.state ≡ output_due opened link Initiator all = (λ i. bytes_sent link Initiator all ++ writable (out.hello i) (out.queue i)) ∙ c.kept.output in
     record {
       out = record {
         ended = out.ended;
-        keeps = subst (λ (x : KeptClient). ClientKeeps opened x (client opened link all) (length (bytes_received link Initiator all))) (kept_out before after lives out) c.kept.keeps;
+        keeps = subst (λ (x : KeptClient). ClientKeeps opened x (client opened link all) (length (bytes_received link Initiator all))) (kept_out (feeding_of before) (feeding_of after) lives out) c.kept.keeps;
         queued = ([], append-nil (output_due opened link Initiator all) ∙ sym queued);
         output = ([], append-nil (bytes_sent link Initiator all ++ queue_of after.state) ∙ queued);
       };
@@ -171,6 +191,7 @@ piece_runs_out h after piece lives out opened link run s =
       same = lives_as (client opened link all) is_live;
       answers = same_answers opened (events link Initiator all) (is_due link all) (accepted_calls link all) before.state after.state k
           (ap (λ (r : RequesterState). r.answered) out.same) (ap (λ (r : RequesterState). r.outstanding) out.same) (ap (λ (r : RequesterState). r.next_xid) out.same);
+      counted = more ∙ counted_more link run mark h.marks (has_bytes piece) (own_bytes link piece) s.counted;
     }
 
 -- ---- A revoke
@@ -187,8 +208,16 @@ revoke_answers : (opened : LinkParameters) (link : ℕ) (h : RequesterSide) (run
 revoke_answers opened link h run xid bytes lt k =
     given_mark revoked_if opened link h (after_revoke h xid) run (marks.Revoke link xid bytes) xid revokes (revoke_quiet link run xid bytes) (revoke_gives link xid bytes) lt k (revoke_given h xid)
 
+revoke_counted : (h : RequesterSide) (xid link : ℕ) (run : List Mark) (bytes : List ℕ) → h.marks ≡ counted_marks link run → (after_revoke h xid).marks ≡ counted_marks link (run ++ marks.Revoke link xid bytes ∷ [])
+unfolding after_revoke
+revoke_counted h xid link run bytes is = counted_more link run (marks.Revoke link xid bytes) h.marks true (itself link) is
+
 pub revoke_is_a_mark : RevokeIsAMark
-revoke_is_a_mark h xid bytes lt opened link run s = record { keeps = revoke_stands opened link h run xid bytes s.keeps; answers = revoke_answers opened link h run xid bytes lt s.answers }
+revoke_is_a_mark h xid bytes lt opened link run s = record {
+  keeps = revoke_stands opened link h run xid bytes s.keeps;
+  answers = revoke_answers opened link h run xid bytes lt s.answers;
+  counted = revoke_counted h xid link run bytes s.counted;
+}
 
 pub revoke_stays_out : RevokeStaysOut
 unfolding client_end client_state_after
@@ -210,6 +239,7 @@ revoke_stays_out opened link h stopped run xid bytes lt out =
           ∙ (λ i. next_end_state (client_rules opened) (out.same i) (MemoryRevoked (place i) xid))
           ∙ ap (λ (e : EndState ClientState). live (record e.state { written = out.written })) (sym after);
       answers = revoke_answers opened link h run xid bytes lt out.answers;
+      counted = revoke_counted h xid link run bytes out.counted;
     }
 
 -- ---- An outcome that is handed over or given up
@@ -271,32 +301,42 @@ HasNoEvent link mark = (run : List Mark) → (events_at link Initiator run mark 
 none_quiet : (es : List RunEvent) → es ≡ [] → AreNoFrames es × SubmitNothing es
 none_quiet es none = subst (λ (xs : List RunEvent). AreNoFrames xs × SubmitNothing xs) (sym none) (tt, tt)
 
-out_still : (opened : LinkParameters) (link : ℕ) (h : RequesterSide) (stopped run : List Mark) (mark : Mark) (answers : AnswersAfter opened link h (run ++ mark ∷ [])) → RequesterRunsOut opened link h stopped run →
+out_still : (opened : LinkParameters) (link : ℕ) (h : RequesterSide) (stopped run : List Mark) (mark : Mark) (answers : AnswersAfter opened link h (run ++ mark ∷ [])) → is_counted link mark ≡ false → RequesterRunsOut opened link h stopped run →
     events_at link Initiator run mark ≡ [] → written_at link Initiator mark ≡ [] → fed_at link Initiator mark ≡ [] → RequesterRunsOut opened link h stopped (run ++ mark ∷ [])
-out_still opened link h stopped run mark answers out no_events no_write no_feed = record {
+out_still opened link h stopped run mark answers uncounted out no_events no_write no_feed = record {
   out = client_stays_out_lem opened link (kept_client h.state) (queue_of h.state) (queue_of h.state) stopped run mark out.out (ap (λ (xs : List ℕ). xs ++ queue_of h.state) no_write);
   received = received_same link run mark no_feed ∙ out.received;
   written = out.written;
   same = client_one opened link run mark ∙ ap (λ (es : List RunEvent). end_state_after (client_rules opened) (client opened link run) es) no_events ∙ out.same;
   answers = answers;
+  counted = same_count link run mark h.marks uncounted out.counted;
 }
 
 given_answers : (opened : LinkParameters) (link : ℕ) (h : RequesterSide) (run : List Mark) (mark : Mark) (xid : ℕ) → HasNoEvent link mark → GivesUp link mark xid → xid < h.state.next_xid → AnswersAfter opened link h run → AnswersAfter opened link (after_forget h xid) (run ++ mark ∷ [])
 given_answers opened link h run mark xid none gives lt k =
     given_mark forgotten_if opened link h (after_forget h xid) run mark xid forgets (none_quiet (events_at link Initiator run mark) (none run).0) gives lt k (forget_given h xid)
 
-given_stands : (h : RequesterSide) (mark : ℕ → Mark) (xid : ℕ) → ((link : ℕ) → HasNoEvent link (mark link)) → ((link : ℕ) → GivesUp link (mark link) xid) → xid < h.state.next_xid → (opened : LinkParameters) (link : ℕ) (run : List Mark) → RequesterRepresents opened link h run →
+-- such a mark is counted
+abbrev IsOwn : (ℕ → Mark) → Type 0
+IsOwn mark = (link : ℕ) → is_counted link (mark link) ≡ true
+
+forget_counted : (h : RequesterSide) (xid link : ℕ) (run : List Mark) (mark : Mark) → is_counted link mark ≡ true → h.marks ≡ counted_marks link run → (after_forget h xid).marks ≡ counted_marks link (run ++ mark ∷ [])
+unfolding after_forget
+forget_counted h xid link run mark own is = counted_more link run mark h.marks true own is
+
+given_stands : (h : RequesterSide) (mark : ℕ → Mark) (xid : ℕ) → ((link : ℕ) → HasNoEvent link (mark link)) → ((link : ℕ) → GivesUp link (mark link) xid) → IsOwn mark → xid < h.state.next_xid → (opened : LinkParameters) (link : ℕ) (run : List Mark) → RequesterRepresents opened link h run →
     RequesterRepresents opened link (after_forget h xid) (run ++ mark link ∷ [])
-given_stands h mark xid none gives lt opened link run s =
+given_stands h mark xid none gives own lt opened link run s =
     let n = none link run in
     record {
       keeps = forget_client opened link h (run ++ mark link ∷ []) xid (others_leave_client opened link h run (mark link) s.keeps n.0 n.1.0 n.1.1);
       answers = given_answers opened link h run (mark link) xid (none link) (gives link) lt s.answers;
+      counted = forget_counted h xid link run (mark link) (own link) s.counted;
     }
 
-given_stays_out : (h : RequesterSide) (mark : ℕ → Mark) (xid : ℕ) → ((link : ℕ) → HasNoEvent link (mark link)) → ((link : ℕ) → GivesUp link (mark link) xid) → xid < h.state.next_xid → (opened : LinkParameters) (link : ℕ) (stopped run : List Mark) → RequesterRunsOut opened link h stopped run →
+given_stays_out : (h : RequesterSide) (mark : ℕ → Mark) (xid : ℕ) → ((link : ℕ) → HasNoEvent link (mark link)) → ((link : ℕ) → GivesUp link (mark link) xid) → IsOwn mark → xid < h.state.next_xid → (opened : LinkParameters) (link : ℕ) (stopped run : List Mark) → RequesterRunsOut opened link h stopped run →
     RequesterRunsOut opened link (after_forget h xid) stopped (run ++ mark link ∷ [])
-given_stays_out h mark xid none gives lt opened link stopped run out =
+given_stays_out h mark xid none gives own lt opened link stopped run out =
     let n = none link run in
     record {
       out = forget_out opened link h stopped (run ++ mark link ∷ []) xid
@@ -305,18 +345,19 @@ given_stays_out h mark xid none gives lt opened link stopped run out =
       written = out.written;
       same = client_one opened link run (mark link) ∙ ap (λ (es : List RunEvent). end_state_after (client_rules opened) (client opened link run) es) n.0 ∙ out.same;
       answers = given_answers opened link h run (mark link) xid (none link) (gives link) lt out.answers;
+      counted = forget_counted h xid link run (mark link) (own link) out.counted;
     }
 
 pub forget_is_a_mark : ForgetIsAMark
 forget_is_a_mark h xid lt = (
-  given_stands h (λ link. marks.Forget link xid) xid (λ link run. (refl, (refl, refl))) (λ link. forget_gives link xid) lt,
-  given_stays_out h (λ link. marks.Forget link xid) xid (λ link run. (refl, (refl, refl))) (λ link. forget_gives link xid) lt,
+  given_stands h (λ link. marks.Forget link xid) xid (λ link run. (refl, (refl, refl))) (λ link. forget_gives link xid) itself lt,
+  given_stays_out h (λ link. marks.Forget link xid) xid (λ link run. (refl, (refl, refl))) (λ link. forget_gives link xid) itself lt,
 )
 
 pub done_is_a_mark : DoneIsAMark
 done_is_a_mark h xid outcome lt = (
-  given_stands h (λ link. marks.Done link xid outcome) xid (λ link run. (refl, (refl, refl))) (λ link. done_gives link xid outcome) lt,
-  given_stays_out h (λ link. marks.Done link xid outcome) xid (λ link run. (refl, (refl, refl))) (λ link. done_gives link xid outcome) lt,
+  given_stands h (λ link. marks.Done link xid outcome) xid (λ link run. (refl, (refl, refl))) (λ link. done_gives link xid outcome) itself lt,
+  given_stays_out h (λ link. marks.Done link xid outcome) xid (λ link run. (refl, (refl, refl))) (λ link. done_gives link xid outcome) itself lt,
 )
 
 -- ---- A mark that is no event, and gives up nothing
@@ -325,8 +366,9 @@ pub others_leave_it : OthersLeaveIt
 others_leave_it opened link h run mark s no_events no_write no_feed none = record {
   keeps = others_leave_client opened link h run mark s.keeps no_events no_write no_feed;
   answers = quiet_mark opened link h h run mark (none_quiet (events_at link Initiator run mark) no_events) none s.answers refl refl refl;
+  counted = same_count link run mark h.marks (others_uncounted link run mark no_events no_write no_feed none) s.counted;
 }
 
 pub others_stay_out : OthersStayOut
 others_stay_out opened link h stopped run mark out no_events no_write no_feed none =
-    out_still opened link h stopped run mark (quiet_mark opened link h h run mark (none_quiet (events_at link Initiator run mark) no_events) none out.answers refl refl refl) out no_events no_write no_feed
+    out_still opened link h stopped run mark (quiet_mark opened link h h run mark (none_quiet (events_at link Initiator run mark) no_events) none out.answers refl refl refl) (others_uncounted link run mark no_events no_write no_feed none) out no_events no_write no_feed

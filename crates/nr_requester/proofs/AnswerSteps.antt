@@ -24,12 +24,14 @@ use Rattle.nr_reduce.proofs.Steps.{end_state_after_append, events_one}
 use Rattle.nr_reduce.proofs.Standing.{itself, one_more}
 use Rattle.nr_requester.specs.declared.answer.AnsweredCall.{AnsweredCall}
 use Rattle.nr_requester.specs.RequesterState.{RequesterState, RequesterSide, StoredCall, awaited_call}
-use Rattle.nr_requester.specs.KeptAnswers.{is_due, client_by, completed_of, HandsBack, IsAsked, KeepsAnswers}
+use Rattle.nr_reduce.specs.SubmitAnswer.{next_xid}
+use Rattle.nr_requester.specs.KeptAnswers.{is_due, client_by, completed_of, HandsBack, StillHolds, IsAsked, KeepsAnswers}
 use Rattle.nr_requester.specs.Standing.{AnswersAfter}
 use Rattle.nr_requester.specs.AfterCalls.{without_answer, revoked_if, forgotten_if}
 use Rattle.nr_requester.specs.Laws.{gives_up, GivesUpNothing}
 use Rattle.nr_requester.specs.OpenCalls.{call_with}
-use Rattle.nr_requester.proofs.CallRegions.{SubmitNothing, Offers, all_offer}
+use Rattle.nr_requester.proofs.CallRegions.{SubmitsNothing, SubmitNothing, Offers, all_offer}
+use Rattle.nr_requester.proofs.AnsweredRegions.{IsSilent, AreSilent, silent_still}
 use Rattle.nr_requester.proofs.Tickets.{other_found, others_changed, stored_xid, answer_xid}
 
 -- ---- Lists
@@ -182,14 +184,19 @@ some_asked asked more xid (Some call) h = asked_more asked more xid call h
 none_all : {X : Type 0} (P : X → Type 0) (xs : List X) → xs ≡ [] → AllByRecursion P xs
 none_all P xs none = subst (λ ys. AllByRecursion P ys) (sym none) tt
 
+-- the regions of an answered call hold still, after these events, what its buffers have
+abbrev pub Still : LinkParameters → List RunEvent → AnsweredCall → Type 0
+Still opened es a = StillHolds (next_xid opened (client_by opened es).state) (client_by opened es).state a
+
 -- What a requester keeps of the answers after events that give no outcome.
 pub quiet_more : (opened : LinkParameters) (es more : List RunEvent) (due due2 : ℕ → Bool) (asked added : List AcceptedCall) (r r2 : RequesterState) → KeepsAnswers opened es due asked r →
-    (client_by opened (es ++ more)).state.outcomes ≡ (client_by opened es).state.outcomes → Offers opened (client_by opened (es ++ more)).state → ((xid : ℕ) → due2 xid ≡ due xid) →
+    ((a : AnsweredCall) → Still opened es a → Still opened (es ++ more) a) → (client_by opened (es ++ more)).state.outcomes ≡ (client_by opened es).state.outcomes → Offers opened (client_by opened (es ++ more)).state → ((xid : ℕ) → due2 xid ≡ due xid) →
     r2.answered ≡ r.answered → r2.outstanding ≡ r.outstanding → r.next_xid ≤ r2.next_xid → added ≡ [] → KeepsAnswers opened (es ++ more) due2 (asked ++ added) r2
-quiet_more opened es more due due2 asked added r r2 k outcomes regions same answered outstanding le none = record {
+quiet_more opened es more due due2 asked added r r2 k still outcomes regions same answered outstanding le none = record {
   outcomes = ap (λ (xs : List AnsweredCall). map completed_of xs) answered ∙ k.outcomes ∙ sym (filter_same (λ c. due2 c.xid) (λ c. due c.xid) (client_by opened es).state.outcomes (λ c. same c.xid))
       ∙ ap (λ (cs : List CompletedCall). filter (λ c. due2 c.xid) cs) (sym outcomes);
   hands_back = subst (λ (xs : List AnsweredCall). AllByRecursion (HandsBack opened (es ++ more)) xs) (sym answered) (all_as r.answered (back_more opened es more) k.hands_back);
+  holds = subst (λ (xs : List AnsweredCall). AllByRecursion (Still opened (es ++ more)) xs) (sym answered) (all_as r.answered still k.holds);
   calls = subst (λ (xs : List AnsweredCall). AllByRecursion (λ (a : AnsweredCall). IsAsked (asked ++ added) a.xid a.call) xs) (sym answered) (all_as r.answered (λ a h. asked_more asked added a.xid a.call h) k.calls);
   awaited = subst (λ (xs : List StoredCall). AllByRecursion (λ (c : StoredCall). is_some (awaited_call c) ≡ due2 c.xid) xs) (sym outstanding) (all_as r.outstanding (λ c h. h ∙ sym (same c.xid)) k.awaited);
   submitted = subst (λ (xs : List StoredCall). AllByRecursion (λ (c : StoredCall). IfSome c.call (IsAsked (asked ++ added) c.xid)) xs) (sym outstanding) (all_as r.outstanding (λ c h. some_asked asked added c.xid c.call h) k.submitted);
@@ -223,6 +230,22 @@ quiet_outcomes opened es more none =
 quiet_regions : (opened : LinkParameters) (es more : List RunEvent) → SubmitNothing more → Offers opened (client_by opened es).state → Offers opened (client_by opened (es ++ more)).state
 quiet_regions opened es more none h =
     subst (λ (e : EndState ClientState). Offers opened e.state) (sym (end_state_after_append (client_rules opened) (initial_client opened) es more)) (all_offer opened (client_by opened es) more none h)
+
+are_silent : (es : List RunEvent) → AreNoFrames es → SubmitNothing es → AreSilent es
+are_silent [] frames submits = tt
+are_silent (event ∷ es) frames submits = (by event frames.0 submits.0, are_silent es frames.1 submits.1)
+  where
+    by : (event : RunEvent) → IsNoFrame event → SubmitsNothing event → IsSilent event
+    by (FrameReceived f) frame submit = absurd frame
+    by (CallSubmitted place a) frame submit = absurd submit
+    by (MemoryRevoked place xid) frame submit = tt
+    by (CallExecuted call) frame submit = tt
+    by (QueueWritten taken) frame submit = tt
+
+quiet_still : (opened : LinkParameters) (es more : List RunEvent) → AreNoFrames more → SubmitNothing more → (a : AnsweredCall) → Still opened es a → Still opened (es ++ more) a
+quiet_still opened es more frames submits a h =
+    subst (λ (e : EndState ClientState). StillHolds (next_xid opened e.state) e.state a) (sym (end_state_after_append (client_rules opened) (initial_client opened) es more))
+    (silent_still opened (client_by opened es) more a (are_silent more frames submits) h)
 
 none_else : (b : Bool) → ◌≡◌ {A = List AcceptedCall} (cond b [] []) []
 none_else true = refl
@@ -258,6 +281,7 @@ pub quiet_mark : (opened : LinkParameters) (link : ℕ) (h h2 : RequesterSide) (
 quiet_mark opened link h h2 run mark quiet none k answered outstanding next =
     by_events opened link run mark h2.state
     (quiet_more opened (events link Initiator run) (events_at link Initiator run mark) (is_due link run) (is_due link (run ++ mark ∷ [])) (accepted_calls link run) (accepted_at link mark) h.state h2.state k
+    (quiet_still opened (events link Initiator run) (events_at link Initiator run mark) quiet.0 quiet.1)
     (quiet_outcomes opened (events link Initiator run) (events_at link Initiator run mark) quiet.0) (quiet_regions opened (events link Initiator run) (events_at link Initiator run mark) quiet.1 k.regions)
     (due_same link run mark none) answered outstanding (omega (arith, next)) (none_accepted link run mark quiet.1))
 
@@ -354,6 +378,8 @@ given_mark given_if opened link h h2 run mark xid g quiet gives lt k is =
           ∙ ap (λ (cs : List CompletedCall). filter (λ c. due2 c.xid) cs) (sym (quiet_outcomes opened es more quiet.0));
       hands_back = subst (λ (xs : List AnsweredCall). AllByRecursion (HandsBack opened (es ++ more)) xs) (sym is.0)
           (all_filter _ (λ (a : AnsweredCall). not (eqb a.xid xid)) h.state.answered (all_as h.state.answered (back_more opened es more) k.hands_back));
+      holds = subst (λ (xs : List AnsweredCall). AllByRecursion (Still opened (es ++ more)) xs) (sym is.0)
+          (all_filter _ (λ (a : AnsweredCall). not (eqb a.xid xid)) h.state.answered (all_as h.state.answered (quiet_still opened es more quiet.0 quiet.1) k.holds));
       calls = subst (λ (xs : List AnsweredCall). AllByRecursion (λ (a : AnsweredCall). IsAsked (asked ++ added) a.xid a.call) xs) (sym is.0)
           (all_filter _ (λ (a : AnsweredCall). not (eqb a.xid xid)) h.state.answered (all_as h.state.answered (λ a x. asked_more asked added a.xid a.call x) k.calls));
       awaited = subst (λ (xs : List StoredCall). AllByRecursion (λ (c : StoredCall). is_some (awaited_call c) ≡ due2 c.xid) xs) (sym is.1.0) (given_awaited given_if xid due due2 h.state.outstanding g less k.awaited);

@@ -30,16 +30,18 @@ use Rattle.nr_reduce.specs.StandingLaws.{GoesByInput}
 use Rattle.nr_reduce.proofs.Standing.{itself, client_stands, client_by_input_lem, events_input}
 use Rattle.nr_reduce.proofs.Steps.{ended_stays}
 use Rattle.nr_link.specs.Frames.{frames_completed}
-use Rattle.nr_requester.specs.RequesterState.{RequesterState, RequesterSide, queue_of, kept_client, input_kept}
+use Rattle.nr_requester.specs.RequesterState.{RequesterState, RequesterFeeding, RequesterSide, feeding_of, queue_of, kept_client, input_kept}
 use Rattle.nr_requester.specs.Standing.{LinkKeeps, KeepsClient, AnswersAfter}
 use Rattle.nr_requester.specs.KeptAnswers.{is_due, client_by, KeepsAnswers}
-use Rattle.nr_requester.specs.AfterPiece.{requester_ended, after_frame, after_piece}
+use Rattle.nr_requester.specs.AfterPiece.{requester_ended, after_frame, after_piece, after_fed}
 use Rattle.nr_requester.specs.Laws.{PieceIsAMark}
 use Rattle.nr_requester.proofs.Marks.{state_of, lives_as, due_is, own_events}
 use Rattle.nr_requester.proofs.FrameMoves.{KeepsLiveClient, KeptEnd}
 use Rattle.nr_requester.proofs.CallRegions.{none_if, none_in_frames}
 use Rattle.nr_requester.proofs.AnswerSteps.{due_same, by_events}
 use Rattle.nr_requester.proofs.FrameAnswers.{ended_answers}
+use Rattle.nr_requester.specs.CountedMarks.{has_bytes}
+use Rattle.nr_requester.proofs.CountedMarks.{counted_more, own_bytes}
 use Rattle.nr_requester.proofs.Feeding.{IsAwaited, IsBeyond, Along, frames_along, frame_some, keeps_later}
 
 -- ---- The frames of a piece
@@ -72,7 +74,7 @@ piece_beyond a rest piece place s part h = by s.frames h
     by (f ∷ frames) g = (let lt = frame_longer a rest piece f (concat frames ++ s.rest) part g.each.0 (g.whole ∙ append_assoc f (concat frames) s.rest) in omega (arith, lt))
 
 -- one that has ended takes nothing more
-fed_ended : (h : RequesterSide) (piece : List ℕ) → requester_ended h.state ≡ true → (after_piece h piece).state ≡ h.state
+fed_ended : (h : RequesterFeeding) (piece : List ℕ) → requester_ended h.state ≡ true → (after_piece h piece).state ≡ h.state
 unfolding after_piece feeding_after
 fed_ended h piece e = by (split h.awaited (h.rest ++ piece)).frames
   where
@@ -90,7 +92,7 @@ client_is opened link run = refl
 
 -- ---- A piece
 
-module _ (opened : LinkParameters) (link : ℕ) (h : RequesterSide) (run : List Mark) (piece : List ℕ) (s : KeepsClient opened link h run) where
+module _ (opened : LinkParameters) (link : ℕ) (h : RequesterSide) (run : List Mark) (piece staging : List ℕ) (s : KeepsClient opened link h run) where
   abbrev pub stream : List ℕ
   stream = bytes_received link Initiator run
 
@@ -101,7 +103,7 @@ module _ (opened : LinkParameters) (link : ℕ) (h : RequesterSide) (run : List 
   input = input_kept h
 
   abbrev pub after : RequesterSide
-  after = after_piece h piece
+  after = after_fed h piece staging
 
   fed_is : fed_at link Initiator mark ≡ piece
   fed_is = ap (λ (b : Bool). cond (b && true) piece []) (itself link)
@@ -138,7 +140,7 @@ module _ (opened : LinkParameters) (link : ℕ) (h : RequesterSide) (run : List 
       let part : IsPartial input.awaited input.rest = subst (λ (i : InputState). IsPartial i.awaited i.rest) (sym is) (split_Splits (HelloFrom Responder) stream).partial in
       let at : input_count input ≡ count = ap input_count is ∙ input_of_count Responder stream in
       let beyond : IsBeyond (input_count input) input.place frames rest = piece_beyond input.awaited input.rest piece input.place (input_split input piece) part all in
-      let a : Along opened h.state (live k) input.place frames rest input.awaited after =
+      let a : Along opened h.state (live k) input.place frames rest input.awaited (after_piece (feeding_of h) piece) =
       frames_along opened frames rest input.awaited h.state k count kept
       (subst (λ (i : InputState). IsAwaited i.awaited i.place) (sym is) (input_awaited stream)) all.each
       (subst (λ (n : ℕ). IsBeyond n input.place frames rest) at beyond) in
@@ -165,7 +167,7 @@ module _ (opened : LinkParameters) (link : ℕ) (h : RequesterSide) (run : List 
       let es = input_events link Initiator input mark in
       let e_is : client opened link run ≡ record { state = k; ended = Some end } = ap (λ (x : Option End). record { state = k; ended = x }) ends in
       let stays = ended_stays (client_rules opened) k end es in
-      let same : after.state ≡ h.state = fed_ended h piece (ap (λ (x : Option End). is_some x) (s.kept.keeps.ended ∙ ends)) in
+      let same : after.state ≡ h.state = fed_ended (feeding_of h) piece (ap (λ (x : Option End). is_some x) (s.kept.keeps.ended ∙ ends)) in
       let later : length stream ≤ length stream + length (fed_at link Initiator mark) = omega arith in
       let here : KeptEnd opened h.state (record { state = k; ended = Some end }) (length stream) = record {
         client = subst (λ (e : EndState ClientState). ClientKeeps opened (kept_client h.state) e (length stream)) e_is s.kept.keeps;
@@ -211,13 +213,17 @@ module _ (opened : LinkParameters) (link : ℕ) (h : RequesterSide) (run : List 
       }
 
 -- its answers
-pub fed_answers : (opened : LinkParameters) (link : ℕ) (h : RequesterSide) (run : List Mark) (piece : List ℕ) → KeepsClient opened link h run → AnswersAfter opened link h run → AnswersAfter opened link (after_piece h piece) (run ++ marks.Fed link Initiator piece ∷ [])
-fed_answers opened link h run piece s k =
+pub fed_answers : (opened : LinkParameters) (link : ℕ) (h : RequesterSide) (run : List Mark) (piece staging : List ℕ) → KeepsClient opened link h run → AnswersAfter opened link h run → AnswersAfter opened link (after_fed h piece staging) (run ++ marks.Fed link Initiator piece ∷ [])
+fed_answers opened link h run piece staging s k =
     let m : Mark = marks.Fed link Initiator piece in
-    by_events opened link run m (after_piece h piece).state
-    (subst (λ (xs : List AcceptedCall). KeepsAnswers opened (events link Initiator run ++ events_at link Initiator run m) (is_due link (run ++ m ∷ [])) xs (after_piece h piece).state) (sym (append-nil (accepted_calls link run)))
-    ((goes opened link h run piece s).answers (is_due link (run ++ m ∷ [])) (accepted_calls link run)
+    by_events opened link run m (after_fed h piece staging).state
+    (subst (λ (xs : List AcceptedCall). KeepsAnswers opened (events link Initiator run ++ events_at link Initiator run m) (is_due link (run ++ m ∷ [])) xs (after_fed h piece staging).state) (sym (append-nil (accepted_calls link run)))
+    ((goes opened link h run piece staging s).answers (is_due link (run ++ m ∷ [])) (accepted_calls link run)
     (subst (λ (due : ℕ → Bool). KeepsAnswers opened (events link Initiator run) due (accepted_calls link run) h.state) (λ i xid. sym (due_same link run m (λ x. refl) xid) i) k)))
 
 pub piece_is_a_mark : PieceIsAMark
-piece_is_a_mark h piece opened link run s = record { keeps = fed_client opened link h run piece s.keeps; answers = fed_answers opened link h run piece s.keeps s.answers }
+piece_is_a_mark h piece staging opened link run s = record {
+  keeps = fed_client opened link h run piece staging s.keeps;
+  answers = fed_answers opened link h run piece staging s.keeps s.answers;
+  counted = counted_more link run (marks.Fed link Initiator piece) h.marks (has_bytes piece) (own_bytes link piece) s.counted;
+}

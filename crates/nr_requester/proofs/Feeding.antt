@@ -122,11 +122,11 @@ none_along opened r k count rest a keeps le = record {
 
 -- the rest of the frames, once the first was taken
 then_along : (opened : LinkParameters) (r r1 : RequesterState) (k : ClientState) (count : ℕ) (a : Awaited) (frame : List ℕ) (frames : List (List ℕ)) (rest : List ℕ) (after : Feeding RequesterState) → r.side.ended ≡ None →
-    KeepsLiveClient opened r k count → count ≤ r.side.place + length frame → FrameTaken opened r k (next_frame r.side frame) r1 →
+    KeepsLiveClient opened r k count → count < r.side.place + length frame → FrameTaken opened r k (next_frame r.side frame) r1 →
     queue_of r1 ≡ queue_of r ++ output_for (client_rules opened) (live k) (FrameReceived (next_frame r.side frame)) →
     Along opened r1 (next_end_state (client_rules opened) (live k) (FrameReceived (next_frame r.side frame))) (r.side.place + length frame) frames rest Fpdu after →
     Along opened r (live k) r.side.place (frame ∷ frames) rest a after
-then_along opened r r1 k count a frame frames rest after lives keeps le taken queue h =
+then_along opened r r1 k count a frame frames rest after lives keeps lt taken queue h =
     let all : length (concat (frame ∷ frames)) ≡ length frame + length (concat frames) = length-append frame (concat frames) in
     record {
       keeps = subst (λ (n : ℕ). KeptEnd opened after.state (end_state_after (client_rules opened) (live k) (map FrameReceived (frames_from r.side.place (frame ∷ frames)))) n)
@@ -140,7 +140,7 @@ then_along opened r r1 k count a frame frames rest after lives keeps le taken qu
       place_is = λ e. h.place_is e ∙ omega (arith, all);
       answers = λ past due asked is g.
           let f : Frame = next_frame r.side frame in
-          let next : KeepsAnswers opened (past ++ FrameReceived f ∷ []) due asked r1 = frame_answers opened r r1 k count f past due asked is keeps le taken g in
+          let next : KeepsAnswers opened (past ++ FrameReceived f ∷ []) due asked r1 = frame_answers opened r r1 k count f past due asked is keeps lt taken g in
           let more : next_end_state (client_rules opened) (live k) (FrameReceived f) ≡ client_by opened (past ++ FrameReceived f ∷ []) = one_more_event opened (live k) f past is in
           subst (λ (es : List RunEvent). KeepsAnswers opened es due asked after.state) (append_assoc past (FrameReceived f ∷ []) (map FrameReceived (frames_from (r.side.place + length frame) frames)))
           (h.answers (past ++ FrameReceived f ∷ []) due asked more next);
@@ -169,7 +169,7 @@ frames_along opened [] rest a r k count keeps is each beyond = none_along opened
 frames_along opened (frame ∷ frames) rest a r k count keeps is each beyond =
     let t : FrameTaken opened r k f r1 = next_awaited opened r k count a frame keeps is beyond in
     subst (λ (b : Bool). Along opened r (live k) r.side.place (frame ∷ frames) rest a (cond b (feeding_in requester_ended after_frame a [] r) (feeding_after_frames requester_ended after_frame frames rest Fpdu r1))) (sym going)
-    (then_along opened r r1 k count a frame frames rest (feeding_after_frames requester_ended after_frame frames rest Fpdu r1) keeps.client.ended keeps (let lt = beyond in omega (arith, lt)) t t.queue
+    (then_along opened r r1 k count a frame frames rest (feeding_after_frames requester_ended after_frame frames rest Fpdu r1) keeps.client.ended keeps beyond t t.queue
     (by e1.ended refl t.keeps t.place (λ (k1 : ClientState) (kept : KeepsLiveClient opened r1 k1 f.end) (at : r1.side.place ≡ f.end).
     subst (λ (n : ℕ). Along opened r1 (live k1) n frames rest Fpdu (feeding_after_frames requester_ended after_frame frames rest Fpdu r1)) at
     (frames_along opened frames rest Fpdu r1 k1 f.end kept (let some = frame_some a frame each.0 in omega (arith, at, some)) each.1 (later_beyond frames r1.side.place f.end at each.1)))))

@@ -1,5 +1,5 @@
 -- A frame of the server's stream: the answers that a requester keeps after it.
-use Rattle.std.proofs.Common.{◌≡◌, ℕ, ◌≤◌, inl, inr, Bool, true, false, cond, not, eqb, List, [], ◌∷◌, ◌++◌, map, Option, None, Some, refl, sym, ap, subst, ◌∙◌, arith, append-nil}
+use Rattle.std.proofs.Common.{◌≡◌, ℕ, ◌<◌, ◌≤◌, inl, inr, Bool, true, false, cond, not, eqb, List, [], ◌∷◌, ◌++◌, map, Option, None, Some, refl, sym, ap, subst, ◌∙◌, arith, append-nil}
 use Rattle.std.specs.Prelude.{is_some, IfSome}
 use Rattle.std.specs.List.{AllByRecursion, filter, find}
 use Rattle.std.proofs.lemmas.List.{map-append}
@@ -22,17 +22,19 @@ use Rattle.nr_reduce.specs.ClientMessages.{reply_verdict}
 use Rattle.nr_reduce.specs.ClientMessages.ReplyVerdict.{GivesOutcome}
 use Rattle.nr_reduce.specs.Client.{client_rules, initial_client, outcomes_of}
 use Rattle.nr_reduce.specs.SubmitAnswer.{next_xid}
-use Rattle.nr_reduce.specs.KeptClient.{ClientKeeps, bytes_under, HoldsFor}
+use Rattle.nr_reduce.specs.KeptClient.{ClientKeeps, bytes_under, HoldsFor, AreRising}
+use Rattle.nr_reduce.specs.OfferedMemory.{AreOffered}
 use Rattle.nr_reduce.proofs.Releasing.{kept_stays}
 use Rattle.nr_reduce.proofs.Steps.{end_state_after_append, ended_stays}
 use Rattle.nr_requester.specs.declared.answer.AnsweredCall.{AnsweredCall}
 use Rattle.nr_requester.specs.RequesterState.{RequesterState, StoredCall, awaited_call, stag_of, stags_of, kept_call, kept_client}
 use Rattle.nr_requester.specs.CallRegions.{OffersPlan}
-use Rattle.nr_requester.specs.KeptAnswers.{client_by, completed_of, one_buffer, buffers_in, region_contents, HandsBack, IsAsked, KeepsAnswers}
+use Rattle.nr_requester.specs.KeptAnswers.{client_by, completed_of, one_buffer, buffers_in, region_contents, HandsBack, StillHolds, IsAsked, KeepsAnswers}
 use Rattle.nr_requester.specs.AfterPiece.{buffer_under, buffers_under, answered_as, answer_to, call_of}
 use Rattle.nr_requester.proofs.CallRegions.{SubmitNothing, Offers, all_offer}
 use Rattle.nr_requester.proofs.FoundCalls.{found_one, found_xid, stags_in_state, IsOfCall, verdict_call}
-use Rattle.nr_requester.proofs.AnswerSteps.{all_as, all_append, all_filter, filter_append, back_more, quiet_more}
+use Rattle.nr_requester.proofs.AnswerSteps.{all_as, all_append, all_filter, filter_append, back_more, Still, quiet_more}
+use Rattle.nr_requester.proofs.AnsweredRegions.{frame_still, completed_still}
 use Rattle.nr_requester.specs.OpenCalls.{call_with}
 use Rattle.nr_requester.proofs.Tickets.{moved_open, due_calls, gives_some}
 use Rattle.nr_requester.proofs.FrameMoves.{KeepsLiveClient, Quiet, Completes, Moves, FrameTaken}
@@ -86,6 +88,11 @@ buffers_held opened r k next count place xid d keeps le offers found has =
     ∙ ap (λ (ss : List ℕ). map (λ s. client_memory_at k place s) ss) (stags_in_state k next r.first_xid r.sent xid d r.outstanding k.outstanding offers (keeps.calls refl).kept found has)
     ∙ by_regions (λ s. client_memory_at k place s) (filter (λ (g : Region). eqb g.call xid) k.regions)
 
+-- each call has an xid below the next one
+below_next : (next first sent : ℕ) (cs : List StoredCall) → AreRising (map (kept_call first sent) cs) next → AllByRecursion (λ (c : StoredCall). c.xid < next) cs
+below_next next first sent [] h = tt
+below_next next first sent (c ∷ cs) h = (h.0, below_next next first sent cs h.1.1)
+
 -- ---- A message that completes its call
 
 some_call : (b : Bool) (call : Call) (o : Option Call) → cond b None o ≡ Some call → o ≡ Some call
@@ -95,7 +102,7 @@ some_call false call o e = e
 if_call : (P : Call → Type 0) (o : Option Call) (call : Call) → IfSome o P → o ≡ Some call → P call
 if_call P o call h e = (let g : IfSome (Some call) P = subst (λ (x : Option Call). IfSome x P) e h in g)
 
-module _ (opened : LinkParameters) (r after : RequesterState) (k : ClientState) (count : ℕ) (f : Frame) (past : List RunEvent) (due : ℕ → Bool) (asked : List AcceptedCall) (is : live k ≡ client_by opened past) (keeps : KeepsLiveClient opened r k count) (le : count ≤ f.end) (h : KeepsAnswers opened past due asked r) where
+module _ (opened : LinkParameters) (r after : RequesterState) (k : ClientState) (count : ℕ) (f : Frame) (past : List RunEvent) (due : ℕ → Bool) (asked : List AcceptedCall) (is : live k ≡ client_by opened past) (keeps : KeepsLiveClient opened r k count) (lt : count < f.end) (h : KeepsAnswers opened past due asked r) where
   abbrev es : List RunEvent
   es = past ++ FrameReceived f ∷ []
 
@@ -105,13 +112,24 @@ module _ (opened : LinkParameters) (r after : RequesterState) (k : ClientState) 
   state_is : k ≡ (client_by opened past).state
   state_is = ap (λ (e : EndState ClientState). e.state) is
 
+  le : count ≤ f.end
+  le = omega (arith, lt)
+
+  offered : AreOffered count k.regions
+  offered = (keeps.client.memory refl).offered
+
+  still : (a : AnsweredCall) → Still opened past a → Still opened es a
+  still a g =
+      subst (λ (e : EndState ClientState). StillHolds (next_xid opened e.state) e.state a) next_is
+      (frame_still opened k count f offered lt a (subst (λ (x : ClientState). StillHolds (next_xid opened x) x a) (sym state_is) g))
+
   regions_next : Offers opened (client_by opened es).state
   regions_next = regions_more opened past (FrameReceived f ∷ []) (tt, tt) h.regions
 
   left_as : Quiet r after k (next_end_state (client_rules opened) (live k) (FrameReceived f)).state → after.next_xid ≡ r.next_xid → KeepsAnswers opened es due asked after
   left_as q next =
       same_asked opened es due asked after
-      (quiet_more opened past (FrameReceived f ∷ []) due due asked [] r after h
+      (quiet_more opened past (FrameReceived f ∷ []) due due asked [] r after h still
       (ap (λ (e : EndState ClientState). e.state.outcomes) (sym next_is) ∙ q.outcomes ∙ ap (λ (e : EndState ClientState). e.state.outcomes) is)
       regions_next (λ x. refl) q.answered q.outstanding (omega (arith, next)) refl)
 
@@ -122,6 +140,8 @@ module _ (opened : LinkParameters) (r after : RequesterState) (k : ClientState) 
         ∙ ap (λ (cs : List CompletedCall). filter (λ (x : CompletedCall). due x.xid) cs) (sym outs);
     hands_back = subst (λ (xs : List AnsweredCall). AllByRecursion (HandsBack opened es) xs) (sym answered)
         (all_append _ r.answered (answered_as r.side.memory d o c.outcome) (all_as r.answered (back_more opened past (FrameReceived f ∷ [])) h.hands_back) (back o refl c.outcome refl));
+    holds = subst (λ (xs : List AnsweredCall). AllByRecursion (Still opened es) xs) (sym answered)
+        (all_append _ r.answered (answered_as r.side.memory d o c.outcome) (all_as r.answered still h.holds) (holds_now o refl c.outcome));
     calls = subst (λ (xs : List AnsweredCall). AllByRecursion (λ (a : AnsweredCall). IsAsked asked a.xid a.call) xs) (sym answered) (all_append _ r.answered (answered_as r.side.memory d o c.outcome) h.calls (own o refl c.outcome));
     awaited = subst (λ (xs : List StoredCall). AllByRecursion (λ (x : StoredCall). is_some (awaited_call x) ≡ due x.xid) xs) (sym c.outstanding) (all_filter _ (λ (x : StoredCall). not (eqb x.xid xid)) r.outstanding h.awaited);
     submitted = subst (λ (xs : List StoredCall). AllByRecursion (λ (x : StoredCall). IfSome x.call (IsAsked asked x.xid)) xs) (sym c.outstanding) (all_filter _ (λ (x : StoredCall). not (eqb x.xid xid)) r.outstanding h.submitted);
@@ -175,6 +195,25 @@ module _ (opened : LinkParameters) (r after : RequesterState) (k : ClientState) 
         tt,
       )
 
+      held_now : is_some d.call ≡ true → buffers_in (buffers_under r.side.memory d.claims) ≡ region_contents k f.end d.xid
+      held_now has =
+          buffers_held opened r k (next_xid opened (client_by opened past).state) count f.end xid d keeps.client le (subst (λ (x : ClientState). AllByRecursion (OffersPlan (next_xid opened (client_by opened past).state) x.regions) x.outstanding) (sym state_is) h.regions.calls) of.found has
+          ∙ (λ i. region_contents k f.end (sym (found_xid xid d r.outstanding of.found) i))
+
+      below : d.xid < next_xid opened k
+      below = (let lower = found_one (λ (x : StoredCall). x.xid < r.next_xid) xid d r.outstanding (below_next r.next_xid r.first_xid r.sent r.outstanding keeps.client.rising) of.found in let own = keeps.client.xid in omega (arith, lower, own))
+
+      holds_now : (p : Option Call) → o ≡ p → (outcome : Option Outcome) → AllByRecursion (Still opened es) (answered_as r.side.memory d p outcome)
+      holds_now None e outcome = tt
+      holds_now (Some call) e None = tt
+      holds_now (Some call) e (Some outcome) =
+          let a : AnsweredCall = record { xid = d.xid; call = call; buffers = buffers_under r.side.memory d.claims; outcome = outcome } in (
+            subst (λ (x : EndState ClientState). StillHolds (next_xid opened x.state) x.state a) next_is
+                (completed_still opened k count f c.segment c.message a offered keeps.client.accesses below (found_xid xid d r.outstanding of.found) c.stays c.after_hello c.is_segment c.completes
+                (held_now (ap (λ (x : Option Call). is_some x) (some_call d.is_forgotten call d.call e)))),
+            tt,
+          )
+
       back : (p : Option Call) → o ≡ p → (outcome : Option Outcome) → c.outcome ≡ outcome → AllByRecursion (HandsBack opened es) (answered_as r.side.memory d p outcome)
       back None e outcome g = tt
       back (Some call) e None g = tt
@@ -191,21 +230,19 @@ module _ (opened : LinkParameters) (r after : RequesterState) (k : ClientState) 
           is_segment = c.is_segment;
           completes = ap (λ (x : ClientState). message_completed x.received c.segment) (sym state_is) ∙ c.completes;
           verdict = ap (λ (x : ClientState). reply_verdict x f.end c.message) (sym state_is) ∙ c.judged_alike ∙ (λ i. GivesOutcome (sym d_xid i) (g i));
-          held = buffers_held opened r k (next_xid opened (client_by opened past).state) count f.end xid d keeps.client le (subst (λ (x : ClientState). AllByRecursion (OffersPlan (next_xid opened (client_by opened past).state) x.regions) x.outstanding) (sym state_is) h.regions.calls) of.found
-              (ap (λ (x : Option Call). is_some x) (some_call d.is_forgotten call d.call e))
-              ∙ (λ i. region_contents (state_is i) f.end (sym (found_xid xid d r.outstanding of.found) i));
+          held = held_now (ap (λ (x : Option Call). is_some x) (some_call d.is_forgotten call d.call e)) ∙ (λ i. region_contents (state_is i) f.end d.xid);
         },
         tt,
       )
 
 -- after a frame
-pub frame_answers : (opened : LinkParameters) (r after : RequesterState) (k : ClientState) (count : ℕ) (f : Frame) (past : List RunEvent) (due : ℕ → Bool) (asked : List AcceptedCall) → live k ≡ client_by opened past → KeepsLiveClient opened r k count → count ≤ f.end →
+pub frame_answers : (opened : LinkParameters) (r after : RequesterState) (k : ClientState) (count : ℕ) (f : Frame) (past : List RunEvent) (due : ℕ → Bool) (asked : List AcceptedCall) → live k ≡ client_by opened past → KeepsLiveClient opened r k count → count < f.end →
     FrameTaken opened r k f after → KeepsAnswers opened past due asked r → KeepsAnswers opened (past ++ FrameReceived f ∷ []) due asked after
-frame_answers opened r after k count f past due asked is keeps le t h = by t.moves
+frame_answers opened r after k count f past due asked is keeps lt t h = by t.moves
   where
     by : Moves opened r after k (next_end_state (client_rules opened) (live k) (FrameReceived f)).state f → KeepsAnswers opened (past ++ FrameReceived f ∷ []) due asked after
-    by (inl q) = left_as opened r after k count f past due asked is keeps le h q t.next_xid
-    by (inr c) = completed opened r after k count f past due asked is keeps le h c t.next_xid
+    by (inl q) = left_as opened r after k count f past due asked is keeps lt h q t.next_xid
+    by (inr c) = completed opened r after k count f past due asked is keeps lt h c t.next_xid
 
 -- one that has ended takes nothing more
 pub ended_answers : (opened : LinkParameters) (r : RequesterState) (k : ClientState) (end : End) (past more : List RunEvent) (due : ℕ → Bool) (asked : List AcceptedCall) → SubmitNothing more → record { state = k; ended = Some end } ≡ client_by opened past →
@@ -214,4 +251,4 @@ ended_answers opened r k end past more due asked none is h =
     let same : client_by opened (past ++ more) ≡ client_by opened past =
     end_state_after_append (client_rules opened) (initial_client opened) past more ∙ ap (λ (e : EndState ClientState). end_state_after (client_rules opened) e more) (sym is) ∙ (ended_stays (client_rules opened) k end more).0 ∙ is in
     same_asked opened (past ++ more) due asked r
-    (quiet_more opened past more due due asked [] r r h (ap (λ (e : EndState ClientState). e.state.outcomes) same) (regions_more opened past more none h.regions) (λ x. refl) refl refl (omega arith) refl)
+    (quiet_more opened past more due due asked [] r r h (λ a g. subst (λ (e : EndState ClientState). StillHolds (next_xid opened e.state) e.state a) (sym same) g) (ap (λ (e : EndState ClientState). e.state.outcomes) same) (regions_more opened past more none h.regions) (λ x. refl) refl refl (omega arith) refl)

@@ -16,7 +16,8 @@ use Rattle.nr_requester.specs.Buffers.{with_memory}
 use Rattle.nr_requester.specs.HeldClaims.{call_claims, all_claims, AreHeldFrom, OffersOwn}
 use Rattle.nr_requester.specs.OpenCalls.{open_call, call_with, buffers_with, buffers_of}
 use Rattle.nr_requester.specs.Standing.{RequesterRepresents, RequesterRunsOut, StandsOn, StaysOut, StopsRevoked}
-use Rattle.nr_requester.specs.Views.{HasRoom, RequesterInvariant, IsAnswered, AreRising, stored_view, given_up, forgot, requester_view}
+use Rattle.nr_requester.specs.Views.{HasRoom, RequesterInvariant, IsAnswered, AreRising, stored_view, given_up, forgot, requester_view, side_view}
+use Rattle.nr_requester.specs.CountedMarks.{one_mark_more}
 use Rattle.nr_requester.specs.HeldBytes.{NothingOutside, LinkFits, RegionsHave, CountsFit, claims_len, claims_total, CallFits, AnswerFits, RequesterBounds}
 use Rattle.nr_requester.proofs.Releases.{all_released, held_middle, stags_are_of}
 use Rattle.nr_requester.proofs.RegionBounds.{released_both}
@@ -199,62 +200,63 @@ taken_within e first next xid calls answers answers2 w are =
 -- ---- As contracts see it
 
 -- an outstanding call is revoked,
-pub given_up_view : (link link2 : LinkSide) (sent wished first next grant xid n : ℕ) (calls calls2 : List OutstandingCall) (answers : List AnsweredCall) (d : OutstandingCall) → AreRising calls next → AllByRecursion (IsAnswered next calls) answers → n < length calls → (get_or calls n d).xid ≡ xid →
-    link2 ≡ with_memory (released_all link.state.memory (stags_of (get_or calls n d).claims)) link → calls2 ≡ set calls n (given_up (get_or calls n d)) →
-    requester_view link2 sent wished first next grant calls2 answers ≡ after_revoke (requester_view link sent wished first next grant calls answers) xid
+pub given_up_view : (link link2 : LinkSide) (sent wished first next grant xid n : ℕ) (calls calls2 : List OutstandingCall) (answers : List AnsweredCall) (d : OutstandingCall) (staging staging2 : List ℕ) (marks marks2 : ℕ) → AreRising calls next → AllByRecursion (IsAnswered next calls) answers → n < length calls → (get_or calls n d).xid ≡ xid →
+    link2 ≡ with_memory (released_all link.state.memory (stags_of (get_or calls n d).claims)) link → calls2 ≡ set calls n (given_up (get_or calls n d)) → staging2 ≡ staging → marks2 ≡ one_mark_more marks →
+    side_view staging2 marks2 (requester_view link2 sent wished first next grant calls2 answers) ≡ after_revoke (side_view staging marks (requester_view link sent wished first next grant calls answers)) xid
 unfolding after_revoke
-given_up_view link link2 sent wished first next grant xid n calls calls2 answers d rise apart lt own link_is are =
+given_up_view link link2 sent wished first next grant xid n calls calls2 answers d staging staging2 marks marks2 rise apart lt own link_is are stages counts =
     let c : OutstandingCall = get_or calls n d in
     let found = found_at next xid n calls d rise lt own in
     let none : answers ≡ without_answer xid answers = sym (none_taken xid answers (subst (λ (x : ℕ). AllByRecursion (λ (a : AnsweredCall). a.xid ≢ x) answers) own (others_answered next n calls d answers lt apart))) in
     let out : map stored_view calls2 ≡ map (changed_by revoked_if xid) (map stored_view calls) = ap (map stored_view) are ∙ one_changed revoked_if revoke_leaves next xid n calls (given_up c) d refl rise lt own in
-    (λ i. record (requester_view (link_is i) sent wished first next grant calls answers) {
+    (λ i. side_view (stages i) (counts i) (record (requester_view (link_is i) sent wished first next grant calls answers) {
       state = record (requester_view (link_is i) sent wished first next grant calls answers).state { outstanding = out i; answered = none i };
-    })
-    ∙ (λ i. record (requester_view link sent wished first next grant calls answers) {
+    }))
+    ∙ (λ i. side_view staging (one_mark_more marks) (record (requester_view link sent wished first next grant calls answers) {
       state = record (requester_view link sent wished first next grant calls answers).state {
         side = record link.state { memory = released_all link.state.memory (stags_in (sym found i)) };
         outstanding = map (changed_by revoked_if xid) (map stored_view calls);
         answered = without_answer xid answers;
       };
-    })
+    }))
 
 -- and one that was answered;
-pub revoked_view : (link : LinkSide) (sent wished first next grant xid : ℕ) (calls : List OutstandingCall) (answers answers2 : List AnsweredCall) → ((k : ℕ) (d : OutstandingCall) → k < length calls → (get_or calls k d).xid ≢ xid) → answers2 ≡ without_answer xid answers →
-    requester_view link sent wished first next grant calls answers2 ≡ after_revoke (requester_view link sent wished first next grant calls answers) xid
+pub revoked_view : (link : LinkSide) (sent wished first next grant xid : ℕ) (calls : List OutstandingCall) (answers answers2 : List AnsweredCall) (staging : List ℕ) (marks marks2 : ℕ) → ((k : ℕ) (d : OutstandingCall) → k < length calls → (get_or calls k d).xid ≢ xid) → answers2 ≡ without_answer xid answers → marks2 ≡ one_mark_more marks →
+    side_view staging marks2 (requester_view link sent wished first next grant calls answers2) ≡ after_revoke (side_view staging marks (requester_view link sent wished first next grant calls answers)) xid
 unfolding after_revoke
-revoked_view link sent wished first next grant xid calls answers answers2 none are =
+revoked_view link sent wished first next grant xid calls answers answers2 staging marks marks2 none are counts =
     let no_stags = ap stags_in (none_found xid calls none) in
     let out : map stored_view calls ≡ map (changed_by revoked_if xid) (map stored_view calls) = sym (none_changed revoked_if revoke_leaves xid calls none) in
-    λ i. record (requester_view link sent wished first next grant calls answers) {
+    λ i. side_view staging (counts i) (record (requester_view link sent wished first next grant calls answers) {
       state = record (requester_view link sent wished first next grant calls answers).state {
         side = record link.state { memory = released_all link.state.memory (sym no_stags i) };
         outstanding = out i;
         answered = are i;
       };
-    }
+    })
 
 -- an outstanding call is forgotten,
-pub forgot_view : (link : LinkSide) (sent wished first next grant xid n : ℕ) (calls calls2 : List OutstandingCall) (answers : List AnsweredCall) (d : OutstandingCall) → AreRising calls next → AllByRecursion (IsAnswered next calls) answers → n < length calls → (get_or calls n d).xid ≡ xid →
-    calls2 ≡ set calls n (forgot (get_or calls n d)) → requester_view link sent wished first next grant calls2 answers ≡ after_forget (requester_view link sent wished first next grant calls answers) xid
+pub forgot_view : (link : LinkSide) (sent wished first next grant xid n : ℕ) (calls calls2 : List OutstandingCall) (answers : List AnsweredCall) (d : OutstandingCall) (staging : List ℕ) (marks marks2 : ℕ) → AreRising calls next → AllByRecursion (IsAnswered next calls) answers → n < length calls → (get_or calls n d).xid ≡ xid →
+    calls2 ≡ set calls n (forgot (get_or calls n d)) → marks2 ≡ one_mark_more marks →
+    side_view staging marks2 (requester_view link sent wished first next grant calls2 answers) ≡ after_forget (side_view staging marks (requester_view link sent wished first next grant calls answers)) xid
 unfolding after_forget
-forgot_view link sent wished first next grant xid n calls calls2 answers d rise apart lt own are =
+forgot_view link sent wished first next grant xid n calls calls2 answers d staging marks marks2 rise apart lt own are counts =
     let c : OutstandingCall = get_or calls n d in
     let none : answers ≡ without_answer xid answers = sym (none_taken xid answers (subst (λ (x : ℕ). AllByRecursion (λ (a : AnsweredCall). a.xid ≢ x) answers) own (others_answered next n calls d answers lt apart))) in
     let out : map stored_view calls2 ≡ map (changed_by forgotten_if xid) (map stored_view calls) = ap (map stored_view) are ∙ one_changed forgotten_if forget_leaves next xid n calls (forgot c) d refl rise lt own in
-    λ i. record (requester_view link sent wished first next grant calls answers) {
+    λ i. side_view staging (counts i) (record (requester_view link sent wished first next grant calls answers) {
       state = record (requester_view link sent wished first next grant calls answers).state { outstanding = out i; answered = none i };
-    }
+    })
 
 -- and an answer is taken
-pub taken_view : (link : LinkSide) (sent wished first next grant xid : ℕ) (calls : List OutstandingCall) (answers answers2 : List AnsweredCall) → ((k : ℕ) (d : OutstandingCall) → k < length calls → (get_or calls k d).xid ≢ xid) → answers2 ≡ without_answer xid answers →
-    requester_view link sent wished first next grant calls answers2 ≡ after_forget (requester_view link sent wished first next grant calls answers) xid
+pub taken_view : (link : LinkSide) (sent wished first next grant xid : ℕ) (calls : List OutstandingCall) (answers answers2 : List AnsweredCall) (staging : List ℕ) (marks marks2 : ℕ) → ((k : ℕ) (d : OutstandingCall) → k < length calls → (get_or calls k d).xid ≢ xid) → answers2 ≡ without_answer xid answers → marks2 ≡ one_mark_more marks →
+    side_view staging marks2 (requester_view link sent wished first next grant calls answers2) ≡ after_forget (side_view staging marks (requester_view link sent wished first next grant calls answers)) xid
 unfolding after_forget
-taken_view link sent wished first next grant xid calls answers answers2 none are =
+taken_view link sent wished first next grant xid calls answers answers2 staging marks marks2 none are counts =
     let out : map stored_view calls ≡ map (changed_by forgotten_if xid) (map stored_view calls) = sym (none_changed forgotten_if forget_leaves xid calls none) in
-    λ i. record (requester_view link sent wished first next grant calls answers) {
+    λ i. side_view staging (counts i) (record (requester_view link sent wished first next grant calls answers) {
       state = record (requester_view link sent wished first next grant calls answers).state { outstanding = out i; answered = are i };
-    }
+    })
 
 -- ---- What is handed back
 

@@ -3,6 +3,8 @@ pub mod Queues
 pub mod Links
 pub mod KeptCalls
 pub mod Marks
+pub mod CountedMarks
+pub mod AnsweredRegions
 pub mod Accepting
 pub mod Answered
 pub mod Sized

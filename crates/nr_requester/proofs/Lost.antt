@@ -1,5 +1,5 @@
 -- A call is lost: its link ended, no message of it came, and it is handed back.
-use Rattle.std.proofs.Common.{◌≡◌, ℕ, List, length, Option, None, Some, refl, sym, ap, subst, ◌∙◌}
+use Rattle.std.proofs.Common.{◌≡◌, ℕ, true, List, [], ◌∷◌, ◌++◌, length, Option, None, Some, refl, sym, ap, subst, ◌∙◌}
 use Rattle.nr_wire.specs.declared.hello.Side.TheVariants.{Initiator}
 use Rattle.nr_link.specs.declared.end.End.{End}
 use Rattle.nr_reduce.specs.declared.mark.LinkParameters.{LinkParameters}
@@ -22,6 +22,9 @@ use Rattle.nr_requester.specs.Takes.{LostIsAMark}
 use Rattle.nr_requester.proofs.AnswerSteps.{revokes, given_state, given_mark, lost_gives}
 use Rattle.nr_requester.proofs.KeptCalls.{kept_after_revoke}
 use Rattle.nr_requester.proofs.Marks.{others_leave_client}
+use Rattle.nr_reduce.proofs.Standing.{itself}
+use Rattle.nr_requester.specs.CountedMarks.{counted_marks}
+use Rattle.nr_requester.proofs.CountedMarks.{counted_more}
 
 ended_state : (opened : LinkParameters) (e : EndState ClientState) (event : RunEvent) (end : End) → e.ended ≡ Some end → next_end_state (client_rules opened) e event ≡ e
 ended_state opened e event end is =
@@ -55,8 +58,13 @@ lost_given : (h : RequesterSide) (xid : ℕ) → given_state revoked_if xid h.st
 unfolding after_revoke
 lost_given h xid = (refl, (refl, refl))
 
+lost_counted : (h : RequesterSide) (xid link : ℕ) (run : List Mark) → h.marks ≡ counted_marks link run → (after_revoke h xid).marks ≡ counted_marks link (run ++ marks.Lost link xid ∷ [])
+unfolding after_revoke
+lost_counted h xid link run is = counted_more link run (marks.Lost link xid) h.marks true (itself link) is
+
 pub lost_is_a_mark : LostIsAMark
 lost_is_a_mark h xid end is lt opened link run s = record {
   keeps = others_leave_client opened link (after_revoke h xid) run (marks.Lost link xid) (lost_client opened link h run xid end is s.keeps) refl refl refl;
   answers = given_mark revoked_if opened link h (after_revoke h xid) run (marks.Lost link xid) xid revokes (tt, tt) (lost_gives link xid) lt s.answers (lost_given h xid);
+  counted = lost_counted h xid link run s.counted;
 }

@@ -62,7 +62,7 @@ none_of a = None
 abbrev some_of : AnsweredCall → Option AnsweredCall
 some_of a = Some a
 
-answer_one : (P : AnsweredCall → Type 0) (xid : ℕ) (a : AnsweredCall) (answers : List AnsweredCall) → AllByRecursion P answers → find (λ (b : AnsweredCall). eqb b.xid xid) answers ≡ Some a → P a
+pub answer_one : (P : AnsweredCall → Type 0) (xid : ℕ) (a : AnsweredCall) (answers : List AnsweredCall) → AllByRecursion P answers → find (λ (b : AnsweredCall). eqb b.xid xid) answers ≡ Some a → P a
 answer_one P xid a [] h there = absurd (let wrong : none_of a ≡ some_of a = there in cc)
 answer_one P xid a (b ∷ answers) h there = by (eqb b.xid xid) (λ e. answer_one P xid a answers h.1 e) there
   where

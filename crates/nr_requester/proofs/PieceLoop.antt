@@ -26,11 +26,11 @@ use Rattle.nr_reduce.specs.KeptClient.{bytes_under}
 use Rattle.nr_reduce.specs.declared.mark.LinkParameters.{LinkParameters}
 use Rattle.nr_reduce.specs.declared.mark.Mark.{Mark}
 use Rattle.nr_reduce.specs.declared.mark.Mark.TheVariants as marks
-use Rattle.nr_requester.specs.RequesterState.{RequesterState, RequesterSide, kept_calls}
+use Rattle.nr_requester.specs.RequesterState.{RequesterState, RequesterFeeding, kept_calls}
 use Rattle.nr_requester.specs.OpenCalls.{KeepsTickets}
 use Rattle.nr_requester.specs.Standing.{StandsOn, RequesterRepresents, RequesterRunsOut}
 use Rattle.nr_requester.specs.AfterPiece.{judged, with_deliveries, unless_ended, requester_ended, after_frame, after_piece, RanOut}
-use Rattle.nr_requester.specs.Fed.{one_step, IsStep, QueuesOutput, fed_bytes, RanOutAt}
+use Rattle.nr_requester.specs.Fed.{one_step, IsStep, QueuesOutput, bytes_fed, RanOutAt}
 use Rattle.nr_requester.proofs.Stepping.{link_of, told_of, step_fed, piece_rest}
 use Rattle.nr_requester.proofs.RunOut.{fed_out}
 use Rattle.nr_requester.proofs.Fed.{piece_is_a_mark}
@@ -81,7 +81,7 @@ link_end l piece lives = by (is_whole l.awaited (l.rest ++ piece)) refl
     by true e = λ m. frame_not_memory l.state l.awaited (take (frame_len l.awaited (l.rest ++ piece)) (l.rest ++ piece)) lives (sym (ap (λ (x : LinkSide). x.state.ended) (feeding_after_step-whole has_ended with_frame l piece going e)) ∙ m)
     by false e = λ m. (let wrong : None ≡ Some ends.Memory = sym lives ∙ sym (ap (λ (x : LinkSide). x.state.ended) (feeding_after_step-partial has_ended with_frame l piece going e)) ∙ m in cc)
 
-module _ (h : RequesterSide) (piece : List ℕ) (lives : h.state.side.ended ≡ None) (quiet : h.state.side.receive_queue.deliveries ≡ []) (partial : IsPartial h.awaited h.rest) where
+module _ (h : RequesterFeeding) (piece : List ℕ) (lives : h.state.side.ended ≡ None) (quiet : h.state.side.receive_queue.deliveries ≡ []) (partial : IsPartial h.awaited h.rest) where
   abbrev l : LinkSide
   l = after_call (link_of h) (FeedOne piece)
 
@@ -89,20 +89,20 @@ module _ (h : RequesterSide) (piece : List ℕ) (lives : h.state.side.ended ≡ 
   told = step_fed h piece (λ e. quiet)
 
   pub step_not_memory : (one_step h piece).state.side.ended ≢ Some ends.Memory
-  step_not_memory = λ m. told_end h.state l.state l.state.ended refl (link_end (link_of h) piece lives) (sym (ap (λ (x : RequesterSide). x.state.side.ended) told) ∙ m)
+  step_not_memory = λ m. told_end h.state l.state l.state.ended refl (link_end (link_of h) piece lives) (sym (ap (λ (x : RequesterFeeding). x.state.side.ended) told) ∙ m)
 
-  pub step_within : fed_bytes (one_step h piece) ≤ fed_bytes h + length piece
+  pub step_within : bytes_fed (one_step h piece) ≤ bytes_fed h + length piece
   step_within =
-      let place : (one_step h piece).state.side.place ≡ l.state.place = ap (λ (x : RequesterSide). x.state.side.place) told ∙ told_place h.state l.state l.state.ended in
-      let rest : length (one_step h piece).rest ≡ length l.rest = ap (λ (x : RequesterSide). length x.rest) told in
+      let place : (one_step h piece).state.side.place ≡ l.state.place = ap (λ (x : RequesterFeeding). x.state.side.place) told ∙ told_place h.state l.state l.state.ended in
+      let rest : length (one_step h piece).rest ≡ length l.rest = ap (λ (x : RequesterFeeding). length x.rest) told in
       let most = fed_one_within (link_of h) piece in
       omega (arith, place, rest, most)
 
-  pub step_bytes : (one_step h piece).state.side.ended ≡ None → fed_bytes (one_step h piece) ≤ fed_bytes h + bytes_taken h.awaited h.rest piece
+  pub step_bytes : (one_step h piece).state.side.ended ≡ None → bytes_fed (one_step h piece) ≤ bytes_fed h + bytes_taken h.awaited h.rest piece
   step_bytes none =
-      let live_link : l.state.ended ≡ None = live_told h.state l.state l.state.ended refl (sym (ap (λ (x : RequesterSide). x.state.side.ended) told) ∙ none) in
-      let place : (one_step h piece).state.side.place ≡ l.state.place = ap (λ (x : RequesterSide). x.state.side.place) told ∙ told_place h.state l.state l.state.ended in
-      let rest : length (one_step h piece).rest ≡ length l.rest = ap (λ (x : RequesterSide). length x.rest) told in
+      let live_link : l.state.ended ≡ None = live_told h.state l.state l.state.ended refl (sym (ap (λ (x : RequesterFeeding). x.state.side.ended) told) ∙ none) in
+      let place : (one_step h piece).state.side.place ≡ l.state.place = ap (λ (x : RequesterFeeding). x.state.side.place) told ∙ told_place h.state l.state l.state.ended in
+      let rest : length (one_step h piece).rest ≡ length l.rest = ap (λ (x : RequesterFeeding). length x.rest) told in
       elim (cases_lt (bytes_taken h.awaited h.rest piece) (length piece)) [
         | inl lt ↦
             let b : IsBehindFrame (link_of h) l piece = behind (link_of h) l piece lives partial refl lt in
@@ -123,25 +123,25 @@ module _ (h : RequesterSide) (piece : List ℕ) (lives : h.state.side.ended ≡ 
   -- all of the piece, once it ended the side
   pub step_all : (end : End) → (one_step h piece).state.side.ended ≡ Some end → (one_step h piece).rest ≡ [] → one_step h piece ≡ after_piece h piece
   step_all end e none =
-      let after : RequesterSide = told_of h.state l in
-      let ended : requester_ended after.state ≡ true = ap (λ (x : RequesterSide). is_some x.state.side.ended) (sym told) ∙ ap (λ (x : Option End). is_some x) e in
+      let after : RequesterFeeding = told_of h.state l in
+      let ended : requester_ended after.state ≡ true = ap (λ (x : RequesterFeeding). is_some x.state.side.ended) (sym told) ∙ ap (λ (x : Option End). is_some x) e in
       told
-      ∙ (λ i. record { awaited = after.awaited; rest = (ap (λ (x : RequesterSide). x.rest) (sym told) ∙ none) i; state = after.state })
+      ∙ (λ i. record { awaited = after.awaited; rest = (ap (λ (x : RequesterFeeding). x.rest) (sym told) ∙ none) i; state = after.state })
       ∙ sym (fed_out after (drop (bytes_taken h.awaited h.rest piece) piece) ended)
       ∙ piece_rest h piece partial (λ e. quiet)
 
 -- ---- Step by step
 
 -- how far a piece was taken: its first bytes, by which the side didn't run out of memory; or memory ran out
-pub record FedTo (old : RequesterSide) (piece : List ℕ) (now : RequesterSide) (at : ℕ) : Type 0 where
+pub record FedTo (old : RequesterFeeding) (piece : List ℕ) (now : RequesterFeeding) (at : ℕ) : Type 0 where
   pub within : at ≤ length piece
   pub far : ((now ≡ after_piece old (take at piece)) × (now.state.side.ended ≢ Some ends.Memory)) ⊎ ((n : ℕ) × (RanOutAt old piece n now × (at ≡ length piece)))
   pub goes : at < length piece → now.state.side.ended ≡ None
-  pub fed : at < length piece → fed_bytes now + (length piece - at) ≤ 2 ^ 62
-  pub bytes : fed_bytes now ≤ fed_bytes old + at
+  pub fed : at < length piece → bytes_fed now + (length piece - at) ≤ 2 ^ 62
+  pub bytes : bytes_fed now ≤ bytes_fed old + at
   pub tickets : KeepsTickets old.state now.state
 
-pub fed_none : (old : RequesterSide) (piece : List ℕ) → old.state.side.ended ≡ None → IsPartial old.awaited old.rest → fed_bytes old + length piece ≤ 2 ^ 62 → FedTo old piece old 0
+pub fed_none : (old : RequesterFeeding) (piece : List ℕ) → old.state.side.ended ≡ None → IsPartial old.awaited old.rest → bytes_fed old + length piece ≤ 2 ^ 62 → FedTo old piece old 0
 unfolding after_piece
 fed_none old piece lives partial within = record {
   within = omega arith;
@@ -153,7 +153,7 @@ fed_none old piece lives partial within = record {
 }
 
 -- what a step says
-pub record Stepped (now : RequesterSide) (left : List ℕ) (new : RequesterSide) (count : ℕ) : Type 0 where
+pub record Stepped (now : RequesterFeeding) (left : List ℕ) (new : RequesterFeeding) (count : ℕ) : Type 0 where
   pub step : IsStep now left new
   pub taken : count ≡ cond (is_some new.state.side.ended) (length left) (bytes_taken now.awaited now.rest left)
   pub partial : IsPartial now.awaited now.rest
@@ -161,11 +161,11 @@ pub record Stepped (now : RequesterSide) (left : List ℕ) (new : RequesterSide)
   pub ended : is_some new.state.side.ended ≡ true → new.rest ≡ []
   pub tickets : KeepsTickets now.state new.state
 
-append_pieces : (old : RequesterSide) (x y : List ℕ) → after_piece (after_piece old x) y ≡ after_piece old (x ++ y)
+append_pieces : (old : RequesterFeeding) (x y : List ℕ) → after_piece (after_piece old x) y ≡ after_piece old (x ++ y)
 unfolding after_piece
 append_pieces old x y = feeding_after-append requester_ended after_frame old x y
 
-pub some_step : (old now new : RequesterSide) (piece left : List ℕ) (at count : ℕ) → FedTo old piece now at → at < length piece → left ≡ drop at piece → Stepped now left new count → 0 < count
+pub some_step : (old now new : RequesterFeeding) (piece left : List ℕ) (at count : ℕ) → FedTo old piece now at → at < length piece → left ≡ drop at piece → Stepped now left new count → 0 < count
 some_step old now new piece left at count f lt is s = by new.state.side.ended refl
   where
     some_left : 0 < length left
@@ -175,7 +175,7 @@ some_step old now new piece left at count f lt is s = by new.state.side.ended re
     by None e = (let t = s.taken ∙ ap (λ (x : Option End). cond (is_some x) (length left) (bytes_taken now.awaited now.rest left)) e in let some = some_taken now.awaited now.rest left s.partial some_left in omega (arith, t, some))
     by (Some end) e = (let t = s.taken ∙ ap (λ (x : Option End). cond (is_some x) (length left) (bytes_taken now.awaited now.rest left)) e in omega (arith, t, some_left))
 
-pub fed_on : (old now new : RequesterSide) (piece left : List ℕ) (at count : ℕ) → FedTo old piece now at → at < length piece → left ≡ drop at piece → Stepped now left new count → FedTo old piece new (at + count)
+pub fed_on : (old now new : RequesterFeeding) (piece left : List ℕ) (at count : ℕ) → FedTo old piece now at → at < length piece → left ≡ drop at piece → Stepped now left new count → FedTo old piece new (at + count)
 fed_on old now new piece left at count f lt is s = by_far f.far
   where
     lives : now.state.side.ended ≡ None
@@ -197,20 +197,20 @@ fed_on old now new piece left at count f lt is s = by_far f.far
         on_step same = by_end new.state.side.ended refl
           where
             other : new.state.side.ended ≢ Some ends.Memory
-            other = λ m. step_not_memory now left lives s.quiet s.partial (ap (λ (x : RequesterSide). x.state.side.ended) (sym same) ∙ m)
+            other = λ m. step_not_memory now left lives s.quiet s.partial (ap (λ (x : RequesterFeeding). x.state.side.ended) (sym same) ∙ m)
 
             joined : (x : List ℕ) → after_piece now x ≡ after_piece old (take at piece ++ x)
-            joined x = ap (λ (h : RequesterSide). after_piece h x) on ∙ append_pieces old (take at piece) x
+            joined x = ap (λ (h : RequesterFeeding). after_piece h x) on ∙ append_pieces old (take at piece) x
 
             by_end : (e : Option End) → new.state.side.ended ≡ e → FedTo old piece new (at + count)
             by_end (Some end) e =
                 let t : count ≡ length left = taken_if (Some end) e in
                 let full : at + count ≡ length piece = omega (arith, t, long, lt) in
-                let none : (one_step now left).rest ≡ [] = ap (λ (x : RequesterSide). x.rest) (sym same) ∙ s.ended (ap (λ (x : Option End). is_some x) e) in
+                let none : (one_step now left).rest ≡ [] = ap (λ (x : RequesterFeeding). x.rest) (sym same) ∙ s.ended (ap (λ (x : Option End). is_some x) e) in
                 record {
                   within = omega (arith, full);
                   far = inl (
-                    same ∙ step_all now left lives s.quiet s.partial end (ap (λ (x : RequesterSide). x.state.side.ended) (sym same) ∙ e) none
+                    same ∙ step_all now left lives s.quiet s.partial end (ap (λ (x : RequesterFeeding). x.state.side.ended) (sym same) ∙ e) none
                         ∙ joined left
                         ∙ ap (λ (xs : List ℕ). after_piece old (take at piece ++ xs)) is
                         ∙ ap (after_piece old) (take-append-drop at piece ∙ sym (take_all (at + count) piece (omega (arith, full)))),
@@ -218,13 +218,13 @@ fed_on old now new piece left at count f lt is s = by_far f.far
                   );
                   goes = λ less. absurd (omega (arith, less, full));
                   fed = λ less. absurd (omega (arith, less, full));
-                  bytes = (let w = step_within now left lives s.quiet s.partial in let was = f.bytes in let fed_new : fed_bytes new ≡ fed_bytes (one_step now left) = ap fed_bytes same in omega (arith, w, was, fed_new, t));
+                  bytes = (let w = step_within now left lives s.quiet s.partial in let was = f.bytes in let fed_new : bytes_fed new ≡ bytes_fed (one_step now left) = ap bytes_fed same in omega (arith, w, was, fed_new, t));
                   tickets = λ x. s.tickets x ∙ f.tickets x;
                 }
             by_end None e =
                 let t : count ≡ bytes_taken now.awaited now.rest left = taken_if None e in
-                let bytes = step_bytes now left lives s.quiet s.partial (ap (λ (x : RequesterSide). x.state.side.ended) (sym same) ∙ e) in
-                let fed_new : fed_bytes new ≡ fed_bytes (one_step now left) = ap fed_bytes same in
+                let bytes = step_bytes now left lives s.quiet s.partial (ap (λ (x : RequesterFeeding). x.state.side.ended) (sym same) ∙ e) in
+                let fed_new : bytes_fed new ≡ bytes_fed (one_step now left) = ap bytes_fed same in
                 let was = f.fed lt in
                 record {
                   within = omega (arith, t, most, long, lt);
@@ -253,10 +253,10 @@ fed_on old now new piece left at count f lt is s = by_far f.far
                 (
                   record {
                     within = omega (arith, lt);
-                    live = ap (λ (x : RequesterSide). x.state.side.ended) (sym on) ∙ lives;
-                    out = subst (λ (x : RequesterSide). RanOut x new) on out.out;
+                    live = ap (λ (x : RequesterFeeding). x.state.side.ended) (sym on) ∙ lives;
+                    out = subst (λ (x : RequesterFeeding). RanOut x new) on out.out;
                     whole = (λ i. is_whole (sym on i).awaited ((sym on i).rest ++ sym is i)) ∙ out.whole;
-                    queues = subst (λ (x : RequesterSide). QueuesOutput x (drop at piece)) on (subst (λ (xs : List ℕ). QueuesOutput now xs) is out.queues);
+                    queues = subst (λ (x : RequesterFeeding). QueuesOutput x (drop at piece)) on (subst (λ (xs : List ℕ). QueuesOutput now xs) is out.queues);
                   },
                   full,
                 ),
@@ -273,22 +273,22 @@ fed_on old now new piece left at count f lt is s = by_far f.far
 
 -- ---- At the end of the piece
 
-pub all_fed : (old now : RequesterSide) (piece : List ℕ) (at : ℕ) → FedTo old piece now at → length piece ≤ at → now.state.side.ended ≢ Some ends.Memory → now ≡ after_piece old piece
+pub all_fed : (old now : RequesterFeeding) (piece : List ℕ) (at : ℕ) → FedTo old piece now at → length piece ≤ at → now.state.side.ended ≢ Some ends.Memory → now ≡ after_piece old piece
 all_fed old now piece at f le other = by f.far
   where
     by : ((now ≡ after_piece old (take at piece)) × (now.state.side.ended ≢ Some ends.Memory)) ⊎ ((n : ℕ) × (RanOutAt old piece n now × (at ≡ length piece))) → now ≡ after_piece old piece
     by (inl on) = on.0 ∙ ap (after_piece old) (take_all at piece le)
     by (inr out) = absurd (other out.1.0.out.ended)
 
-pub stands_fed : (old now : RequesterSide) (piece : List ℕ) → now ≡ after_piece old piece → StandsOn old (λ link. marks.Fed link Initiator piece) now
-stands_fed old now piece is opened link run s = subst (λ (h : RequesterSide). RequesterRepresents opened link h (run ++ marks.Fed link Initiator piece ∷ [])) (sym is) (piece_is_a_mark old piece opened link run s)
+pub stands_fed : (old now : RequesterFeeding) (piece : List ℕ) → now ≡ after_piece old piece → StandsOn old (λ link. marks.Fed link Initiator piece) now
+stands_fed old now piece is opened link run s = subst (λ (h : RequesterFeeding). RequesterRepresents opened link h (run ++ marks.Fed link Initiator piece ∷ [])) (sym is) (piece_is_a_mark old piece opened link run s)
 
-abbrev pub FedOut : RequesterSide → List ℕ → RequesterSide → Type 0
+abbrev pub FedOut : RequesterFeeding → List ℕ → RequesterFeeding → Type 0
 FedOut old piece new = (n : ℕ) × (RanOutAt old piece n new
     × ((opened : LinkParameters) (link : ℕ) (run : List Mark) → RequesterRepresents opened link old run →
     RequesterRunsOut opened link new (run ++ marks.Fed link Initiator (take n piece) ∷ []) (run ++ marks.Fed link Initiator (take n piece) ∷ [])))
 
-pub out_fed : (old now : RequesterSide) (piece : List ℕ) (at : ℕ) → FedTo old piece now at → now.state.side.ended ≡ Some ends.Memory → FedOut old piece now
+pub out_fed : (old now : RequesterFeeding) (piece : List ℕ) (at : ℕ) → FedTo old piece now at → now.state.side.ended ≡ Some ends.Memory → FedOut old piece now
 out_fed old now piece at f memory = by f.far
   where
     by : ((now ≡ after_piece old (take at piece)) × (now.state.side.ended ≢ Some ends.Memory)) ⊎ ((n : ℕ) × (RanOutAt old piece n now × (at ≡ length piece))) → FedOut old piece now
@@ -296,5 +296,5 @@ out_fed old now piece at f memory = by f.far
     by (inr out) = (out.0, (out.1.0, λ opened link run s. piece_runs_out old now (take out.0 piece) out.1.0.live out.1.0.out opened link run s))
 
 -- a side that had ended takes nothing
-pub ended_fed : (old : RequesterSide) (piece : List ℕ) → is_some old.state.side.ended ≡ true → old.rest ≡ [] → old ≡ after_piece old piece
+pub ended_fed : (old : RequesterFeeding) (piece : List ℕ) → is_some old.state.side.ended ≡ true → old.rest ≡ [] → old ≡ after_piece old piece
 ended_fed old piece e none = (λ i. record { awaited = old.awaited; rest = none i; state = old.state }) ∙ sym (fed_out old piece e)

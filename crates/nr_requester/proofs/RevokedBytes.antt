@@ -1,18 +1,18 @@
 -- What a revoke hands back: the bytes under the STags of a call are those of the client's regions for it, in their order.
-use Rattle.std.proofs.Common.{◌≡◌, ℕ, Bool, true, false, cond, eqb, List, [], ◌∷◌, ◌++◌, length, map, Option, None, Some, refl, sym, ap, subst, ◌∙◌}
+use Rattle.std.proofs.Common.{◌≡◌, ℕ, Bool, true, false, cond, eqb, List, [], ◌∷◌, ◌++◌, length, map, Option, None, Some, refl, sym, ap, subst, ◌∙◌, append-nil}
 use Rattle.std.specs.Prelude.{is_some, is_none}
 use Rattle.std.proofs.lemmas.Bool.{eqb-true}
-use Rattle.std.specs.List.{AllByRecursion, filter, find, flat_map}
+use Rattle.std.specs.List.{AllByRecursion, filter, find, flat_map, concat}
 use Rattle.nr_wire.specs.declared.hello.Side.TheVariants.{Initiator}
 use Rattle.nr_reduce.specs.declared.mark.LinkParameters.{LinkParameters}
 use Rattle.nr_reduce.specs.declared.mark.Mark.{Mark}
 use Rattle.nr_reduce.specs.declared.mark.Mark.TheVariants as marks
 use Rattle.nr_reduce.specs.OfferedRegions.{Region, region_bytes, region_grants}
-use Rattle.nr_reduce.specs.ClientState.{ClientState, OutstandingCall}
+use Rattle.nr_reduce.specs.ClientState.{ClientState, OutstandingCall, client_memory_at}
 use Rattle.nr_reduce.specs.Run.{client, placed_bytes, grants_of}
 use Rattle.nr_reduce.specs.EndRules.{EndState}
 use Rattle.nr_reduce.specs.SubmitAnswer.{next_xid}
-use Rattle.nr_requester.specs.Standing.{AnswersAfter, RequesterRunsOut}
+use Rattle.nr_requester.specs.Standing.{AnswersAfter, RequesterRepresents, RequesterRunsOut}
 use Rattle.nr_reduce.specs.Matched.{IsPrefixOf}
 use Rattle.nr_reduce.specs.Asked.{AskedMark, IsRevoked, revoked_bytes}
 use Rattle.nr_reduce.specs.Credits.{WithinGrant}
@@ -24,8 +24,16 @@ use Rattle.nr_reduce.proofs.Standing.{AtEachMark_more}
 use Rattle.nr_requester.specs.RequesterState.{StoredCall, RequesterSide, stags_of, kept_call}
 use Rattle.nr_requester.specs.Laws.{HoldsPlaced, BuffersArePlaced, RevokeKeepsLaw, RevokedOut}
 use Rattle.nr_requester.specs.declared.answer.AnsweredCall.{AnsweredCall}
-use Rattle.nr_requester.specs.Buffers.{bytes_of_buffers}
-use Rattle.nr_requester.specs.OpenCalls.{IsOutstanding, buffers_with, buffers_of}
+use Rattle.nr_requester.specs.declared.answer.Buffers.{Buffers}
+use Rattle.nr_requester.specs.Buffers.{buffer_bytes, bytes_of_buffers}
+use Rattle.nr_requester.specs.KeptAnswers.{one_buffer, buffers_in, regions_of}
+use Rattle.nr_requester.proofs.FoundAnswers.{found_own}
+use Rattle.nr_requester.proofs.OpenTickets.{answer_one}
+use Rattle.nr_requester.proofs.AnsweredRegions.{own_of_numbered, still_placed}
+use Rattle.nr_reduce.specs.OfferedMemory.{AreReceived}
+use Rattle.nr_reduce.specs.History.{bytes_received}
+use Rattle.nr_reduce.proofs.OwnStags.{client_known}
+use Rattle.nr_requester.specs.OpenCalls.{IsOutstanding, found_call, found_answer, remains_with, remaining_call, buffers_with, buffers_of}
 use Rattle.nr_requester.proofs.Releases.{joined_buffers}
 use Rattle.nr_requester.specs.CallRegions.{CallsOffer, OffersPlan, call_stags}
 use Rattle.nr_requester.proofs.FoundCalls.{found_one}
@@ -117,8 +125,52 @@ buffers_are opened link h run xid holds offers waits is =
     ∙ joined_buffers h.state.side.memory is.call.claims
     ∙ bytes_are_lem opened link h run xid is.call holds offers waits is.there is.has
 
-pub buffers_are_placed : BuffersArePlaced
+pub buffers_are_placed : (opened : LinkParameters) (link : ℕ) (h : RequesterSide) (run : List Mark) (xid : ℕ) → RequesterRepresents opened link h run → IsOutstanding xid h.state →
+    bytes_of_buffers (buffers_of xid h.state) ≡ revoked_bytes opened link run xid
 buffers_are_placed opened link h run xid s there = buffers_are opened link h run xid (memory_as_client opened link h run s) (offers_after opened link h run s.answers) s.keeps.kept.keeps.waits there
+
+-- ---- Of a call that was answered
+
+joined : (b : Buffers) → concat (buffers_in b) ≡ bytes_of_buffers b
+joined b = one b.read (one_buffer b.write ++ one_buffer b.reply) ∙ ap (λ (xs : List ℕ). buffer_bytes b.read ++ xs) (one b.write (one_buffer b.reply) ∙ ap (λ (xs : List ℕ). buffer_bytes b.write ++ xs) (last b.reply))
+  where
+    one : (o : Option (List ℕ)) (rest : List (List ℕ)) → concat (one_buffer o ++ rest) ≡ buffer_bytes o ++ concat rest
+    one None rest = refl
+    one (Some bytes) rest = refl
+
+    last : (o : Option (List ℕ)) → concat (one_buffer o) ≡ buffer_bytes o
+    last None = refl
+    last (Some bytes) = append-nil bytes
+
+joined_regions : (f : Region → List ℕ) (rs : List Region) → concat (map f rs) ≡ flat_map f rs
+joined_regions f [] = refl
+joined_regions f (r ∷ rs) = ap (λ (xs : List ℕ). f r ++ xs) (joined_regions f rs)
+
+answered_are : (opened : LinkParameters) (link : ℕ) (h : RequesterSide) (run : List Mark) (xid count : ℕ) (a : AnsweredCall) → AnswersAfter opened link h run → AreReceived count (client opened link run).state.accesses_received → found_answer xid h.state ≡ Some a →
+    bytes_of_buffers a.buffers ≡ revoked_bytes opened link run xid
+unfolding client placed_bytes grants_of
+answered_are opened link h run xid count a k received there =
+    let s : ClientState = (client opened link run).state in
+    let place : ℕ = length (bytes_received link Initiator run) in
+    let own : a.xid ≡ xid = found_own xid h.state.answered a there in
+    sym (joined a.buffers)
+    ∙ ap concat (still_placed s place count _ a (own_of_numbered opened.first_stag s.regions (client_known opened link run).regions) received (answer_one _ xid a h.state.answered k.holds there))
+    ∙ joined_regions (λ (r : Region). client_memory_at s place r.stag) (regions_of a.xid s)
+    ∙ ap (λ (x : ℕ). flat_map (λ (r : Region). client_memory_at s place r.stag) (regions_of x s)) own
+
+-- of each call that is left
+left_are : (opened : LinkParameters) (link : ℕ) (h : RequesterSide) (run : List Mark) (xid : ℕ) → (IsOutstanding xid h.state → bytes_of_buffers (buffers_of xid h.state) ≡ revoked_bytes opened link run xid) →
+    ((a : AnsweredCall) → found_answer xid h.state ≡ Some a → bytes_of_buffers a.buffers ≡ revoked_bytes opened link run xid) → is_some (remaining_call xid h.state) ≡ true → bytes_of_buffers (buffers_of xid h.state) ≡ revoked_bytes opened link run xid
+left_are opened link h run xid outstanding answered left = by (found_call xid h.state) (found_answer xid h.state) refl refl left
+  where
+    by : (c : Option StoredCall) (a : Option AnsweredCall) → found_call xid h.state ≡ c → found_answer xid h.state ≡ a → is_some (remains_with c a) ≡ true → bytes_of_buffers (buffers_of xid h.state) ≡ revoked_bytes opened link run xid
+    by (Some c) a there other has = outstanding (record { call = c; there = there; has = has })
+    by None (Some a) there other has = (λ i. bytes_of_buffers (buffers_with h.state.side.memory (there i) (other i))) ∙ answered a other
+    by None None there other has = absurd cc
+
+pub left_are_placed : BuffersArePlaced
+left_are_placed opened link h run xid s =
+    left_are opened link h run xid (buffers_are_placed opened link h run xid s) (λ a. answered_are opened link h run xid _ a s.answers s.keeps.kept.keeps.accesses)
 
 pub revoke_keeps_law : RevokeKeepsLaw
 revoke_keeps_law opened link h run xid s there awaited asked grant =
@@ -126,7 +178,7 @@ revoke_keeps_law opened link h run xid s there awaited asked grant =
     let mark : Mark = marks.Revoke link xid bytes in
     let is : IsRevoked opened link run xid bytes = record {
       awaited = awaited;
-      bytes_are = buffers_are_placed opened link h run xid s there;
+      bytes_are = left_are_placed opened link h run xid s there;
     } in
     (AtEachMark_more (AskedMark IsPrefixOf opened link) [] run mark asked (λ same. is), AtEachMark_more (WithinGrant opened link) [] run mark grant tt)
 
@@ -137,9 +189,14 @@ revoked_same opened link h stopped run xid out = λ i.
     flat_map (λ (r : Region). region_bytes (region_grants (length (sym out.received i)) (sym out.same i).state.regions) (sym out.same i).state.regions (sym out.same i).state.accesses_received r.stag)
     (filter (λ (r : Region). eqb r.call xid) (sym out.same i).state.regions)
 
-pub revoked_out_lem : RevokedOut
-revoked_out_lem opened link h stopped run xid out there =
+outstanding_out : (opened : LinkParameters) (link : ℕ) (h : RequesterSide) (stopped run : List Mark) (xid : ℕ) → RequesterRunsOut opened link h stopped run → IsOutstanding xid h.state → bytes_of_buffers (buffers_of xid h.state) ≡ revoked_bytes opened link run xid
+outstanding_out opened link h stopped run xid out there =
     let now : CallsOffer _ (client opened link run).state = offers_after opened link h run out.answers in
     let then : CallsOffer _ (record (client opened link stopped).state { written = out.written }) = subst (λ (e : EndState ClientState). CallsOffer (next_xid opened e.state) e.state) out.same now in
     buffers_are opened link h stopped xid (memory_out_lem opened link h stopped run out) (record { before = then.before; calls = then.calls }) out.out.keeps.waits there
     ∙ revoked_same opened link h stopped run xid out
+
+pub revoked_out_lem : RevokedOut
+revoked_out_lem opened link h stopped run xid out =
+    left_are opened link h run xid (outstanding_out opened link h stopped run xid out)
+    (λ a. answered_are opened link h run xid _ a out.answers (subst (λ (e : EndState ClientState). AreReceived (length (bytes_received link Initiator stopped)) e.state.accesses_received) (sym out.same) out.out.keeps.accesses))

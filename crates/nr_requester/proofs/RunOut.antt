@@ -19,7 +19,7 @@ use Rattle.nr_reduce.specs.History.{bytes_received}
 use Rattle.nr_reduce.specs.Run.{client, placed_bytes, grants_of}
 use Rattle.nr_reduce.specs.Credits.{calls_outstanding, credits_granted}
 use Rattle.nr_reduce.specs.KeptClient.{bytes_under, HoldsFor}
-use Rattle.nr_requester.specs.RequesterState.{StoredCall, RequesterSide, stags_of, kept_call}
+use Rattle.nr_requester.specs.RequesterState.{StoredCall, RequesterFeeding, feeding_of, stags_of, kept_call}
 use Rattle.nr_requester.specs.AfterPiece.{requester_ended, after_frame, after_piece}
 use Rattle.nr_requester.specs.Laws.{MemoryAsClient, MemoryOut, CountsOut, RefusesOut, PieceStaysOut}
 use Rattle.nr_requester.proofs.Answered.{ended_answer}
@@ -57,7 +57,7 @@ refuses_out opened link h stopped run call form out = (
 )
 
 -- a side that has ended takes nothing of a piece
-pub fed_out : (h : RequesterSide) (piece : List ℕ) → requester_ended h.state ≡ true → after_piece h piece ≡ record { awaited = h.awaited; rest = []; state = h.state }
+pub fed_out : (h : RequesterFeeding) (piece : List ℕ) → requester_ended h.state ≡ true → after_piece h piece ≡ record { awaited = h.awaited; rest = []; state = h.state }
 unfolding after_piece feeding_after
 fed_out h piece e = by (split h.awaited (h.rest ++ piece)).frames
   where
@@ -72,4 +72,4 @@ fed_out h piece e = by (split h.awaited (h.rest ++ piece)).frames
 
 pub piece_stays_out_lem : PieceStaysOut
 piece_stays_out_lem opened link h stopped run piece out none =
-    fed_out h piece (ap (λ (x : Option End). is_some x) out.out.ended) ∙ (λ i. record { awaited = h.awaited; rest = sym none i; state = h.state })
+    fed_out (feeding_of h) piece (ap (λ (x : Option End). is_some x) out.out.ended) ∙ (λ i. record { awaited = h.awaited; rest = sym none i; state = h.state })

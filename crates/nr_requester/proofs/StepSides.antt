@@ -10,7 +10,7 @@ use Rattle.nr_endpoint.specs.Calls.{after_call, makes_whole, QueuesOutput}
 use Rattle.nr_endpoint.specs.Calls.Call.{FeedOne, OutOfMemory}
 use Rattle.nr_requester.specs.declared.answer.AnsweredCall.{AnsweredCall}
 use Rattle.nr_requester.specs.declared.outstanding.OutstandingCall.{OutstandingCall}
-use Rattle.nr_requester.specs.RequesterState.{RequesterSide}
+use Rattle.nr_requester.specs.RequesterState.{RequesterFeeding}
 use Rattle.nr_requester.specs.Fed.{CallsSound, IsReady, Told, IsStep}
 use Rattle.nr_requester.specs.Views.{RequesterInvariant, requester_view}
 use Rattle.nr_requester.proofs.OneMessage.{IsQuiet}
@@ -60,10 +60,10 @@ pub err_step : (link link2 : LinkSide) (sent wished first next grant room : ℕ)
     RequesterInvariant link next grant items answers room → IsStep (requester_view link sent wished first next grant items answers) piece (requester_view link2 sent wished first next grant items answers)
 err_step link link2 sent wished first next grant room items answers piece e end f is lives s = by end is (by_other link link2 piece e f end is) (by_memory link link2 piece e f end is) (λ m. by_whole link link2 piece e f end is m (ap (λ (x : Option End). is_some x) lives)) (λ m. by_queues link link2 piece e f end is m (ap (λ (x : Option End). is_some x) lives))
   where
-    h : RequesterSide
+    h : RequesterFeeding
     h = requester_view link sent wished first next grant items answers
 
-    after : RequesterSide
+    after : RequesterFeeding
     after = requester_view link2 sent wished first next grant items answers
 
     on : (x : End) → link2.state.ended ≡ Some x → link2 ≡ after_call link (FeedOne piece) → IsStep h piece after

@@ -13,15 +13,15 @@ use Rattle.nr_endpoint.specs.LinkState.{has_ended as side_ended}
 use Rattle.nr_endpoint.specs.Judging.{with_frame, with_peer_hello, next_frame}
 use Rattle.nr_endpoint.specs.Calls.{after_call}
 use Rattle.nr_endpoint.specs.Calls.Call.{FeedOne}
-use Rattle.nr_requester.specs.RequesterState.{RequesterState, RequesterSide}
+use Rattle.nr_requester.specs.RequesterState.{RequesterState, RequesterFeeding}
 use Rattle.nr_requester.specs.AfterPiece.{requester_ended, with_deliveries, unless_ended, after_frame, after_fpdu, after_piece}
 
 -- the endpoint's link of a requester
-abbrev pub link_of : RequesterSide → LinkSide
+abbrev pub link_of : RequesterFeeding → LinkSide
 link_of h = record { awaited = h.awaited; rest = h.rest; state = h.state.side }
 
 -- what a requester makes of the link after a step
-abbrev pub told_of : RequesterState → LinkSide → RequesterSide
+abbrev pub told_of : RequesterState → LinkSide → RequesterFeeding
 told_of r l = record { awaited = l.awaited; rest = l.rest; state = unless_ended r l.state l.state.ended }
 
 none_delivered : (r : RequesterState) (s : LinkState) (end : Option End) → s.receive_queue.deliveries ≡ [] → unless_ended r s end ≡ record r { side = s }
@@ -44,7 +44,7 @@ ended_told : (r : RequesterState) (end : Option End) → is_some end ≡ true �
 ended_told r None e = absurd (let h : false ≡ true = e in cc)
 ended_told r (Some end) e = refl
 
-by_whole_lem : (h : RequesterSide) (piece : List ℕ) (w : Bool) → requester_ended h.state ≡ false → is_whole h.awaited (h.rest ++ piece) ≡ w → h.state.side.receive_queue.deliveries ≡ [] →
+by_whole_lem : (h : RequesterFeeding) (piece : List ℕ) (w : Bool) → requester_ended h.state ≡ false → is_whole h.awaited (h.rest ++ piece) ≡ w → h.state.side.receive_queue.deliveries ≡ [] →
     feeding_after_step requester_ended after_frame h piece ≡ told_of h.state (feeding_after_step side_ended with_frame (link_of h) piece)
 by_whole_lem h piece true lives e quiet =
     feeding_after_step-whole requester_ended after_frame h piece lives e
@@ -55,7 +55,7 @@ by_whole_lem h piece false lives e quiet =
     ∙ sym (ap (λ (r : RequesterState). record { awaited = h.awaited; rest = h.rest ++ piece; state = r }) (none_delivered h.state h.state.side h.state.side.ended quiet))
     ∙ sym (ap (told_of h.state) (feeding_after_step-partial side_ended with_frame (link_of h) piece lives e))
 
-by_end_lem : (h : RequesterSide) (piece : List ℕ) (gone : Bool) → requester_ended h.state ≡ gone → (gone ≡ false → h.state.side.receive_queue.deliveries ≡ []) →
+by_end_lem : (h : RequesterFeeding) (piece : List ℕ) (gone : Bool) → requester_ended h.state ≡ gone → (gone ≡ false → h.state.side.receive_queue.deliveries ≡ []) →
     feeding_after_step requester_ended after_frame h piece ≡ told_of h.state (feeding_after_step side_ended with_frame (link_of h) piece)
 by_end_lem h piece true e quiet =
     feeding_after_step-ended requester_ended after_frame h piece e
@@ -64,15 +64,15 @@ by_end_lem h piece true e quiet =
 by_end_lem h piece false e quiet = by_whole_lem h piece (is_whole h.awaited (h.rest ++ piece)) e refl (quiet refl)
 
 -- one step of a piece is one step of the endpoint and what its deliveries make of it
-pub step_fed : (h : RequesterSide) (piece : List ℕ) → (requester_ended h.state ≡ false → h.state.side.receive_queue.deliveries ≡ []) →
+pub step_fed : (h : RequesterFeeding) (piece : List ℕ) → (requester_ended h.state ≡ false → h.state.side.receive_queue.deliveries ≡ []) →
     feeding_after_step requester_ended after_frame h piece ≡ told_of h.state (after_call (link_of h) (FeedOne piece))
 unfolding after_call
 step_fed h piece quiet = by_end_lem h piece (requester_ended h.state) refl quiet
 
 -- then comes what is left of the piece
-pub piece_rest : (h : RequesterSide) (piece : List ℕ) → IsPartial h.awaited h.rest → (requester_ended h.state ≡ false → h.state.side.receive_queue.deliveries ≡ []) →
+pub piece_rest : (h : RequesterFeeding) (piece : List ℕ) → IsPartial h.awaited h.rest → (requester_ended h.state ≡ false → h.state.side.receive_queue.deliveries ≡ []) →
     after_piece (told_of h.state (after_call (link_of h) (FeedOne piece))) (drop (bytes_taken h.awaited h.rest piece) piece) ≡ after_piece h piece
 unfolding after_piece
 piece_rest h piece p quiet =
-    ap (λ (g : RequesterSide). feeding_after requester_ended after_frame g (drop (bytes_taken h.awaited h.rest piece) piece)) (sym (step_fed h piece quiet))
+    ap (λ (g : RequesterFeeding). feeding_after requester_ended after_frame g (drop (bytes_taken h.awaited h.rest piece) piece)) (sym (step_fed h piece quiet))
     ∙ feeding_after_step-rest requester_ended after_frame h piece p

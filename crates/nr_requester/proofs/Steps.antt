@@ -26,7 +26,7 @@ use Rattle.nr_reduce.specs.KeptClient.{bytes_under, released_all}
 use Rattle.nr_xdr.specs.Fields.{word_at}
 use Rattle.nr_requester.specs.declared.answer.AnsweredCall.{AnsweredCall}
 use Rattle.nr_requester.specs.declared.outstanding.OutstandingCall.{OutstandingCall}
-use Rattle.nr_requester.specs.RequesterState.{RequesterState, RequesterSide, kept_calls}
+use Rattle.nr_requester.specs.RequesterState.{RequesterState, RequesterFeeding, kept_calls}
 use Rattle.nr_requester.specs.AfterPiece.{taken, judged, with_deliveries, unless_ended, requester_ended, after_frame, RanOut}
 use Rattle.nr_requester.specs.Judged.{kept_views}
 use Rattle.nr_requester.specs.Fed.{OneWaits, CallsSound, IsReady, JudgesTo, with_deliveries_side, Told, one_step, StepOut, IsStep}
@@ -68,7 +68,7 @@ message_told link0 link1 link2 sent wished first next grant grant2 number items 
     (subst (λ (m : RegisteredMemory). JudgesTo (kept_verdict (kept_views first sent items) (bytes_under m) message) message (after_call link0 NextEvent) link2 items items2 answers answers2 grant grant2) (next_memory link0 lives)
     (subst (λ (l : LinkSide). JudgesTo (kept_verdict (kept_views first sent items) (bytes_under l.state.memory) message) message l link2 items items2 answers answers2 grant grant2) event judges))
   where
-    before : RequesterSide
+    before : RequesterFeeding
     before = requester_view link0 sent wished first next grant items answers
 
     s : LinkState
@@ -104,7 +104,7 @@ message_told link0 link1 link2 sent wished first next grant grant2 number items 
               queue = ap (λ (x : LinkSide). x.state.send_queue) l;
               hello = ap (λ (x : LinkSide). x.state.has_hello) l;
               place = ap (λ (x : LinkSide). x.state.place) l;
-              same = ap (λ (h : RequesterSide). h.state) same_calls;
+              same = ap (λ (h : RequesterFeeding). h.state) same_calls;
             })
     by (GivesOutcome xid outcome) e j =
         let l : link2 ≡ record { awaited = link0.awaited; rest = link0.rest; state = record (taken s) { memory = released_all s.memory (Rattle.nr_requester.specs.AfterCalls.stags_for (word_at 0 message) (map stored_view items)) } } =
@@ -179,10 +179,10 @@ with_deliveries_as r s t (MessageReceived number invalidated message ∷ ns) = b
     by (GivesOutcome xid outcome) = refl
 with_deliveries_as r s t (ReadDone ∷ ns) = refl
 
-abbrev pub side_with : RequesterSide → LinkSide → RequesterSide
+abbrev pub side_with : RequesterFeeding → LinkSide → RequesterFeeding
 side_with h l = record { awaited = l.awaited; rest = l.rest; state = record h.state { side = l.state } }
 
-module _ (h : RequesterSide) (piece : List ℕ) (lives : h.state.side.ended ≡ None) (quiet : h.state.side.receive_queue.deliveries ≡ []) (none : h.state.side.reads ≡ []) where
+module _ (h : RequesterFeeding) (piece : List ℕ) (lives : h.state.side.ended ≡ None) (quiet : h.state.side.receive_queue.deliveries ≡ []) (none : h.state.side.reads ≡ []) where
   abbrev l : LinkSide
   l = after_call (link_of h) (FeedOne piece)
 
@@ -193,11 +193,11 @@ module _ (h : RequesterSide) (piece : List ℕ) (lives : h.state.side.ended ≡ 
   left = step_leaves (link_of h) piece lives quiet none
 
   -- the step ended the side
-  pub step_ended : (after : RequesterSide) (end : End) → after ≡ side_with h l → l.state.ended ≡ Some end → IsStep h piece after
+  pub step_ended : (after : RequesterFeeding) (end : End) → after ≡ side_with h l → l.state.ended ≡ Some end → IsStep h piece after
   step_ended after end is e = inl (is ∙ ap (λ (x : Option End). record { awaited = l.awaited; rest = l.rest; state = unless_ended h.state l.state x }) (sym e) ∙ sym stepped)
 
   -- it went on, and its event was taken
-  pub step_told : (after : RequesterSide) → l.state.ended ≡ None → Told (side_with h l) after → IsStep h piece after
+  pub step_told : (after : RequesterFeeding) → l.state.ended ≡ None → Told (side_with h l) after → IsStep h piece after
   step_told after e (inl is) = inl (
       is
       ∙ (λ i. record { awaited = l.awaited; rest = l.rest; state = with_deliveries_as h.state l.state l.state l.state.receive_queue.deliveries i })
@@ -230,7 +230,7 @@ module _ (h : RequesterSide) (piece : List ℕ) (lives : h.state.side.ended ≡ 
             ∙ ap (λ (ns : List DeliveredEvent). record { awaited = l.awaited; rest = l.rest; state = with_deliveries h.state l.state ns }) out.waits.is
             ∙ ap (λ (v : ReplyVerdict). record { awaited = l.awaited; rest = l.rest; state = judged h.state l.state message v }) out.verdict in
             let more = stopped_longer l.state.side l.state.last out.reason l.state.send_queue out.stops in
-            let len = ap (λ (x : RequesterSide). output_len x.state.side.send_queue) made in
+            let len = ap (λ (x : RequesterFeeding). output_len x.state.side.send_queue) made in
             let was = ap output_len d.queue in
             omega (arith, more, len, was);
         fed =
@@ -241,7 +241,7 @@ module _ (h : RequesterSide) (piece : List ℕ) (lives : h.state.side.ended ≡ 
       }
 
   -- memory ran out for the frame
-  pub step_out : (after : RequesterSide) (link2 : LinkSide) → after ≡ side_with h link2 → link2 ≡ after_call (link_of h) OutOfMemory → makes_whole (link_of h) piece ≡ true → Rattle.nr_endpoint.specs.Calls.QueuesOutput (link_of h) piece → IsStep h piece after
+  pub step_out : (after : RequesterFeeding) (link2 : LinkSide) → after ≡ side_with h link2 → link2 ≡ after_call (link_of h) OutOfMemory → makes_whole (link_of h) piece ≡ true → Rattle.nr_endpoint.specs.Calls.QueuesOutput (link_of h) piece → IsStep h piece after
   unfolding after_call
   step_out after link2 is out whole queues =
       let o : link2 ≡ record { awaited = h.awaited; rest = []; state = record h.state.side { ended = Some ends.Memory } } =
@@ -249,21 +249,21 @@ module _ (h : RequesterSide) (piece : List ℕ) (lives : h.state.side.ended ≡ 
       let a : after ≡ side_with h (record { awaited = h.awaited; rest = []; state = record h.state.side { ended = Some ends.Memory } }) = is ∙ ap (side_with h) o in
       inr (record {
         out = record {
-          rest = ap (λ (x : RequesterSide). x.rest) a;
-          ended = ap (λ (x : RequesterSide). x.state.side.ended) a;
-          memory = ap (λ (x : RequesterSide). x.state.side.memory) a;
-          queue = ap (λ (x : RequesterSide). x.state.side.send_queue) a;
-          hello = ap (λ (x : RequesterSide). x.state.side.has_hello) a;
-          same = ap (λ (x : RequesterSide). x.state) is ∙ ap (λ (t : LinkState). record h.state { side = t }) (sym (ap (λ (x : RequesterSide). x.state.side) is));
+          rest = ap (λ (x : RequesterFeeding). x.rest) a;
+          ended = ap (λ (x : RequesterFeeding). x.state.side.ended) a;
+          memory = ap (λ (x : RequesterFeeding). x.state.side.memory) a;
+          queue = ap (λ (x : RequesterFeeding). x.state.side.send_queue) a;
+          hello = ap (λ (x : RequesterFeeding). x.state.side.has_hello) a;
+          same = ap (λ (x : RequesterFeeding). x.state) is ∙ ap (λ (t : LinkState). record h.state { side = t }) (sym (ap (λ (x : RequesterFeeding). x.state.side) is));
         };
         whole = whole;
         queues =
             let more = told_longer h.state l.state l.state.ended in
-            let len = ap (λ (x : RequesterSide). output_len x.state.side.send_queue) stepped in
+            let len = ap (λ (x : RequesterFeeding). output_len x.state.side.send_queue) stepped in
             omega (arith, queues, more, len);
         fed =
-            let place = ap (λ (x : RequesterSide). x.state.side.place) a in
-            let none = ap (λ (x : RequesterSide). length x.rest) a in
+            let place = ap (λ (x : RequesterFeeding). x.state.side.place) a in
+            let none = ap (λ (x : RequesterFeeding). length x.rest) a in
             omega (arith, place, none);
       })
 

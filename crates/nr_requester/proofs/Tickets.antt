@@ -32,7 +32,7 @@ use Rattle.nr_reduce.specs.KeptCalls.{KeptCall, kept_payload, kept_lists, kept_b
 use Rattle.nr_reduce.specs.KeptClient.{bytes_under}
 use Rattle.nr_requester.specs.declared.answer.AnsweredCall.{AnsweredCall}
 use Rattle.nr_requester.specs.declared.outstanding.OutstandingCall.{OutstandingCall}
-use Rattle.nr_requester.specs.RequesterState.{RequesterState, RequesterSide, StoredCall, awaited_call, kept_call, kept_calls}
+use Rattle.nr_requester.specs.RequesterState.{RequesterState, RequesterFeeding, RequesterSide, StoredCall, awaited_call, kept_call, kept_calls}
 use Rattle.nr_requester.specs.AfterCalls.{revoked_if, revoked_call, forgotten_if, forgotten_call, stored_call, after_submit, after_drain, after_revoke, after_forget}
 use Rattle.nr_requester.specs.AfterPiece.{buffers_under, without_call, answered_as, answer_to, judged, with_deliveries, unless_ended}
 use Rattle.nr_requester.specs.OpenCalls.{call_with, open_call, found_call, found_answer, IsFresh, KeepsTickets, OpensTicket, ClosesTicket}
@@ -395,9 +395,9 @@ told_keeps : (r : RequesterState) (s : LinkState) (e : Option End) → AreApart 
 told_keeps r s None k = with_deliveries_keeps r s s.receive_queue.deliveries k
 told_keeps r s (Some end) k = λ x. refl
 
-pub step_keeps : (h after : RequesterSide) (piece : List ℕ) → h.state.side.receive_queue.deliveries ≡ [] → AreApart h.state → IsStep h piece after → KeepsTickets h.state after.state
+pub step_keeps : (h after : RequesterFeeding) (piece : List ℕ) → h.state.side.receive_queue.deliveries ≡ [] → AreApart h.state → IsStep h piece after → KeepsTickets h.state after.state
 step_keeps h after piece quiet k (inl is) = λ x.
-    ap (λ (g : RequesterSide). open_call x g.state) (is ∙ step_fed h piece (λ e. quiet))
+    ap (λ (g : RequesterFeeding). open_call x g.state) (is ∙ step_fed h piece (λ e. quiet))
     ∙ told_keeps h.state (after_call (link_of h) (FeedOne piece)).state (after_call (link_of h) (FeedOne piece)).state.ended k x
 step_keeps h after piece quiet k (inr out) = λ x. ap (λ (r : RequesterState). open_call x r) out.out.same
 

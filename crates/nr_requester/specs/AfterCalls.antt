@@ -1,5 +1,5 @@
 -- A requester as it is opened, and after the calls that its owner makes.
-use Rattle.std.specs.Prelude.{ℕ, ◌+◌, Bool, true, false, not, ◌==◌, if◌then◌else◌, List, [], ◌∷◌, ◌++◌, map, Option, None, Some}
+use Rattle.std.specs.Prelude.{ℕ, ◌+◌, Bool, true, false, not, ◌==◌, if◌then◌else◌, List, [], ◌∷◌, ◌++◌, map, take, Option, None, Some}
 use Rattle.std.specs.List.{filter, find}
 use Rattle.nr_wire.specs.declared.hello.Side.TheVariants.{Initiator, Responder}
 use Rattle.nr_wire.specs.declared.stream.Awaited.TheVariants.{Hello as HelloFrom}
@@ -13,14 +13,17 @@ use Rattle.nr_reduce.specs.declared.outline.Plan.{Plan}
 use Rattle.nr_reduce.specs.Plans.{Buffer, buffers, call_message, lists_of}
 use Rattle.nr_reduce.specs.KeptClient.{registered_all, released_all}
 use Rattle.nr_requester.specs.declared.answer.AnsweredCall.{AnsweredCall}
-use Rattle.nr_requester.specs.RequesterState.{stags_of, StoredCall, RequesterSide}
+use Rattle.nr_requester.specs.RequesterState.{stags_of, StoredCall, RequesterSide, queue_of}
+use Rattle.nr_requester.specs.CountedMarks.{has_bytes, one_mark_more, marks_if}
 use Rattle.nr_requester.specs.Sending.{offered_of}
 
-unfoldable pub opened_as : (first_xid first_stag wished : ℕ) → RequesterSide
-opened_as first_xid first_stag wished = record {
+unfoldable pub opened_as : (first_xid first_stag wished : ℕ) → (staging : List ℕ) → RequesterSide
+opened_as first_xid first_stag wished staging = record {
   awaited = HelloFrom Responder;
   rest = [];
   state = record { side = initial_state Initiator 1 first_stag; sent = 0; wished = wished; first_xid = first_xid; next_xid = first_xid; grant = 1; outstanding = []; answered = [] };
+  staging = staging;
+  marks = 0;
 }
 
 -- the side once the regions of a plan were registered and its message was queued
@@ -39,6 +42,7 @@ after_submit h call plan = record h {
     next_xid = h.state.next_xid + 1;
     outstanding = h.state.outstanding ++ stored_call h.state.next_xid call plan h.state.side.memory ∷ [];
   };
+  marks = one_mark_more h.marks;
 }
 
 -- after the first n bytes of the queue were written
@@ -54,6 +58,7 @@ after_drain n h = record h {
     side = drained n h.state.side;
     sent = sent_unless (has_ended h.state.side) h.state.sent (written n h.state.side.send_queue).sends_left;
   };
+  marks = marks_if (has_bytes (take n (queue_of h.state))) h.marks;
 }
 
 -- the answers of all but one xid
@@ -87,6 +92,7 @@ after_revoke h xid = record h {
     outstanding = map (revoked_call xid) h.state.outstanding;
     answered = without_answer xid h.state.answered;
   };
+  marks = one_mark_more h.marks;
 }
 
 -- the outcome of a call is handed over, or given up: then the call's regions stay until its message comes
@@ -103,4 +109,5 @@ after_forget h xid = record h {
     outstanding = map (forgotten_call xid) h.state.outstanding;
     answered = without_answer xid h.state.answered;
   };
+  marks = one_mark_more h.marks;
 }

@@ -22,8 +22,9 @@ use Rattle.nr_reduce.specs.KeptCalls.{kept_verdict}
 use Rattle.nr_reduce.specs.KeptClient.{bytes_under, released_all}
 use Rattle.nr_requester.specs.declared.answer.AnsweredCall.{AnsweredCall}
 use Rattle.nr_requester.specs.declared.answer.Buffers.{Buffers}
-use Rattle.nr_requester.specs.RequesterState.{StoredCall, RequesterState, RequesterSide, awaited_call, kept_calls}
+use Rattle.nr_requester.specs.RequesterState.{StoredCall, RequesterState, RequesterFeeding, RequesterSide, feeding_of, awaited_call, kept_calls}
 use Rattle.nr_requester.specs.AfterCalls.{stags_for}
+use Rattle.nr_requester.specs.CountedMarks.{has_bytes, marks_if}
 
 -- the message was delivered, and its receive is posted again
 abbrev pub taken : LinkState → LinkState
@@ -86,12 +87,22 @@ abbrev pub after_frame : RequesterState → Awaited → List ℕ → RequesterSt
 after_frame r (HelloFrom side) frame = record r { side = with_frame r.side (HelloFrom side) frame }
 after_frame r Fpdu frame = after_fpdu r frame
 
-unfoldable pub after_piece : RequesterSide → List ℕ → RequesterSide
+unfoldable pub after_piece : RequesterFeeding → List ℕ → RequesterFeeding
 after_piece h piece = feeding_after requester_ended after_frame h piece
+
+-- It was fed a piece, and has this staging buffer: after all frames that the piece completes, and one mark more, if the piece has bytes.
+abbrev pub after_fed : RequesterSide → (piece staging : List ℕ) → RequesterSide
+after_fed h piece staging = record {
+  awaited = (after_piece (feeding_of h) piece).awaited;
+  rest = (after_piece (feeding_of h) piece).rest;
+  state = (after_piece (feeding_of h) piece).state;
+  staging = staging;
+  marks = marks_if (has_bytes piece) h.marks;
+}
 
 -- It ran out of memory for a frame: it has ended and keeps no input, and all else is as before that frame but for what only its side of the link
 -- knows of the frame.
-pub record RanOut (before after : RequesterSide) : Type 0 where
+pub record RanOut (before after : RequesterFeeding) : Type 0 where
   pub rest : after.rest ≡ []
   pub ended : after.state.side.ended ≡ Some ends.Memory
   pub memory : after.state.side.memory ≡ before.state.side.memory

@@ -1,8 +1,9 @@
 -- What a step on a piece makes of a requester, for the code.
-use Rattle.std.specs.Prelude.{◌≡◌, ℕ, ◌+◌, ◌<◌, ◌≤◌, ◌⊎◌, true, List, [], ◌∷◌, ◌++◌, length, map, take, drop, Option, None, Some}
+use Rattle.std.specs.Prelude.{◌≡◌, ◌≢◌, ℕ, ◌+◌, ◌<◌, ◌≤◌, ◌⊎◌, true, List, [], ◌∷◌, ◌++◌, length, map, take, drop, Option, None, Some}
 use Rattle.std.specs.List.{AllByRecursion}
 use Rattle.nr_wire.specs.Feeding.{feeding_after_step}
 use Rattle.nr_wire.specs.Stream.{is_whole}
+use Rattle.nr_link.specs.declared.end.End.{End}
 use Rattle.nr_link.specs.declared.end.End.TheVariants as ends
 use Rattle.nr_endpoint.specs.LinkState.{LinkSide}
 use Rattle.nr_endpoint.specs.ReceiveQueue.DeliveredEvent.{MessageReceived}
@@ -23,9 +24,10 @@ use Rattle.nr_requester.specs.Buffers.{with_memory}
 use Rattle.nr_requester.specs.declared.answer.AnsweredCall.{AnsweredCall}
 use Rattle.nr_requester.specs.declared.answer.Buffers.{Buffers}
 use Rattle.nr_requester.specs.declared.outstanding.OutstandingCall.{OutstandingCall}
-use Rattle.nr_requester.specs.RequesterState.{RequesterSide, kept_calls}
+use Rattle.nr_requester.specs.RequesterState.{RequesterFeeding, RequesterSide, feeding_of, kept_calls}
 use Rattle.nr_requester.specs.HeldClaims.{AreHeldFrom, all_claims, OffersOwn}
 use Rattle.nr_requester.specs.AfterPiece.{without_call, answer_to, call_of, with_deliveries, requester_ended, after_frame, after_piece, RanOut}
+use Rattle.nr_requester.specs.CountedMarks.{has_bytes, marks_if}
 use Rattle.nr_requester.specs.Views.{HasRoom, AreRising, IsAnswered, stored_view}
 
 -- the answer of a call, if its owner awaits it and a message gave an outcome
@@ -74,11 +76,11 @@ JudgesTo (GivesOutcome xid outcome) message link link2 calls calls2 answers answ
     × ((answers2 ≡ answers ++ answer_to link.state.memory (call_of (word_at 0 message) (map stored_view calls)) outcome) × (grant2 ≡ credits_of_word (word_at 8 message))))
 
 -- what is made of the event that waits
-abbrev pub with_deliveries_side : RequesterSide → RequesterSide
+abbrev pub with_deliveries_side : RequesterFeeding → RequesterFeeding
 with_deliveries_side h = record { awaited = h.awaited; rest = h.rest; state = with_deliveries h.state h.state.side h.state.side.receive_queue.deliveries }
 
 -- or memory ran out for the Terminate of a message that ends the link
-pub record StoppedOut (before after : RequesterSide) : Type 0 where
+pub record StoppedOut (before after : RequesterFeeding) : Type 0 where
   pub waits : OneWaits (record { awaited = before.awaited; rest = before.rest; state = before.state.side })
   pub reason : ℕ
   pub stops : IsStopReason reason
@@ -91,38 +93,62 @@ pub record StoppedOut (before after : RequesterSide) : Type 0 where
   pub place : after.state.side.place ≡ before.state.side.place
   pub same : after.state ≡ record before.state { side = after.state.side }
 
-abbrev pub Told : (before after : RequesterSide) → Type 0
+abbrev pub Told : (before after : RequesterFeeding) → Type 0
 Told before after = (after ≡ with_deliveries_side before) ⊎ StoppedOut before after
 
 -- ---- A step
 
 -- the next frame of a piece, or all of it
-abbrev pub one_step : RequesterSide → List ℕ → RequesterSide
+abbrev pub one_step : RequesterFeeding → List ℕ → RequesterFeeding
 one_step h piece = feeding_after_step requester_ended after_frame h piece
 
 -- how many bytes it was fed, of which it knows
+abbrev pub bytes_fed : RequesterFeeding → ℕ
+bytes_fed h = h.state.side.place + length h.rest
+
 abbrev pub fed_bytes : RequesterSide → ℕ
-fed_bytes h = h.state.side.place + length h.rest
+fed_bytes h = bytes_fed (feeding_of h)
 
 -- With memory, the frame that these bytes complete would queue output: a Read Response, or the Terminate that is written last.
-abbrev pub QueuesOutput : RequesterSide → List ℕ → Type 0
+abbrev pub QueuesOutput : RequesterFeeding → List ℕ → Type 0
 QueuesOutput h bytes = output_len h.state.side.send_queue < output_len (one_step h bytes).state.side.send_queue
 
 -- memory ran out for the output of the frame that a piece completes
-pub record StepOut (before : RequesterSide) (piece : List ℕ) (after : RequesterSide) : Type 0 where
+pub record StepOut (before : RequesterFeeding) (piece : List ℕ) (after : RequesterFeeding) : Type 0 where
   pub out : RanOut before after
   pub whole : is_whole before.awaited (before.rest ++ piece) ≡ true
   pub queues : QueuesOutput before piece
-  pub fed : fed_bytes after ≤ fed_bytes before + length piece
+  pub fed : bytes_fed after ≤ bytes_fed before + length piece
 
-abbrev pub IsStep : RequesterSide → List ℕ → RequesterSide → Type 0
+-- how many bytes of a piece a step took, by why the side has ended: none if memory ran out, and all if it ended for another reason
+abbrev pub taken_by : Option End → (len taken : ℕ) → ℕ
+taken_by None len taken = taken
+taken_by (Some ends.Memory) len taken = 0
+taken_by (Some (ends.Bad at reason)) len taken = len
+taken_by (Some (ends.Denied stag to why)) len taken = len
+taken_by (Some (ends.NoBuffer at)) len taken = len
+taken_by (Some (ends.Terminated reason)) len taken = len
+
+-- the count of marks with a piece that came after this end: it is a mark, but for what comes after memory ran out
+abbrev pub late_marks : End → List ℕ → ℕ → ℕ
+late_marks ends.Memory piece n = n
+late_marks (ends.Bad at reason) piece n = marks_if (has_bytes piece) n
+late_marks (ends.Denied stag to why) piece n = marks_if (has_bytes piece) n
+late_marks (ends.NoBuffer at) piece n = marks_if (has_bytes piece) n
+late_marks (ends.Terminated reason) piece n = marks_if (has_bytes piece) n
+
+abbrev pub IsStep : RequesterFeeding → List ℕ → RequesterFeeding → Type 0
 IsStep before piece after = (after ≡ one_step before piece) ⊎ StepOut before piece after
 
 -- It was fed the first n bytes of a piece, and hadn't ended. The bytes that follow complete the next frame, which would queue output, and memory
 -- ran out for that.
-pub record RanOutAt (before : RequesterSide) (piece : List ℕ) (n : ℕ) (after : RequesterSide) : Type 0 where
+pub record RanOutAt (before : RequesterFeeding) (piece : List ℕ) (n : ℕ) (after : RequesterFeeding) : Type 0 where
   pub within : n ≤ length piece
   pub live : (after_piece before (take n piece)).state.side.ended ≡ None
   pub out : RanOut (after_piece before (take n piece)) after
   pub whole : is_whole (after_piece before (take n piece)).awaited ((after_piece before (take n piece)).rest ++ drop n piece) ≡ true
   pub queues : QueuesOutput (after_piece before (take n piece)) (drop n piece)
+
+-- It was fed the first n bytes of a piece: all of them, and memory didn't run out; or memory ran out for the frame that follows these.
+abbrev pub TakesFrames : RequesterFeeding → List ℕ → ℕ → RequesterFeeding → Type 0
+TakesFrames before piece n after = ((after ≡ after_piece before piece) × ((after.state.side.ended ≢ Some ends.Memory) × (n ≡ length piece))) ⊎ RanOutAt before piece n after

@@ -1,5 +1,5 @@
 -- What a requester keeps of the answers: the outcomes that are due, with the call and the buffers that go back.
-use Rattle.std.specs.Prelude.{◌≡◌, ℕ, ◌≤◌, Bool, true, false, not, ◌||◌, ◌==◌, List, [], ◌∷◌, ◌++◌, map, Option, None, Some, Ok, is_some, IfSome}
+use Rattle.std.specs.Prelude.{◌≡◌, ℕ, ◌<◌, ◌≤◌, Bool, true, false, not, ◌||◌, ◌==◌, List, [], ◌∷◌, ◌++◌, map, Option, None, Some, Ok, is_some, IfSome}
 use Rattle.std.specs.List.{AllByRecursion, Contains, filter}
 use Rattle.nr_wire.specs.Segment.{Segment}
 use Rattle.nr_link.specs.Frames.{Frame, is_hello}
@@ -13,7 +13,8 @@ use Rattle.nr_reduce.specs.History.{AcceptedCall, CompletedCall, is_abandoned}
 use Rattle.nr_reduce.specs.Events.{RunEvent}
 use Rattle.nr_reduce.specs.Events.RunEvent.{FrameReceived}
 use Rattle.nr_reduce.specs.EndRules.{EndState, next_end_state, end_state_after}
-use Rattle.nr_reduce.specs.OfferedRegions.{Region}
+use Rattle.nr_regions.specs.Access.{TaggedSegment, contents}
+use Rattle.nr_reduce.specs.OfferedRegions.{Region, region_grant}
 use Rattle.nr_reduce.specs.ClientState.{ClientState, client_memory_at}
 use Rattle.nr_reduce.specs.ClientMessages.{reply_verdict}
 use Rattle.nr_reduce.specs.ClientMessages.ReplyVerdict.{GivesOutcome}
@@ -45,9 +46,16 @@ one_buffer (Some bytes) = bytes ∷ []
 abbrev pub buffers_in : Buffers → List (List ℕ)
 buffers_in b = one_buffer b.read ++ (one_buffer b.write ++ one_buffer b.reply)
 
--- what the regions of a call hold, in their order, once this many bytes were received
+-- the regions of a call, in their order, and what they hold once this many bytes were received
+abbrev pub regions_of : ℕ → ClientState → List Region
+regions_of xid k = filter (λ r. r.call == xid) k.regions
+
 abbrev pub region_contents : ClientState → ℕ → ℕ → List (List ℕ)
-region_contents k place xid = map (λ (r : Region). client_memory_at k place r.stag) (filter (λ r. r.call == xid) k.regions)
+region_contents k place xid = map (λ (r : Region). client_memory_at k place r.stag) (regions_of xid k)
+
+-- what a closed region holds: its bytes, with the segments over them that were allowed before it was closed
+abbrev pub closed_contents : List TaggedSegment → Region → List ℕ
+closed_contents accesses r = contents (region_grant 0 r ∷ []) r.stag r.bytes accesses
 
 -- Among these events is the frame that completed the message of an answered call: the message gives its outcome, and its buffers are what the
 -- call's regions held at the end of that frame.
@@ -65,6 +73,12 @@ pub record HandsBack (opened : LinkParameters) (es : List RunEvent) (a : Answere
   pub verdict : reply_verdict (client_by opened earlier).state frame.end message ≡ GivesOutcome a.xid (Some a.outcome)
   pub held : buffers_in a.buffers ≡ region_contents (client_by opened earlier).state frame.end a.xid
 
+-- The regions of an answered call, which was accepted before the next xid, are closed, and hold still what its buffers have.
+pub record StillHolds (next : ℕ) (k : ClientState) (a : AnsweredCall) : Type 0 where
+  pub before : a.xid < next
+  pub closed : AllByRecursion (λ (r : Region). is_some r.until ≡ true) (regions_of a.xid k)
+  pub held : buffers_in a.buffers ≡ map (closed_contents k.accesses_received) (regions_of a.xid k)
+
 -- a call that was accepted under an xid
 abbrev pub IsAsked : List AcceptedCall → ℕ → Call → Type 0
 IsAsked asked xid call = (form : Form) × Contains asked (record { xid = xid; call = call; form = form })
@@ -75,6 +89,7 @@ IsAsked asked xid call = (form : Form) × Contains asked (record { xid = xid; ca
 pub record KeepsAnswers (opened : LinkParameters) (es : List RunEvent) (due : ℕ → Bool) (asked : List AcceptedCall) (r : RequesterState) : Type 0 where
   pub outcomes : map completed_of r.answered ≡ filter (λ c. due c.xid) (client_by opened es).state.outcomes
   pub hands_back : AllByRecursion (HandsBack opened es) r.answered
+  pub holds : AllByRecursion (StillHolds (next_xid opened (client_by opened es).state) (client_by opened es).state) r.answered
   pub calls : AllByRecursion (λ a. IsAsked asked a.xid a.call) r.answered
   pub awaited : AllByRecursion (λ c. is_some (awaited_call c) ≡ due c.xid) r.outstanding
   pub submitted : AllByRecursion (λ c. IfSome c.call (IsAsked asked c.xid)) r.outstanding

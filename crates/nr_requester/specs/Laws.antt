@@ -25,17 +25,18 @@ use Rattle.nr_reduce.specs.Asked.{AskedSoFar, IsAll, IsAwaited, revoked_bytes}
 use Rattle.nr_reduce.specs.SubmitAnswer.{submit_answer}
 use Rattle.nr_reduce.specs.Credits.{calls_outstanding, credits_granted, KeepsGrant}
 use Rattle.nr_reduce.specs.KeptClient.{bytes_under}
-use Rattle.nr_requester.specs.RequesterState.{RequesterSide, stags_of, queue_of}
+use Rattle.nr_requester.specs.RequesterState.{RequesterSide, feeding_of, stags_of, queue_of}
 use Rattle.nr_requester.specs.Standing.{RequesterRepresents, RequesterRunsOut, StandsOn, StaysOut}
 use Rattle.nr_requester.specs.KeptAnswers.{completed_of}
 use Rattle.nr_requester.specs.AfterCalls.{opened_as, after_submit, after_drain, after_revoke, after_forget}
-use Rattle.nr_requester.specs.AfterPiece.{after_piece, RanOut}
+use Rattle.nr_requester.specs.AfterPiece.{after_piece, after_fed, RanOut}
+use Rattle.nr_requester.specs.CountedMarks.{has_bytes, counted_marks, marks_if}
 use Rattle.nr_requester.specs.Answers.{answer_of, plan_under}
 use Rattle.nr_requester.specs.Buffers.{bytes_of_buffers}
-use Rattle.nr_requester.specs.OpenCalls.{IsOutstanding, open_call, found_answer, buffers_of}
+use Rattle.nr_requester.specs.OpenCalls.{open_call, remaining_call, found_answer, buffers_of}
 
 abbrev pub Begins : Type 0
-Begins = (opened : LinkParameters) (link : ℕ) → RequesterRepresents opened link (opened_as opened.first_xid opened.first_stag opened.wished) []
+Begins = (opened : LinkParameters) (link : ℕ) (staging : List ℕ) → RequesterRepresents opened link (opened_as opened.first_xid opened.first_stag opened.wished staging) []
 
 -- It answers a call as its client does.
 abbrev pub AnswersAsClient : Type 0
@@ -46,6 +47,10 @@ AnswersAsClient = (opened : LinkParameters) (link : ℕ) (h : RequesterSide) (ru
 abbrev pub CountsAsClient : Type 0
 CountsAsClient = (opened : LinkParameters) (link : ℕ) (h : RequesterSide) (run : List Mark) → RequesterRepresents opened link h run →
     (length h.state.outstanding ≡ calls_outstanding opened link run) × (h.state.grant ≡ credits_granted opened link run)
+
+-- It counts its marks.
+abbrev pub CountsMarks : Type 0
+CountsMarks = (opened : LinkParameters) (link : ℕ) (h : RequesterSide) (run : List Mark) → RequesterRepresents opened link h run → h.marks ≡ counted_marks link run
 
 -- Its end is the client's end.
 abbrev pub EndAsClient : Type 0
@@ -64,11 +69,12 @@ DrainIsAMark = (h : RequesterSide) (n : ℕ) → n ≤ length (queue_of h.state)
 
 -- a piece of the server's stream,
 abbrev pub PieceIsAMark : Type 0
-PieceIsAMark = (h : RequesterSide) (piece : List ℕ) → StandsOn h (λ link. marks.Fed link Initiator piece) (after_piece h piece)
+PieceIsAMark = (h : RequesterSide) (piece staging : List ℕ) → StandsOn h (λ link. marks.Fed link Initiator piece) (after_fed h piece staging)
 
 -- also if memory runs out for the frame after it, when the requester hasn't ended: the rest of what it was fed is no mark,
 abbrev pub PieceRunsOut : Type 0
-PieceRunsOut = (h after : RequesterSide) (piece : List ℕ) → (after_piece h piece).state.side.ended ≡ None → RanOut (after_piece h piece) after → (opened : LinkParameters) (link : ℕ) (run : List Mark) → RequesterRepresents opened link h run →
+PieceRunsOut = (h after : RequesterSide) (piece : List ℕ) → (after_piece (feeding_of h) piece).state.side.ended ≡ None → RanOut (after_piece (feeding_of h) piece) (feeding_of after) →
+    after.marks ≡ marks_if (has_bytes piece) h.marks → (opened : LinkParameters) (link : ℕ) (run : List Mark) → RequesterRepresents opened link h run →
     RequesterRunsOut opened link after (run ++ marks.Fed link Initiator piece ∷ []) (run ++ marks.Fed link Initiator piece ∷ [])
 
 -- a revoke of a call that was accepted,
@@ -141,6 +147,9 @@ abbrev pub CountsOut : Type 0
 CountsOut = (opened : LinkParameters) (link : ℕ) (h : RequesterSide) (stopped run : List Mark) → RequesterRunsOut opened link h stopped run →
     (length h.state.outstanding ≡ calls_outstanding opened link stopped) × (h.state.grant ≡ credits_granted opened link stopped)
 
+abbrev pub CountsMarksOut : Type 0
+CountsMarksOut = (opened : LinkParameters) (link : ℕ) (h : RequesterSide) (stopped run : List Mark) → RequesterRunsOut opened link h stopped run → h.marks ≡ counted_marks link run
+
 -- It refuses each call as ended, and is left by it,
 abbrev pub RefusesOut : Type 0
 RefusesOut = (opened : LinkParameters) (link : ℕ) (h : RequesterSide) (stopped run : List Mark) (call : Call) (form : Form) → RequesterRunsOut opened link h stopped run →
@@ -149,7 +158,7 @@ RefusesOut = (opened : LinkParameters) (link : ℕ) (h : RequesterSide) (stopped
 
 -- by a later piece, which changes nothing of it and is no mark,
 abbrev pub PieceStaysOut : Type 0
-PieceStaysOut = (opened : LinkParameters) (link : ℕ) (h : RequesterSide) (stopped run : List Mark) (piece : List ℕ) → RequesterRunsOut opened link h stopped run → h.rest ≡ [] → after_piece h piece ≡ h
+PieceStaysOut = (opened : LinkParameters) (link : ℕ) (h : RequesterSide) (stopped run : List Mark) (piece : List ℕ) → RequesterRunsOut opened link h stopped run → h.rest ≡ [] → after_piece (feeding_of h) piece ≡ feeding_of h
 
 -- and by each mark that is no event of it and gives up no call of it.
 abbrev pub OthersStayOut : Type 0
@@ -213,20 +222,20 @@ PieceKeepsLaw = (opened : LinkParameters) (link : ℕ) (run : List Mark) (piece 
 abbrev pub DrainKeepsGrant : Type 0
 DrainKeepsGrant = (opened : LinkParameters) (link : ℕ) (run : List Mark) (bytes : List ℕ) → KeepsGrant opened link run → KeepsGrant opened link (run ++ marks.Wrote link Initiator bytes ∷ [])
 
--- The buffers of a call that is outstanding and was not revoked hold what a revoke hands back by the marks, also if the call was forgotten.
+-- The buffers of a call that is left, which are what its regions hold, or held when it was answered, have what a revoke hands back by the marks.
 abbrev pub BuffersArePlaced : Type 0
-BuffersArePlaced = (opened : LinkParameters) (link : ℕ) (h : RequesterSide) (run : List Mark) (xid : ℕ) → RequesterRepresents opened link h run → IsOutstanding xid h.state → bytes_of_buffers (buffers_of xid h.state) ≡ revoked_bytes opened link run xid
+BuffersArePlaced = (opened : LinkParameters) (link : ℕ) (h : RequesterSide) (run : List Mark) (xid : ℕ) → RequesterRepresents opened link h run → is_some (remaining_call xid h.state) ≡ true → bytes_of_buffers (buffers_of xid h.state) ≡ revoked_bytes opened link run xid
 
--- A revoke of a call that is outstanding and was neither revoked nor forgotten keeps the law if it hands back what the call's regions hold, while
--- the call's outcome is awaited, also after an End.
+-- A revoke of a call that is left keeps the law if it hands back these buffers, while the call's outcome is awaited: of one that is outstanding, and
+-- of one that was answered, also after an End.
 abbrev pub RevokeKeepsLaw : Type 0
-RevokeKeepsLaw = (opened : LinkParameters) (link : ℕ) (h : RequesterSide) (run : List Mark) (xid : ℕ) → RequesterRepresents opened link h run → IsOutstanding xid h.state →
+RevokeKeepsLaw = (opened : LinkParameters) (link : ℕ) (h : RequesterSide) (run : List Mark) (xid : ℕ) → RequesterRepresents opened link h run → is_some (remaining_call xid h.state) ≡ true →
     IsAwaited link run xid → AskedSoFar opened link run → KeepsGrant opened link run →
     AskedSoFar opened link (run ++ marks.Revoke link xid (bytes_of_buffers (buffers_of xid h.state)) ∷ []) × KeepsGrant opened link (run ++ marks.Revoke link xid (bytes_of_buffers (buffers_of xid h.state)) ∷ [])
 
 -- Of one that ran out of memory these are the bytes that a revoke hands back by its marks.
 abbrev pub RevokedOut : Type 0
-RevokedOut = (opened : LinkParameters) (link : ℕ) (h : RequesterSide) (stopped run : List Mark) (xid : ℕ) → RequesterRunsOut opened link h stopped run → IsOutstanding xid h.state →
+RevokedOut = (opened : LinkParameters) (link : ℕ) (h : RequesterSide) (stopped run : List Mark) (xid : ℕ) → RequesterRunsOut opened link h stopped run → is_some (remaining_call xid h.state) ≡ true →
     bytes_of_buffers (buffers_of xid h.state) ≡ revoked_bytes opened link run xid
 
 -- ---- An answer that is taken or given up

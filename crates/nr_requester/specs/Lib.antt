@@ -1,4 +1,5 @@
 pub mod RequesterState
+pub mod CountedMarks
 pub mod CallRegions
 pub mod KeptAnswers
 pub mod Standing

@@ -1,11 +1,13 @@
 -- What a requester is: its side of the link, and what it keeps of its calls.
-use Rattle.std.specs.Prelude.{ℕ, ◌-◌, nat_lt, Bool, if◌then◌else◌, List, [], ◌∷◌, ◌++◌, length, map, Option, None, Some}
+use Rattle.std.specs.Prelude.{◌≡◌, ℕ, ◌-◌, nat_lt, max, drop, Bool, if◌then◌else◌, List, [], ◌∷◌, ◌++◌, length, map, Option, None, Some}
 use Rattle.nr_wire.specs.Feeding.{Feeding}
+use Rattle.nr_wire.specs.declared.stream.Awaited.{Awaited}
 use Rattle.nr_header.specs.declared.header.ChunkLists.{ChunkLists}
 use Rattle.nr_regions.specs.RegisteredMemory.{Claim}
 use Rattle.nr_link.specs.Input.{InputState}
 use Rattle.nr_endpoint.specs.declared.offering.Claims.{Claims}
 use Rattle.nr_endpoint.specs.LinkState.{LinkState}
+use Rattle.nr_endpoint.specs.EndpointState.{cut_frame_len}
 use Rattle.nr_endpoint.specs.SendQueue.{writable}
 use Rattle.nr_reduce.specs.declared.call.Call.{Call}
 use Rattle.nr_reduce.specs.Limits.{send_max}
@@ -47,9 +49,28 @@ pub record RequesterState : Type 0 where
   pub outstanding : List StoredCall
   pub answered : List AnsweredCall
 
--- a requester between two pieces of the server's stream
-abbrev pub RequesterSide : Type 0
-RequesterSide = Feeding RequesterState
+-- a requester between two pieces of the server's stream, with the input that isn't a complete frame yet
+abbrev pub RequesterFeeding : Type 0
+RequesterFeeding = Feeding RequesterState
+
+-- What contracts see of a requester: that; the complete staging buffer, which begins with the bytes of the frame that isn't complete; and how many
+-- marks it made.
+pub record RequesterSide : Type 0 where
+  pub awaited : Awaited
+  pub rest : List ℕ
+  pub state : RequesterState
+  pub staging : List ℕ
+  pub marks : ℕ
+
+abbrev pub feeding_of : RequesterSide → RequesterFeeding
+feeding_of h = record { awaited = h.awaited; rest = h.rest; state = h.state }
+
+-- A feed changes the staging buffer only in two prefixes: that of the bytes which are staged after it, and that of the frame which the
+-- bytes staged before it begin, as far as it was fed.
+pub record KeepsStaging (before after : RequesterSide) (piece : List ℕ) : Type 0 where
+  pub others : drop (max (length after.rest) (cut_frame_len before.awaited before.rest piece)) after.staging
+      ≡ drop (max (length after.rest) (cut_frame_len before.awaited before.rest piece)) before.staging
+  pub len : length after.staging ≡ length before.staging
 
 -- what may be written
 abbrev pub queue_of : RequesterState → List ℕ

@@ -20,6 +20,7 @@ use Rattle.nr_reduce.specs.Run.{client}
 use Rattle.nr_reduce.specs.Standing.{ClientRepresents, ClientRunsOut}
 use Rattle.nr_requester.specs.RequesterState.{RequesterSide, queue_of, kept_client, input_kept}
 use Rattle.nr_requester.specs.KeptAnswers.{is_due, KeepsAnswers}
+use Rattle.nr_requester.specs.CountedMarks.{counted_marks}
 
 -- Messages of which some end at these offsets of all output, as a queue has them of which the first `written` bytes are gone, and that begins
 -- with `hello` other bytes: those that haven't left, each with the bytes up to its end.
@@ -66,10 +67,11 @@ pub record KeepsClient (opened : LinkParameters) (link : ℕ) (h : RequesterSide
 abbrev pub AnswersAfter : LinkParameters → ℕ → RequesterSide → List Mark → Type 0
 AnswersAfter opened link h run = KeepsAnswers opened (events link Initiator run) (is_due link run) (accepted_calls link run) h.state
 
--- It stands for these marks of its link: it keeps their client and their answers.
+-- It stands for these marks of its link: it keeps their client and their answers, and counts them.
 pub record RequesterRepresents (opened : LinkParameters) (link : ℕ) (h : RequesterSide) (run : List Mark) : Type 0 where
   pub keeps : KeepsClient opened link h run
   pub answers : AnswersAfter opened link h run
+  pub counted : h.marks ≡ counted_marks link run
 
 -- A requester that ran out of memory while it was fed stands for these marks. When it stopped, after the marks `stopped`, it hadn't ended. Since
 -- then it was fed nothing more: of the piece at which it stopped these marks have the bytes up to the frame for which memory ran out, and what
@@ -80,6 +82,7 @@ pub record RequesterRunsOut (opened : LinkParameters) (link : ℕ) (h : Requeste
   pub written : ℕ
   pub same : client opened link run ≡ live (record (client opened link stopped).state { written = written })
   pub answers : AnswersAfter opened link h run
+  pub counted : h.marks ≡ counted_marks link run
 
 -- For every list of marks that the first one stood for, the second stands for that list with one mark more.
 abbrev pub StandsOn : RequesterSide → (ℕ → Mark) → RequesterSide → Type 0

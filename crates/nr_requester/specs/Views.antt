@@ -7,7 +7,7 @@ use Rattle.nr_endpoint.specs.LinkState.{LinkSide}
 use Rattle.nr_reduce.specs.Limits.{credits_max}
 use Rattle.nr_requester.specs.declared.outstanding.OutstandingCall.{OutstandingCall}
 use Rattle.nr_requester.specs.declared.answer.AnsweredCall.{AnsweredCall}
-use Rattle.nr_requester.specs.RequesterState.{StoredCall, RequesterSide}
+use Rattle.nr_requester.specs.RequesterState.{StoredCall, RequesterFeeding, RequesterSide}
 use Rattle.nr_requester.specs.AfterCalls.{no_claims}
 use Rattle.nr_requester.specs.HeldClaims.{AreHeldFrom, all_claims, OffersOwn}
 
@@ -57,9 +57,13 @@ pub record RequesterInvariant (link : LinkSide) (next_xid grant : ℕ) (outstand
   pub apart : AllByRecursion (IsAnswered next_xid outstanding) answered
   pub has_room : length answered + length outstanding ≤ room
 
-abbrev pub requester_view : LinkSide → (sent wished first_xid next_xid grant : ℕ) → List OutstandingCall → List AnsweredCall → RequesterSide
+abbrev pub requester_view : LinkSide → (sent wished first_xid next_xid grant : ℕ) → List OutstandingCall → List AnsweredCall → RequesterFeeding
 requester_view link sent wished first_xid next_xid grant outstanding answered = record {
   awaited = link.awaited;
   rest = link.rest;
   state = record { side = link.state; sent = sent; wished = wished; first_xid = first_xid; next_xid = next_xid; grant = grant; outstanding = map stored_view outstanding; answered = answered };
 }
+
+-- with its staging buffer, and how many marks it made
+abbrev pub side_view : (staging : List ℕ) → (marks : ℕ) → RequesterFeeding → RequesterSide
+side_view staging marks h = record { awaited = h.awaited; rest = h.rest; state = h.state; staging = staging; marks = marks }

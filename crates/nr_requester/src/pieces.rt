@@ -15,12 +15,12 @@ ghost use Rattle.nr_reduce.specs.KeptClient.{released_all, bytes_under};
 ghost use Rattle.nr_reduce.specs.declared.mark.LinkParameters.{LinkParameters};
 ghost use Rattle.nr_reduce.specs.declared.mark.Mark.{Mark};
 ghost use Rattle.nr_reduce.specs.declared.mark.Mark.TheVariants as marks;
-ghost use Rattle.nr_requester.specs.RequesterState.{stags_of, awaited_call};
+ghost use Rattle.nr_requester.specs.RequesterState.{stags_of, awaited_call, feeding_of, KeepsStaging};
 ghost use Rattle.nr_requester.specs.HeldClaims.{AreHeldFrom, call_claims};
-ghost use Rattle.nr_requester.specs.AfterPiece.{answered_as, after_piece};
+ghost use Rattle.nr_requester.specs.AfterPiece.{answered_as, after_fed};
 ghost use Rattle.nr_requester.specs.Buffers.{with_memory};
 ghost use Rattle.nr_requester.specs.Judged.{outcome_by, LiesWithin, kept_views};
-ghost use Rattle.nr_requester.specs.Fed.{answer_with, CallsSound, IsReady, JudgesTo, Told, IsStep, RanOutAt, fed_bytes};
+ghost use Rattle.nr_requester.specs.Fed.{answer_with, CallsSound, IsReady, JudgesTo, Told, IsStep, TakesFrames, RanOutAt, fed_bytes, taken_by, late_marks};
 ghost use Rattle.nr_requester.specs.HeldBytes.{NothingOutside, IsBounded};
 ghost use Rattle.nr_requester.specs.OpenCalls.{KeepsTickets};
 ghost use Rattle.nr_requester.specs.Standing.{StandsOn, RequesterRepresents, RequesterRunsOut};
@@ -31,7 +31,7 @@ use crate::judging::verdict;
 use crate::outstanding::OutstandingCall;
 use crate::releasing::release_claims;
 use crate::replies::Found;
-use crate::requester::Requester;
+use crate::requester::{Requester, marks_if};
 use nr_endpoint::{Endpoint, Event};
 use nr_header::credit_of;
 use nr_link::End;
@@ -179,6 +179,7 @@ fn take_message(
     ensures granted { (1 ≤ grant.old) × (grant.old ≤ 64) → (1 ≤ grant.new) × (grant.new ≤ 64) }
     ensures fewer { length outstanding.new.items ≤ length outstanding.old.items }
     ensures bounded { (next : ℕ) → IsBounded sent first_xid next endpoint.old outstanding.old.items answered.old.items → IsBounded sent first_xid next endpoint.new outstanding.new.items answered.new.items }
+    ensures staging { endpoint.new.staging ≡ endpoint.old.staging }
 {
     let (message, _) = buf.as_slice().split_at(len);
     let credits = credits_of(credit_of(message));
@@ -210,6 +211,7 @@ fn take_event(
     ensures fewer { length outstanding.new.items ≤ length outstanding.old.items }
     ensures bounded { (next : ℕ) → IsBounded sent first_xid next endpoint.old outstanding.old.items answered.old.items → IsBounded sent first_xid next endpoint.new outstanding.new.items answered.new.items }
     ensures quiet { (endpoint.new.link.state.receive_queue.deliveries ≡ []) × ((endpoint.new.link.state.receive_queue.lent ≡ 0) × (endpoint.new.link.state.reads ≡ [])) }
+    ensures staging { endpoint.new.staging ≡ endpoint.old.staging }
 {
     match endpoint.next_event() {
         None => (),
@@ -227,23 +229,36 @@ fn take_event(
     }
 }
 
+/// How many bytes of a piece a step took, by why the side has ended, if it has: none if memory ran out, and all if it ended for another reason.
+fn taken_by(end: Option<End>, len: usize, taken: usize) -> usize
+    ensures { result ≡ taken_by end len taken }
+{
+    match end {
+        None => taken,
+        Some(End::Memory) => 0,
+        Some(_) => len,
+    }
+}
+
 impl Requester {
     /// Takes the next frame of a piece, or all of it, on a link that has not ended; answers how many bytes it took: all once the side
-    /// has ended.
+    /// has ended, but none if memory ran out.
     fn step(&mut self, left: &[u8]) -> usize
         requires live { self.old.state.side.ended ≡ None }
         requires within { fed_bytes self.old + length left.now ≤ 2 ^ 62 }
-        ensures step { IsStep self.old left.now self.new }
-        ensures taken { result ≡ (if is_some self.new.state.side.ended then length left.now else bytes_taken self.old.awaited self.old.rest left.now) }
+        ensures step { IsStep (feeding_of self.old) left.now (feeding_of self.new) }
+        ensures taken { result ≡ taken_by self.new.state.side.ended (length left.now) (bytes_taken self.old.awaited self.old.rest left.now) }
         ensures partial { IsPartial self.old.awaited self.old.rest }
         ensures quiet { self.old.state.side.receive_queue.deliveries ≡ [] }
         ensures tickets { KeepsTickets self.old.state self.new.state }
         ensures ended { is_some self.new.state.side.ended ≡ true → self.new.rest ≡ [] }
+        ensures staging { KeepsStaging self.old self.new left.now }
+        ensures marks { self.new.marks ≡ self.old.marks }
     {
         self.endpoint.facts();
         let Ok(taken) = self.endpoint.feed_one(left) else {
             self.endpoint.facts();
-            return left.len();
+            return taken_by(self.endpoint.end(), left.len(), 0);
         };
         take_event(
             &mut self.endpoint,
@@ -254,9 +269,39 @@ impl Requester {
             self.sent,
         );
         self.endpoint.facts();
-        match self.endpoint.end() {
-            Some(_) => left.len(),
-            None => taken,
+        taken_by(self.endpoint.end(), left.len(), taken)
+    }
+
+    /// Takes a piece frame by frame, on a link that has not ended; answers how many bytes it took: all, but for those from the frame on for
+    /// which memory ran out.
+    fn take_frames(&mut self, piece: &[u8]) -> usize
+        requires live { self.old.state.side.ended ≡ None }
+        requires partial { IsPartial self.old.awaited self.old.rest }
+        requires within { fed_bytes self.old + length piece.now ≤ 2 ^ 62 }
+        ensures taken { TakesFrames (feeding_of self.old) piece.now result (feeding_of self.new) }
+        ensures staging { KeepsStaging self.old self.new piece.now }
+        ensures marks { self.new.marks ≡ self.old.marks }
+        ensures tickets { KeepsTickets self.old.state self.new.state }
+        ensures within { fed_bytes self.new ≤ fed_bytes self.old + length piece.now }
+    {
+        let mut at = 0;
+        'pieces: while at < piece.len() {
+            let taken = self.step(&piece[at..]);
+            if taken == 0 {
+                return at;
+            }
+            at += taken;
+        }
+        at
+    }
+
+    /// Counts a piece that came after the end: it is a mark, but for what comes after memory ran out.
+    fn count_late(&mut self, end: End, piece: &[u8])
+        ensures { self.new ≡ record self.old { marks = late_marks end piece.now self.old.marks } }
+    {
+        match end {
+            End::Memory => (),
+            _ => self.marks = marks_if(!piece.is_empty(), self.marks),
         }
     }
 
@@ -265,23 +310,24 @@ impl Requester {
     pub fn feed(&mut self, piece: &[u8]) -> Result<(), End>
         requires { fed_bytes self.old + length piece.now ≤ 2 ^ 62 }
         ensures ended { result_err result ≡ self.new.state.side.ended }
-        ensures state { result ≢ Err ends.Memory → self.new ≡ after_piece self.old piece.now }
+        ensures state { result ≢ Err ends.Memory → self.new ≡ after_fed self.old piece.now self.new.staging }
         ensures stands { result ≢ Err ends.Memory → StandsOn self.old (λ link. marks.Fed link Initiator piece.now) self.new }
-        ensures memory { result ≡ Err ends.Memory → self.old.state.side.ended ≡ None → (n : ℕ) × (RanOutAt self.old piece.now n self.new
+        ensures memory { result ≡ Err ends.Memory → self.old.state.side.ended ≡ None → (n : ℕ) × (RanOutAt (feeding_of self.old) piece.now n (feeding_of self.new)
             × ((opened : LinkParameters) (link : ℕ) (run : List Mark) → RequesterRepresents opened link self.old run →
             RequesterRunsOut opened link self.new (run ++ marks.Fed link Initiator (take n piece.now) ∷ []) (run ++ marks.Fed link Initiator (take n piece.now) ∷ []))) }
-        ensures kept { is_some self.old.state.side.ended ≡ true → self.new ≡ self.old }
+        ensures kept { is_some self.old.state.side.ended ≡ true → (feeding_of self.new ≡ feeding_of self.old) × (self.new.staging ≡ self.old.staging) }
+        ensures out { self.old.state.side.ended ≡ Some ends.Memory → self.new ≡ self.old }
+        ensures staging { KeepsStaging self.old self.new piece.now }
         ensures tickets { KeepsTickets self.old.state self.new.state }
         ensures within { fed_bytes self.new ≤ fed_bytes self.old + length piece.now }
     {
         self.facts();
         if let Some(end) = self.end() {
+            self.count_late(end, piece);
             return Err(end);
         }
-        let mut at = 0;
-        'pieces: while at < piece.len() {
-            at += self.step(&piece[at..]);
-        }
+        let taken = self.take_frames(piece);
+        self.marks = marks_if(taken > 0, self.marks);
         if let Some(end) = self.end() {
             return Err(end);
         }

@@ -16,6 +16,7 @@ ghost use Rattle.nr_requester.specs.Fed.{fed_bytes};
 ghost use Rattle.nr_requester.specs.OpenCalls.{found_call, found_answer, IsFresh, KeepsTickets};
 ghost use Rattle.nr_endpoint.specs.LinkState.{has_ended};
 ghost use Rattle.nr_requester.specs.AfterCalls.{opened_as, after_drain, sent_unless};
+ghost use Rattle.nr_requester.specs.CountedMarks.{marks_if};
 
 use crate::answer::AnsweredCall;
 use crate::outstanding::OutstandingCall;
@@ -42,11 +43,12 @@ pub struct Requester {
     pub(crate) outstanding: Vec<OutstandingCall>,
     // The answers that weren't handed over, with room for those of the outstanding calls.
     pub(crate) answered: Vec<AnsweredCall>,
+    pub(crate) marks: u64,
 }
 
 impl Model for Requester {
     ghost use Rattle.nr_requester.specs.RequesterState.{RequesterSide};
-    ghost use Rattle.nr_requester.specs.Views.{requester_view};
+    ghost use Rattle.nr_requester.specs.Views.{requester_view, side_view};
     ghost use Rattle.std.specs.Coded.{codes};
     ghost use Rattle.nr_endpoint.specs.Codes.{state_code};
 
@@ -54,7 +56,7 @@ impl Model for Requester {
 
     ghost coded = { Prim.hlevel (codes, state_code) };
 
-    ghost view = { λ r. requester_view r.endpoint.link r.sent r.wished r.first_xid r.next_xid r.grant r.outstanding.items r.answered.items };
+    ghost view = { λ r. side_view r.endpoint.staging r.marks (requester_view r.endpoint.link r.sent r.wished r.first_xid r.next_xid r.grant r.outstanding.items r.answered.items) };
 
     ghost use Rattle.nr_requester.specs.Views.{RequesterInvariant};
     ghost use Rattle.nr_requester.specs.HeldBytes.{IsBounded};
@@ -73,7 +75,8 @@ impl Requester {
         credits: u32,
     ) -> Result<Requester, Memory>
         requires { 0 < first_stag }
-        ensures state { IfOk result (λ r. r ≡ opened_as first_xid first_stag credits) }
+        ensures state { IfOk result (λ r. r ≡ opened_as first_xid first_stag credits r.staging) }
+        ensures staging { IfOk result (λ r. length r.staging ≡ FPDU_MAX) }
         ensures fed { IfOk result (λ r. fed_bytes r ≡ 0) }
         ensures stands { IfOk result (λ r. (opened : LinkParameters) (link : ℕ) → opened.first_xid ≡ first_xid → opened.first_stag ≡ first_stag → opened.wished ≡ credits → RequesterRepresents opened link r []) }
     {
@@ -82,7 +85,8 @@ impl Requester {
 
     /// A client end whose first xid and first STag are 1.
     pub fn open(alloc: Global, credits: u32) -> Result<Requester, Memory>
-        ensures state { IfOk result (λ r. r ≡ opened_as 1 1 credits) }
+        ensures state { IfOk result (λ r. r ≡ opened_as 1 1 credits r.staging) }
+        ensures staging { IfOk result (λ r. length r.staging ≡ FPDU_MAX) }
         ensures fed { IfOk result (λ r. fed_bytes r ≡ 0) }
         ensures stands { IfOk result (λ r. (opened : LinkParameters) (link : ℕ) → opened.first_xid ≡ 1 → opened.first_stag ≡ 1 → opened.wished ≡ credits → RequesterRepresents opened link r []) }
     {
@@ -97,7 +101,8 @@ impl Requester {
         credits: u32,
     ) -> Result<Requester, Memory>
         requires { 0 < first_stag }
-        ensures state { IfOk result (λ r. r ≡ opened_as first_xid first_stag credits) }
+        ensures state { IfOk result (λ r. r ≡ opened_as first_xid first_stag credits r.staging) }
+        ensures staging { IfOk result (λ r. length r.staging ≡ FPDU_MAX) }
         ensures fed { IfOk result (λ r. fed_bytes r ≡ 0) }
     {
         let endpoint = Endpoint::open(alloc, Side::Initiator, 1, first_stag)?;
@@ -111,6 +116,7 @@ impl Requester {
             grant: 1,
             outstanding: Vec::with_capacity(alloc, CREDITS_MAX as usize)?,
             answered: Vec::new(alloc),
+            marks: 0,
         })
     }
 
@@ -135,6 +141,14 @@ impl Requester {
         self.grant
     }
 
+    /// How many marks it made: calls that were accepted, drains and pieces that moved bytes, outcomes that were handed over, and calls that were
+    /// given up. It stands still at 2^64 - 1. Takes no memory.
+    pub fn marks(&self) -> u64
+        ensures { result ≡ self.now.marks }
+    {
+        self.marks
+    }
+
     /// How many bytes of the server's frame that isn't complete are staged. 0 once it has ended.
     pub fn staged(&self) -> usize
         ensures rest { result ≡ length self.now.rest }
@@ -145,6 +159,7 @@ impl Requester {
 
     /// The staging buffer, which begins with the bytes of the server's frame that isn't complete.
     pub fn staging(&self) -> &[u8]
+        ensures bytes { result.now ≡ self.now.staging }
         ensures begins { take (length self.now.rest) result.now ≡ self.now.rest }
         ensures len { length result.now ≡ FPDU_MAX }
     {
@@ -183,10 +198,22 @@ impl Requester {
             (λ _. K.faults sink.new ≡ K.faults sink.old) (λ e. (e ≡ drains.LinkWrite) × Rises (K.faults sink.old) (K.faults sink.new)) }
         ensures never_falls { K.faults sink.old ≤ K.faults sink.new }
     {
+        let before = self.endpoint.output_len();
         let drained = self.endpoint.drain_into(sink);
         self.sent = sent_by_now(&self.endpoint, self.sent);
+        self.marks = marks_if(self.endpoint.output_len() < before, self.marks);
         drained
     }
+}
+
+/// The count of marks after one mark more, if that is counted.
+pub(crate) fn marks_if(counted: bool, marks: u64) -> u64
+    ensures { result ≡ marks_if counted marks }
+{
+    if counted && marks < u64::MAX {
+        return marks + 1;
+    }
+    marks
 }
 
 /// The number of Sends that have completely left, or had when the link ended.

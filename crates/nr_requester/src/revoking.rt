@@ -17,7 +17,7 @@ ghost use Rattle.nr_requester.specs.Views.{given_up};
 use crate::answer::Buffers;
 use crate::outstanding::OutstandingCall;
 use crate::releasing::release_claims;
-use crate::requester::Requester;
+use crate::requester::{Requester, marks_if};
 use crate::taking::take_answer;
 use crate::ticket::Ticket;
 use nr_endpoint::{Claims, Endpoint};
@@ -96,6 +96,7 @@ impl Requester {
         ensures state { self.new ≡ after_revoke self.old xid }
         ensures number { xid < self.old.state.next_xid }
     {
+        self.marks = marks_if(true, self.marks);
         if let Some(at) = place_of(self.outstanding.as_slice(), xid) {
             let (call, buffers) = revoke_at(&mut self.endpoint, &mut self.outstanding, at);
             return match call {

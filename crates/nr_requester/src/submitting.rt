@@ -23,7 +23,7 @@ ghost use Rattle.nr_requester.specs.OpenCalls.{OpensTicket};
 use crate::answer::AnsweredCall;
 use crate::messages::{PlannedCall, lists_of, message_of, offered_of, regions_needed, reply_room};
 use crate::outstanding::OutstandingCall;
-use crate::requester::Requester;
+use crate::requester::{Requester, marks_if};
 use crate::ticket::Ticket;
 use nr_endpoint::{Claims, Endpoint};
 use nr_header::ChunkLists;
@@ -221,6 +221,7 @@ impl Requester {
             Err(_) => return Err(call),
         };
         self.next_xid += 1;
+        self.marks = marks_if(true, self.marks);
         self.outstanding.push_reserved(OutstandingCall {
             xid,
             call: Some(call),

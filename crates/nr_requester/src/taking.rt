@@ -12,7 +12,7 @@ ghost use Rattle.nr_requester.specs.Views.{forgot};
 
 use crate::answer::{AnsweredCall, Buffers};
 use crate::outstanding::OutstandingCall;
-use crate::requester::Requester;
+use crate::requester::{Requester, marks_if};
 use crate::revoking::place_of;
 use crate::ticket::Ticket;
 use nr_link::End;
@@ -123,6 +123,7 @@ impl Requester {
             outcome,
             ..
         } = answer;
+        self.marks = marks_if(true, self.marks);
         Done {
             call,
             buffers,
@@ -141,6 +142,7 @@ impl Requester {
         ensures fed { fed_bytes self.new ≡ fed_bytes self.old }
     {
         let xid = ticket.xid();
+        self.marks = marks_if(true, self.marks);
         if let Some(at) = place_of(self.outstanding.as_slice(), xid) {
             mark_forgotten(&mut self.outstanding[at]);
             return;

@@ -1,5 +1,5 @@
 use Rattle.nr_requester.proofs.OwnLaw.{law_begins, others_keep_law, submit_keeps_law, drain_keeps_law, drain_out_keeps_law, queue_is_all_due, refused_keeps_law, piece_keeps_law, drain_keeps_grant}
-use Rattle.nr_requester.proofs.RevokedBytes.{buffers_are_placed, revoke_keeps_law, revoked_out_lem}
+use Rattle.nr_requester.proofs.RevokedBytes.{left_are_placed, revoke_keeps_law, revoked_out_lem}
 use Rattle.nr_requester.proofs.OpenTickets.{open_is_awaited, open_out, awaited_is_open, awaited_out, forget_keeps_law, forget_out_keeps_law, done_keeps_law, done_out_keeps_law, lost_keeps_law}
 use Rattle.nr_requester.proofs.laws.requesters_keep_their_law.Goals as goal
 
@@ -64,4 +64,4 @@ pub returns-clause-done_out : goal.returns-clause-done_out
 returns-clause-done_out c = done_out_keeps_law
 
 pub returns-clause-buffers : goal.returns-clause-buffers
-returns-clause-buffers c = buffers_are_placed
+returns-clause-buffers c = left_are_placed
