@@ -92,7 +92,7 @@ found_own p (r ∷ rs) own = by (p r) (all_of (IsFound rs) (IsFound (r ∷ rs)) 
     by true rest = (ap (λ (b : Bool). cond b (Some r) (region_at rs r.stag)) (eq-eqb r.stag r.stag refl), rest)
     by false rest = rest
 
-or_region : Region → Option Region → Region
+abbrev or_region : Region → Option Region → Region
 or_region r None = r
 or_region r (Some x) = x
 
@@ -119,7 +119,7 @@ memory_alone k place count r own received there =
 
 -- ---- A region that is closed
 
-grant_until : Region → ℕ → Grant
+abbrev grant_until : Region → ℕ → Grant
 grant_until r until = record { stag = r.stag; right = r.right; len = length r.bytes; from = r.from; until = until }
 
 closed_until : (place : ℕ) (u : Option ℕ) → is_some u ≡ true → until_or place u ≡ until_or 0 u
@@ -128,7 +128,6 @@ closed_until place (Some until) h = refl
 
 -- its grant is the same, however many bytes were received
 closed_grant : (place : ℕ) (r : Region) → IsClosed r → region_grant place r ≡ region_grant 0 r
-unfolding grant_until
 closed_grant place r closed = ap (grant_until r) (closed_until place r.until closed)
 
 -- and it is that at its end
@@ -137,10 +136,9 @@ closing_until place None = refl
 closing_until place (Some until) = refl
 
 closing_grant : (place : ℕ) (r : Region) → region_grant place r ≡ region_grant 0 (closed_if true place r)
-unfolding grant_until
 closing_grant place r = ap (grant_until r) (closing_until place r.until)
 
-region_until : Region → Option ℕ → Region
+abbrev region_until : Region → Option ℕ → Region
 region_until r u = record r { until = u }
 
 again_until : (place : ℕ) (u : Option ℕ) → is_some u ≡ true → until_at place u ≡ u
@@ -148,7 +146,6 @@ again_until place None h = absurd cc
 again_until place (Some until) h = refl
 
 closed_again : (b : Bool) (place : ℕ) (r : Region) → IsClosed r → closed_if b place r ≡ r
-unfolding region_until
 closed_again true place r closed = ap (region_until r) (again_until place r.until closed)
 closed_again false place r closed = refl
 

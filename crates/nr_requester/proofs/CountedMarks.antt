@@ -1,5 +1,5 @@
 -- How many marks a requester made, after one mark more.
-use Rattle.std.proofs.Common.{◌≡◌, ℕ, ◌+◌, ◌-◌, ◌≤◌, min, inl, inr, Bool, true, false, cond, ◌&&◌, eqb, ltb, List, [], ◌∷◌, ◌++◌, length, take, drop, refl, sym, ap, ◌∙◌, arith, length-append}
+use Rattle.std.proofs.Common.{◌≡◌, ℕ, ◌+◌, ◌-◌, ◌≤◌, min, inl, inr, Bool, true, false, cond, ◌&&◌, ◌||◌, eqb, ltb, List, [], ◌∷◌, ◌++◌, length, take, drop, refl, sym, ap, ◌∙◌, arith, length-append}
 use Rattle.std.specs.List.{filter, list_any}
 use Rattle.std.proofs.lemmas.Bool.{cases_lt, lt-ltb, le-ltb}
 use Rattle.std.proofs.lemmas.List.{length-take, length-drop}
@@ -83,7 +83,7 @@ others_uncounted link run (marks.Drop l) events writes feeds none = refl
 
 -- ---- A drain that moved bytes
 
-some_bytes : (xs : List ℕ) → has_bytes xs ≡ ltb 0 (length xs)
+pub some_bytes : (xs : List ℕ) → has_bytes xs ≡ ltb 0 (length xs)
 some_bytes [] = refl
 some_bytes (x ∷ xs) = sym (lt-ltb 0 (length (x ∷ xs)) (omega arith))
 

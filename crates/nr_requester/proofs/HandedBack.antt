@@ -14,6 +14,8 @@ use Rattle.nr_requester.specs.OpenCalls.{call_with, open_call, found_call, found
 use Rattle.nr_requester.specs.HeldBytes.{AreDistinct}
 use Rattle.nr_requester.specs.Remaining.{HasKept, HasXid, IsLeast, GoesBack}
 use Rattle.nr_requester.specs.Views.{AreRising, stored_view, requester_view}
+use Rattle.nr_requester.specs.Buffers.{bytes_of_buffers}
+use Rattle.nr_requester.proofs.GivenUp.{revoked_stands, revoked_stays_out}
 use Rattle.nr_requester.proofs.ChangedCalls.{found_at, none_found}
 use Rattle.nr_requester.proofs.FoundAnswers.{found_there}
 use Rattle.nr_requester.proofs.Tickets.{AreApart, own_gone, other_found, others_changed, stored_xid, answer_xid}
@@ -168,9 +170,9 @@ pub others_after : (h : RequesterSide) (xid x : ℕ) → x ≢ xid → remaining
 unfolding after_revoke
 others_after h xid x differs = λ i. remains_with (others_changed stored_xid revoked_if x xid h.state.outstanding revoked_own (λ c. refl) differs i) (other_found answer_xid x xid h.state.answered differs i)
 
-pub goes_back : (before after : RequesterSide) (xid : ℕ) (call : Call) (buffers : Buffers) → remaining_call xid before.state ≡ Some call → ((x : ℕ) → x < xid → remaining_call x before.state ≡ None) → buffers ≡ buffers_of xid before.state → after ≡ after_revoke before xid →
+pub goes_back : (before after : RequesterSide) (xid : ℕ) (call : Call) (buffers : Buffers) → xid < before.state.next_xid → remaining_call xid before.state ≡ Some call → ((x : ℕ) → x < xid → remaining_call x before.state ≡ None) → buffers ≡ buffers_of xid before.state → after ≡ after_revoke before xid →
     GoesBack before call buffers after
-goes_back before after xid call buffers own least held is = record {
+goes_back before after xid call buffers number own least held is = record {
   xid = xid;
   own = own;
   least = least;
@@ -178,4 +180,7 @@ goes_back before after xid call buffers own least held is = record {
   after_is = is;
   gone = ap (λ (h : RequesterSide). remaining_call xid h.state) is ∙ gone_after before xid;
   others = λ x differs. ap (λ (h : RequesterSide). remaining_call x h.state) is ∙ others_after before xid x differs;
+  number = number;
+  stands = revoked_stands before after xid (bytes_of_buffers buffers) number is;
+  out = revoked_stays_out before after xid (bytes_of_buffers buffers) number is;
 }

@@ -10,7 +10,7 @@ use Rattle.nr_endpoint.specs.LinkState.{LinkState, has_ended}
 use Rattle.nr_endpoint.specs.ReceiveQueue.{ReceiveQueue, receives_kept}
 use Rattle.nr_requester.specs.declared.outstanding.OutstandingCall.{OutstandingCall}
 use Rattle.nr_requester.specs.declared.answer.AnsweredCall.{AnsweredCall}
-use Rattle.nr_requester.specs.RequesterState.{StoredCall, RequesterSide}
+use Rattle.nr_requester.specs.RequesterState.{StoredCall, RequesterState, RequesterSide}
 use Rattle.nr_requester.specs.Views.{RequesterInvariant, stored_view, requester_view}
 use Rattle.nr_requester.specs.HeldBytes.{NothingOutside, stored_bytes, calls_bytes, rooms_bytes, reply_max, bytes_held_by, held_unit, last_max, frame_max, LinkFits, RegionsHave, claims_total, CallFits, answer_bytes, answers_bytes, AnswerFits, RequesterBounds}
 use Rattle.nr_requester.proofs.OutputBounds.{count_fewer}
@@ -89,11 +89,11 @@ one_answer answers i sum n all a lt is of so_far =
 
 -- ---- Both
 
-pub held_is : (e : EndpointState) (first next sent wished first_xid next_xid grant kept more rooms : ℕ) (calls : List OutstandingCall) (answers : List AnsweredCall) (rest : ℕ) (h : RequesterSide) → requester_view e.link sent wished first_xid next_xid grant calls answers ≡ h → RequesterBounds e first next calls answers →
-    kept ≡ bytes_kept e → more ≡ calls_bytes (map stored_view calls) → rest ≡ answers_bytes answers → kept + more + rooms + rest ≡ bytes_held_by h.state + rooms
+pub held_is : (e : EndpointState) (first next sent wished first_xid next_xid grant kept more rooms : ℕ) (calls : List OutstandingCall) (answers : List AnsweredCall) (rest : ℕ) (r : RequesterState) → (requester_view e.link sent wished first_xid next_xid grant calls answers).state ≡ r → RequesterBounds e first next calls answers →
+    kept ≡ bytes_kept e → more ≡ calls_bytes (map stored_view calls) → rest ≡ answers_bytes answers → kept + more + rooms + rest ≡ bytes_held_by r + rooms
 unfolding bytes_held_by
-held_is e first next sent wished first_xid next_xid grant kept more rooms calls answers rest h is w kept_is more_is rest_is =
-    let here : FPDU_MAX + bytes_of e.link.state + calls_bytes (map stored_view calls) + answers_bytes answers ≡ bytes_held_by h.state = ap (λ (x : RequesterSide). bytes_held_by x.state) is in
+held_is e first next sent wished first_xid next_xid grant kept more rooms calls answers rest r is w kept_is more_is rest_is =
+    let here : FPDU_MAX + bytes_of e.link.state + calls_bytes (map stored_view calls) + answers_bytes answers ≡ bytes_held_by r = ap bytes_held_by is in
     omega (arith, here, w.staging, no_outside e w.outside, kept_is, more_is, rest_is)
 
 pub held_bound : (e : EndpointState) (first next grant kept more rooms : ℕ) (calls : List OutstandingCall) (answers : List AnsweredCall) (room : ℕ) → RequesterBounds e first next calls answers → RequesterInvariant e.link next grant calls answers room → receives_kept e.link.state.receive_queue + e.link.state.receive_queue.lent ≡ e.link.state.receive_queue.receives →

@@ -56,6 +56,7 @@ pub mod StepLeaves
 pub mod StepSides
 pub mod Steps
 pub mod PieceLoop
+pub mod Staging
 pub mod MessageBodies
 pub mod FedBounds
 pub mod AnswerBounds

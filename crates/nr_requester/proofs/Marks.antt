@@ -240,13 +240,13 @@ others_leave_client opened link h run mark s no_events no_write no_feed =
 
 -- ---- As it is opened
 
-kept_opened : (opened : LinkParameters) → opened_client opened ≡ kept_client (opened_as opened.first_xid opened.first_stag opened.wished).state
+kept_opened : (opened : LinkParameters) (staging : List ℕ) → opened_client opened ≡ kept_client (opened_as opened.first_xid opened.first_stag opened.wished staging).state
 unfolding opened_as
-kept_opened opened = refl
+kept_opened opened staging = refl
 
-link_opened : (opened : LinkParameters) (link : ℕ) → LinkKeeps opened (opened_as opened.first_xid opened.first_stag opened.wished).state.side (state_of opened link [])
+link_opened : (opened : LinkParameters) (link : ℕ) (staging : List ℕ) → LinkKeeps opened (opened_as opened.first_xid opened.first_stag opened.wished staging).state.side (state_of opened link [])
 unfolding client events opened_as
-link_opened opened link = record {
+link_opened opened link staging = record {
   side = refl;
   has_hello = refl;
   receive_length = refl;
@@ -266,13 +266,13 @@ link_opened opened link = record {
   greeted = refl;
 }
 
-pub begins_client : (opened : LinkParameters) (link : ℕ) → KeepsClient opened link (opened_as opened.first_xid opened.first_stag opened.wished) []
+pub begins_client : (opened : LinkParameters) (link : ℕ) (staging : List ℕ) → KeepsClient opened link (opened_as opened.first_xid opened.first_stag opened.wished staging) []
 unfolding opened_as
-begins_client opened link = record {
+begins_client opened link staging = record {
   first = refl;
   wished = refl;
-  kept = subst (λ (k : KeptClient). ClientRepresents opened link k (initial_input Responder) (own_hello Initiator ++ []) []) (kept_opened opened)
+  kept = subst (λ (k : KeptClient). ClientRepresents opened link k (initial_input Responder) (own_hello Initiator ++ []) []) (kept_opened opened staging)
       (subst (λ (q : List ℕ). ClientRepresents opened link (opened_client opened) (initial_input Responder) q []) (sym (append-nil (own_hello Initiator))) (client_begins_lem opened link));
   sent = λ none. refl;
-  side = λ none. link_opened opened link;
+  side = λ none. link_opened opened link staging;
 }

@@ -1,6 +1,6 @@
 //! Laws of a requester.
 
-ghost use Rattle.nr_requester.specs.Laws.{Begins, AnswersAsClient, CountsAsClient, SubmitIsAMark, PieceIsAMark, PieceRunsOut, DrainIsAMark, RevokeIsAMark, RevokeStaysOut, ForgetIsAMark, DoneIsAMark, AnswersAreDue, AnswersOut, EndAsClient, FirstIsDueFirst, FirstOut, OthersLeaveIt, MemoryAsClient, MemoryOut, CountsOut, RefusesOut, PieceStaysOut, OthersStayOut, LawBegins, OthersKeepLaw, RevokeKeepsLaw, BuffersArePlaced, RevokedOut, SubmitKeepsLaw, DrainKeepsLaw, DrainOutKeepsLaw, QueueIsAllDue, RefusedKeepsLaw, PieceKeepsLaw, DrainKeepsGrant, OpenIsAwaited, OpenOut, AwaitedIsOpen, AwaitedOut, ForgetKeepsLaw, ForgetOutKeepsLaw, DoneKeepsLaw, DoneOutKeepsLaw, LostKeepsLaw};
+ghost use Rattle.nr_requester.specs.Laws.{Begins, AnswersAsClient, CountsAsClient, CountsMarks, SubmitIsAMark, PieceIsAMark, PieceRunsOut, DrainIsAMark, RevokeIsAMark, RevokeStaysOut, ForgetIsAMark, DoneIsAMark, AnswersAreDue, AnswersOut, EndAsClient, FirstIsDueFirst, FirstOut, OthersLeaveIt, MemoryAsClient, MemoryOut, CountsOut, CountsMarksOut, RefusesOut, PieceStaysOut, OthersStayOut, LawBegins, OthersKeepLaw, RevokeKeepsLaw, BuffersArePlaced, RevokedOut, SubmitKeepsLaw, DrainKeepsLaw, DrainOutKeepsLaw, QueueIsAllDue, RefusedKeepsLaw, PieceKeepsLaw, DrainKeepsGrant, OpenIsAwaited, OpenOut, AwaitedIsOpen, AwaitedOut, ForgetKeepsLaw, ForgetOutKeepsLaw, DoneKeepsLaw, DoneOutKeepsLaw, LostKeepsLaw};
 
 /// A requester stands for the marks of its link, from its opening on: what it keeps is what the client of the run asks for, and what it may
 /// write is what is due and not yet written. It answers a call as that client does, and knows how many calls are outstanding
@@ -10,6 +10,7 @@ pub fn requesters_stand_for_marks()
     ensures begins { Begins }
     ensures answer { AnswersAsClient }
     ensures counts { CountsAsClient }
+    ensures marks { CountsMarks }
     ensures end { EndAsClient }
     ensures submit { SubmitIsAMark }
     ensures piece { PieceIsAMark }
@@ -27,13 +28,14 @@ pub fn requesters_stand_for_marks()
     ensures memory { MemoryAsClient }
     ensures memory_out { MemoryOut }
     ensures counts_out { CountsOut }
+    ensures marks_out { CountsMarksOut }
     ensures refused_out { RefusesOut }
     ensures piece_stays_out { PieceStaysOut }
     ensures others_out { OthersStayOut }
 {}
 
 /// A requester keeps the law of its side, so far, and the last grant, from no marks on: by a call that it accepts or refuses, a piece that
-/// it is fed, a drain, also if it ran out of memory, a revoke of an outstanding call, an answer that is taken or given up, and each mark of others. All that it may write is all that is due.
+/// it is fed, a drain, also if it ran out of memory, a revoke of a call that is left, an answer that is taken or given up, and each mark of others. All that it may write is all that is due.
 pub fn requesters_keep_their_law()
     ensures begins { LawBegins }
     ensures others { OthersKeepLaw }

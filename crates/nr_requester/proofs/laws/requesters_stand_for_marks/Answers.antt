@@ -74,3 +74,9 @@ returns-clause-answers_out c = answers_out
 
 pub returns-clause-end : goal.returns-clause-end
 returns-clause-end c = end_as_client
+
+pub returns-clause-marks : goal.returns-clause-marks
+returns-clause-marks c = λ opened link h run s. s.counted
+
+pub returns-clause-marks_out : goal.returns-clause-marks_out
+returns-clause-marks_out c = λ opened link h stopped run out. out.counted

@@ -1,5 +1,5 @@
 use Rattle.std.proofs.Common.{refl, ap, subst, arith}
-use Rattle.nr_requester.specs.RequesterState.{RequesterSide}
+use Rattle.nr_requester.specs.RequesterState.{RequesterFeeding, RequesterSide}
 use Rattle.nr_requester.specs.OpenCalls.{IsFresh}
 use Rattle.nr_requester.specs.Views.{requester_view}
 use Rattle.nr_requester.proofs.Tickets.{AreApart, are_apart, are_fresh, apart_found}
@@ -8,7 +8,7 @@ use Rattle.nr_requester.proofs.requester.Requester.facts.Goals as goal
 pub returns-clause-apart : goal.returns-clause-apart
 returns-clause-apart c = λ xid has.
     let i = c.self.inside in
-    let view : RequesterSide = requester_view i.endpoint.link i.sent i.wished i.first_xid i.next_xid i.grant i.outstanding.items i.answered.items in
+    let view : RequesterFeeding = requester_view i.endpoint.link i.sent i.wished i.first_xid i.next_xid i.grant i.outstanding.items i.answered.items in
     apart_found c.args.self.now.state xid (subst (λ (h : RequesterSide). AreApart h.state) c.self.view_is (are_apart view.state i.next_xid i.outstanding.items refl c.self.invariant.0.rising c.self.invariant.0.apart)) has
 
 pub returns-clause-fresh : goal.returns-clause-fresh

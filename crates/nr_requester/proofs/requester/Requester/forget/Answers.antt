@@ -29,7 +29,7 @@ returns-in-Some-clause-state c =
     is_found i.outstanding.items c.as_slice.result.now c.args.ticket c.xid-xid.result c.in-Some.at c.as_slice.ensures.value c.xid-xid.ensures c.in-Some.ensures.some.0 c.in-Some.ensures.some.1 in
     let d : OutstandingCall = c.index_mut.result.now in
     let are = ap (λ (y : OutstandingCall). set i.outstanding.items c.in-Some.at y) (c.mark_forgotten.ensures ∙ ap (λ (o : OutstandingCall). forgot o) c.index_mut.ensures.value) in
-    forgot_view i.endpoint.link i.sent i.wished i.first_xid i.next_xid i.grant c.args.ticket c.in-Some.at i.outstanding.items _ i.answered.items d c.self.invariant.0.rising c.self.invariant.0.apart f.within (f.own d) are
+    forgot_view i.endpoint.link i.sent i.wished i.first_xid i.next_xid i.grant c.args.ticket c.in-Some.at i.outstanding.items _ i.answered.items d i.endpoint.staging i.marks c.marks_if-self-inside.result c.self.invariant.0.rising c.self.invariant.0.apart f.within (f.own d) are c.marks_if-self-inside.ensures
     ∙ ap (λ (h : RequesterSide). after_forget h c.args.ticket) c.self.view_is
 
 pub returns-in-Some-clause-stands : goal.returns-in-Some-clause-stands
@@ -66,7 +66,7 @@ returns-clause-state c =
     let i = c.self.inside in
     let none : (k : ℕ) (d : OutstandingCall) → k < length i.outstanding.items → (get_or i.outstanding.items k d).xid ≢ c.args.ticket =
     λ k d lt e. c.place_of.ensures.none c.in_default.is k d (subst (λ (cs : List OutstandingCall). k < length cs) (sym c.as_slice.ensures.value) lt) (ap (λ (cs : List OutstandingCall). (get_or cs k d).xid) c.as_slice.ensures.value ∙ e ∙ sym c.xid-xid.ensures) in
-    taken_view i.endpoint.link i.sent i.wished i.first_xid i.next_xid i.grant c.args.ticket i.outstanding.items i.answered.items c.take_answer.new.answered.items none (left_as c.args.ticket c.xid-xid.result i.answered.items c.take_answer.new.answered.items c.xid-xid.ensures c.take_answer.ensures.left)
+    taken_view i.endpoint.link i.sent i.wished i.first_xid i.next_xid i.grant c.args.ticket i.outstanding.items i.answered.items c.take_answer.new.answered.items i.endpoint.staging i.marks c.marks_if-self-inside.result none (left_as c.args.ticket c.xid-xid.result i.answered.items c.take_answer.new.answered.items c.xid-xid.ensures c.take_answer.ensures.left) c.marks_if-self-inside.ensures
     ∙ ap (λ (h : RequesterSide). after_forget h c.args.ticket) c.self.view_is
 
 pub returns-clause-stands : goal.returns-clause-stands

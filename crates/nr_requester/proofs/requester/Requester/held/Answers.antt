@@ -42,7 +42,7 @@ returns-clause-is c =
     let count : length c.args.self.now.state.outstanding ≡ length i.outstanding.items = ap (λ (h : RequesterSide). length h.state.outstanding) (sym c.self.view_is) ∙ length-map i.outstanding.items stored_view in (
       c.rooms_bytes.result,
       (
-        held_is i.endpoint i.first_xid i.next_xid i.sent i.wished i.first_xid i.next_xid i.grant c.held.result c.calls_bytes.result c.rooms_bytes.result i.outstanding.items i.answered.items c.answers_bytes.result c.args.self.now c.self.view_is c.self.invariant.1.0 c.held.ensures.is more
+        held_is i.endpoint i.first_xid i.next_xid i.sent i.wished i.first_xid i.next_xid i.grant c.held.result c.calls_bytes.result c.rooms_bytes.result i.outstanding.items i.answered.items c.answers_bytes.result c.args.self.now.state (ap (λ (h : RequesterSide). h.state) c.self.view_is) c.self.invariant.1.0 c.held.ensures.is more
             (c.answers_bytes.ensures.is ∙ ap (λ (xs : List AnsweredCall). answers_bytes xs) c.as_slice-3.ensures.value),
         omega (arith, rooms, count, rooms_small i.outstanding.items c.self.invariant.1.0.each),
       ),

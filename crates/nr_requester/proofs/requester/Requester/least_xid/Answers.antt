@@ -2,7 +2,7 @@ use Rattle.std.proofs.Common.{◌≡◌, ℕ, ◌<◌, true, List, length, get_o
 use Rattle.std.specs.Prelude.{IfSome}
 use Rattle.nr_requester.specs.declared.answer.AnsweredCall.{AnsweredCall}
 use Rattle.nr_requester.specs.declared.outstanding.OutstandingCall.{OutstandingCall}
-use Rattle.nr_requester.specs.RequesterState.{RequesterSide}
+use Rattle.nr_requester.specs.RequesterState.{RequesterFeeding, RequesterSide}
 use Rattle.nr_requester.specs.OpenCalls.{remaining_call}
 use Rattle.nr_requester.specs.Remaining.{HasKept, HasXid, IsLeast}
 use Rattle.nr_requester.specs.Views.{requester_view}
@@ -13,7 +13,7 @@ use Rattle.nr_requester.proofs.requester.Requester.least_xid.Goals as goal
 pub returns-clause-some : goal.returns-clause-some
 returns-clause-some c =
     let i = c.self.inside in
-    let view : RequesterSide = requester_view i.endpoint.link i.sent i.wished i.first_xid i.next_xid i.grant i.outstanding.items i.answered.items in
+    let view : RequesterFeeding = requester_view i.endpoint.link i.sent i.wished i.first_xid i.next_xid i.grant i.outstanding.items i.answered.items in
     let call : Option ℕ = c.least_call-call.result in
     let answer : Option ℕ = c.least_answer-answer.result in
     let both = least_of_all i.endpoint.link i.sent i.wished i.first_xid i.next_xid i.grant i.outstanding.items i.answered.items call answer c.lesser_of.result
@@ -27,7 +27,7 @@ returns-clause-some c =
 pub returns-clause-none : goal.returns-clause-none
 returns-clause-none c =
     let i = c.self.inside in
-    let view : RequesterSide = requester_view i.endpoint.link i.sent i.wished i.first_xid i.next_xid i.grant i.outstanding.items i.answered.items in
+    let view : RequesterFeeding = requester_view i.endpoint.link i.sent i.wished i.first_xid i.next_xid i.grant i.outstanding.items i.answered.items in
     let call : Option ℕ = c.least_call-call.result in
     let answer : Option ℕ = c.least_answer-answer.result in
     let both = least_of_all i.endpoint.link i.sent i.wished i.first_xid i.next_xid i.grant i.outstanding.items i.answered.items call answer c.lesser_of.result

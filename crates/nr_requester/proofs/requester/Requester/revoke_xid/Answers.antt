@@ -62,8 +62,8 @@ returns-in-Some-clause-state c =
     let f : IsFound i.outstanding.items c.args.xid c.in-Some.at =
     is_found i.outstanding.items c.as_slice.result.now c.args.xid c.args.xid c.in-Some.at c.as_slice.ensures.value refl c.in-Some.ensures.some.0 c.in-Some.ensures.some.1 in
     let d : OutstandingCall = given i.outstanding.items c.in-Some.at in
-    given_up_view i.endpoint.link c.revoke_at-call.new.endpoint.link i.sent i.wished i.first_xid i.next_xid i.grant c.args.xid c.in-Some.at i.outstanding.items c.revoke_at-call.new.calls.items i.answered.items d c.self.invariant.0.rising c.self.invariant.0.apart f.within (f.own d)
-    (c.revoke_at-call.ensures.link d) (c.revoke_at-call.ensures.calls d)
+    given_up_view i.endpoint.link c.revoke_at-call.new.endpoint.link i.sent i.wished i.first_xid i.next_xid i.grant c.args.xid c.in-Some.at i.outstanding.items c.revoke_at-call.new.calls.items i.answered.items d i.endpoint.staging c.revoke_at-call.new.endpoint.staging i.marks c.marks_if-self-inside.result c.self.invariant.0.rising c.self.invariant.0.apart f.within (f.own d)
+    (c.revoke_at-call.ensures.link d) (c.revoke_at-call.ensures.calls d) c.revoke_at-call.ensures.staging c.marks_if-self-inside.ensures
     ∙ ap (λ (h : RequesterSide). after_revoke h c.args.xid) c.self.view_is
 
 pub returns-in-Some-clause-number : goal.returns-in-Some-clause-number
@@ -127,7 +127,7 @@ returns-clause-state c =
     let found : remaining_call c.args.xid c.args.self.now.state ≡ remains_with None answer =
     ap (λ (h : RequesterSide). remaining_call c.args.xid h.state) (sym c.self.view_is) ∙ remaining_answered i.endpoint.link i.sent i.wished i.first_xid i.next_xid i.grant c.args.xid i.outstanding.items i.answered.items answer none (sym c.take_answer.ensures.found) in
     let there : is_some answer ≡ true = remains_answered answer (sym (ap (λ (o : Option Call). is_some o) found) ∙ c.requires.there) in
-    revoked_view i.endpoint.link i.sent i.wished i.first_xid i.next_xid i.grant c.args.xid i.outstanding.items i.answered.items c.take_answer.new.answered.items none c.take_answer.ensures.left
+    revoked_view i.endpoint.link i.sent i.wished i.first_xid i.next_xid i.grant c.args.xid i.outstanding.items i.answered.items c.take_answer.new.answered.items i.endpoint.staging i.marks c.marks_if-self-inside.result none c.take_answer.ensures.left c.marks_if-self-inside.ensures
     ∙ ap (λ (h : RequesterSide). after_revoke h c.args.xid) c.self.view_is
 
 pub returns-clause-number : goal.returns-clause-number

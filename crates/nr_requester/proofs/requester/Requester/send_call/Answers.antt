@@ -63,6 +63,6 @@ returns-clause-state c =
     let plan : Plan = outline_plan (c.args.head.now ++ c.as_slice.result.now) c.args.outline in
     let o : OutstandingCall = record { xid = c.self.inside.next_xid; call = Some c.args.call; is_forgotten = false; offered = c.in-Ok.sent.sent.lists; claims = c.in-Ok.sent.sent.claims; room = c.in-Ok.sent.room } in
     sent_view c.args.self.now c.self.inside.endpoint.link c.send_with_room.new.endpoint.link c.self.inside.sent c.self.inside.wished c.self.inside.first_xid c.self.inside.next_xid c.self.inside.grant c.self.inside.outstanding.items c.push_reserved.new.self.items
-    c.self.inside.answered.items c.make_room.new.answered.items c.args.call plan o c.self.view_is c.in-Ok.ensures.link (c.push_reserved.ensures.items ∙ ap (λ (xs : List OutstandingCall). xs ++ o ∷ []) c.make_room.ensures.outstanding) c.make_room.ensures.answered
-    (λ i. record { xid = c.self.inside.next_xid; call = Some c.args.call; is_forgotten = false; offered = c.in-Ok.ensures.lists i; claims = c.in-Ok.ensures.claims i })
+    c.self.inside.answered.items c.make_room.new.answered.items c.args.call plan o c.self.inside.endpoint.staging c.send_with_room.new.endpoint.staging c.self.inside.marks c.marks_if-self-inside.result c.self.view_is c.in-Ok.ensures.link (c.push_reserved.ensures.items ∙ ap (λ (xs : List OutstandingCall). xs ++ o ∷ []) c.make_room.ensures.outstanding) c.make_room.ensures.answered
+    (λ i. record { xid = c.self.inside.next_xid; call = Some c.args.call; is_forgotten = false; offered = c.in-Ok.ensures.lists i; claims = c.in-Ok.ensures.claims i }) c.send_with_room.ensures.staging c.marks_if-self-inside.ensures
     ∙ ap (λ (args : List ℕ). after_submit c.args.self.now c.args.call (outline_plan (c.args.head.now ++ args) c.args.outline)) c.as_slice.ensures

@@ -1,6 +1,6 @@
 use Rattle.std.proofs.Common.{refl, ap, sym, ◌∙◌, arith}
 use Rattle.std.specs.Prelude.{is_some}
-use Rattle.nr_requester.specs.RequesterState.{RequesterSide}
+use Rattle.nr_requester.specs.RequesterState.{RequesterFeeding, RequesterSide}
 use Rattle.nr_requester.specs.AfterCalls.{after_forget}
 use Rattle.nr_requester.specs.OpenCalls.{open_call, found_answer}
 use Rattle.nr_requester.proofs.FoundAnswers.{answer_is, answered_below, not_outstanding}
@@ -25,8 +25,8 @@ pub returns-clause-state : goal.returns-clause-state
 returns-clause-state c =
     let i = c.self.inside in
     let there = ap (λ (h : RequesterSide). is_some (found_answer c.args.xid h.state)) c.self.view_is ∙ c.requires.there in
-    taken_view i.endpoint.link i.sent i.wished i.first_xid i.next_xid i.grant c.args.xid i.outstanding.items i.answered.items c.take_answer.new.answered.items
-    (not_outstanding i.next_xid c.args.xid i.outstanding.items i.answered.items c.self.invariant.0.apart there) c.take_answer.ensures.left
+    taken_view i.endpoint.link i.sent i.wished i.first_xid i.next_xid i.grant c.args.xid i.outstanding.items i.answered.items c.take_answer.new.answered.items i.endpoint.staging i.marks c.marks_if-self-inside.result
+    (not_outstanding i.next_xid c.args.xid i.outstanding.items i.answered.items c.self.invariant.0.apart there) c.take_answer.ensures.left c.marks_if-self-inside.ensures
     ∙ ap (λ (h : RequesterSide). after_forget h c.args.xid) c.self.view_is
 
 pub returns-clause-number : goal.returns-clause-number
@@ -40,6 +40,6 @@ returns-clause-number c =
 pub returns-clause-call : goal.returns-clause-call
 returns-clause-call c =
     let i = c.self.inside in
-    let view : RequesterSide = requester_view i.endpoint.link i.sent i.wished i.first_xid i.next_xid i.grant i.outstanding.items i.answered.items in
+    let view : RequesterFeeding = requester_view i.endpoint.link i.sent i.wished i.first_xid i.next_xid i.grant i.outstanding.items i.answered.items in
     ap (λ (h : RequesterSide). open_call c.args.xid h.state) (sym c.self.view_is)
     ∙ answered_open view.state c.args.xid c.in-Some.answer (are_apart view.state i.next_xid i.outstanding.items refl c.self.invariant.0.rising c.self.invariant.0.apart) (sym (sym c.in-Some.is ∙ c.take_answer.ensures.found))
