@@ -57,7 +57,7 @@ impl<I: Source, O: Sink> Session<I, O> {
         ensures asked { OnOk result (AsksFor (D.asked dialer.old) (D.asked dialer.new) addr.now) }
         ensures made { OnOk result (MakesLink (D.ended dialer.old) (D.ended dialer.new)) }
         ensures fresh { IfOk result (λ s. IsNewLink (I.given s.link.source) (O.taken s.link.sink) (I.faults s.link.source) (O.faults s.link.sink)) }
-        ensures state { IfOk result (λ s. (s.link.requester ≡ opened_as 1 1 16) × ((s.link.read ≡ 0) × ((s.uid ≡ uid) × (s.gid ≡ gid)))) }
+        ensures state { IfOk result (λ s. (s.link.requester ≡ opened_as 1 1 16 s.link.requester.staging) × ((s.link.read ≡ 0) × ((s.uid ≡ uid) × (s.gid ≡ gid)))) }
         ensures stands { IfOk result (λ s. (opened : LinkParameters) (link : ℕ) → opened.first_xid ≡ 1 → opened.first_stag ≡ 1 → opened.wished ≡ 16 → RequesterRepresents opened link s.link.requester []) }
         ensures err { IfErr result (λ end. OpenFails end (D.faults dialer.old) (D.faults dialer.new)) }
         ensures counted { OnOk result (D.faults dialer.new ≡ D.faults dialer.old) }

@@ -112,7 +112,7 @@ raw_down v v0 side bytes down run is own stands put =
 
 -- ---- A link that is opened
 
-pub opened_live : (r : RequesterSide) (credits : ℕ) → r ≡ opened_as 1 1 credits → r.state.side.ended ≡ None
+pub opened_live : (r : RequesterSide) (credits : ℕ) → r ≡ opened_as 1 1 credits r.staging → r.state.side.ended ≡ None
 unfolding opened_as
 opened_live r credits is = ap (λ (x : RequesterSide). x.state.side.ended) is
 
@@ -122,7 +122,7 @@ none_are_open r calls none = subst (λ (cs : List AwaitedCall). AreOpen r cs) (s
 abbrev empty_pipe : PipeState
 empty_pipe = record { log = []; place = 0; faults = 0 }
 
-pub fresh_link : (number credits : ℕ) (client : RequesterSide) (server : ResponderSide) (up down : PipeState) (calls : List AwaitedCall) → client ≡ opened_as 1 1 credits → up ≡ empty_pipe → down ≡ empty_pipe → calls ≡ [] →
+pub fresh_link : (number credits : ℕ) (client : RequesterSide) (server : ResponderSide) (up down : PipeState) (calls : List AwaitedCall) → client ≡ opened_as 1 1 credits client.staging → up ≡ empty_pipe → down ≡ empty_pipe → calls ≡ [] →
     ((opened : LinkParameters) (l : ℕ) → opened.first_xid ≡ 1 → opened.first_stag ≡ 1 → opened.wished ≡ credits → RequesterRepresents opened l client []) → end_of server ≡ None →
     ((opened : LinkParameters) (l : ℕ) → opened.granted ≡ credits → Stands opened l [] server) → IsFresh number credits (link_view number client server up down false 0 calls)
 fresh_link number credits client server up down calls opened no_up no_down none asks live serves = record {

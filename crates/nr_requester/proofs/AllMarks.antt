@@ -28,7 +28,7 @@ use Rattle.nr_requester.specs.RequesterState.{StoredCall, RequesterState, Reques
 use Rattle.nr_requester.specs.KeptAnswers.{is_due, client_by, StillHolds, KeepsAnswers}
 use Rattle.nr_requester.specs.Standing.{KeepsClient, AnswersAfter, RequesterRepresents, RequesterRunsOut}
 use Rattle.nr_requester.specs.AfterCalls.{opened_as, stored_call, after_submit, after_drain, after_revoke, revoked_if, forgotten_if, forgotten_call, after_forget}
-use Rattle.nr_requester.specs.AfterPiece.{after_piece, after_fed, RanOut}
+use Rattle.nr_requester.specs.AfterPiece.{after_fed, RanOut}
 use Rattle.nr_requester.specs.CountedMarks.{has_bytes, is_counted, marks_of, counted_marks, marks_if}
 use Rattle.nr_requester.specs.Laws.{Begins, SubmitIsAMark, DrainIsAMark, PieceRunsOut, RevokeIsAMark, RevokeStaysOut, ForgetIsAMark, DoneIsAMark, OthersLeaveIt, OthersStayOut}
 use Rattle.nr_requester.proofs.CallRegions.{SubmitNothing, Offers, none_if, submit_offers}

@@ -1,5 +1,5 @@
 -- How many marks a requester made, after one mark more.
-use Rattle.std.proofs.Common.{◌≡◌, ℕ, ◌+◌, ◌-◌, ◌≤◌, min, inl, inr, Bool, true, false, cond, ◌&&◌, ◌||◌, eqb, ltb, List, [], ◌∷◌, ◌++◌, length, take, drop, refl, sym, ap, ◌∙◌, arith, length-append}
+use Rattle.std.proofs.Common.{◌≡◌, ℕ, ◌+◌, ◌-◌, ◌≤◌, min, inl, inr, Bool, true, false, cond, ◌&&◌, ◌||◌, eqb, ltb, List, [], ◌∷◌, ◌++◌, length, take, refl, sym, ap, ◌∙◌, arith, length-append}
 use Rattle.std.specs.List.{filter, list_any}
 use Rattle.std.proofs.lemmas.Bool.{cases_lt, lt-ltb, le-ltb}
 use Rattle.std.proofs.lemmas.List.{length-take, length-drop}
@@ -8,7 +8,7 @@ use Rattle.nr_endpoint.specs.SendQueue.{SendQueue, writable, written, output_len
 use Rattle.nr_reduce.specs.declared.call.Submission.TheVariants as submissions
 use Rattle.nr_reduce.specs.declared.mark.Mark.{Mark}
 use Rattle.nr_reduce.specs.declared.mark.Mark.TheVariants as marks
-use Rattle.nr_reduce.specs.History.{CompletedCall, written_at, fed_at, abandons, completed_at}
+use Rattle.nr_reduce.specs.History.{CompletedCall, written_at, fed_at}
 use Rattle.nr_reduce.specs.Events.{RunEvent, if_own, events_at}
 use Rattle.nr_reduce.proofs.Standing.{itself}
 use Rattle.nr_requester.specs.CountedMarks.{has_bytes, is_counted, marks_of, marks_max, counted_marks, marks_if}

@@ -1,9 +1,8 @@
 -- What a piece leaves of the staging buffer.
-use Rattle.std.proofs.Common.{◌≡◌, ℕ, ◌+◌, ◌-◌, ◌<◌, ◌⊎◌, inl, inr, List, [], length, drop, refl, sym, ap, ◌∙◌, arith}
+use Rattle.std.proofs.Common.{◌≡◌, ℕ, ◌+◌, ◌-◌, ◌<◌, ◌⊎◌, inl, inr, List, [], length, drop, sym, ap, ◌∙◌, arith}
 use Rattle.std.specs.Prelude.{max}
 use Rattle.std.specs.FinMap.{empty}
 use Rattle.std.proofs.lemmas.List.{length-drop}
-use Rattle.nr_endpoint.specs.LinkState.{LinkState, LinkSide}
 use Rattle.nr_endpoint.specs.EndpointState.{EndpointState, KeepsStaging as KeepsEndpoint, cut_frame_len}
 use Rattle.nr_endpoint.proofs.Pieces.{keeps_on}
 use Rattle.nr_requester.specs.RequesterState.{RequesterFeeding, RequesterSide, feeding_of, KeepsStaging}

@@ -1,11 +1,9 @@
-use Rattle.std.proofs.Common.{◌≡◌, ◌≢◌, ℕ, ltb, List, Option, Some, None, true, Result, Ok, Err, refl, sym, ap, ◌∙◌}
+use Rattle.std.proofs.Common.{◌≡◌, ltb, Option, Some, None, true, Result, Ok, Err, sym, ap, ◌∙◌}
 use Rattle.std.specs.Prelude.{is_some}
 use Rattle.nr_link.specs.declared.end.End.{End}
 use Rattle.nr_link.specs.declared.end.End.TheVariants as ends
-use Rattle.nr_requester.specs.RequesterState.{RequesterFeeding, RequesterSide, feeding_of}
-use Rattle.nr_requester.specs.AfterPiece.{after_fed}
-use Rattle.nr_requester.specs.Fed.{TakesFrames, late_marks}
-use Rattle.nr_requester.specs.CountedMarks.{has_bytes, marks_if}
+use Rattle.nr_requester.specs.RequesterState.{RequesterSide, feeding_of}
+use Rattle.nr_requester.specs.CountedMarks.{marks_if}
 use Rattle.nr_requester.specs.Views.{requester_view, side_view}
 use Rattle.nr_requester.proofs.PieceLoop.{stands_fed, late_fed, fed_after, out_after}
 use Rattle.nr_requester.proofs.requester.Requester.feed.Goals as goal

@@ -1,8 +1,8 @@
-use Rattle.std.proofs.Common.{◌≡◌, ℕ, ◌+◌, ◌-◌, ◌<◌, ◌≤◌, List, length, take, drop, refl, inl, inr, arith, sym, ap}
+use Rattle.std.proofs.Common.{◌≡◌, ℕ, ◌+◌, ◌-◌, List, length, take, drop, refl, inl, inr, arith}
 use Rattle.std.proofs.lemmas.List.{length-drop, take_all}
 use Rattle.std.proofs.lemmas.Grind.{common_steps}
 use Rattle.nr_requester.specs.RequesterState.{feeding_of}
-use Rattle.nr_requester.proofs.PieceLoop.{Stepped, fed_none, ran_out, out_bytes, out_tickets, all_taken_of}
+use Rattle.nr_requester.proofs.PieceLoop.{Stepped, fed_none, ran_out, out_bytes}
 use Rattle.nr_requester.proofs.Staging.{TakenTo, taken_on, staged_on, unstaged}
 use Rattle.nr_requester.proofs.requester.Requester.take_frames.Goals as goal
 
