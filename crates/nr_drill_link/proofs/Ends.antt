@@ -1,7 +1,7 @@
 -- Both ends after a drain of nothing: a Wrote of no bytes is no mark.
 use Rattle.std.specs.Prelude.{◌&&◌}
 use Rattle.std.proofs.Common.{◌≡◌, ◌≢◌, ℕ, ◌≤◌, Bool, true, List, [], ◌∷◌, ◌++◌, length, take, drop, Option, None, Some, inl, inr, refl, ap, sym, subst, ◌∙◌, add-zero}
-use Rattle.std.proofs.Math.Seq.{drop-nil}
+use Rattle.std.proofs.Math.Seq.{drop-nil, take-nil}
 use Rattle.nr_wire.specs.declared.hello.Side.TheVariants.{Initiator, Responder}
 use Rattle.nr_link.specs.declared.end.End.{End}
 use Rattle.nr_link.specs.declared.end.End.TheVariants as ends
@@ -24,6 +24,7 @@ use Rattle.nr_reduce.proofs.Standing.{itself}
 use Rattle.nr_reduce.proofs.Steps.{client_one, server_one}
 use Rattle.nr_requester.specs.RequesterState.{RequesterSide, kept_client, queue_of}
 use Rattle.nr_requester.specs.AfterCalls.{after_drain}
+use Rattle.nr_requester.specs.CountedMarks.{has_bytes, marks_if}
 use Rattle.nr_requester.specs.Standing.{RequesterRepresents, AnswersAfter, LinkKeeps}
 use Rattle.nr_requester.proofs.Queues.{written_writable}
 use Rattle.nr_responder.specs.ResponderState.{ResponderSide, queue, queued_bytes, may_write, end_of, after_drain as after_server_drain}
@@ -46,11 +47,15 @@ client_quiet o link run =
 
 same_answered : (o : LinkParameters) (link : ℕ) (run : List Mark) (h : RequesterSide) (n : ℕ) → AnswersAfter o link h run → AnswersAfter o link (after_drain n h) run
 unfolding after_drain
-same_answered o link run h n k = record { outcomes = k.outcomes; hands_back = k.hands_back; calls = k.calls; awaited = k.awaited; submitted = k.submitted; to_come = k.to_come; regions = k.regions; tickets = k.tickets }
+same_answered o link run h n k = record { outcomes = k.outcomes; hands_back = k.hands_back; holds = k.holds; calls = k.calls; awaited = k.awaited; submitted = k.submitted; to_come = k.to_come; regions = k.regions; tickets = k.tickets }
 
 drained_queue : (h : RequesterSide) (n : ℕ) → queue_of h.state ≡ [] → queue_of (after_drain n h).state ≡ []
 unfolding after_drain
 drained_queue h n none = written_writable h.state.side.has_hello n h.state.side.send_queue ∙ ap (λ (bytes : List ℕ). drop n bytes) none ∙ drop-nil n
+
+drained_count : (h : RequesterSide) (n : ℕ) → queue_of h.state ≡ [] → (after_drain n h).marks ≡ h.marks
+unfolding after_drain
+drained_count h n none = ap (λ (bytes : List ℕ). marks_if (has_bytes (take n bytes)) h.marks) none ∙ ap (λ (bytes : List ℕ). marks_if (has_bytes bytes) h.marks) (take-nil n)
 
 -- a requester with nothing to write that was drained
 pub requester_quiet : (o : LinkParameters) (link : ℕ) (run : List Mark) (h : RequesterSide) (n : ℕ) → queue_of h.state ≡ [] → RequesterRepresents o link h run →
@@ -74,6 +79,7 @@ requester_quiet o link run h n none before after =
         side = λ live. subst (λ (e : EndState ClientState). LinkKeeps o (after_drain n h).state.side e.state) same (k.side live);
       };
       answers = same_answered o link run h n before.answers;
+      counted = drained_count h n none ∙ before.counted;
     }
 
 -- ---- The server

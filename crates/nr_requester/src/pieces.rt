@@ -39,7 +39,7 @@ use nr_reduce::{Call, Outcome, first_bytes};
 use nr_xdr::Octets;
 
 /// No more credits count (RFC 8166 section 3.3), so no more calls are outstanding.
-pub(crate) const CREDITS_MAX: u32 = 64;
+const CREDITS_MAX: u32 = 64;
 
 /// The credits that a credit word grants.
 fn credits_of(word: u32) -> u32

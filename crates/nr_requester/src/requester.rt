@@ -20,7 +20,6 @@ ghost use Rattle.nr_requester.specs.CountedMarks.{marks_if};
 
 use crate::answer::AnsweredCall;
 use crate::outstanding::OutstandingCall;
-use crate::pieces::CREDITS_MAX;
 use nr_endpoint::{DrainFault, Endpoint};
 use nr_link::End;
 use nr_outside::Sink;
@@ -114,7 +113,7 @@ impl Requester {
             first_xid,
             next_xid: u64::from(first_xid),
             grant: 1,
-            outstanding: Vec::with_capacity(alloc, CREDITS_MAX as usize)?,
+            outstanding: Vec::new(alloc),
             answered: Vec::new(alloc),
             marks: 0,
         })

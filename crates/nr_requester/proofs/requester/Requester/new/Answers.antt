@@ -5,10 +5,10 @@ use Rattle.nr_requester.proofs.requester.Requester.new.Goals as goal
 
 pub invariant_of-result : goal.invariant_of-result
 invariant_of-result c = (
-  opened_sound c.in_ok-endpoint.endpoint.link c.args.first_xid c.args.first_stag c.from.result _ c.in_ok-with_capacity.field-0.items c.new.result.items c.in_ok-endpoint.ensures.state c.from.ensures (omega arith) c.in_ok-with_capacity.ensures.items c.new.ensures.items,
+  opened_sound c.in_ok-endpoint.endpoint.link c.args.first_xid c.args.first_stag c.from.result _ c.new.result.items c.new-2.result.items c.in_ok-endpoint.ensures.state c.from.ensures (omega arith) c.new.ensures.items c.new-2.ensures.items,
   (
-    opened_within c.in_ok-endpoint.endpoint c.args.first_xid c.args.first_stag c.from.result c.in_ok-with_capacity.field-0.items c.new.result.items c.in_ok-endpoint.ensures.staging c.in_ok-endpoint.ensures.outside c.in_ok-endpoint.ensures.state (omega arith) c.from.ensures
-        c.in_ok-with_capacity.ensures.items c.new.ensures.items,
+    opened_within c.in_ok-endpoint.endpoint c.args.first_xid c.args.first_stag c.from.result c.new.result.items c.new-2.result.items c.in_ok-endpoint.ensures.staging c.in_ok-endpoint.ensures.outside c.in_ok-endpoint.ensures.state (omega arith) c.from.ensures
+        c.new.ensures.items c.new-2.ensures.items,
     omega arith,
   ),
 )
