@@ -4,7 +4,7 @@ use Rattle.std.proofs.lemmas.Bool.{ne_eqb, eq-eqb}
 use Rattle.nr_wire.specs.Constants.{REASON_FLAGS, DDP_VERSION, RDMAP_VERSION}
 use Rattle.nr_wire.specs.declared.hello.Side.TheVariants.{Initiator, Responder}
 use Rattle.nr_wire.specs.Hello.{hello_of, value_unless}
-use Rattle.nr_wire.specs.Segment.{Segment, segment_of, frame_reason, segment_by_form, is_tagged, ulpdu_len, header_len, ddp_version, rdmap_version, opcode_of, queue_of, is_supported, is_of_other_form, is_of_other_queue}
+use Rattle.nr_wire.specs.Segment.{Segment, segment_of, frame_reason, segment_by_form, is_tagged, ulpdu_len, ddp_header_len, ddp_version, rdmap_version, opcode_of, queue_of, is_supported, is_of_other_form, is_of_other_queue}
 use Rattle.nr_link.specs.declared.end.End.{End}
 use Rattle.nr_link.specs.declared.end.End.TheVariants as ends
 use Rattle.nr_link.specs.Frames.{Frame, is_hello}
@@ -54,7 +54,7 @@ six_big false false false false false false = tt
 flaw_big : (bytes : List ℕ) → AtLeast5 (frame_reason bytes)
 unfolding frame_reason
 flaw_big bytes =
-    six_big (ltb (ulpdu_len bytes) (header_len (is_tagged bytes))) (not (eqb (ddp_version bytes) DDP_VERSION)) (not (eqb (rdmap_version bytes) RDMAP_VERSION)) (not (is_supported (opcode_of bytes))) (is_of_other_form (is_tagged bytes) (opcode_of bytes))
+    six_big (ltb (ulpdu_len bytes) (ddp_header_len (is_tagged bytes))) (not (eqb (ddp_version bytes) DDP_VERSION)) (not (eqb (rdmap_version bytes) RDMAP_VERSION)) (not (is_supported (opcode_of bytes))) (is_of_other_form (is_tagged bytes) (opcode_of bytes))
     (is_of_other_queue (is_tagged bytes) (opcode_of bytes) (queue_of bytes))
 
 segment_big : (f : Frame) (reason : ℕ) → frame_segment f ≡ Err reason → 5 ≤ reason

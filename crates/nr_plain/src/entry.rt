@@ -20,10 +20,18 @@ use std::alloc::Global;
 /// The bytes of a word that is 0.
 const ZERO: [u8; 4] = [0; 4];
 
+/// The offsets of the reply status, the accept status and the status of the results in a reply whose verifier is empty (RFC 5531
+/// section 9; RFC 1813 section 2.6).
+const REPLY_STAT_AT: usize = 8;
+
+const ACCEPT_STAT_AT: usize = 20;
+
+const STATUS_AT: usize = 24;
+
 /// Whether the word at an offset is 0.
 #[tactic(auto, unfolding(nr_xdr::specs::Item::word))]
 fn is_zero(bytes: &[u8], at: usize) -> bool
-    requires { at ≤ 1024 }
+    requires { at ≤ status_at }
     ensures { result ≡ has_word at 0 bytes.now }
 {
     match bytes.get(at..at + 4) {
@@ -36,7 +44,7 @@ fn is_zero(bytes: &[u8], at: usize) -> bool
 fn has_succeeded(reply: &[u8]) -> bool
     ensures { result ≡ has_succeeded reply.now }
 {
-    is_zero(reply, 8) && is_zero(reply, 20) && is_zero(reply, 24)
+    is_zero(reply, REPLY_STAT_AT) && is_zero(reply, ACCEPT_STAT_AT) && is_zero(reply, STATUS_AT)
 }
 
 /// Whether a call of this procedure of NFS with this reply is an entry.

@@ -1,7 +1,7 @@
 -- The opcode of a segment that is read is supported.
 use Rattle.std.proofs.Common.{◌≡◌, ℕ, Bool, true, false, not, ◌||◌, eqb, ltb, cond, List, Option, Some, None, Ok, refl, sym, ap, subst, ◌∙◌}
 use Rattle.nr_wire.specs.Hello.{value_unless}
-use Rattle.nr_wire.specs.Segment.{Segment, segment_of, frame_reason, segment_by_form, flaw_by, header_len, is_supported, is_tagged, is_tagged_opcode, is_untagged_opcode, is_of_other_form, opcode_of, queue_of, ddp_version, rdmap_version, ulpdu_len}
+use Rattle.nr_wire.specs.Segment.{Segment, segment_of, frame_reason, segment_by_form, flaw_by, ddp_header_len, is_supported, is_tagged, is_tagged_opcode, is_untagged_opcode, is_of_other_form, opcode_of, queue_of, ddp_version, rdmap_version, ulpdu_len}
 use Rattle.nr_wire.specs.Segment.Segment.{Untagged}
 
 if_none_lem : (b : Bool) (r : ℕ) (o : Option ℕ) → cond b (Some r) o ≡ None → (b ≡ false) × (o ≡ None)
@@ -14,7 +14,7 @@ not_not false is = absurd cc
 
 flawless : (size : ℕ) (tagged : Bool) (ddp rdmap opcode queue : ℕ) → flaw_by size tagged ddp rdmap opcode queue ≡ None → (is_supported opcode ≡ true) × (is_of_other_form tagged opcode ≡ false)
 flawless size tagged ddp rdmap opcode queue is =
-    let a = if_none_lem (ltb size (header_len tagged)) 5 _ is in
+    let a = if_none_lem (ltb size (ddp_header_len tagged)) 5 _ is in
     let b = if_none_lem (not (eqb ddp 1)) 6 _ a.1 in
     let c = if_none_lem (not (eqb rdmap 1)) 7 _ b.1 in
     let d = if_none_lem (not (is_supported opcode)) 8 _ c.1 in

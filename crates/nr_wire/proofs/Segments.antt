@@ -11,7 +11,7 @@ use Rattle.nr_xdr.specs.Fields.{word_at}
 use Rattle.nr_wire.specs.Constants.{ULPDU_MAX}
 use Rattle.nr_wire.specs.Fields.{half_word, hyper_at}
 use Rattle.nr_wire.specs.Hello.{value_unless}
-use Rattle.nr_wire.specs.Segment.{Segment, Fits, IsSupported, Reads, flaw_by, frame_reason, segment_of, segment_by_form, is_tagged, is_last, ddp_version, rdmap_version, opcode_of, queue_of, queue_for, ulpdu_len, ulpdu_size, frame_payload, header, fpdu_with, tail_len, fpdu_size, fpdu_len, is_tagged_opcode, is_untagged_opcode, is_supported, is_of_other_form, is_of_other_queue, header_len, encoding}
+use Rattle.nr_wire.specs.Segment.{Segment, Fits, IsSupported, Reads, flaw_by, frame_reason, segment_of, segment_by_form, is_tagged, is_last, ddp_version, rdmap_version, opcode_of, queue_of, queue_for, ulpdu_len, ulpdu_size, frame_payload, header, fpdu_with, tail_len, fpdu_size, fpdu_len, is_tagged_opcode, is_untagged_opcode, is_supported, is_of_other_form, is_of_other_queue, ddp_header_len, encoding}
 use Rattle.nr_wire.specs.Segment.Segment.{Tagged, Untagged}
 use Rattle.nr_wire.specs.Stream.{is_whole, IsFrame, IsPartial}
 use Rattle.nr_wire.specs.Next.{Next, frame_answer, segment_in}
@@ -194,10 +194,10 @@ passed false false c d e f h = absurd (let wrong : some 6 ≡ None = h in cc)
 passed true b c d e f h = absurd (let wrong : some 5 ≡ None = h in cc)
 
 passed_in : (frame : List ℕ) (tagged : Bool) → is_tagged frame ≡ tagged → frame_reason frame ≡ None
-    → Passed (ltb (ulpdu_len frame) (header_len tagged)) (eqb (ddp_version frame) 1) (eqb (rdmap_version frame) 1) (is_supported (opcode_of frame)) (is_of_other_form tagged (opcode_of frame)) (is_of_other_queue tagged (opcode_of frame) (queue_of frame))
+    → Passed (ltb (ulpdu_len frame) (ddp_header_len tagged)) (eqb (ddp_version frame) 1) (eqb (rdmap_version frame) 1) (is_supported (opcode_of frame)) (is_of_other_form tagged (opcode_of frame)) (is_of_other_queue tagged (opcode_of frame) (queue_of frame))
 unfolding frame_reason
 passed_in frame tagged t e =
-    passed (ltb (ulpdu_len frame) (header_len tagged)) (eqb (ddp_version frame) 1) (eqb (rdmap_version frame) 1) (is_supported (opcode_of frame)) (is_of_other_form tagged (opcode_of frame)) (is_of_other_queue tagged (opcode_of frame) (queue_of frame))
+    passed (ltb (ulpdu_len frame) (ddp_header_len tagged)) (eqb (ddp_version frame) 1) (eqb (rdmap_version frame) 1) (is_supported (opcode_of frame)) (is_of_other_form tagged (opcode_of frame)) (is_of_other_queue tagged (opcode_of frame) (queue_of frame))
     (sym (ap (λ (b : Bool). flaw_by (ulpdu_len frame) b (ddp_version frame) (rdmap_version frame) (opcode_of frame) (queue_of frame)) t) ∙ e)
 
 -- the position of the payload

@@ -128,8 +128,8 @@ abbrev pub opcode_of : List ℕ → ℕ
 opcode_of frame = slice_index frame 3 % 16
 
 -- the length of a header
-abbrev pub header_len : Bool → ℕ
-header_len tagged = if tagged then TAGGED_LEN else UNTAGGED_LEN
+abbrev pub ddp_header_len : Bool → ℕ
+ddp_header_len tagged = if tagged then TAGGED_LEN else UNTAGGED_LEN
 
 -- the payload: the bytes of the ULPDU after a header of n bytes
 abbrev pub frame_payload : ℕ → List ℕ → List ℕ
@@ -158,7 +158,7 @@ is_of_other_queue false opcode queue = not (queue == queue_for opcode)
 -- than either header.)
 abbrev pub flaw_by : (size : ℕ) → (tagged : Bool) → (ddp rdmap opcode queue : ℕ) → Option ℕ
 flaw_by size tagged ddp rdmap opcode queue =
-    if nat_lt size (header_len tagged) then Some REASON_LENGTH
+    if nat_lt size (ddp_header_len tagged) then Some REASON_LENGTH
     else (if not (ddp == DDP_VERSION) then Some REASON_DDP_VERSION
     else (if not (rdmap == RDMAP_VERSION) then Some REASON_RDMAP_VERSION
     else (if not (is_supported opcode) then Some REASON_OPCODE

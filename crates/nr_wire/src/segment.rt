@@ -5,7 +5,7 @@ ghost use Rattle.nr_wire.specs.Stream.{IsPartial, is_whole};
 ghost use Rattle.nr_wire.specs.Next.Next.{Whole, More, Bad};
 ghost use Rattle.std.specs.Prelude.{◌≡◌, ◌+◌, ◌-◌, ◌<◌, ◌≤◌, length, IfNone, ℕ, ◌↔◌, List, ◌++◌, take, IsTrue};
 ghost use Rattle.nr_xdr.specs.Item.{pad_len};
-ghost use Rattle.nr_wire.specs.Segment.{fpdu_size, fpdu_len, tail_len, ulpdu_len, header_len, is_tagged, is_tagged_opcode, is_supported, queue_for, is_of_other_form, frame_reason, segment_of, segment_by_form, Segment as PlainSegment, IsSupported, Reads};
+ghost use Rattle.nr_wire.specs.Segment.{fpdu_size, fpdu_len, tail_len, ulpdu_len, ddp_header_len, is_tagged, is_tagged_opcode, is_supported, queue_for, is_of_other_form, frame_reason, segment_of, segment_by_form, Segment as PlainSegment, IsSupported, Reads};
 ghost use Rattle.nr_wire.specs.Next.{segment_in, IfWhole};
 ghost use Rattle.nr_wire.specs.View.{segment as plain, next_segment, result_view};
 
@@ -118,8 +118,8 @@ fn is_of_other_form(tagged: bool, opcode: u8) -> bool
     }
 }
 
-fn header_len(tagged: bool) -> usize
-    ensures { result ≡ header_len tagged }
+fn ddp_header_len(tagged: bool) -> usize
+    ensures { result ≡ ddp_header_len tagged }
 {
     if tagged { TAGGED_LEN } else { UNTAGGED_LEN }
 }
@@ -130,11 +130,11 @@ fn flaw(frame: &[u8]) -> Option<u32>
     requires control { 4 ≤ length frame.now }
     requires whole { LENGTH_LEN + ulpdu_len frame.now ≤ length frame.now }
     ensures exact { result ≡ frame_reason frame.now }
-    ensures header { IfNone result (header_len (is_tagged frame.now) ≤ ulpdu_len frame.now) }
+    ensures header { IfNone result (ddp_header_len (is_tagged frame.now) ≤ ulpdu_len frame.now) }
 {
     let tagged = has_bit(BIT_TAGGED, frame[2]);
     let opcode = frame[3] % 16;
-    if usize::from(half_word_at(frame, 0)) < header_len(tagged) {
+    if usize::from(half_word_at(frame, 0)) < ddp_header_len(tagged) {
         return Some(REASON_LENGTH);
     }
     if frame[2] % 4 != DDP_VERSION {
@@ -158,12 +158,12 @@ fn flaw(frame: &[u8]) -> Option<u32>
 /// The segment that a frame holds, read in the tagged or in the untagged form.
 fn segment_by_form(tagged: bool, frame: &[u8]) -> Segment<'_>
     requires control { 4 ≤ length frame.now }
-    requires header { header_len tagged ≤ ulpdu_len frame.now }
+    requires header { ddp_header_len tagged ≤ ulpdu_len frame.now }
     requires whole { LENGTH_LEN + ulpdu_len frame.now ≤ length frame.now }
     ensures { plain result ≡ segment_by_form tagged frame.now }
 {
-    let len = usize::from(half_word_at(frame, 0)) - header_len(tagged);
-    let (_, after) = frame.split_at(LENGTH_LEN + header_len(tagged));
+    let len = usize::from(half_word_at(frame, 0)) - ddp_header_len(tagged);
+    let (_, after) = frame.split_at(LENGTH_LEN + ddp_header_len(tagged));
     let (payload, _) = after.split_at(len);
     let last = has_bit(BIT_LAST, frame[2]);
     let opcode = frame[3] % 16;
