@@ -21,8 +21,11 @@ use std::alloc::Global;
 /// region on.
 #[derive(Clone, Copy)]
 pub enum Operation {
+    /// The Send with this message sequence number, from 1 on (RFC 5041 section 5.2).
     Send { msn: u32 },
+    /// An RDMA Write into the peer's region `stag`, from byte `to` on (RFC 5040 section 4).
     Write { stag: u32, to: u64 },
+    /// A Read Response into the peer's region `stag`, from byte `to` on (RFC 5040 section 4).
     Response { stag: u32, to: u64 },
 }
 

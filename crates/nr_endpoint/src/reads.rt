@@ -14,8 +14,11 @@ use arrayvec::ArrayVec;
 /// `end`.
 #[derive(Clone, Copy, Default)]
 pub struct OpenRead {
+    /// The STag of the own region into which is read.
     pub sink: u32,
+    /// The offset in that region of the next byte that is awaited.
     pub at: u64,
+    /// The offset in that region after the last byte that is awaited.
     pub end: u64,
 }
 

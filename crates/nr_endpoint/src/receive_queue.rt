@@ -20,7 +20,9 @@ use std::marker::Model;
 /// A Send that is begun: its receive buffer, and how many bytes came. Those beyond the buffer are counted and not kept.
 #[derive(Drop)]
 pub struct BegunSend {
+    /// The receive buffer.
     pub buf: Octets,
+    /// How many bytes of its payload came, also beyond the buffer.
     pub len: u64,
 }
 
@@ -28,9 +30,13 @@ pub struct BegunSend {
 /// responses to `reads_done` Read Requests were completed that were not yet delivered to the owner.
 #[derive(Drop)]
 pub struct ReceivedMessage {
+    /// How many Read Requests were completed between the message before it and this one.
     pub reads_done: u64,
+    /// Its message sequence number, from 1 on (RFC 5041 section 5.2).
     pub number: u64,
+    /// The receive buffer, whose first `len` bytes are the message.
     pub buf: Octets,
+    /// The length of the message in bytes.
     pub len: usize,
 }
 

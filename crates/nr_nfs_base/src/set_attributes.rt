@@ -13,8 +13,11 @@ use std::alloc::Global;
 /// How a time is to be set (RFC 1813 section 2.5, `time_how`).
 #[derive(Clone, Copy)]
 pub enum TimeHow {
+    /// The time stays as it is.
     DontChange = 0,
+    /// The server's time of the call.
     SetToServerTime = 1,
+    /// The time that the call gives.
     SetToClientTime = 2,
 }
 

@@ -10,7 +10,9 @@ use crate::window::Window;
 /// A registered buffer: its part that is offered, and for what.
 #[derive(Drop)]
 pub struct HeldBuffer {
+    /// For which accesses it is offered.
     pub right: Right,
+    /// The buffer and its part that is offered.
     pub window: Window,
 }
 

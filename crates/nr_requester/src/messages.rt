@@ -26,8 +26,11 @@ const PAD_MAX: u64 = 3;
 /// A call that has a plan: its head and its arguments, and how they are sent.
 #[derive(Clone, Copy)]
 pub struct PlannedCall<'a> {
+    /// Its RPC call head (RFC 5531 section 9).
     pub head: &'a [u8],
+    /// The arguments of its procedure.
     pub args: &'a [u8],
+    /// What is sent inline, and the lengths of the chunks that are offered.
     pub outline: Outline<'a>,
 }
 

@@ -9,10 +9,16 @@ use nr_xdr::Octets;
 /// owner gave up the answer; the lists that its reply has to repeat; its regions; the room in which its reply is put together.
 #[derive(Drop)]
 pub struct OutstandingCall {
+    /// Its transaction ID (XID).
     pub xid: u32,
+    /// The call, until its memory is revoked.
     pub call: Option<Call>,
+    /// Whether its owner gave up the answer.
     pub is_forgotten: bool,
+    /// The chunk lists of its message, which the reply has to repeat (RFC 8166 section 3.4.6).
     pub offered: ChunkLists,
+    /// Its regions.
     pub claims: Claims,
+    /// The room in which its reply is put together.
     pub room: Octets,
 }

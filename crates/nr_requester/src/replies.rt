@@ -23,9 +23,13 @@ use nr_xdr::Octets;
 /// call's room; or an error message (RFC 8166 section 4.5).
 #[derive(Clone, Copy)]
 pub enum Found {
+    /// The call's memory was revoked: nothing is handed over.
     Nothing,
+    /// A reply: its payload is the first `len` bytes of the call's room.
     Reply { len: usize },
+    /// The error message ERR_CHUNK (RFC 8166 section 4.5.3).
     Chunk,
+    /// The error message ERR_VERS, with the versions supported (RFC 8166 section 4.5.1).
     Version { low: u32, high: u32 },
 }
 

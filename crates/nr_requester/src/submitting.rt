@@ -39,14 +39,18 @@ const NUMBERS_END: u64 = 4294967296;
 /// What is kept of a call that went out: its lists and its regions.
 #[derive(Drop)]
 pub struct Sent {
+    /// The chunk lists of its message.
     pub lists: ChunkLists,
+    /// Its regions.
     pub claims: Claims,
 }
 
 /// The same with the room in which its reply is put together.
 #[derive(Drop)]
 pub struct SentCall {
+    /// What is kept of it.
     pub sent: Sent,
+    /// The room in which its reply is put together.
     pub room: Octets,
 }
 

@@ -25,6 +25,7 @@ use nr_xdr::word_at;
 /// section 4.3), which the supported opcodes ignore.
 #[derive(Clone, Copy)]
 pub enum Segment<'a> {
+    /// A segment of the tagged buffer model (RFC 5041 section 4.2).
     Tagged {
         last: bool,
         opcode: u8,
@@ -32,6 +33,7 @@ pub enum Segment<'a> {
         to: u64,
         payload: &'a [u8],
     },
+    /// A segment of the untagged buffer model (RFC 5041 section 4.3).
     Untagged {
         last: bool,
         opcode: u8,
