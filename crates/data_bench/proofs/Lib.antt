@@ -1,2 +1,0 @@
-mod Below
-pub mod Kept
