@@ -35,7 +35,8 @@ pub fn requesters_stand_for_marks()
 {}
 
 /// A requester keeps the law of its side, so far, and the last grant, from no marks on: by a call that it accepts or refuses, a piece that
-/// it is fed, a drain, also if it ran out of memory, a revoke of a call that is left, an answer that is taken or given up, and each mark of others. All that it may write is all that is due.
+/// it is fed, a drain, also if it ran out of memory, a revoke of a call that is awaited, an answer that is taken or given up, and each mark
+/// of others. All that it may write is all that is due.
 pub fn requesters_keep_their_law()
     ensures begins { LawBegins }
     ensures others { OthersKeepLaw }

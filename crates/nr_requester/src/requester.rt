@@ -140,8 +140,8 @@ impl Requester {
         self.grant
     }
 
-    /// How many marks it made: calls that were accepted, drains and pieces that moved bytes, outcomes that were handed over, and calls that were
-    /// given up. It stands still at 2^64 - 1. Takes no memory.
+    /// How many marks it made: calls that were accepted, drains that moved bytes, pieces that have bytes (also after an End other than
+    /// Memory), outcomes that were handed over, and calls that were given up. It stands still at 2^64 - 1. Takes no memory.
     pub fn marks(&self) -> u64
         ensures { result ≡ self.now.marks }
     {

@@ -359,6 +359,7 @@ impl Requester {
     pub fn submit(&mut self, call: Call, form: Form) -> Result<Ticket, (Call, Refused)>
         requires { CanWriteCred call.cred }
         ensures accepted { IfOk result (λ xid. answer_of self.old.state call form ≡ submissions.Accepted xid) }
+        ensures sent { IfOk result (λ xid. WasSent self.old self.new call form xid) }
         ensures refused { IfErr result (λ e. e.1 ≢ refusals.Memory → answer_of self.old.state call form ≡ submissions.Refused e.1) }
         ensures returned { IfErr result (λ e. e.0 ≡ call) }
         ensures err { OnErr result (self.new ≡ self.old) }
