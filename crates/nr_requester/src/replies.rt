@@ -27,7 +27,7 @@ pub enum Found {
     Nothing,
     /// A reply: its payload is the first `len` bytes of the call's room.
     Reply { len: usize },
-    /// The error message ERR_CHUNK (RFC 8166 section 4.5.3).
+    /// The error message ERR_CHUNK (RFC 8166 sections 4.5.2, 4.5.3).
     Chunk,
     /// The error message ERR_VERS, with the versions supported (RFC 8166 section 4.5.1).
     Version { low: u32, high: u32 },

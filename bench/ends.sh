@@ -1,41 +1,43 @@
 #!/bin/sh
-# One WRITE and one READ of 32 KiB in form Auto through both sides of a link and the plain server: in microseconds, in copies of 32 KiB of
-# the same run (by processor time, and by cycles if perf is there), and, if there is a C compiler, in bytes that are copied and cleared by
-# the C library. Run by hand, at the top of the repository, once `(cd crates/data_bench && rt run -- write 2)` has built the program; or
-# with the program's path as $1.
-exec python3 - "${1:-crates/data_bench/out/data_bench}" <<'END'
+# Calls through both ends of a link and the plain server, one after the other: NULL, beside the Sends of the same bytes through two sides of a
+# link alone; a WRITE and a READ of 32 KiB in form Auto, in copies of 32 KiB of the same run (by processor time, and by cycles if perf is
+# there), with 1 and with 64 credits; and, if there is a C compiler, the bytes that are copied and cleared by the C library. Run by hand, at
+# the top of the repository, once `(cd crates/ends_bench && rt run -- write 2 16)` has built the program; or with the program's path as $1.
+exec python3 - "${1:-crates/ends_bench/out/ends_bench}" <<'END'
 import os, resource, shutil, subprocess, sys, tempfile
 
 PROGRAM = sys.argv[1]
 FEW, MANY = 1_000, 21_000
-KINDS = ('copy', 'write', 'read')
+LARGE = ('copy', 'write', 'read')
+SMALL = ('sends', 'null')
 
-def seconds(what, rounds):
+def seconds(what, rounds, credits):
     """The processor time of a run."""
     before = resource.getrusage(resource.RUSAGE_CHILDREN)
-    subprocess.run([PROGRAM, what, str(rounds)], stdout=subprocess.DEVNULL, check=True)
+    subprocess.run([PROGRAM, what, str(rounds), str(credits)], stdout=subprocess.DEVNULL, check=True)
     after = resource.getrusage(resource.RUSAGE_CHILDREN)
     return after.ru_utime + after.ru_stime - before.ru_utime - before.ru_stime
 
-def cycles(what, rounds):
+def cycles(what, rounds, credits):
     """The processor cycles of a run outside the kernel, by perf; nothing without it."""
     if shutil.which('perf') is None:
         return None
-    done = subprocess.run(['perf', 'stat', '-x,', '-e', 'cycles:u', PROGRAM, what, str(rounds)], capture_output=True, text=True)
+    command = ['perf', 'stat', '-x,', '-e', 'cycles:u', PROGRAM, what, str(rounds), str(credits)]
+    done = subprocess.run(command, capture_output=True, text=True)
     counts = [line.split(',')[0] for line in done.stderr.splitlines() if ',cycles' in line]
     return int(counts[0]) if done.returncode == 0 and counts and counts[0].isdigit() else None
 
-def least(measure, times):
+def least(measure, kinds, few, many, times, credits=16):
     """What one round of each kind takes, beyond the start of the program: the least of several runs, which take turns."""
     best = {}
     for _ in range(times):
-        for what in KINDS:
-            for rounds in (FEW, MANY):
-                used = measure(what, rounds)
+        for what in kinds:
+            for rounds in (few, many):
+                used = measure(what, rounds, credits)
                 if used is None:
                     return None
                 best[what, rounds] = min(used, best.get((what, rounds), used))
-    return {what: (best[what, MANY] - best[what, FEW]) / (MANY - FEW) for what in KINDS}
+    return {what: (best[what, many] - best[what, few]) / (many - few) for what in kinds}
 
 # Counts calls and bytes, in pieces of less than 2,048 bytes and in others.
 COUNTER = r'''
@@ -77,20 +79,37 @@ def counts():
         open(source, 'w').write(COUNTER)
         subprocess.run([compiler, '-O1', '-fno-builtin', '-shared', '-fPIC', '-o', library, source], check=True)
         def run(what, rounds):
-            done = subprocess.run([PROGRAM, what, str(rounds)], env={**os.environ, 'LD_PRELOAD': library}, capture_output=True, check=True)
+            done = subprocess.run([PROGRAM, what, str(rounds), '16'], env={**os.environ, 'LD_PRELOAD': library}, capture_output=True, check=True)
             return [int(word) for word in done.stderr.split()]
-        return {what: [(many - few) / 100 for few, many in zip(run(what, 10), run(what, 110))] for what in ('write', 'read')}
+        return {what: [(many - few) / 100 for few, many in zip(run(what, 10), run(what, 110))] for what in ('null', 'write', 'read')}
 
-each = {what: used * 1e6 for what, used in least(seconds, 9).items()}
-by_cycles = least(cycles, 5)
 counted = counts()
+
+def report_counts(what):
+    if what in counted:
+        kinds = zip(('small copies', 'large copies', 'small clearings', 'large clearings'), counted[what][::2], counted[what][1::2])
+        print('  ' + ', '.join(f'{calls:.0f} {kind} of {size:.0f} bytes' for kind, calls, size in kinds))
+
+small = {what: used * 1e6 for what, used in least(seconds, SMALL, 10_000, 210_000, 7).items()}
+print(f"two Sends, of 68 and 52 bytes: {small['sends']:.3f} microseconds")
+print(f"a NULL call: {small['null']:.2f} microseconds, {small['null'] / small['sends']:.1f} times the Sends (target 40)")
+for rounds in (10_000, 1_000_000):
+    one = seconds('null', rounds, 16) / rounds * 1e6
+    print(f'  of {rounds}: {one:.2f} microseconds')
+for credits in (1, 64):
+    one = least(seconds, ('null',), 10_000, 210_000, 5, credits)['null'] * 1e6
+    print(f'  with {credits} credits: {one:.2f} microseconds')
+report_counts('null')
+each = {what: used * 1e6 for what, used in least(seconds, LARGE, FEW, MANY, 9).items()}
+by_cycles = least(cycles, LARGE, FEW, MANY, 5)
 print(f"copying 32768 bytes: {each['copy']:.2f} microseconds")
 for what in ('write', 'read'):
     line = f"a {what.upper()} of 32768 bytes: {each[what]:.2f} microseconds, {each[what] / each['copy']:.1f} copies (target 6)"
     if by_cycles is not None:
         line += f"; {by_cycles[what]:.0f} cycles, {by_cycles[what] / by_cycles['copy']:.1f} copies"
     print(line)
-    if what in counted:
-        kinds = zip(('small copies', 'large copies', 'small clearings', 'large clearings'), counted[what][::2], counted[what][1::2])
-        print('  ' + ', '.join(f'{calls:.0f} {kind} of {size:.0f} bytes' for kind, calls, size in kinds))
+    for credits in (1, 64):
+        one = least(seconds, (what,), FEW, MANY, 5, credits)[what] * 1e6
+        print(f'  with {credits} credits: {one:.2f} microseconds')
+    report_counts(what)
 END
