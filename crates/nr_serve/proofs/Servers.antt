@@ -4,6 +4,7 @@ use Rattle.std.specs.Prelude.{MatchResult}
 use Rattle.nr_outside.specs.declared.moment.Moment.{Moment}
 use Rattle.nr_links.specs.Asked.{Asks}
 use Rattle.nr_links.specs.Links.{LinkLog}
+use Rattle.nr_links.specs.Moments.{Gives}
 use Rattle.nr_reduce.specs.declared.mark.Entry.{Entry}
 use Rattle.nr_plain.specs.Stands.{PlainServerState, RepresentsJournal}
 use Rattle.nr_words.specs.declared.settings.Settings.{Settings}
@@ -58,7 +59,8 @@ module _ (settings : Settings Text) (before after : AcceptorAt) (gave mid gave' 
       )
 
   pub serves_fewer : (stop : ServeStop) → LinksStopped stop settings before after mid gave' first last → StoppedServing stop settings before after gave gave'
-  serves_fewer stop (inl same, fault) = (inl same, fault)
+  serves_fewer stop (inl (same, asked), fault) =
+      (inl (same, (opens.moment, subst (λ (g : Option (List Moment)). Gives gave g opens.moment) (sym asked) opens.gave)), fault)
   serves_fewer stop (inr (ends, (less, links)), fault) =
       let (J, serves) = serves_by ends links in
       (inr (ends, (less, (J, serves))), fault)

@@ -13,6 +13,7 @@ use Rattle.nr_words.specs.declared.settings.ConfigFault.TheVariants as faults
 use Rattle.nr_outside.specs.declared.whole.ReadEnd.{ReadEnd}
 use Rattle.nr_outside.specs.declared.whole.ReadEnd.TheVariants as ends
 use Rattle.nr_links.specs.Asked.{Asks}
+use Rattle.nr_links.specs.Moments.{Gives}
 use Rattle.nr_plain.specs.Stands.{PlainServerState}
 use Rattle.nr_host.specs.Serving.{ServesAll, between}
 use Rattle.nr_host.specs.declared.serving.ServeFault.{ServeFault}
@@ -38,10 +39,14 @@ StoppedReading stops.Configuration input input' = (text : List ℕ) × (ReadsAll
 StoppedReading stops.Link input input' = ⊥
 StoppedReading stops.Output input input' = ⊥
 
--- fewer links were served than the configuration asks for, or it did not listen
+-- the clock gave one moment
+abbrev pub GivesOne : Option (List Moment) → Option (List Moment) → Type 0
+GivesOne gave gave' = (moment : Moment) × Gives gave gave' moment
+
+-- fewer links were served than the configuration asks for, or it did not listen, and the clock gave the moment of the root alone
 abbrev pub ServesFewer : Settings Text → AcceptorAt → AcceptorAt → Option (List Moment) → Option (List Moment) → Type 0
 ServesFewer settings before after gave gave' =
-    ((after.asked ≡ before.asked) × ((after.ended ≡ before.ended) × (after.lost ≡ before.lost)))
+    (((after.asked ≡ before.asked) × ((after.ended ≡ before.ended) × (after.lost ≡ before.lost))) × GivesOne gave gave')
     ⊎ ((ends : List ConnEnd) × ((length ends < settings.connections) × ((journal : List Entry) × Serves settings before after gave gave' ends journal)))
 
 -- memory ran out, or the acceptor's count rose
@@ -111,7 +116,7 @@ pub record ServesLinksOf (settings : Settings Text) (before after : AcceptorAt) 
 
 abbrev pub LinksStopped : ServeStop → Settings Text → (before after : AcceptorAt) → (gave gave' : Option (List Moment)) → (kept kept' : PlainServerState) → Type 0
 LinksStopped stop settings before after gave gave' kept kept' =
-    (((after.asked ≡ before.asked) × ((after.ended ≡ before.ended) × (after.lost ≡ before.lost)))
+    ((((after.asked ≡ before.asked) × ((after.ended ≡ before.ended) × (after.lost ≡ before.lost))) × (gave' ≡ gave))
     ⊎ ((ends : List ConnEnd) × ((length ends < settings.connections) × ServesLinks settings before after gave gave' kept kept' ends)))
     × IsServeFault stop before.faults after.faults
 

@@ -4,7 +4,7 @@ ghost use Rattle.std.specs.Prelude.{◌≡◌, ◌≤◌, ◌<◌, length, IfOk,
 ghost use Rattle.nr_words.specs.Settings.{config_settings};
 ghost use Rattle.nr_outside.specs.Streams.{Writes, source_at, sink_at};
 ghost use Rattle.nr_serve.specs.Serving.{Opens, acceptor_at, served_text};
-ghost use Rattle.nr_serve.specs.Stops.{Done, InRanges, LinksStopped, ReadsConfig, ServesAndPrints, ServesLinksOf, Stopped, StoppedPrinting, StoppedReading, StopsServing};
+ghost use Rattle.nr_serve.specs.Stops.{Done, GivesOne, InRanges, LinksStopped, ReadsConfig, ServesAndPrints, ServesLinksOf, Stopped, StoppedPrinting, StoppedReading, StopsServing};
 
 use crate::stop::{ServeStop, stop_of_config, stop_of_read, stop_of_serve};
 use nr_host::serve;
@@ -42,7 +42,8 @@ fn read_settings<I: Source>(alloc: Global, input: &mut I) -> Result<Config, Serv
 /// Opens a server over a root alone, which is made at the clock's moment.
 fn open_server<C: Clock>(alloc: Global, clock: &mut C, config: &Config) -> Result<Server, Memory>
     requires { InRanges (config_settings config.now) }
-    ensures { IfOk result (λ server. Opens (config_settings config.now) (C.gave clock.old) (C.gave clock.new) server) }
+    ensures opens { IfOk result (λ server. Opens (config_settings config.now) (C.gave clock.old) (C.gave clock.new) server) }
+    ensures gave { GivesOne (C.gave clock.old) (C.gave clock.new) }
 {
     let moment = clock.now();
     let made = Time {

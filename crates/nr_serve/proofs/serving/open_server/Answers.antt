@@ -3,8 +3,8 @@ use Rattle.nr_plain.specs.Setup.{Setup}
 use Rattle.nr_plain.specs.Stands.{RepresentsJournal}
 use Rattle.nr_serve.proofs.serving.open_server.Goals as goal
 
-pub returns : goal.returns
-returns g c =
+pub returns-clause-opens : goal.returns-clause-opens
+returns-clause-opens g c =
     let number = c.from_be_bytes.ensures in
     let export = c.in-Ok.ensures ∙ c.as_bytes.ensures.value in
     let tree = c.in-Ok-root_only.ensures.ok in

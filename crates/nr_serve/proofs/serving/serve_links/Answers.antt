@@ -1,4 +1,4 @@
-use Rattle.std.proofs.Common.{inl, inr, sym, subst, ◌∙◌}
+use Rattle.std.proofs.Common.{inl, inr, refl, sym, subst, ◌∙◌}
 use Rattle.nr_links.specs.Asked.{Asks}
 use Rattle.nr_serve.specs.Stops.{LinksStopped}
 use Rattle.nr_serve.specs.declared.stop.ServeStop.{ServeStop}
@@ -8,7 +8,7 @@ use Rattle.nr_serve.proofs.Servers.{links_served, serve_fault}
 use Rattle.nr_serve.proofs.serving.serve_links.Goals as goal
 
 pub returns-in-Err : goal.returns-in-Err
-returns-in-Err g c = (inl (c.in-Err.ensures.err_asked, (c.listen.ensures.ended, c.listen.ensures.lost)), c.in-Err.ensures.counted)
+returns-in-Err g c = (inl ((c.in-Err.ensures.err_asked, (c.listen.ensures.ended, c.listen.ensures.lost)), refl), c.in-Err.ensures.counted)
 
 pub returns-in-Ok-serve : goal.returns-in-Ok-serve
 returns-in-Ok-serve g c = record {
