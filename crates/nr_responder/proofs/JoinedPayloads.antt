@@ -1,8 +1,9 @@
 -- The payload of a call, put together of its stream and of what was read.
-use Rattle.std.proofs.Common.{◌≡◌, ℕ, ◌+◌, Bool, true, false, not, cond, eqb, ◌||◌, List, [], ◌++◌, take, drop, replicate, Option, Some, None, Result, Ok, Err, refl, sym, ap, ◌∙◌, arith}
+use Rattle.std.proofs.Common.{◌≡◌, ℕ, ◌+◌, Bool, true, false, not, cond, eqb, ◌||◌, List, [], ◌++◌, take, drop, replicate, Option, Some, None, Result, Ok, Err, IfSome, refl, sym, ap, ◌∙◌, arith}
 use Rattle.std.proofs.lemmas.Bool.{eq-eqb, eqb-true, ne_eqb}
 use Rattle.std.proofs.lemmas.List.{take-append-drop}
 use Rattle.nr_xdr.specs.Item.{pad_len}
+use Rattle.nr_xdr.specs.Reading.{unsigned_at}
 use Rattle.nr_rpc.specs.declared.head.CallHead.{CallHead}
 use Rattle.nr_rpc.specs.Reading.{call_at, call_of, target_of}
 use Rattle.nr_header.specs.declared.header.ReadSegment.{ReadSegment}
@@ -13,11 +14,11 @@ use Rattle.nr_reduce.specs.declared.fault.Mismatch.TheVariants as mismatches
 use Rattle.nr_link.specs.Reasons.{REASON_HEAD}
 use Rattle.nr_reduce.specs.Items.{call_item, item_of, restored_payload, target_item}
 use Rattle.nr_reduce.specs.ServerState.{PendingCall}
-use Rattle.nr_reduce.specs.ServerMessages.{by_head, by_payload}
+use Rattle.nr_reduce.specs.ServerMessages.{CallVerdict, by_head, by_payload}
 use Rattle.nr_reduce.specs.ServerMessages.CallVerdict.{Refuses}
 use Rattle.nr_reduce.specs.Chunks.{call_conveyed, call_moved, call_stream, has_moved_length, item_position, whole, whole_by}
 use Rattle.nr_reduce.specs.Cuts.{joined_by, rebuilt_of}
-use Rattle.nr_responder.specs.private.CallsRead.{payload_at_once}
+use Rattle.nr_responder.specs.private.CallsRead.{payload_at_once, verdict_by}
 
 -- a stream and a chunk that don't belong together
 pub no_payload : (stream moved : List ℕ) (i : Item) (why : Mismatch) → item_of of.Call stream ≡ Some i → rebuilt_of of.Call stream i.pos moved ≡ Err why → None ≡ whole of.Call stream (Some moved)
@@ -69,7 +70,7 @@ no_item_alone stream item = ap (λ (o : Option Item). whole_by of.Call stream []
 -- ---- A call without a stream in its message, of which nothing is read
 
 no_head : call_of [] ≡ Err 0
-unfolding call_of call_at
+unfolding call_of call_at unsigned_at
 no_head = refl
 
 no_item : item_of of.Call [] ≡ None
@@ -92,3 +93,12 @@ pub stream_conveyed : (c : PendingCall) (stream : List ℕ) (o : Option (List �
 stream_conveyed c stream o inline is =
     ap (λ (i : Option (List ℕ)). by_payload c (call_conveyed i c.lists.read (λ position. []))) inline
     ∙ ap (by_payload c) (sym (conveyed_is (Some stream) c.lists.read (λ position. []) (item_position c.lists.read) refl) ∙ is)
+
+pub alone_as : (s0 s : List ℕ) (read r : List ReadSegment) (b v : Bool) → s ≡ s0 → r ≡ read → whole of.Call s (call_moved (item_position r) (λ position. [])) ≡ cond b (Some s) None → b ≡ v →
+    whole of.Call s0 (call_moved (item_position read) (λ position. [])) ≡ cond v (Some s0) None
+alone_as s0 s read r b v same reads is value =
+    (λ i. whole of.Call (sym same i) (call_moved (item_position (sym reads i)) (λ position. []))) ∙ is ∙ (λ i. cond (value i) (Some (same i)) None)
+
+pub ends_by : (c : PendingCall) (s : List ℕ) (o : Option ℕ) (v : CallVerdict) → v ≡ verdict_by c s o → IfSome o (λ reason. v ≡ Refuses reason)
+ends_by c s None v is = tt
+ends_by c s (Some reason) v is = is

@@ -2,6 +2,7 @@
 
 ghost use Rattle.std.specs.Prelude.{◌≡◌, ℕ, ◌+◌, ◌*◌, ◌^◌, ◌<◌, ◌≤◌, length, Some, None, IfErr, IfOk, IfSome, List, [], Option, option_map, slice_get, if◌then◌else◌};
 ghost use Rattle.nr_link.specs.Limits.{send_max};
+ghost use Rattle.nr_rpc.specs.Reading.{call_of, target_of};
 ghost use Rattle.nr_endpoint.specs.Calls.{IsStopReason};
 ghost use Rattle.nr_reduce.specs.Chunks.{call_moved, call_stream, item_position, whole};
 ghost use Rattle.nr_reduce.specs.declared.item.Of.TheVariants as of;
@@ -17,7 +18,7 @@ use crate::call::{Pending, Ready, stream_of};
 use nr_header::{PAYLOAD_MAX, ReadSegment};
 use nr_link::constants::{REASON_HEAD, REASON_XID, SEND_MAX};
 use nr_reduce::{Of, call_item, first_bytes, item_position, rebuild_item_into};
-use nr_rpc::call_xid;
+use nr_rpc::{CallTarget, call_xid};
 use nr_xdr::{Memory, Octets};
 use std::alloc::Global;
 use std::collections::VecDeque;
@@ -146,20 +147,22 @@ pub(crate) fn first_payload(ready: &VecDeque<Ready>) -> Option<&Octets>
     }
 }
 
-/// The payload of this call, which is the first that is ready. `Err` if it is neither in its message nor read: no call is so.
+/// The payload of this call, which is the first that is ready, and what its head asks for, if that was read. `Err` if the payload is neither
+/// in the message nor read: no call is so.
 pub(crate) fn ready_payload<'a>(
     ready: &'a VecDeque<Ready>,
     call: &'a Pending,
-) -> Result<&'a [u8], Memory>
+) -> Result<(&'a [u8], Option<Option<CallTarget>>), Memory>
     requires ready { 0 < length ready.now.items }
     requires call { InBuffer call.now }
-    ensures { IfOk result (λ s. (p : Option (List ℕ)) × ((slice_get (payloads_of ready.now.items) 0 ≡ Some p) × IsPayload (call_view call.now) p s.now)) }
+    ensures payload { IfOk result (λ s. (p : Option (List ℕ)) × ((slice_get (payloads_of ready.now.items) 0 ≡ Some p) × IsPayload (call_view call.now) p s.0.now)) }
+    ensures target { IfOk result (λ s. IfSome s.1 (λ t. t ≡ target_of (call_of s.0.now))) }
 {
     if let Some(payload) = first_payload(ready) {
-        return Ok(payload.as_slice());
+        return Ok((payload.as_slice(), None));
     }
     if !call.inline {
         return Err(Memory);
     }
-    Ok(stream_of(&call.buf, call.len, call.stream_at))
+    Ok((stream_of(&call.buf, call.len, call.stream_at), call.target))
 }
