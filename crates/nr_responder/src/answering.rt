@@ -62,11 +62,7 @@ fn target_of(stream: &[u8], known: Option<Option<CallTarget>>) -> Option<CallTar
 }
 
 /// How the reply to a call whose head asks for this is sent back, by what it offered; `None` if the offer doesn't hold it.
-fn answer_to<'a>(
-    call: &Pending,
-    target: Option<CallTarget>,
-    reply: &'a [u8],
-) -> Option<Answer<'a>>
+fn answer_to<'a>(call: &Pending, target: Option<CallTarget>, reply: &'a [u8]) -> Option<Answer<'a>>
     ensures { option_map answer_view result ≡ answer_of_target (call_view call.now).lists send_max reply.now target }
 {
     match target {

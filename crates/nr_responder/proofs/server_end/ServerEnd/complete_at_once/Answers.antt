@@ -13,7 +13,7 @@ returns-in-None-clause-fetched c =
     (pushed_view c.args.self.now c.push.new.self c.args.call c.push.ensures.same.0 c.push.ensures.same.1 c.push.ensures.reads.0 c.push.ensures.reads.1 c.push.ensures.pushed.0 c.push.ensures.pushed.1)
 
 pub returns-in-Some-clause-fetched : goal.returns-in-Some-clause-fetched
-returns-in-Some-clause-fetched c = EndsFor c.in-Some.field-0 c.in-Some.ensures.reason.1 c.requires.none c.in-Some.ensures.ends c.end_for.ensures.ended
+returns-in-Some-clause-fetched c = EndsFor c.in-Some.reason c.in-Some.ensures.reason.1 c.requires.none c.in-Some.ensures.ends c.end_for.ensures.ended
 
 pub end_for-requires-clause-sound : goal.end_for-requires-clause-sound
 end_for-requires-clause-sound c = sound_less c.args.self.now c.requires.sound
