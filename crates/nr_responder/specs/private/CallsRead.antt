@@ -1,6 +1,6 @@
 -- What a Send with a read list makes of a responder: the sinks of its call are registered, and its reads open or wait (RFC 8166 section
 -- 3.4.5).
-use Rattle.std.specs.Prelude.{◌≡◌, ℕ, List, [], ◌∷◌, ◌++◌, length, take, Option, Some, Result, Ok, Err, Bool, true, not, ◌==◌, replicate, if◌then◌else◌, None}
+use Rattle.std.specs.Prelude.{◌≡◌, ℕ, List, [], ◌∷◌, ◌++◌, length, take, Option, Some, Result, Ok, Err, Bool, not, ◌==◌, replicate, if◌then◌else◌, None}
 use Rattle.nr_reduce.specs.ServerMessages.{CallVerdict, by_payload}
 use Rattle.nr_reduce.specs.ServerMessages.CallVerdict.{Refuses, IsReady}
 use Rattle.std.specs.List.{AllByRecursion, filter, list_any}
