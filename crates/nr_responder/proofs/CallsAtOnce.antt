@@ -32,13 +32,13 @@ use Rattle.nr_reduce.specs.ServerFrames.{FrameEffect, by_message, frame_effect, 
 use Rattle.nr_reduce.specs.Server.{effect_output, server_rules, with_effect}
 use Rattle.nr_responder.specs.ResponderState.{ResponderSide, queued_bytes}
 use Rattle.nr_responder.specs.Keeping.{IsServer, Keeps, KeepsEnd}
-use Rattle.nr_responder.specs.private.CallsRead.{HasNoBytes, complete_call, payload_at_once}
-use Rattle.nr_responder.specs.private.Handling.{on_link}
+use Rattle.nr_responder.specs.private.CallsRead.{HasNoBytes, payload_at_once}
+use Rattle.nr_responder.specs.private.Handling.{with_ready}
 use Rattle.nr_responder.proofs.CallsRead.{skip_old, is_of, taken_side}
 use Rattle.nr_responder.proofs.Frames.{behind, TakesFrame, later_frame}
 use Rattle.nr_responder.proofs.LastResponses.{no_zero_stag}
 use Rattle.nr_responder.proofs.PendingReads.{total_more}
-use Rattle.nr_responder.proofs.SendFrames.{frame_lives, framed, payloads_pushed, payloads_ready, told_keeps, told_server}
+use Rattle.nr_responder.proofs.SendFrames.{frame_lives, framed, payloads_told, told_keeps, told_server}
 use Rattle.nr_responder.proofs.ServerSteps.{closed_if_over, effect_is, inline_effect, new_is_read, over_pushed, pending_effect, quiet_output, ready_call, ready_state, with_inline_call}
 use Rattle.nr_responder.proofs.Whole.{begun_behind, goes_on_lem, lives_on_lem, same_message, told_framed, told_link, whole_message}
 
@@ -111,10 +111,10 @@ complete_refused k at place reason message c is own judged none refuses =
 
 pub complete_takes : (opened : LinkParameters) (k : ServerState) (input : InputState) (v : ResponderSide) (frame : List ℕ) (w queue_number msn offset : ℕ) (payload : List ℕ) (c : PendingCall) (whole : List ℕ) → Keeps opened k input v → 0 < v.link.state.place → 0 < length frame →
     segment_of frame ≡ Ok (Untagged true OPCODE_SEND w queue_number msn offset payload) → (with_frame v.link.state Fpdu frame).ended ≡ None →
-    c.number ≡ k.received.sends + 1 → is_pending k c.xid ≡ false → verdict k (whole_message v.link.state payload) ≡ MakesPending c → HasNoBytes c.lists.read → by_payload c (payload_at_once c) ≡ IsReady (ready_call c whole) →
-    TakesFrame opened k (behind input frame) (next_frame v.link.state frame) v (complete_call (on_link v (record { awaited = Fpdu; rest = []; state = told_link v.link.state frame })) c whole)
+    c.number ≡ k.received.sends + 1 → is_pending k c.xid ≡ false → verdict k (whole_message v.link.state payload) ≡ MakesPending c → HasNoBytes c.lists.read → c.inline ≡ Some whole → by_payload c (payload_at_once c) ≡ IsReady (ready_call c whole) →
+    TakesFrame opened k (behind input frame) (next_frame v.link.state frame) v (with_ready v (record { awaited = Fpdu; rest = []; state = told_link v.link.state frame }) c)
 unfolding frame_segment
-complete_takes opened k input v frame w queue_number msn offset payload c whole h behind_hello some is lives own new judged none ready =
+complete_takes opened k input v frame w queue_number msn offset payload c whole h behind_hello some is lives own new judged none inline ready =
     let s : LinkState = v.link.state in
     let f : Frame = next_frame s frame in
     let segment : Segment = Untagged true OPCODE_SEND w queue_number msn offset payload in
@@ -135,7 +135,7 @@ complete_takes opened k input v frame w queue_number msn offset payload c whole 
     let after : LinkState = taken_side s frame in
     let link : told_link s frame ≡ after = told_framed opened k s frame w queue_number msn offset payload h.link both.1 in
     let output : effect_output k (inline_effect k c whole) ≡ [] = quiet_output k in
-    let keeps : Keeps opened k' (behind input frame) (complete_call (on_link v (record { awaited = Fpdu; rest = []; state = after })) c whole) =
+    let keeps : Keeps opened k' (behind input frame) (with_ready v (record { awaited = Fpdu; rest = []; state = after }) c) =
     record {
       link = told_keeps opened k s frame c whole h.link h.server fine.receive;
       input = record { awaited = refl; rest = refl; place = ap (λ (n : ℕ). n + length frame) h.input.place };
@@ -146,12 +146,12 @@ complete_takes opened k input v frame w queue_number msn offset payload c whole 
       credits = h.credits;
       reads = h.reads;
       sinks = h.sinks;
-      payloads = payloads_ready (k.calls ++ c ∷ []) (ready_call c whole) (Some whole) k.ready v.fetching.payloads refl (payloads_pushed k.calls k.reads c k.ready v.fetching.payloads new h.server.ready h.payloads);
+      payloads = payloads_told k.calls k.reads c whole k.ready v.fetching.payloads inline new h.server.ready h.payloads;
       quiet = λ e. absurd (omega (arith, e, behind_hello));
     } in
-    let kept_now : Keeps opened k' (behind input frame) (complete_call (on_link v (record { awaited = Fpdu; rest = []; state = told_link s frame })) c whole) =
-    subst (λ (t : LinkState). Keeps opened k' (behind input frame) (complete_call (on_link v (record { awaited = Fpdu; rest = []; state = t })) c whole)) (sym link) keeps in
+    let kept_now : Keeps opened k' (behind input frame) (with_ready v (record { awaited = Fpdu; rest = []; state = told_link s frame }) c) =
+    subst (λ (t : LinkState). Keeps opened k' (behind input frame) (with_ready v (record { awaited = Fpdu; rest = []; state = t }) c)) (sym link) keeps in
     record {
-      keeps = subst (λ (e : EndState ServerState). KeepsEnd opened e (behind input frame) (complete_call (on_link v (record { awaited = Fpdu; rest = []; state = told_link s frame })) c whole)) (sym next) (inl (refl, kept_now));
+      keeps = subst (λ (e : EndState ServerState). KeepsEnd opened e (behind input frame) (with_ready v (record { awaited = Fpdu; rest = []; state = told_link s frame }) c)) (sym next) (inl (refl, kept_now));
       output = ap (λ (t : LinkState). queued_bytes t.send_queue) link ∙ sym (append-nil (queued_bytes s.send_queue)) ∙ ap (λ (bytes : List ℕ). queued_bytes s.send_queue ++ bytes) (sym (at.due ∙ output));
     }

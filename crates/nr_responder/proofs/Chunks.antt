@@ -2,7 +2,8 @@
 use Rattle.std.proofs.Common.{◌≡◌, Bool, true, false, not, ◌||◌, eqb, List, [], ◌∷◌, refl}
 use Rattle.std.proofs.lemmas.Bool.{eqb-true}
 use Rattle.nr_header.specs.declared.header.ReadSegment.{ReadSegment}
-use Rattle.nr_responder.specs.private.CallsRead.{HasNoBytes, has_bytes}
+use Rattle.nr_responder.specs.Fetching.{has_bytes}
+use Rattle.nr_responder.specs.private.CallsRead.{HasNoBytes}
 
 pub none_has_bytes : (read : List ReadSegment) → has_bytes read ≡ false → HasNoBytes read
 none_has_bytes [] is = tt

@@ -11,6 +11,7 @@ use Rattle.nr_reduce.specs.Chunks.{positions}
 use Rattle.nr_reduce.specs.ServerReads.{chunks_of}
 use Rattle.nr_reduce.specs.ServerMessages.{by_need}
 use Rattle.nr_reduce.specs.ServerMessages.Verdict.{EndsLink, MakesPending}
+use Rattle.nr_responder.specs.Fetching.{HasBytes}
 use Rattle.nr_responder.specs.ResponderState.{ResponderSide}
 use Rattle.nr_responder.specs.private.CallsRead.{HasNoBytes}
 use Rattle.nr_responder.specs.private.Handling.{FetchesCall, IsReadCall, IsServerOf, Makes, MessageTakes, OfServers}
@@ -35,15 +36,15 @@ spends k c lt = ap (λ (b : Bool). cond b (EndsLink REASON_STAGS) (MakesPending 
 fits : (k : ServerState) (c : PendingCall) → next_stag k + length (chunks_of c.lists) ≤ numbers_end → by_need k c ≡ MakesPending c
 fits k c le = ap (λ (b : Bool). cond b (EndsLink REASON_STAGS) (MakesPending c)) (le-ltb numbers_end (next_stag k + length (chunks_of c.lists)) le)
 
-takes : (k : ServerState) (message : List ℕ) (lists : ChunkLists) (stream_at : ℕ) (inline : Bool) → IsOfReads k message lists stream_at inline → MessageTakes k message
-takes k message lists stream_at inline r = by (nat_lt numbers_end (next_stag k + length (chunks_of lists))) refl
+takes : (k : ServerState) (message : List ℕ) (lists : ChunkLists) (stream_at : ℕ) (inline : Bool) → HasBytes lists.read → IsOfReads k message lists stream_at inline → MessageTakes k message
+takes k message lists stream_at inline bytes r = by (nat_lt numbers_end (next_stag k + length (chunks_of lists))) refl
   where
     c : PendingCall
     c = call_with (k.received.sends + 1) (word_at 0 message) lists (inline_of inline (drop stream_at message))
 
     by : (b : Bool) → nat_lt numbers_end (next_stag k + length (chunks_of lists)) ≡ b → MessageTakes k message
     by true e = TakesEnd REASON_STAGS (λ place. ends_refusal k message REASON_STAGS place (r.needs ∙ ap (λ (b : Bool). cond b (EndsLink REASON_STAGS) (MakesPending c)) e)) (omega arith)
-    by false e = TakesReads (record { call = c; judged = r.needs ∙ ap (λ (b : Bool). cond b (EndsLink REASON_STAGS) (MakesPending c)) e; chunk = r.some })
+    by false e = TakesReads (record { call = c; judged = r.needs ∙ ap (λ (b : Bool). cond b (EndsLink REASON_STAGS) (MakesPending c)) e; bytes = bytes })
 
 pub fetched_makes : (v after : ResponderSide) (number : ℕ) (message : List ℕ) (lists : ChunkLists) (stream_at : ℕ) (inline : Bool) → OfServers (λ k. IsOfReads k message lists stream_at inline) v → v.link.state.memory.next ≤ numbers_end →
     FetchesCall v after (call_with number (word_at 0 message) lists (inline_of inline (drop stream_at message))) → Makes v number message after
@@ -66,6 +67,6 @@ fetched_makes v after number message lists stream_at inline of_reads few = by
         Ends REASON_STAGS (omega arith)
         (λ k server. (of_reads k server).needs ∙ spends k (call_with (k.received.sends + 1) (word_at 0 message) lists stream) (let next = server.next in omega (arith, lt, next))) is
     by (ReadsChunks le some is) = Fetches (word_at 0 message) lists stream (λ k server. read_call k server le) some is
-    by (IsComplete payload none ready is) = Completes (word_at 0 message) lists stream payload (λ k server. read_call k server (no_chunks none)) none ready is
+    by (IsComplete none alone is) = Completes (word_at 0 message) lists stream (λ k server. read_call k server (no_chunks none)) none alone is
     by (EndsFor reason other none refuses is) = EndsAtOnce (word_at 0 message) lists stream reason other (λ k server. read_call k server (no_chunks none)) none refuses is
-    by (RunsOut is) = LeavesReads (λ k server. takes k message lists stream_at inline (of_reads k server)) is
+    by (RunsOut bytes is) = LeavesReads (λ k server. takes k message lists stream_at inline bytes (of_reads k server)) is

@@ -107,11 +107,11 @@ makes_handled v after number message (Fetches xid lists inline judged chunks is)
     inl (λ k server count.
     let r = judged k (told_server_of k v server) in
     Fetched (record { number = number; xid = xid; lists = lists; inline = inline }) count r.own (at_number k message xid number lists inline count r) chunks is)
-makes_handled v after number message (Completes xid lists inline payload judged none ready is) =
+makes_handled v after number message (Completes xid lists inline judged none alone is) =
     inl (λ k server count.
     let r = judged k (told_server_of k v server) in
     let c : PendingCall = record { number = number; xid = xid; lists = lists; inline = inline } in
-    Completed c payload count r.own (at_number k message xid number lists inline count r) none ready is)
+    Completed c count r.own (at_number k message xid number lists inline count r) none alone is)
 makes_handled v after number message (EndsAtOnce xid lists inline reason other judged none refuses is) =
     ended_or_out v after number reason message other
     (λ k server count place.

@@ -108,7 +108,7 @@ message_takes opened k so_far v frame w queue_number msn offset payload h after_
       completed = ap (λ (m : List ℕ). Some m) (sym message);
       call = read.call;
       judged = read.judged;
-      chunk = read.chunk;
+      bytes = read.bytes;
     })
 
 -- what a frame that lives brings to be delivered

@@ -35,7 +35,7 @@ use Rattle.nr_responder.specs.ResponderState.{ResponderSide, queued_bytes}
 use Rattle.nr_responder.specs.Keeping.{Begins, Keeps, KeepsEnd}
 use Rattle.nr_responder.specs.Keeping.Begins.{BeforeHello, AfterHello}
 use Rattle.nr_responder.specs.private.Handling.{Handled, IsHandled, on_link, with_ready, inline_call}
-use Rattle.nr_responder.specs.private.CallsRead.{complete_call, reading_call}
+use Rattle.nr_responder.specs.private.CallsRead.{reading_call}
 use Rattle.nr_responder.specs.private.Handling.Handled.{Stopped, Refused, Ready, Fetched, Completed}
 use Rattle.nr_responder.proofs.Queues.{hello_queue}
 use Rattle.nr_responder.proofs.Executed.{with_message}
@@ -151,11 +151,11 @@ message_takes opened k so_far v after frame w queue_number msn offset payload h 
     let link : after_call (record { awaited = Fpdu; rest = []; state = with_frame s Fpdu frame }) NextEvent ≡ record { awaited = Fpdu; rest = []; state = told_link s frame } = told_is_lem (record { awaited = Fpdu; rest = []; state = with_frame s Fpdu frame }) refl refl in
     subst (λ (x : ResponderSide). TakesFrame opened k (behind so_far frame) (next_frame s frame) v x) (sym (is ∙ ap (λ (l : LinkSide). reading_call (on_link v l) c) link))
     (reading_takes opened k so_far v frame w queue_number msn offset payload c h some long reads lives own new judged chunks)
-message_takes opened k so_far v after frame w queue_number msn offset payload h some awaited long reads lives (Completed c whole own new judged none ready is) =
+message_takes opened k so_far v after frame w queue_number msn offset payload h some awaited long reads lives (Completed c own new judged none alone is) =
     let s : LinkState = v.link.state in
     let link : after_call (record { awaited = Fpdu; rest = []; state = with_frame s Fpdu frame }) NextEvent ≡ record { awaited = Fpdu; rest = []; state = told_link s frame } = told_is_lem (record { awaited = Fpdu; rest = []; state = with_frame s Fpdu frame }) refl refl in
-    subst (λ (x : ResponderSide). TakesFrame opened k (behind so_far frame) (next_frame s frame) v x) (sym (is ∙ ap (λ (l : LinkSide). complete_call (on_link v l) c whole) link))
-    (complete_takes opened k so_far v frame w queue_number msn offset payload c whole h some long reads lives own new judged none ready)
+    subst (λ (x : ResponderSide). TakesFrame opened k (behind so_far frame) (next_frame s frame) v x) (sym (is ∙ ap (λ (l : LinkSide). with_ready v l c) link))
+    (complete_takes opened k so_far v frame w queue_number msn offset payload c alone.payload h some long reads lives own new judged none alone.inline alone.judged)
 
 send_takes : (opened : LinkParameters) (k : ServerState) (so_far : InputState) (v after : ResponderSide) (frame : List ℕ) → Keeps opened k so_far v → 0 < v.link.state.place → v.link.awaited ≡ Fpdu → 0 < length frame →
     (with_frame v.link.state Fpdu frame).ended ≡ None → IsHandled k (on_link v (record { awaited = Fpdu; rest = []; state = with_frame v.link.state Fpdu frame })) after → IsSend v.link.state frame →

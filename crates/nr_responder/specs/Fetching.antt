@@ -1,7 +1,16 @@
 -- What a responder fetches of its client's memory for calls with a read list (RFC 8166 section 3.4.5).
-use Rattle.std.specs.Prelude.{ℕ, List, [], ◌∷◌, ◌++◌, length, drop, Option, None, Some}
+use Rattle.std.specs.Prelude.{◌≡◌, ℕ, ◌==◌, Bool, true, not, List, [], ◌∷◌, ◌++◌, length, drop, Option, None, Some}
+use Rattle.std.specs.List.{list_any}
+use Rattle.nr_header.specs.declared.header.ReadSegment.{ReadSegment}
 use Rattle.nr_reduce.specs.OfferedRegions.{Region}
 use Rattle.nr_reduce.specs.ServerState.{PendingRead}
+
+-- some entry of a read list has bytes: something is to be read
+abbrev pub has_bytes : List ReadSegment → Bool
+has_bytes read = list_any (λ r. not (r.length == 0)) read
+
+abbrev pub HasBytes : List ReadSegment → Type 0
+HasBytes read = has_bytes read ≡ true
 
 -- an open sink region: of the call whose Send has this number, for the entries of its read list at this position
 pub record SinkRegion : Type 0 where

@@ -18,6 +18,7 @@ use Rattle.nr_reduce.specs.ServerMessages.{verdict}
 use Rattle.nr_reduce.specs.ServerMessages.Verdict.{MakesPending}
 use Rattle.nr_reduce.specs.Server.{server_rules}
 use Rattle.nr_responder.specs.ResponderState.{ResponderSide, queue, end_of}
+use Rattle.nr_responder.specs.Fetching.{HasBytes}
 use Rattle.nr_responder.specs.Keeping.{KeepsEnd}
 
 abbrev pub received_events : InputState → List ℕ → List RunEvent
@@ -36,7 +37,7 @@ FedOn before piece after = (opened : LinkParameters) (end : EndState ServerState
 
 -- ---- Where it may run out of memory
 
--- the Send that a frame completes makes a call with a read chunk pending
+-- the Send that a frame completes makes a call pending of which something is to be read
 pub record CompletesRead (k : ServerState) (f : Frame) : Type 0 where
   pub segment : Segment
   pub reads : frame_segment f ≡ Ok segment
@@ -44,9 +45,9 @@ pub record CompletesRead (k : ServerState) (f : Frame) : Type 0 where
   pub completed : message_completed k.received segment ≡ Some message
   pub call : PendingCall
   pub judged : verdict k message ≡ MakesPending call
-  pub chunk : call.lists.read ≢ []
+  pub bytes : HasBytes call.lists.read
 
--- the server has output of its own for a frame, or the frame completes the Send of a call with a read chunk
+-- the server has output of its own for a frame, or the frame completes the Send of a call of which something is to be read
 abbrev pub TakesMemory : LinkParameters → ServerState → Frame → Type 0
 TakesMemory opened k f = (output_for (server_rules opened) (live k) (FrameReceived f) ≢ []) ⊎ CompletesRead k f
 

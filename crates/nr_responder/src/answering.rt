@@ -3,7 +3,10 @@
 ghost use Rattle.std.specs.Prelude.{◌≡◌, ℕ, ◌+◌, ◌≤◌, ◌<◌, ◌^◌, length, drop, take, IfOk, OnOk, OnErr, All, option_map, [], ◌++◌, IfSome, ◌==◌, if◌then◌else◌};
 ghost use Rattle.nr_header.specs.WithinLimits.{ListsWithin, SegmentsEnd};
 ghost use Rattle.nr_endpoint.specs.Offering.{FitsRegion, writes_output};
+ghost use Rattle.nr_link.specs.Limits.{send_max};
 ghost use Rattle.nr_link.specs.Output.{write};
+ghost use Rattle.nr_rpc.specs.Reading.{call_of, target_of};
+ghost use Rattle.nr_reduce.specs.Server.{answer_of_target};
 ghost use Rattle.nr_reduce.specs.Holds.{chunk_error, version_error, writes_into, first_chunk, no_segments};
 ghost use Rattle.nr_reduce.specs.CodeViews.{answer_view};
 ghost use Rattle.nr_responder.specs.Answering.{answer_to, message_for, writes_for, sent_as, Queues};
@@ -15,7 +18,7 @@ use nr_endpoint::{Endpoint, RemoteWrite};
 use nr_header::{Chunk, ChunkLists, RdmaSegment, TransportError, VERSION, write_error};
 use nr_link::constants::SEND_MAX;
 use nr_reduce::{Answer, answer_for, answer_message};
-use nr_rpc::call_target;
+use nr_rpc::{CallTarget, call_target};
 use nr_xdr::{Memory, Octets};
 use std::alloc::Global;
 
@@ -47,11 +50,22 @@ pub(crate) fn version_error(
     write_error(alloc, xid, version, credits, error)
 }
 
-/// How the reply to a call with this payload is sent back, by what it offered; `None` if the offer doesn't hold it.
-fn answer_to<'a>(call: &Pending, stream: &[u8], reply: &'a [u8]) -> Option<Answer<'a>>
-    ensures { option_map answer_view result ≡ answer_to (call_view call.now) stream.now reply.now }
+/// What the head of a stream asks for, which may have been read.
+fn target_of(stream: &[u8], known: Option<Option<CallTarget>>) -> Option<CallTarget>
+    requires { IfSome known (λ t. t ≡ target_of (call_of stream.now)) }
+    ensures { result ≡ target_of (call_of stream.now) }
 {
-    match call_target(stream) {
+    match known {
+        Some(target) => target,
+        None => call_target(stream),
+    }
+}
+
+/// How the reply to a call whose head asks for this is sent back, by what it offered; `None` if the offer doesn't hold it.
+fn answer_to<'a>(call: &Pending, target: Option<CallTarget>, reply: &'a [u8]) -> Option<Answer<'a>>
+    ensures { option_map answer_view result ≡ answer_of_target (call_view call.now).lists send_max reply.now target }
+{
+    match target {
         Some(target) => answer_for(
             &call.lists,
             target.prog,
@@ -206,22 +220,25 @@ fn push_answer<'a>(
     Ok(())
 }
 
-/// Queues the answer to a call with this payload: its RDMA Writes and its message. An `Err` changes nothing.
+/// Queues the answer to a call with this payload: its RDMA Writes and its message. `target` is what the payload's head asks for, if that was
+/// read. An `Err` changes nothing.
 pub(crate) fn queue_answer(
     endpoint: &mut Endpoint,
     alloc: Global,
     call: &Pending,
     stream: &[u8],
+    target: Option<Option<CallTarget>>,
     credits: u32,
     reply: &[u8],
 ) -> Result<Sent, Memory>
     requires call { InBuffer call.now }
+    requires target { IfSome target (λ t. t ≡ target_of (call_of stream.now)) }
     ensures queued { IfOk result (Queues (call_view call.now) stream.now reply.now credits endpoint.old.link endpoint.new.link) }
     ensures err { OnErr result (endpoint.new.link ≡ endpoint.old.link) }
     ensures staging { endpoint.new.staging ≡ endpoint.old.staging }
     ensures outside { endpoint.new.outside ≡ endpoint.old.outside }
 {
-    let answer = answer_to(call, stream, reply);
+    let answer = answer_to(call, target_of(stream, target), reply);
     let sent = sent_as(&answer);
     let message = message_for(alloc, call.xid, credits, &call.lists, answer)?;
     if message.len() > SENDABLE {

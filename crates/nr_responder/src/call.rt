@@ -7,12 +7,13 @@ ghost use Rattle.nr_responder.specs.Views.{read_view};
 
 use nr_header::ChunkLists;
 use nr_regions::Registration;
+use nr_rpc::CallTarget;
 use nr_xdr::Octets;
 use std::marker::Model;
 
 /// A call whose Send is complete, and which isn't answered. Its Send has this number, from 1 on. Its message is the first `len` bytes of
 /// its receive buffer. If its stream is `inline`, it stands in the message from `stream_at` on. `room` is the room of its payload, while its
-/// chunks are read.
+/// chunks are read. `target` is what the head of its inline stream asks for, if that was read: `Some(None)` if it is of another RPC version.
 #[derive(Drop)]
 pub struct Pending {
     pub number: u64,
@@ -23,6 +24,7 @@ pub struct Pending {
     pub stream_at: usize,
     pub inline: bool,
     pub room: Option<Octets>,
+    pub target: Option<Option<CallTarget>>,
 }
 
 /// A call that waits to be executed, with its payload if that was read with its chunks; else it is the stream of its Send.

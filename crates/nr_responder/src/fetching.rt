@@ -7,11 +7,12 @@ ghost use Rattle.nr_header.specs.WithinLimits.{read_total};
 ghost use Rattle.nr_responder.specs.private.Handling.{FetchesCall, out};
 ghost use Rattle.nr_responder.specs.Sound.{state_of, InBuffer, ServerEndInvariant, ServerEndInvariantWith, SameInput};
 ghost use Rattle.nr_reduce.specs.ServerReads.{is_read};
-ghost use Rattle.nr_responder.specs.private.CallsRead.{chunk_positions, has_bytes, HasBytes, HasNoBytes, reading_call};
+ghost use Rattle.nr_responder.specs.Fetching.{has_bytes, HasBytes};
+ghost use Rattle.nr_responder.specs.private.CallsRead.{chunk_positions, HasNoBytes, reading_call};
 ghost use Rattle.nr_responder.specs.Views.{call_view, read_view};
 
 use crate::call::{Pending, has_number};
-use crate::payloads::{judge_payload, payload_at_once};
+use crate::payloads::judge_at_once;
 use crate::read_lists::chunk_positions;
 use crate::server_end::ServerEnd;
 use crate::starting::{begin_reads, push_reading};
@@ -73,6 +74,7 @@ impl ServerEnd {
         requires frame { 0 < self.old.endpoint.link.state.place }
         requires call { InBuffer call }
         requires reads { read_total call.lists.read ≤ PAYLOAD_MAX }
+        requires bytes { HasBytes call.lists.read }
         requires chunks { chunks.now ≡ chunk_positions call.lists.read }
         ensures fetched { FetchesCall (state_of self.old) (state_of self.new) (call_view call) }
         ensures sound { ServerEndInvariant self.new }
@@ -121,7 +123,7 @@ impl ServerEnd {
         }
     }
 
-    /// A call whose read list has no bytes: it is ready, or ends the link.
+    /// A call whose read list has no bytes: it is ready, or ends the link. Takes memory for a Terminate alone.
     fn complete_at_once(&mut self, call: Pending)
         requires sound { ServerEndInvariantWith 1 self.old }
         requires live { self.old.endpoint.link.state.ended ≡ None }
@@ -134,13 +136,9 @@ impl ServerEnd {
         ensures input { SameInput self.old.endpoint.link self.new.endpoint.link }
         ensures staging { self.new.endpoint.staging ≡ self.old.endpoint.staging }
     {
-        let Ok(payload) = payload_at_once(self.alloc, &call) else {
-            self.run_out();
-            return;
-        };
-        match judge_payload(payload, call.xid) {
-            Ok(payload) => self.push(call, Some(payload)),
-            Err(reason) => self.end_for(reason),
+        match judge_at_once(&call) {
+            None => self.push(call, None),
+            Some(reason) => self.end_for(reason),
         }
     }
 }

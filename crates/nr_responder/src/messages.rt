@@ -18,6 +18,7 @@ use crate::judging::{Judged, judge};
 use crate::server_end::{ServerEnd, own_xid, send_error, stop};
 use nr_header::ChunkLists;
 use nr_link::constants::{REASON_CALL, REASON_KIND};
+use nr_rpc::call_target;
 use nr_xdr::{Memory, Octets, word_at};
 
 impl ServerEnd {
@@ -92,6 +93,7 @@ impl ServerEnd {
                 stream_at,
                 inline,
                 room: None,
+                target: None,
             }),
         }
     }
@@ -127,7 +129,8 @@ impl ServerEnd {
         ensures input { SameInput self.old.endpoint.link self.new.endpoint.link }
         ensures staging { self.new.endpoint.staging ≡ self.old.endpoint.staging }
     {
-        match own_xid(&buf, len, stream_at) {
+        let target = call_target(stream_of(&buf, len, stream_at));
+        match own_xid(&buf, len, stream_at, target) {
             Err(reason) => self.end_for(reason),
             Ok(xid) => {
                 let call = Pending {
@@ -139,6 +142,7 @@ impl ServerEnd {
                     stream_at,
                     inline: true,
                     room: None,
+                    target: Some(target),
                 };
                 self.push(call, None);
             }

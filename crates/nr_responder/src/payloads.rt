@@ -1,22 +1,24 @@
 //! The payload of a call whose chunks are read (RFC 8166 section 3.4.5).
 
-ghost use Rattle.std.specs.Prelude.{◌≡◌, ℕ, ◌+◌, ◌*◌, ◌^◌, ◌<◌, ◌≤◌, length, Some, None, IfErr, IfOk, List, [], Option, option_map, slice_get};
+ghost use Rattle.std.specs.Prelude.{◌≡◌, ℕ, ◌+◌, ◌*◌, ◌^◌, ◌<◌, ◌≤◌, length, Some, None, IfErr, IfOk, IfSome, List, [], Option, option_map, slice_get, if◌then◌else◌};
 ghost use Rattle.nr_link.specs.Limits.{send_max};
+ghost use Rattle.nr_rpc.specs.Reading.{call_of, target_of};
 ghost use Rattle.nr_endpoint.specs.Calls.{IsStopReason};
-ghost use Rattle.nr_reduce.specs.Chunks.{call_stream, whole};
+ghost use Rattle.nr_reduce.specs.Chunks.{call_moved, call_stream, item_position, whole};
 ghost use Rattle.nr_reduce.specs.declared.item.Of.TheVariants as of;
 ghost use Rattle.nr_reduce.specs.ServerState.{PendingCall};
 ghost use Rattle.nr_reduce.specs.ServerMessages.{by_payload};
-ghost use Rattle.nr_responder.specs.private.CallsRead.{payload_at_once, verdict_of};
+ghost use Rattle.nr_reduce.specs.ServerMessages.CallVerdict.{Refuses};
+ghost use Rattle.nr_responder.specs.private.CallsRead.{payload_at_once, verdict_by, verdict_of, IsStreamAlone};
 ghost use Rattle.nr_responder.specs.Sound.{payload_room, payloads_of, InBuffer};
 ghost use Rattle.nr_responder.specs.Answering.{IsPayload};
 ghost use Rattle.nr_responder.specs.Views.{call_view};
 
 use crate::call::{Pending, Ready, stream_of};
-use nr_header::PAYLOAD_MAX;
+use nr_header::{PAYLOAD_MAX, ReadSegment};
 use nr_link::constants::{REASON_HEAD, REASON_XID, SEND_MAX};
 use nr_reduce::{Of, call_item, first_bytes, item_position, rebuild_item_into};
-use nr_rpc::call_xid;
+use nr_rpc::{CallTarget, call_xid};
 use nr_xdr::{Memory, Octets};
 use std::alloc::Global;
 use std::collections::VecDeque;
@@ -62,6 +64,22 @@ pub(crate) fn with_item(room: Octets, stream: &[u8], moved: &[u8]) -> Option<Oct
     }
 }
 
+/// Why the link ends if a call has this payload: it is no RPC call with this xid.
+fn judge_bytes(payload: &[u8], xid: u32) -> Option<u32>
+    ensures verdict { (c : PendingCall) → c.xid ≡ xid → by_payload c (Some payload.now) ≡ verdict_by c payload.now result }
+    ensures reason { IfSome result (λ reason. IsStopReason reason × (5 ≤ reason)) }
+{
+    match call_xid(payload) {
+        None => Some(REASON_HEAD),
+        Some(found) => {
+            if found != xid {
+                return Some(REASON_XID);
+            }
+            None
+        }
+    }
+}
+
 /// The payload of a call, or why the link ends: it is no RPC call with this xid.
 pub(crate) fn judge_payload(payload: Option<Octets>, xid: u32) -> Result<Octets, u32>
     ensures verdict { (c : PendingCall) → c.xid ≡ xid → by_payload c payload ≡ verdict_of c result }
@@ -70,14 +88,9 @@ pub(crate) fn judge_payload(payload: Option<Octets>, xid: u32) -> Result<Octets,
     let Some(payload) = payload else {
         return Err(REASON_HEAD);
     };
-    match call_xid(payload.as_slice()) {
-        None => Err(REASON_HEAD),
-        Some(found) => {
-            if found != xid {
-                return Err(REASON_XID);
-            }
-            Ok(payload)
-        }
+    match judge_bytes(payload.as_slice(), xid) {
+        None => Ok(payload),
+        Some(reason) => Err(reason),
     }
 }
 
@@ -93,17 +106,34 @@ pub(crate) fn inline_stream(call: &Pending) -> &[u8]
     &[]
 }
 
-/// The payload of a call of which nothing is read: each of its chunks is empty.
-pub(crate) fn payload_at_once(alloc: Global, call: &Pending) -> Result<Option<Octets>, Memory>
-    requires { InBuffer call.now }
-    ensures { IfOk result (λ payload. payload ≡ payload_at_once (call_view call.now)) }
+/// Whether a stream is the payload of a call with this read list, each of whose chunks is empty: it has no item, or one of no bytes.
+fn is_stream_alone(stream: &[u8], read: &[ReadSegment]) -> bool
+    ensures { whole of.Call stream.now (call_moved (item_position read.now) (λ position. [])) ≡ (if result then Some stream.now else None) }
 {
-    let room = take_room(alloc)?;
-    let stream = inline_stream(call);
-    match item_position(call.lists.read.as_slice()) {
-        Some(_) => Ok(with_item(room, stream, &[])),
-        None => Ok(Some(stream_alone(room, stream))),
+    match item_position(read) {
+        Some(_) => match call_item(stream) {
+            Some(item) => item.len == 0,
+            None => false,
+        },
+        None => true,
     }
+}
+
+/// Why the link ends for a call of which nothing is read; if it doesn't, the call's payload is the stream of its Send.
+pub(crate) fn judge_at_once(call: &Pending) -> Option<u32>
+    requires { InBuffer call.now }
+    ensures alone { result ≡ None → IsStreamAlone (call_view call.now) }
+    ensures ends { IfSome result (λ reason. by_payload (call_view call.now) (payload_at_once (call_view call.now)) ≡ Refuses reason) }
+    ensures reason { IfSome result (λ reason. IsStopReason reason × (5 ≤ reason)) }
+{
+    if !call.inline {
+        return Some(REASON_HEAD);
+    }
+    let stream = stream_of(&call.buf, call.len, call.stream_at);
+    if !is_stream_alone(stream, call.lists.read.as_slice()) {
+        return Some(REASON_HEAD);
+    }
+    judge_bytes(stream, call.xid)
 }
 
 /// The payload of the first call that is ready, if it was read with its chunks.
@@ -117,20 +147,22 @@ pub(crate) fn first_payload(ready: &VecDeque<Ready>) -> Option<&Octets>
     }
 }
 
-/// The payload of this call, which is the first that is ready. `Err` if it is neither in its message nor read: no call is so.
+/// The payload of this call, which is the first that is ready, and what its head asks for, if that was read. `Err` if the payload is neither
+/// in the message nor read: no call is so.
 pub(crate) fn ready_payload<'a>(
     ready: &'a VecDeque<Ready>,
     call: &'a Pending,
-) -> Result<&'a [u8], Memory>
+) -> Result<(&'a [u8], Option<Option<CallTarget>>), Memory>
     requires ready { 0 < length ready.now.items }
     requires call { InBuffer call.now }
-    ensures { IfOk result (λ s. (p : Option (List ℕ)) × ((slice_get (payloads_of ready.now.items) 0 ≡ Some p) × IsPayload (call_view call.now) p s.now)) }
+    ensures payload { IfOk result (λ s. (p : Option (List ℕ)) × ((slice_get (payloads_of ready.now.items) 0 ≡ Some p) × IsPayload (call_view call.now) p s.0.now)) }
+    ensures target { IfOk result (λ s. IfSome s.1 (λ t. t ≡ target_of (call_of s.0.now))) }
 {
     if let Some(payload) = first_payload(ready) {
-        return Ok(payload.as_slice());
+        return Ok((payload.as_slice(), None));
     }
     if !call.inline {
         return Err(Memory);
     }
-    Ok(stream_of(&call.buf, call.len, call.stream_at))
+    Ok((stream_of(&call.buf, call.len, call.stream_at), call.target))
 }

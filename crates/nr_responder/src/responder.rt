@@ -73,8 +73,8 @@ impl Responder {
 
     /// Takes a piece of the client's stream. `Err` if and only if the side has ended, with why; a side that has ended takes no more.
     /// `End::Memory`: memory ran out at a frame, which the piece completed, for output of the server's own (its hello, an error message, a Read
-    /// Request, what it writes last), or at the Send of a call with a read list; its calls and its queue are as before that frame, and what
-    /// was queued until then is still written.
+    /// Request, what it writes last), or at the Send of a call of which something is to be read; its calls and its queue are as before that
+    /// frame, and what was queued until then is still written.
     pub fn feed(&mut self, piece: &[u8]) -> Result<(), End>
         requires { fed_bytes self.old.side.link + length piece.now ≤ 2 ^ 62 }
         ensures ended { result_err result ≡ end_of self.new.side }

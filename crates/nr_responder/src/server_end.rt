@@ -1,12 +1,13 @@
 //! What a responder keeps: its endpoint, the calls that it has not answered, and the receives of answers that haven't left.
 
-ghost use Rattle.std.specs.Prelude.{◌≡◌, ◌≢◌, ℕ, ◌+◌, ◌-◌, ◌<◌, ◌≤◌, ◌^◌, List, [], ◌∷◌, ◌++◌, length, take, get_or, slice_get, Option, None, Some, IfOk, OnOk, OnErr, IfSome, IsOk, is_some, All, MatchOption, MatchResult, true, false, if◌then◌else◌, ◌⊎◌};
+ghost use Rattle.std.specs.Prelude.{◌≡◌, ◌≢◌, ℕ, ◌+◌, ◌-◌, ◌<◌, ◌≤◌, ◌^◌, List, [], ◌∷◌, ◌++◌, length, take, drop, get_or, slice_get, Option, None, Some, IfOk, OnOk, OnErr, IfSome, IsOk, is_some, All, MatchOption, MatchResult, true, false, if◌then◌else◌, ◌⊎◌};
 ghost use Rattle.std.specs.VecDeque.{deque_capacity};
 ghost use Rattle.nr_outside.specs.Faults.{Rises};
 ghost use Rattle.nr_endpoint.specs.declared.fault.DrainFault.TheVariants as drains;
 ghost use Rattle.nr_wire.specs.Constants.{FPDU_MAX};
 ghost use Rattle.nr_wire.specs.Feeding.{bytes_taken};
 ghost use Rattle.nr_link.specs.Limits.{send_max};
+ghost use Rattle.nr_rpc.specs.Reading.{call_of, target_of, xid_of_call};
 ghost use Rattle.nr_header.specs.Constants.{FIXED_LEN};
 ghost use Rattle.nr_endpoint.specs.FedBytes.{fed_bytes};
 ghost use Rattle.nr_endpoint.specs.Receives.{IsReceive};
@@ -35,7 +36,7 @@ use nr_endpoint::{DrainFault, Endpoint, Event};
 use nr_link::End;
 use nr_link::constants::{REASON_HEAD, REASON_XID};
 use nr_outside::Sink;
-use nr_rpc::call_xid;
+use nr_rpc::{CallTarget, call_xid};
 use nr_wire::Side;
 use nr_xdr::{Memory, Octets, word_at};
 use std::alloc::Global;
@@ -56,14 +57,31 @@ pub struct ServerEnd {
     pub(crate) alloc: Global,
 }
 
+/// The xid of the call head with which a stream begins, if it does. What such a head of RPC version 2 asks for was read.
+fn stream_xid(stream: &[u8], target: Option<CallTarget>) -> Option<u32>
+    requires { target ≡ target_of (call_of stream.now) }
+    ensures { result ≡ xid_of_call (call_of stream.now) }
+{
+    match target {
+        Some(target) => Some(target.xid),
+        None => call_xid(stream),
+    }
+}
+
 /// The xid of a call whose stream stands in its message, or the reason for which the link ends.
-pub(crate) fn own_xid(buf: &Octets, len: usize, stream_at: usize) -> Result<u32, u32>
+pub(crate) fn own_xid(
+    buf: &Octets,
+    len: usize,
+    stream_at: usize,
+    target: Option<CallTarget>,
+) -> Result<u32, u32>
     requires len { (FIXED_LEN ≤ len) × (len ≤ length buf.now) }
     requires stream { stream_at ≤ len }
+    requires target { target ≡ target_of (call_of (drop stream_at (take len buf.now))) }
     ensures xid { ReadsXid (take len buf.now) stream_at result }
 {
     let xid = word_at(stream_of(buf, len, 0), 0);
-    match call_xid(stream_of(buf, len, stream_at)) {
+    match stream_xid(stream_of(buf, len, stream_at), target) {
         None => Err(REASON_HEAD),
         Some(found) => {
             if found != xid {
@@ -330,12 +348,13 @@ impl ServerEnd {
         ensures sound { ServerEndInvariant self.new }
     {
         self.endpoint.facts();
-        let stream = ready_payload(&self.ready, &self.calls[at])?;
+        let (stream, target) = ready_payload(&self.ready, &self.calls[at])?;
         let sent = queue_answer(
             &mut self.endpoint,
             self.alloc,
             &self.calls[at],
             stream,
+            target,
             self.credits,
             reply,
         )?;

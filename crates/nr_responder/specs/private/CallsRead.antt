@@ -1,7 +1,7 @@
 -- What a Send with a read list makes of a responder: the sinks of its call are registered, and its reads open or wait (RFC 8166 section
 -- 3.4.5).
-use Rattle.std.specs.Prelude.{◌≡◌, ℕ, List, [], ◌∷◌, ◌++◌, length, take, Option, Some, Result, Ok, Err, Bool, true, not, ◌==◌, replicate, if◌then◌else◌, None}
-use Rattle.nr_reduce.specs.ServerMessages.{CallVerdict}
+use Rattle.std.specs.Prelude.{◌≡◌, ℕ, List, [], ◌∷◌, ◌++◌, length, take, Option, Some, Result, Ok, Err, Bool, not, ◌==◌, replicate, if◌then◌else◌, None}
+use Rattle.nr_reduce.specs.ServerMessages.{CallVerdict, by_payload}
 use Rattle.nr_reduce.specs.ServerMessages.CallVerdict.{Refuses, IsReady}
 use Rattle.std.specs.List.{AllByRecursion, filter, list_any}
 use Rattle.nr_header.specs.declared.header.ReadSegment.{ReadSegment}
@@ -14,7 +14,7 @@ use Rattle.nr_reduce.specs.OfferedRegions.{Region}
 use Rattle.nr_reduce.specs.ServerState.{PendingCall, PendingRead}
 use Rattle.nr_reduce.specs.ServerReads.{chunks_of, regions_from, reads_from, read_of}
 use Rattle.nr_reduce.specs.Chunks.{positions, total_at}
-use Rattle.nr_responder.specs.Fetching.{open_sinks, payload_added}
+use Rattle.nr_responder.specs.Fetching.{open_sinks}
 use Rattle.nr_responder.specs.ResponderState.{ResponderSide}
 use Rattle.nr_responder.specs.Keeping.{later_responses}
 use Rattle.nr_responder.specs.private.Reading.{opening, with_requests}
@@ -71,29 +71,29 @@ reading_call v c = record {
 abbrev pub HasNoBytes : List ReadSegment → Type 0
 HasNoBytes read = AllByRecursion (λ r. r.length ≡ 0) read
 
-abbrev pub has_bytes : List ReadSegment → Bool
-has_bytes read = list_any (λ r. not (r.length == 0)) read
-
-abbrev pub HasBytes : List ReadSegment → Type 0
-HasBytes read = has_bytes read ≡ true
-
 -- its payload: each of its chunks is empty
 abbrev pub payload_at_once : PendingCall → Option (List ℕ)
 payload_at_once c = call_conveyed c.inline c.lists.read (λ position. [])
 
-abbrev pub complete_call : ResponderSide → PendingCall → List ℕ → ResponderSide
-complete_call v c payload = record {
-  link = v.link;
-  calls = v.calls ++ c ∷ [];
-  ready = v.ready ++ c.xid ∷ [];
-  credits = v.credits;
-  fetching = payload_added (Some payload) v.fetching;
-}
+-- a call that is ready with this payload
+abbrev pub ready_with_payload : PendingCall → List ℕ → CallVerdict
+ready_with_payload c payload = IsReady (record { number = c.number; xid = c.xid; payload = payload })
+
+-- such a call whose payload is the stream of its Send
+pub record IsStreamAlone (c : PendingCall) : Type 0 where
+  pub payload : List ℕ
+  pub inline : c.inline ≡ Some payload
+  pub judged : by_payload c (payload_at_once c) ≡ ready_with_payload c payload
 
 -- the verdict on a call whose payload was judged so
 abbrev pub verdict_of : PendingCall → Result (List ℕ) ℕ → CallVerdict
-verdict_of c (Ok payload) = IsReady (record { number = c.number; xid = c.xid; payload = payload })
+verdict_of c (Ok payload) = ready_with_payload c payload
 verdict_of c (Err reason) = Refuses reason
+
+-- the verdict on a call with this payload, if the link ends for a reason or not
+abbrev pub verdict_by : PendingCall → List ℕ → Option ℕ → CallVerdict
+verdict_by c payload None = ready_with_payload c payload
+verdict_by c payload (Some reason) = Refuses reason
 
 -- ---- A read list, entry by entry
 

@@ -15,13 +15,13 @@ use Rattle.nr_reduce.specs.Holds.{chunk_error, version_error}
 use Rattle.nr_reduce.specs.ServerState.{PendingCall, PendingRead, ServerState, is_pending, next_stag}
 use Rattle.nr_reduce.specs.ServerReads.{chunks_of, is_read}
 use Rattle.nr_reduce.specs.ServerMessages.{by_payload, verdict, call_xid}
-use Rattle.nr_reduce.specs.ServerMessages.CallVerdict.{IsReady as BecomesReady, Refuses as RefusedFor}
+use Rattle.nr_reduce.specs.ServerMessages.CallVerdict.{Refuses as RefusedFor}
 use Rattle.nr_reduce.specs.ServerMessages.Verdict.{EndsLink, OtherVersion, BadChunks, MakesPending}
 use Rattle.nr_reduce.specs.ServerFrames.{FrameEffect, no_effect, by_message}
-use Rattle.nr_responder.specs.Fetching.{payload_added}
+use Rattle.nr_responder.specs.Fetching.{HasBytes, payload_added}
 use Rattle.nr_responder.specs.ResponderState.{ResponderSide}
 use Rattle.nr_responder.specs.Keeping.{IsServer}
-use Rattle.nr_responder.specs.private.CallsRead.{HasNoBytes, complete_call, payload_at_once, reading_call}
+use Rattle.nr_responder.specs.private.CallsRead.{HasNoBytes, IsStreamAlone, payload_at_once, reading_call}
 use Rattle.nr_responder.specs.private.ReadsDone.{HandlesRead, ReadHandled}
 use Rattle.nr_responder.specs.Views.{IsCall}
 
@@ -77,30 +77,30 @@ pub data Begins (before after : ResponderSide) (number : ℕ) (message : List �
       Begins before after number message lists stream_at
 
 -- of one with a call with a read list: its sinks need more STags than are left; its reads begin; it has no bytes to be read, and is ready
--- or ends the link; or memory ran out
+-- with its stream or ends the link; or it has bytes to be read, and memory ran out
 pub data FetchesCall (before after : ResponderSide) (c : PendingCall) : Type 0 where
   Spends : numbers_end < before.link.state.memory.next + length (chunks_of c.lists) → OrOut before (after_call before.link (Stop REASON_STAGS)) after → FetchesCall before after c
   ReadsChunks : before.link.state.memory.next + length (chunks_of c.lists) ≤ numbers_end → chunks_of c.lists ≢ [] → after ≡ reading_call before c → FetchesCall before after c
-  IsComplete : (payload : List ℕ) → HasNoBytes c.lists.read → by_payload c (payload_at_once c) ≡ BecomesReady (record { number = c.number; xid = c.xid; payload = payload }) → after ≡ complete_call before c payload → FetchesCall before after c
+  IsComplete : HasNoBytes c.lists.read → IsStreamAlone c → after ≡ with_ready before before.link c → FetchesCall before after c
   EndsFor : (reason : ℕ) → 5 ≤ reason → HasNoBytes c.lists.read → by_payload c (payload_at_once c) ≡ RefusedFor reason → OrOut before (after_call before.link (Stop reason)) after → FetchesCall before after c
-  RunsOut : after ≡ out before → FetchesCall before after c
+  RunsOut : HasBytes c.lists.read → after ≡ out before → FetchesCall before after c
 
 -- by what holds of each server whose calls are kept
 abbrev pub OfServers : (ServerState → Type 0) → ResponderSide → Type 0
 OfServers P before = (k : ServerState) → IsServerOf k before → P k
 
--- the message has a read list, and isn't refused without it
+-- something is to be read for the call of the message, which isn't refused without it
 pub record HasReadChunk (k : ServerState) (message : List ℕ) : Type 0 where
   pub call : PendingCall
   pub judged : verdict k message ≡ MakesPending call
-  pub chunk : call.lists.read ≢ []
+  pub bytes : HasBytes call.lists.read
 
--- a message with a call of which some chunk is to be read
+-- a message with a call with a read list
 pub record IsReadCall (k : ServerState) (message : List ℕ) (xid : ℕ) (lists : ChunkLists) (inline : Option (List ℕ)) : Type 0 where
   pub own : is_pending k xid ≡ false
   pub pending : verdict k message ≡ MakesPending (record { number = k.received.sends + 1; xid = xid; lists = lists; inline = inline })
 
--- The server has output of its own for a message, or the message makes a call with a read chunk pending: it may run out of memory.
+-- The server has output of its own for a message, or the message makes a call pending of which something is to be read: it may run out of memory.
 pub data MessageTakes (k : ServerState) (message : List ℕ) : Type 0 where
   EndsFor : (reason : ℕ) → ((place : ℕ) → (by_message k place (Some message)).refusal ≡ Some reason) → 5 ≤ reason → MessageTakes k message
   ErrorFor : (answer : List ℕ) → ((place : ℕ) → by_message k place (Some message) ≡ refused_effect k answer) → MessageTakes k message
@@ -115,9 +115,9 @@ pub data Makes (before : ResponderSide) (number : ℕ) (message : List ℕ) (aft
   Calls : (lists : ChunkLists) (stream_at : ℕ) → OfServers (λ k. IsCall k message lists stream_at) before → Begins before after number message lists stream_at → Makes before number message after
   Fetches : (xid : ℕ) (lists : ChunkLists) (inline : Option (List ℕ)) → OfServers (λ k. IsReadCall k message xid lists inline) before → chunks_of lists ≢ [] →
       after ≡ reading_call before (record { number = number; xid = xid; lists = lists; inline = inline }) → Makes before number message after
-  Completes : (xid : ℕ) (lists : ChunkLists) (inline : Option (List ℕ)) (payload : List ℕ) → OfServers (λ k. IsReadCall k message xid lists inline) before → HasNoBytes lists.read →
-      by_payload (record { number = number; xid = xid; lists = lists; inline = inline }) (payload_at_once (record { number = number; xid = xid; lists = lists; inline = inline })) ≡ BecomesReady (record { number = number; xid = xid; payload = payload }) →
-      after ≡ complete_call before (record { number = number; xid = xid; lists = lists; inline = inline }) payload → Makes before number message after
+  Completes : (xid : ℕ) (lists : ChunkLists) (inline : Option (List ℕ)) → OfServers (λ k. IsReadCall k message xid lists inline) before → HasNoBytes lists.read →
+      IsStreamAlone (record { number = number; xid = xid; lists = lists; inline = inline }) →
+      after ≡ with_ready before before.link (record { number = number; xid = xid; lists = lists; inline = inline }) → Makes before number message after
   EndsAtOnce : (xid : ℕ) (lists : ChunkLists) (inline : Option (List ℕ)) (reason : ℕ) → 5 ≤ reason → OfServers (λ k. IsReadCall k message xid lists inline) before → HasNoBytes lists.read →
       by_payload (record { number = number; xid = xid; lists = lists; inline = inline }) (payload_at_once (record { number = number; xid = xid; lists = lists; inline = inline })) ≡ RefusedFor reason →
       OrOut before (after_call before.link (Stop reason)) after → Makes before number message after
@@ -136,8 +136,8 @@ pub data Handled (k : ServerState) (message : List ℕ) (before after : Responde
       after ≡ with_ready before (after_call before.link NextEvent) (inline_call k xid write reply stream) → Handled k message before after
   Fetched : (c : PendingCall) → c.number ≡ k.received.sends + 1 → is_pending k c.xid ≡ false → verdict k message ≡ MakesPending c → chunks_of c.lists ≢ [] →
       after ≡ reading_call (on_link before (after_call before.link NextEvent)) c → Handled k message before after
-  Completed : (c : PendingCall) (payload : List ℕ) → c.number ≡ k.received.sends + 1 → is_pending k c.xid ≡ false → verdict k message ≡ MakesPending c → HasNoBytes c.lists.read →
-      by_payload c (payload_at_once c) ≡ BecomesReady (record { number = c.number; xid = c.xid; payload = payload }) → after ≡ complete_call (on_link before (after_call before.link NextEvent)) c payload → Handled k message before after
+  Completed : (c : PendingCall) → c.number ≡ k.received.sends + 1 → is_pending k c.xid ≡ false → verdict k message ≡ MakesPending c → HasNoBytes c.lists.read → IsStreamAlone c →
+      after ≡ with_ready before (after_call before.link NextEvent) c → Handled k message before after
 
 -- what was made of what the link delivered
 pub record IsHandled (k : ServerState) (before after : ResponderSide) : Type 0 where

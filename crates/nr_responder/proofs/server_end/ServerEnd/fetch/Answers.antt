@@ -1,5 +1,5 @@
 use Rattle.std.proofs.Common.{ap, sym, ◌∙◌}
-use Rattle.nr_responder.specs.private.CallsRead.{has_bytes}
+use Rattle.nr_responder.specs.Fetching.{has_bytes}
 use Rattle.nr_responder.proofs.Chunks.{none_has_bytes}
 use Rattle.nr_responder.proofs.server_end.ServerEnd.fetch.Goals as goal
 
