@@ -39,6 +39,7 @@ use Rattle.nr_script.specs.Script.{ScriptLines}
 use Rattle.nr_drill.specs.Drill.{SerialServer, plain_of, links_of}
 use Rattle.nr_drill.specs.Follows.{Follows, parameters_of, setting_of}
 use Rattle.nr_drill.specs.Memory.{KeepsMemory}
+use Rattle.nr_drill.specs.DrainSteps.{DrainStepsLeaveLess}
 use Rattle.nr_drill.specs.Reports.{call_reports, link_reports}
 
 -- ===== what lines of a script name
@@ -133,6 +134,7 @@ pub record IsDrillRun (server : SerialServer) (script : ScriptLines) (run : List
   pub places : (link other_link : ℕ) → IsLink script link → IsLink script other_link → Matched link run → Matched other_link run → PlacesRise link other_link run
   pub staying : (link : ℕ) → IsLink script link → Matched link run → is_dropped link run ≡ false → HasNoRevoke link run → AreConveyedOrRefused (parameters_of script.opening link) link run →
       Stays script (parameters_of script.opening link) link run
+  pub drains : (link : ℕ) → IsLink script link → HasNoRaw script link → DrainStepsLeaveLess server script link
 
 -- ===== the report
 
