@@ -1,8 +1,8 @@
 -- Each step of the drains of a run leaves less work: what it writes down is of its types, since the run is and begins with it.
 use Rattle.std.specs.List.{list_all, AllByRecursion}
-use Rattle.std.proofs.Common.{◌≡◌, ◌≢◌, ℕ, zero, suc, ◌-◌, ◌<◌, ◌≤◌, arith, eqb, eqb-true, Bool, true, false, List, [], ◌∷◌, ◌++◌, length, refl, sym, ap, subst, ◌∙◌, append-nil, append_assoc}
+use Rattle.std.specs.Prelude.{◌-◌, ◌<◌, ◌≤◌}
+use Rattle.std.proofs.Common.{◌≡◌, ◌≢◌, ℕ, zero, suc, arith, eqb, eqb-true, Bool, true, false, List, [], ◌∷◌, ◌++◌, length, refl, sym, ap, subst, ◌∙◌, append-nil, append_assoc}
 use Rattle.nr_reduce.specs.declared.mark.Mark.{Mark}
-use Rattle.nr_reduce.specs.declared.mark.Mark.TheVariants as marks
 use Rattle.nr_reduce.specs.Run.{server}
 use Rattle.nr_reduce.proofs.Steps.{AtEachMark_first}
 use Rattle.nr_laws.specs.Typed.{TypedMark, IsTyped}
@@ -18,7 +18,8 @@ use Rattle.nr_drill.specs.DrainSteps.{MakesRounds, IsBeforeStep, IsDrainStep, Dr
 use Rattle.nr_drill.specs.Drains.{IsRunning}
 use Rattle.nr_drill.proofs.Followed.{moves_adds}
 use Rattle.nr_drill.proofs.Carried.{are_links, other_than}
-use Rattle.nr_drill.proofs.TypedDrills.{AddsQuiet, Same, More, KeptBySteps, executed, calls_keep, down_keeps, round_keeps, drain_keeps, lines_keep}
+use Rattle.nr_drill.proofs.TypedDrills.{AddsQuiet, KeptBySteps, calls_keep, down_keeps, round_keeps, drain_keeps, lines_keep}
+use Rattle.nr_drill.proofs.TypedDrills.AddsQuiet.{Same, More}
 use Rattle.nr_drill.proofs.Drained.{IsCut, cut_at, all_last}
 use Rattle.nr_drill.proofs.LessScripts.{all_front, step_runs, other_runs, script_runs}
 use Rattle.nr_drill.proofs.LessSteps.{steps_leave_less}
@@ -46,7 +47,7 @@ IsLater first d = Begins first d.marks
 kept_first : (s : Setting) (first : List Mark) → KeptBySteps s (IsLater first)
 kept_first s first = record {
   quiet = λ old new adds keeps h. quiet_begins s first old new adds h;
-  executes = λ link call reply d next is h. subst (Begins first) refl (one_more first d.marks _ h);
+  executes = λ link call reply d next is h. one_more first d.marks _ h;
 }
 
 first_typed : (first run : List Mark) → Begins first run → IsTyped run → IsTyped first

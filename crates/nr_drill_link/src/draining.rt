@@ -57,9 +57,10 @@ pub(crate) fn skip_next(alloc: Global, pipe: &mut Pipe, most: usize)
     ensures { waiting_bytes pipe.new ≡ drop most (waiting_bytes pipe.old) }
 {
     pipe.skip(most);
-    if pipe.waiting() == 0 {
-        *pipe = Pipe::new(alloc);
+    if pipe.waiting() > 0 {
+        return;
     }
+    *pipe = Pipe::new(alloc);
 }
 
 /// Adds a mark to those of the drill.
