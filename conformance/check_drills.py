@@ -3,8 +3,10 @@
     python3 conformance/check_drills.py [--only WORD] [--jobs N]
     python3 conformance/check_drills.py --record PROGRAM
 
-The replies of the plain server are those recorded in plain_scripts.json.gz; with --record they are asked of the built
-plain_calls, and recorded. Exit status: 0 all agree, 1 some differ, 2 nothing could be run."""
+It takes the scripts of scripts.json.gz that run, and those of drills.json.gz, with what the built nfsrdma printed of them. Of a
+script that is generated it also evaluates the generator, whose script must be what the text says, and the line of sums. The
+replies of the plain server are those recorded in plain_scripts.json.gz; with --record they are asked of the built plain_calls,
+and recorded. Exit status: 0 all agree, 1 some differ, 2 nothing could be run."""
 import argparse
 import gzip
 import json
@@ -22,20 +24,23 @@ from ends import Ends
 from values import NONE, CannotEvaluate, Fn, Value, call, deeply, some
 
 PLAIN = os.path.join(HERE, 'plain_scripts.json.gz')
+DRILLS = os.path.join(HERE, 'drills.json.gz')
 ROUNDS_MAX = 10_000
 USES = (
     'use Rattle.nr_plain.specs.Added.{entries_of_call}',
     'use Rattle.nr_script.specs.Script.{script_of}',
+    'use Rattle.nr_script.specs.Generator.{made_script}',
     'use Rattle.nr_drill.specs.Drill.{links_of, after_round}',
     'use Rattle.nr_drill.specs.Follows.{after_line, is_still, setting_of, opened_drill}',
-    'use Rattle.nr_drill.specs.Shown.{shown}',
+    'use Rattle.nr_drill.specs.Shown.{shown, summary}',
 )
 ROLES = {
     'adds': 'λ moment payload reply. entries_of_call moment payload reply', 'script_of': 'λ text. script_of text',
     'links': 'λ clients. links_of clients', 'round': 'λ setting links drill. after_round setting links drill',
     'line': 'λ setting line drill. after_line setting line drill', 'still': 'λ setting drill link. is_still setting drill link',
     'setting': 'λ server opening. setting_of server opening', 'opened': 'λ server opening. opened_drill server opening',
-    'shown': 'λ setting clients run. shown setting clients run',
+    'shown': 'λ setting clients run. shown setting clients run', 'sums': 'λ setting run. summary setting run',
+    'made': 'λ seed clients calls. made_script seed clients calls',
 }
 
 
@@ -79,8 +84,8 @@ class Drills:
     def ask(self, role: str, *args: Value) -> Value:
         return call(self.role[role], *args)
 
-    def printed(self, script: Value, answers: Answers) -> str:
-        """What is printed of a script."""
+    def printed(self, script: Value, answers: Answers) -> tuple[str, str]:
+        """What is printed of a script: the report, and the line of sums."""
         self.ends.begin()
         server = {'reply_to': Fn(3, answers.reply_to), 'adds': self.role['adds']}
         opening = script['opening']
@@ -88,7 +93,8 @@ class Drills:
         links = self.ask('links', opening['clients'])
         for line in script['lines']:
             drill = self.drained(setting, links, drill) if line.n == 'Drain' else self.ask('line', setting, line, drill)
-        return bytes(self.ask('shown', setting, opening['clients'], drill['marks'])).decode('latin-1')
+        texts = (self.ask('shown', setting, opening['clients'], drill['marks']), self.ask('sums', setting, drill['marks']))
+        return bytes(texts[0]).decode('latin-1'), bytes(texts[1]).decode('latin-1')
 
     def drained(self, setting: Value, links: list[int], drill: Value) -> Value:
         """A drill after rounds until nothing moves."""
@@ -106,28 +112,51 @@ def prepare(project: str, plain: dict[str, dict[str, str]], program: str | None)
     STATE.update(drills=deeply(Drills, project), plain=plain, program=program)
 
 
+def wanted_of(script: Recorded) -> tuple[str, str | None]:
+    """The report, and the line of sums if it was recorded."""
+    return script['stdout'], script.get('sums')
+
+
+def first_difference(computed: str, wanted: str) -> str | None:
+    """The first line that differs."""
+    if computed == wanted:
+        return None
+    pairs = zip(computed.split('\n') + [''], wanted.split('\n') + [''])
+    got, want = next((a, b) for a, b in pairs if a != b)
+    return 'wanted %s, computed %s' % (shorten(repr(want), 200), shorten(repr(got), 200))
+
+
+def compared(drills: Drills, script: Recorded, answers: dict[str, str]) -> str | None:
+    """What differs between a recorded script and the definitions."""
+    read = drills.ask('script_of', list(script['script'].encode('latin-1')))
+    if read.n != 'Ok':
+        return 'it is no script, at line %d' % read.a[0]
+    if 'seed' in script and drills.ask('made', script['seed'], script['clients'], script['calls']) != read.a[0]:
+        return 'it is not the script that is made from its seed'
+    text, sums = drills.printed(read.a[0], Answers(answers, STATE['program'], read.a[0]['opening']['capacity']))
+    report, line = wanted_of(script)
+    return first_difference(text, report) or (first_difference(sums, line) if line is not None else None)
+
+
 def check(script: Recorded) -> tuple[str, str | None, dict[str, str]]:
     """The name of a script, what differs, and the replies of the plain server."""
     answers = dict(STATE['plain'].get(script['name'], {}))
-
-    def body() -> str:
-        drills: Drills = STATE['drills']
-        read = drills.ask('script_of', list(script['script'].encode('latin-1')))
-        if read.n != 'Ok':
-            return ''
-        return drills.printed(read.a[0], Answers(answers, STATE['program'], read.a[0]['opening']['capacity']))
     try:
-        printed = deeply(body)
+        return script['name'], deeply(compared, STATE['drills'], script, answers), answers
     except CannotEvaluate as e:
         return script['name'], "can't be evaluated: %s" % e, answers
     except Exception as e:
         lines = traceback.format_exc().strip().split('\n')
         return script['name'], "can't be evaluated: %r (%s)" % (e, ' '.join(x.strip() for x in lines[-3:-1])), answers
-    if printed == script['stdout']:
-        return script['name'], None, answers
-    pairs = zip(printed.split('\n') + [''], script['stdout'].split('\n') + [''])
-    got, wanted = next((a, b) for a, b in pairs if a != b)
-    return script['name'], 'wanted %s, computed %s' % (shorten(repr(wanted), 200), shorten(repr(got), 200)), answers
+
+
+def recorded_scripts() -> list[Recorded]:
+    """The scripts of both files."""
+    scripts: list[Recorded] = []
+    for path in (SCRIPTS, DRILLS):
+        with gzip.open(path, 'rt', encoding='utf-8') as h:
+            scripts += [s for s in json.load(h) if s['status'] == 0]
+    return scripts
 
 
 def main(argv: list[str]) -> int:
@@ -137,8 +166,7 @@ def main(argv: list[str]) -> int:
     p.add_argument('--record', metavar='PROGRAM', help='ask the built plain_calls, and record its replies')
     p.add_argument('--jobs', type=int, default=os.cpu_count() or 1)
     a = p.parse_args(argv)
-    with gzip.open(SCRIPTS, 'rt', encoding='utf-8') as h:
-        scripts = [s for s in json.load(h) if a.only in s['name'] and s['status'] == 0]
+    scripts = [s for s in recorded_scripts() if a.only in s['name']]
     plain: dict[str, dict[str, str]] = {}
     if os.path.exists(PLAIN):
         with gzip.open(PLAIN, 'rt', encoding='utf-8') as h:

@@ -140,21 +140,21 @@ lines_leave s clients link (line ∷ others) old new one some n e =
 
 -- ===== a script that ends with a drain, for a link
 
-record IsCut (s : Setting) (clients : ℕ) (before after : List Line) (old new : Drill) : Type 0 where
-  first : Drill
-  drained : Drill
-  rounds : ℕ
-  made : MakeAll s clients before old first
-  drains : Drains s (links_of clients) rounds first drained
-  later : MakeAll s clients after drained new
+pub record IsCut (s : Setting) (clients : ℕ) (before after : List Line) (old new : Drill) : Type 0 where
+  pub first : Drill
+  pub drained : Drill
+  pub rounds : ℕ
+  pub made : MakeAll s clients before old first
+  pub drains : Drains s (links_of clients) rounds first drained
+  pub later : MakeAll s clients after drained new
 
-cut_at : (s : Setting) (clients : ℕ) (before after : List Line) (old new : Drill) → MakeAll s clients (before ++ lines.Drain ∷ after) old new → IsCut s clients before after old new
+pub cut_at : (s : Setting) (clients : ℕ) (before after : List Line) (old new : Drill) → MakeAll s clients (before ++ lines.Drain ∷ after) old new → IsCut s clients before after old new
 cut_at s clients [] after old new e = record { first = old; drained = e.0; rounds = e.1.0; made = refl; drains = e.1.1; later = e.2 }
 cut_at s clients (line ∷ before) after old new e =
     let r = cut_at s clients before after e.0 new e.2 in
     record { first = r.first; drained = r.drained; rounds = r.rounds; made = (e.0, e.1, r.made); drains = r.drains; later = r.later }
 
-all_last : {X : Type 0} (P : X → Type 0) (xs ys : List X) → AllByRecursion P (xs ++ ys) → AllByRecursion P ys
+pub all_last : {X : Type 0} (P : X → Type 0) (xs ys : List X) → AllByRecursion P (xs ++ ys) → AllByRecursion P ys
 all_last P [] ys h = h
 all_last P (x ∷ xs) ys h = all_last P xs ys h.1
 

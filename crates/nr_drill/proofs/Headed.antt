@@ -24,6 +24,7 @@ use Rattle.nr_drill.proofs.Promised.{follows_promises, replied_on}
 use Rattle.nr_drill.proofs.Remembered.{keeps_memory}
 use Rattle.nr_drill.proofs.Drained.{follows_waits}
 use Rattle.nr_drill.proofs.Handed.{follows_hands}
+use Rattle.nr_drill.proofs.LessDrains.{follows_leaves_less}
 
 -- if the server is a plain one, and each reply is bytes
 pub follows_is_drill : (server : SerialServer) (script : ScriptLines) (run : List Mark) → IsScript script → KeepsReplyLimits (plain_of server) → RepliedInBytes run → Follows server script run → IsDrillRun server script run
@@ -52,6 +53,7 @@ follows_is_drill server script run is plain replied follows =
         done = λ ends.
             (promise.complete link within matched kept_memory conveyed (follows_waits server script run is follows link within matched standing ends)).has_done (follows_hands server script run is follows link within);
       };
+      drains = λ link within raw. follows_leaves_less server script run is typed follows link within raw;
     }
 
 -- So it is of a drill's own server: what is left to a driver is to follow its script, and that its replies are bytes by their type.

@@ -23,7 +23,8 @@ use Rattle.nr_drill.specs.Drill.{link_of, Setting, Drill, Pipes, empty_pipes, un
 use Rattle.nr_drill.specs.Follows.{is_empty, is_still, Drains}
 use Rattle.nr_drill.specs.WorkLeft.{DrainStep, after_step, frame_len, is_send, send_bytes_left, work_left, stays, IsLess}
 use Rattle.nr_drill.specs.WorkLeft.DrainStep.{AllUp, Work, AllDown}
-use Rattle.nr_drill.specs.Drains.{IsRunning, Moves, StepsKeepTypes, AnswersCalls, DrainsEnd}
+use Rattle.nr_drill.specs.DrainSteps.{Moves}
+use Rattle.nr_drill.specs.Drains.{IsRunning, StepsKeepTypes, AnswersCalls, DrainsEnd}
 use Rattle.nr_drill.specs.Drill.{links_of}
 use Rattle.nr_drill.specs.Follows.{setting_of}
 use Rattle.nr_drill.proofs.KeptTypes.{steps_keep_types}

@@ -22,6 +22,7 @@ pub mod KeptTypes
 pub mod LessRounds
 pub mod LessPlain
 pub mod OneRun
+pub mod LessDrains
 pub mod Told
 pub mod Lookups
 pub mod Executions

@@ -26,7 +26,7 @@ makes_once s clients (lines.Drop client) old one two h g = h ∙ sym g
 makes_once s clients (lines.Raw client side bytes) old one two h g = h ∙ sym g
 makes_once s clients lines.Drain old one two h g = drains_once s (links_of clients) h.0 g.0 old one two h.1 g.1
 
-made_once : (s : Setting) (clients : ℕ) (all : List Line) (old one two : Drill) → MakeAll s clients all old one → MakeAll s clients all old two → one ≡ two
+pub made_once : (s : Setting) (clients : ℕ) (all : List Line) (old one two : Drill) → MakeAll s clients all old one → MakeAll s clients all old two → one ≡ two
 made_once s clients [] old one two h g = h ∙ sym g
 made_once s clients (line ∷ all) old one two (mid, h, k) (other, g, l) =
     let same : mid ≡ other = makes_once s clients line old mid other h g in

@@ -150,7 +150,6 @@ record TellsMarks (s : Setting) (clients : ℕ) (run : List Mark) (report : Repo
   pub journal : report.journal ≡ journal (plain_of s.server) run
   pub calls : report.calls ≡ call_reports s run
   pub links : report.links ≡ link_reports s clients run
-  pub logs : report.logs ≡ map (log_of run) (links_of clients)
 
 module _ (s : Setting) (run : List Mark) where
   links_from : (a n : ℕ) → link_reports_from a (map (ends_of s run) (range_with_len a n)) ≡ flat_map (link_report s run) (range_with_len a n)
@@ -171,42 +170,40 @@ module _ (s : Setting) (run : List Mark) where
     at_last_is r low high = ap (λ (b : Bool). record r { state = lost_if b r.state }) (gone_is r.client low high)
 
     tells : (report : Report) → s.server.adds ≡ entries_of_call → report.marks ≡ run → AreCalls run ends report.calls report.journal → report.links ≡ link_reports_from 1 ends
-        → report.logs ≡ map (log_of run) (links_of (length ends)) → TellsMarks s (length ends) run report
+        → TellsMarks s (length ends) run report
     unfolding call_reports link_reports
-    tells report adds marks_are calls links logs = record {
+    tells report adds marks_are calls links = record {
       marks = marks_are;
       journal = calls.journal_is ∙ same_journal s adds run;
       calls = calls.calls_are
           ∙ map_same (at_last_by ends) (at_last s run) (reports_after adding run) (λ j r at. (let w = calls.within j r at in at_last_is r w.0 w.1))
           ∙ ap (map (at_last s run)) (same_reports s adds run);
       links = links ∙ ap (link_reports_from 1) are ∙ links_from 1 (length ends);
-      logs = logs;
     }
 
 -- ===== the report of a drill's run
 
 pub report_tells : (run : List Mark) (ends : List LinkEnds) (report : Report) → report.marks ≡ run → (AreNumbered (length ends) run → AreCalls run ends report.calls report.journal)
-    → report.links ≡ link_reports_from 1 ends → report.logs ≡ map (log_of run) (links_of (length ends)) → ReportsRuns run ends report
-report_tells run ends report marks_are calls links logs server script is drill adds are =
+    → report.links ≡ link_reports_from 1 ends → ReportsRuns run ends report
+report_tells run ends report marks_are calls links server script is drill adds are =
     let s : Setting = setting_of server script.opening in
     let clients : ℕ = script.opening.clients in
     let count : length ends ≡ clients = ap (λ (es : List LinkEnds). length es) are ∙ length-map-range_with_len (ends_of s run) 1 clients in
     let own : AreEnds s (length ends) run ends = subst (λ (n : ℕ). AreEnds s n run ends) (sym count) are in
     let numbered : AreNumbered (length ends) run = subst (λ (n : ℕ). AreNumbered n run) (sym count) (drill_numbered server script run is drill) in
-    let told : TellsMarks s (length ends) run report = tells s run ends own report adds marks_are (calls numbered) links logs in
+    let told : TellsMarks s (length ends) run report = tells s run ends own report adds marks_are (calls numbered) links in
     record {
       drill = subst (IsDrillRun server script) (sym marks_are) drill;
       journal = told.journal ∙ ap (journal (plain_of server)) (sym marks_are);
       calls = told.calls ∙ ap (call_reports s) (sym marks_are);
       links = told.links ∙ (λ i. link_reports s (count i) (sym marks_are i));
-      logs = told.logs ∙ (λ i. map (log_of (sym marks_are i)) (links_of (count i)));
     }
 
-pub parts_tell : (run marks : List Mark) (ends : List LinkEnds) (report : Report) (calls : List CallReport) (entries : List Entry) (links : List LinkReport) (logs : List LinkLog) → run ≡ marks → report.marks ≡ marks
-    → report.calls ≡ calls → report.journal ≡ entries → report.links ≡ links → report.logs ≡ logs → (AreNumbered (length ends) run → AreCalls run ends calls entries)
-    → links ≡ link_reports_from 1 ends → logs ≡ map (log_of run) (links_of (length ends)) → ReportsRuns marks ends report
-parts_tell run marks ends report calls entries links logs same marks_are c j l g calls_are links_are logs_are =
-    report_tells marks ends report marks_are all (l ∙ links_are) (g ∙ logs_are ∙ ap (λ (r : List Mark). map (log_of r) (links_of (length ends))) same)
+pub parts_tell : (run marks : List Mark) (ends : List LinkEnds) (report : Report) (calls : List CallReport) (entries : List Entry) (links : List LinkReport) → run ≡ marks → report.marks ≡ marks
+    → report.calls ≡ calls → report.journal ≡ entries → report.links ≡ links → (AreNumbered (length ends) run → AreCalls run ends calls entries)
+    → links ≡ link_reports_from 1 ends → ReportsRuns marks ends report
+parts_tell run marks ends report calls entries links same marks_are c j l calls_are links_are =
+    report_tells marks ends report marks_are all (l ∙ links_are)
   where
     all : AreNumbered (length ends) marks → AreCalls marks ends report.calls report.journal
     all numbered =

@@ -206,7 +206,7 @@ dones_keep s P k link (suc n) d h =
     let c = slice_get (outcomes_due (s.opened link) link d.marks) 0 in
     dones_keep s P k link n (after_done s link d) (k.quiet d (after_handing link c d) (handing_quiet s link c d) (handed_typed link c d) h)
 
-down_keeps : (s : Setting) (P : Drill → Type 0) → KeptBySteps s P → (link n : ℕ) (d : Drill) → P d → P (after_down s link n d)
+pub down_keeps : (s : Setting) (P : Drill → Type 0) → KeptBySteps s P → (link n : ℕ) (d : Drill) → P d → P (after_down s link n d)
 unfolding after_down after_outcomes
 down_keeps s P k link n d h =
     let pipes = pipes_of link d in
@@ -228,7 +228,7 @@ work_keeps : (s : Setting) (P : Drill → Type 0) → KeptBySteps s P → (link 
 unfolding after_work
 work_keeps s P k link d h = execution_keeps s P k link (waiting_call s link d.marks) d refl h
 
-calls_keep : (s : Setting) (P : Drill → Type 0) → KeptBySteps s P → (link n : ℕ) (d : Drill) → P d → P (after_calls s link n d)
+pub calls_keep : (s : Setting) (P : Drill → Type 0) → KeptBySteps s P → (link n : ℕ) (d : Drill) → P d → P (after_calls s link n d)
 calls_keep s P k link zero d h = h
 calls_keep s P k link (suc n) d h = calls_keep s P k link n (after_work s link d) (work_keeps s P k link d h)
 
@@ -294,11 +294,11 @@ moves_keep s P k link d h =
     down_keeps s P k link (length (pipes_of link two).down) two
     (calls_keep s P k link (length (server (s.opened link) link one.marks).state.ready) one (up_keeps s P k link (length (pipes_of link d).up) d h))
 
-round_keeps : (s : Setting) (P : Drill → Type 0) → KeptBySteps s P → (links : List ℕ) (d : Drill) → P d → P (after_round s links d)
+pub round_keeps : (s : Setting) (P : Drill → Type 0) → KeptBySteps s P → (links : List ℕ) (d : Drill) → P d → P (after_round s links d)
 round_keeps s P k [] d h = h
 round_keeps s P k (link ∷ links) d h = round_keeps s P k links (after_moves s link d) (moves_keep s P k link d h)
 
-drain_keeps : (s : Setting) (P : Drill → Type 0) → KeptBySteps s P → (links : List ℕ) (rounds : ℕ) (old new : Drill) → Drains s links rounds old new → P old → P new
+pub drain_keeps : (s : Setting) (P : Drill → Type 0) → KeptBySteps s P → (links : List ℕ) (rounds : ℕ) (old new : Drill) → Drains s links rounds old new → P old → P new
 drain_keeps s P k links zero old new drains h = subst P (sym drains.1) h
 drain_keeps s P k links (suc rounds) old new drains h = drain_keeps s P k links rounds (after_round s links old) new drains.1 (round_keeps s P k links old h)
 
@@ -315,7 +315,7 @@ made_keeps s P k clients (lines.Drop client) old new l e h = subst P (sym e) (li
 made_keeps s P k clients (lines.Raw client side bytes) old new l e h = subst P (sym e) (line_keeps s P k (lines.Raw client side bytes) old l h)
 made_keeps s P k clients lines.Drain old new l e h = drain_keeps s P k (links_of clients) e.0 old new e.1 h
 
-lines_keep : (s : Setting) (P : Drill → Type 0) → KeptBySteps s P → (clients : ℕ) (all : List Line) (old new : Drill) → AllByRecursion IsTypedLine all → MakeAll s clients all old new → P old → P new
+pub lines_keep : (s : Setting) (P : Drill → Type 0) → KeptBySteps s P → (clients : ℕ) (all : List Line) (old new : Drill) → AllByRecursion IsTypedLine all → MakeAll s clients all old new → P old → P new
 lines_keep s P k clients [] old new l e h = subst P (sym e) h
 lines_keep s P k clients (line ∷ others) old new l e h = lines_keep s P k clients others e.0 new l.1 e.2 (made_keeps s P k clients line old e.0 l.0 e.1 h)
 

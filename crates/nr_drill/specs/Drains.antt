@@ -14,11 +14,11 @@ use Rattle.nr_laws.specs.Typed.{IsTyped}
 use Rattle.nr_script.specs.declared.script.Opening.{Opening}
 use Rattle.nr_script.specs.declared.script.Line.{Line}
 use Rattle.nr_script.specs.Script.{ScriptLines, IsScript}
-use Rattle.nr_drill.specs.Drill.{SerialServer, Setting, Drill, plain_of, now, waiting_call, links_of, pipes_of, empty_pipes, after_work}
+use Rattle.nr_drill.specs.Drill.{SerialServer, Setting, Drill, plain_of, now, waiting_call, links_of, pipes_of, empty_pipes}
 use Rattle.nr_drill.specs.Follows.{Drains, MakeAll, setting_of, opened_drill}
 use Rattle.nr_drill.specs.Headline.{IsLink, HasNoRaw}
 use Rattle.nr_drill.specs.WorkLeft.{DrainStep, after_step, work_left, IsLess}
-use Rattle.nr_drill.specs.WorkLeft.DrainStep.{AllUp, Work, AllDown}
+use Rattle.nr_drill.specs.DrainSteps.{Moves}
 
 -- The state of a link of a drill before and after each step: both sides keep their laws and have written what was due; what each received and
 -- what waits is what the other sent, until the link is dropped, and then nothing waits; each side has the hello of the other.
@@ -33,12 +33,6 @@ pub record IsRunning (s : Setting) (link : ℕ) (d : Drill) : Type 0 where
   pub gone : is_dropped link d.marks ≡ true → pipes_of link d ≡ empty_pipes
   pub client_heard : frames_of Responder (bytes_received link Initiator d.marks) ≢ []
   pub server_heard : frames_of Initiator (bytes_received link Responder d.marks) ≢ []
-
--- a step moves bytes that wait, or a call is executed
-abbrev pub Moves : Setting → ℕ → DrainStep → Drill → Type 0
-Moves s link AllUp d = (pipes_of link d).up ≢ []
-Moves s link Work d = (after_work s link d).marks ≢ d.marks
-Moves s link AllDown d = (pipes_of link d).down ≢ []
 
 -- On a link that runs a step that moves something leaves less work. On a link with bytes that a script put there it needn't: what is read as a
 -- Read Response by its client may be read as a Send by its server.

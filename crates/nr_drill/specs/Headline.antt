@@ -1,5 +1,5 @@
 -- What a drill promises: its run follows the script, both ends of each link keep their laws, and what these mean to callers.
-use Rattle.std.specs.Prelude.{◌≡◌, ◌≢◌, ℕ, ◌≤◌, Bool, true, false, ◌==◌, List, [], ◌∷◌, ◌++◌, map, None, ◌↔◌}
+use Rattle.std.specs.Prelude.{◌≡◌, ◌≢◌, ℕ, ◌≤◌, Bool, true, false, ◌==◌, List, [], ◌∷◌, ◌++◌, None, ◌↔◌}
 use Rattle.std.specs.List.{list_any}
 use Rattle.nr_wire.specs.declared.hello.Side.TheVariants.{Initiator, Responder}
 use Rattle.nr_reduce.specs.declared.call.Call.{Call}
@@ -36,9 +36,10 @@ use Rattle.nr_script.specs.declared.script.Line.TheVariants as lines
 use Rattle.nr_drill.specs.declared.report.Report.{Report}
 use Rattle.nr_drill.specs.declared.report.LinkLog.{LinkLog}
 use Rattle.nr_script.specs.Script.{ScriptLines}
-use Rattle.nr_drill.specs.Drill.{SerialServer, plain_of, links_of}
+use Rattle.nr_drill.specs.Drill.{SerialServer, plain_of}
 use Rattle.nr_drill.specs.Follows.{Follows, parameters_of, setting_of}
 use Rattle.nr_drill.specs.Memory.{KeepsMemory}
+use Rattle.nr_drill.specs.DrainSteps.{DrainStepsLeaveLess}
 use Rattle.nr_drill.specs.Reports.{call_reports, link_reports}
 
 -- ===== what lines of a script name
@@ -133,9 +134,11 @@ pub record IsDrillRun (server : SerialServer) (script : ScriptLines) (run : List
   pub places : (link other_link : ℕ) → IsLink script link → IsLink script other_link → Matched link run → Matched other_link run → PlacesRise link other_link run
   pub staying : (link : ℕ) → IsLink script link → Matched link run → is_dropped link run ≡ false → HasNoRevoke link run → AreConveyedOrRefused (parameters_of script.opening link) link run →
       Stays script (parameters_of script.opening link) link run
+  pub drains : (link : ℕ) → IsLink script link → HasNoRaw script link → DrainStepsLeaveLess server script link
 
 -- ===== the report
 
+-- the log of a link: what each side wrote, and what each side was fed
 abbrev pub log_of : List Mark → ℕ → LinkLog
 log_of run link = record {
   client_wrote = bytes_sent link Initiator run;
@@ -150,4 +153,3 @@ pub record Reports (server : SerialServer) (script : ScriptLines) (report : Repo
   pub journal : report.journal ≡ journal (plain_of server) report.marks
   pub calls : report.calls ≡ call_reports (setting_of server script.opening) report.marks
   pub links : report.links ≡ link_reports (setting_of server script.opening) script.opening.clients report.marks
-  pub logs : report.logs ≡ map (log_of report.marks) (links_of script.opening.clients)

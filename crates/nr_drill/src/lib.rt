@@ -11,6 +11,6 @@ pub use laws::{drains_end, drill_is_run, reports_tell_runs, runs};
 pub use printing::{shown, summary};
 pub use report::{
     CallReport, CallReports, CallState, Journal, LinkEnds, LinkLog, LinkReport, LinkReports,
-    LinkState, Logs, Report,
+    LinkState, Report,
 };
-pub use reporting::report_of;
+pub use reporting::{link_log, report_of};

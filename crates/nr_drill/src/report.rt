@@ -90,13 +90,10 @@ pub struct LinkLog {
     pub server_was_fed: Octets,
 }
 
-/// The logs of the links in order.
-pub type Logs = Sequence<LinkLog>;
-
 /// The report of a drill.
 #[derive(Drop)]
 pub struct Report {
-    /// What happened, mark by mark.
+    /// What happened, mark by mark. What crossed a link is the log of the link's marks (`link_log`).
     pub marks: Marks,
     /// What the executed calls of all links added, in order.
     pub journal: Journal,
@@ -104,8 +101,6 @@ pub struct Report {
     pub calls: CallReports,
     /// The links that were dropped, and the sides that ended.
     pub links: LinkReports,
-    /// What crossed each link.
-    pub logs: Logs,
 }
 
 /// What a link came to: why each of its sides takes no more input, if it has ended, and whether the link was dropped.

@@ -2,7 +2,6 @@
 
 ghost use Rattle.std.specs.Prelude.{◌≡◌, ℕ, ◌+◌, ◌-◌, ◌≤◌, ◌++◌, [], length, map, IfOk, OnOk, slice_get};
 ghost use Rattle.nr_script.specs.Limits.{clients_max};
-ghost use Rattle.nr_drill.specs.Drill.{links_of};
 ghost use Rattle.nr_drill.specs.Headline.{log_of};
 ghost use Rattle.nr_drill.specs.LinkEnds.{ReportsRuns};
 ghost use Rattle.nr_drill.specs.Reports.{side_report};
@@ -137,8 +136,12 @@ fn add_to_log(log: &mut LinkLog, link: u32, mark: &Mark) -> Result<(), Memory>
     }
 }
 
-/// The log of a link.
-fn log_of(alloc: Global, marks: &[Mark], link: u32) -> Result<LinkLog, Memory>
+/// The log of a link: the bytes that crossed it each way, by the marks of a run.
+///
+/// # Errors
+///
+/// [`Memory`] if memory ran out.
+pub fn link_log(alloc: Global, marks: &[Mark], link: u32) -> Result<LinkLog, Memory>
     ensures { IfOk result (λ log. log ≡ log_of marks.now link) }
 {
     let mut log = LinkLog {
@@ -153,24 +156,12 @@ fn log_of(alloc: Global, marks: &[Mark], link: u32) -> Result<LinkLog, Memory>
     Ok(log)
 }
 
-/// The logs of this many links.
-fn logs(alloc: Global, marks: &[Mark], links: u32) -> Result<Vec<LinkLog>, Memory>
-    ensures { IfOk result (λ logs. logs.items ≡ map (log_of marks.now) (links_of links)) }
-{
-    let mut logs = Vec::new(alloc);
-    for i in 0..links {
-        logs.push(log_of(alloc, marks, i + 1)?)?;
-    }
-    Ok(logs)
-}
-
 /// What a report says beside its marks.
 #[derive(Drop)]
 struct ReportParts {
     journal: Vec<Entry>,
     calls: Vec<CallReport>,
     links: Vec<LinkReport>,
-    logs: Vec<LinkLog>,
 }
 
 /// The call lines, and the entries of the journal.
@@ -196,16 +187,13 @@ fn report_parts(alloc: Global, marks: &[Mark], ends: &[LinkEnds]) -> Result<Repo
     requires { length ends.now ≤ clients_max }
     ensures calls { IfOk result (λ told. AreNumbered (length ends.now) marks.now → AreCalls marks.now ends.now told.calls.items told.journal.items) }
     ensures links { IfOk result (λ told. told.links.items ≡ link_reports_from 1 ends.now) }
-    ensures logs { IfOk result (λ told. told.logs.items ≡ map (log_of marks.now) (links_of (length ends.now))) }
 {
     let (calls, journal) = calls_of(alloc, marks, ends)?;
     let links = link_reports(alloc, ends)?;
-    let logs = logs(alloc, marks, ends.len() as u32)?;
     Ok(ReportParts {
         journal,
         calls,
         links,
-        logs,
     })
 }
 
@@ -226,14 +214,12 @@ pub fn report_of(alloc: Global, marks: Marks, ends: &[LinkEnds]) -> Result<Repor
                 journal,
                 calls,
                 links,
-                logs,
             },
         ) => Ok(Report {
             marks,
             journal: Sequence::from_vec(journal),
             calls: Sequence::from_vec(calls),
             links: Sequence::from_vec(links),
-            logs: Sequence::from_vec(logs),
         }),
         Err(e) => Err(e),
     }

@@ -1,8 +1,9 @@
 -- Bytes that are fed to an end.
 use Rattle.std.specs.Prelude.{◌&&◌, if◌then◌else◌}
-use Rattle.std.proofs.Common.{◌≡◌, ◌≢◌, ℕ, zero, suc, eqb, Bool, false, List, [], ◌∷◌, ◌++◌, length, take, drop, Some, inl, refl, ap, sym, subst, ◌∙◌}
+use Rattle.std.proofs.Common.{◌≡◌, ◌≢◌, ℕ, zero, suc, ◌+◌, ◌≤◌, arith, eqb, Bool, false, List, [], ◌∷◌, ◌++◌, length, take, drop, Some, inl, refl, ap, sym, subst, ◌∙◌}
 use Rattle.std.proofs.lemmas.List.{drop-drop}
 use Rattle.std.proofs.Math.Seq.{drop-nil}
+use Rattle.std.proofs.Math.ListN.{drop_of_length-le}
 use Rattle.nr_outside.specs.Pipe.{PipeState, waiting_bytes, next_bytes, after_read}
 use Rattle.nr_wire.specs.declared.hello.Side.TheVariants.{Responder}
 use Rattle.nr_link.specs.declared.end.End.TheVariants as ends
@@ -33,6 +34,12 @@ pub waits_after : (p p2 : PipeState) (n : ℕ) → p2 ≡ after_read p n → wai
 waits_after p p2 n is =
     let len : ℕ = length (next_bytes p n) in
     ap waiting_bytes is ∙ sym (drop-drop len p.place p.log) ∙ read_past n (waiting_bytes p)
+
+-- if none wait after it, an empty pipe waits with the same
+pub none_left_after : (p p2 : PipeState) (n left : ℕ) → p2 ≡ after_read p n → p2.place + left ≡ length p2.log → left ≡ 0 → [] ≡ drop n (waiting_bytes p)
+none_left_after p p2 n left is count none =
+    let le : length p2.log ≤ p2.place = omega (arith, count, none) in
+    sym (drop_of_length-le p2.log le) ∙ waits_after p p2 n is
 
 -- ---- The server
 

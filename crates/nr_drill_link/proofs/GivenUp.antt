@@ -13,14 +13,14 @@ use Rattle.nr_reduce.specs.OutcomesDue.{is_completed}
 use Rattle.nr_reduce.specs.Asked.{revoked_bytes}
 use Rattle.nr_reduce.specs.Run.{client}
 use Rattle.nr_reduce.proofs.Standing.{itself}
-use Rattle.nr_requester.specs.declared.answer.AnsweredCall.{AnsweredCall}
-use Rattle.nr_requester.specs.RequesterState.{RequesterSide, RequesterState, StoredCall}
+use Rattle.nr_requester.specs.RequesterState.{RequesterSide}
 use Rattle.nr_requester.specs.AfterCalls.{after_forget as forgotten, after_revoke as revoked}
 use Rattle.nr_requester.specs.Buffers.{bytes_of_buffers}
 use Rattle.nr_requester.specs.Laws.{gives_up}
-use Rattle.nr_requester.specs.OpenCalls.{call_with, open_call, found_call, found_answer, buffers_of, IsOutstanding}
+use Rattle.nr_requester.specs.OpenCalls.{open_call, buffers_of}
 use Rattle.nr_requester.specs.Standing.{RequesterRepresents, StandsOn}
-use Rattle.nr_requester.proofs.RevokedBytes.{buffers_are_placed}
+use Rattle.nr_requester.proofs.RevokedBytes.{left_are_placed}
+use Rattle.nr_requester.proofs.HandedBack.{open_remains}
 use Rattle.nr_responder.specs.Laws.{IsOfOthers}
 use Rattle.nr_drill.specs.Drill.{Setting, Drill, with_mark, settled, answer_at, answer_of_line, is_open, open_xid, after_giving_up, after_forget, after_taking_back, after_revoke}
 use Rattle.nr_drill.specs.InBytes.{RepliedInBytes, RepliedMark}
@@ -197,14 +197,14 @@ revoked_end : (h : RequesterSide) (xid : ℕ) → (revoked h xid).state.side.end
 unfolding revoked
 revoked_end h xid = refl
 
-pub revokes : (v v3 : DrillLinkState) (client : RequesterSide) (number xid : ℕ) (bytes : List ℕ) (left : List AwaitedLine) (run run2 run3 : List Mark) → TookOut v number xid left → IsOutstanding xid v.client.state →
+pub revokes : (v v3 : DrillLinkState) (client : RequesterSide) (number xid : ℕ) (bytes : List ℕ) (left : List AwaitedLine) (run run2 run3 : List Mark) → TookOut v number xid left → is_some (open_call xid v.client.state) ≡ true →
     bytes ≡ bytes_of_buffers (buffers_of xid v.client.state) → client ≡ revoked v.client xid → StandsOn v.client (λ link. marks.Revoke link xid (bytes_of_buffers (buffers_of xid v.client.state))) client →
     run2 ≡ run ++ marks.Revoke v.number xid bytes ∷ [] → Goes settled (with_client v client left) v3 run2 run3 → Goes (λ s link. after_revoke s link number) v v3 run run3
 unfolding after_revoke
-revokes v v3 client number xid bytes left run run2 run3 t out own is stands_on more settles s link d at =
+revokes v v3 client number xid bytes left run run2 run3 t there own is stands_on more settles s link d at =
     let h = at.stands in
     let o = s.opened link in
-    let placed : revoked_bytes o link d.marks xid ≡ bytes = sym (buffers_are_placed o link v.client d.marks xid h.client out) ∙ sym own in
+    let placed : revoked_bytes o link d.marks xid ≡ bytes = sym (left_are_placed o link v.client d.marks xid h.client (open_remains v.client.state xid there)) ∙ sym own in
     let represents : RequesterRepresents o link client (d.marks ++ marks.Revoke link xid bytes ∷ []) =
     subst (λ (bs : List ℕ). RequesterRepresents o link client (d.marks ++ marks.Revoke link xid bs ∷ [])) (sym own) (stands_on o link d.marks h.client) in
     let marked : StandsAt s link (with_mark (marks.Revoke link xid bytes) d) (with_client v client left) run2 = record {
@@ -214,19 +214,6 @@ revokes v v3 client number xid bytes left run run2 run3 t out own is stands_on m
     } in
     subst (λ (o : Option ℕ). StandsAt s link (after_taking_back s link o d) v3 run3) (sym (open_one s link d v number xid left t.stands t.live t.taken h))
     (subst (λ (bs : List ℕ). StandsAt s link (settled s link (with_mark (marks.Revoke link xid bs) d)) v3 run3) (sym placed) (settles s link (with_mark (marks.Revoke link xid bytes) d) marked))
-
--- a call whose ticket is open and that has no answer
-has_call : (forgot : Bool) (call : Option Call) → is_some (if forgot then None else call) ≡ true → is_some call ≡ true
-has_call true call e = absurd cc
-has_call false call e = e
-
-pub outstanding : (xid : ℕ) (r : RequesterState) → is_some (open_call xid r) ≡ true → is_some (found_answer xid r) ≡ false → IsOutstanding xid r
-outstanding xid r = by (found_call xid r) (found_answer xid r) refl
-  where
-    by : (c : Option StoredCall) (a : Option AnsweredCall) → found_call xid r ≡ c → is_some (call_with c a) ≡ true → is_some a ≡ false → IsOutstanding xid r
-    by (Some c) a there e none = record { call = c; there = there; has = has_call c.is_forgotten c.call e }
-    by None (Some a) there e none = absurd cc
-    by None None there e none = absurd cc
 
 -- what a test of an option shows
 true_false : true ≢ false

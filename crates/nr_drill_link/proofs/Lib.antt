@@ -22,4 +22,3 @@ pub mod GivenLines
 pub mod GivenUp
 pub mod GivenCalls
 pub mod GivenBuffers
-pub mod NoneDue

@@ -5,7 +5,6 @@ use Rattle.nr_wire.specs.declared.hello.Side.TheVariants.{Initiator, Responder}
 use Rattle.nr_reduce.specs.declared.mark.Mark.{Mark}
 use Rattle.nr_reduce.specs.declared.mark.Mark.TheVariants as marks
 use Rattle.nr_reduce.specs.declared.mark.LinkParameters.{LinkParameters}
-use Rattle.nr_reduce.specs.OutcomesDue.{outcomes_due}
 use Rattle.nr_reduce.specs.PlainJournal.{journal}
 use Rattle.nr_requester.specs.RequesterState.{RequesterSide, queue_of}
 use Rattle.nr_requester.specs.AfterCalls.{after_drain}
@@ -30,11 +29,6 @@ pub record StandsAt (s : Setting) (link : ℕ) (d : Drill) (v : DrillLinkState) 
 -- For every drill at which the link stood, it stands at the drill after the step.
 abbrev pub Goes : (Setting → ℕ → Drill → Drill) → (before after : DrillLinkState) → (run run' : List Mark) → Type 0
 Goes step before after run run' = (s : Setting) (link : ℕ) (d : Drill) → StandsAt s link d before run → StandsAt s link (step s link d) after run'
-
--- The same for every drill in which no outcome of the link is due.
-abbrev pub GoesIfNoneDue : (Setting → ℕ → Drill → Drill) → (before after : DrillLinkState) → (run run' : List Mark) → Type 0
-GoesIfNoneDue step before after run run' =
-    (s : Setting) (link : ℕ) (d : Drill) → StandsAt s link d before run → outcomes_due (s.opened link) link d.marks ≡ [] → StandsAt s link (step s link d) after run'
 
 -- a setting whose plain server was opened with a setup
 abbrev pub setting_over : Setup → (ℕ → LinkParameters) → Setting

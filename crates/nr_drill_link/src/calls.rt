@@ -9,12 +9,12 @@ ghost use Rattle.nr_requester.specs.AfterCalls.{after_revoke as revoked};
 ghost use Rattle.nr_requester.specs.Answers.{answer_of};
 ghost use Rattle.nr_requester.specs.Fed.{fed_bytes};
 ghost use Rattle.nr_requester.specs.Buffers.{buffer_bytes, bytes_of_buffers};
-ghost use Rattle.nr_requester.specs.OpenCalls.{open_call, found_answer, buffers_of, IsOutstanding, OpensTicket};
+ghost use Rattle.nr_requester.specs.OpenCalls.{open_call, buffers_of, OpensTicket};
 ghost use Rattle.nr_requester.specs.Standing.{StandsOn};
 ghost use Rattle.nr_drill.specs.Drill.{after_submit, after_forget, after_revoke};
 ghost use Rattle.nr_drill_link.specs.OpenTickets.{LinesOpen, TakesLine, SubmitsLine, AnswersCall};
 ghost use Rattle.nr_drill_link.specs.Views.{line_view};
-ghost use Rattle.nr_drill_link.specs.Steps.{Goes, GoesIfNoneDue};
+ghost use Rattle.nr_drill_link.specs.Steps.{Goes};
 
 use crate::awaited::AwaitedCall;
 use crate::copying::{copy_call, copy_form};
@@ -147,11 +147,9 @@ fn bytes_of(alloc: Global, buffers: &Buffers) -> Result<Octets, Memory>
     Ok(Octets::from_vec(bytes))
 }
 
-/// Revokes the memory of a call whose ticket is open and whose outcome has not come. What its buffers hold is the answer.
+/// Revokes the memory of a call whose ticket is open, also if its outcome has come. What its buffers hold is the answer.
 fn revoke_call(alloc: Global, client: &mut Requester, ticket: Ticket) -> Result<Octets, Memory>
-    requires open { is_some (open_call ticket client.old.state) ≡ true }
-    requires none { is_some (found_answer ticket client.old.state) ≡ false }
-    ensures outstanding { OnOk result (IsOutstanding ticket client.old.state) }
+    requires { is_some (open_call ticket client.old.state) ≡ true }
     ensures bytes { IfOk result (λ bytes. bytes ≡ bytes_of_buffers (buffers_of ticket client.old.state)) }
     ensures state { OnOk result (client.new ≡ revoked client.old ticket) }
     ensures stands { OnOk result (StandsOn client.old (λ link. marks.Revoke link ticket (bytes_of_buffers (buffers_of ticket client.old.state))) client.new) }
@@ -237,7 +235,7 @@ impl DrillLink {
 
     /// Revokes the memory of the call of this call line, if it is open; then what is due is written.
     pub fn revoke(&mut self, marks: &mut Vec<Mark>, number: u32) -> Result<(), Memory>
-        ensures { OnOk result (GoesIfNoneDue (λ s link. after_revoke s link number) self.old self.new marks.old.items marks.new.items) }
+        ensures { OnOk result (Goes (λ s link. after_revoke s link number) self.old self.new marks.old.items marks.new.items) }
     {
         if self.dropped {
             return Ok(());
@@ -248,10 +246,6 @@ impl DrillLink {
         let Some(ticket) = take_line(&mut self.awaited, number) else {
             return Ok(());
         };
-        // An outcome is handed over as soon as it comes, so none is due here.
-        if self.client.has_outcome(&ticket) {
-            return Ok(());
-        }
         let xid = ticket.xid();
         let bytes = match revoke_call(self.alloc, &mut self.client, ticket) {
             Ok(bytes) => bytes,

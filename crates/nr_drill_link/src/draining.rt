@@ -1,6 +1,6 @@
 //! What an end has to write.
 
-ghost use Rattle.std.specs.Prelude.{◌≡◌, ◌∷◌, ◌++◌, IfOk, OnOk, [], length, take};
+ghost use Rattle.std.specs.Prelude.{◌≡◌, ◌∷◌, ◌++◌, IfOk, OnOk, [], drop, length, take};
 ghost use Rattle.nr_outside.specs.Pipe.{waiting_bytes};
 ghost use Rattle.nr_endpoint.specs.FedBytes.{fed_bytes};
 ghost use Rattle.nr_reduce.specs.declared.mark.Mark.TheVariants as mark_kinds;
@@ -50,6 +50,17 @@ pub(crate) fn put(pipe: &mut Pipe, bytes: &[u8]) -> Result<(), Memory>
         Ok(_) => Ok(()),
         Err(_) => Err(Memory),
     }
+}
+
+/// Skips the next bytes of a pipe, at most `most`. If none wait after them, it keeps none of the bytes that were read.
+pub(crate) fn skip_next(alloc: Global, pipe: &mut Pipe, most: usize)
+    ensures { waiting_bytes pipe.new ≡ drop most (waiting_bytes pipe.old) }
+{
+    pipe.skip(most);
+    if pipe.waiting() > 0 {
+        return;
+    }
+    *pipe = Pipe::new(alloc);
 }
 
 /// Adds a mark to those of the drill.

@@ -7,4 +7,6 @@
 #[cfg(test)]
 mod compare;
 #[cfg(test)]
+mod logs;
+#[cfg(test)]
 mod printing;

@@ -107,7 +107,6 @@ fn report_of(alloc: Global, calls: Vec<CallReport>, links: Vec<LinkReport>) -> R
         journal: Sequence::from_vec(Vec::new(alloc)),
         calls: Sequence::from_vec(calls),
         links: Sequence::from_vec(links),
-        logs: Sequence::from_vec(Vec::new(alloc)),
     }
 }
 

@@ -24,7 +24,7 @@ use Rattle.nr_drill_link.specs.DrillLinkState.{DrillLinkState}
 use Rattle.nr_drill_link.specs.LinkStands.{LinkStands}
 use Rattle.nr_drill_link.specs.Steps.{ServerStands}
 use Rattle.nr_world.specs.declared.world.World.{World}
-use Rattle.nr_world.specs.private.Stands.{drill_setting, WorldStands, NoneDueBefore, Steps, StepsIfNoneDue, MakesLine, MakesLines}
+use Rattle.nr_world.specs.private.Stands.{drill_setting, WorldStands, Steps, MakesLine, MakesLines}
 use Rattle.nr_world.specs.private.Within.{IsClient, IsLineWithin, AreWithin, CanMake, CanMakeAll}
 use Rattle.nr_world.proofs.Others.{link_stays}
 use Rattle.nr_world.proofs.Progress.{round_more}
@@ -107,14 +107,14 @@ others_same tree opening seconds all d w n h a clock creds count fit =
     }
 
 pub tick_makes : (more : ℕ) (w n : World) → IsAfterLine w n → n.seconds ≡ w.seconds + more → n.creds.items ≡ w.creds.items → MakesLine (lines.Tick more) w n
-tick_makes more w n a clock creds tree opening d h none = (
+tick_makes more w n a clock creds tree opening d h = (
   record d { seconds = d.seconds + more },
   refl,
   others_same tree opening (d.seconds + more) d.creds d w n h a (clock ∙ ap (λ (k : ℕ). k + more) h.seconds) (creds ∙ h.creds) (ap length (sym h.creds) ∙ h.creds_count) (subst (AllByRecursion CanWriteCred) h.creds h.creds_fit),
 )
 
 pub cred_makes : (client : ℕ) (cred : Cred) (w n : World) → CanWriteCred cred → IsAfterLine w n → n.seconds ≡ w.seconds → n.creds.items ≡ slice_set w.creds.items (client - 1) cred → MakesLine (lines.Cred client cred) w n
-cred_makes client cred w n fits a clock creds tree opening d h none = (
+cred_makes client cred w n fits a clock creds tree opening d h = (
   with_cred client cred d,
   refl,
   others_same tree opening d.seconds (slice_set d.creds (client - 1) cred) d w n h a (clock ∙ h.seconds) (creds ∙ ap (λ (all : List Cred). slice_set all (client - 1) cred) h.creds)
@@ -127,10 +127,7 @@ cred_fits w client cred (tree, opening, d, stands, within) = within.1
 
 -- a step of one link is a line
 pub step_makes : (line : Line) (step : Setting → Drill → Drill) (w n : World) → ((s : Setting) (clients : ℕ) (d : Drill) → Makes s clients line d (step s d)) → Steps step w n → MakesLine line w n
-step_makes line step w n is steps tree opening d h none = (step (drill_setting tree opening) d, is (drill_setting tree opening) opening.clients d, steps tree opening d h)
-
-pub step_makes_if_none_due : (line : Line) (step : Setting → Drill → Drill) (w n : World) → ((s : Setting) (clients : ℕ) (d : Drill) → Makes s clients line d (step s d)) → StepsIfNoneDue step w n → MakesLine line w n
-step_makes_if_none_due line step w n is steps tree opening d h none = (step (drill_setting tree opening) d, is (drill_setting tree opening) opening.clients d, steps tree opening d h none)
+step_makes line step w n is steps tree opening d h = (step (drill_setting tree opening) d, is (drill_setting tree opening) opening.clients d, steps tree opening d h)
 
 pub line_is : (old new : World) (line is : Line) → line ≡ is → MakesLine is old new → MakesLine line old new
 line_is old new line is e h = subst (λ (l : Line). MakesLine l old new) (sym e) h
@@ -139,9 +136,8 @@ line_is old new line is e h = subst (λ (l : Line). MakesLine l old new) (sym e)
 
 -- lines that are made so far, and what is left
 abbrev pub LinesSoFar : World → World → List Line → ℕ → Type 0
-LinesSoFar old now all at = CanMakeAll (drop at all) now × ((tree : Tree) (opening : Opening) (d : Drill) → WorldStands tree opening d old → NoneDueBefore (drill_setting tree opening) opening.clients all d →
-    (mid : Drill) × WorldStands tree opening mid now × NoneDueBefore (drill_setting tree opening) opening.clients (drop at all) mid
-    × ((last : Drill) → MakeAll (drill_setting tree opening) opening.clients (drop at all) mid last → MakeAll (drill_setting tree opening) opening.clients all d last))
+LinesSoFar old now all at = CanMakeAll (drop at all) now × ((tree : Tree) (opening : Opening) (d : Drill) → WorldStands tree opening d old →
+    (mid : Drill) × WorldStands tree opening mid now × ((last : Drill) → MakeAll (drill_setting tree opening) opening.clients (drop at all) mid last → MakeAll (drill_setting tree opening) opening.clients all d last))
 
 -- the clock after a line
 round_clock : (s : Setting) (links : List ℕ) (d : Drill) → (after_round s links d).seconds ≡ d.seconds
@@ -173,31 +169,28 @@ lines_on old now next all at e lt (can, goes) makes = (still can, further)
     left = rw (add-one) (drop-cons all at e lt)
 
     still : CanMakeAll (drop at all) now → CanMakeAll (drop (at + 1) all) next
-    still (tree, opening, d, stands, none, within) =
+    still (tree, opening, d, stands, within) =
         let s : Setting = drill_setting tree opening in
-        let none_due : NoneDueBefore s opening.clients (get_or all at e ∷ drop (at + 1) all) d = subst (λ (xs : List Line). NoneDueBefore s opening.clients xs d) left none in
-        let (new, made, there) = makes tree opening d stands none_due.0 in
+        let (new, made, there) = makes tree opening d stands in
         let all_within : AreWithin opening.clients d.seconds (get_or all at e ∷ drop (at + 1) all) = subst (AreWithin opening.clients d.seconds) left within in
         let clock = line_clock s opening.clients (get_or all at e) d new made in
-        (tree, opening, new, there, none_due.1 new made, subst (λ (n : ℕ). AreWithin opening.clients n (drop (at + 1) all)) (sym clock) all_within.1)
+        (tree, opening, new, there, subst (λ (n : ℕ). AreWithin opening.clients n (drop (at + 1) all)) (sym clock) all_within.1)
 
-    further : (tree : Tree) (opening : Opening) (d : Drill) → WorldStands tree opening d old → NoneDueBefore (drill_setting tree opening) opening.clients all d →
-        (mid : Drill) × WorldStands tree opening mid next × NoneDueBefore (drill_setting tree opening) opening.clients (drop (at + 1) all) mid
-        × ((last : Drill) → MakeAll (drill_setting tree opening) opening.clients (drop (at + 1) all) mid last → MakeAll (drill_setting tree opening) opening.clients all d last)
-    further tree opening d h none_at_first =
+    further : (tree : Tree) (opening : Opening) (d : Drill) → WorldStands tree opening d old →
+        (mid : Drill) × WorldStands tree opening mid next × ((last : Drill) → MakeAll (drill_setting tree opening) opening.clients (drop (at + 1) all) mid last → MakeAll (drill_setting tree opening) opening.clients all d last)
+    further tree opening d h =
         let s : Setting = drill_setting tree opening in
-        let (mid, stands, none, rest) = goes tree opening d h none_at_first in
-        let none_due : NoneDueBefore s opening.clients (get_or all at e ∷ drop (at + 1) all) mid = subst (λ (xs : List Line). NoneDueBefore s opening.clients xs mid) left none in
-        let (new, made, there) = makes tree opening mid stands none_due.0 in
-        (new, there, none_due.1 new made, λ last after. rest last (subst (λ (xs : List Line). MakeAll s opening.clients xs mid last) (sym left) (new, made, after)))
+        let (mid, stands, rest) = goes tree opening d h in
+        let (new, made, there) = makes tree opening mid stands in
+        (new, there, λ last after. rest last (subst (λ (xs : List Line). MakeAll s opening.clients xs mid last) (sym left) (new, made, after)))
 
 pub lines_end : (old now : World) (all : List Line) (at : ℕ) → length all ≤ at → LinesSoFar old now all at → MakesLines all old now
-lines_end old now all at le (can, goes) tree opening d h none_at_first =
-    let (mid, stands, none, rest) = goes tree opening d h none_at_first in
+lines_end old now all at le (can, goes) tree opening d h =
+    let (mid, stands, rest) = goes tree opening d h in
     (mid, rest mid (subst (λ (xs : List Line). MakeAll (drill_setting tree opening) opening.clients xs mid mid) (sym (drop_of_length-le all le)) refl), stands)
 
 pub line_within : (w : World) (all : List Line) (at : ℕ) (e : Line) → at < length all → CanMakeAll (drop at all) w → CanMake (get_or all at e) w
-line_within w all at e lt (tree, opening, d, stands, none, within) =
+line_within w all at e lt (tree, opening, d, stands, within) =
     let left : drop at all ≡ get_or all at e ∷ drop (at + 1) all = rw (add-one) (drop-cons all at e lt) in
     let all_within : AreWithin opening.clients d.seconds (get_or all at e ∷ drop (at + 1) all) = subst (AreWithin opening.clients d.seconds) left within in
     (tree, opening, d, stands, all_within.0)

@@ -1,6 +1,6 @@
 -- The lines of a script are within the limits of its world, and its run is that of a drill.
 use Rattle.std.specs.List.{AllByRecursion}
-use Rattle.std.proofs.Common.{◌≡◌, ℕ, ◌+◌, ◌≤◌, arith, true, leb, leb-true, List, [], ◌∷◌, ◌++◌, length, refl, sym, ap, subst, ◌∙◌, append_assoc}
+use Rattle.std.proofs.Common.{◌≡◌, ℕ, ◌+◌, ◌≤◌, arith, true, leb, leb-true, List, [], ◌∷◌, ◌++◌, length, refl, sym, ap, subst, ◌∙◌}
 use Rattle.std.proofs.lemmas.List.Sums.{sum_by-append}
 use Rattle.nr_tree.specs.Tree.{Tree}
 use Rattle.nr_script.specs.declared.script.Opening.{Opening}
@@ -9,16 +9,15 @@ use Rattle.nr_script.specs.declared.script.Line.TheVariants as lines
 use Rattle.nr_script.specs.Limits.{number_max, clients_max}
 use Rattle.nr_script.specs.Script.{ScriptLines, IsScript, FollowOn, HasWritableCred, is_client, is_call_line, may_follow, seconds_in, seconds_after}
 use Rattle.nr_drill.specs.declared.report.Report.{Report}
-use Rattle.nr_drill.specs.Drill.{SerialServer, Setting, Drill, start, links_of}
+use Rattle.nr_drill.specs.Drill.{start, links_of}
 use Rattle.nr_drill.specs.DrillSetup.{drill_setup, server_of, GivesReport}
-use Rattle.nr_drill.specs.Follows.{Follows, Makes, MakeAll, opened_drill, setting_of}
+use Rattle.nr_drill.specs.Follows.{Follows, opened_drill}
 use Rattle.nr_drill.proofs.Carried.{both_true}
-use Rattle.nr_drill.proofs.Handed.{handed_after}
 use Rattle.nr_drill.proofs.Headed.{drill_is_run}
 use Rattle.nr_world.specs.declared.world.World.{World}
 use Rattle.nr_world.specs.private.Opened.{HasOpenLinks}
 use Rattle.nr_world.specs.private.Results.{ReportsWorld}
-use Rattle.nr_world.specs.private.Stands.{drill_setting, NoneDueBefore, MakesLines}
+use Rattle.nr_world.specs.private.Stands.{drill_setting, MakesLines}
 use Rattle.nr_world.specs.private.Within.{IsClient, IsLineWithin, AreWithin, CanMakeAll}
 use Rattle.nr_world.proofs.SameServer.{openings_clock}
 
@@ -57,25 +56,6 @@ opened_clock : (tree : Tree) (opening : Opening) → (opened_drill (server_of (d
 unfolding opened_drill
 opened_clock tree opening = openings_clock (drill_setting tree opening) (links_of opening.clients) (start opening.clients)
 
-made_more : (s : Setting) (clients : ℕ) (before : List Line) (line : Line) (d mid next : Drill) → MakeAll s clients before d mid → Makes s clients line mid next → MakeAll s clients (before ++ line ∷ []) d next
-made_more s clients [] line d mid next same made = (next, subst (λ (x : Drill). Makes s clients line x next) same made, refl)
-made_more s clients (first ∷ before) line d mid next (one, begun, rest) made = (one, begun, made_more s clients before line one mid next rest made)
-
--- before each line of a script no outcome is due
-none_due_from : (server : SerialServer) (script : ScriptLines) (before after : List Line) (d : Drill) → IsScript script → script.lines ≡ before ++ after →
-    MakeAll (setting_of server script.opening) script.opening.clients before (opened_drill server script.opening) d → NoneDueBefore (setting_of server script.opening) script.opening.clients after d
-none_due_from server script before [] d is parts made = tt
-none_due_from server script before (line ∷ after) d is parts made = (
-  λ link first last. handed_after server script before (line ∷ after) d is parts made link (first, last),
-  λ next one. none_due_from server script (before ++ line ∷ []) after next is (parts ∙ sym (append_assoc before (line ∷ []) after))
-      (made_more (setting_of server script.opening) script.opening.clients before line (opened_drill server script.opening) d next made one),
-)
-
-none_due : (tree : Tree) (script : ScriptLines) → IsScript script → NoneDueBefore (drill_setting tree script.opening) script.opening.clients script.lines (opened_drill (server_of (drill_setup tree script.opening)) script.opening)
-none_due tree script is =
-    let server = server_of (drill_setup tree script.opening) in
-    none_due_from server script [] script.lines (opened_drill server script.opening) is refl refl
-
 -- a world that has just opened can make all lines of the script
 pub lines_fit : (script : ScriptLines) (w : World) → IsScript script → HasOpenLinks script.opening w → CanMakeAll script.lines w
 lines_fit script w is (tree, sane, stands) = (
@@ -83,21 +63,20 @@ lines_fit script w is (tree, sane, stands) = (
   script.opening,
   opened_drill (server_of (drill_setup tree script.opening)) script.opening,
   stands,
-  none_due tree script is,
   subst (λ (n : ℕ). AreWithin script.opening.clients n script.lines) (none_before ∙ sym (opened_clock tree script.opening)) (all_within script.opening [] script.lines is.follow_on is.creds),
 )
 
 pub runs_script : (script : ScriptLines) (w n : World) (report : Report) → IsScript script → HasOpenLinks script.opening w → MakesLines script.lines w n → ReportsWorld n report → GivesReport script report
 runs_script script w n report is (tree, sane, stands) makes told =
     let server = server_of (drill_setup tree script.opening) in
-    let (last, made, there) = makes tree script.opening (opened_drill server script.opening) stands (none_due tree script is) in
+    let (last, made, there) = makes tree script.opening (opened_drill server script.opening) stands in
     let follows : Follows server script last.marks = record { last = last; makes = made; marks_are = refl } in
     (tree, sane.drill, told tree script last there is (drill_is_run tree script last.marks sane.sane is there.replies follows))
 
 -- as many links as clients, at most as many as a script has
 pub few_links : (script : ScriptLines) (w n : World) → IsScript script → HasOpenLinks script.opening w → MakesLines script.lines w n → length n.links.items ≤ clients_max
 few_links script w n is (tree, sane, stands) makes =
-    let (last, made, there) = makes tree script.opening (opened_drill (server_of (drill_setup tree script.opening)) script.opening) stands (none_due tree script is) in
+    let (last, made, there) = makes tree script.opening (opened_drill (server_of (drill_setup tree script.opening)) script.opening) stands in
     omega (arith, there.count, is.few_clients)
 
 -- ===== as the code has it: the first line and the lines of a script

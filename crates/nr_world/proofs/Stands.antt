@@ -20,9 +20,9 @@ use Rattle.nr_drill.specs.InBytes.{RepliedInBytes}
 use Rattle.nr_drill.proofs.Followed.{Extends}
 use Rattle.nr_drill_link.specs.DrillLinkState.{DrillLinkState}
 use Rattle.nr_drill_link.specs.LinkStands.{LinkStands}
-use Rattle.nr_drill_link.specs.Steps.{StandsAt, Goes, GoesIfNoneDue, Works, ServerStands}
+use Rattle.nr_drill_link.specs.Steps.{StandsAt, Goes, Works, ServerStands}
 use Rattle.nr_world.specs.declared.world.World.{World}
-use Rattle.nr_world.specs.private.Stands.{drill_setting, HasOpened, WorldStands, Steps, StepsIfNoneDue}
+use Rattle.nr_world.specs.private.Stands.{drill_setting, HasOpened, WorldStands, Steps}
 use Rattle.nr_world.specs.private.Within.{IsClient}
 use Rattle.nr_world.proofs.SameServer.{Leaves}
 use Rattle.nr_world.proofs.Others.{others_stand}
@@ -105,18 +105,6 @@ world_goes step quiet client w n before after e is a same goes tree opening d h 
     (subst (λ (J : List Entry). RepresentsJournal (drill_setup tree opening) J w.server) (sym both.1.journal) h.server) in
     world_steps tree opening opening.clients client d (step s client d) w n after h is both.0 both.1.seconds a
     (goes s client d (stands_at tree opening opening.clients d w client before h is e)) kept
-
--- the same if no outcome is due
-pub world_goes_if_none_due : (step : Setting → ℕ → Drill → Drill) → IsQuiet step → (client : ℕ) (w n : World) (before after : DrillLinkState) → before ≡ slice_index_or w.links.items (client - 1) before → IsClient (length w.links.items) client →
-    IsAfterStep w client after n → n.server ≡ w.server → GoesIfNoneDue step before after w.marks.items n.marks.items → StepsIfNoneDue (λ s d. step s client d) w n
-world_goes_if_none_due step quiet client w n before after e is a same goes tree opening d h none =
-    let s = drill_setting tree opening in
-    let both = quiet s client d in
-    let kept : ServerStands (drill_setup tree opening) (step s client d) n.server =
-    subst (λ (k : PlainServerState). ServerStands (drill_setup tree opening) (step s client d) k) (sym same)
-    (subst (λ (J : List Entry). RepresentsJournal (drill_setup tree opening) J w.server) (sym both.1.journal) h.server) in
-    world_steps tree opening opening.clients client d (step s client d) w n after h is both.0 both.1.seconds a
-    (goes s client d (stands_at tree opening opening.clients d w client before h is e) (none client is.0 (omega (arith, h.count, is.1)))) kept
 
 -- and if it executes calls
 abbrev pub KeepsClock : (Setting → ℕ → Drill → Drill) → Type 0

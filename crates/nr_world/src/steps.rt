@@ -10,7 +10,7 @@ ghost use Rattle.nr_script.specs.declared.script.Opening.{Opening};
 ghost use Rattle.nr_reduce.specs.History.{is_dropped};
 ghost use Rattle.nr_drill.specs.Drill.{Drill, links_of, after_submit, after_up, after_down, after_work, after_forget, after_revoke, after_drop, after_raw, after_moves, after_round};
 ghost use Rattle.nr_drill.specs.Follows.{is_still as is_still_in};
-ghost use Rattle.nr_world.specs.private.Stands.{Steps, StepsIfNoneDue, WorldStands, drill_setting};
+ghost use Rattle.nr_world.specs.private.Stands.{Steps, WorldStands, drill_setting};
 ghost use Rattle.nr_world.specs.private.Within.{IsClient};
 
 use crate::world::World;
@@ -104,7 +104,7 @@ impl World {
 
     pub(crate) fn revoke(&mut self, client: usize, number: u32) -> Result<(), Memory>
         requires { IsClient (length self.old.links.items) client }
-        ensures { OnOk result (StepsIfNoneDue (λ s d. after_revoke s client number d) self.old self.new) }
+        ensures { OnOk result (Steps (λ s d. after_revoke s client number d) self.old self.new) }
     {
         self.links[client - 1].revoke(&mut self.marks, number)
     }

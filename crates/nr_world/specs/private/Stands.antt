@@ -1,9 +1,8 @@
 -- The drills that a world stands for.
-use Rattle.std.specs.Prelude.{◌≡◌, ℕ, ◌-◌, ◌≤◌, List, [], ◌∷◌, length, slice_index_or}
+use Rattle.std.specs.Prelude.{◌≡◌, ℕ, ◌-◌, ◌≤◌, List, length, slice_index_or}
 use Rattle.std.specs.List.{AllByRecursion}
 use Rattle.nr_rpc.specs.Credential.{CanWriteCred}
 use Rattle.nr_tree.specs.Tree.{Tree}
-use Rattle.nr_reduce.specs.OutcomesDue.{outcomes_due}
 use Rattle.nr_script.specs.declared.script.Opening.{Opening}
 use Rattle.nr_script.specs.declared.script.Line.{Line}
 use Rattle.nr_drill.specs.Drill.{Setting, Drill}
@@ -40,26 +39,12 @@ WorldStands tree opening d w = HasOpened tree opening opening.clients d w
 abbrev pub Steps : (Setting → Drill → Drill) → World → World → Type 0
 Steps step old new = (tree : Tree) (opening : Opening) (d : Drill) → WorldStands tree opening d old → WorldStands tree opening (step (drill_setting tree opening) d) new
 
--- no outcome is due on these links
-abbrev pub NoneDue : Setting → (clients : ℕ) → Drill → Type 0
-NoneDue s clients d = (link : ℕ) → 1 ≤ link → link ≤ clients → outcomes_due (s.opened link) link d.marks ≡ []
-
--- The same for every drill in which no outcome is due.
-abbrev pub StepsIfNoneDue : (Setting → Drill → Drill) → World → World → Type 0
-StepsIfNoneDue step old new =
-    (tree : Tree) (opening : Opening) (d : Drill) → WorldStands tree opening d old → NoneDue (drill_setting tree opening) opening.clients d → WorldStands tree opening (step (drill_setting tree opening) d) new
-
--- For every drill that the world stood for and in which no outcome is due, it stands for the drill after a line.
+-- For every drill that the world stood for, it stands for the drill after a line.
 abbrev pub MakesLine : Line → World → World → Type 0
-MakesLine line old new = (tree : Tree) (opening : Opening) (d : Drill) → WorldStands tree opening d old → NoneDue (drill_setting tree opening) opening.clients d →
+MakesLine line old new = (tree : Tree) (opening : Opening) (d : Drill) → WorldStands tree opening d old →
     (after : Drill) × Makes (drill_setting tree opening) opening.clients line d after × WorldStands tree opening after new
-
--- before each of these lines, one after another, no outcome is due
-abbrev pub NoneDueBefore : Setting → (clients : ℕ) → List Line → Drill → Type 0
-NoneDueBefore s clients [] d = Unit {0}
-NoneDueBefore s clients (line ∷ others) d = NoneDue s clients d × ((next : Drill) → Makes s clients line d next → NoneDueBefore s clients others next)
 
 -- The same after some lines.
 abbrev pub MakesLines : List Line → World → World → Type 0
-MakesLines all old new = (tree : Tree) (opening : Opening) (d : Drill) → WorldStands tree opening d old → NoneDueBefore (drill_setting tree opening) opening.clients all d →
+MakesLines all old new = (tree : Tree) (opening : Opening) (d : Drill) → WorldStands tree opening d old →
     (after : Drill) × MakeAll (drill_setting tree opening) opening.clients all d after × WorldStands tree opening after new

@@ -9,7 +9,7 @@ use Rattle.nr_script.specs.Limits.{number_max}
 use Rattle.nr_script.specs.Script.{seconds_in}
 use Rattle.nr_drill.specs.Drill.{Drill}
 use Rattle.nr_world.specs.declared.world.World.{World}
-use Rattle.nr_world.specs.private.Stands.{drill_setting, WorldStands, NoneDueBefore}
+use Rattle.nr_world.specs.private.Stands.{WorldStands}
 
 -- a client of the script
 abbrev pub IsClient : ℕ → ℕ → Type 0
@@ -34,9 +34,9 @@ abbrev pub AreWithin : ℕ → ℕ → List Line → Type 0
 AreWithin clients seconds [] = Unit {0}
 AreWithin clients seconds (line ∷ others) = IsLineWithin clients seconds line × AreWithin clients (seconds + seconds_in line) others
 
--- the world stands for a drill in which this line, or each of these lines, may come next, and before each of these no outcome is due
+-- the world stands for a drill in which this line, or each of these lines, may come next
 abbrev pub CanMake : Line → World → Type 0
 CanMake line w = (tree : Tree) × (opening : Opening) × (d : Drill) × WorldStands tree opening d w × IsLineWithin opening.clients d.seconds line
 
 abbrev pub CanMakeAll : List Line → World → Type 0
-CanMakeAll all w = (tree : Tree) × (opening : Opening) × (d : Drill) × WorldStands tree opening d w × NoneDueBefore (drill_setting tree opening) opening.clients all d × AreWithin opening.clients d.seconds all
+CanMakeAll all w = (tree : Tree) × (opening : Opening) × (d : Drill) × WorldStands tree opening d w × AreWithin opening.clients d.seconds all

@@ -5,6 +5,6 @@ use Rattle.nr_drill.proofs.reporting.report_of.Goals as goal
 
 pub returns-in-Ok-clause-reports : goal.returns-in-Ok-clause-reports
 returns-in-Ok-clause-reports c =
-    let report : Report = record { marks = c.args.marks; journal = c.from_vec.result; calls = c.from_vec-in-Ok.result; links = c.from_vec-in-Ok-2.result; logs = c.from_vec-in-Ok-3.result } in
-    parts_tell c.as_slice.result.now c.args.marks c.args.ends.now report _ _ _ _ c.as_slice.ensures refl c.from_vec-in-Ok.ensures c.from_vec.ensures c.from_vec-in-Ok-2.ensures c.from_vec-in-Ok-3.ensures
-    c.in-Ok.ensures.calls c.in-Ok.ensures.links c.in-Ok.ensures.logs
+    let report : Report = record { marks = c.args.marks; journal = c.from_vec.result; calls = c.from_vec-in-Ok.result; links = c.from_vec-in-Ok-2.result } in
+    parts_tell c.as_slice.result.now c.args.marks c.args.ends.now report _ _ _ c.as_slice.ensures refl c.from_vec-in-Ok.ensures c.from_vec.ensures c.from_vec-in-Ok-2.ensures
+    c.in-Ok.ensures.calls c.in-Ok.ensures.links

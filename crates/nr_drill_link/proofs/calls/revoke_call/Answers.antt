@@ -4,11 +4,7 @@ use Rattle.nr_requester.specs.declared.answer.Buffers.{Buffers}
 use Rattle.nr_requester.specs.Buffers.{bytes_of_buffers}
 use Rattle.nr_requester.specs.Standing.{StandsOn}
 use Rattle.nr_drill_link.proofs.GivenBuffers.{any_ok, if_ok_as}
-use Rattle.nr_drill_link.proofs.GivenUp.{outstanding}
 use Rattle.nr_drill_link.proofs.calls.revoke_call.Goals as goal
-
-pub returns-clause-outstanding : goal.returns-clause-outstanding
-returns-clause-outstanding c = any_ok c.bytes_of.result _ (outstanding c.args.ticket c.args.client.now.state c.requires.«open» c.requires.none)
 
 pub returns-clause-bytes : goal.returns-clause-bytes
 returns-clause-bytes c = if_ok_as c.bytes_of.result _ _ (λ bytes is. is ∙ ap (λ (b : Buffers). bytes_of_buffers b) c.revoke-call.ensures.buffers) c.bytes_of.ensures

@@ -5,7 +5,7 @@ use Rattle.nr_drill_link.specs.DrillLinkState.{DrillLinkState}
 use Rattle.nr_drill_link.specs.Views.{link_view}
 use Rattle.nr_drill_link.proofs.Standing.{on_ok, from_view}
 use Rattle.nr_drill_link.proofs.FedEnds.{not_out, is_nothing, is_something, within_more, fits_more}
-use Rattle.nr_drill_link.proofs.Feeding.{waits_after, up_nothing, up_fed, TakesPiece}
+use Rattle.nr_drill_link.proofs.Feeding.{up_nothing, up_fed, TakesPiece}
 use Rattle.nr_drill_link.proofs.link.DrillLink.feed_up.Goals as goal
 
 pub same-self : goal.same-self
@@ -61,5 +61,5 @@ returns c =
     on_ok c.add_mark.result _ _
     (λ more. from_view (λ s link. after_feeding_up link c.args.most) v c.args.self.now _ _ _ c.self.view_is
     (up_fed v c.feed.new.self.side c.args.most c.in-Ok.bytes _ c.args.marks.now.items c.add_mark.new.marks.items piece some takes (not_out c.feed.result _ c.feed.ensures.ended (c.ran_out.ensures c.if-ran_out.false))
-    (ap (λ (xs : List ℕ). record { up = xs; down = v.pipes.down }) (waits_after c.self.inside.up c.skip.new.self c.args.most c.skip.ensures)) more))
+    (ap (λ (xs : List ℕ). record { up = xs; down = v.pipes.down }) c.skip_next.ensures) more))
     c.add_mark.ensures

@@ -6,23 +6,20 @@ use Rattle.nr_drill_link.specs.Views.{line_view, link_view}
 use Rattle.nr_drill.specs.Drill.{after_revoke}
 use Rattle.nr_drill_link.proofs.GivenLines.{open_ticket, left_open, none_left}
 use Rattle.nr_drill_link.proofs.GivenUp.{revoke_idle, stays, stays_absent, none_if_dropped, none_if_ended, TookOut, revokes, none_of, some_of}
-use Rattle.nr_drill_link.proofs.NoneDue.{for_each, never_found}
 use Rattle.nr_drill_link.proofs.OpenLines.{calls_open, lines_open}
 use Rattle.nr_drill_link.proofs.Standing.{on_ok, from_view}
 use Rattle.nr_drill_link.proofs.link.DrillLink.revoke.Goals as goal
 
 pub returns-then-self : goal.returns-then-self
 returns-then-self c =
-    for_each (λ s link. after_revoke s link c.args.number) _ _ _ _
-    (stays c.args.number (λ s link. after_revoke s link c.args.number) c.args.self.now c.args.marks.now.items (revoke_idle c.args.number)
-    (none_if_dropped c.args.number c.args.self.now (ap (λ (v : DrillLinkState). v.is_dropped) (sym c.self.view_is) ∙ c.if-self.true)))
+    stays c.args.number (λ s link. after_revoke s link c.args.number) c.args.self.now c.args.marks.now.items (revoke_idle c.args.number)
+    (none_if_dropped c.args.number c.args.self.now (ap (λ (v : DrillLinkState). v.is_dropped) (sym c.self.view_is) ∙ c.if-self.true))
 
 pub returns-then-is_some : goal.returns-then-is_some
 returns-then-is_some c =
-    for_each (λ s link. after_revoke s link c.args.number) _ _ _ _
-    (stays c.args.number (λ s link. after_revoke s link c.args.number) c.args.self.now c.args.marks.now.items (revoke_idle c.args.number)
+    stays c.args.number (λ s link. after_revoke s link c.args.number) c.args.self.now c.args.marks.now.items (revoke_idle c.args.number)
     (none_if_ended c.args.number c.args.self.now
-    (some_of c.args.self.now.client.state.side.ended c.end.result c.is_some.result (c.end.ensures ∙ ap (λ (v : DrillLinkState). v.client.state.side.ended) c.self.view_is) c.is_some.ensures c.if-is_some.true)))
+    (some_of c.args.self.now.client.state.side.ended c.end.result c.is_some.result (c.end.ensures ∙ ap (λ (v : DrillLinkState). v.client.state.side.ended) c.self.view_is) c.is_some.ensures c.if-is_some.true))
 
 pub invariant_of-self : goal.invariant_of-self
 invariant_of-self c = (
@@ -42,36 +39,10 @@ invariant_of-self c = (
 
 pub returns-in_default : goal.returns-in_default
 returns-in_default c =
-    for_each (λ s link. after_revoke s link c.args.number) _ _ _ _
-    (stays_absent c.args.number (λ s link. after_revoke s link c.args.number) _ c.args.self.now c.take_line.result (map line_view c.take_line.new.awaited.items) c.args.marks.now.items (revoke_idle c.args.number) c.self.view_is c.in_default.is c.take_line.ensures)
+    stays_absent c.args.number (λ s link. after_revoke s link c.args.number) _ c.args.self.now c.take_line.result (map line_view c.take_line.new.awaited.items) c.args.marks.now.items (revoke_idle c.args.number) c.self.view_is c.in_default.is c.take_line.ensures
 
-pub revoke_call-requires-clause-open : goal.revoke_call-requires-clause-open
-revoke_call-requires-clause-open c = open_ticket c.self.inside.client.state (c.args.number - 1) c.in-Some.ticket (map line_view c.self.inside.awaited.items) (map line_view c.take_line.new.awaited.items) c.in-Some.ensures (lines_open c.self.inside.client.state c.self.inside.awaited.items c.self.invariant.1.1.1.1)
-
-pub revoke_call-requires-clause-none : goal.revoke_call-requires-clause-none
-revoke_call-requires-clause-none c = sym c.has_outcome.ensures ∙ c.if-has_outcome.false
-
-pub invariant_of-self-then-has_outcome : goal.invariant_of-self-then-has_outcome
-invariant_of-self-then-has_outcome c = (
-  c.self.invariant.0,
-  (
-    c.self.invariant.1.0,
-    (
-      c.self.invariant.1.1.0,
-      (
-        c.self.invariant.1.1.1.0,
-        calls_open c.self.inside.client.state c.take_line.new.awaited.items
-            (left_open c.self.inside.client.state c.self.inside.client.state (c.args.number - 1) c.in-Some.ticket (map line_view c.self.inside.awaited.items) (map line_view c.take_line.new.awaited.items) c.in-Some.ensures
-            (λ xid ne. refl) (lines_open c.self.inside.client.state c.self.inside.awaited.items c.self.invariant.1.1.1.1)),
-      ),
-    ),
-  ),
-)
-
-pub returns-then-has_outcome : goal.returns-then-has_outcome
-returns-then-has_outcome c =
-    let v : DrillLinkState = link_view c.self.inside.number c.self.inside.client c.self.inside.server.side c.self.inside.up c.self.inside.down c.self.inside.dropped c.self.inside.lines c.self.inside.awaited.items in
-    never_found (λ s link. after_revoke s link c.args.number) v c.args.self.now _ c.in-Some.ticket c.has_outcome.result c.args.marks.now.items _ c.self.view_is c.has_outcome.ensures c.if-has_outcome.true
+pub revoke_call-requires : goal.revoke_call-requires
+revoke_call-requires c = open_ticket c.self.inside.client.state (c.args.number - 1) c.in-Some.ticket (map line_view c.self.inside.awaited.items) (map line_view c.take_line.new.awaited.items) c.in-Some.ensures (lines_open c.self.inside.client.state c.self.inside.awaited.items c.self.invariant.1.1.1.1)
 
 pub invariant_of-self-in-Err : goal.invariant_of-self-in-Err
 invariant_of-self-in-Err c = (
@@ -135,8 +106,8 @@ returns-in-Ok-add_mark c =
       taken = c.in-Some.ensures;
     } in
     on_ok c.settle.result _ _
-    (λ settles. for_each (λ s link. after_revoke s link c.args.number) _ _ _ _ (from_view (λ s link. after_revoke s link c.args.number) v c.args.self.now c.settle.new.self c.args.marks.now.items c.settle.new.marks.items c.self.view_is
+    (λ settles. from_view (λ s link. after_revoke s link c.args.number) v c.args.self.now c.settle.new.self c.args.marks.now.items c.settle.new.marks.items c.self.view_is
     (revokes v c.settle.new.self c.revoke_call.new.client c.args.number c.in-Some.ticket c.in-Ok.bytes left c.args.marks.now.items c.add_mark.new.marks.items c.settle.new.marks.items took
-    c.in-Ok.ensures.outstanding c.in-Ok.ensures.bytes c.in-Ok.ensures.state c.in-Ok.ensures.stands
-    (c.in-Ok-add_mark.ensures ∙ ap (λ (x : ℕ). c.args.marks.now.items ++ marks.Revoke c.self.inside.number x c.in-Ok.bytes ∷ []) c.xid-xid.ensures) settles)))
+    (open_ticket c.self.inside.client.state (c.args.number - 1) c.in-Some.ticket (map line_view c.self.inside.awaited.items) (map line_view c.take_line.new.awaited.items) c.in-Some.ensures (lines_open c.self.inside.client.state c.self.inside.awaited.items c.self.invariant.1.1.1.1)) c.in-Ok.ensures.bytes c.in-Ok.ensures.state c.in-Ok.ensures.stands
+    (c.in-Ok-add_mark.ensures ∙ ap (λ (x : ℕ). c.args.marks.now.items ++ marks.Revoke c.self.inside.number x c.in-Ok.bytes ∷ []) c.xid-xid.ensures) settles))
     c.settle.ensures

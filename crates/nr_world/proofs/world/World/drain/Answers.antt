@@ -31,7 +31,7 @@ loop-self-smaller c =
     omega (arith, more, ok, small)
 
 pub returns : goal.returns
-returns c tree opening d h none =
+returns c tree opening d h =
     let (now, stands, goes) = c.loop-self.invariant.1 tree opening d h in
     let answer : c.is_still.result ≡ true = search rules in
     (now, goes zero now (sym (c.is_still.ensures tree opening now stands) ∙ answer, refl), stands)

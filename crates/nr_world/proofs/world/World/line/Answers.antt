@@ -6,7 +6,7 @@ use Rattle.nr_drill.specs.Drill.{Setting, Drill, cred_of, after_submit, after_up
 use Rattle.nr_world.specs.private.Stands.{Steps}
 use Rattle.nr_world.specs.private.Within.{CanMake}
 use Rattle.nr_world.proofs.Stands.{on_ok}
-use Rattle.nr_world.proofs.LineSteps.{client_of, line_is, step_makes, step_makes_if_none_due, tick_makes}
+use Rattle.nr_world.proofs.LineSteps.{client_of, line_is, step_makes, tick_makes}
 use Rattle.nr_world.proofs.world.World.line.Goals as goal
 
 pub up-requires : goal.up-requires
@@ -42,7 +42,7 @@ revoke-requires c = (client_of c.args.self.now c.args.line.now (lines.Revoke c.i
 
 pub returns-in-Revoke : goal.returns-in-Revoke
 returns-in-Revoke c = on_ok c.revoke.result _ _ c.revoke.ensures (λ steps. line_is c.args.self.now c.revoke.new.self c.args.line.now (lines.Revoke c.in-Revoke.client c.in-Revoke.number) c.in-Revoke.is
-    (step_makes_if_none_due (lines.Revoke c.in-Revoke.client c.in-Revoke.number) (λ (s : Setting) (d : Drill). after_revoke s c.in-Revoke.client c.in-Revoke.number d) c.args.self.now c.revoke.new.self (λ s clients d. refl) steps))
+    (step_makes (lines.Revoke c.in-Revoke.client c.in-Revoke.number) (λ (s : Setting) (d : Drill). after_revoke s c.in-Revoke.client c.in-Revoke.number d) c.args.self.now c.revoke.new.self (λ s clients d. refl) steps))
 
 pub drop_link-requires : goal.drop_link-requires
 drop_link-requires c = (client_of c.args.self.now c.args.line.now (lines.Drop c.in-Drop.client) c.in-Drop.client c.in-Drop.is refl c.requires).link

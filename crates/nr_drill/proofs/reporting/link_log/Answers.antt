@@ -1,6 +1,6 @@
 use Rattle.nr_reduce.specs.History.{bytes_sent, bytes_received}
 use Rattle.nr_drill.proofs.TellingMarks.{log_more}
-use Rattle.nr_drill.proofs.reporting.log_of.Goals as goal
+use Rattle.nr_drill.proofs.reporting.link_log.Goals as goal
 
 pub loop-mark-init : goal.loop-mark-init
 unfolding bytes_sent bytes_received
