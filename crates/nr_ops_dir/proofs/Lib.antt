@@ -10,3 +10,5 @@ pub mod Sizes
 pub mod Counting
 pub mod Rooms
 pub mod ListingLimits
+pub mod Written
+pub mod Live
