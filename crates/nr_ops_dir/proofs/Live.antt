@@ -69,5 +69,10 @@ module _ (t : Tree) (list left new : List Entry) (place : ℕ) (e : Entry) (h : 
   pub size_here : (d : Detail) → size_of_name_in d e.name ≡ size_in t d e
   size_here d = size_is t d e all_live.0
 
-  pub from_next : AreFrom t list (place + 1) new
+  from_next : AreFrom t list (place + 1) new
   from_next = record { here = (next_of list place e new (h.here ∙ is)).1; live = all_live.1 }
+
+pub from_next_at : (t : Tree) (list left new : List Entry) (place count : ℕ) (e : Entry) → AreFrom t list (place + count) left → left ≡ e ∷ new → AreFrom t list (place + (count + 1)) new
+from_next_at t list left new place count e h is =
+    let same : place + count + 1 ≡ place + (count + 1) = omega arith in
+    subst (λ (n : ℕ). AreFrom t list n new) same (from_next t list left new (place + count) e h is)

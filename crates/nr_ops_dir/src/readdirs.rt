@@ -1,41 +1,49 @@
 //! READDIR and READDIRPLUS.
 
-ghost use Rattle.std.specs.Prelude.{◌≡◌, ◌++◌, ◌+◌, ◌≤◌, None, Some, length, IfOk, MatchResult};
-ghost use Rattle.nr_xdr.specs.Items.{encodings};
-ghost use Rattle.nr_nfs_res.specs.Results.{readdir_res_codec, readdirplus_res_codec};
+ghost use Rattle.std.specs.Prelude.{◌≡◌, ◌+◌, ◌≤◌, None, Some, length, IfOk, MatchResult};
 ghost use Rattle.nr_tree.specs.Rules.{first};
 ghost use Rattle.nr_tree.specs.Entries.{NamesAreValid};
 ghost use Rattle.nr_ops_dir.specs.Readdir.{readdir_rules, readdir_taken, readdir_left, readdir_reply, readdirplus_rules, readdirplus_taken, readdirplus_left, readdirplus_reply};
 ghost use Rattle.nr_ops_dir.specs.private.Sizes.{IsRange};
 
-use crate::listed::write_listing;
+use crate::listed::list;
 use crate::listings::{Detail, Range, directory_to_list, limits_of, range_within};
 use nr_nfs_args::{ReaddirArgs, ReaddirplusArgs};
-use nr_nfs_base::{Caller, Status, Xdr, write_numbered};
-use nr_nfs_res::{Entry, EntryPlus};
+use nr_nfs_base::{Caller, LinkedList, Status, StatusUnion, Verifier};
+use nr_nfs_res::{ReaddirOk, ReaddirRes, ReaddirplusOk, ReaddirplusRes};
 use nr_tree::{Tree, attributes_at, live_node};
-use nr_xdr::{Memory, RoomWriter};
+use nr_xdr::Memory;
+use std::alloc::Global;
 
-/// Lists the entries of a directory after a cookie, as many as fit (RFC 1813 section 3.3.16): appends the items that
-/// encode the results. `Err` is out of memory.
-#[tactic(auto, unfolding(nr_nfs_base::specs::StatusUnion::status_union_codec))]
+/// The verifier of every cookie: entries keep their cookies.
+const COOKIE_VERIFIER: Verifier = Verifier { number: 0 };
+
+/// Lists the entries of a directory after a cookie, as many as fit (RFC 1813 section 3.3.16). `Err` is out of memory.
 pub fn readdir(
+    alloc: Global,
     tree: &Tree,
     caller: &Caller,
     args: &ReaddirArgs,
-    writer: RoomWriter,
-) -> Result<RoomWriter, Memory>
-    ensures { IfOk result (λ w. w.bytes ≡ writer.bytes ++ encodings (readdir_res_codec.items (readdir_reply tree.now caller.now args.now))) }
+) -> Result<ReaddirRes, Memory>
+    ensures { IfOk result (λ r. r ≡ readdir_reply tree.now caller.now args.now) }
 {
     let dir_attributes = attributes_at(tree, args.dir.as_slice());
     match readdir_range(tree, caller, args) {
-        Ok(range) => {
-            let writer = write_numbered(None::<Status>, writer)?;
-            write_listing::<Entry>(dir_attributes, tree, &range, writer)
-        }
         Err(status) => {
-            let writer = write_numbered(Some(status), writer)?;
-            dir_attributes.write_to(writer)
+            Ok(StatusUnion::Failed {
+                status,
+                part: dir_attributes,
+            })
+        }
+        Ok(range) => {
+            let eof = range.is_last();
+            let entries = list(alloc, tree, &range)?;
+            Ok(StatusUnion::Done(ReaddirOk {
+                dir_attributes,
+                verifier: COOKIE_VERIFIER,
+                entries: LinkedList::from_vec(entries),
+                eof,
+            }))
         }
     }
 }
@@ -62,25 +70,32 @@ fn readdir_range<'a>(
 }
 
 /// Lists the entries of a directory after a cookie with their attributes and handles, as many as fit (RFC 1813
-/// section 3.3.17): appends the items that encode the results. `Err` is out of memory.
-#[tactic(auto, unfolding(nr_nfs_base::specs::StatusUnion::status_union_codec))]
+/// section 3.3.17). `Err` is out of memory.
 pub fn readdirplus(
+    alloc: Global,
     tree: &Tree,
     caller: &Caller,
     args: &ReaddirplusArgs,
-    writer: RoomWriter,
-) -> Result<RoomWriter, Memory>
-    ensures { IfOk result (λ w. w.bytes ≡ writer.bytes ++ encodings (readdirplus_res_codec.items (readdirplus_reply tree.now caller.now args.now))) }
+) -> Result<ReaddirplusRes, Memory>
+    ensures { IfOk result (λ r. r ≡ readdirplus_reply tree.now caller.now args.now) }
 {
     let dir_attributes = attributes_at(tree, args.dir.as_slice());
     match readdirplus_range(tree, caller, args) {
-        Ok(range) => {
-            let writer = write_numbered(None::<Status>, writer)?;
-            write_listing::<EntryPlus>(dir_attributes, tree, &range, writer)
-        }
         Err(status) => {
-            let writer = write_numbered(Some(status), writer)?;
-            dir_attributes.write_to(writer)
+            Ok(StatusUnion::Failed {
+                status,
+                part: dir_attributes,
+            })
+        }
+        Ok(range) => {
+            let eof = range.is_last();
+            let entries = list(alloc, tree, &range)?;
+            Ok(StatusUnion::Done(ReaddirplusOk {
+                dir_attributes,
+                verifier: COOKIE_VERIFIER,
+                entries: LinkedList::from_vec(entries),
+                eof,
+            }))
         }
     }
 }

@@ -108,14 +108,6 @@ impl Directory {
         }
     }
 
-    /// The entry at an index: its name, its node and its cookie.
-    pub fn entry_at(&self, index: usize) -> (&[u8], Slot)
-        requires { index < length self.now.list }
-        ensures { slice_get self.now.list index ≡ Some (record { cookie = result.1.cookie; name = result.0.now; number = result.1.number }) }
-    {
-        slot_at(&self.slots, self.order.get(index))
-    }
-
     /// The entries from an index on. Takes no memory.
     pub fn entries_from(&self, index: usize) -> EntryCursor<'_>
         ensures { result ≡ drop index self.now.list }
