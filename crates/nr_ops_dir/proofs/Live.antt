@@ -1,7 +1,7 @@
 -- Entries that lead to live nodes, and those that are left of a directory's.
-use Rattle.std.proofs.Common.{◌≡◌, ℕ, zero, suc, ◌+◌, ◌<◌, ◌≤◌, true, false, List, [], ◌∷◌, length, drop, Option, None, Some, refl, ap, sym, ◌∙◌, subst, arith}
+use Rattle.std.proofs.Common.{◌≡◌, ℕ, zero, suc, ◌+◌, ◌<◌, true, false, List, [], ◌∷◌, length, drop, Option, None, Some, refl, ap, sym, ◌∙◌, subst, arith}
 use Rattle.std.proofs.lemmas.List.{length-drop}
-use Rattle.std.specs.Prelude.{slice_get, if◌then◌else◌, ◌==◌}
+use Rattle.std.specs.Prelude.{slice_get}
 use Rattle.std.specs.Option.{option_map_or}
 use Rattle.std.specs.FinMap.{get}
 use Rattle.nr_tree.specs.Entries.{Entry, Entries, Each}
@@ -23,7 +23,7 @@ entries_live t h v d sane named is =
     let all : (skeleton t).entries (number_of_handle h) ≡ d.list = ap (λ (o : Option Node). option_map_or entries_in o []) there ∙ ap (λ (k : Content). entries_of k) is in
     subst (AreLive t) all (sane.skeleton.names_live (number_of_handle h))
 
-live_size : (o : Option Node) → option_map_or (λ (node : Node). true) o false ≡ true → option_map_or (λ (node : Node). 104) o 8 ≡ 104
+live_size : (o : Option Node) → option_map_or (λ (node : Node). true) o false ≡ true → ◌≡◌ {A = ℕ} (option_map_or (λ (node : Node). 104) o 8) 104
 live_size None live = absurd cc
 live_size (Some v) live = refl
 

@@ -1,4 +1,4 @@
-use Rattle.std.proofs.Common.{◌≡◌, ◌∙◌, List, length, subst, sym, ap, arith}
+use Rattle.std.proofs.Common.{List, length, subst, sym, ap, arith}
 use Rattle.std.proofs.lemmas.List.{length-drop}
 use Rattle.nr_tree.specs.Entries.{Entry, NamesAreValid}
 use Rattle.nr_ops_dir.proofs.Counting.{names_from}

@@ -3,7 +3,7 @@ use Rattle.nr_tree.specs.Entries.{Entry}
 use Rattle.nr_ops_dir.specs.Readdir.{name_size}
 use Rattle.nr_ops_dir.specs.private.Sizes.{size_in}
 use Rattle.nr_ops_dir.proofs.Counting.{counting_begins, is_counted, counted_stops, counted_ends}
-use Rattle.nr_ops_dir.proofs.Live.{AreFrom, from_begins, some_left, entry_here, size_here, from_next_at}
+use Rattle.nr_ops_dir.proofs.Live.{from_begins, some_left, entry_here, size_here, from_next_at}
 use Rattle.nr_ops_dir.proofs.listings.count_within.Goals.{then-entries-limits-via-then-entries-limits, then-entries-limits-via-else-entries-limits+then-names-limits}
 use Rattle.nr_ops_dir.proofs.listings.count_within.Goals as goal
 

@@ -1,4 +1,4 @@
-use Rattle.std.proofs.Common.{◌×◌, ◌-◌, ◌+◌, length}
+use Rattle.std.proofs.Common.{◌-◌, ◌+◌, length}
 use Rattle.nr_ops_dir.proofs.Counting.{IsCounted}
 use Rattle.nr_ops_dir.proofs.Live.{AreFrom}
 use Rattle.nr_ops_dir.proofs.listings.count_within.Given as goal
