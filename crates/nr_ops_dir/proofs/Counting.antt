@@ -1,7 +1,6 @@
 -- The entries of a listing are counted one after the other.
-use Rattle.std.proofs.Common.{◌≡◌, ℕ, zero, suc, ◌+◌, ◌-◌, ◌<◌, ◌≤◌, Bool, true, false, cond, leb, ◌&&◌, List, [], ◌∷◌, ◌++◌, length, take, drop, Some, refl, ap, sym, ◌∙◌, subst, arith, inl, inr, ◌⊎◌}
+use Rattle.std.proofs.Common.{◌≡◌, ℕ, zero, suc, ◌+◌, ◌-◌, ◌<◌, ◌≤◌, Bool, true, false, cond, leb, ◌&&◌, List, [], ◌∷◌, ◌++◌, length, take, drop, Some, refl, ap, sym, ◌∙◌, subst, arith, inl, inr, ◌⊎◌, append_assoc, append-nil}
 use Rattle.std.proofs.lemmas.Bool.{le-leb, lt-leb}
-use Rattle.std.proofs.lemmas.List.{map-append}
 use Rattle.std.proofs.Math.Seq.{take-add}
 use Rattle.std.specs.Prelude.{slice_get, map}
 use Rattle.nr_tree.specs.Entries.{Entry, NamesAreValid}
@@ -131,20 +130,48 @@ module _ (t : Tree) (limits : Limits) (list : List Entry) (place : ℕ) where
 
 -- ===== the entries as they are sent
 
-pub mapped_none : {A : Type 0} (f : Entry → A) (list : List Entry) (start : ℕ) → [] ≡ map f (take (start - start) (drop start list))
-mapped_none f list start = let none : 0 ≡ start - start = omega arith in ap (λ (k : ℕ). map f (take k (drop start list))) none
+pub names_from : (list : List Entry) (place : ℕ) → NamesAreValid list → NamesAreValid (drop place list)
+names_from [] zero valid = valid
+names_from [] (suc n) valid = valid
+names_from (e ∷ es) zero valid = valid
+names_from (e ∷ es) (suc n) valid = names_from es n valid.3
 
-pub mapped_next : {A : Type 0} (f : Entry → A) (list : List Entry) (start place : ℕ) (e : Entry) → start ≤ place → slice_get list place ≡ Some e
-    → map f (take (place - start) (drop start list)) ++ f e ∷ [] ≡ map f (take (place + 1 - start) (drop start list))
-mapped_next f list start place e le at =
-    let more : place - start + 1 ≡ place + 1 - start = omega (arith, le) in
-    let here : start + (place - start) ≡ place = omega (arith, le) in
-    sym (map-append f (take (place - start) (drop start list)) (e ∷ []))
-    ∙ ap (map f) (sym (take-add (place - start) 1 (drop start list)
-    ∙ ap (λ (l : List Entry). take (place - start) (drop start list) ++ take 1 l) (drop_drop start (place - start) list ∙ ap (λ (k : ℕ). drop k list) here ∙ drop_at list place e at)))
-    ∙ ap (λ (k : ℕ). map f (take k (drop start list))) more
+module _ {A : Type 0} (said : Entry → A) where
+  -- what is said of the first entries that are left is to come after these
+  pub record AreLeft (all so_far : List A) (n : ℕ) (left : List Entry) : Type 0 where
+    pub some : n ≤ length left
+    pub names : NamesAreValid left
+    pub rest : so_far ++ map said (take n left) ≡ all
 
-pub short_name : (list : List Entry) (i : ℕ) (e : Entry) → NamesAreValid list → slice_get list i ≡ Some e → length e.name < 4294967296
-short_name [] i e valid at = absurd cc
-short_name (x ∷ xs) zero e valid at = omega (arith, valid.1, ap (λ (z : Entry). length z.name) (same_entry x e at))
-short_name (x ∷ xs) (suc i) e valid at = short_name xs i e valid.3 at
+  pub left_begin : (count : ℕ) (left : List Entry) (none : List A) → none ≡ [] → count ≤ length left → NamesAreValid left → AreLeft (map said (take count left)) none (count - 0) left
+  left_begin count left none is some names =
+      let whole : count - 0 ≡ count = omega arith in
+      record { some = omega (arith, some); names = names; rest = (λ i. is i ++ map said (take (whole i) left)) }
+
+  module _ (all so_far : List A) (count i : ℕ) (e : Entry) (left new : List Entry) (lt : i < count) (is : left ≡ e ∷ new) (h : AreLeft all so_far (count - i) left) where
+    one_less : count - i ≡ suc (count - (i + 1))
+    one_less = omega (arith, lt)
+
+    all_names : NamesAreValid (e ∷ new)
+    all_names = subst NamesAreValid is h.names
+
+    pub left_short : length e.name < 4294967296
+    left_short = omega (arith, all_names.1)
+
+    pub left_next : (more : List A) → more ≡ so_far ++ said e ∷ [] → AreLeft all more (count - (i + 1)) new
+    left_next more pushed =
+        let some : count - i ≤ length (e ∷ new) = subst (λ (l : List Entry). count - i ≤ length l) is h.some in
+        record {
+          some = omega (arith, some, one_less);
+          names = all_names.3;
+          rest =
+              ap (λ (l : List A). l ++ map said (take (count - (i + 1)) new)) pushed
+              ∙ append_assoc so_far (said e ∷ []) (map said (take (count - (i + 1)) new))
+              ∙ sym (λ j. so_far ++ map said (take (one_less j) (is j)))
+              ∙ h.rest;
+        }
+
+  pub left_end : (all so_far : List A) (count i : ℕ) (left : List Entry) → count ≤ i → AreLeft all so_far (count - i) left → so_far ≡ all
+  left_end all so_far count i left le h =
+      let none : count - i ≡ 0 = omega (arith, le) in
+      sym (append-nil so_far) ∙ sym (ap (λ (n : ℕ). so_far ++ map said (take n left)) none) ∙ h.rest

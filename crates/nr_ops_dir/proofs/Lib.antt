@@ -10,3 +10,4 @@ pub mod Sizes
 pub mod Counting
 pub mod Rooms
 pub mod ListingLimits
+pub mod Live

@@ -1,9 +1,8 @@
 -- The procedures that change a directory leave a sane tree sane.
-use Rattle.std.proofs.Common.{◌≡◌, ℕ, ◌≤◌, Bool, true, List, [], Option, None, Some, refl}
+use Rattle.std.proofs.Common.{◌≡◌, ℕ, ◌≤◌, Bool, true, List, Option, None, Some, refl}
 use Rattle.std.specs.Option.{option_map_or}
-use Rattle.std.proofs.lemmas.Bool.{both_ways, cond_both}
+use Rattle.std.proofs.lemmas.Bool.{cond_both}
 use Rattle.nr_nfs_base.specs.declared.caller.Caller.{Caller}
-use Rattle.nr_nfs_base.specs.declared.status.Status.TheVariants.{Isdir, Notempty}
 use Rattle.nr_nfs_base.specs.declared.time.Time.{Time}
 use Rattle.nr_nfs_args.specs.declared.create.CreateArgs.{CreateArgs}
 use Rattle.nr_nfs_args.specs.declared.create.MkdirArgs.{MkdirArgs}
@@ -17,18 +16,18 @@ use Rattle.nr_tree.specs.declared.node.Content.{Content}
 use Rattle.nr_tree.specs.declared.rules.Space.{Space}
 use Rattle.nr_tree.specs.Tree.{Tree}
 use Rattle.nr_tree.specs.Sane.{IsSane, file_size_max}
-use Rattle.nr_tree.specs.Steps.{is_dir_at, is_regular_at, entries_at}
+use Rattle.nr_tree.specs.Steps.{is_regular_at}
 use Rattle.nr_tree.specs.Changes.{tree_with_node, tree_with_size, tree_without_entry, tree_with_link, tree_with_new_name}
 use Rattle.nr_tree.specs.Rules.{first, number_of_handle}
-use Rattle.nr_tree.proofs.PassedRules.{AllClear, all_clear, clear, on_some, sane_after}
+use Rattle.nr_tree.proofs.PassedRules.{sane_after}
 use Rattle.nr_tree.proofs.StepLemmas.{sane_add_node, sane_add_link, sane_remove_entry, sane_set_size}
 use Rattle.nr_tree.proofs.RenameLemmas.{sane_rename}
 use Rattle.nr_ops_dir.specs.declared.renaming.Move.{Move}
-use Rattle.nr_ops_dir.specs.Entries.{number_of_entry, has_entries}
+use Rattle.nr_ops_dir.specs.Entries.{number_of_entry}
 use Rattle.nr_ops_dir.specs.Create.{create_rules, create_tree, new_file, size_to_set, tree_with_file}
 use Rattle.nr_ops_dir.specs.Creation.{mkdir_rules, mkdir_tree, new_directory, symlink_rules, symlink_tree, new_link, special_content, mknod_rules, mknod_tree, new_special}
 use Rattle.nr_ops_dir.specs.Links.{link_rules, link_tree}
-use Rattle.nr_ops_dir.specs.Removal.{tree_without_name, remove_of, remove_rules, remove_tree, rmdir_of, rmdir_rules, rmdir_tree}
+use Rattle.nr_ops_dir.specs.Removal.{tree_without_name, remove_rules, remove_tree, rmdir_rules, rmdir_tree}
 use Rattle.nr_ops_dir.specs.Renaming.{is_same_node, rename_rules, tree_with_move, rename_tree}
 use Rattle.nr_ops_dir.proofs.Passed.{can_add_link}
 use Rattle.nr_ops_dir.proofs.CanCreate.{can_make_file, can_set_size}

@@ -5,11 +5,11 @@ ghost use Rattle.nr_tree.specs.Entries.{NamesAreValid};
 ghost use Rattle.nr_ops_dir.specs.Nodes.{attributes_of_number, handle_of_live};
 ghost use Rattle.nr_ops_dir.specs.Readdir.{listed, listed_plus};
 
-use crate::listings::Range;
+use crate::listings::{Range, next_entry};
 use crate::nodes::handle_of;
 use nr_nfs_base::{Attributes, Handle, Name};
 use nr_nfs_res::{Entry, EntryPlus};
-use nr_tree::{Slot, Tree};
+use nr_tree::{EntryCursor, Slot, Tree};
 use nr_xdr::Memory;
 use std::alloc::Global;
 
@@ -76,17 +76,17 @@ fn listed_node(
 fn push_entries<E: Listed>(
     alloc: Global,
     tree: &Tree,
-    range: &Range,
+    left: &mut EntryCursor<'_>,
+    count: usize,
     entries: &mut Vec<E>,
 ) -> Result<(), Memory>
     requires none { entries.old.items ≡ [] }
-    requires rises { range.now.start ≤ range.now.end }
-    requires bounded { range.now.end ≤ length range.now.dir.now.list }
-    requires names { NamesAreValid range.now.dir.now.list }
-    ensures { OnOk result (entries.new.items ≡ map (E.said tree.now) (take (range.now.end - range.now.start) (drop range.now.start range.now.dir.now.list))) }
+    requires count { count ≤ length left.old }
+    requires names { NamesAreValid left.old }
+    ensures { OnOk result (entries.new.items ≡ map (E.said tree.now) (take count left.old)) }
 {
-    for place in range.start..range.end {
-        let (name, slot) = range.dir.entry_at(place);
+    for _ in 0..count {
+        let (name, slot) = next_entry(left);
         entries.push(E::of(alloc, tree, name, slot)?)?;
     }
     Ok(())
@@ -100,6 +100,13 @@ pub(crate) fn list<E: Listed>(alloc: Global, tree: &Tree, range: &Range) -> Resu
     ensures { IfOk result (λ v. v.items ≡ map (E.said tree.now) (take (range.now.end - range.now.start) (drop range.now.start range.now.dir.now.list))) }
 {
     let mut entries = Vec::new(alloc);
-    push_entries(alloc, tree, range, &mut entries)?;
+    let mut left = range.dir.entries_from(range.start);
+    push_entries(
+        alloc,
+        tree,
+        &mut left,
+        range.end - range.start,
+        &mut entries,
+    )?;
     Ok(entries)
 }

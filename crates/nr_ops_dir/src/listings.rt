@@ -1,6 +1,6 @@
 //! Which entries of a directory a listing has.
 
-ghost use Rattle.std.specs.Prelude.{◌≡◌, ◌==◌, ◌+◌, ◌-◌, ◌<◌, ◌≤◌, ◌^◌, ℕ, false, None, Some, [], take, drop, length, min, SomeIff, MatchResult};
+ghost use Rattle.std.specs.Prelude.{◌≡◌, ◌==◌, ◌+◌, ◌-◌, ◌<◌, ◌≤◌, ◌^◌, ◌∷◌, false, None, Some, [], take, drop, length, min, SomeIff, MatchResult};
 ghost use Rattle.nr_tree.specs.Rules.{first};
 ghost use Rattle.nr_tree.specs.Listing.{entries_after};
 ghost use Rattle.nr_tree.specs.declared.node.Content.TheVariants.{Directory as DirectoryNode};
@@ -9,10 +9,10 @@ ghost use Rattle.nr_tree.specs.Tree.{attributes_of};
 ghost use Rattle.nr_xdr.specs.Item.{pad_len};
 ghost use Rattle.nr_ops_dir.specs.Readdir.{longest, goes_on, listing_rules, name_size as size_of_name};
 ghost use Rattle.nr_nfs_base.specs.Limits.{listing_max};
-ghost use Rattle.nr_ops_dir.specs.private.Sizes.{node_size as size_of_node, size_in, within, empty_size, IsRange};
+ghost use Rattle.nr_ops_dir.specs.private.Sizes.{size_of_name_in, AreLive, within, empty_size, IsRange};
 
 use nr_nfs_base::{Caller, LISTING_MAX, Status, Verifier};
-use nr_tree::{Content, Directory, Node, Right, Tree, may};
+use nr_tree::{Content, Directory, EntryCursor, Node, Right, Slot, Tree, may};
 
 /// What a listing says of each entry.
 #[derive(Clone, Copy)]
@@ -33,16 +33,6 @@ pub(crate) struct Limits {
     pub(crate) names: u32,
 }
 
-/// The size of the attributes and the handle of a node, each after a flag, in bytes.
-fn node_size(tree: &Tree, number: u64) -> u64
-    ensures { result ≡ size_of_node tree.now number }
-{
-    match tree.get(number) {
-        Some(_) => 104,
-        None => 8,
-    }
-}
-
 /// The bytes of a name in a listing, with its length and its pad bytes.
 fn padded_size(name: &[u8]) -> u64
     ensures size { result ≡ 4 + (length name.now + pad_len (length name.now)) }
@@ -52,30 +42,47 @@ fn padded_size(name: &[u8]) -> u64
     4 + len + (4 - len % 4) % 4
 }
 
-fn entry_size(tree: &Tree, detail: Detail, name: &[u8], number: u64) -> u64
-    ensures size { (cookie : ℕ) → result ≡ size_in tree.now detail (record { cookie = cookie; name = name.now; number = number }) }
+/// The bytes of the attributes and the handle of a live node, each after a flag.
+const NODE_SIZE: u64 = 104;
+
+/// The bytes of the entry of a name in a listing, whose node is live.
+fn entry_size(detail: Detail, name: &[u8]) -> u64
+    ensures size { result ≡ size_of_name_in detail name.now }
     ensures bounded { result ≤ 2 ^ 63 + 256 }
 {
     let size = 20 + padded_size(name);
     match detail {
         Detail::Names => size,
-        Detail::Nodes => size + node_size(tree, number),
+        Detail::Nodes => size + NODE_SIZE,
+    }
+}
+
+/// The first entry that is left, and goes past it.
+pub(crate) fn next_entry<'a>(left: &mut EntryCursor<'a>) -> (&'a [u8], Slot)
+    requires { 0 < length left.old }
+    ensures { left.old ≡ record { cookie = result.1.cookie; name = result.0.now; number = result.1.number } ∷ left.new }
+{
+    match left.advance() {
+        Some(entry) => entry,
+        None => unreachable!(),
     }
 }
 
 /// How many entries from an index on are within the limits. Takes no memory.
 pub(crate) fn count_within(tree: &Tree, dir: &Directory, place: usize, limits: &Limits) -> usize
-    requires { place ≤ length dir.now.list }
+    requires place { place ≤ length dir.now.list }
+    requires live { AreLive tree.now dir.now.list }
     ensures bounded { place + result ≤ length dir.now.list }
     ensures entries { take result (drop place dir.now.list) ≡ longest (within tree.now limits.now) [] (drop place dir.now.list) }
 {
     let len = dir.len();
+    let mut left = dir.entries_from(place);
     let mut entries = 0;
     let mut names = 0;
     let mut count = 0;
     while place + count < len {
-        let (name, slot) = dir.entry_at(place + count);
-        entries += entry_size(tree, limits.detail, name, slot.number);
+        let (name, _) = next_entry(&mut left);
+        entries += entry_size(limits.detail, name);
         names += 16 + padded_size(name);
         if entries > limits.entries as u64 || names > limits.names as u64 {
             return count;
@@ -152,6 +159,7 @@ pub(crate) fn range_within<'a>(
     cookie: u64,
     limits: &Limits,
 ) -> Result<Range<'a>, Status>
+    requires { AreLive tree.now dir.now.list }
     ensures { MatchResult result
         (λ r. (r.dir.now ≡ dir.now) × IsRange dir.now.list r.start r.end (longest (within tree.now limits.now) [] (entries_after cookie dir.now.list)) (entries_after cookie dir.now.list))
         (λ s. (s ≡ TooSmall) × (goes_on (longest (within tree.now limits.now) [] (entries_after cookie dir.now.list)) (entries_after cookie dir.now.list) ≡ false)) }

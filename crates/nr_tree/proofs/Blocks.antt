@@ -1,7 +1,7 @@
 -- Blocks, and the list that they make up.
 use Rattle.std.proofs.Common.{◌≡◌, ℕ, zero, suc, ◌+◌, ◌-◌, ◌<◌, ◌≤◌, List, [], ◌∷◌, ◌++◌, length, drop, get_or, set, remove, refl, ap, sym, ◌∙◌, subst, arith, length-append}
-use Rattle.std.proofs.Math.Seq.{drop-cons}
-use Rattle.std.proofs.lemmas.List.{get_or_append_left, get_or-append_right, set-append_left, set-append_right, get_or-set_other, length-set, append-nil, append_assoc}
+use Rattle.std.proofs.Math.Seq.{drop-cons, drop-append-add}
+use Rattle.std.proofs.lemmas.List.{drop-append-le, get_or_append_left, get_or-append_right, set-append_left, set-append_right, get_or-set_other, length-set, append-nil, append_assoc}
 use Rattle.std.proofs.lemmas.List.Edits.{remove-append_left, remove-append_right}
 use Rattle.std.proofs.lemmas.List.Folds.{concat-append}
 use Rattle.std.proofs.lemmas.Option.{get_or_from_slice_get, slice_get_read}
@@ -163,3 +163,19 @@ joined bs i a b x y lt at_b at_a same =
     let second : get_or bs (suc i) [] ≡ b = ap (λ (n : ℕ). get_or bs n []) (sym one) ∙ block_is bs (i + 1) b lt at_b in
     ap (λ (n : ℕ). concat (set (set (set bs n []) i x) n y)) one
     ∙ joined_at bs i x y (omega (arith, lt)) (same ∙ (λ j. sym first j ++ sym second j))
+
+-- ===== the elements from a place on
+
+pub drop_in : (bs : List (List ℕ)) (block offset place : ℕ) (first : List ℕ) (rest : List (List ℕ)) → IsIn bs block offset place → drop block bs ≡ first ∷ rest
+    → (offset ≤ length first) × (drop offset first ++ concat rest ≡ drop place (concat bs))
+drop_in [] block offset place first rest h is = absurd h
+drop_in (b ∷ bs) zero offset place first rest h is =
+    let same : b ≡ first = cc in
+    let others : bs ≡ rest = cc in (
+      omega (arith, h.1, ap (λ (l : List ℕ). length l) same),
+      (λ i. drop offset (sym same i) ++ concat (sym others i)) ∙ sym (drop-append-le offset b (concat bs) (omega (arith, h.1))) ∙ ap (λ (n : ℕ). drop n (b ++ concat bs)) h.0,
+    )
+drop_in (b ∷ bs) (suc block) offset place first rest h is =
+    let next : (offset ≤ length first) × (drop offset first ++ concat rest ≡ drop (place - length b) (concat bs)) = drop_in bs block offset (place - length b) first rest h.1 is in
+    let at : length b + (place - length b) ≡ place = omega (arith, h.0) in
+    (next.0, next.1 ∙ sym (drop-append-add b (concat bs) (place - length b)) ∙ ap (λ (n : ℕ). drop n (b ++ concat bs)) at)

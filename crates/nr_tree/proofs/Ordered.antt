@@ -1,9 +1,9 @@
 -- Slots, an order of their indexes, and the entries that they make up.
-use Rattle.std.proofs.Common.{◌≡◌, ℕ, zero, suc, ◌+◌, ◌-◌, ◌<◌, ◌≤◌, Bool, true, false, cond, List, [], ◌∷◌, ◌++◌, length, get_or, set, remove, None, Some, refl, ap, sym, ◌∙◌, subst, arith, length-append, inl, inr, ◌⊎◌}
+use Rattle.std.proofs.Common.{◌≡◌, ℕ, zero, suc, ◌+◌, ◌-◌, ◌<◌, ◌≤◌, Bool, true, false, cond, List, [], ◌∷◌, ◌++◌, length, drop, get_or, set, remove, Option, None, Some, MatchOption, refl, ap, sym, ◌∙◌, subst, arith, length-append, inl, inr, ◌⊎◌}
 use Rattle.std.proofs.Math.ListN.{get_or-append}
 use Rattle.std.proofs.Math.Seq.{get_or-append_seam}
 use Rattle.std.proofs.lemmas.Bool.{cases_eq, cases_lt, le-ltb}
-use Rattle.std.proofs.lemmas.List.{ext_get_or, get_or-map, get_or-set_same, get_or-set_other, get_or-take, length-map, length-set, length-take-le, map-append}
+use Rattle.std.proofs.lemmas.List.{drop-map, ext_get_or, get_or-map, get_or-set_same, get_or-set_other, get_or-take, length-map, length-set, length-take-le, map-append}
 use Rattle.std.proofs.lemmas.List.Edits.{length-remove, get_or-remove_below, get_or-remove_above}
 use Rattle.std.proofs.lemmas.Option.{slice_get-get_or, get_or_from_slice_get}
 use Rattle.std.specs.Prelude.{slice_get, slice_index}
@@ -335,3 +335,15 @@ module _ (es : List Entry) (order : List ℕ) (next i k : ℕ) (e : Entry) (h : 
         let a : (place : ℕ) × (place < length order) × (slice_index order place ≡ x) = h.found x less in
         let q : (q : ℕ) × (q < length (remove order k)) × (slice_index (remove order k) q ≡ slice_index order a.0) = kept_to order k a.0 lk a.1 (λ l. other (sym a.2 ∙ ap (slice_index order) l ∙ at_k)) in
         (q.0, omega (arith, q.1, again, fewer), get_or-append (remove order k) (i ∷ []) 0 q.0 q.1 ∙ q.2 ∙ a.2)
+
+-- ===== the entries from a place on
+
+pub ordered_drop : (es : List Entry) (order : List ℕ) (k : ℕ) → ordered es (drop k order) ≡ drop k (ordered es order)
+ordered_drop es order k = sym (drop-map (λ i. get_or es i no_entry) k order)
+
+-- the indexes after the first one are of slots too
+pub within_after : (es : List Entry) (old new : List ℕ) (o : Option ℕ) → ((k : ℕ) → k < length old → slice_index old k < length es) → MatchOption o ((old ≡ []) × (new ≡ [])) (λ i. old ≡ i ∷ new)
+    → (k : ℕ) → k < length new → slice_index new k < length es
+within_after es old new None h is k lt = absurd (omega (arith, lt, ap (λ (l : List ℕ). length l) is.1))
+within_after es old new (Some i) h is k lt =
+    subst (λ (n : ℕ). n < length es) (ap (λ (l : List ℕ). slice_index l (suc k)) is) (h (suc k) (omega (arith, lt, ap (λ (l : List ℕ). length l) is)))

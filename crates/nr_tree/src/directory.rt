@@ -3,7 +3,7 @@
 ghost use Rattle.std.specs.Prelude.{◌≡◌, ◌+◌, ◌<◌, ◌^◌, [], ◌∷◌, ◌++◌, None, Some, slice_get, length, map, OnOk, OnErr, IsOk, is_some, true};
 ghost use Rattle.std.specs.Option.{option_map, option_copied};
 
-use crate::order::Order;
+use crate::order::{IndexCursor, Order};
 use crate::steps::Steps;
 use indexmap::IndexMap;
 use nr_xdr::Memory;
@@ -108,12 +108,11 @@ impl Directory {
         }
     }
 
-    /// The entry at an index: its name, its node and its cookie.
-    pub fn entry_at(&self, index: usize) -> (&[u8], Slot)
-        requires { index < length self.now.list }
-        ensures { slice_get self.now.list index ≡ Some (record { cookie = result.1.cookie; name = result.0.now; number = result.1.number }) }
+    /// The entries from an index on. Takes no memory.
+    pub fn entries_from(&self, index: usize) -> EntryCursor<'_>
+        ensures { result ≡ drop index self.now.list }
     {
-        slot_at(&self.slots, self.order.get(index))
+        cursor_from(&self.slots, &self.order, self.next_cookie, index)
     }
 
     /// How many entries have a cookie that is at most the given one. The entries after them are those that a listing goes on
@@ -147,7 +146,7 @@ impl Directory {
     }
 }
 
-ghost use Rattle.std.specs.Prelude.{drop, slice_index, slice_index_or, slice_set, nat_le, ◌≤◌, ◌-◌, ◌*◌};
+ghost use Rattle.std.specs.Prelude.{drop, MatchOption, slice_index, slice_index_or, slice_set, nat_le, ◌≤◌, ◌-◌, ◌*◌};
 ghost use Rattle.nr_tree.specs.Entries.{entry_of_name};
 ghost use Rattle.nr_tree.specs.Listing.{entries_after, count_until};
 ghost use Rattle.nr_tree.specs.Slots.{slot_entries, ordered, no_entry, IsOrdered};
@@ -305,4 +304,62 @@ fn place_above<L: Ledger>(
         }
     }
     low
+}
+
+/// Entries of a directory that follow each other, up to its last one. Contracts see the list of them.
+#[derive(Drop)]
+pub struct EntryCursor<'a> {
+    slots: &'a Slots,
+    indexes: IndexCursor<'a>,
+}
+
+impl<'a> Model for EntryCursor<'a> {
+    ghost use Rattle.std.specs.Prelude.{ℕ, List, ◌<◌, length, slice_index};
+    ghost use Rattle.nr_tree.specs.Entries.{Entry};
+    ghost use Rattle.nr_tree.specs.Slots.{slot_entries, ordered};
+
+    ghost Value = { List Entry };
+
+    ghost view = { λ c. ordered (slot_entries c.slots.now.entries) c.indexes };
+
+    ghost invariant = { λ c. (k : ℕ) → k < length c.indexes → slice_index c.indexes k < length (slot_entries c.slots.now.entries) };
+}
+
+impl<'a> EntryCursor<'a> {
+    /// Gives the name, the node and the cookie of the first entry, and goes past it; none if there is none.
+    pub fn advance(&mut self) -> Option<(&'a [u8], Slot)>
+        ensures { MatchOption result (self.old ≡ []) (λ e. self.old ≡ record { cookie = e.1.cookie; name = e.0.now; number = e.1.number } ∷ self.new) }
+    {
+        match self.indexes.advance() {
+            Some(index) => Some(slot_at(self.slots, index)),
+            None => None,
+        }
+    }
+}
+
+/// The indexes of an order from a place on.
+fn indexes_from<'a>(slots: &Slots, order: &'a Order, place: usize) -> IndexCursor<'a>
+    requires { length order.now ≡ length (slot_entries slots.now.entries) }
+    ensures { result ≡ drop place order.now }
+{
+    if place >= slots.len() {
+        return IndexCursor::empty();
+    }
+    order.from(place)
+}
+
+/// The entries from a place on.
+fn cursor_from<'a>(
+    slots: &'a Slots,
+    order: &'a Order,
+    next_cookie: u64,
+    place: usize,
+) -> EntryCursor<'a>
+    requires { IsOrdered (slot_entries slots.now.entries) order.now next_cookie }
+    ensures { result ≡ drop place (ordered (slot_entries slots.now.entries) order.now) }
+{
+    EntryCursor {
+        slots,
+        indexes: indexes_from(slots, order, place),
+    }
 }

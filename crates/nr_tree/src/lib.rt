@@ -26,7 +26,7 @@ mod table;
 mod tree;
 
 pub use ancestry::walks_find_ancestors;
-pub use directory::{Directory, Slot};
+pub use directory::{Directory, EntryCursor, Slot};
 pub use file::File;
 pub use node::{Content, Metadata, Node};
 pub use replies::{attributes_at, wcc_attributes_at, wcc_data};

@@ -1,6 +1,6 @@
 //! Indexes in an order, in blocks: one is taken out in a time that hardly grows with their count.
 
-ghost use Rattle.std.specs.Prelude.{◌≡◌, ◌+◌, ◌<◌, ◌≤◌, ◌++◌, ◌∷◌, [], true, length, remove, slice_index, slice_index_or, slice_set, OnOk, OnErr};
+ghost use Rattle.std.specs.Prelude.{◌≡◌, ◌+◌, ◌<◌, ◌≤◌, ◌++◌, ◌∷◌, [], true, drop, length, remove, slice_index, slice_index_or, slice_set, MatchOption, OnOk, OnErr};
 ghost use Rattle.std.specs.List.{concat};
 ghost use Rattle.nr_tree.specs.private.Blocks.{IsIn};
 
@@ -49,6 +49,14 @@ impl Block {
         ensures { result ≡ slice_index self.now offset }
     {
         self.indexes[offset]
+    }
+
+    /// The indexes from an offset on.
+    fn from(&self, offset: usize) -> &[usize]
+        requires { offset ≤ length self.now }
+        ensures { result.now ≡ drop offset self.now }
+    {
+        &self.indexes[offset..]
     }
 
     fn set(&mut self, offset: usize, index: usize)
@@ -121,6 +129,14 @@ impl Order {
         self.blocks[block].get(offset)
     }
 
+    /// The indexes from a place on. Takes no memory.
+    pub(crate) fn from(&self, place: usize) -> IndexCursor<'_>
+        requires { place < length self.now }
+        ensures { result ≡ drop place self.now }
+    {
+        cursor_from(&self.blocks, place)
+    }
+
     /// Puts another index at a place. Takes no memory.
     pub(crate) fn set(&mut self, place: usize, index: usize)
         requires { place < length self.old }
@@ -178,6 +194,88 @@ impl Order {
         } else {
             push_block(&mut self.blocks, index)
         }
+    }
+}
+
+/// Indexes of an order that follow each other, up to its last one.
+#[derive(Drop)]
+pub(crate) struct IndexCursor<'a> {
+    block: &'a [usize],
+    /// The blocks after it.
+    blocks: &'a [Block],
+}
+
+impl<'a> Model for IndexCursor<'a> {
+    ghost use Rattle.std.specs.Prelude.{ℕ, List, ◌++◌};
+    ghost use Rattle.std.specs.List.{concat};
+    ghost use Rattle.std.specs.Coded.{coded_list, coded_ℕ};
+
+    ghost Value = { List ℕ };
+
+    ghost coded = { coded_list coded_ℕ };
+
+    ghost view = { λ c. c.block.now ++ concat c.blocks.now };
+}
+
+impl<'a> IndexCursor<'a> {
+    /// No indexes. Takes no memory.
+    pub(crate) fn empty() -> IndexCursor<'a>
+        ensures { result ≡ [] }
+    {
+        IndexCursor {
+            block: &[],
+            blocks: &[],
+        }
+    }
+
+    /// Gives the first index and goes past it; none if there is none.
+    pub(crate) fn advance(&mut self) -> Option<usize>
+        ensures { MatchOption result ((self.old ≡ []) × (self.new ≡ [])) (λ index. self.old ≡ index ∷ self.new) }
+    {
+        let (block, blocks) = skip_empty(self.block, self.blocks);
+        match block.split_first() {
+            Some((index, rest)) => {
+                self.block = rest;
+                self.blocks = blocks;
+                Some(*index)
+            }
+            None => None,
+        }
+    }
+}
+
+/// The first of some blocks that has indexes, and those after it; an empty one, if there is none.
+fn skip_empty<'a>(block: &'a [usize], blocks: &'a [Block]) -> (&'a [usize], &'a [Block])
+    ensures same { result.0.now ++ concat result.1.now ≡ block.now ++ concat blocks.now }
+    ensures some { length result.0.now ≡ 0 → concat result.1.now ≡ [] }
+{
+    let mut block = block;
+    let mut blocks = blocks;
+    'skip: while block.is_empty() {
+        match blocks.split_first() {
+            Some((next, rest)) => {
+                block = next.from(0);
+                blocks = rest;
+            }
+            None => return (block, blocks),
+        }
+    }
+    (block, blocks)
+}
+
+/// The indexes of some blocks from a place on.
+fn cursor_from(blocks: &[Block], place: usize) -> IndexCursor<'_>
+    requires { place < length (concat blocks.now) }
+    ensures { result ≡ drop place (concat blocks.now) }
+{
+    let (block, offset) = find(blocks, place);
+    let (_, left) = blocks.split_at(block);
+    match left.split_first() {
+        Some((first, rest)) => IndexCursor {
+            block: first.from(offset),
+            blocks: rest,
+        },
+        None => unreachable!(),
     }
 }
 

@@ -90,10 +90,7 @@ pub fn listed(tree: &Tree, dir: u64, cookie: u64) -> Option<(usize, u64, u64)> {
     match &tree.get(dir)?.content {
         Content::Directory(entries) => {
             let place = entries.place_after(cookie);
-            if place >= entries.len() {
-                return None;
-            }
-            let (_, slot) = entries.entry_at(place);
+            let (_, slot) = entries.entries_from(place).advance()?;
             Some((place, slot.cookie, slot.number))
         }
         _ => None,

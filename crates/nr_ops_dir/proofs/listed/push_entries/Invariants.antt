@@ -1,6 +1,7 @@
-use Rattle.std.proofs.Common.{◌≡◌, ◌-◌, take, drop}
+use Rattle.std.proofs.Common.{◌-◌, take}
 use Rattle.std.specs.Prelude.{map}
+use Rattle.nr_ops_dir.proofs.Counting.{AreLeft}
 use Rattle.nr_ops_dir.proofs.listed.push_entries.Given as goal
 
-abbrev pub invariant-loop-place : goal.invariant-loop-place
-invariant-loop-place g l = l.entries.items ≡ map (g.E.Listed.said l.tree) (take (l.place - l.range.start) (drop l.range.start l.range.dir.now.list))
+abbrev pub invariant-loop : goal.invariant-loop
+invariant-loop g l = AreLeft (g.E.Listed.said l.tree) (map (g.E.Listed.said l.tree) (take l.count l.fn.left)) l.entries.items (l.count - l.counter) l.left

@@ -1,6 +1,7 @@
 use Rattle.std.proofs.Common.{◌≡◌, ℕ, List, None, Some, subst, arith}
 use Rattle.nr_tree.specs.Rules.{handle_rule, node_of_handle}
 use Rattle.nr_ops_dir.proofs.Rooms.{readdir_answers, readdir_wanting}
+use Rattle.nr_ops_dir.proofs.Live.{entries_live}
 use Rattle.nr_ops_dir.proofs.readdirs.readdir_range.Goals as goal
 
 pub returns-in-Some : goal.returns-in-Some
@@ -16,3 +17,8 @@ returns-in-None c =
     (subst (λ (h : List ℕ). node_of_handle c.args.tree.now h ≡ Some c.in_ok-node.node.now) c.as_slice.ensures.value c.in_ok-node.ensures.1)
     c.args.caller.now (subst (λ (h : List ℕ). handle_rule c.args.tree.now h ≡ None) c.as_slice.ensures.value c.in_ok-node.ensures.0) c.in_ok-dir.ensures.0
     (omega (arith, c.in-None.ensures))
+
+pub range_within-requires : goal.range_within-requires
+range_within-requires c =
+    entries_live c.args.tree.now c.args.args.now.dir c.in_ok-node.node.now c.in_ok-dir.dir.now c.facts.ensures
+    (subst (λ (h : List ℕ). node_of_handle c.args.tree.now h ≡ Some c.in_ok-node.node.now) c.as_slice.ensures.value c.in_ok-node.ensures.1) c.in_ok-dir.ensures.1
