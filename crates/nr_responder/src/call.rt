@@ -16,21 +16,32 @@ use std::marker::Model;
 /// chunks are read. `target` is what the head of its inline stream asks for, if that was read: `Some(None)` if it is of another RPC version.
 #[derive(Drop)]
 pub struct Pending {
+    /// The number of its Send, from 1 on.
     pub number: u64,
+    /// Its transaction ID (XID).
     pub xid: u32,
+    /// The chunk lists of its message.
     pub lists: ChunkLists,
+    /// The receive buffer of its Send.
     pub buf: Octets,
+    /// The length of its message in bytes.
     pub len: usize,
+    /// The offset of its stream in the message.
     pub stream_at: usize,
+    /// Whether its stream stands in the message.
     pub inline: bool,
+    /// The room of its payload, while its chunks are read.
     pub room: Option<Octets>,
+    /// What the head of its inline stream asks for, once that was read: `Some(None)` if it is of another RPC version.
     pub target: Option<Option<CallTarget>>,
 }
 
 /// A call that waits to be executed, with its payload if that was read with its chunks; else it is the stream of its Send.
 #[derive(Drop)]
 pub struct Ready {
+    /// Its transaction ID (XID).
     pub xid: u32,
+    /// Its payload, if that was put together of its chunks.
     pub payload: Option<Octets>,
 }
 
@@ -38,20 +49,30 @@ pub struct Ready {
 /// `sink`, from offset `at` on; for the call whose Send has this number, at a position of its read list.
 #[derive(Clone, Copy)]
 pub struct ReadEntry {
+    /// The number of the Send of its call.
     pub number: u64,
+    /// The position of the read list to which it belongs (RFC 8166 section 3.4.4).
     pub position: u32,
+    /// The STag of the own region into which is read.
     pub sink: u32,
+    /// The offset in that region of its first byte.
     pub at: u32,
+    /// How many bytes are read.
     pub size: u32,
+    /// The client's region.
     pub stag: u32,
+    /// The offset in the client's region of its first byte.
     pub to: u64,
 }
 
 /// The region into which the entries of a read list at a position are read, for the call whose Send has this number.
 #[derive(Drop)]
 pub struct OpenSink {
+    /// The number of the Send of its call.
     pub number: u64,
+    /// The position of the entries that are read into it (RFC 8166 section 3.4.4).
     pub position: u32,
+    /// The region.
     pub registration: Registration,
 }
 

@@ -16,14 +16,20 @@ use nr_xdr::word_at;
 /// with its lists and the place of its stream; or a call with a read list, whose stream is `inline` from a place of its message on, or read.
 #[derive(Drop)]
 pub enum Judged {
+    /// The message is of a kind that no client sends: the link ends.
     Kind,
+    /// A call with this xid is open: the link ends.
     Open,
+    /// A version other than 1: ERR_VERS is due (RFC 8166 section 4.5.1).
     OtherVersion,
+    /// A header or a read list that is refused: ERR_CHUNK is due (RFC 8166 sections 4.5.2, 4.5.3).
     BadChunks,
+    /// A call without a read list: its stream stands in the message from `stream_at` on.
     Call {
         lists: ChunkLists,
         stream_at: usize,
     },
+    /// A call with a read list: its stream stands in the message from `stream_at` on, if it is `inline`; else it is read.
     Reads {
         lists: ChunkLists,
         stream_at: usize,

@@ -14,7 +14,9 @@ use std::sync::ledger::{Blank, Ledger};
 /// The node of an entry, and the cookie to go on from.
 #[derive(Clone, Copy)]
 pub struct Slot {
+    /// The cookie to go on from after this entry (RFC 1813 section 3.3.16).
     pub cookie: u64,
+    /// The number of its node.
     pub number: u64,
 }
 

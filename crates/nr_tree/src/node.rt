@@ -29,22 +29,32 @@ pub struct Metadata {
 /// What a node is, with its bytes, entries, device or path.
 #[derive(Drop)]
 pub enum Content {
+    /// A regular file, with its bytes.
     Regular(File),
+    /// A directory, with its entries.
     Directory(Directory),
+    /// A block device.
     Block(SpecialData),
+    /// A character device.
     Character(SpecialData),
+    /// A symbolic link, with its path.
     Link(Octets),
+    /// A socket.
     Socket,
+    /// A named pipe.
     Fifo,
 }
 
 /// A file, a directory or the like. Only a directory's parent means something: the directory that names it.
 #[derive(Drop)]
 pub struct Node {
+    /// Its attributes but for type, size and file number.
     pub metadata: Metadata,
+    /// The number of the directory that names it. It means something only of a directory.
     pub parent: u64,
     /// The verifier that an exclusive CREATE made it with.
     pub verifier: Option<Verifier>,
+    /// What it is, with its bytes, entries, device or path.
     pub content: Content,
 }
 

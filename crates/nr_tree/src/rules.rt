@@ -11,7 +11,9 @@ use nr_nfs_base::{Caller, SetAttributes, SetTime, Status, Time, Verifier};
 /// A right on a node (RFC 1813 section 2.5, the mode of `fattr3`).
 #[derive(Clone, Copy)]
 pub enum Right {
+    /// To read a file, and to list a directory.
     Read,
+    /// To write a file, and to change the entries of a directory.
     Write,
     /// To execute a file, and to search a directory.
     Execute,
