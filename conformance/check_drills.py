@@ -151,9 +151,9 @@ def check(script: Recorded) -> tuple[str, str | None, dict[str, str]]:
 
 
 def recorded_scripts() -> list[Recorded]:
-    """The scripts of both files."""
+    """The scripts of both files; drills.json.gz may be missing."""
     scripts: list[Recorded] = []
-    for path in (SCRIPTS, DRILLS):
+    for path in filter(os.path.exists, (SCRIPTS, DRILLS)):
         with gzip.open(path, 'rt', encoding='utf-8') as h:
             scripts += [s for s in json.load(h) if s['status'] == 0]
     return scripts

@@ -57,7 +57,7 @@ def record(program: str, name: str, text: str) -> Recorded:
 
 def generated(program: str, drills: Drills, at: int) -> Recorded:
     """The generated script of a number: a seed, a number of clients and one of calls."""
-    seed, clients, calls = at * 2654435761 % 2 ** 64, (1, 2, 5)[at % 3], at % 20 + 1
+    seed, clients, calls = at * 2654435761 % 2 ** 64, (1, 2, 5)[at % 3], at % 8 + 1
     text = text_of(drills.ask('made', seed, clients, calls))
     made = record(program, 'generated_%03d' % at, text)
     words = ['--seed', str(seed), '--clients', str(clients), '--calls', str(calls)]

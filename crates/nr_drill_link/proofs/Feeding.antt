@@ -1,10 +1,6 @@
 -- Bytes that are fed to an end.
 use Rattle.std.specs.Prelude.{◌&&◌, if◌then◌else◌}
-use Rattle.std.proofs.Common.{◌≡◌, ◌≢◌, ℕ, zero, suc, ◌+◌, ◌≤◌, arith, eqb, Bool, false, List, [], ◌∷◌, ◌++◌, length, take, drop, Some, inl, refl, ap, sym, subst, ◌∙◌}
-use Rattle.std.proofs.lemmas.List.{drop-drop}
-use Rattle.std.proofs.Math.Seq.{drop-nil}
-use Rattle.std.proofs.Math.ListN.{drop_of_length-le}
-use Rattle.nr_outside.specs.Pipe.{PipeState, waiting_bytes, next_bytes, after_read}
+use Rattle.std.proofs.Common.{◌≡◌, ◌≢◌, ℕ, eqb, Bool, false, List, [], ◌∷◌, ◌++◌, take, drop, Some, inl, refl, ap, sym, subst, ◌∙◌}
 use Rattle.nr_wire.specs.declared.hello.Side.TheVariants.{Responder}
 use Rattle.nr_link.specs.declared.end.End.TheVariants as ends
 use Rattle.nr_reduce.specs.declared.mark.LinkParameters.{LinkParameters}
@@ -22,24 +18,6 @@ use Rattle.nr_drill_link.specs.Steps.{Goes, StandsAt}
 use Rattle.nr_drill_link.proofs.Ends.{represents_of}
 use Rattle.nr_drill_link.proofs.Standing.{with_ends, IsPlain, EndsStand, other_pipes, plain_mark, replied_one}
 use Rattle.nr_drill_link.proofs.Writes.{not_own, one_more_mark}
-
--- ---- A pipe that was read
-
-read_past : (n : ℕ) (xs : List ℕ) → drop (length (take n xs)) xs ≡ drop n xs
-read_past zero xs = refl
-read_past (suc n) [] = sym (drop-nil (suc n))
-read_past (suc n) (x ∷ xs) = read_past n xs
-
-pub waits_after : (p p2 : PipeState) (n : ℕ) → p2 ≡ after_read p n → waiting_bytes p2 ≡ drop n (waiting_bytes p)
-waits_after p p2 n is =
-    let len : ℕ = length (next_bytes p n) in
-    ap waiting_bytes is ∙ sym (drop-drop len p.place p.log) ∙ read_past n (waiting_bytes p)
-
--- if none wait after it, an empty pipe waits with the same
-pub none_left_after : (p p2 : PipeState) (n left : ℕ) → p2 ≡ after_read p n → p2.place + left ≡ length p2.log → left ≡ 0 → [] ≡ drop n (waiting_bytes p)
-none_left_after p p2 n left is count none =
-    let le : length p2.log ≤ p2.place = omega (arith, count, none) in
-    sym (drop_of_length-le p2.log le) ∙ waits_after p p2 n is
 
 -- ---- The server
 
