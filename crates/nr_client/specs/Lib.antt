@@ -1,5 +1,6 @@
 pub mod Calls
 pub mod Ending
+pub mod Following
 pub mod LinkParts
 pub mod Requests
 pub mod Results
