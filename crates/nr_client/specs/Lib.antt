@@ -2,8 +2,10 @@ pub mod Calls
 pub mod Ending
 pub mod Following
 pub mod LinkParts
+pub mod Reading
 pub mod Requests
 pub mod Results
 pub mod SessionState
 pub mod Steps
 pub mod Transfers
+pub mod Writing
