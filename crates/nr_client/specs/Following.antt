@@ -1,5 +1,5 @@
 -- Requests of several calls, each of which follows from the outcomes of the calls before.
-use Rattle.std.specs.Prelude.{◌≡◌, ◌⊎◌, List, [], ◌∷◌, Result, Err}
+use Rattle.std.specs.Prelude.{◌≡◌, ◌⊎◌, List, [], ◌∷◌, Result, Ok, Err}
 use Rattle.nr_reduce.specs.declared.call.Call.{Call}
 use Rattle.nr_reduce.specs.declared.call.Outcome.{Outcome}
 use Rattle.nr_requester.specs.RequesterState.{RequesterSide}
@@ -15,6 +15,16 @@ use Rattle.nr_client.specs.Transfers.{LinkBytes}
 pub data Next (A : Type 0) : Type 0 where
   Calls : Call → Next A
   Returns : Result A ClientEnd → Next A
+
+-- what follows from a value, or the end that there is in its place
+abbrev pub go_on : {A B : Type 0} → Result B ClientEnd → (B → Next A) → Next A
+go_on (Ok value) next = next value
+go_on (Err end) next = Next.Returns (Err end)
+
+-- a call, and what follows from its outcome, which is read so
+abbrev pub asking : {A B : Type 0} → Call → (Outcome → Result B ClientEnd) → (B → List Outcome → Next A) → List Outcome → Next A
+asking call reads next [] = Next.Calls call
+asking call reads next (outcome ∷ later) = go_on (reads outcome) (λ value. next value later)
 
 -- A request is a function from the outcomes of its calls so far to what it does next. Its first calls were made, one after another, and
 -- answered with these outcomes.

@@ -23,14 +23,11 @@ use Rattle.nr_client.specs.declared.client_end.ClientEnd.{ClientEnd}
 use Rattle.nr_client.specs.declared.client_end.ClientEnd.TheVariants as client
 use Rattle.nr_client.specs.Following.{EndsWith, MakesCalls, Next}
 use Rattle.nr_client.specs.Following.Next.{Calls, Returns}
+use Rattle.nr_client.specs.Listing.{no_progress}
 use Rattle.nr_client.specs.Requests.{client_call, getattr_call, getattr_result, nfs_reads}
 use Rattle.nr_client.specs.Transfers.{LinkBytes}
 
 -- ---- READ (RFC 1813 section 3.3.6)
-
--- the reason of a reply that gives nothing and no end, or more than was asked for
-abbrev pub makes_no_sense : ℕ
-makes_no_sense = 25
 
 -- the offset of the results in a reply, after its head; 0 if it has none
 abbrev pub results_offset_by : Result ReplyHead ℕ → ℕ
@@ -59,7 +56,7 @@ is_bad_read count results = nat_lt count (length results.bytes) || (length resul
 -- A reply to it whose data are such is bad: at the length of the data, which comes after the status, the attributes, the count and eof.
 abbrev pub checked_read : (count results_at : ℕ) → Result ReadOk ClientEnd → Result ReadOk ClientEnd
 checked_read count results_at (Ok results) =
-    if is_bad_read count results then Err (client.BadReply (results_at + (12 + post_op_attr_len results.attributes)) makes_no_sense) else Ok results
+    if is_bad_read count results then Err (client.BadReply (results_at + (12 + post_op_attr_len results.attributes)) no_progress) else Ok results
 checked_read count results_at (Err end) = Err end
 
 -- the result of a READ of `count` bytes, by its outcome
