@@ -118,11 +118,11 @@ reading uid gid file outcomes = next_read uid gid file (file_read outcomes)
 
 -- ---- The output
 
--- The output took the bytes that came in the replies; if memory ran out, perhaps not those of the last reply.
+-- The output took the bytes that came in the replies; or memory ran out for the last reply, and it took those that came before.
 abbrev pub TakesRead : Result (Unit {0}) ClientEnd → List Outcome → (taken taken' : Option (List ℕ)) → Type 0
-TakesRead (Err client.Memory) outcomes taken taken' =
-    (before last : List Outcome) × ((outcomes ≡ before ++ last) × ((length last ≤ 1) × Appends taken taken' (bytes_read before)))
-TakesRead given outcomes taken taken' = Appends taken taken' (bytes_read outcomes)
+TakesRead given outcomes taken taken' =
+    Appends taken taken' (bytes_read outcomes)
+    ⊎ ((given ≡ Err client.Memory) × ((before : List Outcome) × (last : Outcome) × ((outcomes ≡ before ++ last ∷ []) × Appends taken taken' (bytes_read before))))
 
 -- It failed: it took all bytes but the last ones of the last reply, at least one.
 abbrev pub TakesPart : List Outcome → (taken taken' : Option (List ℕ)) → Type 0

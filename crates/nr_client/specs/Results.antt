@@ -71,4 +71,14 @@ Gives (Err end) read = read ≡ Err end
 -- an end that a reply gives: its call has an answer
 abbrev pub NotLink : ClientEnd → Type 0
 NotLink (client.Link end) = ⊥
+NotLink client.DialFault = ⊥
+NotLink (client.BadPath at) = ⊥
+NotLink client.InputFault = ⊥
+NotLink client.OutputFault = ⊥
+NotLink (client.Budget count) = ⊥
 NotLink end = ⊤
+
+-- an end of a call: that of its reply, or it has no answer
+abbrev pub IsOfCall : ClientEnd → Type 0
+IsOfCall (client.Link end) = ⊤
+IsOfCall end = NotLink end

@@ -1,15 +1,19 @@
 //! Calls of a client over a link, and sessions.
 #![tactic(auto)]
 
+mod answer;
 mod asking;
 mod call_end;
 mod calling;
 mod client_end;
+mod file_calls;
+mod file_results;
 mod limits;
 mod link;
 mod listing;
 mod names;
 mod path;
+mod read_file;
 mod requests;
 mod results;
 mod session;
