@@ -95,3 +95,147 @@ read_completed uid gid file b c h i t u size at above so_far =
         inl (takes_bytes so_far.outcomes (SizeKnown size at so_far.bytes) t u so_far.state so_far.appends),
       );
     }
+
+-- the calls with one READ more, by what is read of its outcome
+made_more : (uid gid : ℕ) (file : List ℕ) (b c d : LinkBytes) (h i j : RequesterSide) (t u : Option (List ℕ)) (size at : ℕ) (outcome : Outcome)
+    → at < size → (so_far : ReadSoFar uid gid file b c h i t u size at) → Answers c d i j (read_call uid gid file at (piece_left size at)) outcome
+    → MakesCalls (reading uid gid file) (so_far.outcomes ++ outcome ∷ []) b d h j
+made_more uid gid file b c d h i j t u size at outcome below so_far answered =
+    calls_more (reading uid gid file) so_far.outcomes b c d h i j (read_call uid gid file at (piece_left size at)) outcome so_far.made
+    (ap (next_read uid gid file) so_far.state ∙ next_is uid gid file size at so_far.bytes below) answered
+
+came_with : (uid gid : ℕ) (file : List ℕ) (b c : LinkBytes) (h i : RequesterSide) (t u : Option (List ℕ)) (size at : ℕ) (outcome : Outcome) (read : Result ReadOk ClientEnd)
+    → (so_far : ReadSoFar uid gid file b c h i t u size at) → read_result (piece_left size at) outcome ≡ read
+    → file_read (so_far.outcomes ++ outcome ∷ []) ≡ with_data size at so_far.bytes read
+came_with uid gid file b c h i t u size at outcome read so_far reads =
+    state_after so_far.outcomes outcome (SizeKnown size at so_far.bytes) so_far.state ∙ ap (with_data size at so_far.bytes) reads
+
+-- nothing more was written
+took_nothing : (t u v : Option (List ℕ)) (bytes : List ℕ) → Appends t u bytes → Appends u v [] → Appends t v bytes
+took_nothing t u v bytes first none = subst (λ (l : List ℕ). Appends t v l) (append-nil bytes) (Appends-trans t u v bytes [] first none)
+
+-- the READ has no answer
+fails_unanswered : (uid gid : ℕ) (file : List ℕ) (b c d : LinkBytes) (h i j : RequesterSide) (t u v : Option (List ℕ)) (size at : ℕ) (end : ClientEnd)
+    → at < size → ReadSoFar uid gid file b c h i t u size at → Unanswered (read_call uid gid file at (piece_left size at)) c d i j end → Appends u v []
+    → ReadsFile uid gid file b d h j t v (Err end)
+fails_unanswered uid gid file b c d h i j t u v size at end below so_far unanswered none =
+    let state = SizeKnown size at so_far.bytes in
+    let ends : EndsWith (next_read uid gid file state) c d i j (Err end) =
+    subst (λ (next : Next (Unit {0})). EndsWith next c d i j (Err end)) (sym (next_is uid gid file size at so_far.bytes below)) (end, (refl, unanswered)) in
+    record {
+      outcomes = so_far.outcomes;
+      between = c;
+      side = i;
+      made = so_far.made;
+      ends = inl (
+        ends_by uid gid file so_far.outcomes state c d i j (Err end) so_far.state ends,
+        inl (takes_bytes so_far.outcomes state t v so_far.state (took_nothing t u v so_far.bytes so_far.appends none)),
+      );
+    }
+
+-- the reply has no data
+fails_answered : (uid gid : ℕ) (file : List ℕ) (b c d : LinkBytes) (h i j : RequesterSide) (t u v : Option (List ℕ)) (size at : ℕ) (end : ClientEnd) (outcome : Outcome)
+    → at < size → ReadSoFar uid gid file b c h i t u size at → Answers c d i j (read_call uid gid file at (piece_left size at)) outcome
+    → Gives {A = ReadOk} (Err end) (read_result (piece_left size at) outcome) → Appends u v [] → ReadsFile uid gid file b d h j t v (Err end)
+fails_answered uid gid file b c d h i j t u v size at end outcome below so_far answered gives none =
+    record {
+      outcomes = so_far.outcomes ++ outcome ∷ [];
+      between = d;
+      side = j;
+      made = made_more uid gid file b c d h i j t u size at outcome below so_far answered;
+      ends = inl (by (end_of_reply {A = ReadOk} {B = Unit {0}} end (read_result (piece_left size at) outcome) gives));
+    }
+  where
+    all : Appends t v so_far.bytes
+    all = took_nothing t u v so_far.bytes so_far.appends none
+
+    by : (end ≡ client.Memory) ⊎ ((read_result (piece_left size at) outcome ≡ Err end) × Gives {A = Unit {0}} (Err end) (Err end))
+        → EndsWith (reading uid gid file (so_far.outcomes ++ outcome ∷ [])) d d j j (Err end) × TakesRead (Err end) (so_far.outcomes ++ outcome ∷ []) t v
+    by (inl memory) = (
+      subst (λ (e : ClientEnd). EndsWith (reading uid gid file (so_far.outcomes ++ outcome ∷ [])) d d j j (Err e)) (sym memory)
+      (memory_ends (reading uid gid file (so_far.outcomes ++ outcome ∷ [])) d j),
+      inr (ap (λ (e : ClientEnd). Err e) memory, (so_far.outcomes, outcome, (refl, takes_bytes so_far.outcomes (SizeKnown size at so_far.bytes) t v so_far.state all))),
+    )
+    by (inr (reads, same)) =
+      let came = came_with uid gid file b c h i t u size at outcome (Err end) so_far reads in (
+        ends_by uid gid file (so_far.outcomes ++ outcome ∷ []) (ReadEnds end so_far.bytes) d d j j (Err end) came (same, (refl, refl)),
+        inl (takes_bytes (so_far.outcomes ++ outcome ∷ []) (ReadEnds end so_far.bytes) t v came all),
+      )
+
+-- the output failed
+fails_outside : (uid gid : ℕ) (file : List ℕ) (b c d : LinkBytes) (h i j : RequesterSide) (t u v : Option (List ℕ)) (size at : ℕ) (outcome : Outcome) (results : ReadOk) (n : ℕ)
+    → at < size → ReadSoFar uid gid file b c h i t u size at → Answers c d i j (read_call uid gid file at (piece_left size at)) outcome
+    → read_result (piece_left size at) outcome ≡ Ok results → n < length results.bytes → Appends u v (take n results.bytes)
+    → ReadsFile uid gid file b d h j t v (Err client.OutputFault)
+fails_outside uid gid file b c d h i j t u v size at outcome results n below so_far answered reads short part =
+    let before = so_far.bytes in
+    let more = so_far.outcomes ++ outcome ∷ [] in
+    let all : bytes_read more ≡ before ++ results.bytes =
+    ap (λ (s : FileRead). bytes_of s) (came_with uid gid file b c h i t u size at outcome (Ok results) so_far reads) in
+    let earlier : bytes_read so_far.outcomes ≡ before = ap (λ (s : FileRead). bytes_of s) so_far.state in
+    let cut : take (length before + n) (bytes_read more) ≡ before ++ take n results.bytes =
+    ap (λ (l : List ℕ). take (length before + n) l) all ∙ take-append-add before results.bytes n in
+    let from : length (bytes_read so_far.outcomes) ≤ length before + n =
+    subst (λ (l : List ℕ). length l ≤ length before + n) (sym earlier) (omega arith) in
+    let within : length before + n < length (bytes_read more) =
+    subst (λ (l : List ℕ). length before + n < length l) (sym all) (omega (arith, short, length-append before results.bytes)) in
+    record {
+      outcomes = more;
+      between = d;
+      side = j;
+      made = made_more uid gid file b c d h i j t u size at outcome below so_far answered;
+      ends = inr (refl, (
+        (refl, refl),
+        (so_far.outcomes, outcome, length before + n, (refl, (from, (within,
+        subst (λ (l : List ℕ). Appends t v l) (sym cut) (Appends-trans t u v before (take n results.bytes) so_far.appends part))))),
+      ));
+    }
+
+pub read_failed : (uid gid : ℕ) (file : List ℕ) (b c d : LinkBytes) (h i j : RequesterSide) (t u v : Option (List ℕ)) (size at : ℕ) (end : ClientEnd)
+    → at < size → ReadSoFar uid gid file b c h i t u size at → FailsToRead uid gid file size at c d i j u v end → ReadsFile uid gid file b d h j t v (Err end)
+read_failed uid gid file b c d h i j t u v size at end below so_far (inl (unanswered, none)) =
+    fails_unanswered uid gid file b c d h i j t u v size at end below so_far unanswered none
+read_failed uid gid file b c d h i j t u v size at end below so_far (inr (inl (outcome, (answered, (gives, none))))) =
+    fails_answered uid gid file b c d h i j t u v size at end outcome below so_far answered gives none
+read_failed uid gid file b c d h i j t u v size at end below so_far (inr (inr (is, (outcome, results, n, (answered, (reads, (short, part))))))) =
+    subst (λ (e : ClientEnd). ReadsFile uid gid file b d h j t v (Err e)) (sym is)
+    (fails_outside uid gid file b c d h i j t u v size at outcome results n below so_far answered reads short part)
+
+-- the size did not come
+pub size_failed : (uid gid : ℕ) (file : List ℕ) (b c : LinkBytes) (h i : RequesterSide) (t : Option (List ℕ)) (end : ClientEnd)
+    → Asks {A = Attributes} getattr_result (getattr_call uid gid file) b c h i (Err end) → ReadsFile uid gid file b c h i t t (Err end)
+size_failed uid gid file b c h i t end (inl (outcome, (answered, gives))) =
+    record {
+      outcomes = outcome ∷ [];
+      between = c;
+      side = i;
+      made = (getattr_call uid gid file, c, i, (refl, (answered, (refl, refl))));
+      ends = inl (by (end_of_reply {A = Attributes} {B = Unit {0}} end (getattr_result outcome) gives));
+    }
+  where
+    by : (end ≡ client.Memory) ⊎ ((getattr_result outcome ≡ Err end) × Gives {A = Unit {0}} (Err end) (Err end))
+        → EndsWith (reading uid gid file (outcome ∷ [])) c c i i (Err end) × TakesRead (Err end) (outcome ∷ []) t t
+    by (inl memory) = (
+      subst (λ (e : ClientEnd). EndsWith (reading uid gid file (outcome ∷ [])) c c i i (Err e)) (sym memory) (memory_ends (reading uid gid file (outcome ∷ [])) c i),
+      inr (ap (λ (e : ClientEnd). Err e) memory, ([], outcome, (refl, Appends-nil t))),
+    )
+    by (inr (reads, same)) = (
+      ends_by uid gid file (outcome ∷ []) (ReadEnds end []) c c i i (Err end) (ap with_size reads) (same, (refl, refl)),
+      inl (takes_bytes (outcome ∷ []) (ReadEnds end []) t t (ap with_size reads) (Appends-nil t)),
+    )
+size_failed uid gid file b c h i t end (inr (inl (cause, (is, rest)))) =
+    record {
+      outcomes = [];
+      between = b;
+      side = h;
+      made = (refl, refl);
+      ends = inl ((client.Link cause, (is, inl (cause, (refl, rest)))), inl (Appends-nil t));
+    }
+size_failed uid gid file b c h i t end (inr (inr (is, rest))) =
+    record {
+      outcomes = [];
+      between = b;
+      side = h;
+      made = (refl, refl);
+      ends = inl ((client.Memory, (is, inr (refl, rest))), inl (Appends-nil t));
+    }

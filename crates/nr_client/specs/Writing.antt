@@ -22,7 +22,7 @@ use Rattle.nr_reduce.specs.declared.call.Outcome.{Outcome}
 use Rattle.nr_requester.specs.RequesterState.{RequesterSide}
 use Rattle.nr_client.specs.declared.client_end.ClientEnd.{ClientEnd}
 use Rattle.nr_client.specs.declared.client_end.ClientEnd.TheVariants as client
-use Rattle.nr_client.specs.Following.{EndsWith, MakesCalls, Next}
+use Rattle.nr_client.specs.Following.{Follows, MakesCalls, Next}
 use Rattle.nr_client.specs.Following.Next.{Calls, Returns}
 use Rattle.nr_client.specs.Listing.{no_progress}
 use Rattle.nr_client.specs.Reading.{post_op_attr_len, results_offset}
@@ -127,25 +127,19 @@ next_write uid gid dir name input (WriteEnds end) = Returns (Err end)
 abbrev pub writing : (uid gid : ℕ) → (dir name input : List ℕ) → List Outcome → Next (Unit {0})
 writing uid gid dir name input outcomes = next_write uid gid dir name input (file_write input outcomes)
 
--- After these outcomes the request ends as its calls say, or because the input failed.
-abbrev pub EndsWriting : Next (Unit {0}) → (b b' : LinkBytes) (h h' : RequesterSide) → Result (Unit {0}) ClientEnd → Type 0
-EndsWriting next b b' h h' given = EndsWith next b b' h h' given ⊎ ((given ≡ Err client.InputFault) × ((b' ≡ b) × (h' ≡ h)))
-
 -- what was read of the input: all of it if all was written, and more than the maximum if that is why it ends
 abbrev pub IsRead : Result (Unit {0}) ClientEnd → (handed rest : List ℕ) → Type 0
 IsRead (Ok done) handed rest = rest ≡ []
 IsRead (Err (client.Budget count)) handed rest = input_max < length handed
 IsRead (Err end) handed rest = ⊤
 
--- A file was written from an input: its calls were made in order, by all the bytes of the input, those that were read and the rest.
+-- A file was written from an input: its calls were made in order, by all the bytes of the input, those that were read and the rest. Or the
+-- input failed, after some of them.
 pub record WritesFile (uid gid : ℕ) (dir name : List ℕ) (b b' : LinkBytes) (h h' : RequesterSide) (left given left' given' : Option (List ℕ)) (result : Result (Unit {0}) ClientEnd) : Type 0 where
   pub handed : List ℕ
   pub rest : List ℕ
   pub hands_out : HandsOut left given left' given' handed
   pub is_rest : IfSome left' (λ known. rest ≡ known)
   pub is_read : IsRead result handed rest
-  pub outcomes : List Outcome
-  pub between : LinkBytes
-  pub side : RequesterSide
-  pub made : MakesCalls (writing uid gid dir name (handed ++ rest)) outcomes b between h side
-  pub ends : EndsWriting (writing uid gid dir name (handed ++ rest) outcomes) between b' side h' result
+  pub calls : Follows (writing uid gid dir name (handed ++ rest)) b b' h h' result
+    ⊎ ((result ≡ Err client.InputFault) × ((outcomes : List Outcome) × MakesCalls (writing uid gid dir name (handed ++ rest)) outcomes b b' h h'))
