@@ -19,11 +19,11 @@ pub data Next (A : Type 0) : Type 0 where
 -- what follows from a value, or the end that there is in its place
 abbrev pub go_on : {A B : Type 0} → Result B ClientEnd → (B → Next A) → Next A
 go_on (Ok value) next = next value
-go_on (Err end) next = Next.Returns (Err end)
+go_on (Err end) next = Returns (Err end)
 
 -- a call, and what follows from its outcome, which is read so
 abbrev pub asking : {A B : Type 0} → Call → (Outcome → Result B ClientEnd) → (B → List Outcome → Next A) → List Outcome → Next A
-asking call reads next [] = Next.Calls call
+asking call reads next [] = Calls call
 asking call reads next (outcome ∷ later) = go_on (reads outcome) (λ value. next value later)
 
 -- A request is a function from the outcomes of its calls so far to what it does next. Its first calls were made, one after another, and
