@@ -143,7 +143,7 @@ fails_answered uid gid file b c d h i j t u v size at end outcome below so_far a
       between = d;
       side = j;
       made = made_more uid gid file b c d h i j t u size at outcome below so_far answered;
-      ends = inl (by (end_of_reply {A = ReadOk} {B = Unit {0}} end (read_result (piece_left size at) outcome) gives));
+      ends = inl (by (end_of_reply {A = ReadOk} (Unit {0}) end (read_result (piece_left size at) outcome) gives));
     }
   where
     all : Appends t v so_far.bytes
@@ -210,7 +210,7 @@ size_failed uid gid file b c h i t end (inl (outcome, (answered, gives))) =
       between = c;
       side = i;
       made = (getattr_call uid gid file, c, i, (refl, (answered, (refl, refl))));
-      ends = inl (by (end_of_reply {A = Attributes} {B = Unit {0}} end (getattr_result outcome) gives));
+      ends = inl (by (end_of_reply {A = Attributes} (Unit {0}) end (getattr_result outcome) gives));
     }
   where
     by : (end ≡ client.Memory) ⊎ ((getattr_result outcome ≡ Err end) × Gives {A = Unit {0}} (Err end) (Err end))
@@ -239,3 +239,41 @@ size_failed uid gid file b c h i t end (inr (inr (is, rest))) =
       made = (refl, refl);
       ends = inl ((client.Memory, (is, inr (refl, rest))), inl (Appends-nil t));
     }
+
+-- ---- One READ, by the count that it asks for
+
+pub reads_on : (uid gid : ℕ) (file : List ℕ) (size at at' count step : ℕ) (b c : LinkBytes) (h i : RequesterSide) (t u : Option (List ℕ)) (outcome : Outcome) (results : ReadOk)
+    → count ≡ piece_left size at → Answers b c h i (read_call uid gid file at count) outcome → read_result count outcome ≡ Ok results
+    → step ≡ (if results.eof then count else length results.bytes) → at' ≡ at + step → Appends t u results.bytes → ReadsOn uid gid file size at at' b c h i t u
+reads_on uid gid file size at at' count step b c h i t u outcome results same answered reads is goes appends =
+    record {
+      outcome = outcome;
+      results = results;
+      answered = subst (λ (n : ℕ). Answers b c h i (read_call uid gid file at n) outcome) same answered;
+      reads = subst (λ (n : ℕ). read_result n outcome ≡ Ok results) same reads;
+      offset = goes ∙ ap (λ (n : ℕ). at + n) is ∙ ap (λ (n : ℕ). at + (if results.eof then n else length results.bytes)) same;
+      appends = appends;
+    }
+
+pub read_unanswered : (uid gid : ℕ) (file : List ℕ) (size at count : ℕ) (b c : LinkBytes) (h i : RequesterSide) (t : Option (List ℕ)) (end : ClientEnd)
+    → count ≡ piece_left size at → Unanswered (read_call uid gid file at count) b c h i end → FailsToRead uid gid file size at b c h i t t end
+read_unanswered uid gid file size at count b c h i t end same unanswered =
+    inl (subst (λ (n : ℕ). Unanswered (read_call uid gid file at n) b c h i end) same unanswered, Appends-nil t)
+
+pub read_answered : (uid gid : ℕ) (file : List ℕ) (size at count : ℕ) (b c : LinkBytes) (h i : RequesterSide) (t : Option (List ℕ)) (end : ClientEnd) (outcome : Outcome)
+    → count ≡ piece_left size at → Answers b c h i (read_call uid gid file at count) outcome → Gives {A = ReadOk} (Err end) (read_result count outcome)
+    → FailsToRead uid gid file size at b c h i t t end
+read_answered uid gid file size at count b c h i t end outcome same answered gives =
+    inr (inl (outcome, (
+      subst (λ (n : ℕ). Answers b c h i (read_call uid gid file at n) outcome) same answered,
+      (subst (λ (n : ℕ). Gives {A = ReadOk} (Err end) (read_result n outcome)) same gives, Appends-nil t),
+    )))
+
+pub output_failed : (uid gid : ℕ) (file : List ℕ) (size at count : ℕ) (b c : LinkBytes) (h i : RequesterSide) (t u : Option (List ℕ)) (outcome : Outcome) (results : ReadOk)
+    → count ≡ piece_left size at → Answers b c h i (read_call uid gid file at count) outcome → read_result count outcome ≡ Ok results
+    → ((n : ℕ) × (n < length results.bytes) × Appends t u (take n results.bytes)) → FailsToRead uid gid file size at b c h i t u client.OutputFault
+output_failed uid gid file size at count b c h i t u outcome results same answered reads (n, short, part) =
+    inr (inr (refl, (outcome, results, n, (
+      subst (λ (k : ℕ). Answers b c h i (read_call uid gid file at k) outcome) same answered,
+      (subst (λ (k : ℕ). read_result k outcome ≡ Ok results) same reads, (short, part)),
+    ))))

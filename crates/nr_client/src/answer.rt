@@ -38,12 +38,16 @@ pub(crate) fn outcome_of<I: Source, O: Sink>(
         Ok(call) => call,
         Err(_) => return Err(ClientEnd::Memory),
     };
-    match link.call(call) {
-        Ok(Done { call, buffers, outcome }) => {
-            drop(call);
-            drop(buffers);
-            Ok(outcome)
-        }
-        Err(end) => Err(ClientEnd::Link(end)),
-    }
+    let done = match link.call(call) {
+        Ok(done) => done,
+        Err(end) => return Err(ClientEnd::Link(end)),
+    };
+    let Done {
+        call,
+        buffers,
+        outcome,
+    } = done;
+    drop(call);
+    drop(buffers);
+    Ok(outcome)
 }

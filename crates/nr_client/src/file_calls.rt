@@ -81,7 +81,6 @@ pub(crate) fn create_call(
 }
 
 /// Appends the arguments of WRITE, of which the data are borrowed.
-#[tactic(auto, unfolding(nr_nfs_args::specs::Bytes::write_args_codec))]
 fn write_args(
     file: &Handle,
     offset: u64,

@@ -1,6 +1,6 @@
 //! The results of the calls that read and write a file.
 
-ghost use Rattle.std.specs.Prelude.{◌≡◌, ◌<◌, ◌^◌, IfErr};
+ghost use Rattle.std.specs.Prelude.{◌≡◌, ◌<◌, ◌≤◌, ◌^◌, false, length, IfErr, IfOk};
 ghost use Rattle.nr_client.specs.Reading.{post_op_attr_len, read_result, results_offset};
 ghost use Rattle.nr_client.specs.Results.{Gives, NotLink};
 ghost use Rattle.nr_client.specs.Writing.{created_file, wcc_data_len, write_result};
@@ -64,6 +64,8 @@ fn wcc_data_len(wcc: &WccData) -> usize
 pub(crate) fn read_in(alloc: Global, outcome: &Outcome, count: u32) -> Result<ReadOk, ClientEnd>
     ensures gives { Gives result (read_result count outcome.now) }
     ensures no_link { IfErr result NotLink }
+    ensures within { IfOk result (λ r. length r.bytes ≤ count) }
+    ensures sense { IfOk result (λ r. r.eof ≡ false → 0 < length r.bytes) }
 {
     let results = match nfs_results::<ReadOk, Option<Attributes>>(alloc, outcome) {
         Ok(results) => results,
@@ -100,6 +102,8 @@ pub(crate) fn created_in(alloc: Global, outcome: &Outcome) -> Result<Handle, Cli
 pub(crate) fn written_in(alloc: Global, outcome: &Outcome, sent: u32) -> Result<u32, ClientEnd>
     ensures gives { Gives result (write_result sent outcome.now) }
     ensures no_link { IfErr result NotLink }
+    ensures some { IfOk result (λ n. 0 < n) }
+    ensures within { IfOk result (λ n. n ≤ sent) }
 {
     let results = match nfs_results::<WriteOk, WccData>(alloc, outcome) {
         Ok(results) => results,

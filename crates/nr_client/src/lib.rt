@@ -19,6 +19,7 @@ mod results;
 mod session;
 mod transfer;
 mod walking;
+mod write_file;
 
 pub use call_end::CallEnd;
 pub use client_end::{ClientEnd, RpcKind};

@@ -1,7 +1,7 @@
 //! A file is read into an output.
 
-ghost use Rattle.std.specs.Prelude.{◌≡◌, ◌<◌, ◌≤◌, ◌%◌, ◌-◌, OnOk, IfErr};
-ghost use Rattle.nr_client.specs.Reading.{OutputFaults, ReadsFile};
+ghost use Rattle.std.specs.Prelude.{◌≡◌, ◌<◌, ◌≤◌, ◌+◌, false, if◌then◌else◌, length, OnOk, IfErr};
+ghost use Rattle.nr_client.specs.Reading.{OutputFaults, ReadsFile, piece_left};
 ghost use Rattle.nr_client.specs.Requests.{SinkFaults, SourceFaults};
 ghost use Rattle.nr_client.specs.Transfers.{link_bytes};
 ghost use Rattle.nr_client.specs.private.FileSteps.{FailsToRead, ReadsOn};
@@ -14,8 +14,36 @@ use crate::file_results::read_in;
 use crate::link::Link;
 use crate::requests::getattr_call;
 use nr_nfs_base::{Attributes, Handle, TRANSFER_MAX};
+use nr_nfs_res::ReadOk;
 use nr_outside::{Sink, Source, write_whole};
 use std::alloc::Global;
+
+/// How many bytes a READ at this offset asks for.
+fn piece_left(size: u64, at: u64) -> u32
+    requires { at < size }
+    ensures is { result ≡ piece_left size at }
+    ensures some { 0 < result }
+    ensures within { at + result ≤ size }
+{
+    let piece = TRANSFER_MAX as u64;
+    (piece - at % piece).min(size - at) as u32
+}
+
+/// How far the next READ is after one of `count` bytes.
+fn advance(results: &ReadOk, count: u32) -> u32
+    requires some { 0 < count }
+    requires within { length results.now.bytes ≤ count }
+    requires sense { results.now.eof ≡ false → 0 < length results.now.bytes }
+    ensures is { result ≡ (if results.now.eof then count else length results.now.bytes) }
+    ensures some { 0 < result }
+    ensures within { result ≤ count }
+{
+    if results.eof {
+        count
+    } else {
+        results.bytes.as_slice().len() as u32
+    }
+}
 
 /// One READ, of what is left of its piece. Its data are written to the output.
 fn read_on<I: Source, O: Sink, K: Sink>(
@@ -42,31 +70,27 @@ fn read_on<I: Source, O: Sink, K: Sink>(
     ensures source_faults { SourceFaults result (I.faults link.old.source) (I.faults link.new.source) }
     ensures sink_faults { SinkFaults result (O.faults link.old.sink) (O.faults link.new.sink) }
 {
-    let piece = TRANSFER_MAX as u64;
-    let count = (piece - *at % piece).min(size - *at) as u32;
+    let count = piece_left(size, *at);
     let outcome = match outcome_of(link, read_call(alloc, uid, gid, file, *at, count)) {
         Ok(outcome) => outcome,
         Err(end) => return Err(end),
     };
-    let results = match read_in(alloc, &outcome, count) {
-        Ok(results) => results,
-        Err(end) => {
-            drop(outcome);
-            return Err(end);
-        }
-    };
+    let read = read_in(alloc, &outcome, count);
     drop(outcome);
-    let bytes = results.bytes.as_slice();
-    match write_whole(out, bytes) {
-        Ok(()) => {}
-        Err(_) => {
-            drop(results);
-            return Err(ClientEnd::OutputFault);
-        }
-    }
-    *at += if results.eof { count as u64 } else { bytes.len() as u64 };
+    let results = match read {
+        Ok(results) => results,
+        Err(end) => return Err(end),
+    };
+    let step = advance(&results, count);
+    let written = write_whole(out, results.bytes.as_slice());
     drop(results);
-    Ok(())
+    match written {
+        Ok(()) => {
+            *at += step as u64;
+            Ok(())
+        }
+        Err(_) => Err(ClientEnd::OutputFault),
+    }
 }
 
 /// Reads a file into an output.

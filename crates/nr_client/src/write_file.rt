@@ -1,14 +1,15 @@
 //! A file is written from an input.
 
-ghost use Rattle.std.specs.Prelude.{◌≡◌, ◌<◌, ◌≤◌, ◌⊎◌, List, ℕ, [], ◌++◌, length, take, drop, OnOk, IfErr, OnErr};
+ghost use Rattle.std.specs.Prelude.{Err, ◌≡◌, ◌<◌, ◌≤◌, ◌⊎◌, List, ℕ, [], ◌++◌, length, take, drop, OnOk, IfErr, OnErr};
 ghost use Rattle.nr_nfs_base.specs.Limits.{transfer_max};
+ghost use Rattle.nr_client.specs.declared.client_end.ClientEnd.TheVariants as client;
 ghost use Rattle.nr_outside.specs.Content.{HandsOut};
 ghost use Rattle.nr_client.specs.Following.{Follows};
 ghost use Rattle.nr_client.specs.Reading.{InputFaults};
-ghost use Rattle.nr_client.specs.Requests.{SinkFaults, SourceFaults};
+ghost use Rattle.nr_client.specs.Requests.{Asks, SinkFaults, SourceFaults};
 ghost use Rattle.nr_client.specs.Results.{IsOfCall};
 ghost use Rattle.nr_client.specs.Transfers.{link_bytes};
-ghost use Rattle.nr_client.specs.Writing.{WritesFile, writing};
+ghost use Rattle.nr_client.specs.Writing.{WritesFile, create_call, created_file, input_max, writing};
 ghost use Rattle.nr_client.specs.private.FileSteps.{FailsToWrite, IsComplete, IsEnough, WritesOn};
 
 use crate::answer::outcome_of;
@@ -31,7 +32,7 @@ fn read_input<N: Source>(input: &mut N, bytes: &mut Vec<u8>) -> Result<(), Clien
     ensures complete { OnOk result (IsComplete bytes.new.items (N.left input.new)) }
     ensures err { OnErr result ((handed : List ℕ) × HandsOut (N.left input.old) (N.given input.old) (N.left input.new) (N.given input.new) handed) }
     ensures faults { InputFaults result (N.faults input.old) (N.faults input.new) }
-    ensures cause { IfErr result (λ end. (end ≡ ClientEnd.InputFault) ⊎ (end ≡ ClientEnd.Memory)) }
+    ensures cause { IfErr result (λ end. (end ≡ client.InputFault) ⊎ (end ≡ client.Memory)) }
 {
     let mut chunk = [0u8; CHUNK];
     while bytes.len() <= INPUT_MAX {
@@ -131,7 +132,7 @@ fn write_bytes<I: Source, O: Sink>(
         (link_bytes (I.left link.new.source) (I.given link.new.source) (O.taken link.new.sink) link.new.read)
         link.old.requester link.new.requester result }
     ensures within { OnOk result (length bytes.now ≤ input_max) }
-    ensures beyond { (count : ℕ) → result ≡ Err (ClientEnd.Budget count) → input_max < length bytes.now }
+    ensures beyond { (count : ℕ) → result ≡ Err (client.Budget count) → input_max < length bytes.now }
     ensures faults { (count : ℕ) → InputFaults result count count }
     ensures source_faults { SourceFaults result (I.faults link.old.source) (I.faults link.new.source) }
     ensures sink_faults { SinkFaults result (O.faults link.old.sink) (O.faults link.new.sink) }
