@@ -95,6 +95,11 @@ follows_done {A} request outcomes b c h i result made is gives =
       ends = subst (λ (next : Next A). EndsWith next c c i i result) (sym is) (gives, (refl, refl));
     }
 
+-- the end in place of a value
+abbrev pub end_in : {A : Type 0} → Result A ClientEnd → ClientEnd
+end_in (Ok value) = client.Memory
+end_in (Err end) = end
+
 -- a request whose first call has an end in place of a value
 pub follows_asked : {A B : Type 0} (request : List Outcome → Next A) (reads : Outcome → Result B ClientEnd) (b c : LinkBytes) (h i : RequesterSide) (call : Call) (end : ClientEnd)
     → request [] ≡ Calls call → ((outcome : Outcome) → reads outcome ≡ Err end → request (outcome ∷ []) ≡ Returns (Err end))
@@ -107,22 +112,16 @@ follows_asked {A} {B} request reads b c h i call end is then (inr (inl (cause, (
       between = b;
       side = h;
       made = (refl, refl);
-      ends = subst (λ (next : Next A). EndsWith next b c h i (Err end)) (sym is) (client.Link cause, (ap (λ (e : ClientEnd). Err e) (end_is same), inl (cause, (refl, rest))));
+      ends = subst (λ (next : Next A). EndsWith next b c h i (Err end)) (sym is) (client.Link cause, (ap (λ (e : ClientEnd). Err e) (ap (end_in {A = B}) same), inl (cause, (refl, rest))));
     }
-  where
-    end_is : Err {A = B} end ≡ Err (client.Link cause) → end ≡ client.Link cause
-    end_is e = cc
 follows_asked {A} {B} request reads b c h i call end is then (inr (inr (same, rest))) =
     record {
       outcomes = [];
       between = b;
       side = h;
       made = (refl, refl);
-      ends = subst (λ (next : Next A). EndsWith next b c h i (Err end)) (sym is) (client.Memory, (ap (λ (e : ClientEnd). Err e) (end_is same), inr (refl, rest)));
+      ends = subst (λ (next : Next A). EndsWith next b c h i (Err end)) (sym is) (client.Memory, (ap (λ (e : ClientEnd). Err e) (ap (end_in {A = B}) same), inr (refl, rest)));
     }
-  where
-    end_is : Err {A = B} end ≡ Err client.Memory → end ≡ client.Memory
-    end_is e = cc
 
 -- a call, by another name for it
 pub answered_as : (call asked : Call) (outcome : Outcome) (b c : LinkBytes) (h i : RequesterSide) → call ≡ asked → Answers b c h i call outcome → Answers b c h i asked outcome
@@ -132,3 +131,13 @@ pub given_up_as : (call asked : Call) (cause : CallEnd) (b c : LinkBytes) (h i :
     → Unanswered asked b c h i (client.Link cause)
 given_up_as call asked cause b c h i same given_up is =
     inl (cause, (refl, (subst (λ (a : Call). GivesUp b c h i a cause) same given_up, subst (λ (a : Call). IsCause cause c.left c.read i a) same is)))
+
+-- a call whose outcome is read
+pub asks_by_answer : {A : Type 0} (reads : Outcome → Result A ClientEnd) (call : Call) (b c : LinkBytes) (h i : RequesterSide) (outcome : Outcome) (result : Result A ClientEnd)
+    → Answers b c h i call outcome → Gives result (reads outcome) → Asks reads call b c h i result
+asks_by_answer reads call b c h i outcome result answered gives = inl (outcome, (answered, gives))
+
+pub asks_by_end : (A : Type 0) (reads : Outcome → Result A ClientEnd) (call : Call) (b c : LinkBytes) (h i : RequesterSide) (end : ClientEnd)
+    → Unanswered call b c h i end → Asks {A = A} reads call b c h i (Err end)
+asks_by_end A reads call b c h i end (inl (cause, (is, rest))) = inr (inl (cause, (ap (λ (e : ClientEnd). Err e) is, rest)))
+asks_by_end A reads call b c h i end (inr (is, same)) = inr (inr (ap (λ (e : ClientEnd). Err e) is, same))

@@ -6,66 +6,66 @@ use Rattle.nr_client.specs.Reading.{InputFaults, OutputFaults}
 use Rattle.nr_client.specs.Requests.{SinkFaults, SourceFaults}
 use Rattle.nr_client.specs.Results.{IsOfCall, NotLink}
 
-pub source_faults_of : {A : Type 0} (B : Type 0) (end : ClientEnd) (before after : ℕ) → SourceFaults {A = A} (Err end) before after → SourceFaults {A = B} (Err end) before after
-source_faults_of B client.DialFault before after rises = rises
-source_faults_of B (client.Link end) before after rises = rises
-source_faults_of B (client.Rpc kind code) before after rises = rises
-source_faults_of B (client.Mount status) before after rises = rises
-source_faults_of B (client.Nfs status) before after rises = rises
-source_faults_of B client.Chunk before after rises = rises
-source_faults_of B (client.Version low high) before after rises = rises
-source_faults_of B (client.BadReply at reason) before after rises = rises
-source_faults_of B (client.BadPath at) before after rises = rises
-source_faults_of B client.InputFault before after rises = rises
-source_faults_of B client.OutputFault before after rises = rises
-source_faults_of B (client.Budget count) before after rises = rises
-source_faults_of B client.Memory before after rises = rises
+pub source_faults_of : (A B : Type 0) (end : ClientEnd) (before after : ℕ) → SourceFaults {A = A} (Err end) before after → SourceFaults {A = B} (Err end) before after
+source_faults_of A B client.DialFault before after rises = rises
+source_faults_of A B (client.Link end) before after rises = rises
+source_faults_of A B (client.Rpc kind code) before after rises = rises
+source_faults_of A B (client.Mount status) before after rises = rises
+source_faults_of A B (client.Nfs status) before after rises = rises
+source_faults_of A B client.Chunk before after rises = rises
+source_faults_of A B (client.Version low high) before after rises = rises
+source_faults_of A B (client.BadReply at reason) before after rises = rises
+source_faults_of A B (client.BadPath at) before after rises = rises
+source_faults_of A B client.InputFault before after rises = rises
+source_faults_of A B client.OutputFault before after rises = rises
+source_faults_of A B (client.Budget count) before after rises = rises
+source_faults_of A B client.Memory before after rises = rises
 
-pub sink_faults_of : {A : Type 0} (B : Type 0) (end : ClientEnd) (before after : ℕ) → SinkFaults {A = A} (Err end) before after → SinkFaults {A = B} (Err end) before after
-sink_faults_of B client.DialFault before after rises = rises
-sink_faults_of B (client.Link end) before after rises = rises
-sink_faults_of B (client.Rpc kind code) before after rises = rises
-sink_faults_of B (client.Mount status) before after rises = rises
-sink_faults_of B (client.Nfs status) before after rises = rises
-sink_faults_of B client.Chunk before after rises = rises
-sink_faults_of B (client.Version low high) before after rises = rises
-sink_faults_of B (client.BadReply at reason) before after rises = rises
-sink_faults_of B (client.BadPath at) before after rises = rises
-sink_faults_of B client.InputFault before after rises = rises
-sink_faults_of B client.OutputFault before after rises = rises
-sink_faults_of B (client.Budget count) before after rises = rises
-sink_faults_of B client.Memory before after rises = rises
+pub sink_faults_of : (A B : Type 0) (end : ClientEnd) (before after : ℕ) → SinkFaults {A = A} (Err end) before after → SinkFaults {A = B} (Err end) before after
+sink_faults_of A B client.DialFault before after rises = rises
+sink_faults_of A B (client.Link end) before after rises = rises
+sink_faults_of A B (client.Rpc kind code) before after rises = rises
+sink_faults_of A B (client.Mount status) before after rises = rises
+sink_faults_of A B (client.Nfs status) before after rises = rises
+sink_faults_of A B client.Chunk before after rises = rises
+sink_faults_of A B (client.Version low high) before after rises = rises
+sink_faults_of A B (client.BadReply at reason) before after rises = rises
+sink_faults_of A B (client.BadPath at) before after rises = rises
+sink_faults_of A B client.InputFault before after rises = rises
+sink_faults_of A B client.OutputFault before after rises = rises
+sink_faults_of A B (client.Budget count) before after rises = rises
+sink_faults_of A B client.Memory before after rises = rises
 
 -- an end of a call is none of the input or the output
 pub no_output_fault : (A : Type 0) (end : ClientEnd) (count : ℕ) → IsOfCall end → OutputFaults {A = A} (Err end) count count
-no_output_fault A client.DialFault count of_call = absurd of_call
-no_output_fault A (client.Link end) count of_call = refl
-no_output_fault A (client.Rpc kind code) count of_call = refl
-no_output_fault A (client.Mount status) count of_call = refl
-no_output_fault A (client.Nfs status) count of_call = refl
-no_output_fault A client.Chunk count of_call = refl
-no_output_fault A (client.Version low high) count of_call = refl
-no_output_fault A (client.BadReply at reason) count of_call = refl
-no_output_fault A (client.BadPath at) count of_call = absurd of_call
-no_output_fault A client.InputFault count of_call = absurd of_call
-no_output_fault A client.OutputFault count of_call = absurd of_call
-no_output_fault A (client.Budget count) count of_call = absurd of_call
-no_output_fault A client.Memory count of_call = refl
+no_output_fault A client.DialFault n of_call = absurd of_call
+no_output_fault A (client.Link end) n of_call = refl
+no_output_fault A (client.Rpc kind code) n of_call = refl
+no_output_fault A (client.Mount status) n of_call = refl
+no_output_fault A (client.Nfs status) n of_call = refl
+no_output_fault A client.Chunk n of_call = refl
+no_output_fault A (client.Version low high) n of_call = refl
+no_output_fault A (client.BadReply at reason) n of_call = refl
+no_output_fault A (client.BadPath at) n of_call = absurd of_call
+no_output_fault A client.InputFault n of_call = absurd of_call
+no_output_fault A client.OutputFault n of_call = absurd of_call
+no_output_fault A (client.Budget count) n of_call = absurd of_call
+no_output_fault A client.Memory n of_call = refl
 
 pub no_input_fault : (A : Type 0) (end : ClientEnd) (count : ℕ) → IsOfCall end → InputFaults {A = A} (Err end) count count
-no_input_fault A client.DialFault count of_call = absurd of_call
-no_input_fault A (client.Link end) count of_call = refl
-no_input_fault A (client.Rpc kind code) count of_call = refl
-no_input_fault A (client.Mount status) count of_call = refl
-no_input_fault A (client.Nfs status) count of_call = refl
-no_input_fault A client.Chunk count of_call = refl
-no_input_fault A (client.Version low high) count of_call = refl
-no_input_fault A (client.BadReply at reason) count of_call = refl
-no_input_fault A (client.BadPath at) count of_call = absurd of_call
-no_input_fault A client.InputFault count of_call = absurd of_call
-no_input_fault A client.OutputFault count of_call = absurd of_call
-no_input_fault A (client.Budget count) count of_call = absurd of_call
-no_input_fault A client.Memory count of_call = refl
+no_input_fault A client.DialFault n of_call = absurd of_call
+no_input_fault A (client.Link end) n of_call = refl
+no_input_fault A (client.Rpc kind code) n of_call = refl
+no_input_fault A (client.Mount status) n of_call = refl
+no_input_fault A (client.Nfs status) n of_call = refl
+no_input_fault A client.Chunk n of_call = refl
+no_input_fault A (client.Version low high) n of_call = refl
+no_input_fault A (client.BadReply at reason) n of_call = refl
+no_input_fault A (client.BadPath at) n of_call = absurd of_call
+no_input_fault A client.InputFault n of_call = absurd of_call
+no_input_fault A client.OutputFault n of_call = absurd of_call
+no_input_fault A (client.Budget count) n of_call = absurd of_call
+no_input_fault A client.Memory n of_call = refl
 
 -- an end of a reply is one of its call
 pub of_call : (end : ClientEnd) → NotLink end → IsOfCall end

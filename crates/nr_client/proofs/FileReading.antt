@@ -21,7 +21,7 @@ use Rattle.nr_client.specs.Requests.{Asks, getattr_call, getattr_result}
 use Rattle.nr_client.specs.Results.{Gives}
 use Rattle.nr_client.specs.Transfers.{LinkBytes}
 use Rattle.nr_client.specs.private.FileSteps.{FailsToRead, ReadsOn}
-use Rattle.nr_client.proofs.CallsMade.{calls_more, end_of_reply, memory_ends}
+use Rattle.nr_client.proofs.CallsMade.{calls_more, end_in, end_of_reply, memory_ends}
 
 -- the size is known, and these bytes came and were written
 pub record ReadSoFar (uid gid : ℕ) (file : List ℕ) (b c : LinkBytes) (h i : RequesterSide) (taken taken' : Option (List ℕ)) (size at : ℕ) : Type 0 where
@@ -229,7 +229,7 @@ size_failed uid gid file b c h i t end (inr (inl (cause, (is, rest)))) =
       between = b;
       side = h;
       made = (refl, refl);
-      ends = inl ((client.Link cause, (is, inl (cause, (refl, rest)))), inl (Appends-nil t));
+      ends = inl ((client.Link cause, (ap (λ (e : ClientEnd). Err e) (ap (end_in {A = Attributes}) is), inl (cause, (refl, rest)))), inl (Appends-nil t));
     }
 size_failed uid gid file b c h i t end (inr (inr (is, rest))) =
     record {
@@ -237,7 +237,7 @@ size_failed uid gid file b c h i t end (inr (inr (is, rest))) =
       between = b;
       side = h;
       made = (refl, refl);
-      ends = inl ((client.Memory, (is, inr (refl, rest))), inl (Appends-nil t));
+      ends = inl ((client.Memory, (ap (λ (e : ClientEnd). Err e) (ap (end_in {A = Attributes}) is), inr (refl, rest))), inl (Appends-nil t));
     }
 
 -- ---- One READ, by the count that it asks for

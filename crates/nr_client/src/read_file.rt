@@ -75,22 +75,26 @@ fn read_on<I: Source, O: Sink, K: Sink>(
         Ok(outcome) => outcome,
         Err(end) => return Err(end),
     };
-    let read = read_in(alloc, &outcome, count);
-    drop(outcome);
-    let results = match read {
+    let results = match read_in(alloc, &outcome, count) {
         Ok(results) => results,
-        Err(end) => return Err(end),
-    };
-    let step = advance(&results, count);
-    let written = write_whole(out, results.bytes.as_slice());
-    drop(results);
-    match written {
-        Ok(()) => {
-            *at += step as u64;
-            Ok(())
+        Err(end) => {
+            drop(outcome);
+            return Err(end);
         }
-        Err(_) => Err(ClientEnd::OutputFault),
+    };
+    drop(outcome);
+    let step = advance(&results, count);
+    let bytes = results.bytes.as_slice();
+    match write_whole(out, bytes) {
+        Ok(()) => {}
+        Err(_) => {
+            drop(results);
+            return Err(ClientEnd::OutputFault);
+        }
     }
+    drop(results);
+    *at += step as u64;
+    Ok(())
 }
 
 /// Reads a file into an output.

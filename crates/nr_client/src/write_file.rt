@@ -51,6 +51,18 @@ fn read_input<N: Source>(input: &mut N, bytes: &mut Vec<u8>) -> Result<(), Clien
     Ok(())
 }
 
+/// The first bytes, at most `max`.
+fn front(bytes: &[u8], max: usize) -> &[u8]
+    ensures is { result.now ≡ take max bytes.now }
+    ensures within { length result.now ≤ max }
+{
+    if bytes.len() <= max {
+        return bytes;
+    }
+    let (front, _) = bytes.split_at(max);
+    front
+}
+
 /// One WRITE, of the next bytes, as many as it moves.
 fn write_on<I: Source, O: Sink>(
     alloc: Global,
@@ -76,21 +88,22 @@ fn write_on<I: Source, O: Sink>(
     ensures source_faults { SourceFaults result (I.faults link.old.source) (I.faults link.new.source) }
     ensures sink_faults { SinkFaults result (O.faults link.old.sink) (O.faults link.new.sink) }
 {
-    let count = (bytes.len() - *at).min(TRANSFER_MAX as usize);
-    let piece = &bytes[*at..*at + count];
+    let (_, rest) = bytes.split_at(*at);
+    let piece = front(rest, TRANSFER_MAX as usize);
     let outcome = match outcome_of(link, write_call(alloc, uid, gid, file, *at as u64, piece)) {
         Ok(outcome) => outcome,
         Err(end) => return Err(end),
     };
-    let written = written_in(alloc, &outcome, count as u32);
-    drop(outcome);
-    match written {
-        Ok(written) => {
-            *at += written as usize;
-            Ok(())
+    let written = match written_in(alloc, &outcome, piece.len() as u32) {
+        Ok(written) => written,
+        Err(end) => {
+            drop(outcome);
+            return Err(end);
         }
-        Err(end) => Err(end),
-    }
+    };
+    drop(outcome);
+    *at += written as usize;
+    Ok(())
 }
 
 /// CREATE of a name: the handle of the file.
@@ -141,7 +154,7 @@ fn write_bytes<I: Source, O: Sink>(
         Ok(file) => file,
         Err(end) => return Err(end),
     };
-    let kept = &bytes[..bytes.len().min(INPUT_MAX)];
+    let kept = front(bytes, INPUT_MAX);
     let mut at = 0;
     while at < kept.len() {
         match write_on(alloc, link, uid, gid, &file, kept, &mut at) {
