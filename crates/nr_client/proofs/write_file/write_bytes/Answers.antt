@@ -16,7 +16,7 @@ loop-at-preserved g c =
     let (within, so_far, sources, sinks) = c.loop-at.invariant in (
       c.in-Ok-write_on.ensures.within,
       λ b h input same first. step_by c.args.uid c.args.gid c.args.dir.now c.args.name.now input _ b (link_bytes (g.I.Source.left c.loop-at.link.source) (g.I.Source.given c.loop-at.link.source) (g.O.Sink.taken c.loop-at.link.sink) c.loop-at.link.read) (link_bytes (g.I.Source.left c.write_on.new.link.source) (g.I.Source.given c.write_on.new.link.source) (g.O.Sink.taken c.write_on.new.link.sink) c.write_on.new.link.read)
-      h c.loop-at.link.requester c.write_on.new.link.requester _ c.loop-at.at c.write_on.new.at same c.loop-at-test.true (so_far b h input same first) c.in-Ok-write_on.ensures.ok,
+          h c.loop-at.link.requester c.write_on.new.link.requester _ c.loop-at.at c.write_on.new.at same c.loop-at-test.true (so_far b h input same first) c.in-Ok-write_on.ensures.ok,
       c.in-Ok-write_on.ensures.source_faults ∙ sources,
       c.in-Ok-write_on.ensures.sink_faults ∙ sinks,
     )
