@@ -176,6 +176,15 @@ file_written uid gid dir name b c h i left given left' given' bytes result hands
       calls = inl (follows (known_rest left') (enough bytes left' complete));
     }
 
+pub file_written_by : (uid gid : ℕ) (dir name : List ℕ) (b c : LinkBytes) (h i : RequesterSide) (left given left' given' : Option (List ℕ)) (seen bytes : List ℕ) (result : Result (Unit {0}) ClientEnd)
+    → seen ≡ bytes → HandsOut left given left' given' bytes → IsComplete bytes left'
+    → ((rest : List ℕ) → IsEnough seen rest → Follows (writing uid gid dir name (seen ++ rest)) b c h i result)
+    → OnOk result (length seen ≤ input_max) → ((count : ℕ) → result ≡ Err (client.Budget count) → input_max < length seen)
+    → WritesFile uid gid dir name b c h i left given left' given' result
+file_written_by uid gid dir name b c h i left given left' given' seen bytes result same hands complete follows within beyond =
+    file_written uid gid dir name b c h i left given left' given' seen result
+    (subst (λ (l : List ℕ). HandsOut left given left' given' l) (sym same) hands) (subst (λ (l : List ℕ). IsComplete l left') (sym same) complete) follows within beyond
+
 -- the input was not read
 pub input_failed : (uid gid : ℕ) (dir name : List ℕ) (b : LinkBytes) (h : RequesterSide) (left given left' given' : Option (List ℕ)) (end : ClientEnd)
     → (handed : List ℕ) × HandsOut left given left' given' handed → (end ≡ client.InputFault) ⊎ (end ≡ client.Memory)
