@@ -1,4 +1,5 @@
 pub mod Answering
+pub mod Listings
 pub mod Moves
 pub mod Outcomes
 pub mod Pieces
@@ -6,3 +7,4 @@ pub mod Refusals
 pub mod Sequences
 pub mod Turns
 pub mod Unanswered
+pub mod Walks

@@ -11,7 +11,7 @@ use Rattle.nr_client.specs.Requests.{Asks}
 use Rattle.nr_client.specs.Results.{Gives}
 use Rattle.nr_client.specs.Transfers.{LinkBytes}
 
-gives_itself : {A : Type 0} (end : ClientEnd) → Gives {A = A} (Err end) (Err end)
+pub gives_itself : {A : Type 0} (end : ClientEnd) → Gives {A = A} (Err end) (Err end)
 gives_itself client.DialFault = refl
 gives_itself (client.Link end) = refl
 gives_itself (client.Rpc kind code) = refl
@@ -26,7 +26,7 @@ gives_itself client.OutputFault = refl
 gives_itself (client.Budget count) = refl
 gives_itself client.Memory = tt
 
-given_end : {A : Type 0} (end : ClientEnd) (read : Result A ClientEnd) → Gives (Err end) read → (end ≡ client.Memory) ⊎ (read ≡ Err end)
+pub given_end : {A : Type 0} (end : ClientEnd) (read : Result A ClientEnd) → Gives (Err end) read → (end ≡ client.Memory) ⊎ (read ≡ Err end)
 given_end client.DialFault read gives = inr gives
 given_end (client.Link end) read gives = inr gives
 given_end (client.Rpc kind code) read gives = inr gives
@@ -116,3 +116,9 @@ ends_there {A} {B} request call reads next end b c h i first later (inr (inr (is
   made = (refl, refl);
   ends = subst (λ (n : Next A). EndsWith n b c h i (Err end)) (sym first) (end, (refl, inr (ap (λ (r : Result B ClientEnd). end_of r) is, same)));
 }
+
+-- ---- What is left of a request
+
+-- However what is left of a request ends, the request as a whole ends so.
+abbrev pub LeadsTo : {A : Type 0} → (whole : List Outcome → Next A) (b : LinkBytes) (h : RequesterSide) (rest : List Outcome → Next A) (c : LinkBytes) (i : RequesterSide) → Type 0
+LeadsTo {A} whole b h rest c i = (d : LinkBytes) (j : RequesterSide) (result : Result A ClientEnd) → Follows rest c d i j result → Follows whole b d h j result
