@@ -70,7 +70,7 @@ after_name names name (Ok others) = ap (λ (all : List (List ℕ)). Ok all) (sym
 after_name names name (Err end) = refl
 
 module _ (path : List ℕ) (at end : ℕ) (is : end ≡ at + piece_length (drop at path)) (inside : end ≤ length path) where
-  n : ℕ
+  abbrev n : ℕ
   n = piece_length (drop at path)
 
   len : length (take n (drop at path)) ≡ n
