@@ -3,6 +3,7 @@ pub mod CallsMade
 pub mod EndFaults
 pub mod FileReading
 pub mod FileWriting
+pub mod Listings
 pub mod Moves
 pub mod Outcomes
 pub mod Pieces
@@ -10,3 +11,4 @@ pub mod Refusals
 pub mod Sequences
 pub mod Turns
 pub mod Unanswered
+pub mod Walks
