@@ -1,4 +1,8 @@
 pub mod Answering
+pub mod CallsMade
+pub mod EndFaults
+pub mod FileReading
+pub mod FileWriting
 pub mod Listings
 pub mod Moves
 pub mod Outcomes
