@@ -1,6 +1,6 @@
 -- Requests along a path, name after name.
-use Rattle.std.proofs.Common.{◌≡◌, ◌⊎◌, ℕ, ◌+◌, ◌-◌, ◌<◌, ◌≤◌, List, [], ◌∷◌, ◌++◌, length, take, drop, get_or, Result, Ok, Err, inl, inr, arith, refl, sym, ap, subst, ◌∙◌}
-use Rattle.std.proofs.lemmas.List.{drop_all, drop_more, take_all, take_more}
+use Rattle.std.proofs.Common.{◌≡◌, ◌⊎◌, ℕ, zero, suc, ◌+◌, ◌-◌, ◌<◌, ◌≤◌, List, [], ◌∷◌, ◌++◌, length, take, drop, get_or, Result, Ok, Err, inl, inr, arith, refl, sym, ap, subst, ◌∙◌}
+use Rattle.std.proofs.lemmas.List.{drop_all, drop_more, get_or-drop, take_all, take_more}
 use Rattle.nr_nfs_res.specs.declared.lookup.LookupOk.{LookupOk}
 use Rattle.nr_reduce.specs.declared.call.Call.{Call}
 use Rattle.nr_reduce.specs.declared.call.Outcome.{Outcome}
@@ -157,3 +157,12 @@ parent_of uid gid at dir names n front last b c h i result len before is walked 
     let whole : names ≡ take n names ++ get_or names n last ∷ [] = sym (take_all (n + 1) names (omega (arith, len))) ∙ take_more names n last (omega (arith, len)) in
     let parts : names ≡ front ++ last ∷ [] = whole ∙ (λ k. sym before k ++ sym is k ∷ []) in
     subst (λ (ns : List (List ℕ)). Follows (parent_along uid gid dir at ns) b c h i (beside last result)) (sym parts) (parent_follows uid gid at last front dir b c h i result walked)
+
+pub one_less : (n : ℕ) → (n ≡ 0 → ⊥) → n - 1 + 1 ≡ n
+one_less zero some = absurd (some refl)
+one_less (suc n) some = omega arith
+
+pub last_is : (names : List (List ℕ)) (n : ℕ) (back : List (List ℕ)) (last : List ℕ) → back ≡ drop n names → last ≡ get_or back 0 last → last ≡ get_or names n last
+last_is names n back last behind is =
+    let same : n + 0 ≡ n = omega arith in
+    is ∙ ap (λ (ns : List (List ℕ)). get_or ns 0 last) behind ∙ get_or-drop n names 0 last ∙ ap (λ (k : ℕ). get_or names k last) same
