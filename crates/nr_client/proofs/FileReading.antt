@@ -153,14 +153,14 @@ fails_answered uid gid file b c d h i j t u v size at end outcome below so_far a
         → EndsWith (reading uid gid file (so_far.outcomes ++ outcome ∷ [])) d d j j (Err end) × TakesRead (Err end) (so_far.outcomes ++ outcome ∷ []) t v
     by (inl memory) = (
       subst (λ (e : ClientEnd). EndsWith (reading uid gid file (so_far.outcomes ++ outcome ∷ [])) d d j j (Err e)) (sym memory)
-      (memory_ends (reading uid gid file (so_far.outcomes ++ outcome ∷ [])) d j),
+          (memory_ends (reading uid gid file (so_far.outcomes ++ outcome ∷ [])) d j),
       inr (ap (λ (e : ClientEnd). Err e) memory, (so_far.outcomes, outcome, (refl, takes_bytes so_far.outcomes (SizeKnown size at so_far.bytes) t v so_far.state all))),
     )
     by (inr (reads, same)) =
-      let came = came_with uid gid file b c h i t u size at outcome (Err end) so_far reads in (
-        ends_by uid gid file (so_far.outcomes ++ outcome ∷ []) (ReadEnds end so_far.bytes) d d j j (Err end) came (same, (refl, refl)),
-        inl (takes_bytes (so_far.outcomes ++ outcome ∷ []) (ReadEnds end so_far.bytes) t v came all),
-      )
+        let came = came_with uid gid file b c h i t u size at outcome (Err end) so_far reads in (
+          ends_by uid gid file (so_far.outcomes ++ outcome ∷ []) (ReadEnds end so_far.bytes) d d j j (Err end) came (same, (refl, refl)),
+          inl (takes_bytes (so_far.outcomes ++ outcome ∷ []) (ReadEnds end so_far.bytes) t v came all),
+        )
 
 -- the output failed
 fails_outside : (uid gid : ℕ) (file : List ℕ) (b c d : LinkBytes) (h i j : RequesterSide) (t u v : Option (List ℕ)) (size at : ℕ) (outcome : Outcome) (results : ReadOk) (n : ℕ)
@@ -184,11 +184,27 @@ fails_outside uid gid file b c d h i j t u v size at outcome results n below so_
       between = d;
       side = j;
       made = made_more uid gid file b c d h i j t u size at outcome below so_far answered;
-      ends = inr (refl, (
-        (refl, refl),
-        (so_far.outcomes, outcome, length before + n, (refl, (from, (within,
-        subst (λ (l : List ℕ). Appends t v l) (sym cut) (Appends-trans t u v before (take n results.bytes) so_far.appends part))))),
-      ));
+      ends = inr (
+        refl,
+        (
+          (refl, refl),
+          (
+            so_far.outcomes,
+            outcome,
+            length before + n,
+            (
+              refl,
+              (
+                from,
+                (
+                  within,
+                  subst (λ (l : List ℕ). Appends t v l) (sym cut) (Appends-trans t u v before (take n results.bytes) so_far.appends part),
+                ),
+              ),
+            ),
+          ),
+        ),
+      );
     }
 
 pub read_failed : (uid gid : ℕ) (file : List ℕ) (b c d : LinkBytes) (h i j : RequesterSide) (t u v : Option (List ℕ)) (size at : ℕ) (end : ClientEnd)
@@ -264,16 +280,27 @@ pub read_answered : (uid gid : ℕ) (file : List ℕ) (size at count : ℕ) (b c
     → count ≡ piece_left size at → Answers b c h i (read_call uid gid file at count) outcome → Gives {A = ReadOk} (Err end) (read_result count outcome)
     → FailsToRead uid gid file size at b c h i t t end
 read_answered uid gid file size at count b c h i t end outcome same answered gives =
-    inr (inl (outcome, (
-      subst (λ (n : ℕ). Answers b c h i (read_call uid gid file at n) outcome) same answered,
-      (subst (λ (n : ℕ). Gives {A = ReadOk} (Err end) (read_result n outcome)) same gives, Appends-nil t),
-    )))
+    inr (inl (
+      outcome,
+      (
+        subst (λ (n : ℕ). Answers b c h i (read_call uid gid file at n) outcome) same answered,
+        (subst (λ (n : ℕ). Gives {A = ReadOk} (Err end) (read_result n outcome)) same gives, Appends-nil t),
+      ),
+    ))
 
 pub output_failed : (uid gid : ℕ) (file : List ℕ) (size at count : ℕ) (b c : LinkBytes) (h i : RequesterSide) (t u : Option (List ℕ)) (outcome : Outcome) (results : ReadOk)
     → count ≡ piece_left size at → Answers b c h i (read_call uid gid file at count) outcome → read_result count outcome ≡ Ok results
     → ((n : ℕ) × (n < length results.bytes) × Appends t u (take n results.bytes)) → FailsToRead uid gid file size at b c h i t u client.OutputFault
 output_failed uid gid file size at count b c h i t u outcome results same answered reads (n, short, part) =
-    inr (inr (refl, (outcome, results, n, (
-      subst (λ (k : ℕ). Answers b c h i (read_call uid gid file at k) outcome) same answered,
-      (subst (λ (k : ℕ). read_result k outcome ≡ Ok results) same reads, (short, part)),
-    ))))
+    inr (inr (
+      refl,
+      (
+        outcome,
+        results,
+        n,
+        (
+          subst (λ (k : ℕ). Answers b c h i (read_call uid gid file at k) outcome) same answered,
+          (subst (λ (k : ℕ). read_result k outcome ≡ Ok results) same reads, (short, part)),
+        ),
+      ),
+    ))

@@ -80,7 +80,7 @@ write_stepped uid gid dir name input b c d h i j file bytes at at' below same so
     record {
       outcomes = so_far.outcomes ++ on.outcome ∷ [];
       made = calls_more (writing uid gid dir name input) so_far.outcomes b c d h i j (write_call uid gid file at bytes) on.outcome so_far.made
-        (next_call uid gid dir name input b c h i file bytes at below same so_far) on.answered;
+          (next_call uid gid dir name input b c h i file bytes at below same so_far) on.answered;
       state = counted uid gid dir name input b c h i file bytes at on.outcome (Ok on.count) same so_far on.reads ∙ ap (Created file) (sym on.offset);
     }
 
@@ -175,6 +175,15 @@ file_written uid gid dir name b c h i left given left' given' bytes result hands
       is_read = is_read result bytes (known_rest left') within beyond (enough bytes left' complete);
       calls = inl (follows (known_rest left') (enough bytes left' complete));
     }
+
+pub file_written_by : (uid gid : ℕ) (dir name : List ℕ) (b c : LinkBytes) (h i : RequesterSide) (left given left' given' : Option (List ℕ)) (seen bytes : List ℕ) (result : Result (Unit {0}) ClientEnd)
+    → seen ≡ bytes → HandsOut left given left' given' bytes → IsComplete bytes left'
+    → ((rest : List ℕ) → IsEnough seen rest → Follows (writing uid gid dir name (seen ++ rest)) b c h i result)
+    → OnOk result (length seen ≤ input_max) → ((count : ℕ) → result ≡ Err (client.Budget count) → input_max < length seen)
+    → WritesFile uid gid dir name b c h i left given left' given' result
+file_written_by uid gid dir name b c h i left given left' given' seen bytes result same hands complete follows within beyond =
+    file_written uid gid dir name b c h i left given left' given' seen result
+    (subst (λ (l : List ℕ). HandsOut left given left' given' l) (sym same) hands) (subst (λ (l : List ℕ). IsComplete l left') (sym same) complete) follows within beyond
 
 -- the input was not read
 pub input_failed : (uid gid : ℕ) (dir name : List ℕ) (b : LinkBytes) (h : RequesterSide) (left given left' given' : Option (List ℕ)) (end : ClientEnd)
@@ -279,10 +288,13 @@ pub write_answered : (uid gid : ℕ) (file piece bytes : List ℕ) (at : ℕ) (b
     → piece ≡ bytes → Answers b c h i (write_call uid gid file at piece) outcome → Gives {A = ℕ} (Err end) (write_result (length piece) outcome)
     → FailsToWrite uid gid file bytes at b c h i end
 write_answered uid gid file piece bytes at b c h i end outcome same answered gives =
-    inr (outcome, (
-      subst (λ (l : List ℕ). Answers b c h i (write_call uid gid file at l) outcome) same answered,
-      subst (λ (l : List ℕ). Gives {A = ℕ} (Err end) (write_result (length l) outcome)) same gives,
-    ))
+    inr (
+      outcome,
+      (
+        subst (λ (l : List ℕ). Answers b c h i (write_call uid gid file at l) outcome) same answered,
+        subst (λ (l : List ℕ). Gives {A = ℕ} (Err end) (write_result (length l) outcome)) same gives,
+      ),
+    )
 
 -- a count of what was sent stays within the bytes
 pub count_within : (bytes piece : List ℕ) (at count : ℕ) → at < length bytes → piece ≡ take transfer_max (drop at bytes) → count ≤ length piece → at + count ≤ length bytes

@@ -142,4 +142,4 @@ pub record WritesFile (uid gid : ℕ) (dir name : List ℕ) (b b' : LinkBytes) (
   pub is_rest : IfSome left' (λ known. rest ≡ known)
   pub is_read : IsRead result handed rest
   pub calls : Follows (writing uid gid dir name (handed ++ rest)) b b' h h' result
-    ⊎ ((result ≡ Err client.InputFault) × ((outcomes : List Outcome) × MakesCalls (writing uid gid dir name (handed ++ rest)) outcomes b b' h h'))
+      ⊎ ((result ≡ Err client.InputFault) × ((outcomes : List Outcome) × MakesCalls (writing uid gid dir name (handed ++ rest)) outcomes b b' h h'))

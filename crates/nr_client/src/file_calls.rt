@@ -45,7 +45,8 @@ pub(crate) fn read_call(
         file,
         offset,
         count,
-    }.write(alloc)?;
+    }
+    .write(alloc)?;
     client_call(alloc, (NFS_PROGRAM, NFS_VERSION, READ), uid, gid, args)
 }
 

@@ -26,12 +26,7 @@ fn results_offset(outcome: &Outcome) -> usize
             let payload = payload.as_slice();
             let _len = payload.len();
             match read_reply(payload) {
-                Ok(
-                    ReplyHead::Accepted {
-                        results_at,
-                        ..
-                    },
-                ) => results_at,
+                Ok(ReplyHead::Accepted { results_at, .. }) => results_at,
                 _ => 0,
             }
         }
@@ -89,7 +84,12 @@ pub(crate) fn created_in(alloc: Global, outcome: &Outcome) -> Result<Handle, Cli
     ensures no_link { IfErr result NotLink }
 {
     match nfs_results::<CreateOk, WccData>(alloc, outcome) {
-        Ok(CreateOk { object: Some(handle), .. }) => Ok(handle),
+        Ok(
+            CreateOk {
+                object: Some(handle),
+                ..
+            },
+        ) => Ok(handle),
         Ok(CreateOk { object: None, .. }) => Err(ClientEnd::BadReply {
             at: results_offset(outcome) + 4,
             reason: NO_PROGRESS,

@@ -63,6 +63,16 @@ fn front(bytes: &[u8], max: usize) -> &[u8]
     front
 }
 
+/// The bytes that a WRITE sends.
+fn next_piece(bytes: &[u8], at: usize) -> &[u8]
+    requires { at ≤ length bytes.now }
+    ensures is { result.now ≡ take transfer_max (drop at bytes.now) }
+    ensures within { length result.now ≤ transfer_max }
+{
+    let (_, rest) = bytes.split_at(at);
+    front(rest, TRANSFER_MAX as usize)
+}
+
 /// One WRITE, of the next bytes, as many as it moves.
 fn write_on<I: Source, O: Sink>(
     alloc: Global,
@@ -88,8 +98,7 @@ fn write_on<I: Source, O: Sink>(
     ensures source_faults { SourceFaults result (I.faults link.old.source) (I.faults link.new.source) }
     ensures sink_faults { SinkFaults result (O.faults link.old.sink) (O.faults link.new.sink) }
 {
-    let (_, rest) = bytes.split_at(*at);
-    let piece = front(rest, TRANSFER_MAX as usize);
+    let piece = next_piece(bytes, *at);
     let outcome = match outcome_of(link, write_call(alloc, uid, gid, file, *at as u64, piece)) {
         Ok(outcome) => outcome,
         Err(end) => return Err(end),

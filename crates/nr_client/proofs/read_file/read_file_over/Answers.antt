@@ -20,8 +20,8 @@ pub loop-at-preserved : goal.loop-at-preserved
 loop-at-preserved g c =
     let (so_far, sources, sinks, outs) = c.loop-at.invariant in (
       λ b h t first. read_stepped c.args.uid c.args.gid c.args.file.now b (link_bytes (g.I.Source.left c.loop-at.link.source) (g.I.Source.given c.loop-at.link.source) (g.O.Sink.taken c.loop-at.link.sink) c.loop-at.link.read) (link_bytes (g.I.Source.left c.read_on.new.link.source) (g.I.Source.given c.read_on.new.link.source) (g.O.Sink.taken c.read_on.new.link.sink) c.read_on.new.link.read)
-      h c.loop-at.link.requester c.read_on.new.link.requester t (g.K.Sink.taken c.loop-at.out) (g.K.Sink.taken c.read_on.new.out)
-      c.in-Ok.attributes.size c.loop-at.at c.read_on.new.at c.loop-at-test.true (so_far b h t first) c.in-Ok-read_on.ensures.ok,
+          h c.loop-at.link.requester c.read_on.new.link.requester t (g.K.Sink.taken c.loop-at.out) (g.K.Sink.taken c.read_on.new.out)
+          c.in-Ok.attributes.size c.loop-at.at c.read_on.new.at c.loop-at-test.true (so_far b h t first) c.in-Ok-read_on.ensures.ok,
       c.in-Ok-read_on.ensures.source_faults ∙ sources,
       c.in-Ok-read_on.ensures.sink_faults ∙ sinks,
       c.in-Ok-read_on.ensures.out_faults ∙ outs,
