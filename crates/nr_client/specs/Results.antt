@@ -82,3 +82,8 @@ NotLink end = ⊤
 abbrev pub IsOfCall : ClientEnd → Type 0
 IsOfCall (client.Link end) = ⊤
 IsOfCall end = NotLink end
+
+-- an end at which no fault count of the link rises
+abbrev pub KeepsCounts : ClientEnd → Type 0
+KeepsCounts (client.Link end) = ⊥
+KeepsCounts end = ⊤
