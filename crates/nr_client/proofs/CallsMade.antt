@@ -46,15 +46,6 @@ end_of_reply B client.OutputFault read gives = inr (gives, refl)
 end_of_reply B (client.Budget count) read gives = inr (gives, refl)
 end_of_reply B client.Memory read gives = inl refl
 
--- an end stays as it is in what is made of the values
-pub gives_on : {A B : Type 0} (make : Result A ClientEnd → Result B ClientEnd) (end : ClientEnd) (read : Result A ClientEnd) → make (Err end) ≡ Err end
-    → Gives {A = A} (Err end) read → Gives {A = B} (Err end) (make read)
-gives_on {A} {B} make end read kept gives = by (end_of_reply {A = A} B end read gives)
-  where
-    by : (end ≡ client.Memory) ⊎ ((read ≡ Err end) × Gives {A = B} (Err end) (Err end)) → Gives {A = B} (Err end) (make read)
-    by (inl memory) = subst (λ (e : ClientEnd). Gives {A = B} (Err e) (make read)) (sym memory) tt
-    by (inr (is, same)) = subst (λ (r : Result A ClientEnd). Gives {A = B} (Err end) (make r)) (sym is) (subst (λ (r : Result B ClientEnd). Gives {A = B} (Err end) r) (sym kept) same)
-
 -- a request whose next call has no answer
 pub follows_unanswered : {A : Type 0} (request : List Outcome → Next A) (outcomes : List Outcome) (b c d : LinkBytes) (h i j : RequesterSide) (call : Call) (end : ClientEnd)
     → MakesCalls request outcomes b c h i → request outcomes ≡ Calls call → Unanswered call c d i j end → Follows request b d h j (Err end)

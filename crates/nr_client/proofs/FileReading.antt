@@ -1,5 +1,5 @@
 -- A file is read, one READ after another.
-use Rattle.std.proofs.Common.{◌≡◌, ℕ, ◌+◌, ◌<◌, ◌≤◌, nat_lt, if◌then◌else◌, List, [], ◌∷◌, ◌++◌, length, take, Option, Result, Ok, Err, inl, inr, ◌⊎◌, arith, refl, sym, ap, subst, ◌∙◌, append-nil}
+use Rattle.std.proofs.Common.{◌≡◌, ℕ, ◌+◌, ◌<◌, ◌≤◌, if◌then◌else◌, List, [], ◌∷◌, ◌++◌, length, take, Option, Result, Ok, Err, inl, inr, ◌⊎◌, arith, refl, sym, ap, subst, ◌∙◌, append-nil}
 use Rattle.std.proofs.lemmas.Bool.{lt-ltb, le-ltb}
 use Rattle.std.proofs.lemmas.List.{length-append}
 use Rattle.std.proofs.lemmas.List.Sums.{fold-append}
@@ -15,7 +15,7 @@ use Rattle.nr_client.specs.declared.client_end.ClientEnd.TheVariants as client
 use Rattle.nr_client.specs.Calls.{Answers}
 use Rattle.nr_client.specs.Following.{EndsWith, MakesCalls, Next, Unanswered}
 use Rattle.nr_client.specs.Following.Next.{Calls, Returns}
-use Rattle.nr_client.specs.Reading.{EndsReading, FileRead, ReadsFile, TakesRead, after_reply, bytes_of, bytes_read, file_read, next_read, offset_after, piece_left, read_call, read_result, reading, with_data, with_size}
+use Rattle.nr_client.specs.Reading.{FileRead, ReadsFile, TakesRead, after_reply, bytes_of, bytes_read, file_read, next_read, piece_left, read_call, read_result, reading, with_data, with_size}
 use Rattle.nr_client.specs.Reading.FileRead.{NothingKnown, SizeKnown, ReadEnds}
 use Rattle.nr_client.specs.Requests.{Asks, getattr_call, getattr_result}
 use Rattle.nr_client.specs.Results.{Gives}

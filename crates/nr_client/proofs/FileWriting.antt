@@ -7,19 +7,18 @@ use Rattle.std.proofs.KnownBytes.{Appends-kept, Consumes-kept}
 use Rattle.std.specs.Io.KnownBytes.{IsAtEnd, Keeps}
 use Rattle.nr_nfs_base.specs.Limits.{transfer_max}
 use Rattle.nr_outside.specs.Content.{HandsOut}
-use Rattle.nr_outside.proofs.Moves.{HandsOut_append}
 use Rattle.nr_reduce.specs.declared.call.Outcome.{Outcome}
 use Rattle.nr_requester.specs.RequesterState.{RequesterSide}
 use Rattle.nr_client.specs.declared.client_end.ClientEnd.{ClientEnd}
 use Rattle.nr_client.specs.declared.client_end.ClientEnd.TheVariants as client
 use Rattle.nr_client.specs.Calls.{Answers}
-use Rattle.nr_client.specs.Following.{Follows, MakesCalls, Next, Unanswered}
+use Rattle.nr_client.specs.Following.{Follows, MakesCalls, Unanswered}
 use Rattle.nr_client.specs.Following.Next.{Calls, Returns}
 use Rattle.nr_client.specs.Requests.{Asks}
 use Rattle.nr_client.specs.Results.{Gives}
 use Rattle.nr_client.specs.Transfers.{LinkBytes}
 use Rattle.nr_client.specs.Writing.{FileWrite, IsRead, WritesFile, after_write_reply, create_call, created_file, file_write, input_max, next_write, piece_at, with_count, with_handle, write_call, write_end, write_result, writing}
-use Rattle.nr_client.specs.Writing.FileWrite.{Created, NotCreated, WriteEnds}
+use Rattle.nr_client.specs.Writing.FileWrite.{Created, NotCreated}
 use Rattle.nr_client.specs.private.FileSteps.{FailsToWrite, IsComplete, IsEnough, WritesOn}
 use Rattle.nr_client.proofs.CallsMade.{calls_more, follows_answered, follows_asked, follows_done, follows_unanswered}
 
@@ -215,12 +214,6 @@ input_failed uid gid dir name b h left given left' given' end (handed, hands) (i
     })
 
 -- ---- Reading it
-
--- nothing more came
-pub hands_nothing : (left given left' given' left'' given'' : Option (List ℕ)) (bytes : List ℕ) → HandsOut left given left' given' bytes → HandsOut left' given' left'' given'' []
-    → HandsOut left given left'' given'' bytes
-hands_nothing left given left' given' left'' given'' bytes first none =
-    subst (λ (l : List ℕ). HandsOut left given left'' given'' l) (append-nil bytes) (HandsOut_append left given left' given' left'' given'' bytes [] first none)
 
 -- a read that failed
 pub hands_kept : (left given left' given' left'' given'' : Option (List ℕ)) (bytes : List ℕ) → HandsOut left given left' given' bytes → Keeps left' left'' → Keeps given' given''

@@ -1,6 +1,5 @@
 pub mod Answering
 pub mod CallsMade
-pub mod EndFaults
 pub mod FileReading
 pub mod FileWriting
 pub mod Listings

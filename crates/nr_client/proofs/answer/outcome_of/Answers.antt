@@ -1,4 +1,4 @@
-use Rattle.std.proofs.Common.{inl, inr, refl}
+use Rattle.std.proofs.Common.{inr, refl}
 use Rattle.nr_client.specs.Transfers.{link_bytes}
 use Rattle.nr_client.proofs.CallsMade.{answered_as, given_up_as}
 use Rattle.nr_client.proofs.Outcomes.{same_asked}

@@ -1,7 +1,6 @@
 use Rattle.nr_client.specs.Requests.{nfs_reads}
 use Rattle.nr_client.specs.Transfers.{link_bytes}
-use Rattle.nr_client.proofs.EndFaults.{of_call_result}
-use Rattle.nr_client.proofs.Outcomes.{asks_answered, asks_given_up, asks_out, no_sink_fault, no_source_fault, same_asked}
+use Rattle.nr_client.proofs.Outcomes.{asks_answered, asks_given_up, asks_out, no_sink_fault, no_source_fault, of_call_result, same_asked}
 use Rattle.nr_client.proofs.asking.ask_nfs.Goals as goal
 
 pub returns-in-Err-clause-asks : goal.returns-in-Err-clause-asks

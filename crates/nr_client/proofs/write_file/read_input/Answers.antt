@@ -1,7 +1,7 @@
-use Rattle.std.proofs.Common.{◌≡◌, ◌++◌, ℕ, List, inl, inr, refl, sym, subst, take, ◌∙◌, arith}
+use Rattle.std.proofs.Common.{◌++◌, ℕ, List, refl, sym, subst, take}
 use Rattle.nr_outside.specs.Content.{HandsOut}
 use Rattle.nr_outside.proofs.Moves.{HandsOut_append, HandsOut_nil}
-use Rattle.nr_client.proofs.FileWriting.{hands_kept, hands_nothing}
+use Rattle.nr_client.proofs.FileWriting.{hands_kept}
 use Rattle.nr_client.proofs.write_file.read_input.Goals as goal
 
 pub loop-chunk-init : goal.loop-chunk-init
