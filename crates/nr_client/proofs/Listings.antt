@@ -170,10 +170,10 @@ adding_goes_on names cookie entries index so_far next last entry inside is pushe
     let at : drop index entries ≡ entry ∷ drop (index + 1) entries = drop_more entries index entry inside ∙ ap (λ (e : Entry). e ∷ drop (index + 1) entries) (sym is) in
     record {
       names_are =
-        ap (λ (ns : List (List ℕ)). ns ++ map (λ (e : Entry). e.name) (drop (index + 1) entries)) pushed
-        ∙ append_assoc so_far (entry.name ∷ []) (map (λ (e : Entry). e.name) (drop (index + 1) entries))
-        ∙ ap (λ (es : List Entry). so_far ++ map (λ (e : Entry). e.name) es) (sym at)
-        ∙ adding.names_are;
+          ap (λ (ns : List (List ℕ)). ns ++ map (λ (e : Entry). e.name) (drop (index + 1) entries)) pushed
+          ∙ append_assoc so_far (entry.name ∷ []) (map (λ (e : Entry). e.name) (drop (index + 1) entries))
+          ∙ ap (λ (es : List Entry). so_far ++ map (λ (e : Entry). e.name) es) (sym at)
+          ∙ adding.names_are;
       cookie_is = ap (λ (es : List Entry). last_cookie last es) (sym at) ∙ adding.cookie_is;
     }
 

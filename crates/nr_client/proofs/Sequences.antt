@@ -71,7 +71,7 @@ pub goes_on : {A B : Type 0} (request : List Outcome → Next A) (call : Call) (
     → Asks reads call b c h i (Ok value) → Follows (next value) c d i j result → Follows request b d h j result
 goes_on {A} {B} request call reads next value b c d h i j result first later (inl (outcome, (answers, gives))) rest =
     let same : ◌≡◌ {A = List Outcome → Next A} (λ later. request (outcome ∷ later)) (next value) =
-      later outcome ∙ ap (λ (r : Result B ClientEnd). λ (outcomes : List Outcome). go_on r (λ v. next v outcomes)) gives in
+    later outcome ∙ ap (λ (r : Result B ClientEnd). λ (outcomes : List Outcome). go_on r (λ v. next v outcomes)) gives in
     record {
       outcomes = outcome ∷ rest.outcomes;
       between = rest.between;

@@ -90,14 +90,23 @@ parent_is uid gid at last (name ∷ front) dir [] = first_of uid gid at last fro
 parent_is uid gid at last (name ∷ front) dir (outcome ∷ later) =
     first_of uid gid at last front dir name (outcome ∷ later)
     ∙ either last (object_result outcome) (λ object. parent_along uid gid object at (front ++ last ∷ []) later) (λ object. walk_from uid gid object front later)
-      (λ object. parent_is uid gid at last front object later)
+    (λ object. parent_is uid gid at last front object later)
 
 made_with_last : (last : List ℕ) (down : List Outcome → Next (List ℕ)) (up : List Outcome → Next (List ℕ × List ℕ)) → ((outcomes : List Outcome) → up outcomes ≡ with_last last (down outcomes))
     → (outcomes : List Outcome) (b c : LinkBytes) (h i : RequesterSide) → MakesCalls down outcomes b c h i → MakesCalls up outcomes b c h i
 made_with_last last down up same [] b c h i made = made
-made_with_last last down up same (outcome ∷ later) b c h i (call, d, j, (first, (answers, more))) =
-    (call, d, j, (same [] ∙ ap (λ (next : Next (List ℕ)). with_last last next) first, (answers,
-    made_with_last last (λ outcomes. down (outcome ∷ outcomes)) (λ outcomes. up (outcome ∷ outcomes)) (λ outcomes. same (outcome ∷ outcomes)) later d c j i more)))
+made_with_last last down up same (outcome ∷ later) b c h i (call, d, j, (first, (answers, more))) = (
+  call,
+  d,
+  j,
+  (
+    same [] ∙ ap (λ (next : Next (List ℕ)). with_last last next) first,
+    (
+      answers,
+      made_with_last last (λ outcomes. down (outcome ∷ outcomes)) (λ outcomes. up (outcome ∷ outcomes)) (λ outcomes. same (outcome ∷ outcomes)) later d c j i more,
+    ),
+  ),
+)
 
 gives_beside : (last : List ℕ) (result read : Result (List ℕ) ClientEnd) → Gives result read → Gives (beside last result) (beside last read)
 gives_beside last (Ok dir) read gives = ap (λ (r : Result (List ℕ) ClientEnd). beside last r) gives

@@ -9,16 +9,16 @@ loop-listed-preserved g c =
     let (within, sources, sinks, leads) = c.loop-listed.invariant in
     let unfinished : c.loop-listed.listed.eof ≡ false = grind (arith, c.loop-listed-test.true) in (
       (asked_shrinks (readdir_call c.args.uid c.args.gid c.args.dir.now c.loop-listed.listed.cookie c.loop-listed.listed.verifier) c.loop-listed.listed c.list_more.new.listed
-      (link_bytes (g.I.Source.left c.loop-listed.link.source) (g.I.Source.given c.loop-listed.link.source) (g.O.Sink.taken c.loop-listed.link.sink) c.loop-listed.link.read)
-      (link_bytes (g.I.Source.left c.list_more.new.link.source) (g.I.Source.given c.list_more.new.link.source) (g.O.Sink.taken c.list_more.new.link.sink) c.list_more.new.link.read)
-      c.loop-listed.link.requester c.list_more.new.link.requester c.in-Ok.ensures.asks).within,
+          (link_bytes (g.I.Source.left c.loop-listed.link.source) (g.I.Source.given c.loop-listed.link.source) (g.O.Sink.taken c.loop-listed.link.sink) c.loop-listed.link.read)
+          (link_bytes (g.I.Source.left c.list_more.new.link.source) (g.I.Source.given c.list_more.new.link.source) (g.O.Sink.taken c.list_more.new.link.sink) c.list_more.new.link.read)
+          c.loop-listed.link.requester c.list_more.new.link.requester c.in-Ok.ensures.asks).within,
       c.in-Ok.ensures.source_faults ∙ sources,
       c.in-Ok.ensures.sink_faults ∙ sinks,
       list_goes_on c.args.uid c.args.gid (list_next c.args.uid c.args.gid c.args.dir.now) c.args.dir.now c.loop-listed.listed unfinished
-      (link_bytes (g.I.Source.left c.args.link.now.source) (g.I.Source.given c.args.link.now.source) (g.O.Sink.taken c.args.link.now.sink) c.args.link.now.read)
-      (link_bytes (g.I.Source.left c.loop-listed.link.source) (g.I.Source.given c.loop-listed.link.source) (g.O.Sink.taken c.loop-listed.link.sink) c.loop-listed.link.read)
-      (link_bytes (g.I.Source.left c.list_more.new.link.source) (g.I.Source.given c.list_more.new.link.source) (g.O.Sink.taken c.list_more.new.link.sink) c.list_more.new.link.read)
-      c.args.link.now.requester c.loop-listed.link.requester c.list_more.new.link.requester leads c.list_more.new.listed c.in-Ok.ensures.asks,
+          (link_bytes (g.I.Source.left c.args.link.now.source) (g.I.Source.given c.args.link.now.source) (g.O.Sink.taken c.args.link.now.sink) c.args.link.now.read)
+          (link_bytes (g.I.Source.left c.loop-listed.link.source) (g.I.Source.given c.loop-listed.link.source) (g.O.Sink.taken c.loop-listed.link.sink) c.loop-listed.link.read)
+          (link_bytes (g.I.Source.left c.list_more.new.link.source) (g.I.Source.given c.list_more.new.link.source) (g.O.Sink.taken c.list_more.new.link.sink) c.list_more.new.link.read)
+          c.args.link.now.requester c.loop-listed.link.requester c.list_more.new.link.requester leads c.list_more.new.listed c.in-Ok.ensures.asks,
     )
 
 pub loop-listed-smaller : goal.loop-listed-smaller

@@ -10,15 +10,15 @@ returns-then-end-at-gt-COMPONENT_MAX-clause-pushes c =
 
 pub loop-at-preserved : goal.loop-at-preserved
 loop-at-preserved c =
-    elim c.if-end-at.branch
-      [ then-end-at+else-end-at-gt-COMPONENT_MAX+in-Ok+in-Ok-push w ↦
-        let pushed : c.if-end-at.names ≡ c.loop-at.names ++ take (c.piece_end-end.result - c.loop-at.at) (drop c.loop-at.at c.args.path.now) ∷ [] =
+    elim c.if-end-at.branch [
+      | then-end-at+else-end-at-gt-COMPONENT_MAX+in-Ok+in-Ok-push w ↦
+          let pushed : c.if-end-at.names ≡ c.loop-at.names ++ take (c.piece_end-end.result - c.loop-at.at) (drop c.loop-at.at c.args.path.now) ∷ [] =
           w.names-is ∙ w.in-Ok-push.ensures ∙ ap (λ (name : List ℕ). c.loop-at.names ++ name ∷ []) w.in-Ok.ensures in
-        subst (λ (names : List (List ℕ)). Pushed c.args.names.now c.args.path.now names (c.piece_end-end.result + 1)) (sym pushed)
-        (name_pushed c.args.path.now c.loop-at.at c.piece_end-end.result c.piece_end-end.ensures.is c.piece_end-end.ensures.within c.args.names.now c.loop-at.names
-        w.if-end-at.true w.if-end-at-gt-COMPONENT_MAX.false c.loop-at.invariant)
+          subst (λ (names : List (List ℕ)). Pushed c.args.names.now c.args.path.now names (c.piece_end-end.result + 1)) (sym pushed)
+          (name_pushed c.args.path.now c.loop-at.at c.piece_end-end.result c.piece_end-end.ensures.is c.piece_end-end.ensures.within c.args.names.now c.loop-at.names
+          w.if-end-at.true w.if-end-at-gt-COMPONENT_MAX.false c.loop-at.invariant)
       | else-end-at w ↦
-        subst (λ (names : List (List ℕ)). Pushed c.args.names.now c.args.path.now names (c.piece_end-end.result + 1)) (sym w.names-is)
-        (empty_piece c.args.path.now c.loop-at.at c.piece_end-end.result c.piece_end-end.ensures.is c.piece_end-end.ensures.within c.args.names.now c.loop-at.names
-        w.if-end-at.false c.loop-at.invariant)
-      ]
+          subst (λ (names : List (List ℕ)). Pushed c.args.names.now c.args.path.now names (c.piece_end-end.result + 1)) (sym w.names-is)
+          (empty_piece c.args.path.now c.loop-at.at c.piece_end-end.result c.piece_end-end.ensures.is c.piece_end-end.ensures.within c.args.names.now c.loop-at.names
+          w.if-end-at.false c.loop-at.invariant)
+    ]

@@ -1,4 +1,5 @@
-use Rattle.std.proofs.Common.{◌≡◌, ◌+◌, ◌-◌, ℕ, List, length, Ok, Err, eqb-false, eqb-true, sym, subst, ◌∙◌}
+use Rattle.std.proofs.Common.{◌≡◌, ◌+◌, ◌-◌, ℕ, List, length, Ok, Err, eqb-true, sym, subst, ◌∙◌}
+use Rattle.std.proofs.lemmas.Bool.{eqb-false}
 use Rattle.nr_client.specs.Following.{Follows}
 use Rattle.nr_client.specs.Transfers.{link_bytes}
 use Rattle.nr_client.specs.Walking.{parent_along}

@@ -14,10 +14,10 @@ loop-name-preserved g c =
       c.in-Ok-object_over.ensures.source_faults ∙ sources,
       c.in-Ok-object_over.ensures.sink_faults ∙ sinks,
       walk_goes_on c.args.uid c.args.gid (walk_from c.args.uid c.args.gid c.args.root.now c.args.names.now) c.loop-name.dir c.args.names.now c.loop-name.name-index c.name-item.result c.loop-name-test.true c.name-item.is
-      (link_bytes (g.I.Source.left c.args.link.now.source) (g.I.Source.given c.args.link.now.source) (g.O.Sink.taken c.args.link.now.sink) c.args.link.now.read)
-      (link_bytes (g.I.Source.left c.loop-name.link.source) (g.I.Source.given c.loop-name.link.source) (g.O.Sink.taken c.loop-name.link.sink) c.loop-name.link.read)
-      (link_bytes (g.I.Source.left c.object_over.new.link.source) (g.I.Source.given c.object_over.new.link.source) (g.O.Sink.taken c.object_over.new.link.sink) c.object_over.new.link.read)
-      c.args.link.now.requester c.loop-name.link.requester c.object_over.new.link.requester leads c.in-Ok-object_over.object c.in-Ok-object_over.ensures.asks,
+          (link_bytes (g.I.Source.left c.args.link.now.source) (g.I.Source.given c.args.link.now.source) (g.O.Sink.taken c.args.link.now.sink) c.args.link.now.read)
+          (link_bytes (g.I.Source.left c.loop-name.link.source) (g.I.Source.given c.loop-name.link.source) (g.O.Sink.taken c.loop-name.link.sink) c.loop-name.link.read)
+          (link_bytes (g.I.Source.left c.object_over.new.link.source) (g.I.Source.given c.object_over.new.link.source) (g.O.Sink.taken c.object_over.new.link.sink) c.object_over.new.link.read)
+          c.args.link.now.requester c.loop-name.link.requester c.object_over.new.link.requester leads c.in-Ok-object_over.object c.in-Ok-object_over.ensures.asks,
     )
 
 pub returns-in-Err-clause-follows : goal.returns-in-Err-clause-follows
