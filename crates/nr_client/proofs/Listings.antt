@@ -1,7 +1,6 @@
 -- A listing, call after call.
 use Rattle.std.proofs.Common.{◌≡◌, ◌⊎◌, ℕ, suc, ◌+◌, ◌-◌, ◌<◌, ◌≤◌, ltb, Bool, true, false, not, ◌&&◌, if◌then◌else◌, List, [], ◌∷◌, ◌++◌, length, map, drop, get_or, Result, Ok, Err, inl, inr, arith, refl, sym, ap, subst, ◌∙◌, append-nil, append_assoc, le-ltb, lt-ltb, ltb-false}
 use Rattle.std.proofs.lemmas.List.{drop_all, drop_more, length-append, length-map}
-use Rattle.nr_nfs_base.specs.declared.verifier.Verifier.{Verifier}
 use Rattle.nr_nfs_res.specs.Readdir.{ReaddirOk}
 use Rattle.nr_nfs_res.specs.declared.readdir.Entry.{Entry}
 use Rattle.nr_reduce.specs.declared.call.Call.{Call}
@@ -10,7 +9,7 @@ use Rattle.nr_requester.specs.RequesterState.{RequesterSide}
 use Rattle.nr_client.specs.declared.client_end.ClientEnd.{ClientEnd}
 use Rattle.nr_client.specs.declared.client_end.ClientEnd.TheVariants as client
 use Rattle.nr_client.specs.declared.listing.Listed.{Listed}
-use Rattle.nr_client.specs.Following.{Follows, Next, go_on}
+use Rattle.nr_client.specs.Following.{Follows, Next}
 use Rattle.nr_client.specs.Following.Next.{Calls, Returns}
 use Rattle.nr_client.specs.Listing.{entries_max, eof_offset, is_empty, is_stuck, last_cookie, list_from, listed_after, listed_or, listed_with, no_progress, readdir_call, readdir_result}
 use Rattle.nr_client.specs.Requests.{Asks}

@@ -13,7 +13,7 @@ use Rattle.nr_client.specs.Paths.{path_names}
 use Rattle.nr_client.specs.Requests.{Asks, lookup_call, lookup_result}
 use Rattle.nr_client.specs.Results.{Gives}
 use Rattle.nr_client.specs.Transfers.{LinkBytes}
-use Rattle.nr_client.specs.Walking.{object_in, object_result, parent_along, parent_from, parent_next, walk_from, walk_next}
+use Rattle.nr_client.specs.Walking.{object_in, object_result, parent_along, parent_from, walk_from}
 use Rattle.nr_client.proofs.Sequences.{LeadsTo, end_of, ends_there, gives_itself, given_end, goes_on, returns_at_once, runs_out}
 
 -- the file handle in the results of a LOOKUP
