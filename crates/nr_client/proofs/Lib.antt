@@ -1,6 +1,13 @@
 pub mod Answering
+pub mod CallsMade
+pub mod FileReading
+pub mod FileWriting
+pub mod Listings
 pub mod Moves
 pub mod Outcomes
+pub mod Pieces
 pub mod Refusals
+pub mod Sequences
 pub mod Turns
 pub mod Unanswered
+pub mod Walks

@@ -1,18 +1,29 @@
 //! Calls of a client over a link, and sessions.
 #![tactic(auto)]
 
+mod answer;
 mod asking;
 mod call_end;
 mod calling;
 mod client_end;
+mod file_calls;
+mod file_results;
 mod limits;
 mod link;
+mod listing;
+mod names;
+mod path;
+mod read_file;
 mod requests;
 mod results;
 mod session;
 mod transfer;
+mod walking;
+mod write_file;
 
 pub use call_end::CallEnd;
 pub use client_end::{ClientEnd, RpcKind};
 pub use link::Link;
+pub use names::Names;
+pub use path::components;
 pub use session::Session;
