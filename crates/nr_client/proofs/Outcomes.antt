@@ -50,6 +50,10 @@ no_source_fault (Err (client.Nfs status)) before after link same = same
 no_source_fault (Err client.Chunk) before after link same = same
 no_source_fault (Err (client.Version low high)) before after link same = same
 no_source_fault (Err (client.BadReply at reason)) before after link same = same
+no_source_fault (Err (client.BadPath at)) before after link same = same
+no_source_fault (Err client.InputFault) before after link same = same
+no_source_fault (Err client.OutputFault) before after link same = same
+no_source_fault (Err (client.Budget count)) before after link same = same
 no_source_fault (Err client.Memory) before after link same = same
 
 pub no_sink_fault : {A : Type 0} (result : Result A ClientEnd) (before after : ℕ) → IfErr result NotLink → after ≡ before → SinkFaults result before after
@@ -62,6 +66,10 @@ no_sink_fault (Err (client.Nfs status)) before after link same = same
 no_sink_fault (Err client.Chunk) before after link same = same
 no_sink_fault (Err (client.Version low high)) before after link same = same
 no_sink_fault (Err (client.BadReply at reason)) before after link same = same
+no_sink_fault (Err (client.BadPath at)) before after link same = same
+no_sink_fault (Err client.InputFault) before after link same = same
+no_sink_fault (Err client.OutputFault) before after link same = same
+no_sink_fault (Err (client.Budget count)) before after link same = same
 no_sink_fault (Err client.Memory) before after link same = same
 
 -- the call that was asked for

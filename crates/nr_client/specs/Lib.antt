@@ -1,8 +1,13 @@
 pub mod Calls
 pub mod Ending
+pub mod Following
 pub mod LinkParts
+pub mod Listing
+pub mod Paths
 pub mod Requests
 pub mod Results
 pub mod SessionState
 pub mod Steps
 pub mod Transfers
+pub mod Walking
+pub mod private

@@ -1,14 +1,20 @@
 -- The calls of a session, and their results.
-use Rattle.std.specs.Prelude.{◌≡◌, ℕ, ◌⊎◌, List, [], ◌∷◌, Result, Ok, Err}
+use Rattle.std.specs.Prelude.{◌≡◌, ℕ, ◌⊎◌, List, [], ◌∷◌, Option, Some, None, Result, Ok, Err}
 use Rattle.nr_rpc.specs.declared.cred.Cred.TheVariants as creds
 use Rattle.nr_xdr.specs.Items.{encodings}
 use Rattle.nr_nfs_args.specs.Attributes.{getattr_args_codec}
+use Rattle.nr_nfs_args.specs.Create.{mkdir_args_codec}
 use Rattle.nr_nfs_args.specs.Lookup.{lookup_args_codec, readlink_args_codec}
 use Rattle.nr_nfs_args.specs.Mount.{mnt_args_codec}
 use Rattle.nr_nfs_args.specs.Remove.{remove_args_codec}
+use Rattle.nr_nfs_args.specs.Special.{symlink_args_codec}
+use Rattle.nr_nfs_base.specs.declared.set_attributes.SetAttributes.{SetAttributes}
+use Rattle.nr_nfs_base.specs.declared.set_attributes.SetTime.TheVariants as times
 use Rattle.nr_nfs_base.specs.WeakCache.{wcc_data_codec}
 use Rattle.nr_nfs_base.specs.declared.weak_cache.WccData.{WccData}
+use Rattle.nr_nfs_res.specs.Create.{create_ok_codec}
 use Rattle.nr_nfs_res.specs.Lookup.{lookup_ok_codec, readlink_ok_codec}
+use Rattle.nr_nfs_res.specs.declared.create.CreateOk.{CreateOk}
 use Rattle.nr_nfs_res.specs.declared.lookup.LookupOk.{LookupOk}
 use Rattle.nr_nfs_res.specs.declared.lookup.ReadlinkOk.{ReadlinkOk}
 use Rattle.nr_nfs_base.specs.Attributes.{attributes_codec}
@@ -63,6 +69,25 @@ abbrev pub remove_call : (uid gid : ℕ) → (dir name : List ℕ) → Call
 remove_call uid gid dir name =
     client_call nfs_program nfs_version (nfs_procedure_number nfs.Remove) uid gid (encodings (remove_args_codec.items (record { dir = dir; name = name })))
 
+-- a mode and no other attribute
+abbrev pub only_mode : Option ℕ → SetAttributes
+only_mode mode = record { mode = mode; uid = None; gid = None; size = None; atime = times.Leave; mtime = times.Leave }
+
+-- the mode of a new directory: 0755
+abbrev pub directory_mode : ℕ
+directory_mode = 493
+
+-- MKDIR of a name in a directory (RFC 1813 section 3.3.9), and SYMLINK of a name with a path (section 3.3.10)
+abbrev pub mkdir_call : (uid gid : ℕ) → (dir name : List ℕ) → Call
+mkdir_call uid gid dir name =
+    client_call nfs_program nfs_version (nfs_procedure_number nfs.Mkdir) uid gid
+    (encodings (mkdir_args_codec.items (record { dir = dir; name = name; attributes = only_mode (Some directory_mode) })))
+
+abbrev pub symlink_call : (uid gid : ℕ) → (dir name path : List ℕ) → Call
+symlink_call uid gid dir name path =
+    client_call nfs_program nfs_version (nfs_procedure_number nfs.Symlink) uid gid
+    (encodings (symlink_args_codec.items (record { dir = dir; name = name; attributes = only_mode None; path = path })))
+
 -- their results, by the outcome of the call: of a procedure of NFS those after the status 0
 abbrev pub getattr_result : Outcome → Result Attributes ClientEnd
 getattr_result outcome = nfs_done (result_of_outcome (status_union_codec status_number statuses attributes_codec void) outcome)
@@ -78,6 +103,9 @@ readlink_result = nfs_reads readlink_ok_codec (optional attributes_codec)
 
 abbrev pub remove_result : Outcome → Result WccData ClientEnd
 remove_result = nfs_reads wcc_data_codec wcc_data_codec
+
+abbrev pub create_result : Outcome → Result CreateOk ClientEnd
+create_result = nfs_reads create_ok_codec wcc_data_codec
 
 abbrev pub handle_of : Result MountOk ClientEnd → Result (List ℕ) ClientEnd
 handle_of (Ok results) = Ok results.handle

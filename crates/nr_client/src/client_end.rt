@@ -29,8 +29,17 @@ pub enum ClientEnd {
     Chunk,
     /// The server answered ERR_VERS: it supports the versions from `low` to `high`.
     Version { low: u32, high: u32 },
-    /// The reply can't be read: `at` is the offset of the first item that fails, or of the first byte left over. The reason is 24.
+    /// The reply has no results. Reason 24: it can't be read, and `at` is the offset of the first item that fails, or of the first byte left
+    /// over. Reason 25: its results give nothing and no end, or more than was asked for, or no handle; `at` is the offset of the item that says so.
     BadReply { at: usize, reason: u32 },
+    /// A path can't be walked: a component that begins at this offset has more than 255 bytes, or the path, which ends there, has none.
+    BadPath { at: usize },
+    /// A read of the user's input failed: its fault count rose.
+    InputFault,
+    /// A write of the user's output failed: its fault count rose.
+    OutputFault,
+    /// More than this many came: bytes of an input, or entries of a directory.
+    Budget { count: u64 },
     /// Memory ran out.
     Memory,
 }

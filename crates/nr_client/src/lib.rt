@@ -7,12 +7,18 @@ mod calling;
 mod client_end;
 mod limits;
 mod link;
+mod listing;
+mod names;
+mod path;
 mod requests;
 mod results;
 mod session;
 mod transfer;
+mod walking;
 
 pub use call_end::CallEnd;
 pub use client_end::{ClientEnd, RpcKind};
 pub use link::Link;
+pub use names::Names;
+pub use path::components;
 pub use session::Session;

@@ -1,11 +1,15 @@
 //! The calls of a session.
 
 ghost use Rattle.std.specs.Prelude.{◌≡◌, IfOk};
-ghost use Rattle.nr_client.specs.Requests.{client_call, getattr_call, lookup_call, mnt_call, readlink_call, remove_call};
+ghost use Rattle.nr_client.specs.Listing.{readdir_call};
+ghost use Rattle.nr_client.specs.Requests.{client_call, getattr_call, lookup_call, mkdir_call, mnt_call, only_mode, readlink_call, remove_call, symlink_call};
 
-use nr_nfs_args::{GetattrArgs, LookupArgs, MntArgs, ReadlinkArgs, RemoveArgs};
+use nr_nfs_args::{
+    GetattrArgs, LookupArgs, MkdirArgs, MntArgs, ReaddirArgs, ReadlinkArgs, RemoveArgs, SymlinkArgs,
+};
 use nr_nfs_base::{
-    Handle, MOUNT_PROGRAM, MOUNT_VERSION, MountPath, NFS_PROGRAM, NFS_VERSION, Name, Xdr,
+    Handle, LISTING_MAX, MOUNT_PROGRAM, MOUNT_VERSION, MountPath, NFS_PROGRAM, NFS_VERSION, Name,
+    Path, SetAttributes, SetTime, Verifier, Xdr,
 };
 use nr_reduce::Call;
 use nr_rpc::{Cred, Gids};
@@ -20,6 +24,18 @@ const LOOKUP: u32 = 3;
 
 /// The number of READLINK.
 const READLINK: u32 = 5;
+
+/// The number of MKDIR.
+const MKDIR: u32 = 9;
+
+/// The number of SYMLINK.
+const SYMLINK: u32 = 10;
+
+/// The number of READDIR.
+const READDIR: u32 = 16;
+
+/// The mode of a new directory.
+const DIRECTORY_MODE: u32 = 0o755;
 
 /// The number of REMOVE.
 const REMOVE: u32 = 12;
@@ -126,4 +142,87 @@ pub(crate) fn remove_call(
     let name = Name::from_slice(alloc, name.as_slice())?;
     let args = RemoveArgs { dir, name }.write(alloc)?;
     client_call(alloc, (NFS_PROGRAM, NFS_VERSION, REMOVE), uid, gid, args)
+}
+
+/// A mode, if there is one, and no other attribute.
+fn only_mode(mode: Option<u32>) -> SetAttributes
+    ensures { result ≡ only_mode mode }
+{
+    SetAttributes {
+        mode,
+        uid: None,
+        gid: None,
+        size: None,
+        atime: SetTime::Leave,
+        mtime: SetTime::Leave,
+    }
+}
+
+/// MKDIR of a name in a directory.
+pub(crate) fn mkdir_call(
+    alloc: Global,
+    uid: u32,
+    gid: u32,
+    dir: &Handle,
+    name: &Name,
+) -> Result<Call, Memory>
+    ensures { IfOk result (λ call. call ≡ mkdir_call uid gid dir.now name.now) }
+{
+    let dir = Handle::from_slice(alloc, dir.as_slice())?;
+    let name = Name::from_slice(alloc, name.as_slice())?;
+    let attributes = only_mode(Some(DIRECTORY_MODE));
+    let args = MkdirArgs {
+        dir,
+        name,
+        attributes,
+    }
+    .write(alloc)?;
+    client_call(alloc, (NFS_PROGRAM, NFS_VERSION, MKDIR), uid, gid, args)
+}
+
+/// SYMLINK of a name in a directory with a path.
+pub(crate) fn symlink_call(
+    alloc: Global,
+    uid: u32,
+    gid: u32,
+    dir: &Handle,
+    name: &Name,
+    path: &Path,
+) -> Result<Call, Memory>
+    ensures { IfOk result (λ call. call ≡ symlink_call uid gid dir.now name.now path.now) }
+{
+    let dir = Handle::from_slice(alloc, dir.as_slice())?;
+    let name = Name::from_slice(alloc, name.as_slice())?;
+    let path = Path::from_slice(alloc, path.as_slice())?;
+    let attributes = only_mode(None);
+    let args = SymlinkArgs {
+        dir,
+        name,
+        attributes,
+        path,
+    }
+    .write(alloc)?;
+    client_call(alloc, (NFS_PROGRAM, NFS_VERSION, SYMLINK), uid, gid, args)
+}
+
+/// READDIR of a directory after a cookie.
+pub(crate) fn readdir_call(
+    alloc: Global,
+    uid: u32,
+    gid: u32,
+    dir: &Handle,
+    cookie: u64,
+    verifier: Verifier,
+) -> Result<Call, Memory>
+    ensures { IfOk result (λ call. call ≡ readdir_call uid gid dir.now cookie verifier) }
+{
+    let dir = Handle::from_slice(alloc, dir.as_slice())?;
+    let args = ReaddirArgs {
+        dir,
+        cookie,
+        verifier,
+        count: LISTING_MAX,
+    }
+    .write(alloc)?;
+    client_call(alloc, (NFS_PROGRAM, NFS_VERSION, READDIR), uid, gid, args)
 }

@@ -7,16 +7,24 @@ ghost use Rattle.nr_links.specs.Links.{CountsLost, EndsLink, HasOpenLink, IsNewL
 ghost use Rattle.nr_reduce.specs.declared.mark.LinkParameters.{LinkParameters};
 ghost use Rattle.nr_requester.specs.AfterCalls.{opened_as};
 ghost use Rattle.nr_requester.specs.Standing.{RequesterRepresents};
-ghost use Rattle.nr_client.specs.Requests.{Asks, OpenFails, SinkFaults, SourceFaults, getattr_call, getattr_result, lookup_call, lookup_result, mnt_call, mnt_result, readlink_call, readlink_result, remove_call, remove_result};
+ghost use Rattle.nr_client.specs.Following.{Follows};
+ghost use Rattle.nr_client.specs.Listing.{list_next};
+ghost use Rattle.nr_client.specs.Requests.{Asks, OpenFails, SinkFaults, SourceFaults, create_result, getattr_call, getattr_result, lookup_call, lookup_result, mkdir_call, mnt_call, mnt_result, readlink_call, readlink_result, remove_call, remove_result, symlink_call};
 ghost use Rattle.nr_client.specs.Transfers.{link_bytes};
+ghost use Rattle.nr_client.specs.Walking.{parent_next, walk_next};
 
 use crate::asking::{ask_nfs, mount_over};
 use crate::client_end::ClientEnd;
 use crate::link::Link;
-use crate::requests::{getattr_call, lookup_call, readlink_call, remove_call};
+use crate::listing::list_over;
+use crate::names::Names;
+use crate::requests::{
+    getattr_call, lookup_call, mkdir_call, readlink_call, remove_call, symlink_call,
+};
+use crate::walking::{walk_over, walk_to_parent_over};
 use nr_links::Dialer;
-use nr_nfs_base::{Attributes, Handle, MountPath, Name, WccData};
-use nr_nfs_res::{LookupOk, ReadlinkOk};
+use nr_nfs_base::{Attributes, Handle, MountPath, Name, Path, WccData};
+use nr_nfs_res::{CreateOk, LookupOk, ReadlinkOk};
 use nr_outside::{Sink, Source};
 use std::alloc::Global;
 use std::marker::Model;
@@ -178,5 +186,81 @@ impl<I: Source, O: Sink> Session<I, O> {
             &mut self.link,
             remove_call(self.alloc, self.uid, self.gid, dir, name),
         )
+    }
+
+    /// Makes a directory of this name in a directory, with mode 0755 (MKDIR, RFC 1813 section 3.3.9).
+    pub fn mkdir(&mut self, dir: &Handle, name: &Name) -> Result<CreateOk, ClientEnd>
+        ensures asks { Asks create_result (mkdir_call self.old.uid self.old.gid dir.now name.now)
+            (link_bytes (I.left self.old.link.source) (I.given self.old.link.source) (O.taken self.old.link.sink) self.old.link.read)
+            (link_bytes (I.left self.new.link.source) (I.given self.new.link.source) (O.taken self.new.link.sink) self.new.link.read)
+            self.old.link.requester self.new.link.requester result }
+        ensures user { (self.new.uid ≡ self.old.uid) × (self.new.gid ≡ self.old.gid) }
+        ensures source_faults { SourceFaults result (I.faults self.old.link.source) (I.faults self.new.link.source) }
+        ensures sink_faults { SinkFaults result (O.faults self.old.link.sink) (O.faults self.new.link.sink) }
+    {
+        ask_nfs::<I, O, CreateOk, WccData>(
+            self.alloc,
+            &mut self.link,
+            mkdir_call(self.alloc, self.uid, self.gid, dir, name),
+        )
+    }
+
+    /// Makes a symbolic link of this name in a directory, which holds this path (SYMLINK, RFC 1813 section 3.3.10). No attribute is given.
+    pub fn link(&mut self, dir: &Handle, name: &Name, path: &Path) -> Result<CreateOk, ClientEnd>
+        ensures asks { Asks create_result (symlink_call self.old.uid self.old.gid dir.now name.now path.now)
+            (link_bytes (I.left self.old.link.source) (I.given self.old.link.source) (O.taken self.old.link.sink) self.old.link.read)
+            (link_bytes (I.left self.new.link.source) (I.given self.new.link.source) (O.taken self.new.link.sink) self.new.link.read)
+            self.old.link.requester self.new.link.requester result }
+        ensures user { (self.new.uid ≡ self.old.uid) × (self.new.gid ≡ self.old.gid) }
+        ensures source_faults { SourceFaults result (I.faults self.old.link.source) (I.faults self.new.link.source) }
+        ensures sink_faults { SinkFaults result (O.faults self.old.link.sink) (O.faults self.new.link.sink) }
+    {
+        ask_nfs::<I, O, CreateOk, WccData>(
+            self.alloc,
+            &mut self.link,
+            symlink_call(self.alloc, self.uid, self.gid, dir, name, path),
+        )
+    }
+
+    /// The file handle of a path from a directory: a LOOKUP for each component, one after another (RFC 1813 section 3.3.3). If the path is
+    /// bad (`BadPath`), no call is made.
+    pub fn walk(&mut self, root: &Handle, path: &[u8]) -> Result<Handle, ClientEnd>
+        ensures follows { Follows (walk_next self.old.uid self.old.gid root.now path.now)
+            (link_bytes (I.left self.old.link.source) (I.given self.old.link.source) (O.taken self.old.link.sink) self.old.link.read)
+            (link_bytes (I.left self.new.link.source) (I.given self.new.link.source) (O.taken self.new.link.sink) self.new.link.read)
+            self.old.link.requester self.new.link.requester result }
+        ensures user { (self.new.uid ≡ self.old.uid) × (self.new.gid ≡ self.old.gid) }
+        ensures source_faults { SourceFaults result (I.faults self.old.link.source) (I.faults self.new.link.source) }
+        ensures sink_faults { SinkFaults result (O.faults self.old.link.sink) (O.faults self.new.link.sink) }
+    {
+        walk_over(self.alloc, &mut self.link, self.uid, self.gid, root, path)
+    }
+
+    /// The file handle of the directory that the last component of a path stands in, and that component: a LOOKUP for each component before
+    /// it. If the path is bad or has no component (`BadPath`), no call is made.
+    pub fn walk_to_parent(&mut self, root: &Handle, path: &[u8]) -> Result<(Handle, Name), ClientEnd>
+        ensures follows { Follows (parent_next self.old.uid self.old.gid root.now path.now)
+            (link_bytes (I.left self.old.link.source) (I.given self.old.link.source) (O.taken self.old.link.sink) self.old.link.read)
+            (link_bytes (I.left self.new.link.source) (I.given self.new.link.source) (O.taken self.new.link.sink) self.new.link.read)
+            self.old.link.requester self.new.link.requester result }
+        ensures user { (self.new.uid ≡ self.old.uid) × (self.new.gid ≡ self.old.gid) }
+        ensures source_faults { SourceFaults result (I.faults self.old.link.source) (I.faults self.new.link.source) }
+        ensures sink_faults { SinkFaults result (O.faults self.old.link.sink) (O.faults self.new.link.sink) }
+    {
+        walk_to_parent_over(self.alloc, &mut self.link, self.uid, self.gid, root, path)
+    }
+
+    /// The names of a directory in the server's order: READDIR up to its end (RFC 1813 section 3.3.16). `Budget` if there are more than
+    /// 1048576; `BadReply` with reason 25 if a reply has no entry and isn't the last.
+    pub fn list(&mut self, dir: &Handle) -> Result<Names, ClientEnd>
+        ensures follows { Follows (list_next self.old.uid self.old.gid dir.now)
+            (link_bytes (I.left self.old.link.source) (I.given self.old.link.source) (O.taken self.old.link.sink) self.old.link.read)
+            (link_bytes (I.left self.new.link.source) (I.given self.new.link.source) (O.taken self.new.link.sink) self.new.link.read)
+            self.old.link.requester self.new.link.requester result }
+        ensures user { (self.new.uid ≡ self.old.uid) × (self.new.gid ≡ self.old.gid) }
+        ensures source_faults { SourceFaults result (I.faults self.old.link.source) (I.faults self.new.link.source) }
+        ensures sink_faults { SinkFaults result (O.faults self.old.link.sink) (O.faults self.new.link.sink) }
+    {
+        list_over(self.alloc, &mut self.link, self.uid, self.gid, dir)
     }
 }
