@@ -39,9 +39,11 @@ abbrev pub mode_text : ℕ → List ℕ
 mode_text mode = octal_digit (mode / 512) ∷ octal_digit (mode / 64) ∷ octal_digit (mode / 8) ∷ octal_digit mode ∷ []
 
 -- numbers in decimal digits, with a space before each
-unfoldable pub numbers_text : (nlink uid gid size fileid : ℕ) → List ℕ
-numbers_text nlink uid gid size fileid =
-    codes " " ++ decimal nlink ++ codes " " ++ decimal uid ++ codes " " ++ decimal gid ++ codes " " ++ decimal size ++ codes " " ++ decimal fileid ++ codes "\n"
+unfoldable pub owner_text : (nlink uid gid : ℕ) → List ℕ
+owner_text nlink uid gid = codes " " ++ decimal nlink ++ codes " " ++ decimal uid ++ codes " " ++ decimal gid
+
+unfoldable pub size_text : (size fileid : ℕ) → List ℕ
+size_text size fileid = codes " " ++ decimal size ++ codes " " ++ decimal fileid ++ codes "\n"
 
 abbrev pub attributes_text : Attributes → List ℕ
-attributes_text a = type_text a.file_type ++ codes " " ++ mode_text a.mode ++ numbers_text a.nlink a.uid a.gid a.size a.fileid
+attributes_text a = type_text a.file_type ++ codes " " ++ mode_text a.mode ++ owner_text a.nlink a.uid a.gid ++ size_text a.size a.fileid

@@ -1,10 +1,11 @@
 //! What each command prints.
 
-ghost use Rattle.std.specs.Prelude.{◌≡◌, ◌++◌, IfOk};
+ghost use Rattle.std.specs.Prelude.{◌≡◌, ◌++◌, IfOk, OnOk};
 ghost use Rattle.std.specs.String.{string_bytes};
-ghost use Rattle.nr_commands.specs.Printed.{attributes_text, handle_text, mode_text, numbers_text, octal_digit, path_text, type_text};
+ghost use Rattle.nr_commands.specs.Printed.{attributes_text, handle_text, mode_text, names_text, octal_digit, owner_text, path_text, size_text, type_text};
 
-use nr_nfs_base::{Attributes, FileType, Handle, Path};
+use nr_client::Names;
+use nr_nfs_base::{Attributes, FileType, Handle, Name, Path};
 use nr_xdr::{Memory, Octets};
 use std::alloc::Global;
 
@@ -30,19 +31,21 @@ fn octal_digit(number: u32) -> u8
     b'0' + (number % 8) as u8
 }
 
-/// Numbers in decimal digits, with a space before each.
-#[tactic(auto, unfolding(crate::specs::Printed::numbers_text))]
-fn numbers_text(
-    alloc: Global,
-    nlink: u32,
-    uid: u32,
-    gid: u32,
-    size: u64,
-    fileid: u64,
-) -> Result<String, Memory>
-    ensures { IfOk result (λ text. string_bytes text ≡ numbers_text nlink uid gid size fileid) }
+/// The number of links and the owner, with a space before each.
+#[tactic(auto, unfolding(crate::specs::Printed::owner_text))]
+fn owner_text(alloc: Global, nlink: u32, uid: u32, gid: u32) -> Result<String, Memory>
+    ensures { IfOk result (λ text. string_bytes text ≡ owner_text nlink uid gid) }
 {
-    let text = format!(in alloc; " {nlink} {uid} {gid} {size} {fileid}\n")?;
+    let text = format!(in alloc; " {nlink} {uid} {gid}")?;
+    Ok(text)
+}
+
+/// The size and the number of the file, with a space before each.
+#[tactic(auto, unfolding(crate::specs::Printed::size_text))]
+fn size_text(alloc: Global, size: u64, fileid: u64) -> Result<String, Memory>
+    ensures { IfOk result (λ text. string_bytes text ≡ size_text size fileid) }
+{
+    let text = format!(in alloc; " {size} {fileid}\n")?;
     Ok(text)
 }
 
@@ -58,17 +61,12 @@ pub(crate) fn attributes_text(alloc: Global, attributes: &Attributes) -> Result<
         octal_digit(mode / 8),
         octal_digit(mode),
     ];
-    let numbers = numbers_text(
-        alloc,
-        attributes.nlink,
-        attributes.uid,
-        attributes.gid,
-        attributes.size,
-        attributes.fileid,
-    )?;
+    let owner = owner_text(alloc, attributes.nlink, attributes.uid, attributes.gid)?;
+    let size = size_text(alloc, attributes.size, attributes.fileid)?;
     let mut text = Octets::from_slice(alloc, type_text(attributes.file_type).as_bytes())?;
     text.extend_from_slice(&digits)?;
-    text.extend_from_slice(numbers.as_bytes())?;
+    text.extend_from_slice(owner.as_bytes())?;
+    text.extend_from_slice(size.as_bytes())?;
     Ok(text)
 }
 
@@ -89,5 +87,25 @@ pub(crate) fn path_text(alloc: Global, path: &Path) -> Result<Octets, Memory>
 {
     let mut text = Octets::from_slice(alloc, path.as_slice())?;
     text.extend_from_slice(b"\n")?;
+    Ok(text)
+}
+
+/// Names, each on a line, after a text.
+fn push_names(text: &mut Octets, names: &[Name]) -> Result<(), Memory>
+    ensures { OnOk result (text.new ≡ text.old ++ names_text names.now) }
+{
+    for name in names {
+        text.extend_from_slice(name.as_slice())?;
+        text.extend_from_slice(b"\n")?;
+    }
+    Ok(())
+}
+
+/// What `ls` prints.
+pub(crate) fn names_text(alloc: Global, names: &Names) -> Result<Octets, Memory>
+    ensures { IfOk result (λ text. text ≡ names_text names.now) }
+{
+    let mut text = Octets::new(alloc);
+    push_names(&mut text, names.as_slice())?;
     Ok(text)
 }

@@ -1,0 +1,12 @@
+-- Two parts of a command, one after the other.
+use Rattle.std.proofs.Common.{◌≡◌, Result, Ok, Err, inl, inr, refl, subst}
+use Rattle.nr_client.specs.declared.client_end.ClientEnd.{ClientEnd}
+use Rattle.nr_commands.specs.Sessions.{Part, SessionAt, Then}
+
+pub then_ends : {A B : Type 0} (first : Part A) (next : A → Part B) (s s' : SessionAt) (given : Result A ClientEnd) (end : ClientEnd)
+    → given ≡ Err end → first s s' given → Then first next s s' (Err end)
+then_ends {A} first next s s' given end is made = inr (end, (subst (λ (r : Result A ClientEnd). first s s' r) is made, refl))
+
+pub then_goes : {A B : Type 0} (first : Part A) (next : A → Part B) (s mid s' : SessionAt) (given : Result A ClientEnd) (value : A) (result : Result B ClientEnd)
+    → given ≡ Ok value → first s mid given → next value mid s' result → Then first next s s' result
+then_goes {A} first next s mid s' given value result is made goes = inl (value, (mid, (subst (λ (r : Result A ClientEnd). first s mid r) is made, goes)))
