@@ -54,8 +54,8 @@ fn denial_words(why: Denied) -> &'static str
 fn denied_text(alloc: Global, stag: u32, offset: u64, why: Denied) -> Result<String, Memory>
     ensures { IfOk result (λ text. string_bytes text ≡ denied_text stag offset why) }
 {
-    let words = denial_words(why);
-    let text = format!(in alloc; "protocol denied {stag} {offset}{words}")?;
+    let mut text = format!(in alloc; "protocol denied {stag} {offset}")?;
+    text.push_str(denial_words(why))?;
     Ok(text)
 }
 

@@ -151,7 +151,7 @@ pub(crate) fn remove<I: Source, O: Sink>(
         Err(end) => return Err(end),
     };
     match session.remove(&place.0, &place.1) {
-        Ok(_) => {}
+        Ok(removed) => drop(removed),
         Err(end) => return Err(end),
     }
     Ok(Octets::new(alloc))
