@@ -1,6 +1,10 @@
 pub mod Answering
+pub mod Listings
 pub mod Moves
 pub mod Outcomes
+pub mod Pieces
 pub mod Refusals
+pub mod Sequences
 pub mod Turns
 pub mod Unanswered
+pub mod Walks

@@ -19,11 +19,11 @@ pub data Next (A : Type 0) : Type 0 where
 -- what follows from a value, or the end that there is in its place
 abbrev pub go_on : {A B : Type 0} → Result B ClientEnd → (B → Next A) → Next A
 go_on (Ok value) next = next value
-go_on (Err end) next = Next.Returns (Err end)
+go_on (Err end) next = Returns (Err end)
 
 -- a call, and what follows from its outcome, which is read so
 abbrev pub asking : {A B : Type 0} → Call → (Outcome → Result B ClientEnd) → (B → List Outcome → Next A) → List Outcome → Next A
-asking call reads next [] = Next.Calls call
+asking call reads next [] = Calls call
 asking call reads next (outcome ∷ later) = go_on (reads outcome) (λ value. next value later)
 
 -- A request is a function from the outcomes of its calls so far to what it does next. Its first calls were made, one after another, and
@@ -32,14 +32,18 @@ abbrev pub MakesCalls : {A : Type 0} → (List Outcome → Next A) → List Outc
 MakesCalls request [] b b' h h' = (b' ≡ b) × (h' ≡ h)
 MakesCalls request (outcome ∷ outcomes) b b' h h' =
     (call : Call) × (c : LinkBytes) × (i : RequesterSide) ×
-    ((request [] ≡ Next.Calls call) × (Answers b c h i call outcome × MakesCalls (λ later. request (outcome ∷ later)) outcomes c b' i h'))
+    ((request [] ≡ Calls call) × (Answers b c h i call outcome × MakesCalls (λ later. request (outcome ∷ later)) outcomes c b' i h'))
 
--- Then it ends: with its result; or its next call has no answer; or memory ran out.
+-- A call has no answer, for this cause; or memory ran out before it was made, and nothing changed.
+abbrev pub Unanswered : Call → (b b' : LinkBytes) (h h' : RequesterSide) → ClientEnd → Type 0
+Unanswered call b b' h h' end =
+    ((cause : CallEnd) × ((end ≡ client.Link cause) × (GivesUp b b' h h' call cause × IsCause cause b'.left b'.read h' call)))
+    ⊎ ((end ≡ client.Memory) × ((b' ≡ b) × (h' ≡ h)))
+
+-- Then it ends: with its result, unless memory ran out; or its next call has no answer.
 abbrev pub EndsWith : {A : Type 0} → Next A → (b b' : LinkBytes) (h h' : RequesterSide) → Result A ClientEnd → Type 0
-EndsWith (Next.Returns result) b b' h h' given = Gives given result × ((b' ≡ b) × (h' ≡ h))
-EndsWith (Next.Calls call) b b' h h' given =
-    ((end : CallEnd) × ((given ≡ Err (client.Link end)) × (GivesUp b b' h h' call end × IsCause end b'.left b'.read h' call)))
-    ⊎ ((given ≡ Err client.Memory) × ((b' ≡ b) × (h' ≡ h)))
+EndsWith (Returns result) b b' h h' given = Gives given result × ((b' ≡ b) × (h' ≡ h))
+EndsWith (Calls call) b b' h h' given = (end : ClientEnd) × ((given ≡ Err end) × Unanswered call b b' h h' end)
 
 -- A request was made: its calls in order, and it ended so.
 pub record Follows {A : Type 0} (request : List Outcome → Next A) (b b' : LinkBytes) (h h' : RequesterSide) (given : Result A ClientEnd) : Type 0 where

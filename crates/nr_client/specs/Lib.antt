@@ -4,10 +4,12 @@ pub mod Following
 pub mod LinkParts
 pub mod Listing
 pub mod Paths
+pub mod Reading
 pub mod Requests
 pub mod Results
 pub mod SessionState
 pub mod Steps
 pub mod Transfers
 pub mod Walking
+pub mod Writing
 pub mod private

@@ -1,5 +1,5 @@
 -- The request that lists a directory: READDIR up to the end of the directory (RFC 1813 section 3.3.16).
-use Rattle.std.specs.Prelude.{ℕ, ◌-◌, ltb, if◌then◌else◌, Bool, true, false, List, [], ◌∷◌, ◌++◌, length, map, Result, Ok, Err}
+use Rattle.std.specs.Prelude.{ℕ, ◌-◌, ltb, if◌then◌else◌, Bool, true, false, not, ◌&&◌, List, [], ◌∷◌, ◌++◌, length, map, Result, Ok, Err}
 use Rattle.nr_xdr.specs.Items.{encodings}
 use Rattle.nr_nfs_args.specs.Readdir.{readdir_args_codec}
 use Rattle.nr_nfs_base.specs.Attributes.{attributes_codec}
@@ -47,13 +47,13 @@ abbrev pub last_cookie : ℕ → List Entry → ℕ
 last_cookie cookie [] = cookie
 last_cookie cookie (entry ∷ entries) = last_cookie entry.cookie entries
 
+abbrev pub is_empty : List Entry → Bool
+is_empty [] = true
+is_empty (entry ∷ entries) = false
+
 -- no entry, and not the end of the directory
 abbrev pub is_stuck : ReaddirOk → Bool
-is_stuck listing = is_none listing.entries listing.eof
-  where
-    is_none : List Entry → Bool → Bool
-    is_none [] false = true
-    is_none entries eof = false
+is_stuck listing = is_empty listing.entries && not listing.eof
 
 -- what is listed with these results, whose eof word has this offset
 abbrev pub listed_with : Listed → ReaddirOk → ℕ → Result Listed ClientEnd

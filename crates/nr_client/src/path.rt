@@ -1,8 +1,8 @@
 //! The components of a path.
 
-ghost use Rattle.std.specs.Prelude.{◌≡◌, ◌≤◌, ◌+◌, drop, length};
+ghost use Rattle.std.specs.Prelude.{◌≡◌, ◌≤◌, ◌+◌, drop, length, IfErr};
 ghost use Rattle.nr_client.specs.Paths.{path_names};
-ghost use Rattle.nr_client.specs.Results.{Gives};
+ghost use Rattle.nr_client.specs.Results.{Gives, NotLink};
 ghost use Rattle.nr_client.specs.private.Pieces.{PushesNames, piece_length};
 
 use crate::client_end::ClientEnd;
@@ -29,7 +29,8 @@ fn piece_end(path: &[u8], from: usize) -> usize
 
 /// Adds the components of a path after some names.
 fn push_components(alloc: Global, names: &mut Names, path: &[u8]) -> Result<(), ClientEnd>
-    ensures { PushesNames names.old names.new result (path_names path.now) }
+    ensures pushes { PushesNames names.old names.new result (path_names path.now) }
+    ensures no_link { IfErr result NotLink }
 {
     let mut at = 0;
     while at < path.len() {
@@ -53,7 +54,8 @@ fn push_components(alloc: Global, names: &mut Names, path: &[u8]) -> Result<(), 
 /// The components of a path: it is cut at each slash, and empty pieces are dropped. `BadPath` if and only if a component has more than 255
 /// bytes, at the offset of the first one.
 pub fn components(alloc: Global, path: &[u8]) -> Result<Names, ClientEnd>
-    ensures { Gives result (path_names path.now) }
+    ensures gives { Gives result (path_names path.now) }
+    ensures no_link { IfErr result NotLink }
 {
     let mut names = Names::new(alloc);
     match push_components(alloc, &mut names, path) {

@@ -69,6 +69,7 @@ impl<I: Source, O: Sink> Session<I, O> {
         ensures stands { IfOk result (λ s. (opened : LinkParameters) (link : ℕ) → opened.first_xid ≡ 1 → opened.first_stag ≡ 1 → opened.wished ≡ 16 → RequesterRepresents opened link s.link.requester []) }
         ensures err { IfErr result (λ end. OpenFails end (D.faults dialer.old) (D.faults dialer.new)) }
         ensures counted { OnOk result (D.faults dialer.new ≡ D.faults dialer.old) }
+        ensures lost { OnOk result (D.lost dialer.new ≡ D.lost dialer.old) }
     {
         let (source, sink) = match dialer.dial(addr) {
             Ok(link) => link,

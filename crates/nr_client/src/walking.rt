@@ -1,15 +1,100 @@
 //! Requests that go along a path.
 
 ghost use Rattle.nr_client.specs.Following.{Follows};
-ghost use Rattle.nr_client.specs.Requests.{SinkFaults, SourceFaults};
+ghost use Rattle.nr_client.specs.Requests.{Asks, SinkFaults, SourceFaults, lookup_call};
 ghost use Rattle.nr_client.specs.Transfers.{link_bytes};
-ghost use Rattle.nr_client.specs.Walking.{parent_next, walk_next};
+ghost use Rattle.nr_client.specs.Walking.{object_result, parent_along, parent_next, walk_from, walk_next};
 
+use crate::asking::ask_nfs;
 use crate::client_end::ClientEnd;
 use crate::link::Link;
-use nr_nfs_base::{Handle, Name};
+use crate::path::components;
+use crate::requests::lookup_call;
+use nr_nfs_base::{Attributes, Handle, Name};
+use nr_nfs_res::LookupOk;
 use nr_outside::{Sink, Source};
 use std::alloc::Global;
+
+/// The file handle of a name in a directory.
+fn object_over<I: Source, O: Sink>(
+    alloc: Global,
+    link: &mut Link<I, O>,
+    uid: u32,
+    gid: u32,
+    dir: &Handle,
+    name: &Name,
+) -> Result<Handle, ClientEnd>
+    ensures asks { Asks object_result (lookup_call uid gid dir.now name.now)
+        (link_bytes (I.left link.old.source) (I.given link.old.source) (O.taken link.old.sink) link.old.read)
+        (link_bytes (I.left link.new.source) (I.given link.new.source) (O.taken link.new.sink) link.new.read)
+        link.old.requester link.new.requester result }
+    ensures source_faults { SourceFaults result (I.faults link.old.source) (I.faults link.new.source) }
+    ensures sink_faults { SinkFaults result (O.faults link.old.sink) (O.faults link.new.sink) }
+{
+    let call = lookup_call(alloc, uid, gid, dir, name);
+    match ask_nfs::<I, O, LookupOk, Option<Attributes>>(alloc, link, call) {
+        Ok(LookupOk { object, .. }) => Ok(object),
+        Err(end) => Err(end),
+    }
+}
+
+/// The file handle to which names lead from a directory, one after another.
+fn walk_names<I: Source, O: Sink>(
+    alloc: Global,
+    link: &mut Link<I, O>,
+    uid: u32,
+    gid: u32,
+    root: &Handle,
+    names: &[Name],
+) -> Result<Handle, ClientEnd>
+    ensures follows { Follows (walk_from uid gid root.now names.now)
+        (link_bytes (I.left link.old.source) (I.given link.old.source) (O.taken link.old.sink) link.old.read)
+        (link_bytes (I.left link.new.source) (I.given link.new.source) (O.taken link.new.sink) link.new.read)
+        link.old.requester link.new.requester result }
+    ensures source_faults { SourceFaults result (I.faults link.old.source) (I.faults link.new.source) }
+    ensures sink_faults { SinkFaults result (O.faults link.old.sink) (O.faults link.new.sink) }
+{
+    let Ok(mut dir) = Handle::from_slice(alloc, root.as_slice()) else {
+        return Err(ClientEnd::Memory);
+    };
+    for name in names {
+        match object_over(alloc, link, uid, gid, &dir, name) {
+            Ok(object) => dir = object,
+            Err(end) => return Err(end),
+        }
+    }
+    Ok(dir)
+}
+
+/// The file handle of the directory that the last of some names stands in, and that name. They end at this offset.
+fn parent_of_names<I: Source, O: Sink>(
+    alloc: Global,
+    link: &mut Link<I, O>,
+    uid: u32,
+    gid: u32,
+    root: &Handle,
+    at: usize,
+    names: &[Name],
+) -> Result<(Handle, Name), ClientEnd>
+    ensures follows { Follows (parent_along uid gid root.now at names.now)
+        (link_bytes (I.left link.old.source) (I.given link.old.source) (O.taken link.old.sink) link.old.read)
+        (link_bytes (I.left link.new.source) (I.given link.new.source) (O.taken link.new.sink) link.new.read)
+        link.old.requester link.new.requester result }
+    ensures source_faults { SourceFaults result (I.faults link.old.source) (I.faults link.new.source) }
+    ensures sink_faults { SinkFaults result (O.faults link.old.sink) (O.faults link.new.sink) }
+{
+    if names.is_empty() {
+        return Err(ClientEnd::BadPath { at });
+    }
+    let (before, last) = names.split_at(names.len() - 1);
+    let Ok(name) = Name::from_slice(alloc, last[0].as_slice()) else {
+        return Err(ClientEnd::Memory);
+    };
+    match walk_names(alloc, link, uid, gid, root, before) {
+        Ok(dir) => Ok((dir, name)),
+        Err(end) => Err(end),
+    }
+}
 
 /// The file handle of a path.
 pub(crate) fn walk_over<I: Source, O: Sink>(
@@ -27,7 +112,11 @@ pub(crate) fn walk_over<I: Source, O: Sink>(
     ensures source_faults { SourceFaults result (I.faults link.old.source) (I.faults link.new.source) }
     ensures sink_faults { SinkFaults result (O.faults link.old.sink) (O.faults link.new.sink) }
 {
-    Err(ClientEnd::Memory)
+    let names = match components(alloc, path) {
+        Ok(names) => names,
+        Err(end) => return Err(end),
+    };
+    walk_names(alloc, link, uid, gid, root, names.as_slice())
 }
 
 /// The file handle of the directory that a path's last component stands in, and that component.
@@ -46,5 +135,9 @@ pub(crate) fn walk_to_parent_over<I: Source, O: Sink>(
     ensures source_faults { SourceFaults result (I.faults link.old.source) (I.faults link.new.source) }
     ensures sink_faults { SinkFaults result (O.faults link.old.sink) (O.faults link.new.sink) }
 {
-    Err(ClientEnd::Memory)
+    let names = match components(alloc, path) {
+        Ok(names) => names,
+        Err(end) => return Err(end),
+    };
+    parent_of_names(alloc, link, uid, gid, root, path.len(), names.as_slice())
 }

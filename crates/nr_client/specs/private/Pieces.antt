@@ -15,6 +15,6 @@ after_names front (Ok names) = Ok (front ++ names)
 after_names front (Err end) = Err end
 
 -- the names come after the old ones; else the result is the end, or memory ran out
-abbrev pub PushesNames : (old new : List (List ℕ)) → Result Unit ClientEnd → Result (List (List ℕ)) ClientEnd → Type 0
+abbrev pub PushesNames : (old new : List (List ℕ)) → Result (Unit {0}) ClientEnd → Result (List (List ℕ)) ClientEnd → Type 0
 PushesNames old new (Ok done) names = after_names old names ≡ Ok new
 PushesNames old new (Err end) names = Gives {A = List (List ℕ)} (Err end) (after_names old names)

@@ -1,0 +1,124 @@
+-- Requests of several calls, one call after another.
+use Rattle.std.proofs.Common.{◌≡◌, ◌⊎◌, List, [], ◌∷◌, Result, Ok, Err, inl, inr, refl, sym, ap, subst, ◌∙◌}
+use Rattle.nr_reduce.specs.declared.call.Call.{Call}
+use Rattle.nr_reduce.specs.declared.call.Outcome.{Outcome}
+use Rattle.nr_requester.specs.RequesterState.{RequesterSide}
+use Rattle.nr_client.specs.declared.client_end.ClientEnd.{ClientEnd}
+use Rattle.nr_client.specs.declared.client_end.ClientEnd.TheVariants as client
+use Rattle.nr_client.specs.Following.{EndsWith, Follows, MakesCalls, Next, go_on}
+use Rattle.nr_client.specs.Following.Next.{Calls, Returns}
+use Rattle.nr_client.specs.Requests.{Asks}
+use Rattle.nr_client.specs.Results.{Gives}
+use Rattle.nr_client.specs.Transfers.{LinkBytes}
+
+pub gives_itself : {A : Type 0} (end : ClientEnd) → Gives {A = A} (Err end) (Err end)
+gives_itself client.DialFault = refl
+gives_itself (client.Link end) = refl
+gives_itself (client.Rpc kind code) = refl
+gives_itself (client.Mount status) = refl
+gives_itself (client.Nfs status) = refl
+gives_itself client.Chunk = refl
+gives_itself (client.Version low high) = refl
+gives_itself (client.BadReply at reason) = refl
+gives_itself (client.BadPath at) = refl
+gives_itself client.InputFault = refl
+gives_itself client.OutputFault = refl
+gives_itself (client.Budget count) = refl
+gives_itself client.Memory = tt
+
+pub given_end : {A : Type 0} (end : ClientEnd) (read : Result A ClientEnd) → Gives (Err end) read → (end ≡ client.Memory) ⊎ (read ≡ Err end)
+given_end client.DialFault read gives = inr gives
+given_end (client.Link end) read gives = inr gives
+given_end (client.Rpc kind code) read gives = inr gives
+given_end (client.Mount status) read gives = inr gives
+given_end (client.Nfs status) read gives = inr gives
+given_end client.Chunk read gives = inr gives
+given_end (client.Version low high) read gives = inr gives
+given_end (client.BadReply at reason) read gives = inr gives
+given_end (client.BadPath at) read gives = inr gives
+given_end client.InputFault read gives = inr gives
+given_end client.OutputFault read gives = inr gives
+given_end (client.Budget count) read gives = inr gives
+given_end client.Memory read gives = inl refl
+
+-- memory runs out at any moment
+out_at : {A : Type 0} (next : Next A) (b : LinkBytes) (h : RequesterSide) → EndsWith next b b h h (Err client.Memory)
+out_at (Calls call) b h = (client.Memory, (refl, inr (refl, (refl, refl))))
+out_at (Returns answer) b h = (tt, (refl, refl))
+
+pub runs_out : {A : Type 0} (request : List Outcome → Next A) (b : LinkBytes) (h : RequesterSide) → Follows request b b h h (Err client.Memory)
+runs_out request b h = record { outcomes = []; between = b; side = h; made = (refl, refl); ends = out_at (request []) b h }
+
+-- a request that has its result
+pub returns_at_once : {A : Type 0} (request : List Outcome → Next A) (answer result : Result A ClientEnd) (b : LinkBytes) (h : RequesterSide)
+    → request [] ≡ Returns answer → Gives result answer → Follows request b b h h result
+returns_at_once {A} request answer result b h is gives = record {
+  outcomes = [];
+  between = b;
+  side = h;
+  made = (refl, refl);
+  ends = subst (λ (next : Next A). EndsWith next b b h h result) (sym is) (gives, (refl, refl));
+}
+
+-- A call was answered, and read as a value; then the request goes on with what follows from that.
+pub goes_on : {A B : Type 0} (request : List Outcome → Next A) (call : Call) (reads : Outcome → Result B ClientEnd) (next : B → List Outcome → Next A) (value : B)
+    (b c d : LinkBytes) (h i j : RequesterSide) (result : Result A ClientEnd)
+    → request [] ≡ Calls call → ((outcome : Outcome) → (λ later. request (outcome ∷ later)) ≡ (λ later. go_on (reads outcome) (λ v. next v later)))
+    → Asks reads call b c h i (Ok value) → Follows (next value) c d i j result → Follows request b d h j result
+goes_on {A} {B} request call reads next value b c d h i j result first later (inl (outcome, (answers, gives))) rest =
+    let same : (λ (outcomes : List Outcome). request (outcome ∷ outcomes)) ≡ next value =
+      later outcome ∙ ap (λ (r : Result B ClientEnd). λ (outcomes : List Outcome). go_on r (λ v. next v outcomes)) gives in
+    record {
+      outcomes = outcome ∷ rest.outcomes;
+      between = rest.between;
+      side = rest.side;
+      made = (call, c, i, (first, (answers, subst (λ (f : List Outcome → Next A). MakesCalls f rest.outcomes c rest.between i rest.side) (sym same) rest.made)));
+      ends = subst (λ (f : List Outcome → Next A). EndsWith (f rest.outcomes) rest.between d rest.side j result) (sym same) rest.ends;
+    }
+goes_on request call reads next value b c d h i j result first later (inr (inl (cause, (is, given_up)))) rest = absurd (let wrong : Ok value ≡ Err (client.Link cause) = is in cc)
+goes_on request call reads next value b c d h i j result first later (inr (inr (is, same))) rest = absurd (let wrong : Ok value ≡ Err client.Memory = is in cc)
+
+-- the end of a call that has no result
+end_of : {A : Type 0} → Result A ClientEnd → ClientEnd
+end_of (Ok value) = client.Memory
+end_of (Err end) = end
+
+ended : {A B : Type 0} (end : ClientEnd) (next : Next A) (read : Result B ClientEnd) (more : B → Next A) (b : LinkBytes) (h : RequesterSide)
+    → next ≡ go_on read more → (end ≡ client.Memory) ⊎ (read ≡ Err end) → EndsWith next b b h h (Err end)
+ended {A} end next read more b h is (inl out) = subst (λ (e : ClientEnd). EndsWith next b b h h (Err e)) (sym out) (out_at next b h)
+ended {A} {B} end next read more b h is (inr failed) =
+    let returns : next ≡ Returns (Err end) = is ∙ ap (λ (r : Result B ClientEnd). go_on r more) failed in
+    subst (λ (n : Next A). EndsWith n b b h h (Err end)) (sym returns) (gives_itself end, (refl, refl))
+
+-- A call was made and had no result, or it has no answer: so the request has none.
+pub ends_there : {A B : Type 0} (request : List Outcome → Next A) (call : Call) (reads : Outcome → Result B ClientEnd) (next : B → List Outcome → Next A) (end : ClientEnd)
+    (b c : LinkBytes) (h i : RequesterSide)
+    → request [] ≡ Calls call → ((outcome : Outcome) → (λ later. request (outcome ∷ later)) ≡ (λ later. go_on (reads outcome) (λ v. next v later)))
+    → Asks reads call b c h i (Err end) → Follows request b c h i (Err end)
+ends_there {A} {B} request call reads next end b c h i first later (inl (outcome, (answers, gives))) = record {
+  outcomes = outcome ∷ [];
+  between = c;
+  side = i;
+  made = (call, c, i, (first, (answers, (refl, refl))));
+  ends = ended end (request (outcome ∷ [])) (reads outcome) (λ v. next v []) c i (ap (λ (f : List Outcome → Next A). f []) (later outcome)) (given_end end (reads outcome) gives);
+}
+ends_there {A} {B} request call reads next end b c h i first later (inr (inl (cause, (is, given_up)))) = record {
+  outcomes = [];
+  between = b;
+  side = h;
+  made = (refl, refl);
+  ends = subst (λ (n : Next A). EndsWith n b c h i (Err end)) (sym first) (end, (refl, inl (cause, (ap (λ (r : Result B ClientEnd). end_of r) is, given_up))));
+}
+ends_there {A} {B} request call reads next end b c h i first later (inr (inr (is, same))) = record {
+  outcomes = [];
+  between = b;
+  side = h;
+  made = (refl, refl);
+  ends = subst (λ (n : Next A). EndsWith n b c h i (Err end)) (sym first) (end, (refl, inr (ap (λ (r : Result B ClientEnd). end_of r) is, same)));
+}
+
+-- ---- What is left of a request
+
+-- However what is left of a request ends, the request as a whole ends so.
+abbrev pub LeadsTo : {A : Type 0} → (whole : List Outcome → Next A) (b : LinkBytes) (h : RequesterSide) (rest : List Outcome → Next A) (c : LinkBytes) (i : RequesterSide) → Type 0
+LeadsTo {A} whole b h rest c i = (d : LinkBytes) (j : RequesterSide) (result : Result A ClientEnd) → Follows rest c d i j result → Follows whole b d h j result

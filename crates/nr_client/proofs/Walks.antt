@@ -1,0 +1,152 @@
+-- Requests along a path, name after name.
+use Rattle.std.proofs.Common.{◌≡◌, ◌⊎◌, ℕ, ◌+◌, ◌-◌, ◌<◌, ◌≤◌, List, [], ◌∷◌, ◌++◌, length, take, drop, get_or, Result, Ok, Err, inl, inr, arith, refl, sym, ap, subst, ◌∙◌}
+use Rattle.std.proofs.lemmas.List.{drop_all, drop_more, take_all, take_more}
+use Rattle.nr_nfs_res.specs.declared.lookup.LookupOk.{LookupOk}
+use Rattle.nr_reduce.specs.declared.call.Call.{Call}
+use Rattle.nr_reduce.specs.declared.call.Outcome.{Outcome}
+use Rattle.nr_requester.specs.RequesterState.{RequesterSide}
+use Rattle.nr_client.specs.declared.client_end.ClientEnd.{ClientEnd}
+use Rattle.nr_client.specs.declared.client_end.ClientEnd.TheVariants as client
+use Rattle.nr_client.specs.Following.{EndsWith, Follows, MakesCalls, Next, asking, go_on}
+use Rattle.nr_client.specs.Following.Next.{Calls, Returns}
+use Rattle.nr_client.specs.Paths.{path_names}
+use Rattle.nr_client.specs.Requests.{Asks, lookup_call, lookup_result}
+use Rattle.nr_client.specs.Results.{Gives}
+use Rattle.nr_client.specs.Transfers.{LinkBytes}
+use Rattle.nr_client.specs.Walking.{object_in, object_result, parent_along, parent_from, parent_next, walk_from, walk_next}
+use Rattle.nr_client.proofs.Sequences.{LeadsTo, ends_there, gives_itself, given_end, goes_on, returns_at_once, runs_out}
+
+-- the file handle in the results of a LOOKUP
+pub asks_object : (call : Call) (b c : LinkBytes) (h i : RequesterSide) (found : LookupOk) → Asks lookup_result call b c h i (Ok found) → Asks object_result call b c h i (Ok found.object)
+asks_object call b c h i found (inl (outcome, (answers, gives))) = inl (outcome, (answers, ap (λ (r : Result LookupOk ClientEnd). object_in r) gives))
+asks_object call b c h i found (inr (inl (cause, (is, given_up)))) = absurd (let wrong : Ok found ≡ Err (client.Link cause) = is in cc)
+asks_object call b c h i found (inr (inr (is, same))) = absurd (let wrong : Ok found ≡ Err client.Memory = is in cc)
+
+no_object : (end : ClientEnd) (read : Result LookupOk ClientEnd) → (end ≡ client.Memory) ⊎ (read ≡ Err end) → Gives {A = List ℕ} (Err end) (object_in read)
+no_object end read (inl out) = subst (λ (e : ClientEnd). Gives {A = List ℕ} (Err e) (object_in read)) (sym out) tt
+no_object end read (inr failed) = subst (λ (r : Result LookupOk ClientEnd). Gives {A = List ℕ} (Err end) (object_in r)) (sym failed) (gives_itself end)
+
+end_is : {A : Type 0} (end cause : ClientEnd) → Err {A = A} end ≡ Err cause → end ≡ cause
+end_is {A} end cause same = ap (λ (r : Result A ClientEnd). by r) same
+  where
+    by : Result A ClientEnd → ClientEnd
+    by (Ok value) = end
+    by (Err other) = other
+
+pub asks_no_object : (call : Call) (b c : LinkBytes) (h i : RequesterSide) (end : ClientEnd) → Asks lookup_result call b c h i (Err end) → Asks object_result call b c h i (Err end)
+asks_no_object call b c h i end (inl (outcome, (answers, gives))) = inl (outcome, (answers, no_object end (lookup_result outcome) (given_end end (lookup_result outcome) gives)))
+asks_no_object call b c h i end (inr (inl (cause, (is, given_up)))) =
+    inr (inl (cause, (ap (λ (e : ClientEnd). Err e) (end_is end (client.Link cause) is), given_up)))
+asks_no_object call b c h i end (inr (inr (is, same))) =
+    inr (inr (ap (λ (e : ClientEnd). Err e) (end_is end client.Memory is), same))
+
+-- ---- From name to name
+
+at_name : (names : List (List ℕ)) (index : ℕ) (name : List ℕ) → index < length names → name ≡ get_or names index name → drop index names ≡ name ∷ drop (index + 1) names
+at_name names index name inside is = drop_more names index name inside ∙ ap (λ (n : List ℕ). n ∷ drop (index + 1) names) (sym is)
+
+module _ (uid gid : ℕ) (whole : List Outcome → Next (List ℕ)) (dir : List ℕ) (names : List (List ℕ)) (index : ℕ) (name : List ℕ) (inside : index < length names) (is : name ≡ get_or names index name)
+    (b c d : LinkBytes) (h i j : RequesterSide) (so_far : LeadsTo whole b h (walk_from uid gid dir (drop index names)) c i) where
+  now : LeadsTo whole b h (walk_from uid gid dir (name ∷ drop (index + 1) names)) c i
+  now = subst (λ (left : List (List ℕ)). LeadsTo whole b h (walk_from uid gid dir left) c i) (at_name names index name inside is) so_far
+
+  pub walk_goes_on : (object : List ℕ) → Asks object_result (lookup_call uid gid dir name) c d i j (Ok object) → LeadsTo whole b h (walk_from uid gid object (drop (index + 1) names)) d j
+  walk_goes_on object asks e k result rest =
+      now e k result
+      (goes_on (walk_from uid gid dir (name ∷ drop (index + 1) names)) (lookup_call uid gid dir name) object_result (λ found. walk_from uid gid found (drop (index + 1) names))
+      object c d e i j k result refl (λ outcome. refl) asks rest)
+
+  pub walk_stops : (end : ClientEnd) → Asks object_result (lookup_call uid gid dir name) c d i j (Err end) → Follows whole b d h j (Err end)
+  walk_stops end asks =
+      now d j (Err end)
+      (ends_there (walk_from uid gid dir (name ∷ drop (index + 1) names)) (lookup_call uid gid dir name) object_result (λ found. walk_from uid gid found (drop (index + 1) names))
+      end c d i j refl (λ outcome. refl) asks)
+
+pub walk_ends : (uid gid : ℕ) (whole : List Outcome → Next (List ℕ)) (dir : List ℕ) (names : List (List ℕ)) (index : ℕ) (b c : LinkBytes) (h i : RequesterSide)
+    → length names ≤ index → LeadsTo whole b h (walk_from uid gid dir (drop index names)) c i → Follows whole b c h i (Ok dir)
+walk_ends uid gid whole dir names index b c h i over so_far =
+    let left : drop index names ≡ [] = drop_all index names over in
+    so_far c i (Ok dir)
+    (returns_at_once (walk_from uid gid dir (drop index names)) (Ok dir) (Ok dir) c i (ap (λ (ns : List (List ℕ)). walk_from uid gid dir ns []) left) refl)
+
+-- ---- Up to the last name
+
+beside : List ℕ → Result (List ℕ) ClientEnd → Result (List ℕ × List ℕ) ClientEnd
+beside last (Ok dir) = Ok (dir, last)
+beside last (Err end) = Err end
+
+with_last : List ℕ → Next (List ℕ) → Next (List ℕ × List ℕ)
+with_last last (Calls call) = Calls call
+with_last last (Returns answer) = Returns (beside last answer)
+
+-- a LOOKUP of the first of two names or more
+first_of : (uid gid at : ℕ) (last : List ℕ) (front : List (List ℕ)) (dir name : List ℕ) (outcomes : List Outcome)
+    → parent_from uid gid dir name (front ++ last ∷ []) outcomes ≡ asking (lookup_call uid gid dir name) object_result (λ object. parent_along uid gid object at (front ++ last ∷ [])) outcomes
+first_of uid gid at last [] dir name outcomes = refl
+first_of uid gid at last (next ∷ front) dir name outcomes = refl
+
+either : (last : List ℕ) (read : Result (List ℕ) ClientEnd) (up : List ℕ → Next (List ℕ × List ℕ)) (down : List ℕ → Next (List ℕ))
+    → ((object : List ℕ) → up object ≡ with_last last (down object)) → go_on read up ≡ with_last last (go_on read down)
+either last (Ok object) up down same = same object
+either last (Err end) up down same = refl
+
+parent_is : (uid gid at : ℕ) (last : List ℕ) (front : List (List ℕ)) (dir : List ℕ) (outcomes : List Outcome)
+    → parent_along uid gid dir at (front ++ last ∷ []) outcomes ≡ with_last last (walk_from uid gid dir front outcomes)
+parent_is uid gid at last [] dir outcomes = refl
+parent_is uid gid at last (name ∷ front) dir [] = first_of uid gid at last front dir name []
+parent_is uid gid at last (name ∷ front) dir (outcome ∷ later) =
+    first_of uid gid at last front dir name (outcome ∷ later)
+    ∙ either last (object_result outcome) (λ object. parent_along uid gid object at (front ++ last ∷ []) later) (λ object. walk_from uid gid object front later)
+      (λ object. parent_is uid gid at last front object later)
+
+made_with_last : (last : List ℕ) (down : List Outcome → Next (List ℕ)) (up : List Outcome → Next (List ℕ × List ℕ)) → ((outcomes : List Outcome) → up outcomes ≡ with_last last (down outcomes))
+    → (outcomes : List Outcome) (b c : LinkBytes) (h i : RequesterSide) → MakesCalls down outcomes b c h i → MakesCalls up outcomes b c h i
+made_with_last last down up same [] b c h i made = made
+made_with_last last down up same (outcome ∷ later) b c h i (call, d, j, (first, (answers, more))) =
+    (call, d, j, (same [] ∙ ap (λ (next : Next (List ℕ)). with_last last next) first, (answers,
+    made_with_last last (λ outcomes. down (outcome ∷ outcomes)) (λ outcomes. up (outcome ∷ outcomes)) (λ outcomes. same (outcome ∷ outcomes)) later d c j i more)))
+
+gives_beside : (last : List ℕ) (result read : Result (List ℕ) ClientEnd) → Gives result read → Gives (beside last result) (beside last read)
+gives_beside last (Ok dir) read gives = ap (λ (r : Result (List ℕ) ClientEnd). beside last r) gives
+gives_beside last (Err end) read gives = by (given_end end read gives)
+  where
+    by : (end ≡ client.Memory) ⊎ (read ≡ Err end) → Gives {A = List ℕ × List ℕ} (Err end) (beside last read)
+    by (inl out) = subst (λ (e : ClientEnd). Gives {A = List ℕ × List ℕ} (Err e) (beside last read)) (sym out) tt
+    by (inr failed) = subst (λ (r : Result (List ℕ) ClientEnd). Gives {A = List ℕ × List ℕ} (Err end) (beside last r)) (sym failed) (gives_itself end)
+
+ends_with_last : (last : List ℕ) (next : Next (List ℕ)) (b c : LinkBytes) (h i : RequesterSide) (result : Result (List ℕ) ClientEnd)
+    → EndsWith next b c h i result → EndsWith (with_last last next) b c h i (beside last result)
+ends_with_last last (Calls call) b c h i result (end, (is, unanswered)) = (end, (ap (λ (r : Result (List ℕ) ClientEnd). beside last r) is, unanswered))
+ends_with_last last (Returns answer) b c h i result (gives, same) = (gives_beside last result answer gives, same)
+
+-- the names before the last were walked
+pub parent_follows : (uid gid at : ℕ) (last : List ℕ) (front : List (List ℕ)) (dir : List ℕ) (b c : LinkBytes) (h i : RequesterSide) (result : Result (List ℕ) ClientEnd)
+    → Follows (walk_from uid gid dir front) b c h i result → Follows (parent_along uid gid dir at (front ++ last ∷ [])) b c h i (beside last result)
+parent_follows uid gid at last front dir b c h i result walked = record {
+  outcomes = walked.outcomes;
+  between = walked.between;
+  side = walked.side;
+  made = made_with_last last (walk_from uid gid dir front) (parent_along uid gid dir at (front ++ last ∷ [])) (parent_is uid gid at last front dir) walked.outcomes b walked.between h walked.side walked.made;
+  ends = subst (λ (next : Next (List ℕ × List ℕ)). EndsWith next walked.between c walked.side i (beside last result))
+      (sym (parent_is uid gid at last front dir walked.outcomes))
+      (ends_with_last last (walk_from uid gid dir front walked.outcomes) walked.between c walked.side i result walked.ends);
+}
+
+-- ---- The names of a path
+
+pub along : {A : Type 0} (path : List ℕ) (names : List (List ℕ)) (more : List (List ℕ) → List Outcome → Next A) (b c : LinkBytes) (h i : RequesterSide) (result : Result A ClientEnd)
+    → path_names path ≡ Ok names → Follows (more names) b c h i result → Follows (λ outcomes. go_on (path_names path) (λ ns. more ns outcomes)) b c h i result
+along {A} path names more b c h i result is follows =
+    subst (λ (request : List Outcome → Next A). Follows request b c h i result)
+    (sym (ap (λ (r : Result (List (List ℕ)) ClientEnd). λ (outcomes : List Outcome). go_on r (λ ns. more ns outcomes)) is)) follows
+
+pub bad_path : {A : Type 0} (path : List ℕ) (end : ClientEnd) (more : List (List ℕ) → List Outcome → Next A) (b : LinkBytes) (h : RequesterSide)
+    → Gives {A = List (List ℕ)} (Err end) (path_names path) → Follows (λ outcomes. go_on (path_names path) (λ ns. more ns outcomes)) b b h h (Err end)
+bad_path {A} path end more b h gives = by (given_end end (path_names path) gives)
+  where
+    request : List Outcome → Next A
+    request outcomes = go_on (path_names path) (λ ns. more ns outcomes)
+
+    by : (end ≡ client.Memory) ⊎ (path_names path ≡ Err end) → Follows request b b h h (Err end)
+    by (inl out) = subst (λ (e : ClientEnd). Follows request b b h h (Err e)) (sym out) (runs_out request b h)
+    by (inr failed) = returns_at_once request (Err end) (Err end) b h (ap (λ (r : Result (List (List ℕ)) ClientEnd). go_on r (λ ns. more ns [])) failed) (gives_itself end)

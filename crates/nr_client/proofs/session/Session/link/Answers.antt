@@ -1,0 +1,10 @@
+use Rattle.std.proofs.Common.{sym}
+use Rattle.nr_nfs_base.specs.Procedures.{nfs_program, nfs_version}
+use Rattle.nr_client.proofs.Outcomes.{writable}
+use Rattle.nr_client.proofs.session.Session.link.Goals as goal
+
+pub returns-clause-asks : goal.returns-clause-asks
+returns-clause-asks g c = rw (sym c.self.view_is) (c.ask_nfs.ensures.asks _ c.symlink_call.ensures)
+
+pub ask_nfs-requires : goal.ask_nfs-requires
+ask_nfs-requires g c = writable c.symlink_call.result nfs_program nfs_version 10 c.self.inside.uid c.self.inside.gid _ c.symlink_call.ensures

@@ -1,0 +1,157 @@
+-- How a file is read: GETATTR gives its size, and READs give its bytes, in order.
+use Rattle.std.specs.Prelude.{◌≡◌, ℕ, ◌+◌, ◌-◌, ◌%◌, ◌<◌, ◌≤◌, Bool, not, ◌&&◌, ◌||◌, ◌==◌, nat_lt, min, if◌then◌else◌, ◌⊎◌, List, [], ◌∷◌, ◌++◌, length, take, fold, Option, Some, None, Result, Ok, Err}
+use Rattle.std.specs.Io.KnownBytes.{Appends}
+use Rattle.nr_xdr.specs.Items.{encodings}
+use Rattle.nr_rpc.specs.declared.head.ReplyHead.{ReplyHead}
+use Rattle.nr_rpc.specs.declared.head.ReplyHead.TheVariants as heads
+use Rattle.nr_rpc.specs.Reading.{reply_of}
+use Rattle.nr_nfs_base.specs.Attributes.{attributes_codec}
+use Rattle.nr_nfs_base.specs.Codec.{optional}
+use Rattle.nr_nfs_base.specs.Limits.{transfer_max}
+use Rattle.nr_nfs_base.specs.Procedures.{nfs_procedure_number, nfs_program, nfs_version}
+use Rattle.nr_nfs_base.specs.declared.attributes.Attributes.{Attributes}
+use Rattle.nr_nfs_base.specs.declared.procedure.NfsProcedure.TheVariants as nfs
+use Rattle.nr_nfs_args.specs.Bytes.{read_args_codec}
+use Rattle.nr_nfs_res.specs.Bytes.{read_ok_codec}
+use Rattle.nr_nfs_res.specs.declared.bytes.ReadOk.{ReadOk}
+use Rattle.nr_outside.specs.Faults.{Rises}
+use Rattle.nr_reduce.specs.declared.call.Call.{Call}
+use Rattle.nr_reduce.specs.declared.call.Outcome.{Outcome}
+use Rattle.nr_reduce.specs.declared.call.Outcome.TheVariants as outcomes
+use Rattle.nr_requester.specs.RequesterState.{RequesterSide}
+use Rattle.nr_client.specs.declared.client_end.ClientEnd.{ClientEnd}
+use Rattle.nr_client.specs.declared.client_end.ClientEnd.TheVariants as client
+use Rattle.nr_client.specs.Following.{EndsWith, MakesCalls, Next}
+use Rattle.nr_client.specs.Following.Next.{Calls, Returns}
+use Rattle.nr_client.specs.Requests.{client_call, getattr_call, getattr_result, nfs_reads}
+use Rattle.nr_client.specs.Transfers.{LinkBytes}
+
+-- ---- READ (RFC 1813 section 3.3.6)
+
+-- the reason of a reply that gives nothing and no end, or more than was asked for
+abbrev pub makes_no_sense : ℕ
+makes_no_sense = 25
+
+-- the offset of the results in a reply, after its head; 0 if it has none
+abbrev pub results_offset_by : Result ReplyHead ℕ → ℕ
+results_offset_by (Ok (heads.Accepted xid stat results_at)) = results_at
+results_offset_by head = 0
+
+abbrev pub results_offset : Outcome → ℕ
+results_offset (outcomes.Reply payload) = results_offset_by (reply_of payload)
+results_offset outcome = 0
+
+-- the length of post_op_attr in bytes: a flag, and fattr3 if it is 1 (RFC 1813 section 2.5)
+abbrev pub post_op_attr_len : Option Attributes → ℕ
+post_op_attr_len None = 4
+post_op_attr_len (Some attributes) = 88
+
+-- a READ of `count` bytes at an offset
+abbrev pub read_call : (uid gid : ℕ) → (file : List ℕ) → (offset count : ℕ) → Call
+read_call uid gid file offset count =
+    client_call nfs_program nfs_version (nfs_procedure_number nfs.Read) uid gid
+    (encodings (read_args_codec.items (record { file = file; offset = offset; count = count })))
+
+-- its data are more than the count, or they are no bytes and the file doesn't end there
+abbrev pub is_bad_read : ℕ → ReadOk → Bool
+is_bad_read count results = nat_lt count (length results.bytes) || (length results.bytes == 0 && not results.eof)
+
+-- A reply to it whose data are such is bad: at the length of the data, which comes after the status, the attributes, the count and eof.
+abbrev pub checked_read : (count results_at : ℕ) → Result ReadOk ClientEnd → Result ReadOk ClientEnd
+checked_read count results_at (Ok results) =
+    if is_bad_read count results then Err (client.BadReply (results_at + (12 + post_op_attr_len results.attributes)) makes_no_sense) else Ok results
+checked_read count results_at (Err end) = Err end
+
+-- the result of a READ of `count` bytes, by its outcome
+abbrev pub read_result : ℕ → Outcome → Result ReadOk ClientEnd
+read_result count outcome = checked_read count (results_offset outcome) (nfs_reads read_ok_codec (optional attributes_codec) outcome)
+
+-- ---- The bytes of a file
+
+-- What the replies so far say of a file: nothing; its size, at which offset the next READ begins, and the bytes that came; or why no more
+-- of it is read.
+pub data FileRead : Type 0 where
+  NothingKnown : FileRead
+  SizeKnown : (size at : ℕ) → (bytes : List ℕ) → FileRead
+  ReadEnds : (end : ClientEnd) → (bytes : List ℕ) → FileRead
+
+-- A file is read in pieces of this many bytes, the last of which ends at the size. A READ asks for what is left of its piece.
+abbrev pub piece_left : (size at : ℕ) → ℕ
+piece_left size at = min (transfer_max - at % transfer_max) (size - at)
+
+-- the next READ goes on after the data; if the file ends there, it begins the next piece
+abbrev pub offset_after : (size at : ℕ) → ReadOk → ℕ
+offset_after size at results = at + (if results.eof then piece_left size at else length results.bytes)
+
+abbrev pub with_size : Result Attributes ClientEnd → FileRead
+with_size (Ok attributes) = SizeKnown attributes.size 0 []
+with_size (Err end) = ReadEnds end []
+
+abbrev pub with_data : (size at : ℕ) → List ℕ → Result ReadOk ClientEnd → FileRead
+with_data size at bytes (Ok results) = SizeKnown size (offset_after size at results) (bytes ++ results.bytes)
+with_data size at bytes (Err end) = ReadEnds end bytes
+
+-- what one more reply says
+abbrev pub after_reply : FileRead → Outcome → FileRead
+after_reply NothingKnown outcome = with_size (getattr_result outcome)
+after_reply (SizeKnown size at bytes) outcome = with_data size at bytes (read_result (piece_left size at) outcome)
+after_reply (ReadEnds end bytes) outcome = ReadEnds end bytes
+
+abbrev pub file_read : List Outcome → FileRead
+file_read outcomes = fold after_reply NothingKnown outcomes
+
+-- the bytes that came in these replies
+abbrev pub bytes_of : FileRead → List ℕ
+bytes_of NothingKnown = []
+bytes_of (SizeKnown size at bytes) = bytes
+bytes_of (ReadEnds end bytes) = bytes
+
+abbrev pub bytes_read : List Outcome → List ℕ
+bytes_read outcomes = bytes_of (file_read outcomes)
+
+-- What comes next: GETATTR; then READs, up to the size.
+abbrev pub next_read : (uid gid : ℕ) → (file : List ℕ) → FileRead → Next (Unit {0})
+next_read uid gid file NothingKnown = Calls (getattr_call uid gid file)
+next_read uid gid file (SizeKnown size at bytes) =
+    if nat_lt at size then Calls (read_call uid gid file at (piece_left size at)) else Returns (Ok tt)
+next_read uid gid file (ReadEnds end bytes) = Returns (Err end)
+
+abbrev pub reading : (uid gid : ℕ) → (file : List ℕ) → List Outcome → Next (Unit {0})
+reading uid gid file outcomes = next_read uid gid file (file_read outcomes)
+
+-- ---- The output
+
+-- The output took the bytes that came in the replies; if memory ran out, perhaps not those of the last reply.
+abbrev pub TakesRead : Result (Unit {0}) ClientEnd → List Outcome → (taken taken' : Option (List ℕ)) → Type 0
+TakesRead (Err client.Memory) outcomes taken taken' =
+    (before last : List Outcome) × ((outcomes ≡ before ++ last) × ((length last ≤ 1) × Appends taken taken' (bytes_read before)))
+TakesRead given outcomes taken taken' = Appends taken taken' (bytes_read outcomes)
+
+-- It failed: it took all bytes but the last ones of the last reply, at least one.
+abbrev pub TakesPart : List Outcome → (taken taken' : Option (List ℕ)) → Type 0
+TakesPart outcomes taken taken' =
+    (before : List Outcome) × (last : Outcome) × (n : ℕ) ×
+    ((outcomes ≡ before ++ last ∷ []) × ((length (bytes_read before) ≤ n) × ((n < length (bytes_read outcomes)) × Appends taken taken' (take n (bytes_read outcomes)))))
+
+-- After these outcomes the request ends as its calls say, or because the output failed.
+abbrev pub EndsReading : Next (Unit {0}) → List Outcome → (b b' : LinkBytes) (h h' : RequesterSide) → (taken taken' : Option (List ℕ)) → Result (Unit {0}) ClientEnd → Type 0
+EndsReading next outcomes b b' h h' taken taken' given =
+    (EndsWith next b b' h h' given × TakesRead given outcomes taken taken')
+    ⊎ ((given ≡ Err client.OutputFault) × (((b' ≡ b) × (h' ≡ h)) × TakesPart outcomes taken taken'))
+
+-- A file was read into an output: its calls were made in order, and the bytes of their replies were written as they came.
+pub record ReadsFile (uid gid : ℕ) (file : List ℕ) (b b' : LinkBytes) (h h' : RequesterSide) (taken taken' : Option (List ℕ)) (given : Result (Unit {0}) ClientEnd) : Type 0 where
+  pub outcomes : List Outcome
+  pub between : LinkBytes
+  pub side : RequesterSide
+  pub made : MakesCalls (reading uid gid file) outcomes b between h side
+  pub ends : EndsReading (reading uid gid file outcomes) outcomes between b' side h' taken taken' given
+
+-- the fault count of the output rises at OutputFault alone, and that of an input at InputFault alone
+abbrev pub OutputFaults : {A : Type 0} → Result A ClientEnd → ℕ → ℕ → Type 0
+OutputFaults (Err client.OutputFault) before after = Rises before after
+OutputFaults given before after = after ≡ before
+
+abbrev pub InputFaults : {A : Type 0} → Result A ClientEnd → ℕ → ℕ → Type 0
+InputFaults (Err client.InputFault) before after = Rises before after
+InputFaults given before after = after ≡ before
