@@ -11,6 +11,9 @@ static STAT: [&str; 5] = ["nfsrdma", "stat", "here", "/", "/"];
 /// The read or the write that fails, in turn.
 static EACH: [[usize; 1]; 6] = [[0], [1], [2], [3], [4], [5]];
 
+/// No call fails.
+const NO_CALL: &[usize] = &[];
+
 /// The status if a read fails: the hello, the reply to MNT and that to GETATTR are read.
 static READS: [u8; 6] = [3, 3, 3, 0, 0, 0];
 
@@ -34,15 +37,15 @@ fn streams_that_end_early(rt: HostRuntime) {
         part.truncate(len);
         let given = client(&rt, alloc, &STAT, part.as_slice(), NONE);
         same(&rt, row, given.status, 4);
-        same(&rt, row, given.err.as_slice() == b"link closed\n", true);
+        same(&rt, row, given.err.as_slice() == b"link closed\n".as_slice(), true);
     }
 }
 
 /// Runs `stat` over a link with failing calls, and gives the status.
 fn failing(rt: &impl Abort, alloc: Global, row: usize, received: &[u8], calls: Failing) -> u8 {
     let given = client(rt, alloc, &STAT, received, calls);
-    let reported: &[u8] = if given.status == 0 { b"" } else { b"link fault\n" };
-    same(rt, row, given.err.as_slice() == reported, true);
+    let reported = if given.status == 0 { "" } else { "link fault\n" };
+    same(rt, row, given.err.as_slice() == reported.as_bytes(), true);
     given.status
 }
 
@@ -50,7 +53,7 @@ fn failing(rt: &impl Abort, alloc: Global, row: usize, received: &[u8], calls: F
 fn each_read_fails(rt: HostRuntime) {
     let received = received(&rt, rt.alloc());
     for (row, (read, want)) in EACH.iter().zip(READS.iter()).enumerate() {
-        let got = failing(&rt, rt.alloc(), row, received.as_slice(), (read, &[]));
+        let got = failing(&rt, rt.alloc(), row, received.as_slice(), (read.as_slice(), NO_CALL));
         same(&rt, row, got, *want);
     }
 }
@@ -61,7 +64,7 @@ fn each_write_fails(rt: HostRuntime) {
     let received = received(&rt, rt.alloc());
     let mut last = 3;
     for (row, write) in EACH.iter().enumerate() {
-        let got = failing(&rt, rt.alloc(), row, received.as_slice(), (&[], write));
+        let got = failing(&rt, rt.alloc(), row, received.as_slice(), (NO_CALL, write.as_slice()));
         same(&rt, row, got == last || got == 0, true);
         same(&rt, row, row > 1 || got == 3, true);
         last = got;
@@ -81,5 +84,5 @@ fn results_that_cannot_be_read(rt: HostRuntime) {
     }
     let given = client(&rt, alloc, &STAT, received.as_slice(), NONE);
     same(&rt, 0, given.status, 5);
-    same(&rt, 1, given.err.as_slice() == b"protocol bad 28 24\n", true);
+    same(&rt, 1, given.err.as_slice() == b"protocol bad 28 24\n".as_slice(), true);
 }

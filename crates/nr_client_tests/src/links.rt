@@ -47,7 +47,7 @@ pub(crate) struct Given {
 fn strings(rt: &impl Abort, alloc: Global, words: &[&str]) -> Vec<String> {
     let mut strings = Vec::new(alloc);
     for word in words {
-        let text = String::from_str(alloc, word).expect(rt, "memory");
+        let text = format!(in alloc; "{word}").expect(rt, "memory");
         strings.push(text).expect(rt, "memory");
     }
     strings
