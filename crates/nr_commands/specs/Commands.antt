@@ -1,5 +1,5 @@
 -- The requests of each command, and what it prints.
-use Rattle.std.specs.Prelude.{ℕ, List, [], length, nat_le, MatchBool}
+use Rattle.std.specs.Prelude.{ℕ, List, [], length, nat_lt, MatchBool}
 use Rattle.nr_nfs_base.specs.Limits.{link_target_max}
 use Rattle.nr_nfs_res.specs.declared.create.CreateOk.{CreateOk}
 use Rattle.nr_words.specs.Limits.{mount_path_max}
@@ -13,7 +13,7 @@ use Rattle.nr_commands.specs.Sessions.{Fails, Part, Request, Requests, Text, The
 -- MNT of an export, whose path has at most 1024 bytes (RFC 1813 section 5.1.4)
 abbrev pub Mounts : (uid gid : ℕ) → List ℕ → Part (List ℕ)
 Mounts uid gid export s s' result =
-    MatchBool (nat_le (length export) mount_path_max) (Request mnt_result (mnt_call uid gid export) s s' result) (Fails (client.Budget mount_path_max) s s' result)
+    MatchBool (nat_lt mount_path_max (length export)) (Fails (client.Budget mount_path_max) s s' result) (Request mnt_result (mnt_call uid gid export) s s' result)
 
 -- from the root of an export to the file of a path, or to the directory that has its last component
 abbrev pub Finds : (uid gid : ℕ) → (export path : List ℕ) → Part (List ℕ)
@@ -50,8 +50,8 @@ Removes uid gid export path =
 -- SYMLINK, whose path has at most 1024 bytes
 abbrev pub Symlinks : (uid gid : ℕ) → (dir name target : List ℕ) → Part CreateOk
 Symlinks uid gid dir name target s s' result =
-    MatchBool (nat_le (length target) link_target_max) (Request create_result (symlink_call uid gid dir name target) s s' result) (Fails (client.Budget link_target_max) s s' result)
+    MatchBool (nat_lt link_target_max (length target)) (Fails (client.Budget link_target_max) s s' result) (Request create_result (symlink_call uid gid dir name target) s s' result)
 
-abbrev pub MakesLink : (uid gid : ℕ) → (export path target : List ℕ) → Part (List ℕ)
-MakesLink uid gid export path target =
+abbrev pub MakesSymlink : (uid gid : ℕ) → (export path target : List ℕ) → Part (List ℕ)
+MakesSymlink uid gid export path target =
     Then (FindsParent uid gid export path) (λ place. Then (Symlinks uid gid place.0 place.1 target) (λ made. Text []))

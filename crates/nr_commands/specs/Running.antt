@@ -1,5 +1,5 @@
 -- A command of a client, from its words to its end.
-use Rattle.std.specs.Prelude.{◌≡◌, ⊤, ℕ, List, [], Option, Result, Ok, Err}
+use Rattle.std.specs.Prelude.{◌≡◌, ℕ, Bool, true, false, List, [], Option, Result, Ok, Err}
 use Rattle.nr_outside.specs.Streams.{SinkAt, SourceAt, Writes, WritesSome}
 use Rattle.nr_links.specs.Asked.{Asks as AsksFor}
 use Rattle.nr_links.specs.Links.{CountsLost, EndsLink, IsNewLink, LinkLog, MakesLink, ended_link}
@@ -13,7 +13,7 @@ use Rattle.nr_words.specs.declared.commands.Client.{Client}
 use Rattle.nr_client.specs.declared.client_end.ClientEnd.{ClientEnd}
 use Rattle.nr_client.specs.declared.client_end.ClientEnd.TheVariants as client
 use Rattle.nr_client.specs.Requests.{OpenFails}
-use Rattle.nr_commands.specs.Commands.{Lists, MakesDirectory, MakesLink, MountsAndPrints, ReadsLink, Removes, Stats}
+use Rattle.nr_commands.specs.Commands.{Lists, MakesDirectory, MakesSymlink, MountsAndPrints, ReadsLink, Removes, Stats}
 use Rattle.nr_commands.specs.Sessions.{Part, SessionAt}
 
 -- what is known of a dialer: the addresses of its links, its links, and its counts
@@ -52,7 +52,7 @@ text_of uid gid export (actions.Stat path) = Stats uid gid export path
 text_of uid gid export (actions.ReadLink path) = ReadsLink uid gid export path
 text_of uid gid export (actions.MakeDirectory path) = MakesDirectory uid gid export path
 text_of uid gid export (actions.Remove path) = Removes uid gid export path
-text_of uid gid export (actions.Link path target) = MakesLink uid gid export path target
+text_of uid gid export (actions.Link path target) = MakesSymlink uid gid export path target
 text_of uid gid export (actions.Put path) s s' result = ⊥
 text_of uid gid export (actions.Get path) s s' result = ⊥
 
@@ -65,10 +65,10 @@ IsPrinted (Err why) (Ok done) out out' = ⊥
 IsPrinted (Err why) (Err end) out out' = (end ≡ why) × (out' ≡ out)
 
 -- whether the result of a command is a text: of all but `put` and `get`
-abbrev pub HasText : Action Text → Type 0
-HasText (actions.Put path) = ⊥
-HasText (actions.Get path) = ⊥
-HasText action = ⊤
+abbrev pub has_text : Action Text → Bool
+has_text (actions.Put path) = false
+has_text (actions.Get path) = false
+has_text action = true
 
 -- a command was done over a session, up to its result, and its text was printed
 pub record Prints (c : Client Text) (s s' : SessionAt) (out out' : SinkAt) (result : Result (Unit {0}) ClientEnd) : Type 0 where

@@ -9,6 +9,9 @@ use nr_nfs_base::{Handle, MOUNT_PATH_MAX, MountPath, Name};
 use nr_outside::{Sink, Source};
 use std::alloc::Global;
 
+/// The maximum length of the path of an export in bytes.
+const EXPORT_MAX: usize = MOUNT_PATH_MAX as usize;
+
 /// The file handle of the root of an export.
 pub(crate) fn mount<I: Source, O: Sink>(
     alloc: Global,
@@ -20,9 +23,10 @@ pub(crate) fn mount<I: Source, O: Sink>(
         (session_at (I.left session.new.link.source) (I.given session.new.link.source) (O.taken session.new.link.sink) session.new.link.read session.new.link.requester (I.faults session.new.link.source) (O.faults session.new.link.sink)) result }
     ensures user { (session.new.uid ≡ session.old.uid) × (session.new.gid ≡ session.old.gid) }
 {
-    if export.len() > MOUNT_PATH_MAX as usize {
+    let len = export.len();
+    if len > EXPORT_MAX {
         return Err(ClientEnd::Budget {
-            count: MOUNT_PATH_MAX as u64,
+            count: EXPORT_MAX as u64,
         });
     }
     let Ok(path) = MountPath::from_slice(alloc, export.as_bytes()) else {

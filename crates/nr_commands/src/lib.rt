@@ -11,4 +11,4 @@ mod run;
 mod texts;
 
 pub use ending::end_text;
-pub use run::run_command;
+pub use run::{has_text, run_command};

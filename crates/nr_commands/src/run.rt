@@ -1,9 +1,9 @@
 //! A command, from its words to its end.
 
-ghost use Rattle.std.specs.Prelude.{◌≡◌};
+ghost use Rattle.std.specs.Prelude.{◌≡◌, true};
 ghost use Rattle.nr_outside.specs.Streams.{sink_at};
 ghost use Rattle.nr_words.specs.Lines.{plain_action, plain_client};
-ghost use Rattle.nr_commands.specs.Running.{HasText, IsPrinted, Prints, Runs, dialer_at, text_of};
+ghost use Rattle.nr_commands.specs.Running.{IsPrinted, Prints, Runs, dialer_at, has_text, text_of};
 ghost use Rattle.nr_commands.specs.Sessions.{session_at};
 
 use crate::texts::{
@@ -16,6 +16,17 @@ use nr_words::{Action, Client};
 use nr_xdr::Octets;
 use std::alloc::Global;
 
+/// Whether the result of a command is a text: of all but `put` and `get`.
+pub fn has_text(action: &Action<&str>) -> bool
+    ensures { result ≡ has_text (plain_action action.now) }
+{
+    match action {
+        Action::Put { .. } => false,
+        Action::Get { .. } => false,
+        _ => true,
+    }
+}
+
 /// The text of a command.
 fn text_of<P: Source, Q: Sink>(
     alloc: Global,
@@ -23,8 +34,8 @@ fn text_of<P: Source, Q: Sink>(
     export: &str,
     action: &Action<&str>,
 ) -> Result<Octets, ClientEnd>
-    requires { HasText (plain_action action.now) }
-    ensures part { text_of session.old.uid session.old.gid export.now (plain_action action.now)
+    requires { has_text (plain_action action.now) ≡ true }
+    ensures { text_of session.old.uid session.old.gid export.now (plain_action action.now)
         (session_at (P.left session.old.link.source) (P.given session.old.link.source) (Q.taken session.old.link.sink) session.old.link.read session.old.link.requester (P.faults session.old.link.source) (Q.faults session.old.link.sink))
         (session_at (P.left session.new.link.source) (P.given session.new.link.source) (Q.taken session.new.link.sink) session.new.link.read session.new.link.requester (P.faults session.new.link.source) (Q.faults session.new.link.sink)) result }
 {
@@ -67,7 +78,7 @@ pub fn run_command<P: Source, Q: Sink, D: Dialer<Source = P, Sink = Q>, O: Sink>
     dial: &mut D,
     out: &mut O,
 ) -> Result<(), ClientEnd>
-    requires { HasText (plain_action client.now.action) }
+    requires { has_text (plain_action client.now.action) ≡ true }
     ensures { Runs (plain_client client.now)
         (dialer_at (D.asked dial.old) (D.ended dial.old) (D.lost dial.old) (D.faults dial.old))
         (dialer_at (D.asked dial.new) (D.ended dial.new) (D.lost dial.new) (D.faults dial.new))

@@ -2,7 +2,7 @@
 
 ghost use Rattle.std.specs.Prelude.{◌≡◌, List, ℕ, IfOk, MatchResult};
 ghost use Rattle.nr_client.specs.declared.client_end.ClientEnd.TheVariants as client;
-ghost use Rattle.nr_commands.specs.Commands.{Lists, MakesDirectory, MakesLink, MountsAndPrints, ReadsLink, Removes, Stats, Symlinks};
+ghost use Rattle.nr_commands.specs.Commands.{Lists, MakesDirectory, MakesSymlink, MountsAndPrints, ReadsLink, Removes, Stats, Symlinks};
 ghost use Rattle.nr_commands.specs.Sessions.{session_at};
 
 use crate::finding::{find, find_parent, mount};
@@ -13,6 +13,9 @@ use nr_nfs_res::CreateOk;
 use nr_outside::{Sink, Source};
 use nr_xdr::{Memory, Octets};
 use std::alloc::Global;
+
+/// The maximum length of the path of a symbolic link in bytes.
+const TARGET_MAX: usize = LINK_TARGET_MAX as usize;
 
 /// A text, if there was memory for it.
 fn printed(text: Result<Octets, Memory>) -> Result<Octets, ClientEnd>
@@ -170,9 +173,10 @@ fn symlink<I: Source, O: Sink>(
         (session_at (I.left session.new.link.source) (I.given session.new.link.source) (O.taken session.new.link.sink) session.new.link.read session.new.link.requester (I.faults session.new.link.source) (O.faults session.new.link.sink)) result }
     ensures user { (session.new.uid ≡ session.old.uid) × (session.new.gid ≡ session.old.gid) }
 {
-    if target.len() > LINK_TARGET_MAX as usize {
+    let len = target.len();
+    if len > TARGET_MAX {
         return Err(ClientEnd::Budget {
-            count: LINK_TARGET_MAX as u64,
+            count: TARGET_MAX as u64,
         });
     }
     let Ok(path) = Path::from_slice(alloc, target.as_bytes()) else {
@@ -189,7 +193,7 @@ pub(crate) fn make_link<I: Source, O: Sink>(
     path: &str,
     target: &str,
 ) -> Result<Octets, ClientEnd>
-    ensures part { MakesLink session.old.uid session.old.gid export.now path.now target.now
+    ensures part { MakesSymlink session.old.uid session.old.gid export.now path.now target.now
         (session_at (I.left session.old.link.source) (I.given session.old.link.source) (O.taken session.old.link.sink) session.old.link.read session.old.link.requester (I.faults session.old.link.source) (O.faults session.old.link.sink))
         (session_at (I.left session.new.link.source) (I.given session.new.link.source) (O.taken session.new.link.sink) session.new.link.read session.new.link.requester (I.faults session.new.link.source) (O.faults session.new.link.sink)) result }
     ensures user { (session.new.uid ≡ session.old.uid) × (session.new.gid ≡ session.old.gid) }

@@ -1,9 +1,9 @@
 //! A command of a client: its status, and what is reported.
 
-ghost use Rattle.std.specs.Prelude.{◌≡◌};
+ghost use Rattle.std.specs.Prelude.{◌≡◌, true};
 ghost use Rattle.nr_outside.specs.Streams.{sink_at};
 ghost use Rattle.nr_words.specs.Lines.{plain_action, plain_client};
-ghost use Rattle.nr_commands.specs.Running.{HasText, dialer_at};
+ghost use Rattle.nr_commands.specs.Running.{dialer_at, has_text};
 ghost use Rattle.nr_top.specs.Clients.{ClientEnds, ReportsEnd, call_status, link_status, status_of};
 
 use crate::command::write_error;
@@ -78,7 +78,7 @@ pub(crate) fn run_client<P: Source, Q: Sink, D: Dialer<Source = P, Sink = Q>, O:
     out: &mut O,
     err: &mut E,
 ) -> u8
-    requires { HasText (plain_action client.now.action) }
+    requires { has_text (plain_action client.now.action) ≡ true }
     ensures { ClientEnds (plain_client client.now) result
         (dialer_at (D.asked dial.old) (D.ended dial.old) (D.lost dial.old) (D.faults dial.old))
         (dialer_at (D.asked dial.new) (D.ended dial.new) (D.lost dial.new) (D.faults dial.new))

@@ -11,6 +11,7 @@ ghost use Rattle.nr_top.specs.RunEnds.{RunEnds, outside};
 use crate::client::run_client;
 use crate::command::run_drill;
 use crate::serving::run_server;
+use nr_commands::has_text;
 use nr_links::{Acceptor, Clock, Dialer};
 use nr_outside::{Sink, Source};
 use nr_words::{Command, read_line};
@@ -51,9 +52,22 @@ pub fn run<
         (outside (source_at (I.left input.new) (I.given input.new) (I.faults input.new)) (sink_at (O.taken out.new) (O.faults out.new)) (sink_at (E.taken err.new) (E.faults err.new))
         (dialer_at (D.asked dial.new) (D.ended dial.new) (D.lost dial.new) (D.faults dial.new)) (acceptor_at (A.asked accept.new) (A.ended accept.new) (A.lost accept.new) (A.faults accept.new)) (C.gave clock.new)) }
 {
-    match read_line(words) {
-        Some(Command::Client { client }) => run_client(alloc, &client, dial, out, err),
-        Some(Command::Serve { .. }) => run_server(alloc, input, out, err, accept, clock),
-        _ => run_drill(alloc, words, input, out, err),
+    let Some(command) = read_line(words) else {
+        return run_drill(alloc, words, input, out, err);
+    };
+    match command {
+        Command::Client { client } => {
+            if has_text(&client.action) {
+                return run_client(alloc, &client, dial, out, err);
+            }
+            run_drill(alloc, words, input, out, err)
+        }
+        Command::Serve { config: _config } => run_server(alloc, input, out, err, accept, clock),
+        Command::Drill => run_drill(alloc, words, input, out, err),
+        Command::GeneratedDrill {
+            seed: _seed,
+            clients: _clients,
+            calls: _calls,
+        } => run_drill(alloc, words, input, out, err),
     }
 }
