@@ -14,7 +14,7 @@ use Rattle.nr_client.specs.declared.client_end.ClientEnd.{ClientEnd}
 use Rattle.nr_client.specs.declared.client_end.ClientEnd.TheVariants as client
 use Rattle.nr_client.specs.Requests.{OpenFails}
 use Rattle.nr_commands.specs.Commands.{Lists, MakesDirectory, MakesSymlink, MountsAndPrints, ReadsLink, Removes, Stats}
-use Rattle.nr_commands.specs.Sessions.{Part, SessionAt}
+use Rattle.nr_commands.specs.Sessions.{Never, Part, SessionAt}
 
 -- what is known of a dialer: the addresses of its links, its links, and its counts
 pub record DialerAt : Type 0 where
@@ -53,8 +53,8 @@ text_of uid gid export (actions.ReadLink path) = ReadsLink uid gid export path
 text_of uid gid export (actions.MakeDirectory path) = MakesDirectory uid gid export path
 text_of uid gid export (actions.Remove path) = Removes uid gid export path
 text_of uid gid export (actions.Link path target) = MakesSymlink uid gid export path target
-text_of uid gid export (actions.Put path) s s' result = ⊥
-text_of uid gid export (actions.Get path) s s' result = ⊥
+text_of uid gid export (actions.Put path) = Never
+text_of uid gid export (actions.Get path) = Never
 
 -- A text is printed, completely or, if the output fails, a proper prefix of it. Without a text nothing is printed.
 abbrev pub IsPrinted : Result (List ℕ) ClientEnd → Result (Unit {0}) ClientEnd → (out out' : SinkAt) → Type 0

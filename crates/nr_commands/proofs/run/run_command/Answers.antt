@@ -15,7 +15,7 @@ returns-in-Err g c = NotOpened c.in-Err.end refl c.in-Err.ensures.err refl
 pub returns : goal.returns
 returns g c =
     let state = c.in-Ok.ensures.state in
-    Opened (dialer_at (g.D.Dialer.asked c.open.new.dialer) (g.D.Dialer.ended c.open.new.dialer) (g.D.Dialer.lost c.open.new.dialer) (g.D.Dialer.faults c.open.new.dialer)) (session_at (g.P.Source.left c.in-Ok.session.link.source) (g.P.Source.given c.in-Ok.session.link.source) (g.Q.Sink.taken c.in-Ok.session.link.sink) c.in-Ok.session.link.read c.in-Ok.session.link.requester (g.P.Source.faults c.in-Ok.session.link.source) (g.Q.Sink.faults c.in-Ok.session.link.sink)) (session_at (g.P.Source.left c.text_of.new.session.link.source) (g.P.Source.given c.text_of.new.session.link.source) (g.Q.Sink.taken c.text_of.new.session.link.sink) c.text_of.new.session.link.read c.text_of.new.session.link.requester (g.P.Source.faults c.text_of.new.session.link.source) (g.Q.Sink.faults c.text_of.new.session.link.sink))
+    Opened (dialer_at (g.D.Dialer.asked c.open.new.dialer) (g.D.Dialer.ended c.open.new.dialer) (g.D.Dialer.lost c.open.new.dialer) (g.D.Dialer.faults c.open.new.dialer)) (session_at (g.P.Source.left c.in-Ok.session.link.source) (g.P.Source.given c.in-Ok.session.link.source) (g.Q.Sink.taken c.in-Ok.session.link.sink) c.in-Ok.session.link.read c.in-Ok.session.link.requester (g.P.Source.faults c.in-Ok.session.link.source) (g.Q.Sink.faults c.in-Ok.session.link.sink)) (session_at (g.P.Source.left c.text_of-text.new.session.link.source) (g.P.Source.given c.text_of-text.new.session.link.source) (g.Q.Sink.taken c.text_of-text.new.session.link.sink) c.text_of-text.new.session.link.read c.text_of-text.new.session.link.requester (g.P.Source.faults c.text_of-text.new.session.link.source) (g.Q.Sink.faults c.text_of-text.new.session.link.sink))
     (record {
       asks = c.in-Ok.ensures.asked;
       makes = c.in-Ok.ensures.made;
@@ -27,9 +27,9 @@ returns g c =
       unfailing = c.in-Ok.ensures.counted;
     })
     (record {
-      text = c.text_of.result;
+      text = c.text_of-text.result;
       made = with_user (λ u v. text_of u v c.args.client.now.export.now (plain_action c.args.client.now.action)) c.args.client.now.uid c.args.client.now.gid c.in-Ok.session.uid c.in-Ok.session.gid
-          (session_at (g.P.Source.left c.in-Ok.session.link.source) (g.P.Source.given c.in-Ok.session.link.source) (g.Q.Sink.taken c.in-Ok.session.link.sink) c.in-Ok.session.link.read c.in-Ok.session.link.requester (g.P.Source.faults c.in-Ok.session.link.source) (g.Q.Sink.faults c.in-Ok.session.link.sink)) (session_at (g.P.Source.left c.text_of.new.session.link.source) (g.P.Source.given c.text_of.new.session.link.source) (g.Q.Sink.taken c.text_of.new.session.link.sink) c.text_of.new.session.link.read c.text_of.new.session.link.requester (g.P.Source.faults c.text_of.new.session.link.source) (g.Q.Sink.faults c.text_of.new.session.link.sink)) c.text_of.result state.1.1 c.text_of.ensures;
+          (session_at (g.P.Source.left c.in-Ok.session.link.source) (g.P.Source.given c.in-Ok.session.link.source) (g.Q.Sink.taken c.in-Ok.session.link.sink) c.in-Ok.session.link.read c.in-Ok.session.link.requester (g.P.Source.faults c.in-Ok.session.link.source) (g.Q.Sink.faults c.in-Ok.session.link.sink)) (session_at (g.P.Source.left c.text_of-text.new.session.link.source) (g.P.Source.given c.text_of-text.new.session.link.source) (g.Q.Sink.taken c.text_of-text.new.session.link.sink) c.text_of-text.new.session.link.read c.text_of-text.new.session.link.requester (g.P.Source.faults c.text_of-text.new.session.link.source) (g.Q.Sink.faults c.text_of-text.new.session.link.sink)) c.text_of-text.result state.1.1 c.text_of-text.ensures;
       prints = c.print.ensures;
     })
     (record { ends = c.close.ensures.ended; lost = c.close.ensures.lost; asked = c.close.ensures.asked; unfailing = c.close.ensures.faults })
