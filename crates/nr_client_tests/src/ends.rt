@@ -18,7 +18,7 @@ const NO_CALL: &[usize] = &[];
 static READS: [u8; 6] = [3, 3, 3, 0, 0, 0];
 
 /// What a server sends to `stat` of a root.
-fn received(rt: &impl Abort, alloc: Global) -> Vec<u8> {
+fn answers(rt: &impl Abort, alloc: Global) -> Vec<u8> {
     let (received, given) = exchange(rt, alloc, &STAT, &[]);
     same(rt, 0, given.status, 0);
     received
@@ -30,7 +30,7 @@ static CUTS: [usize; 3] = [1, 163, 164];
 #[test]
 fn streams_that_end_early(rt: HostRuntime) {
     let alloc = rt.alloc();
-    let received = received(&rt, alloc);
+    let received = answers(&rt, alloc);
     for (row, cut) in CUTS.iter().enumerate() {
         let len = received.len().saturating_sub(*cut);
         let mut part = copied(&rt, alloc, received.as_slice());
@@ -51,7 +51,7 @@ fn failing(rt: &impl Abort, alloc: Global, row: usize, received: &[u8], calls: F
 
 #[test]
 fn each_read_fails(rt: HostRuntime) {
-    let received = received(&rt, rt.alloc());
+    let received = answers(&rt, rt.alloc());
     for (row, (read, want)) in EACH.iter().zip(READS.iter()).enumerate() {
         let got = failing(&rt, rt.alloc(), row, received.as_slice(), (read.as_slice(), NO_CALL));
         same(&rt, row, got, *want);
@@ -61,7 +61,7 @@ fn each_read_fails(rt: HostRuntime) {
 /// The first writes fail, and then come numbers of writes that are not made.
 #[test]
 fn each_write_fails(rt: HostRuntime) {
-    let received = received(&rt, rt.alloc());
+    let received = answers(&rt, rt.alloc());
     let mut last = 3;
     for (row, write) in EACH.iter().enumerate() {
         let got = failing(&rt, rt.alloc(), row, received.as_slice(), (NO_CALL, write.as_slice()));
@@ -76,7 +76,7 @@ fn each_write_fails(rt: HostRuntime) {
 #[test]
 fn results_that_cannot_be_read(rt: HostRuntime) {
     let alloc = rt.alloc();
-    let mut received = received(&rt, alloc);
+    let mut received = answers(&rt, alloc);
     let at = received.len().saturating_sub(85);
     match received.get_mut(at) {
         Some(byte) => *byte = 9,
