@@ -1,7 +1,6 @@
 -- A listing, call after call.
 use Rattle.std.proofs.Common.{◌≡◌, ◌⊎◌, ℕ, suc, ◌+◌, ◌-◌, ◌<◌, ◌≤◌, ltb, Bool, true, false, not, ◌&&◌, if◌then◌else◌, List, [], ◌∷◌, ◌++◌, length, map, drop, get_or, Result, Ok, Err, inl, inr, arith, refl, sym, ap, subst, ◌∙◌, append-nil, append_assoc, le-ltb, lt-ltb, ltb-false}
 use Rattle.std.proofs.lemmas.List.{drop_all, drop_more, length-append, length-map}
-use Rattle.nr_nfs_base.specs.declared.verifier.Verifier.{Verifier}
 use Rattle.nr_nfs_res.specs.Readdir.{ReaddirOk}
 use Rattle.nr_nfs_res.specs.declared.readdir.Entry.{Entry}
 use Rattle.nr_reduce.specs.declared.call.Call.{Call}
@@ -10,7 +9,7 @@ use Rattle.nr_requester.specs.RequesterState.{RequesterSide}
 use Rattle.nr_client.specs.declared.client_end.ClientEnd.{ClientEnd}
 use Rattle.nr_client.specs.declared.client_end.ClientEnd.TheVariants as client
 use Rattle.nr_client.specs.declared.listing.Listed.{Listed}
-use Rattle.nr_client.specs.Following.{Follows, Next, go_on}
+use Rattle.nr_client.specs.Following.{Follows, Next}
 use Rattle.nr_client.specs.Following.Next.{Calls, Returns}
 use Rattle.nr_client.specs.Listing.{entries_max, eof_offset, is_empty, is_stuck, last_cookie, list_from, listed_after, listed_or, listed_with, no_progress, readdir_call, readdir_result}
 use Rattle.nr_client.specs.Requests.{Asks}
@@ -26,7 +25,7 @@ module _ (uid gid : ℕ) (whole : List Outcome → Next (List (List ℕ))) (dir 
   first = ap (λ (eof : Bool). if eof then Returns (Ok listed.names) else Calls (readdir_call uid gid dir listed.cookie listed.verifier)) unfinished
 
   pub list_goes_on : (more : Listed) → Asks (listed_after listed) (readdir_call uid gid dir listed.cookie listed.verifier) c d i j (Ok more) → LeadsTo whole b h (list_from uid gid dir more) d j
-  list_goes_on more asks e k result rest =
+  list_goes_on more asks = λ e k result rest.
       so_far e k result
       (goes_on (list_from uid gid dir listed) (readdir_call uid gid dir listed.cookie listed.verifier) (listed_after listed) (list_from uid gid dir) more c d e i j k result first (λ outcome. refl) asks rest)
 
@@ -45,7 +44,7 @@ list_ends uid gid whole dir listed b c h i finished so_far =
 -- ---- One part of the directory
 
 -- what is listed with it, by the two tests
-by_tests : (over stuck : Bool) → Listed → ReaddirOk → ℕ → Result Listed ClientEnd
+abbrev pub by_tests : (over stuck : Bool) → Listed → ReaddirOk → ℕ → Result Listed ClientEnd
 by_tests over stuck listed listing at =
     if over then Err (client.Budget entries_max)
     else (if stuck then Err (client.BadReply at no_progress)
@@ -59,7 +58,7 @@ by_tests over stuck listed listing at =
 len_with : (listed : Listed) (listing : ReaddirOk) → length (listed.names ++ map (λ (entry : Entry). entry.name) listing.entries) ≡ length listed.names + length listing.entries
 len_with listed listing =
     length-append listed.names (map (λ (entry : Entry). entry.name) listing.entries)
-    ∙ ap (λ (n : ℕ). length listed.names + n) (length-map (λ (entry : Entry). entry.name) listing.entries)
+    ∙ ap (λ (n : ℕ). length listed.names + n) (length-map listing.entries (λ (entry : Entry). entry.name))
 
 pub over_budget : (listed : Listed) (listing : ReaddirOk) (at : ℕ) → length listed.names ≤ entries_max → entries_max - length listed.names < length listing.entries
     → listed_with listed listing at ≡ Err (client.Budget entries_max)
@@ -85,15 +84,14 @@ pub is_added : (listed more : Listed) (listing : ReaddirOk) (at : ℕ) → lengt
     → more.names ≡ listed.names ++ map (λ (entry : Entry). entry.name) listing.entries → more.cookie ≡ last_cookie listed.cookie listing.entries → more.verifier ≡ listing.verifier → more.eof ≡ listing.eof
     → listed_with listed listing at ≡ Ok more
 is_added listed more listing at within fits goes names cookie verifier eof =
-    fits_budget listed listing at within fits
-    ∙ ap (λ (b : Bool). by_tests false b listed listing at) goes
-    ∙ sym (λ (k : I). Ok (record { names = names k; cookie = cookie k; verifier = verifier k; eof = eof k }))
+    let all : Ok more ≡ by_tests false false listed listing at = λ k. Ok (record { names = names k; cookie = cookie k; verifier = verifier k; eof = eof k }) in
+    fits_budget listed listing at within fits ∙ ap (λ (b : Bool). by_tests false b listed listing at) goes ∙ sym all
 
 -- how many more calls there are at most
 abbrev pub calls_left : Listed → ℕ
 calls_left listed = if listed.eof then 0 else suc (entries_max - length listed.names)
 
-some_entry : (entries : List Entry) (eof : Bool) → is_empty entries && not eof ≡ false → (eof ≡ true) ⊎ (0 < length entries)
+some_entry : (entries : List Entry) (eof : Bool) → (is_empty entries && not eof) ≡ false → (eof ≡ true) ⊎ (0 < length entries)
 some_entry [] true goes = inl refl
 some_entry [] false goes = absurd (let wrong : true ≡ false = goes in cc)
 some_entry (entry ∷ entries) eof goes = inr (omega arith)
@@ -108,7 +106,7 @@ pub record Shrinks (listed more : Listed) : Type 0 where
   pub within : length more.names ≤ entries_max
   pub left : calls_left more < suc (entries_max - length listed.names)
 
-in_ok : Listed → Result Listed ClientEnd → Listed
+abbrev pub in_ok : Listed → Result Listed ClientEnd → Listed
 in_ok other (Ok more) = more
 in_ok other (Err end) = other
 
@@ -153,7 +151,7 @@ without_listing listed outcome end gives = by (given_end end (readdir_result out
   where
     by : (end ≡ client.Memory) ⊎ (readdir_result outcome ≡ Err end) → Gives {A = Listed} (Err end) (listed_after listed outcome)
     by (inl out) = subst (λ (e : ClientEnd). Gives {A = Listed} (Err e) (listed_after listed outcome)) (sym out) tt
-    by (inr failed) = subst (λ (r : Result ReaddirOk ClientEnd). Gives {A = Listed} (Err end) (listed_or listed (eof_offset outcome) r)) (sym failed) (gives_itself end)
+    by (inr failed) = subst (λ (r : Result ReaddirOk ClientEnd). Gives {A = Listed} (Err end) (listed_or listed (eof_offset outcome) r)) (sym failed) (gives_itself Listed end)
 
 -- ---- The entries of a reply
 
@@ -171,10 +169,10 @@ adding_goes_on names cookie entries index so_far next last entry inside is pushe
     let at : drop index entries ≡ entry ∷ drop (index + 1) entries = drop_more entries index entry inside ∙ ap (λ (e : Entry). e ∷ drop (index + 1) entries) (sym is) in
     record {
       names_are =
-        ap (λ (ns : List (List ℕ)). ns ++ map (λ (e : Entry). e.name) (drop (index + 1) entries)) pushed
-        ∙ append_assoc so_far (entry.name ∷ []) (map (λ (e : Entry). e.name) (drop (index + 1) entries))
-        ∙ ap (λ (es : List Entry). so_far ++ map (λ (e : Entry). e.name) es) (sym at)
-        ∙ adding.names_are;
+          ap (λ (ns : List (List ℕ)). ns ++ map (λ (e : Entry). e.name) (drop (index + 1) entries)) pushed
+          ∙ append_assoc so_far (entry.name ∷ []) (map (λ (e : Entry). e.name) (drop (index + 1) entries))
+          ∙ ap (λ (es : List Entry). so_far ++ map (λ (e : Entry). e.name) es) (sym at)
+          ∙ adding.names_are;
       cookie_is = ap (λ (es : List Entry). last_cookie last es) (sym at) ∙ adding.cookie_is;
     }
 

@@ -1,5 +1,5 @@
 -- How a path is cut from its front.
-use Rattle.std.proofs.Common.{◌≡◌, ◌≢◌, ℕ, zero, suc, ◌+◌, ◌-◌, ◌<◌, ◌≤◌, ◌==◌, Bool, true, false, ltb, if◌then◌else◌, List, [], ◌∷◌, ◌++◌, length, take, drop, get_or, Result, Ok, Err, arith, refl, sym, ap, subst, ◌∙◌, append-nil, append_assoc, le-ltb, lt-ltb, ne_eqb}
+use Rattle.std.proofs.Common.{◌≡◌, ◌≢◌, ℕ, suc, ◌+◌, ◌-◌, ◌<◌, ◌≤◌, ◌==◌, Bool, true, false, ltb, if◌then◌else◌, List, [], ◌∷◌, ◌++◌, length, take, drop, get_or, Result, Ok, Err, arith, refl, sym, ap, ◌∙◌, append-nil, append_assoc, le-ltb, lt-ltb, ne_eqb}
 use Rattle.std.proofs.lemmas.List.{drop-drop, drop_all, drop_more, length-take-le}
 use Rattle.nr_client.specs.declared.client_end.ClientEnd.{ClientEnd}
 use Rattle.nr_client.specs.declared.client_end.ClientEnd.TheVariants as client
@@ -17,7 +17,7 @@ cut (byte ∷ bytes) = by (byte == slash) (cut bytes)
   where
     by : (is_slash : Bool) → pieces_of bytes ≡ take (piece_length bytes) bytes ∷ later_pieces bytes
         → (if is_slash then [] ∷ pieces_of bytes else onto_first byte (pieces_of bytes))
-          ≡ take (if is_slash then 0 else suc (piece_length bytes)) (byte ∷ bytes) ∷ (if is_slash then pieces_of bytes else later_pieces bytes)
+        ≡ take (if is_slash then 0 else suc (piece_length bytes)) (byte ∷ bytes) ∷ (if is_slash then pieces_of bytes else later_pieces bytes)
     by true rest = refl
     by false rest = ap (λ (pieces : List (List ℕ)). onto_first byte pieces) rest
 
@@ -27,7 +27,7 @@ later_from at (byte ∷ bytes) = by (byte == slash) (later_from at bytes)
   where
     by : (is_slash : Bool) → with_offsets at (later_pieces bytes) ≡ with_offsets at (pieces_of (drop (suc (piece_length bytes)) bytes))
         → with_offsets at (if is_slash then pieces_of bytes else later_pieces bytes)
-          ≡ with_offsets at (pieces_of (drop (suc (if is_slash then 0 else suc (piece_length bytes))) (byte ∷ bytes)))
+        ≡ with_offsets at (pieces_of (drop (suc (if is_slash then 0 else suc (piece_length bytes))) (byte ∷ bytes)))
     by true rest = refl
     by false rest = rest
 
@@ -70,7 +70,7 @@ after_name names name (Ok others) = ap (λ (all : List (List ℕ)). Ok all) (sym
 after_name names name (Err end) = refl
 
 module _ (path : List ℕ) (at end : ℕ) (is : end ≡ at + piece_length (drop at path)) (inside : end ≤ length path) where
-  n : ℕ
+  abbrev n : ℕ
   n = piece_length (drop at path)
 
   len : length (take n (drop at path)) ≡ n
@@ -103,8 +103,8 @@ module _ (path : List ℕ) (at end : ℕ) (is : end ≡ at + piece_length (drop 
       let above : ltb component_max (length (take n (drop at path))) ≡ true = lt-ltb component_max (length (take n (drop at path))) (omega (arith, len, is, long)) in
       sym so_far
       ∙ ap (λ (rest : Result (List (List ℕ)) ClientEnd). after_names names rest)
-        (at_piece ∙ of_piece (take n (drop at path)) (names_from (end + 1) (drop (end + 1) path)) more
-        ∙ ap (λ (b : Bool). if b then Err (client.BadPath at) else with_name (take n (drop at path)) (names_from (end + 1) (drop (end + 1) path))) above)
+      (at_piece ∙ of_piece (take n (drop at path)) (names_from (end + 1) (drop (end + 1) path)) more
+      ∙ ap (λ (b : Bool). if b then Err (client.BadPath at) else with_name (take n (drop at path)) (names_from (end + 1) (drop (end + 1) path))) above)
 
   pub name_pushed : (old names : List (List ℕ)) → at < end → end - at ≤ component_max → Pushed old path names at → Pushed old path (names ++ take (end - at) (drop at path) ∷ []) (end + 1)
   name_pushed old names some short so_far =
@@ -114,8 +114,8 @@ module _ (path : List ℕ) (at end : ℕ) (is : end ≡ at + piece_length (drop 
       ap (λ (k : ℕ). after_names (names ++ take k (drop at path) ∷ []) (names_from (end + 1) (drop (end + 1) path))) size
       ∙ sym (after_name names (take n (drop at path)) (names_from (end + 1) (drop (end + 1) path)))
       ∙ ap (λ (rest : Result (List (List ℕ)) ClientEnd). after_names names rest)
-        (sym (at_piece ∙ of_piece (take n (drop at path)) (names_from (end + 1) (drop (end + 1) path)) more
-        ∙ ap (λ (b : Bool). if b then Err (client.BadPath at) else with_name (take n (drop at path)) (names_from (end + 1) (drop (end + 1) path))) below))
+      (sym (at_piece ∙ of_piece (take n (drop at path)) (names_from (end + 1) (drop (end + 1) path)) more
+      ∙ ap (λ (b : Bool). if b then Err (client.BadPath at) else with_name (take n (drop at path)) (names_from (end + 1) (drop (end + 1) path))) below))
       ∙ so_far
 
 pub all_pushed : (old : List (List ℕ)) (path : List ℕ) (names : List (List ℕ)) (at : ℕ) → length path ≤ at → Pushed old path names at → after_names old (path_names path) ≡ Ok names

@@ -11,20 +11,20 @@ use Rattle.nr_client.specs.Requests.{Asks}
 use Rattle.nr_client.specs.Results.{Gives}
 use Rattle.nr_client.specs.Transfers.{LinkBytes}
 
-pub gives_itself : {A : Type 0} (end : ClientEnd) → Gives {A = A} (Err end) (Err end)
-gives_itself client.DialFault = refl
-gives_itself (client.Link end) = refl
-gives_itself (client.Rpc kind code) = refl
-gives_itself (client.Mount status) = refl
-gives_itself (client.Nfs status) = refl
-gives_itself client.Chunk = refl
-gives_itself (client.Version low high) = refl
-gives_itself (client.BadReply at reason) = refl
-gives_itself (client.BadPath at) = refl
-gives_itself client.InputFault = refl
-gives_itself client.OutputFault = refl
-gives_itself (client.Budget count) = refl
-gives_itself client.Memory = tt
+pub gives_itself : (A : Type 0) (end : ClientEnd) → Gives {A = A} (Err end) (Err end)
+gives_itself A client.DialFault = refl
+gives_itself A (client.Link end) = refl
+gives_itself A (client.Rpc kind code) = refl
+gives_itself A (client.Mount status) = refl
+gives_itself A (client.Nfs status) = refl
+gives_itself A client.Chunk = refl
+gives_itself A (client.Version low high) = refl
+gives_itself A (client.BadReply at reason) = refl
+gives_itself A (client.BadPath at) = refl
+gives_itself A client.InputFault = refl
+gives_itself A client.OutputFault = refl
+gives_itself A (client.Budget count) = refl
+gives_itself A client.Memory = tt
 
 pub given_end : {A : Type 0} (end : ClientEnd) (read : Result A ClientEnd) → Gives (Err end) read → (end ≡ client.Memory) ⊎ (read ≡ Err end)
 given_end client.DialFault read gives = inr gives
@@ -60,14 +60,18 @@ returns_at_once {A} request answer result b h is gives = record {
   ends = subst (λ (next : Next A). EndsWith next b b h h result) (sym is) (gives, (refl, refl));
 }
 
+-- after a first call the request goes on with what its outcome is read as
+abbrev pub Follow : {A B : Type 0} → (List Outcome → Next A) → (Outcome → Result B ClientEnd) → (B → List Outcome → Next A) → Type 0
+Follow {A} request reads next = (outcome : Outcome) → ◌≡◌ {A = List Outcome → Next A} (λ later. request (outcome ∷ later)) (λ later. go_on (reads outcome) (λ v. next v later))
+
 -- A call was answered, and read as a value; then the request goes on with what follows from that.
 pub goes_on : {A B : Type 0} (request : List Outcome → Next A) (call : Call) (reads : Outcome → Result B ClientEnd) (next : B → List Outcome → Next A) (value : B)
     (b c d : LinkBytes) (h i j : RequesterSide) (result : Result A ClientEnd)
-    → request [] ≡ Calls call → ((outcome : Outcome) → (λ later. request (outcome ∷ later)) ≡ (λ later. go_on (reads outcome) (λ v. next v later)))
+    → request [] ≡ Calls call → Follow request reads next
     → Asks reads call b c h i (Ok value) → Follows (next value) c d i j result → Follows request b d h j result
 goes_on {A} {B} request call reads next value b c d h i j result first later (inl (outcome, (answers, gives))) rest =
-    let same : (λ (outcomes : List Outcome). request (outcome ∷ outcomes)) ≡ next value =
-      later outcome ∙ ap (λ (r : Result B ClientEnd). λ (outcomes : List Outcome). go_on r (λ v. next v outcomes)) gives in
+    let same : ◌≡◌ {A = List Outcome → Next A} (λ later. request (outcome ∷ later)) (next value) =
+    later outcome ∙ ap (λ (r : Result B ClientEnd). λ (outcomes : List Outcome). go_on r (λ v. next v outcomes)) gives in
     record {
       outcomes = outcome ∷ rest.outcomes;
       between = rest.between;
@@ -79,7 +83,7 @@ goes_on request call reads next value b c d h i j result first later (inr (inl (
 goes_on request call reads next value b c d h i j result first later (inr (inr (is, same))) rest = absurd (let wrong : Ok value ≡ Err client.Memory = is in cc)
 
 -- the end of a call that has no result
-end_of : {A : Type 0} → Result A ClientEnd → ClientEnd
+abbrev pub end_of : {A : Type 0} → Result A ClientEnd → ClientEnd
 end_of (Ok value) = client.Memory
 end_of (Err end) = end
 
@@ -88,12 +92,12 @@ ended : {A B : Type 0} (end : ClientEnd) (next : Next A) (read : Result B Client
 ended {A} end next read more b h is (inl out) = subst (λ (e : ClientEnd). EndsWith next b b h h (Err e)) (sym out) (out_at next b h)
 ended {A} {B} end next read more b h is (inr failed) =
     let returns : next ≡ Returns (Err end) = is ∙ ap (λ (r : Result B ClientEnd). go_on r more) failed in
-    subst (λ (n : Next A). EndsWith n b b h h (Err end)) (sym returns) (gives_itself end, (refl, refl))
+    subst (λ (n : Next A). EndsWith n b b h h (Err end)) (sym returns) (gives_itself A end, (refl, refl))
 
 -- A call was made and had no result, or it has no answer: so the request has none.
 pub ends_there : {A B : Type 0} (request : List Outcome → Next A) (call : Call) (reads : Outcome → Result B ClientEnd) (next : B → List Outcome → Next A) (end : ClientEnd)
     (b c : LinkBytes) (h i : RequesterSide)
-    → request [] ≡ Calls call → ((outcome : Outcome) → (λ later. request (outcome ∷ later)) ≡ (λ later. go_on (reads outcome) (λ v. next v later)))
+    → request [] ≡ Calls call → Follow request reads next
     → Asks reads call b c h i (Err end) → Follows request b c h i (Err end)
 ends_there {A} {B} request call reads next end b c h i first later (inl (outcome, (answers, gives))) = record {
   outcomes = outcome ∷ [];

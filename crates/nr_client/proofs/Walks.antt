@@ -1,6 +1,6 @@
 -- Requests along a path, name after name.
-use Rattle.std.proofs.Common.{◌≡◌, ◌⊎◌, ℕ, ◌+◌, ◌-◌, ◌<◌, ◌≤◌, List, [], ◌∷◌, ◌++◌, length, take, drop, get_or, Result, Ok, Err, inl, inr, arith, refl, sym, ap, subst, ◌∙◌}
-use Rattle.std.proofs.lemmas.List.{drop_all, drop_more, take_all, take_more}
+use Rattle.std.proofs.Common.{◌≡◌, ◌⊎◌, ℕ, zero, suc, ◌+◌, ◌-◌, ◌<◌, ◌≤◌, List, [], ◌∷◌, ◌++◌, length, take, drop, get_or, Result, Ok, Err, inl, inr, arith, refl, sym, ap, subst, ◌∙◌}
+use Rattle.std.proofs.lemmas.List.{drop_all, drop_more, get_or-drop, take_all, take_more}
 use Rattle.nr_nfs_res.specs.declared.lookup.LookupOk.{LookupOk}
 use Rattle.nr_reduce.specs.declared.call.Call.{Call}
 use Rattle.nr_reduce.specs.declared.call.Outcome.{Outcome}
@@ -13,8 +13,8 @@ use Rattle.nr_client.specs.Paths.{path_names}
 use Rattle.nr_client.specs.Requests.{Asks, lookup_call, lookup_result}
 use Rattle.nr_client.specs.Results.{Gives}
 use Rattle.nr_client.specs.Transfers.{LinkBytes}
-use Rattle.nr_client.specs.Walking.{object_in, object_result, parent_along, parent_from, parent_next, walk_from, walk_next}
-use Rattle.nr_client.proofs.Sequences.{LeadsTo, ends_there, gives_itself, given_end, goes_on, returns_at_once, runs_out}
+use Rattle.nr_client.specs.Walking.{object_in, object_result, parent_along, parent_from, walk_from}
+use Rattle.nr_client.proofs.Sequences.{LeadsTo, end_of, ends_there, gives_itself, given_end, goes_on, returns_at_once, runs_out}
 
 -- the file handle in the results of a LOOKUP
 pub asks_object : (call : Call) (b c : LinkBytes) (h i : RequesterSide) (found : LookupOk) → Asks lookup_result call b c h i (Ok found) → Asks object_result call b c h i (Ok found.object)
@@ -24,21 +24,14 @@ asks_object call b c h i found (inr (inr (is, same))) = absurd (let wrong : Ok f
 
 no_object : (end : ClientEnd) (read : Result LookupOk ClientEnd) → (end ≡ client.Memory) ⊎ (read ≡ Err end) → Gives {A = List ℕ} (Err end) (object_in read)
 no_object end read (inl out) = subst (λ (e : ClientEnd). Gives {A = List ℕ} (Err e) (object_in read)) (sym out) tt
-no_object end read (inr failed) = subst (λ (r : Result LookupOk ClientEnd). Gives {A = List ℕ} (Err end) (object_in r)) (sym failed) (gives_itself end)
-
-end_is : {A : Type 0} (end cause : ClientEnd) → Err {A = A} end ≡ Err cause → end ≡ cause
-end_is {A} end cause same = ap (λ (r : Result A ClientEnd). by r) same
-  where
-    by : Result A ClientEnd → ClientEnd
-    by (Ok value) = end
-    by (Err other) = other
+no_object end read (inr failed) = subst (λ (r : Result LookupOk ClientEnd). Gives {A = List ℕ} (Err end) (object_in r)) (sym failed) (gives_itself (List ℕ) end)
 
 pub asks_no_object : (call : Call) (b c : LinkBytes) (h i : RequesterSide) (end : ClientEnd) → Asks lookup_result call b c h i (Err end) → Asks object_result call b c h i (Err end)
 asks_no_object call b c h i end (inl (outcome, (answers, gives))) = inl (outcome, (answers, no_object end (lookup_result outcome) (given_end end (lookup_result outcome) gives)))
 asks_no_object call b c h i end (inr (inl (cause, (is, given_up)))) =
-    inr (inl (cause, (ap (λ (e : ClientEnd). Err e) (end_is end (client.Link cause) is), given_up)))
+    inr (inl (cause, (ap (λ (r : Result LookupOk ClientEnd). Err (end_of r)) is, given_up)))
 asks_no_object call b c h i end (inr (inr (is, same))) =
-    inr (inr (ap (λ (e : ClientEnd). Err e) (end_is end client.Memory is), same))
+    inr (inr (ap (λ (r : Result LookupOk ClientEnd). Err (end_of r)) is, same))
 
 -- ---- From name to name
 
@@ -51,7 +44,7 @@ module _ (uid gid : ℕ) (whole : List Outcome → Next (List ℕ)) (dir : List 
   now = subst (λ (left : List (List ℕ)). LeadsTo whole b h (walk_from uid gid dir left) c i) (at_name names index name inside is) so_far
 
   pub walk_goes_on : (object : List ℕ) → Asks object_result (lookup_call uid gid dir name) c d i j (Ok object) → LeadsTo whole b h (walk_from uid gid object (drop (index + 1) names)) d j
-  walk_goes_on object asks e k result rest =
+  walk_goes_on object asks = λ e k result rest.
       now e k result
       (goes_on (walk_from uid gid dir (name ∷ drop (index + 1) names)) (lookup_call uid gid dir name) object_result (λ found. walk_from uid gid found (drop (index + 1) names))
       object c d e i j k result refl (λ outcome. refl) asks rest)
@@ -71,11 +64,11 @@ walk_ends uid gid whole dir names index b c h i over so_far =
 
 -- ---- Up to the last name
 
-beside : List ℕ → Result (List ℕ) ClientEnd → Result (List ℕ × List ℕ) ClientEnd
+abbrev pub beside : List ℕ → Result (List ℕ) ClientEnd → Result (List ℕ × List ℕ) ClientEnd
 beside last (Ok dir) = Ok (dir, last)
 beside last (Err end) = Err end
 
-with_last : List ℕ → Next (List ℕ) → Next (List ℕ × List ℕ)
+abbrev pub with_last : List ℕ → Next (List ℕ) → Next (List ℕ × List ℕ)
 with_last last (Calls call) = Calls call
 with_last last (Returns answer) = Returns (beside last answer)
 
@@ -97,14 +90,23 @@ parent_is uid gid at last (name ∷ front) dir [] = first_of uid gid at last fro
 parent_is uid gid at last (name ∷ front) dir (outcome ∷ later) =
     first_of uid gid at last front dir name (outcome ∷ later)
     ∙ either last (object_result outcome) (λ object. parent_along uid gid object at (front ++ last ∷ []) later) (λ object. walk_from uid gid object front later)
-      (λ object. parent_is uid gid at last front object later)
+    (λ object. parent_is uid gid at last front object later)
 
 made_with_last : (last : List ℕ) (down : List Outcome → Next (List ℕ)) (up : List Outcome → Next (List ℕ × List ℕ)) → ((outcomes : List Outcome) → up outcomes ≡ with_last last (down outcomes))
     → (outcomes : List Outcome) (b c : LinkBytes) (h i : RequesterSide) → MakesCalls down outcomes b c h i → MakesCalls up outcomes b c h i
 made_with_last last down up same [] b c h i made = made
-made_with_last last down up same (outcome ∷ later) b c h i (call, d, j, (first, (answers, more))) =
-    (call, d, j, (same [] ∙ ap (λ (next : Next (List ℕ)). with_last last next) first, (answers,
-    made_with_last last (λ outcomes. down (outcome ∷ outcomes)) (λ outcomes. up (outcome ∷ outcomes)) (λ outcomes. same (outcome ∷ outcomes)) later d c j i more)))
+made_with_last last down up same (outcome ∷ later) b c h i (call, d, j, (first, (answers, more))) = (
+  call,
+  d,
+  j,
+  (
+    same [] ∙ ap (λ (next : Next (List ℕ)). with_last last next) first,
+    (
+      answers,
+      made_with_last last (λ outcomes. down (outcome ∷ outcomes)) (λ outcomes. up (outcome ∷ outcomes)) (λ outcomes. same (outcome ∷ outcomes)) later d c j i more,
+    ),
+  ),
+)
 
 gives_beside : (last : List ℕ) (result read : Result (List ℕ) ClientEnd) → Gives result read → Gives (beside last result) (beside last read)
 gives_beside last (Ok dir) read gives = ap (λ (r : Result (List ℕ) ClientEnd). beside last r) gives
@@ -112,7 +114,7 @@ gives_beside last (Err end) read gives = by (given_end end read gives)
   where
     by : (end ≡ client.Memory) ⊎ (read ≡ Err end) → Gives {A = List ℕ × List ℕ} (Err end) (beside last read)
     by (inl out) = subst (λ (e : ClientEnd). Gives {A = List ℕ × List ℕ} (Err e) (beside last read)) (sym out) tt
-    by (inr failed) = subst (λ (r : Result (List ℕ) ClientEnd). Gives {A = List ℕ × List ℕ} (Err end) (beside last r)) (sym failed) (gives_itself end)
+    by (inr failed) = subst (λ (r : Result (List ℕ) ClientEnd). Gives {A = List ℕ × List ℕ} (Err end) (beside last r)) (sym failed) (gives_itself (List ℕ × List ℕ) end)
 
 ends_with_last : (last : List ℕ) (next : Next (List ℕ)) (b c : LinkBytes) (h i : RequesterSide) (result : Result (List ℕ) ClientEnd)
     → EndsWith next b c h i result → EndsWith (with_last last next) b c h i (beside last result)
@@ -144,9 +146,32 @@ pub bad_path : {A : Type 0} (path : List ℕ) (end : ClientEnd) (more : List (Li
     → Gives {A = List (List ℕ)} (Err end) (path_names path) → Follows (λ outcomes. go_on (path_names path) (λ ns. more ns outcomes)) b b h h (Err end)
 bad_path {A} path end more b h gives = by (given_end end (path_names path) gives)
   where
-    request : List Outcome → Next A
-    request outcomes = go_on (path_names path) (λ ns. more ns outcomes)
+    by : (end ≡ client.Memory) ⊎ (path_names path ≡ Err end) → Follows (λ outcomes. go_on (path_names path) (λ ns. more ns outcomes)) b b h h (Err end)
+    by (inl out) =
+        subst (λ (e : ClientEnd). Follows (λ outcomes. go_on (path_names path) (λ ns. more ns outcomes)) b b h h (Err e)) (sym out)
+        (runs_out (λ outcomes. go_on (path_names path) (λ ns. more ns outcomes)) b h)
+    by (inr failed) =
+        returns_at_once (λ outcomes. go_on (path_names path) (λ ns. more ns outcomes)) (Err end) (Err end) b h
+        (ap (λ (r : Result (List (List ℕ)) ClientEnd). go_on r (λ ns. more ns [])) failed) (gives_itself A end)
 
-    by : (end ≡ client.Memory) ⊎ (path_names path ≡ Err end) → Follows request b b h h (Err end)
-    by (inl out) = subst (λ (e : ClientEnd). Follows request b b h h (Err e)) (sym out) (runs_out request b h)
-    by (inr failed) = returns_at_once request (Err end) (Err end) b h (ap (λ (r : Result (List (List ℕ)) ClientEnd). go_on r (λ ns. more ns [])) failed) (gives_itself end)
+-- no name is there
+pub no_parent : (uid gid at : ℕ) (dir : List ℕ) (names : List (List ℕ)) (b : LinkBytes) (h : RequesterSide) → length names ≡ 0 → Follows (parent_along uid gid dir at names) b b h h (Err (client.BadPath at))
+no_parent uid gid at dir [] b h none = returns_at_once (parent_along uid gid dir at []) (Err (client.BadPath at)) (Err (client.BadPath at)) b h refl refl
+no_parent uid gid at dir (name ∷ names) b h none = absurd (omega (arith, none))
+
+-- the names before the last one of these were walked
+pub parent_of : (uid gid at : ℕ) (dir : List ℕ) (names : List (List ℕ)) (n : ℕ) (front : List (List ℕ)) (last : List ℕ) (b c : LinkBytes) (h i : RequesterSide) (result : Result (List ℕ) ClientEnd)
+    → n + 1 ≡ length names → front ≡ take n names → last ≡ get_or names n last → Follows (walk_from uid gid dir front) b c h i result → Follows (parent_along uid gid dir at names) b c h i (beside last result)
+parent_of uid gid at dir names n front last b c h i result len before is walked =
+    let whole : names ≡ take n names ++ get_or names n last ∷ [] = sym (take_all (n + 1) names (omega (arith, len))) ∙ take_more names n last (omega (arith, len)) in
+    let parts : names ≡ front ++ last ∷ [] = whole ∙ (λ k. sym before k ++ sym is k ∷ []) in
+    subst (λ (ns : List (List ℕ)). Follows (parent_along uid gid dir at ns) b c h i (beside last result)) (sym parts) (parent_follows uid gid at last front dir b c h i result walked)
+
+pub one_less : (n : ℕ) → (n ≡ 0 → ⊥) → n - 1 + 1 ≡ n
+one_less zero some = absurd (some refl)
+one_less (suc n) some = omega arith
+
+pub last_is : (names : List (List ℕ)) (n : ℕ) (back : List (List ℕ)) (last : List ℕ) → back ≡ drop n names → last ≡ get_or back 0 last → last ≡ get_or names n last
+last_is names n back last behind is =
+    let same : n + 0 ≡ n = omega arith in
+    is ∙ ap (λ (ns : List (List ℕ)). get_or ns 0 last) behind ∙ get_or-drop n names 0 last ∙ ap (λ (k : ℕ). get_or names k last) same

@@ -1,6 +1,6 @@
 //! Lists of names.
 
-ghost use Rattle.std.specs.Prelude.{◌≡◌, [], ◌∷◌, ◌++◌, OnOk, length};
+ghost use Rattle.std.specs.Prelude.{◌≡◌, [], ◌∷◌, ◌++◌, OnOk};
 
 use nr_nfs_base::Name;
 use nr_xdr::Memory;

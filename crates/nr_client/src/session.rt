@@ -239,7 +239,11 @@ impl<I: Source, O: Sink> Session<I, O> {
 
     /// The file handle of the directory that the last component of a path stands in, and that component: a LOOKUP for each component before
     /// it. If the path is bad or has no component (`BadPath`), no call is made.
-    pub fn walk_to_parent(&mut self, root: &Handle, path: &[u8]) -> Result<(Handle, Name), ClientEnd>
+    pub fn walk_to_parent(
+        &mut self,
+        root: &Handle,
+        path: &[u8],
+    ) -> Result<(Handle, Name), ClientEnd>
         ensures follows { Follows (parent_next self.old.uid self.old.gid root.now path.now)
             (link_bytes (I.left self.old.link.source) (I.given self.old.link.source) (O.taken self.old.link.sink) self.old.link.read)
             (link_bytes (I.left self.new.link.source) (I.given self.new.link.source) (O.taken self.new.link.sink) self.new.link.read)
