@@ -1,5 +1,5 @@
 -- How a file is written: CREATE makes it, and WRITEs give it the bytes of an input, in order.
-use Rattle.std.specs.Prelude.{◌≡◌, ℕ, ◌+◌, ◌<◌, Bool, ◌||◌, ◌==◌, nat_lt, min, ⊤, if◌then◌else◌, ◌⊎◌, List, [], ◌++◌, length, take, drop, fold, Option, Some, None, IfSome, Result, Ok, Err}
+use Rattle.std.specs.Prelude.{◌≡◌, ℕ, ◌+◌, ◌<◌, ◌||◌, ◌==◌, nat_lt, ⊤, if◌then◌else◌, ◌⊎◌, List, [], ◌++◌, length, take, drop, fold, Option, Some, None, IfSome, Result, Ok, Err}
 use Rattle.nr_xdr.specs.Items.{encodings}
 use Rattle.nr_nfs_base.specs.Limits.{transfer_max}
 use Rattle.nr_nfs_base.specs.Procedures.{nfs_procedure_number, nfs_program, nfs_version}
