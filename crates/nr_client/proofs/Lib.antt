@@ -1,4 +1,7 @@
 pub mod Answering
+pub mod CallsMade
+pub mod FileReading
+pub mod FileWriting
 pub mod Listings
 pub mod Moves
 pub mod Outcomes

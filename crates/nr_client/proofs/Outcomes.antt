@@ -15,7 +15,7 @@ use Rattle.nr_client.specs.declared.call_end.CallEnd.{CallEnd}
 use Rattle.nr_client.specs.Calls.{Answers, GivesUp}
 use Rattle.nr_client.specs.Ending.{IsCause}
 use Rattle.nr_client.specs.Requests.{Asks, client_call, machine, SinkFaults, SourceFaults}
-use Rattle.nr_client.specs.Results.{Gives, NotLink}
+use Rattle.nr_client.specs.Results.{Gives, IsOfCall, NotLink}
 use Rattle.nr_client.specs.Transfers.{LinkBytes}
 
 pub asks_answered : {A : Type 0} (reads : Outcome → Result A ClientEnd) (call asked : Call) (outcome : Outcome) (b c : LinkBytes) (h i : RequesterSide) (result : Result A ClientEnd)
@@ -86,3 +86,23 @@ writable (Ok call) prog vers proc uid gid args same = subst (λ (c : Call). CanW
     none_fit : 0 ≤ 16
     none_fit = omega arith
 writable (Err memory) prog vers proc uid gid args same = tt
+
+-- an end of a reply is one of its call
+pub of_call : (end : ClientEnd) → NotLink end → IsOfCall end
+of_call client.DialFault of_reply = absurd of_reply
+of_call (client.Link end) of_reply = absurd of_reply
+of_call (client.Rpc kind code) of_reply = tt
+of_call (client.Mount status) of_reply = tt
+of_call (client.Nfs status) of_reply = tt
+of_call client.Chunk of_reply = tt
+of_call (client.Version low high) of_reply = tt
+of_call (client.BadReply at reason) of_reply = tt
+of_call (client.BadPath at) of_reply = absurd of_reply
+of_call client.InputFault of_reply = absurd of_reply
+of_call client.OutputFault of_reply = absurd of_reply
+of_call (client.Budget count) of_reply = absurd of_reply
+of_call client.Memory of_reply = tt
+
+pub of_call_result : {A : Type 0} (given : Result A ClientEnd) → IfErr given NotLink → IfErr given IsOfCall
+of_call_result (Ok value) of_reply = tt
+of_call_result (Err end) of_reply = of_call end of_reply

@@ -23,14 +23,11 @@ use Rattle.nr_client.specs.declared.client_end.ClientEnd.{ClientEnd}
 use Rattle.nr_client.specs.declared.client_end.ClientEnd.TheVariants as client
 use Rattle.nr_client.specs.Following.{EndsWith, MakesCalls, Next}
 use Rattle.nr_client.specs.Following.Next.{Calls, Returns}
+use Rattle.nr_client.specs.Listing.{no_progress}
 use Rattle.nr_client.specs.Requests.{client_call, getattr_call, getattr_result, nfs_reads}
 use Rattle.nr_client.specs.Transfers.{LinkBytes}
 
 -- ---- READ (RFC 1813 section 3.3.6)
-
--- the reason of a reply that gives nothing and no end, or more than was asked for
-abbrev pub makes_no_sense : ℕ
-makes_no_sense = 25
 
 -- the offset of the results in a reply, after its head; 0 if it has none
 abbrev pub results_offset_by : Result ReplyHead ℕ → ℕ
@@ -59,7 +56,7 @@ is_bad_read count results = nat_lt count (length results.bytes) || (length resul
 -- A reply to it whose data are such is bad: at the length of the data, which comes after the status, the attributes, the count and eof.
 abbrev pub checked_read : (count results_at : ℕ) → Result ReadOk ClientEnd → Result ReadOk ClientEnd
 checked_read count results_at (Ok results) =
-    if is_bad_read count results then Err (client.BadReply (results_at + (12 + post_op_attr_len results.attributes)) makes_no_sense) else Ok results
+    if is_bad_read count results then Err (client.BadReply (results_at + (12 + post_op_attr_len results.attributes)) no_progress) else Ok results
 checked_read count results_at (Err end) = Err end
 
 -- the result of a READ of `count` bytes, by its outcome
@@ -121,11 +118,11 @@ reading uid gid file outcomes = next_read uid gid file (file_read outcomes)
 
 -- ---- The output
 
--- The output took the bytes that came in the replies; if memory ran out, perhaps not those of the last reply.
+-- The output took the bytes that came in the replies; or memory ran out for the last reply, and it took those that came before.
 abbrev pub TakesRead : Result (Unit {0}) ClientEnd → List Outcome → (taken taken' : Option (List ℕ)) → Type 0
-TakesRead (Err client.Memory) outcomes taken taken' =
-    (before last : List Outcome) × ((outcomes ≡ before ++ last) × ((length last ≤ 1) × Appends taken taken' (bytes_read before)))
-TakesRead given outcomes taken taken' = Appends taken taken' (bytes_read outcomes)
+TakesRead given outcomes taken taken' =
+    Appends taken taken' (bytes_read outcomes)
+    ⊎ ((given ≡ Err client.Memory) × ((before : List Outcome) × (last : Outcome) × ((outcomes ≡ before ++ last ∷ []) × Appends taken taken' (bytes_read before))))
 
 -- It failed: it took all bytes but the last ones of the last reply, at least one.
 abbrev pub TakesPart : List Outcome → (taken taken' : Option (List ℕ)) → Type 0

@@ -71,4 +71,19 @@ Gives (Err end) read = read ≡ Err end
 -- an end that a reply gives: its call has an answer
 abbrev pub NotLink : ClientEnd → Type 0
 NotLink (client.Link end) = ⊥
+NotLink client.DialFault = ⊥
+NotLink (client.BadPath at) = ⊥
+NotLink client.InputFault = ⊥
+NotLink client.OutputFault = ⊥
+NotLink (client.Budget count) = ⊥
 NotLink end = ⊤
+
+-- an end of a call: that of its reply, or it has no answer
+abbrev pub IsOfCall : ClientEnd → Type 0
+IsOfCall (client.Link end) = ⊤
+IsOfCall end = NotLink end
+
+-- an end at which no fault count of the link rises
+abbrev pub KeepsCounts : ClientEnd → Type 0
+KeepsCounts (client.Link end) = ⊥
+KeepsCounts end = ⊤

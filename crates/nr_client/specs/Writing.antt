@@ -14,7 +14,6 @@ use Rattle.nr_nfs_args.specs.Bytes.{write_args_codec}
 use Rattle.nr_nfs_args.specs.Create.{create_args_codec}
 use Rattle.nr_nfs_args.specs.declared.create.CreateHow.TheVariants as hows
 use Rattle.nr_nfs_res.specs.Bytes.{write_ok_codec}
-use Rattle.nr_nfs_res.specs.Create.{create_ok_codec}
 use Rattle.nr_nfs_res.specs.declared.bytes.WriteOk.{WriteOk}
 use Rattle.nr_nfs_res.specs.declared.create.CreateOk.{CreateOk}
 use Rattle.nr_outside.specs.Content.{HandsOut}
@@ -23,10 +22,11 @@ use Rattle.nr_reduce.specs.declared.call.Outcome.{Outcome}
 use Rattle.nr_requester.specs.RequesterState.{RequesterSide}
 use Rattle.nr_client.specs.declared.client_end.ClientEnd.{ClientEnd}
 use Rattle.nr_client.specs.declared.client_end.ClientEnd.TheVariants as client
-use Rattle.nr_client.specs.Following.{EndsWith, MakesCalls, Next}
+use Rattle.nr_client.specs.Following.{Follows, MakesCalls, Next}
 use Rattle.nr_client.specs.Following.Next.{Calls, Returns}
-use Rattle.nr_client.specs.Reading.{makes_no_sense, post_op_attr_len, results_offset}
-use Rattle.nr_client.specs.Requests.{client_call, nfs_reads}
+use Rattle.nr_client.specs.Listing.{no_progress}
+use Rattle.nr_client.specs.Reading.{post_op_attr_len, results_offset}
+use Rattle.nr_client.specs.Requests.{client_call, create_result, nfs_reads}
 use Rattle.nr_client.specs.Transfers.{LinkBytes}
 
 -- ---- CREATE (RFC 1813 section 3.3.8)
@@ -44,15 +44,15 @@ create_call uid gid dir name =
 -- A reply without a handle is bad: at the flag of the handle, which comes after the status.
 abbrev pub handle_or : ℕ → Option (List ℕ) → Result (List ℕ) ClientEnd
 handle_or results_at (Some handle) = Ok handle
-handle_or results_at None = Err (client.BadReply (results_at + 4) makes_no_sense)
+handle_or results_at None = Err (client.BadReply (results_at + 4) no_progress)
 
 abbrev pub created_handle : ℕ → Result CreateOk ClientEnd → Result (List ℕ) ClientEnd
 created_handle results_at (Ok results) = handle_or results_at results.object
 created_handle results_at (Err end) = Err end
 
 -- the handle of the file, by the outcome of CREATE
-abbrev pub create_result : Outcome → Result (List ℕ) ClientEnd
-create_result outcome = created_handle (results_offset outcome) (nfs_reads create_ok_codec wcc_data_codec outcome)
+abbrev pub created_file : Outcome → Result (List ℕ) ClientEnd
+created_file outcome = created_handle (results_offset outcome) (create_result outcome)
 
 -- ---- WRITE (RFC 1813 section 3.3.7)
 
@@ -73,7 +73,7 @@ wcc_data_len wcc = pre_op_attr_len wcc.before + post_op_attr_len wcc.after
 -- A reply whose count is 0, or more than was sent, is bad: at the count, which comes after the status and wcc_data.
 abbrev pub checked_write : (sent results_at : ℕ) → Result WriteOk ClientEnd → Result ℕ ClientEnd
 checked_write sent results_at (Ok results) =
-    if results.count == 0 || nat_lt sent results.count then Err (client.BadReply (results_at + (4 + wcc_data_len results.wcc)) makes_no_sense) else Ok results.count
+    if results.count == 0 || nat_lt sent results.count then Err (client.BadReply (results_at + (4 + wcc_data_len results.wcc)) no_progress) else Ok results.count
 checked_write sent results_at (Err end) = Err end
 
 -- how many bytes were written, by the outcome of a WRITE of `sent` bytes
@@ -106,7 +106,7 @@ with_count file at (Ok count) = Created file (at + count)
 with_count file at (Err end) = WriteEnds end
 
 abbrev pub after_write_reply : List ℕ → FileWrite → Outcome → FileWrite
-after_write_reply input NotCreated outcome = with_handle (create_result outcome)
+after_write_reply input NotCreated outcome = with_handle (created_file outcome)
 after_write_reply input (Created file at) outcome = with_count file at (write_result (length (piece_at input at)) outcome)
 after_write_reply input (WriteEnds end) outcome = WriteEnds end
 
@@ -127,25 +127,19 @@ next_write uid gid dir name input (WriteEnds end) = Returns (Err end)
 abbrev pub writing : (uid gid : ℕ) → (dir name input : List ℕ) → List Outcome → Next (Unit {0})
 writing uid gid dir name input outcomes = next_write uid gid dir name input (file_write input outcomes)
 
--- After these outcomes the request ends as its calls say, or because the input failed.
-abbrev pub EndsWriting : Next (Unit {0}) → (b b' : LinkBytes) (h h' : RequesterSide) → Result (Unit {0}) ClientEnd → Type 0
-EndsWriting next b b' h h' given = EndsWith next b b' h h' given ⊎ ((given ≡ Err client.InputFault) × ((b' ≡ b) × (h' ≡ h)))
-
 -- what was read of the input: all of it if all was written, and more than the maximum if that is why it ends
 abbrev pub IsRead : Result (Unit {0}) ClientEnd → (handed rest : List ℕ) → Type 0
 IsRead (Ok done) handed rest = rest ≡ []
 IsRead (Err (client.Budget count)) handed rest = input_max < length handed
 IsRead (Err end) handed rest = ⊤
 
--- A file was written from an input: its calls were made in order, by all the bytes of the input, those that were read and the rest.
+-- A file was written from an input: its calls were made in order, by all the bytes of the input, those that were read and the rest. Or the
+-- input failed, after some of them.
 pub record WritesFile (uid gid : ℕ) (dir name : List ℕ) (b b' : LinkBytes) (h h' : RequesterSide) (left given left' given' : Option (List ℕ)) (result : Result (Unit {0}) ClientEnd) : Type 0 where
   pub handed : List ℕ
   pub rest : List ℕ
   pub hands_out : HandsOut left given left' given' handed
   pub is_rest : IfSome left' (λ known. rest ≡ known)
   pub is_read : IsRead result handed rest
-  pub outcomes : List Outcome
-  pub between : LinkBytes
-  pub side : RequesterSide
-  pub made : MakesCalls (writing uid gid dir name (handed ++ rest)) outcomes b between h side
-  pub ends : EndsWriting (writing uid gid dir name (handed ++ rest) outcomes) between b' side h' result
+  pub calls : Follows (writing uid gid dir name (handed ++ rest)) b b' h h' result
+      ⊎ ((result ≡ Err client.InputFault) × ((outcomes : List Outcome) × MakesCalls (writing uid gid dir name (handed ++ rest)) outcomes b b' h h'))

@@ -1,3 +1,4 @@
 -- Definitions that only private code cites.
 pub mod Becomes
 pub mod Pieces
+pub mod FileSteps

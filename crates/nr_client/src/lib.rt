@@ -1,20 +1,25 @@
 //! Calls of a client over a link, and sessions.
 #![tactic(auto)]
 
+mod answer;
 mod asking;
 mod call_end;
 mod calling;
 mod client_end;
+mod file_calls;
+mod file_results;
 mod limits;
 mod link;
 mod listing;
 mod names;
 mod path;
+mod read_file;
 mod requests;
 mod results;
 mod session;
 mod transfer;
 mod walking;
+mod write_file;
 
 pub use call_end::CallEnd;
 pub use client_end::{ClientEnd, RpcKind};

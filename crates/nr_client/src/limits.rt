@@ -11,3 +11,6 @@ pub(crate) const COMPONENT_MAX: usize = 255;
 
 /// The maximum number of entries of a list.
 pub(crate) const ENTRIES_MAX: usize = 1_048_576;
+
+/// The maximum number of bytes of an input.
+pub(crate) const INPUT_MAX: usize = 16_777_216;

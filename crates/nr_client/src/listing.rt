@@ -5,7 +5,7 @@ ghost use Rattle.nr_nfs_res.specs.declared.readdir.Entry.{Entry};
 ghost use Rattle.nr_client.specs.Following.{Follows};
 ghost use Rattle.nr_client.specs.Listing.{entries_max, eof_offset, last_cookie, list_next, listed_after, listed_with, readdir_call};
 ghost use Rattle.nr_client.specs.Requests.{Asks, SinkFaults, SourceFaults};
-ghost use Rattle.nr_client.specs.Results.{Gives, NotLink};
+ghost use Rattle.nr_client.specs.Results.{Gives, KeepsCounts};
 ghost use Rattle.nr_client.specs.Transfers.{link_bytes};
 ghost use Rattle.nr_client.specs.private.Becomes.{becomes};
 
@@ -71,7 +71,7 @@ fn add_listing(
 ) -> Result<(), ClientEnd>
     requires { length listed.old.names ≤ entries_max }
     ensures gives { Gives (becomes listed.new result) (listed_with listed.old listing.now at) }
-    ensures no_link { IfErr result NotLink }
+    ensures keeps { IfErr result KeepsCounts }
 {
     let entries = listing.entries.as_slice();
     if entries.len() > ENTRIES_MAX - listed.names.as_slice().len() {
@@ -97,7 +97,7 @@ fn add_listing(
 fn add_outcome(alloc: Global, listed: &mut Listed, outcome: &Outcome) -> Result<(), ClientEnd>
     requires { length listed.old.names ≤ entries_max }
     ensures gives { Gives (becomes listed.new result) (listed_after listed.old outcome.now) }
-    ensures no_link { IfErr result NotLink }
+    ensures keeps { IfErr result KeepsCounts }
 {
     match nfs_results::<ReaddirOk, Option<Attributes>>(alloc, outcome) {
         Ok(listing) => add_listing(alloc, listed, &listing, eof_offset(outcome)),

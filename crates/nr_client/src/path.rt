@@ -2,7 +2,7 @@
 
 ghost use Rattle.std.specs.Prelude.{◌≡◌, ◌≤◌, ◌+◌, drop, length, IfErr};
 ghost use Rattle.nr_client.specs.Paths.{path_names};
-ghost use Rattle.nr_client.specs.Results.{Gives, NotLink};
+ghost use Rattle.nr_client.specs.Results.{Gives, KeepsCounts};
 ghost use Rattle.nr_client.specs.private.Pieces.{PushesNames, piece_length};
 
 use crate::client_end::ClientEnd;
@@ -30,7 +30,7 @@ fn piece_end(path: &[u8], from: usize) -> usize
 /// Adds the components of a path after some names.
 fn push_components(alloc: Global, names: &mut Names, path: &[u8]) -> Result<(), ClientEnd>
     ensures pushes { PushesNames names.old names.new result (path_names path.now) }
-    ensures no_link { IfErr result NotLink }
+    ensures keeps { IfErr result KeepsCounts }
 {
     let mut at = 0;
     while at < path.len() {
@@ -55,7 +55,7 @@ fn push_components(alloc: Global, names: &mut Names, path: &[u8]) -> Result<(), 
 /// bytes, at the offset of the first one.
 pub fn components(alloc: Global, path: &[u8]) -> Result<Names, ClientEnd>
     ensures gives { Gives result (path_names path.now) }
-    ensures no_link { IfErr result NotLink }
+    ensures keeps { IfErr result KeepsCounts }
 {
     let mut names = Names::new(alloc);
     match push_components(alloc, &mut names, path) {

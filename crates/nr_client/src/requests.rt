@@ -47,7 +47,7 @@ const MNT: u32 = 1;
 const MACHINE: [u8; 7] = [110, 102, 115, 114, 100, 109, 97];
 
 /// A call of a user with these encoded arguments.
-fn client_call(
+pub(crate) fn client_call(
     alloc: Global,
     target: (u32, u32, u32),
     uid: u32,

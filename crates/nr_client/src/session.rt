@@ -10,7 +10,9 @@ ghost use Rattle.nr_requester.specs.Standing.{RequesterRepresents};
 ghost use Rattle.nr_client.specs.Following.{Follows};
 ghost use Rattle.nr_client.specs.Listing.{list_next};
 ghost use Rattle.nr_client.specs.Requests.{Asks, OpenFails, SinkFaults, SourceFaults, create_result, getattr_call, getattr_result, lookup_call, lookup_result, mkdir_call, mnt_call, mnt_result, readlink_call, readlink_result, remove_call, remove_result, symlink_call};
+ghost use Rattle.nr_client.specs.Reading.{InputFaults, OutputFaults, ReadsFile};
 ghost use Rattle.nr_client.specs.Transfers.{link_bytes};
+ghost use Rattle.nr_client.specs.Writing.{WritesFile};
 ghost use Rattle.nr_client.specs.Walking.{parent_next, walk_next};
 
 use crate::asking::{ask_nfs, mount_over};
@@ -18,10 +20,12 @@ use crate::client_end::ClientEnd;
 use crate::link::Link;
 use crate::listing::list_over;
 use crate::names::Names;
+use crate::read_file::read_file_over;
 use crate::requests::{
     getattr_call, lookup_call, mkdir_call, readlink_call, remove_call, symlink_call,
 };
 use crate::walking::{walk_over, walk_to_parent_over};
+use crate::write_file::write_file_over;
 use nr_links::Dialer;
 use nr_nfs_base::{Attributes, Handle, MountPath, Name, Path, WccData};
 use nr_nfs_res::{CreateOk, LookupOk, ReadlinkOk};
@@ -267,5 +271,49 @@ impl<I: Source, O: Sink> Session<I, O> {
         ensures sink_faults { SinkFaults result (O.faults self.old.link.sink) (O.faults self.new.link.sink) }
     {
         list_over(self.alloc, &mut self.link, self.uid, self.gid, dir)
+    }
+
+    /// Writes the bytes of a file to an output: those up to the size that GETATTR reports, as they come, in order (GETATTR and READ, RFC 1813
+    /// sections 3.3.1 and 3.3.6). `OutputFault` if the output failed, after it took only some of the bytes that came.
+    pub fn read_file<K: Sink>(&mut self, file: &Handle, out: &mut K) -> Result<(), ClientEnd>
+        ensures reads { ReadsFile self.old.uid self.old.gid file.now
+            (link_bytes (I.left self.old.link.source) (I.given self.old.link.source) (O.taken self.old.link.sink) self.old.link.read)
+            (link_bytes (I.left self.new.link.source) (I.given self.new.link.source) (O.taken self.new.link.sink) self.new.link.read)
+            self.old.link.requester self.new.link.requester (K.taken out.old) (K.taken out.new) result }
+        ensures out_faults { OutputFaults result (K.faults out.old) (K.faults out.new) }
+        ensures user { (self.new.uid ≡ self.old.uid) × (self.new.gid ≡ self.old.gid) }
+        ensures source_faults { SourceFaults result (I.faults self.old.link.source) (I.faults self.new.link.source) }
+        ensures sink_faults { SinkFaults result (O.faults self.old.link.sink) (O.faults self.new.link.sink) }
+    {
+        read_file_over(self.alloc, &mut self.link, self.uid, self.gid, file, out)
+    }
+
+    /// Makes a file of this name in a directory, or empties the one that exists, and gives it the bytes of an input (CREATE and WRITE, RFC 1813
+    /// sections 3.3.8 and 3.3.7). `InputFault` if the input failed. `Budget` if the input has more than 16777216 bytes, of which the first are
+    /// written.
+    pub fn write_file<N: Source>(
+        &mut self,
+        dir: &Handle,
+        name: &Name,
+        input: &mut N,
+    ) -> Result<(), ClientEnd>
+        ensures writes { WritesFile self.old.uid self.old.gid dir.now name.now
+            (link_bytes (I.left self.old.link.source) (I.given self.old.link.source) (O.taken self.old.link.sink) self.old.link.read)
+            (link_bytes (I.left self.new.link.source) (I.given self.new.link.source) (O.taken self.new.link.sink) self.new.link.read)
+            self.old.link.requester self.new.link.requester (N.left input.old) (N.given input.old) (N.left input.new) (N.given input.new) result }
+        ensures input_faults { InputFaults result (N.faults input.old) (N.faults input.new) }
+        ensures user { (self.new.uid ≡ self.old.uid) × (self.new.gid ≡ self.old.gid) }
+        ensures source_faults { SourceFaults result (I.faults self.old.link.source) (I.faults self.new.link.source) }
+        ensures sink_faults { SinkFaults result (O.faults self.old.link.sink) (O.faults self.new.link.sink) }
+    {
+        write_file_over(
+            self.alloc,
+            &mut self.link,
+            self.uid,
+            self.gid,
+            dir,
+            name,
+            input,
+        )
     }
 }

@@ -1,6 +1,6 @@
 use Rattle.nr_client.specs.Requests.{nfs_reads}
 use Rattle.nr_client.specs.Transfers.{link_bytes}
-use Rattle.nr_client.proofs.Outcomes.{asks_answered, asks_given_up, asks_out, no_sink_fault, no_source_fault, same_asked}
+use Rattle.nr_client.proofs.Outcomes.{asks_answered, asks_given_up, asks_out, no_sink_fault, no_source_fault, of_call_result, same_asked}
 use Rattle.nr_client.proofs.asking.ask_nfs.Goals as goal
 
 pub returns-in-Err-clause-asks : goal.returns-in-Err-clause-asks
@@ -28,3 +28,6 @@ returns-clause-source_faults g c = no_source_fault c.nfs_results.result (g.I.Sou
 
 pub returns-clause-sink_faults : goal.returns-clause-sink_faults
 returns-clause-sink_faults g c = no_sink_fault c.nfs_results.result (g.O.Sink.faults c.args.link.now.sink) (g.O.Sink.faults c.call.new.self.sink) c.nfs_results.ensures.no_link c.in-Ok-call.ensures.sink_count
+
+pub returns-clause-of_call : goal.returns-clause-of_call
+returns-clause-of_call g c = of_call_result c.nfs_results.result c.nfs_results.ensures.no_link

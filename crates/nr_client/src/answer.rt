@@ -1,0 +1,53 @@
+//! A call, and its outcome.
+
+ghost use Rattle.std.specs.Prelude.{◌≡◌, IfOk, IfErr};
+ghost use Rattle.nr_reduce.specs.declared.call.Call.{Call};
+ghost use Rattle.nr_rpc.specs.Credential.{CanWriteCred};
+ghost use Rattle.nr_client.specs.Calls.{Answers};
+ghost use Rattle.nr_client.specs.Following.{Unanswered};
+ghost use Rattle.nr_client.specs.Requests.{SinkFaults, SourceFaults};
+ghost use Rattle.nr_client.specs.Results.{IsOfCall};
+ghost use Rattle.nr_client.specs.Transfers.{link_bytes};
+
+use crate::client_end::ClientEnd;
+use crate::link::Link;
+use nr_outside::{Sink, Source};
+use nr_reduce::{Call, Outcome};
+use nr_requester::Done;
+use nr_xdr::Memory;
+
+/// Makes a call, if there was memory for it. Gives its outcome.
+pub(crate) fn outcome_of<I: Source, O: Sink>(
+    link: &mut Link<I, O>,
+    call: Result<Call, Memory>,
+) -> Result<Outcome, ClientEnd>
+    requires { IfOk call (λ c. CanWriteCred c.cred) }
+    ensures ok { (asked : Call) → IfOk call (λ c. c ≡ asked) → IfOk result (λ outcome. Answers
+        (link_bytes (I.left link.old.source) (I.given link.old.source) (O.taken link.old.sink) link.old.read)
+        (link_bytes (I.left link.new.source) (I.given link.new.source) (O.taken link.new.sink) link.new.read)
+        link.old.requester link.new.requester asked outcome) }
+    ensures err { (asked : Call) → IfOk call (λ c. c ≡ asked) → IfErr result (λ end. Unanswered asked
+        (link_bytes (I.left link.old.source) (I.given link.old.source) (O.taken link.old.sink) link.old.read)
+        (link_bytes (I.left link.new.source) (I.given link.new.source) (O.taken link.new.sink) link.new.read)
+        link.old.requester link.new.requester end) }
+    ensures of_call { IfErr result IsOfCall }
+    ensures source_faults { SourceFaults result (I.faults link.old.source) (I.faults link.new.source) }
+    ensures sink_faults { SinkFaults result (O.faults link.old.sink) (O.faults link.new.sink) }
+{
+    let call = match call {
+        Ok(call) => call,
+        Err(_) => return Err(ClientEnd::Memory),
+    };
+    let done = match link.call(call) {
+        Ok(done) => done,
+        Err(end) => return Err(ClientEnd::Link(end)),
+    };
+    let Done {
+        call,
+        buffers,
+        outcome,
+    } = done;
+    drop(call);
+    drop(buffers);
+    Ok(outcome)
+}
