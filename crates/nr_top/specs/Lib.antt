@@ -3,3 +3,5 @@ pub mod Arguments
 pub mod Ends
 pub mod Causes
 pub mod Serving
+pub mod Clients
+pub mod RunEnds

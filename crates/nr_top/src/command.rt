@@ -1,4 +1,4 @@
-//! The command: from the arguments to what is printed, and the status.
+//! Drills: from the arguments to what is printed, and the status.
 
 ghost use Rattle.std.specs.Prelude.{◌≡◌, ◌<◌, ◌≤◌, true, false, map, IfOk, MatchResult};
 ghost use Rattle.std.specs.String.{string_bytes};
@@ -211,16 +211,11 @@ pub fn refuse<E: Sink>(err: &mut E, memory: bool) -> u8
     }
 }
 
-/// Runs the command, and gives the status. The arguments are the name under which the program was started, and the
-/// command with its options. Today there is one command: `drill` reads a script from `input`, runs it, and prints on `out`
-/// what happened; `drill --seed N --clients C --calls K` makes a script from a seed, and prints one line of sums. If the
-/// command isn't done, `err` takes the reason.
-///
-/// The record `Ends` of the specs says what each status means. 0: the script was run, the run keeps the promise of a
-/// drill, and it was printed. 1: the arguments are not those of a command. 2: memory ran out, and nothing was printed.
-/// 9: a fault count of `input`, `out` or `err` rose. 10: a line of the script is invalid, and `err` took the number of
-/// the first one. 11: the input is too long.
-pub fn run<I: Source, O: Sink, E: Sink>(
+/// Runs a drill, and gives the status. `drill` reads a script from `input`, runs it, and prints on `out` what happened;
+/// `drill --seed N --clients C --calls K` makes a script from a seed, and prints one line of sums. Other arguments are
+/// reported as bad words. If the command isn't done, `err` takes the reason. The record `Ends` of the specs says what each
+/// status means.
+pub(crate) fn run_drill<I: Source, O: Sink, E: Sink>(
     alloc: Global,
     arguments: &[String],
     input: &mut I,

@@ -1,7 +1,8 @@
 //! Tests of nr_top.
 
 use crate::compare::same;
-use nr_outside::{MemSink, MemSource};
+use nr_links::{MemAcceptor, MemClock, MemDialer};
+use nr_outside::{MemSink, MemSource, Moment};
 use nr_top::{refuse, run};
 use std::alloc::Global;
 use std::process::Abort;
@@ -217,6 +218,35 @@ fn sink(rt: &impl Abort, alloc: Global, failing: &[usize]) -> MemSink {
     MemSink::new(alloc, failing.to_vec(alloc).expect(rt, "memory"))
 }
 
+/// The moments of the clock, which no drill asks for.
+static MOMENTS: [Moment; 1] = [Moment {
+    seconds: 0,
+    nanos: 0,
+}];
+
+/// Runs the program without any link.
+fn run_over(
+    alloc: Global,
+    arguments: &[String],
+    input: &mut MemSource,
+    out: &mut MemSink,
+    err: &mut MemSink,
+) -> u8 {
+    let mut dial = MemDialer::new(alloc, Vec::new(alloc), Vec::new(alloc));
+    let mut accept = MemAcceptor::new(alloc, Vec::new(alloc), Vec::new(alloc));
+    let mut clock = MemClock::new(&MOMENTS);
+    run(
+        alloc,
+        arguments,
+        input,
+        out,
+        err,
+        &mut dial,
+        &mut accept,
+        &mut clock,
+    )
+}
+
 /// Runs the program, and compares its status and what it wrote.
 fn same_run(
     rt: &impl Abort,
@@ -231,7 +261,7 @@ fn same_run(
     let mut input = source(rt, alloc, input, reads);
     let mut out = sink(rt, alloc, writes);
     let mut err = sink(rt, alloc, texts);
-    let status = run(alloc, arguments, &mut input, &mut out, &mut err);
+    let status = run_over(alloc, arguments, &mut input, &mut out, &mut err);
     drop(input);
     same(rt, row, (status, out.bytes(), err.bytes()), want);
 }
@@ -320,7 +350,7 @@ fn line_of(rt: &impl Abort, alloc: Global) -> Vec<u8> {
     let mut input = source(rt, alloc, Vec::new(alloc), &[]);
     let mut out = sink(rt, alloc, &[]);
     let mut err = sink(rt, alloc, &[]);
-    let status = run(alloc, &arguments, &mut input, &mut out, &mut err);
+    let status = run_over(alloc, &arguments, &mut input, &mut out, &mut err);
     drop(input);
     same(rt, 0, (status, err.bytes()), (DONE, b"".as_slice()));
     out.bytes().to_vec(alloc).expect(rt, "memory")

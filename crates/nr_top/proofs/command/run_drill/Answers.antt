@@ -3,7 +3,7 @@ use Rattle.std.specs.String.{string_bytes}
 use Rattle.nr_top.specs.Causes.{cause_of}
 use Rattle.nr_outside.specs.Streams.{source_at, sink_at}
 use Rattle.nr_top.proofs.Endings.{done_ends, ends_of}
-use Rattle.nr_top.proofs.command.run.Goals as goal
+use Rattle.nr_top.proofs.command.run_drill.Goals as goal
 
 pub returns-in-Err : goal.returns-in-Err
 returns-in-Err g c =

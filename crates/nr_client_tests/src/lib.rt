@@ -1,0 +1,13 @@
+//! Tests of the commands of a client (`nr_commands`, `nr_top`), over links in memory to a server.
+//!
+//! They stand in a crate of their own, above the crates that they test, since a crate with tests is proved twice.
+#![tactic(auto)]
+
+#[cfg(test)]
+mod commands;
+#[cfg(test)]
+mod compare;
+#[cfg(test)]
+mod ends;
+#[cfg(test)]
+mod links;

@@ -1,0 +1,5 @@
+pub mod Printed
+pub mod Endings
+pub mod Sessions
+pub mod Commands
+pub mod Running

@@ -1,0 +1,82 @@
+-- A command of a client, from its words to its end.
+use Rattle.std.specs.Prelude.{◌≡◌, ℕ, Bool, true, false, List, [], Option, Result, Ok, Err}
+use Rattle.nr_outside.specs.Streams.{SinkAt, SourceAt, Writes, WritesSome}
+use Rattle.nr_links.specs.Asked.{Asks as AsksFor}
+use Rattle.nr_links.specs.Links.{CountsLost, EndsLink, IsNewLink, LinkLog, MakesLink, ended_link}
+use Rattle.nr_reduce.specs.declared.mark.LinkParameters.{LinkParameters}
+use Rattle.nr_requester.specs.AfterCalls.{opened_as}
+use Rattle.nr_requester.specs.Standing.{RequesterRepresents}
+use Rattle.nr_words.specs.Lines.{Text}
+use Rattle.nr_words.specs.declared.commands.Action.{Action}
+use Rattle.nr_words.specs.declared.commands.Action.TheVariants as actions
+use Rattle.nr_words.specs.declared.commands.Client.{Client}
+use Rattle.nr_client.specs.declared.client_end.ClientEnd.{ClientEnd}
+use Rattle.nr_client.specs.declared.client_end.ClientEnd.TheVariants as client
+use Rattle.nr_client.specs.Requests.{OpenFails}
+use Rattle.nr_commands.specs.Commands.{Lists, MakesDirectory, MakesSymlink, MountsAndPrints, ReadsLink, Removes, Stats}
+use Rattle.nr_commands.specs.Sessions.{Never, Part, SessionAt}
+
+-- what is known of a dialer: the addresses of its links, its links, and its counts
+pub record DialerAt : Type 0 where
+  pub asked : Option (List (List ℕ))
+  pub ended : Option LinkLog
+  pub lost : ℕ
+  pub faults : ℕ
+
+abbrev pub dialer_at : Option (List (List ℕ)) → Option LinkLog → (lost faults : ℕ) → DialerAt
+dialer_at asked ended lost faults = record { asked = asked; ended = ended; lost = lost; faults = faults }
+
+-- A session was opened over a new link to this address. Its requester has made no marks, and wishes for 16 credits.
+pub record Opens (addr : List ℕ) (before after : DialerAt) (s : SessionAt) : Type 0 where
+  pub asks : AsksFor before.asked after.asked addr
+  pub makes : MakesLink before.ended after.ended
+  pub fresh : IsNewLink s.bytes.given s.bytes.taken s.source_faults s.sink_faults
+  pub nothing_read : s.bytes.read ≡ 0
+  pub requester : s.requester ≡ opened_as 1 1 16 s.requester.staging
+  pub stands : (opened : LinkParameters) (link : ℕ) → opened.first_xid ≡ 1 → opened.first_stag ≡ 1 → opened.wished ≡ 16 → RequesterRepresents opened link s.requester []
+  pub none_lost : after.lost ≡ before.lost
+  pub unfailing : after.faults ≡ before.faults
+
+-- It was closed: its link was hung up.
+pub record Closes (s : SessionAt) (before after : DialerAt) : Type 0 where
+  pub ends : EndsLink before.ended after.ended (ended_link s.bytes.given s.bytes.left s.bytes.taken)
+  pub lost : CountsLost s.source_faults s.sink_faults before.lost after.lost
+  pub asked : after.asked ≡ before.asked
+  pub unfailing : after.faults ≡ before.faults
+
+-- the part of each command whose result is a text
+abbrev pub text_of : (uid gid : ℕ) → List ℕ → Action Text → Part (List ℕ)
+text_of uid gid export actions.Mount = MountsAndPrints uid gid export
+text_of uid gid export (actions.List path) = Lists uid gid export path
+text_of uid gid export (actions.Stat path) = Stats uid gid export path
+text_of uid gid export (actions.ReadLink path) = ReadsLink uid gid export path
+text_of uid gid export (actions.MakeDirectory path) = MakesDirectory uid gid export path
+text_of uid gid export (actions.Remove path) = Removes uid gid export path
+text_of uid gid export (actions.Link path target) = MakesSymlink uid gid export path target
+text_of uid gid export (actions.Put path) = Never
+text_of uid gid export (actions.Get path) = Never
+
+-- A text is printed, completely or, if the output fails, a proper prefix of it. Without a text nothing is printed.
+abbrev pub IsPrinted : Result (List ℕ) ClientEnd → Result (Unit {0}) ClientEnd → (out out' : SinkAt) → Type 0
+IsPrinted (Ok text) (Ok done) out out' = Writes out out' text
+IsPrinted (Ok text) (Err client.OutputFault) out out' = WritesSome out out' text
+IsPrinted (Ok text) (Err end) out out' = ⊥
+IsPrinted (Err why) (Ok done) out out' = ⊥
+IsPrinted (Err why) (Err end) out out' = (end ≡ why) × (out' ≡ out)
+
+-- whether the result of a command is a text: of all but `put` and `get`
+abbrev pub has_text : Action Text → Bool
+has_text (actions.Put path) = false
+has_text (actions.Get path) = false
+has_text action = true
+
+-- a command was done over a session, up to its result, and its text was printed
+pub record Prints (c : Client Text) (s s' : SessionAt) (out out' : SinkAt) (result : Result (Unit {0}) ClientEnd) : Type 0 where
+  pub text : Result (List ℕ) ClientEnd
+  pub made : text_of c.uid c.gid c.export c.action s s' text
+  pub prints : IsPrinted text result out out'
+
+-- A command was done, up to its result: no session was opened; or one was, its requests were made, and it was closed.
+pub data Runs (c : Client Text) (before after : DialerAt) (out out' : SinkAt) (result : Result (Unit {0}) ClientEnd) : Type 0 where
+  NotOpened : (end : ClientEnd) → result ≡ Err end → OpenFails end before.faults after.faults → out' ≡ out → Runs c before after out out' result
+  Opened : (dialed : DialerAt) → (s s' : SessionAt) → Opens c.addr before dialed s → Prints c s s' out out' result → Closes s' dialed after → Runs c before after out out' result

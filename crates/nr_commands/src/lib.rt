@@ -1,0 +1,14 @@
+//! The commands of a client: each opens a session, makes its requests one after another, prints their result, and closes the
+//! session.
+//!
+//! [`run_command`] runs a command, and [`end_text`] is the text for a reason that one was not done.
+#![tactic(auto)]
+
+mod ending;
+mod finding;
+mod printing;
+mod run;
+mod texts;
+
+pub use ending::end_text;
+pub use run::{has_text, run_command};

@@ -1,0 +1,94 @@
+//! A command, from its words to its end.
+
+ghost use Rattle.std.specs.Prelude.{◌≡◌, true};
+ghost use Rattle.nr_outside.specs.Streams.{sink_at};
+ghost use Rattle.nr_words.specs.Lines.{plain_action, plain_client};
+ghost use Rattle.nr_commands.specs.Running.{IsPrinted, Prints, Runs, dialer_at, has_text, text_of};
+ghost use Rattle.nr_commands.specs.Sessions.{session_at};
+
+use crate::texts::{
+    list_text, make_directory, make_link, mount_text, read_link_text, remove, stat_text,
+};
+use nr_client::{ClientEnd, Session};
+use nr_links::Dialer;
+use nr_outside::{Sink, Source, write_whole};
+use nr_words::{Action, Client};
+use nr_xdr::Octets;
+use std::alloc::Global;
+
+/// Whether the result of a command is a text: of all but `put` and `get`.
+pub fn has_text(action: &Action<&str>) -> bool
+    ensures { result ≡ has_text (plain_action action.now) }
+{
+    match action {
+        Action::Put { .. } => false,
+        Action::Get { .. } => false,
+        _ => true,
+    }
+}
+
+/// The text of a command.
+fn text_of<P: Source, Q: Sink>(
+    alloc: Global,
+    session: &mut Session<P, Q>,
+    export: &str,
+    action: &Action<&str>,
+) -> Result<Octets, ClientEnd>
+    requires { has_text (plain_action action.now) ≡ true }
+    ensures { text_of session.old.uid session.old.gid export.now (plain_action action.now)
+        (session_at (P.left session.old.link.source) (P.given session.old.link.source) (Q.taken session.old.link.sink) session.old.link.read session.old.link.requester (P.faults session.old.link.source) (Q.faults session.old.link.sink))
+        (session_at (P.left session.new.link.source) (P.given session.new.link.source) (Q.taken session.new.link.sink) session.new.link.read session.new.link.requester (P.faults session.new.link.source) (Q.faults session.new.link.sink)) result }
+{
+    match action {
+        Action::Mount => mount_text(alloc, session, export),
+        Action::List { path } => list_text(alloc, session, export, path),
+        Action::Stat { path } => stat_text(alloc, session, export, path),
+        Action::ReadLink { path } => read_link_text(alloc, session, export, path),
+        Action::MakeDirectory { path } => make_directory(alloc, session, export, path),
+        Action::Remove { path } => remove(alloc, session, export, path),
+        Action::Link { path, target } => make_link(alloc, session, export, path, target),
+        Action::Put { .. } => unreachable!(),
+        Action::Get { .. } => unreachable!(),
+    }
+}
+
+/// Prints a text, if there is one.
+fn print<O: Sink>(out: &mut O, text: Result<Octets, ClientEnd>) -> Result<(), ClientEnd>
+    ensures { IsPrinted text result (sink_at (O.taken out.old) (O.faults out.old)) (sink_at (O.taken out.new) (O.faults out.new)) }
+{
+    let text = match text {
+        Ok(text) => text,
+        Err(end) => return Err(end),
+    };
+    match write_whole(out, text.as_slice()) {
+        Ok(()) => Ok(()),
+        Err(_) => Err(ClientEnd::OutputFault),
+    }
+}
+
+/// Runs a command of a client, but for `put` and `get`: opens a session, makes the requests of the command, prints its text, and closes the
+/// session. Nothing is printed if a request has no result.
+///
+/// # Errors
+///
+/// [`ClientEnd`] says why the command was not done; `OutputFault` if a write to `out` failed.
+pub fn run_command<P: Source, Q: Sink, D: Dialer<Source = P, Sink = Q>, O: Sink>(
+    alloc: Global,
+    client: &Client<&str>,
+    dial: &mut D,
+    out: &mut O,
+) -> Result<(), ClientEnd>
+    requires { has_text (plain_action client.now.action) ≡ true }
+    ensures { Runs (plain_client client.now)
+        (dialer_at (D.asked dial.old) (D.ended dial.old) (D.lost dial.old) (D.faults dial.old))
+        (dialer_at (D.asked dial.new) (D.ended dial.new) (D.lost dial.new) (D.faults dial.new))
+        (sink_at (O.taken out.old) (O.faults out.old)) (sink_at (O.taken out.new) (O.faults out.new)) result }
+{
+    let mut session = match Session::open(alloc, dial, client.addr, client.uid, client.gid) {
+        Ok(session) => session,
+        Err(end) => return Err(end),
+    };
+    let text = text_of(alloc, &mut session, client.export, &client.action);
+    session.close(dial);
+    print(out, text)
+}

@@ -1,0 +1,92 @@
+//! A command of a client: its status, and what is reported.
+
+ghost use Rattle.std.specs.Prelude.{◌≡◌, true};
+ghost use Rattle.nr_outside.specs.Streams.{sink_at};
+ghost use Rattle.nr_words.specs.Lines.{plain_action, plain_client};
+ghost use Rattle.nr_commands.specs.Running.{dialer_at, has_text};
+ghost use Rattle.nr_top.specs.Clients.{ClientEnds, ReportsEnd, call_status, link_status, status_of};
+
+use crate::command::write_error;
+use crate::status::{
+    BAD_INPUT, DONE, FAULT, LINK_CLOSED, LINK_FAULT, NFS_FAILED, NO_MEMORY, OVER_BUDGET,
+    PROTOCOL_FAULT, REFUSED, TRANSPORT_ERROR,
+};
+use nr_client::{CallEnd, ClientEnd};
+use nr_commands::{end_text, run_command};
+use nr_link::End;
+use nr_links::Dialer;
+use nr_outside::{Sink, Source};
+use nr_words::Client;
+use std::alloc::Global;
+
+/// The status for an end of the client's side of a link.
+fn link_status(end: End) -> u8
+    ensures { result ≡ link_status end }
+{
+    match end {
+        End::Memory => NO_MEMORY,
+        _ => PROTOCOL_FAULT,
+    }
+}
+
+/// The status for the reason that a call has no answer.
+fn call_status(end: CallEnd) -> u8
+    ensures { result ≡ call_status end }
+{
+    match end {
+        CallEnd::Ended(end) => link_status(end),
+        CallEnd::LinkRead | CallEnd::LinkWrite => LINK_FAULT,
+        CallEnd::Closed => LINK_CLOSED,
+        CallEnd::Spent { .. } | CallEnd::TooLarge { .. } | CallEnd::Budget { .. } => OVER_BUDGET,
+        CallEnd::Memory => NO_MEMORY,
+    }
+}
+
+/// The status for the reason that a command was not done.
+fn status_of(end: ClientEnd) -> u8
+    ensures { result ≡ status_of end }
+{
+    match end {
+        ClientEnd::DialFault => LINK_FAULT,
+        ClientEnd::Link(end) => call_status(end),
+        ClientEnd::Rpc { .. } | ClientEnd::Mount { .. } => REFUSED,
+        ClientEnd::Nfs { .. } => NFS_FAILED,
+        ClientEnd::Chunk | ClientEnd::Version { .. } => TRANSPORT_ERROR,
+        ClientEnd::BadReply { .. } => PROTOCOL_FAULT,
+        ClientEnd::BadPath { .. } => BAD_INPUT,
+        ClientEnd::InputFault | ClientEnd::OutputFault => FAULT,
+        ClientEnd::Budget { .. } => OVER_BUDGET,
+        ClientEnd::Memory => NO_MEMORY,
+    }
+}
+
+/// Reports on `err` why a command was not done, and gives the status.
+fn report_end<E: Sink>(alloc: Global, end: ClientEnd, err: &mut E) -> u8
+    ensures { ReportsEnd end result (sink_at (E.taken err.old) (E.faults err.old)) (sink_at (E.taken err.new) (E.faults err.new)) }
+{
+    match end_text(alloc, end) {
+        Ok(text) => write_error(err, text.as_bytes(), status_of(end)),
+        Err(_) => write_error(err, b"memory\n", NO_MEMORY),
+    }
+}
+
+/// Runs a command of a client, and gives the status: 0 if it was done. Else `err` takes the reason.
+pub(crate) fn run_client<P: Source, Q: Sink, D: Dialer<Source = P, Sink = Q>, O: Sink, E: Sink>(
+    alloc: Global,
+    client: &Client<&str>,
+    dial: &mut D,
+    out: &mut O,
+    err: &mut E,
+) -> u8
+    requires { has_text (plain_action client.now.action) ≡ true }
+    ensures { ClientEnds (plain_client client.now) result
+        (dialer_at (D.asked dial.old) (D.ended dial.old) (D.lost dial.old) (D.faults dial.old))
+        (dialer_at (D.asked dial.new) (D.ended dial.new) (D.lost dial.new) (D.faults dial.new))
+        (sink_at (O.taken out.old) (O.faults out.old)) (sink_at (O.taken out.new) (O.faults out.new))
+        (sink_at (E.taken err.old) (E.faults err.old)) (sink_at (E.taken err.new) (E.faults err.new)) }
+{
+    match run_command(alloc, client, dial, out) {
+        Ok(()) => DONE,
+        Err(end) => report_end(alloc, end, err),
+    }
+}
