@@ -1,5 +1,5 @@
 -- A command of a client, from its words to its end.
-use Rattle.std.specs.Prelude.{◌≡◌, ℕ, Bool, true, false, List, [], Option, Result, Ok, Err}
+use Rattle.std.specs.Prelude.{◌≡◌, ℕ, List, [], Option, Result, Ok, Err}
 use Rattle.nr_outside.specs.Streams.{SinkAt, SourceAt, Writes, WritesSome}
 use Rattle.nr_links.specs.Asked.{Asks as AsksFor}
 use Rattle.nr_links.specs.Links.{CountsLost, EndsLink, IsNewLink, LinkLog, MakesLink, ended_link}
@@ -13,8 +13,8 @@ use Rattle.nr_words.specs.declared.commands.Client.{Client}
 use Rattle.nr_client.specs.declared.client_end.ClientEnd.{ClientEnd}
 use Rattle.nr_client.specs.declared.client_end.ClientEnd.TheVariants as client
 use Rattle.nr_client.specs.Requests.{OpenFails}
-use Rattle.nr_commands.specs.Commands.{Lists, MakesDirectory, MakesSymlink, MountsAndPrints, ReadsLink, Removes, Stats}
-use Rattle.nr_commands.specs.Sessions.{Never, Part, SessionAt}
+use Rattle.nr_commands.specs.Commands.{Gets, Lists, MakesDirectory, MakesSymlink, MountsAndPrints, Puts, ReadsLink, Removes, Stats}
+use Rattle.nr_commands.specs.Sessions.{Part, SessionAt}
 
 -- what is known of a dialer: the addresses of its links, its links, and its counts
 pub record DialerAt : Type 0 where
@@ -44,17 +44,17 @@ pub record Closes (s : SessionAt) (before after : DialerAt) : Type 0 where
   pub asked : after.asked ≡ before.asked
   pub unfailing : after.faults ≡ before.faults
 
--- the part of each command whose result is a text
-abbrev pub text_of : (uid gid : ℕ) → List ℕ → Action Text → Part (List ℕ)
-text_of uid gid export actions.Mount = MountsAndPrints uid gid export
-text_of uid gid export (actions.List path) = Lists uid gid export path
-text_of uid gid export (actions.Stat path) = Stats uid gid export path
-text_of uid gid export (actions.ReadLink path) = ReadsLink uid gid export path
-text_of uid gid export (actions.MakeDirectory path) = MakesDirectory uid gid export path
-text_of uid gid export (actions.Remove path) = Removes uid gid export path
-text_of uid gid export (actions.Link path target) = MakesSymlink uid gid export path target
-text_of uid gid export (actions.Put path) = Never
-text_of uid gid export (actions.Get path) = Never
+-- the part of each command up to its text; `put` reads the input, and `get` writes to the output
+abbrev pub text_of : (uid gid : ℕ) → List ℕ → Action Text → (input input' : SourceAt) → (out out' : SinkAt) → Part (List ℕ)
+text_of uid gid export actions.Mount input input' out out' s s' text = MountsAndPrints uid gid export s s' text × ((input' ≡ input) × (out' ≡ out))
+text_of uid gid export (actions.List path) input input' out out' s s' text = Lists uid gid export path s s' text × ((input' ≡ input) × (out' ≡ out))
+text_of uid gid export (actions.Stat path) input input' out out' s s' text = Stats uid gid export path s s' text × ((input' ≡ input) × (out' ≡ out))
+text_of uid gid export (actions.ReadLink path) input input' out out' s s' text = ReadsLink uid gid export path s s' text × ((input' ≡ input) × (out' ≡ out))
+text_of uid gid export (actions.MakeDirectory path) input input' out out' s s' text = MakesDirectory uid gid export path s s' text × ((input' ≡ input) × (out' ≡ out))
+text_of uid gid export (actions.Remove path) input input' out out' s s' text = Removes uid gid export path s s' text × ((input' ≡ input) × (out' ≡ out))
+text_of uid gid export (actions.Link path target) input input' out out' s s' text = MakesSymlink uid gid export path target s s' text × ((input' ≡ input) × (out' ≡ out))
+text_of uid gid export (actions.Put path) input input' out out' s s' text = Puts uid gid export path input input' s s' text × (out' ≡ out)
+text_of uid gid export (actions.Get path) input input' out out' s s' text = Gets uid gid export path out out' s s' text × (input' ≡ input)
 
 -- A text is printed, completely or, if the output fails, a proper prefix of it. Without a text nothing is printed.
 abbrev pub IsPrinted : Result (List ℕ) ClientEnd → Result (Unit {0}) ClientEnd → (out out' : SinkAt) → Type 0
@@ -64,19 +64,15 @@ IsPrinted (Ok text) (Err end) out out' = ⊥
 IsPrinted (Err why) (Ok done) out out' = ⊥
 IsPrinted (Err why) (Err end) out out' = (end ≡ why) × (out' ≡ out)
 
--- whether the result of a command is a text: of all but `put` and `get`
-abbrev pub has_text : Action Text → Bool
-has_text (actions.Put path) = false
-has_text (actions.Get path) = false
-has_text action = true
-
--- a command was done over a session, up to its result, and its text was printed
-pub record Prints (c : Client Text) (s s' : SessionAt) (out out' : SinkAt) (result : Result (Unit {0}) ClientEnd) : Type 0 where
+-- a command was done over a session, up to its result, and then its text was printed
+pub record Prints (c : Client Text) (s s' : SessionAt) (input input' : SourceAt) (out out' : SinkAt) (result : Result (Unit {0}) ClientEnd) : Type 0 where
   pub text : Result (List ℕ) ClientEnd
-  pub made : text_of c.uid c.gid c.export c.action s s' text
-  pub prints : IsPrinted text result out out'
+  pub written : SinkAt
+  pub made : text_of c.uid c.gid c.export c.action input input' out written s s' text
+  pub prints : IsPrinted text result written out'
 
 -- A command was done, up to its result: no session was opened; or one was, its requests were made, and it was closed.
-pub data Runs (c : Client Text) (before after : DialerAt) (out out' : SinkAt) (result : Result (Unit {0}) ClientEnd) : Type 0 where
-  NotOpened : (end : ClientEnd) → result ≡ Err end → OpenFails end before.faults after.faults → out' ≡ out → Runs c before after out out' result
-  Opened : (dialed : DialerAt) → (s s' : SessionAt) → Opens c.addr before dialed s → Prints c s s' out out' result → Closes s' dialed after → Runs c before after out out' result
+pub data Runs (c : Client Text) (before after : DialerAt) (input input' : SourceAt) (out out' : SinkAt) (result : Result (Unit {0}) ClientEnd) : Type 0 where
+  NotOpened : (end : ClientEnd) → result ≡ Err end → OpenFails end before.faults after.faults → input' ≡ input → out' ≡ out → Runs c before after input input' out out' result
+  Opened : (dialed : DialerAt) → (s s' : SessionAt) → Opens c.addr before dialed s → Prints c s s' input input' out out' result → Closes s' dialed after →
+      Runs c before after input input' out out' result

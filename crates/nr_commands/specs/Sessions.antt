@@ -49,7 +49,3 @@ Text text s s' result = (s' ≡ s) × MatchResult result (λ t. t ≡ text) (λ 
 -- nothing is asked, and this is the end
 abbrev pub Fails : {A : Type 0} → ClientEnd → Part A
 Fails end s s' result = (s' ≡ s) × (result ≡ Err end)
-
--- no part of a command
-abbrev pub Never : {A : Type 0} → Part A
-Never s s' result = ⊥

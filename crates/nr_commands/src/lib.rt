@@ -5,10 +5,11 @@
 #![tactic(auto)]
 
 mod ending;
+mod files;
 mod finding;
 mod printing;
 mod run;
 mod texts;
 
 pub use ending::end_text;
-pub use run::{has_text, run_command};
+pub use run::run_command;

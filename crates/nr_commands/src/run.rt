@@ -1,11 +1,11 @@
 //! A command, from its words to its end.
 
-ghost use Rattle.std.specs.Prelude.{◌≡◌, true};
-ghost use Rattle.nr_outside.specs.Streams.{sink_at};
+ghost use Rattle.nr_outside.specs.Streams.{sink_at, source_at};
 ghost use Rattle.nr_words.specs.Lines.{plain_action, plain_client};
-ghost use Rattle.nr_commands.specs.Running.{IsPrinted, Prints, Runs, dialer_at, has_text, text_of};
+ghost use Rattle.nr_commands.specs.Running.{IsPrinted, Runs, dialer_at, text_of};
 ghost use Rattle.nr_commands.specs.Sessions.{session_at};
 
+use crate::files::{get, put};
 use crate::texts::{
     list_text, make_directory, make_link, mount_text, read_link_text, remove, stat_text,
 };
@@ -16,26 +16,18 @@ use nr_words::{Action, Client};
 use nr_xdr::Octets;
 use std::alloc::Global;
 
-/// Whether the result of a command is a text: of all but `put` and `get`.
-pub fn has_text(action: &Action<&str>) -> bool
-    ensures { result ≡ has_text (plain_action action.now) }
-{
-    match action {
-        Action::Put { .. } => false,
-        Action::Get { .. } => false,
-        _ => true,
-    }
-}
-
-/// The text of a command.
-fn text_of<P: Source, Q: Sink>(
+/// Makes the requests of a command, and gives the text that it prints.
+fn text_of<P: Source, Q: Sink, N: Source, K: Sink>(
     alloc: Global,
     session: &mut Session<P, Q>,
     export: &str,
     action: &Action<&str>,
+    input: &mut N,
+    out: &mut K,
 ) -> Result<Octets, ClientEnd>
-    requires { has_text (plain_action action.now) ≡ true }
     ensures { text_of session.old.uid session.old.gid export.now (plain_action action.now)
+        (source_at (N.left input.old) (N.given input.old) (N.faults input.old)) (source_at (N.left input.new) (N.given input.new) (N.faults input.new))
+        (sink_at (K.taken out.old) (K.faults out.old)) (sink_at (K.taken out.new) (K.faults out.new))
         (session_at (P.left session.old.link.source) (P.given session.old.link.source) (Q.taken session.old.link.sink) session.old.link.read session.old.link.requester (P.faults session.old.link.source) (Q.faults session.old.link.sink))
         (session_at (P.left session.new.link.source) (P.given session.new.link.source) (Q.taken session.new.link.sink) session.new.link.read session.new.link.requester (P.faults session.new.link.source) (Q.faults session.new.link.sink)) result }
 {
@@ -47,8 +39,8 @@ fn text_of<P: Source, Q: Sink>(
         Action::MakeDirectory { path } => make_directory(alloc, session, export, path),
         Action::Remove { path } => remove(alloc, session, export, path),
         Action::Link { path, target } => make_link(alloc, session, export, path, target),
-        Action::Put { .. } => unreachable!(),
-        Action::Get { .. } => unreachable!(),
+        Action::Put { path } => put(alloc, session, export, path, input),
+        Action::Get { path } => get(alloc, session, export, path, out),
     }
 }
 
@@ -66,29 +58,37 @@ fn print<O: Sink>(out: &mut O, text: Result<Octets, ClientEnd>) -> Result<(), Cl
     }
 }
 
-/// Runs a command of a client, but for `put` and `get`: opens a session, makes the requests of the command, prints its text, and closes the
-/// session. Nothing is printed if a request has no result.
+/// Runs a command of a client: opens a session, makes the requests of the command, closes the session, and prints its text. Without a result
+/// no text is printed. `put` takes the bytes of the file from `input`; `get` writes those that came to `out` as they come.
 ///
 /// # Errors
 ///
-/// [`ClientEnd`] says why the command was not done; `OutputFault` if a write to `out` failed.
-pub fn run_command<P: Source, Q: Sink, D: Dialer<Source = P, Sink = Q>, O: Sink>(
+/// [`ClientEnd`] says why the command was not done; `InputFault` if a read of `input` failed, `OutputFault` if a write to `out` did.
+pub fn run_command<P: Source, Q: Sink, D: Dialer<Source = P, Sink = Q>, N: Source, K: Sink>(
     alloc: Global,
     client: &Client<&str>,
     dial: &mut D,
-    out: &mut O,
+    input: &mut N,
+    out: &mut K,
 ) -> Result<(), ClientEnd>
-    requires { has_text (plain_action client.now.action) ≡ true }
     ensures { Runs (plain_client client.now)
         (dialer_at (D.asked dial.old) (D.ended dial.old) (D.lost dial.old) (D.faults dial.old))
         (dialer_at (D.asked dial.new) (D.ended dial.new) (D.lost dial.new) (D.faults dial.new))
-        (sink_at (O.taken out.old) (O.faults out.old)) (sink_at (O.taken out.new) (O.faults out.new)) result }
+        (source_at (N.left input.old) (N.given input.old) (N.faults input.old)) (source_at (N.left input.new) (N.given input.new) (N.faults input.new))
+        (sink_at (K.taken out.old) (K.faults out.old)) (sink_at (K.taken out.new) (K.faults out.new)) result }
 {
     let mut session = match Session::open(alloc, dial, client.addr, client.uid, client.gid) {
         Ok(session) => session,
         Err(end) => return Err(end),
     };
-    let text = text_of(alloc, &mut session, client.export, &client.action);
+    let text = text_of(
+        alloc,
+        &mut session,
+        client.export,
+        &client.action,
+        input,
+        out,
+    );
     session.close(dial);
     print(out, text)
 }

@@ -1,27 +1,17 @@
 -- How a run ends, by the command of its line.
-use Rattle.std.proofs.Common.{◌≡◌, ℕ, List, Option, Some, None, true, false, sym, subst}
-use Rattle.std.specs.Prelude.{Bool, MatchBool}
+use Rattle.std.proofs.Common.{◌≡◌, ℕ, List, Option, Some, None, sym, subst}
 use Rattle.nr_words.specs.Lines.{Text}
 use Rattle.nr_words.specs.declared.commands.Client.{Client}
 use Rattle.nr_words.specs.declared.commands.Command.{Command}
 use Rattle.nr_words.specs.declared.commands.Command.TheVariants as commands
-use Rattle.nr_commands.specs.Running.{has_text}
 use Rattle.nr_top.specs.Clients.{ClientEnds}
 use Rattle.nr_top.specs.RunEnds.{AcceptsNone, OtherEnds, Outside, RunEnds}
 use Rattle.nr_top.specs.Serving.{ServeEnds}
 
 pub client_ends : (line : Option (Command Text)) (c : Client Text) (words : List Text) (status : ℕ) (before after : Outside)
-    → line ≡ Some (commands.Client c) → has_text c.action ≡ true → ClientEnds c status before.dialer after.dialer before.out after.out before.err after.err
-    → after.input ≡ before.input → AcceptsNone before after → RunEnds line words status before after
-client_ends line c words status before after is has ends input none =
-    subst (λ (l : Option (Command Text)). RunEnds l words status before after) (sym is)
-    (subst (λ (b : Bool). MatchBool b (ClientEnds c status before.dialer after.dialer before.out after.out before.err after.err × ((after.input ≡ before.input) × AcceptsNone before after)) (OtherEnds words status before after)) (sym has) (ends, (input, none)))
-
-pub client_refused : (line : Option (Command Text)) (c : Client Text) (words : List Text) (status : ℕ) (before after : Outside)
-    → line ≡ Some (commands.Client c) → has_text c.action ≡ false → OtherEnds words status before after → RunEnds line words status before after
-client_refused line c words status before after is has ends =
-    subst (λ (l : Option (Command Text)). RunEnds l words status before after) (sym is)
-    (subst (λ (b : Bool). MatchBool b (ClientEnds c status before.dialer after.dialer before.out after.out before.err after.err × ((after.input ≡ before.input) × AcceptsNone before after)) (OtherEnds words status before after)) (sym has) ends)
+    → line ≡ Some (commands.Client c) → ClientEnds c status before.dialer after.dialer before.input after.input before.out after.out before.err after.err
+    → AcceptsNone before after → RunEnds line words status before after
+client_ends line c words status before after is ends none = subst (λ (l : Option (Command Text)). RunEnds l words status before after) (sym is) (ends, none)
 
 pub serve_ends : (line : Option (Command Text)) (config : Text) (words : List Text) (status : ℕ) (before after : Outside)
     → line ≡ Some (commands.Serve config) → ServeEnds status before.input after.input before.out after.out before.err after.err before.acceptor after.acceptor before.gave after.gave

@@ -1,6 +1,6 @@
 -- How a command of a client ends, and what the status of its run says.
 use Rattle.std.specs.Prelude.{◌≡◌, ℕ, ◌⊎◌, Ok, Err}
-use Rattle.nr_outside.specs.Streams.{SinkAt}
+use Rattle.nr_outside.specs.Streams.{SinkAt, SourceAt}
 use Rattle.nr_link.specs.declared.end.End.{End}
 use Rattle.nr_link.specs.declared.end.End.TheVariants as ends
 use Rattle.nr_words.specs.Lines.{Text}
@@ -51,6 +51,7 @@ abbrev pub ReportsEnd : ClientEnd → ℕ → SinkAt → SinkAt → Type 0
 ReportsEnd end status err err' = Reported (status_of end) (end_text end) status err err' ⊎ Reported statuses.no_memory memory_text status err err'
 
 -- what the status says
-pub data ClientEnds (c : Client Text) (status : ℕ) (dialer dialer' : DialerAt) (out out' err err' : SinkAt) : Type 0 where
-  Done : status ≡ statuses.done → Runs c dialer dialer' out out' (Ok tt) → err' ≡ err → ClientEnds c status dialer dialer' out out' err err'
-  NotDone : (end : ClientEnd) → Runs c dialer dialer' out out' (Err end) → ReportsEnd end status err err' → ClientEnds c status dialer dialer' out out' err err'
+pub data ClientEnds (c : Client Text) (status : ℕ) (dialer dialer' : DialerAt) (input input' : SourceAt) (out out' err err' : SinkAt) : Type 0 where
+  Done : status ≡ statuses.done → Runs c dialer dialer' input input' out out' (Ok tt) → err' ≡ err → ClientEnds c status dialer dialer' input input' out out' err err'
+  NotDone : (end : ClientEnd) → Runs c dialer dialer' input input' out out' (Err end) → ReportsEnd end status err err' →
+      ClientEnds c status dialer dialer' input input' out out' err err'

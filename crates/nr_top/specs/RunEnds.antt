@@ -1,11 +1,11 @@
 -- How a run of the program ends, by the command of its line.
-use Rattle.std.specs.Prelude.{◌≡◌, ℕ, List, Option, Some, MatchBool}
+use Rattle.std.specs.Prelude.{◌≡◌, ℕ, List, Option, Some}
 use Rattle.nr_outside.specs.Streams.{SinkAt, SourceAt}
 use Rattle.nr_outside.specs.declared.moment.Moment.{Moment}
 use Rattle.nr_words.specs.Lines.{Text}
 use Rattle.nr_words.specs.declared.commands.Command.{Command}
 use Rattle.nr_words.specs.declared.commands.Command.TheVariants as commands
-use Rattle.nr_commands.specs.Running.{DialerAt, has_text}
+use Rattle.nr_commands.specs.Running.{DialerAt}
 use Rattle.nr_serve.specs.Serving.{AcceptorAt}
 use Rattle.nr_top.specs.Clients.{ClientEnds}
 use Rattle.nr_top.specs.Ends.{Ends}
@@ -33,12 +33,10 @@ abbrev pub OtherEnds : List Text → ℕ → (before after : Outside) → Type 0
 OtherEnds words status before after =
     Ends words status before.input after.input before.out after.out before.err after.err × ((after.dialer ≡ before.dialer) × AcceptsNone before after)
 
--- A line of a client, but for `put` and `get`; one of `serve`; and all other words, which are those of a drill or none.
+-- A line of a client; one of `serve`; and all other words, which are those of a drill or none.
 abbrev pub RunEnds : Option (Command Text) → List Text → ℕ → (before after : Outside) → Type 0
 RunEnds (Some (commands.Client c)) words status before after =
-    MatchBool (has_text c.action)
-    (ClientEnds c status before.dialer after.dialer before.out after.out before.err after.err × ((after.input ≡ before.input) × AcceptsNone before after))
-    (OtherEnds words status before after)
+    ClientEnds c status before.dialer after.dialer before.input after.input before.out after.out before.err after.err × AcceptsNone before after
 RunEnds (Some (commands.Serve config)) words status before after =
     ServeEnds status before.input after.input before.out after.out before.err after.err before.acceptor after.acceptor before.gave after.gave × (after.dialer ≡ before.dialer)
 RunEnds line words status before after = OtherEnds words status before after

@@ -1,9 +1,9 @@
 //! A command of a client: its status, and what is reported.
 
-ghost use Rattle.std.specs.Prelude.{◌≡◌, true};
-ghost use Rattle.nr_outside.specs.Streams.{sink_at};
-ghost use Rattle.nr_words.specs.Lines.{plain_action, plain_client};
-ghost use Rattle.nr_commands.specs.Running.{dialer_at, has_text};
+ghost use Rattle.std.specs.Prelude.{◌≡◌};
+ghost use Rattle.nr_outside.specs.Streams.{sink_at, source_at};
+ghost use Rattle.nr_words.specs.Lines.{plain_client};
+ghost use Rattle.nr_commands.specs.Running.{dialer_at};
 ghost use Rattle.nr_top.specs.Clients.{ClientEnds, ReportsEnd, call_status, link_status, status_of};
 
 use crate::command::write_error;
@@ -71,21 +71,22 @@ fn report_end<E: Sink>(alloc: Global, end: ClientEnd, err: &mut E) -> u8
 }
 
 /// Runs a command of a client, and gives the status: 0 if it was done. Else `err` takes the reason.
-pub(crate) fn run_client<P: Source, Q: Sink, D: Dialer<Source = P, Sink = Q>, O: Sink, E: Sink>(
-    alloc: Global,
-    client: &Client<&str>,
-    dial: &mut D,
-    out: &mut O,
-    err: &mut E,
-) -> u8
-    requires { has_text (plain_action client.now.action) ≡ true }
+pub(crate) fn run_client<
+    I: Source,
+    P: Source,
+    Q: Sink,
+    D: Dialer<Source = P, Sink = Q>,
+    O: Sink,
+    E: Sink,
+>(alloc: Global, client: &Client<&str>, dial: &mut D, input: &mut I, out: &mut O, err: &mut E) -> u8
     ensures { ClientEnds (plain_client client.now) result
         (dialer_at (D.asked dial.old) (D.ended dial.old) (D.lost dial.old) (D.faults dial.old))
         (dialer_at (D.asked dial.new) (D.ended dial.new) (D.lost dial.new) (D.faults dial.new))
+        (source_at (I.left input.old) (I.given input.old) (I.faults input.old)) (source_at (I.left input.new) (I.given input.new) (I.faults input.new))
         (sink_at (O.taken out.old) (O.faults out.old)) (sink_at (O.taken out.new) (O.faults out.new))
         (sink_at (E.taken err.old) (E.faults err.old)) (sink_at (E.taken err.new) (E.faults err.new)) }
 {
-    match run_command(alloc, client, dial, out) {
+    match run_command(alloc, client, dial, input, out) {
         Ok(()) => DONE,
         Err(end) => report_end(alloc, end, err),
     }

@@ -11,15 +11,15 @@ ghost use Rattle.nr_top.specs.RunEnds.{RunEnds, outside};
 use crate::client::run_client;
 use crate::command::run_drill;
 use crate::serving::run_server;
-use nr_commands::has_text;
 use nr_links::{Acceptor, Clock, Dialer};
 use nr_outside::{Sink, Source};
 use nr_words::{Command, read_line};
 use std::alloc::Global;
 
 /// Runs the program, and gives the status. The words are the name under which it was started, and a command with its
-/// options. A command of a client dials its address by `dial`; `serve` reads its configuration from `input`, listens by
-/// `accept` and takes the time from `clock`; a drill reads its script from `input`. What is printed goes to `out`; `err` takes
+/// options. A command of a client dials its address by `dial`, and `put` reads the bytes of its file from `input`; `serve`
+/// reads its configuration from `input`, listens by `accept` and takes the time from `clock`; a drill reads its script from
+/// `input`. What is printed goes to `out`; `err` takes
 /// the reason if the command isn't done.
 ///
 /// `RunEnds` of the specs says what each status means. 0: the command was done. 1: the words are not those of a command.
@@ -56,12 +56,7 @@ pub fn run<
         return run_drill(alloc, words, input, out, err);
     };
     match command {
-        Command::Client { client } => {
-            if has_text(&client.action) {
-                return run_client(alloc, &client, dial, out, err);
-            }
-            run_drill(alloc, words, input, out, err)
-        }
+        Command::Client { client } => run_client(alloc, &client, dial, input, out, err),
         Command::Serve { config: _config } => run_server(alloc, input, out, err, accept, clock),
         Command::Drill => run_drill(alloc, words, input, out, err),
         Command::GeneratedDrill {

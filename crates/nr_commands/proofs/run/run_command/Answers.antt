@@ -1,4 +1,5 @@
 use Rattle.std.proofs.Common.{ℕ, refl}
+use Rattle.nr_outside.specs.Streams.{sink_at, source_at}
 use Rattle.nr_words.specs.Lines.{plain_action}
 use Rattle.nr_commands.specs.Running.{dialer_at, text_of}
 use Rattle.nr_commands.specs.Running.Runs.{NotOpened, Opened}
@@ -10,7 +11,7 @@ pub close-requires : goal.close-requires
 close-requires g c = c.in-Ok.ensures.made.1
 
 pub returns-in-Err : goal.returns-in-Err
-returns-in-Err g c = NotOpened c.in-Err.end refl c.in-Err.ensures.err refl
+returns-in-Err g c = NotOpened c.in-Err.end refl c.in-Err.ensures.err refl refl
 
 pub returns : goal.returns
 returns g c =
@@ -28,7 +29,8 @@ returns g c =
     })
     (record {
       text = c.text_of-text.result;
-      made = with_user (λ u v. text_of u v c.args.client.now.export.now (plain_action c.args.client.now.action)) c.args.client.now.uid c.args.client.now.gid c.in-Ok.session.uid c.in-Ok.session.gid
+      written = (sink_at (g.K.Sink.taken c.text_of-text.new.out) (g.K.Sink.faults c.text_of-text.new.out));
+      made = with_user (λ u v. text_of u v c.args.client.now.export.now (plain_action c.args.client.now.action) (source_at (g.N.Source.left c.args.input.now) (g.N.Source.given c.args.input.now) (g.N.Source.faults c.args.input.now)) (source_at (g.N.Source.left c.text_of-text.new.input) (g.N.Source.given c.text_of-text.new.input) (g.N.Source.faults c.text_of-text.new.input)) (sink_at (g.K.Sink.taken c.args.out.now) (g.K.Sink.faults c.args.out.now)) (sink_at (g.K.Sink.taken c.text_of-text.new.out) (g.K.Sink.faults c.text_of-text.new.out))) c.args.client.now.uid c.args.client.now.gid c.in-Ok.session.uid c.in-Ok.session.gid
           (session_at (g.P.Source.left c.in-Ok.session.link.source) (g.P.Source.given c.in-Ok.session.link.source) (g.Q.Sink.taken c.in-Ok.session.link.sink) c.in-Ok.session.link.read c.in-Ok.session.link.requester (g.P.Source.faults c.in-Ok.session.link.source) (g.Q.Sink.faults c.in-Ok.session.link.sink)) (session_at (g.P.Source.left c.text_of-text.new.session.link.source) (g.P.Source.given c.text_of-text.new.session.link.source) (g.Q.Sink.taken c.text_of-text.new.session.link.sink) c.text_of-text.new.session.link.read c.text_of-text.new.session.link.requester (g.P.Source.faults c.text_of-text.new.session.link.source) (g.Q.Sink.faults c.text_of-text.new.session.link.sink)) c.text_of-text.result state.1.1 c.text_of-text.ensures;
       prints = c.print.ensures;
     })

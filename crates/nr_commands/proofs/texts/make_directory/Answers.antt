@@ -20,4 +20,4 @@ pub returns-clause-part : goal.returns-clause-part
 returns-clause-part g c =
     then_goes (FindsParent c.args.session.now.uid c.args.session.now.gid c.args.export.now c.args.path.now) (λ place. Then (Request create_result (mkdir_call c.args.session.now.uid c.args.session.now.gid place.0 place.1)) (λ made. Text [])) (session_at (g.I.Source.left c.args.session.now.link.source) (g.I.Source.given c.args.session.now.link.source) (g.O.Sink.taken c.args.session.now.link.sink) c.args.session.now.link.read c.args.session.now.link.requester (g.I.Source.faults c.args.session.now.link.source) (g.O.Sink.faults c.args.session.now.link.sink)) (session_at (g.I.Source.left c.find_parent.new.session.link.source) (g.I.Source.given c.find_parent.new.session.link.source) (g.O.Sink.taken c.find_parent.new.session.link.sink) c.find_parent.new.session.link.read c.find_parent.new.session.link.requester (g.I.Source.faults c.find_parent.new.session.link.source) (g.O.Sink.faults c.find_parent.new.session.link.sink)) (session_at (g.I.Source.left c.mkdir.new.self.link.source) (g.I.Source.given c.mkdir.new.self.link.source) (g.O.Sink.taken c.mkdir.new.self.link.sink) c.mkdir.new.self.link.read c.mkdir.new.self.link.requester (g.I.Source.faults c.mkdir.new.self.link.source) (g.O.Sink.faults c.mkdir.new.self.link.sink)) c.find_parent.result c.in-Ok.place (Ok c.new.result) c.in-Ok.is c.find_parent.ensures.part
     (then_goes (Request create_result (mkdir_call c.args.session.now.uid c.args.session.now.gid c.in-Ok.place.0 c.in-Ok.place.1)) (λ made. Text []) (session_at (g.I.Source.left c.find_parent.new.session.link.source) (g.I.Source.given c.find_parent.new.session.link.source) (g.O.Sink.taken c.find_parent.new.session.link.sink) c.find_parent.new.session.link.read c.find_parent.new.session.link.requester (g.I.Source.faults c.find_parent.new.session.link.source) (g.O.Sink.faults c.find_parent.new.session.link.sink)) (session_at (g.I.Source.left c.mkdir.new.self.link.source) (g.I.Source.given c.mkdir.new.self.link.source) (g.O.Sink.taken c.mkdir.new.self.link.sink) c.mkdir.new.self.link.read c.mkdir.new.self.link.requester (g.I.Source.faults c.mkdir.new.self.link.source) (g.O.Sink.faults c.mkdir.new.self.link.sink)) (session_at (g.I.Source.left c.mkdir.new.self.link.source) (g.I.Source.given c.mkdir.new.self.link.source) (g.O.Sink.taken c.mkdir.new.self.link.sink) c.mkdir.new.self.link.read c.mkdir.new.self.link.requester (g.I.Source.faults c.mkdir.new.self.link.source) (g.O.Sink.faults c.mkdir.new.self.link.sink)) c.mkdir.result c.in-Ok-mkdir.made (Ok c.new.result) c.in-Ok-mkdir.is (with_user (λ u v. Request create_result (mkdir_call u v c.in-Ok.place.0 c.in-Ok.place.1)) c.args.session.now.uid c.args.session.now.gid c.find_parent.new.session.uid c.find_parent.new.session.gid (session_at (g.I.Source.left c.find_parent.new.session.link.source) (g.I.Source.given c.find_parent.new.session.link.source) (g.O.Sink.taken c.find_parent.new.session.link.sink) c.find_parent.new.session.link.read c.find_parent.new.session.link.requester (g.I.Source.faults c.find_parent.new.session.link.source) (g.O.Sink.faults c.find_parent.new.session.link.sink)) (session_at (g.I.Source.left c.mkdir.new.self.link.source) (g.I.Source.given c.mkdir.new.self.link.source) (g.O.Sink.taken c.mkdir.new.self.link.sink) c.mkdir.new.self.link.read c.mkdir.new.self.link.requester (g.I.Source.faults c.mkdir.new.self.link.source) (g.O.Sink.faults c.mkdir.new.self.link.sink)) c.mkdir.result c.find_parent.ensures.user (c.mkdir.ensures.asks, (c.mkdir.ensures.source_faults, c.mkdir.ensures.sink_faults)))
-      (refl, c.new.ensures))
+    (refl, c.new.ensures))

@@ -1,0 +1,63 @@
+//! The commands that move the bytes of a file.
+
+ghost use Rattle.nr_outside.specs.Streams.{sink_at, source_at};
+ghost use Rattle.nr_commands.specs.Commands.{Gets, IsSilent, Puts};
+ghost use Rattle.nr_commands.specs.Sessions.{session_at};
+
+use crate::finding::{find, find_parent};
+use nr_client::{ClientEnd, Session};
+use nr_outside::{Sink, Source};
+use nr_xdr::Octets;
+use std::alloc::Global;
+
+/// No text, after a request that was done.
+fn silent(alloc: Global, done: Result<(), ClientEnd>) -> Result<Octets, ClientEnd>
+    ensures { IsSilent done result }
+{
+    match done {
+        Ok(()) => Ok(Octets::new(alloc)),
+        Err(end) => Err(end),
+    }
+}
+
+/// `get`: the bytes of a file are written to an output. Nothing else is printed.
+pub(crate) fn get<I: Source, O: Sink, K: Sink>(
+    alloc: Global,
+    session: &mut Session<I, O>,
+    export: &str,
+    path: &str,
+    out: &mut K,
+) -> Result<Octets, ClientEnd>
+    ensures { Gets session.old.uid session.old.gid export.now path.now
+        (sink_at (K.taken out.old) (K.faults out.old)) (sink_at (K.taken out.new) (K.faults out.new))
+        (session_at (I.left session.old.link.source) (I.given session.old.link.source) (O.taken session.old.link.sink) session.old.link.read session.old.link.requester (I.faults session.old.link.source) (O.faults session.old.link.sink))
+        (session_at (I.left session.new.link.source) (I.given session.new.link.source) (O.taken session.new.link.sink) session.new.link.read session.new.link.requester (I.faults session.new.link.source) (O.faults session.new.link.sink)) result }
+{
+    let file = match find(alloc, session, export, path) {
+        Ok(file) => file,
+        Err(end) => return Err(end),
+    };
+    let done = session.read_file(&file, out);
+    silent(alloc, done)
+}
+
+/// `put`: the bytes of an input are written to a file, which is made or emptied first. Nothing is printed.
+pub(crate) fn put<I: Source, O: Sink, N: Source>(
+    alloc: Global,
+    session: &mut Session<I, O>,
+    export: &str,
+    path: &str,
+    input: &mut N,
+) -> Result<Octets, ClientEnd>
+    ensures { Puts session.old.uid session.old.gid export.now path.now
+        (source_at (N.left input.old) (N.given input.old) (N.faults input.old)) (source_at (N.left input.new) (N.given input.new) (N.faults input.new))
+        (session_at (I.left session.old.link.source) (I.given session.old.link.source) (O.taken session.old.link.sink) session.old.link.read session.old.link.requester (I.faults session.old.link.source) (O.faults session.old.link.sink))
+        (session_at (I.left session.new.link.source) (I.given session.new.link.source) (O.taken session.new.link.sink) session.new.link.read session.new.link.requester (I.faults session.new.link.source) (O.faults session.new.link.sink)) result }
+{
+    let place = match find_parent(alloc, session, export, path) {
+        Ok(place) => place,
+        Err(end) => return Err(end),
+    };
+    let done = session.write_file(&place.0, &place.1, input);
+    silent(alloc, done)
+}
