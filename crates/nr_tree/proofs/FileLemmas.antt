@@ -1,11 +1,10 @@
 -- The bytes of a file from those of its pages.
-use Rattle.std.proofs.Common.{◌≡◌, ℕ, ◌+◌, ◌-◌, ◌*◌, ◌/◌, ◌%◌, ◌<◌, ◌≤◌, ◌⊎◌, inl, inr, Bool, true, false, cond, List, [], ◌++◌, length, take, drop, map, get_or, refl, ap, sym, ◌∙◌, subst, arith, length-append, length-drop, replicate, min, max}
+use Rattle.std.proofs.Common.{◌≡◌, ℕ, ◌+◌, ◌-◌, ◌<◌, ◌≤◌, ◌⊎◌, inl, inr, List, [], ◌++◌, length, take, drop, get_or, ap, sym, ◌∙◌, arith, length-append, length-drop, min, max}
 use Rattle.std.proofs.lemmas.List.{places, ext_get_or, get_or_append_left, get_or-append_right}
 use Rattle.std.proofs.lemmas.List.FromFn.{length-map-range_with_len, get_or-map-range_with_len}
-use Rattle.std.proofs.lemmas.Bool.{cases_lt, cases_eq}
+use Rattle.std.proofs.lemmas.Bool.{cases_lt}
 use Rattle.nr_tree.specs.Bytes.{with_bytes_at, with_length}
-use Rattle.nr_tree.specs.Pages.{page_size}
-use Rattle.nr_tree.specs.Paged.{Pages, page, byte, bytes_in, ArePages, IsOver}
+use Rattle.nr_tree.specs.Paged.{Pages, byte, bytes_in, ArePages, IsOver}
 
 -- ===== length and bytes of what pages hold
 

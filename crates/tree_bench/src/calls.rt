@@ -150,9 +150,10 @@ pub(crate) fn write(
     let mut payload = head(alloc, WRITE)?;
     put_handle(&mut payload, number)?;
     put_long(&mut payload, offset)?;
-    put(&mut payload, data.len() as u32)?;
+    let count = u32::try_from(data.len()).ok()?;
+    put(&mut payload, count)?;
     put(&mut payload, 2)?;
-    put(&mut payload, data.len() as u32)?;
+    put(&mut payload, count)?;
     payload.extend_from_slice(data).ok()?;
     call(alloc, server, &payload)
 }

@@ -134,8 +134,9 @@ fn copied(alloc: Global, size: u32, rounds: u32) -> Option<u64> {
             .as_slice()
             .split_at_checked(offset(round, size) as usize)?;
         let (part, _) = part.split_at_checked(PIECE)?;
-        to.copy_from_slice(part);
-        total = total.saturating_add(u64::from(to[0]));
+        to.clear();
+        to.extend_from_slice(part).ok()?;
+        total = total.saturating_add(to.len() as u64);
     }
     Some(total)
 }

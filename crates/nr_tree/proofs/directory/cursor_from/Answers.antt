@@ -1,4 +1,4 @@
-use Rattle.std.proofs.Common.{◌∙◌, ap, sym}
+use Rattle.std.proofs.Common.{◌∙◌, ap}
 use Rattle.nr_tree.specs.Slots.{slot_entries, ordered}
 use Rattle.nr_tree.proofs.Ordered.{ordered_drop}
 use Rattle.nr_tree.proofs.directory.cursor_from.Goals as goal

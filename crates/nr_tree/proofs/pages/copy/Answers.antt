@@ -1,4 +1,4 @@
-use Rattle.std.proofs.Common.{◌≡◌, ℕ, ◌+◌, ◌/◌, ◌<◌, ◌++◌, List, ap, sym, ◌∙◌, is_some, arith, length, length-append}
+use Rattle.std.proofs.Common.{◌≡◌, ◌+◌, ◌/◌, ◌++◌, ap, ◌∙◌, arith, length, length-append}
 use Rattle.std.proofs.lemmas.Bool.Decides.{nat_tests}
 use Rattle.nr_tree.specs.Pages.{page_size}
 use Rattle.nr_tree.proofs.PageLemmas.{writes_none, writes_then}

@@ -1,4 +1,4 @@
-use Rattle.std.proofs.Common.{◌≡◌, ℕ, ◌<◌, ◌≤◌, IfSome}
+use Rattle.std.proofs.Common.{ℕ, ◌<◌, ◌≤◌, IfSome}
 use Rattle.nr_tree.specs.Paged.{page, HasByte, KeepsBytes}
 use Rattle.nr_tree.proofs.pages.drop_zeros.Given as goal
 

@@ -1,4 +1,4 @@
-use Rattle.std.proofs.Common.{◌≡◌, List, ℕ, ◌-◌, ◌%◌, take, drop, min, ap, ◌∙◌, arith}
+use Rattle.std.proofs.Common.{List, ℕ, ◌-◌, ◌%◌, take, drop, ap, ◌∙◌, arith}
 use Rattle.nr_tree.specs.Pages.{page_size}
 use Rattle.nr_tree.proofs.FileLemmas.{drawn, drawn_none}
 use Rattle.nr_tree.proofs.file.File.read.Goals as goal
