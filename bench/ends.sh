@@ -1,6 +1,5 @@
 #!/bin/sh
-# Calls through both ends of a link and the plain server, one after the other: NULL, beside the Sends of the same bytes through two sides of a
-# link alone; a WRITE and a READ of 32 KiB in form Auto, in copies of 32 KiB of the same run (by processor time, and by cycles if perf is
+# Calls through both ends of a link and the plain server, one after the other: NULL; a WRITE and a READ of 32 KiB in form Auto, in copies of 32 KiB of the same run (by processor time, and by cycles if perf is
 # there), with 1 and with 64 credits; and, if there is a C compiler, the bytes that are copied and cleared by the C library. Run by hand, at
 # the top of the repository, once `(cd crates/ends_bench && rt run -- write 2 16)` has built the program; or with the program's path as $1.
 exec python3 - "${1:-crates/ends_bench/out/ends_bench}" <<'END'
@@ -9,7 +8,6 @@ import os, resource, shutil, subprocess, sys, tempfile
 PROGRAM = sys.argv[1]
 FEW, MANY = 1_000, 21_000
 LARGE = ('copy', 'write', 'read')
-SMALL = ('sends', 'null')
 
 def seconds(what, rounds, credits):
     """The processor time of a run."""
@@ -90,9 +88,7 @@ def report_counts(what):
         kinds = zip(('small copies', 'large copies', 'small clearings', 'large clearings'), counted[what][::2], counted[what][1::2])
         print('  ' + ', '.join(f'{calls:.0f} {kind} of {size:.0f} bytes' for kind, calls, size in kinds))
 
-small = {what: used * 1e6 for what, used in least(seconds, SMALL, 10_000, 210_000, 7).items()}
-print(f"two Sends, of 68 and 52 bytes: {small['sends']:.3f} microseconds")
-print(f"a NULL call: {small['null']:.2f} microseconds, {small['null'] / small['sends']:.1f} times the Sends (target 40)")
+print(f"a NULL call: {least(seconds, ('null',), 10_000, 210_000, 7)['null'] * 1e6:.2f} microseconds")
 for rounds in (10_000, 1_000_000):
     one = seconds('null', rounds, 16) / rounds * 1e6
     print(f'  of {rounds}: {one:.2f} microseconds')

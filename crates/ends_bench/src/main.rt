@@ -1,13 +1,11 @@
 //! A benchmark, run by hand: NULL calls, or WRITEs or READs of 32 KiB in form Auto, one after the other, through both ends of a link and the
-//! plain server. It prints how many calls, or how many bytes, the replies confirm. The arguments are `null`, `write` or `read`, `sends` for
-//! the Sends of NULL calls and their replies through two sides of a link alone, or `copy` for copies of 32 KiB; their number; and the credits
-//! of both ends.
+//! plain server. It prints how many calls, or how many bytes, the replies confirm. The arguments are `null`, `write` or `read`, or `copy` for
+//! copies of 32 KiB alone; their number; and the credits of both ends.
 #![tactic(auto)]
 
 mod client;
 mod link;
 mod server;
-mod sides;
 
 use link::Link;
 use nr_nfs_base::{NFS_PROGRAM, NFS_VERSION, NfsProcedure, Numbered, Verifier};
@@ -213,9 +211,6 @@ fn total(alloc: Global, what: &str, rounds: u32, credits: u32) -> Option<u64> {
     if what == "copy" {
         let mut target = vec![in alloc; 0u8; SIZE].ok()?;
         return copied(rounds, &mut data, &mut target);
-    }
-    if what == "sends" {
-        return sides::exchanged(alloc, rounds);
     }
     linked(alloc, Work::of(what)?, data.as_slice(), rounds, credits)
 }
