@@ -1,7 +1,8 @@
 #!/bin/sh
-# Calls through both ends of a link and the plain server, one after the other: NULL; a WRITE and a READ of 32 KiB in form Auto, in copies of 32 KiB of the same run (by processor time, and by cycles if perf is
-# there), with 1 and with 64 credits; and, if there is a C compiler, the bytes that are copied and cleared by the C library. Run by hand, at
-# the top of the repository, once `(cd crates/ends_bench && rt run -- write 2 16)` has built the program; or with the program's path as $1.
+# Calls through both ends of a link and the plain server, one after the other: NULL; a WRITE and a READ of 32 KiB in form Auto, in copies
+# of 32 KiB of the same run (by processor time, and by cycles if perf is there), with 1 and with 64 credits; and, if there is a C compiler,
+# the bytes that are copied and cleared by the C library. Run by hand, at the top of the repository, once
+# `(cd crates/ends_bench && rt run -- write 2 16)` has built the program; or with the program's path as $1.
 exec python3 - "${1:-crates/ends_bench/out/ends_bench}" <<'END'
 import os, resource, shutil, subprocess, sys, tempfile
 
