@@ -105,7 +105,7 @@ def killed(t: Tries, server: 'subprocess.Popen[str]') -> None:
     """The server is killed while a client gets a file: status 4, or 3 if the connection was reset; what came is right."""
     content = random.Random(9).randbytes(LIMIT)
     t.ends(['put', '/', '/long'], (0, b'', ''), content)
-    client = subprocess.Popen(t.command('get', '/', '/long'), stdout=subprocess.PIPE, stderr=subprocess.PIPE)
+    client = subprocess.Popen(t.command('get', '/', '/long'), bufsize=0, stdout=subprocess.PIPE, stderr=subprocess.PIPE)
     assert client.stdout is not None
     first = client.stdout.read(1000)
     server.kill()
