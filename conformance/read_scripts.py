@@ -21,13 +21,13 @@ NAME = 'script_reader'
 PROGRAM = '''//! Reads texts of scripts from the input, and writes a line for each.
 #![tactic(auto)]
 
-use nr_outside::{StdSource, read_whole};
-use nr_script::{SCRIPT_MAX, ScriptFault, read_script};
+use nr_outside::{INPUT_MAX, StdSource, read_whole};
+use nr_script::{ScriptFault, read_script};
 use std::io;
 
 fn main(rt: HostRuntime) -> io::Result<()> {
     let mut source = StdSource::new(rt.stdin());
-    let Ok(input) = read_whole(rt.alloc(), &mut source, SCRIPT_MAX) else {
+    let Ok(input) = read_whole(rt.alloc(), &mut source, INPUT_MAX) else {
         return println!(rt; "no input");
     };
     let mut rest = input.as_slice();

@@ -17,7 +17,8 @@ use Rattle.nr_client.specs.Following.Next.{Calls, Returns}
 use Rattle.nr_client.specs.Requests.{Asks}
 use Rattle.nr_client.specs.Results.{Gives}
 use Rattle.nr_client.specs.Transfers.{LinkBytes}
-use Rattle.nr_client.specs.Writing.{FileWrite, IsRead, WritesFile, after_write_reply, create_call, created_file, file_write, input_max, next_write, piece_at, with_count, with_handle, write_call, write_end, write_result, writing}
+use Rattle.nr_outside.specs.Whole.{input_max}
+use Rattle.nr_client.specs.Writing.{FileWrite, IsRead, WritesFile, after_write_reply, create_call, created_file, file_write, next_write, piece_at, with_count, with_handle, write_call, write_end, write_result, writing}
 use Rattle.nr_client.specs.Writing.FileWrite.{Created, NotCreated}
 use Rattle.nr_client.specs.private.FileSteps.{FailsToWrite, IsComplete, IsEnough, WritesOn}
 use Rattle.nr_client.proofs.CallsMade.{calls_more, follows_answered, follows_asked, follows_done, follows_unanswered}

@@ -1,5 +1,5 @@
 -- Why a call has no answer, and the fault counts then.
-use Rattle.std.specs.Prelude.{◌≡◌, ⊤, ℕ, ◌^◌, List, Option, None, Some, Result, Ok, Err}
+use Rattle.std.specs.Prelude.{◌≡◌, ⊤, ℕ, List, Option, None, Some, Result, Ok, Err}
 use Rattle.std.specs.Io.KnownBytes.{IsAtEnd}
 use Rattle.nr_outside.specs.Faults.{Rises}
 use Rattle.nr_reduce.specs.declared.call.Call.{Call}
@@ -7,18 +7,11 @@ use Rattle.nr_reduce.specs.declared.call.Form.TheVariants as forms
 use Rattle.nr_reduce.specs.declared.call.Refused.{Refused}
 use Rattle.nr_reduce.specs.declared.call.Refused.TheVariants as refusals
 use Rattle.nr_reduce.specs.declared.call.Submission.TheVariants as submissions
+use Rattle.nr_links.specs.Limits.{read_max}
 use Rattle.nr_requester.specs.RequesterState.{RequesterSide}
 use Rattle.nr_requester.specs.Answers.{answer_of}
 use Rattle.nr_client.specs.declared.call_end.CallEnd.{CallEnd}
 use Rattle.nr_client.specs.declared.call_end.CallEnd.TheVariants as calls
-
--- the maximum number of bytes that are read of a link
-abbrev pub read_max : ℕ
-read_max = 2 ^ 40
-
--- the maximum number of bytes of one read
-abbrev pub piece_max : ℕ
-piece_max = 65536
 
 -- The cause of an end of the link, by what the source has left, the number of bytes read and the requester.
 abbrev pub LinkCause : CallEnd → Option (List ℕ) → ℕ → RequesterSide → Type 0

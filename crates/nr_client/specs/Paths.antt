@@ -1,5 +1,6 @@
 -- The components of a path.
 use Rattle.std.specs.Prelude.{ℕ, suc, ◌+◌, ◌==◌, if◌then◌else◌, List, [], ◌∷◌, length, Result, Ok, Err, ltb}
+use Rattle.nr_nfs_base.specs.Limits.{name_length_max}
 use Rattle.nr_client.specs.declared.client_end.ClientEnd.{ClientEnd}
 use Rattle.nr_client.specs.declared.client_end.ClientEnd.TheVariants as client
 
@@ -7,9 +8,9 @@ use Rattle.nr_client.specs.declared.client_end.ClientEnd.TheVariants as client
 abbrev pub slash : ℕ
 slash = 47
 
--- the maximum length of a component in bytes
+-- the maximum length of a component in bytes: that of a name
 abbrev pub component_max : ℕ
-component_max = 255
+component_max = name_length_max
 
 -- a byte at the front of the first piece
 abbrev pub onto_first : ℕ → List (List ℕ) → List (List ℕ)

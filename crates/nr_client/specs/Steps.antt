@@ -12,7 +12,7 @@ use Rattle.nr_requester.specs.RequesterState.{RequesterSide}
 use Rattle.nr_requester.specs.Standing.{RequesterRepresents, RequesterRunsOut}
 use Rattle.nr_requester.specs.Fed.{fed_bytes}
 use Rattle.nr_requester.specs.OpenCalls.{found_answer}
-use Rattle.nr_client.specs.Ending.{piece_max, read_max}
+use Rattle.nr_links.specs.Limits.{piece_max, read_max}
 use Rattle.nr_client.specs.Transfers.{LinkBytes, Moves, link_bytes}
 use Rattle.nr_client.specs.declared.call_end.CallEnd.{CallEnd}
 use Rattle.nr_client.specs.declared.call_end.CallEnd.TheVariants as calls

@@ -16,6 +16,7 @@ use Rattle.nr_nfs_args.specs.declared.create.CreateHow.TheVariants as hows
 use Rattle.nr_nfs_res.specs.Bytes.{write_ok_codec}
 use Rattle.nr_nfs_res.specs.declared.bytes.WriteOk.{WriteOk}
 use Rattle.nr_nfs_res.specs.declared.create.CreateOk.{CreateOk}
+use Rattle.nr_outside.specs.Whole.{input_max}
 use Rattle.nr_outside.specs.Content.{HandsOut}
 use Rattle.nr_reduce.specs.declared.call.Call.{Call}
 use Rattle.nr_reduce.specs.declared.call.Outcome.{Outcome}
@@ -81,10 +82,6 @@ abbrev pub write_result : ℕ → Outcome → Result ℕ ClientEnd
 write_result sent outcome = checked_write sent (results_offset outcome) (nfs_reads write_ok_codec wcc_data_codec outcome)
 
 -- ---- The bytes of an input
-
--- the maximum number of bytes of an input
-abbrev pub input_max : ℕ
-input_max = 16777216
 
 -- What the replies so far say: nothing; the handle of the file, and how many bytes were written; or why no more is written.
 pub data FileWrite : Type 0 where

@@ -11,7 +11,7 @@ ghost use Rattle.nr_client.specs.Transfers.{link_bytes};
 
 use crate::call_end::CallEnd;
 use crate::calling::call_over;
-use crate::limits::PIECE_MAX;
+use nr_links::PIECE_MAX;
 use nr_outside::{Sink, Source};
 use nr_reduce::Call;
 use nr_requester::{Done, Requester};

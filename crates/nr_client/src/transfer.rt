@@ -16,8 +16,8 @@ ghost use Rattle.nr_client.specs.Steps.{AnswersNone, FeedsOut, Fits, GoesOn, Goe
 ghost use Rattle.nr_client.specs.Transfers.{link_bytes};
 
 use crate::call_end::CallEnd;
-use crate::limits::{PIECE_MAX, READ_MAX};
 use nr_link::End;
+use nr_links::{PIECE_MAX, READ_MAX};
 use nr_outside::{Failed, Sink, Source};
 use nr_requester::Requester;
 

@@ -4,22 +4,22 @@ ghost use Rattle.std.specs.Prelude.{Err, ◌≡◌, ◌<◌, ◌≤◌, ◌⊎�
 ghost use Rattle.nr_nfs_base.specs.Limits.{transfer_max};
 ghost use Rattle.nr_client.specs.declared.client_end.ClientEnd.TheVariants as client;
 ghost use Rattle.nr_outside.specs.Content.{HandsOut};
+ghost use Rattle.nr_outside.specs.Whole.{input_max};
 ghost use Rattle.nr_client.specs.Following.{Follows};
 ghost use Rattle.nr_client.specs.Reading.{InputFaults};
 ghost use Rattle.nr_client.specs.Requests.{Asks, SinkFaults, SourceFaults};
 ghost use Rattle.nr_client.specs.Results.{IsOfCall};
 ghost use Rattle.nr_client.specs.Transfers.{link_bytes};
-ghost use Rattle.nr_client.specs.Writing.{WritesFile, create_call, created_file, input_max, writing};
+ghost use Rattle.nr_client.specs.Writing.{WritesFile, create_call, created_file, writing};
 ghost use Rattle.nr_client.specs.private.FileSteps.{FailsToWrite, IsComplete, IsEnough, WritesOn};
 
 use crate::answer::outcome_of;
 use crate::client_end::ClientEnd;
 use crate::file_calls::{create_call, write_call};
 use crate::file_results::{created_in, written_in};
-use crate::limits::INPUT_MAX;
 use crate::link::Link;
 use nr_nfs_base::{Handle, Name, TRANSFER_MAX};
-use nr_outside::{Sink, Source};
+use nr_outside::{INPUT_MAX, Sink, Source};
 use std::alloc::Global;
 
 /// The maximum number of bytes that one read of the input asks for.

@@ -19,7 +19,8 @@ use Rattle.nr_plain.specs.Stands.{PlainServerState, RepresentsJournal}
 use Rattle.nr_host.specs.declared.conn_end.ConnEnd.{ConnEnd}
 use Rattle.nr_host.specs.declared.conn_end.ConnEnd.TheVariants as ends
 use Rattle.nr_host.specs.Connections.{Terms, Outside, Runs, SinkState, GivesAll, moments, added}
-use Rattle.nr_host.specs.Ending.{AheadAt, FailedAt, IsCause, MoreAt, ReadAt, read_max}
+use Rattle.nr_links.specs.Limits.{read_max}
+use Rattle.nr_host.specs.Ending.{AheadAt, FailedAt, IsCause, MoreAt, ReadAt}
 use Rattle.nr_host.specs.Steps.{AllQuiet, CarriesTo, EndsIdle, FeedEnds, FeedsTo, IsLive, IsServed, outside, sink_state}
 use Rattle.nr_host.proofs.Idle.{facts}
 use Rattle.nr_host.proofs.Marks.{read_more}

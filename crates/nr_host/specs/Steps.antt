@@ -12,7 +12,8 @@ use Rattle.nr_responder.specs.ResponderState.{ResponderSide, end_of, queue}
 use Rattle.nr_responder.specs.Standing.{Stands}
 use Rattle.nr_plain.specs.Stands.{PlainServerState}
 use Rattle.nr_host.specs.Connections.{Terms, Outside, Runs, SinkState, IsQuiet}
-use Rattle.nr_host.specs.Ending.{Ended, IsCause, read_max}
+use Rattle.nr_links.specs.Limits.{read_max}
+use Rattle.nr_host.specs.Ending.{Ended, IsCause}
 use Rattle.nr_host.specs.declared.conn_end.ConnEnd.{ConnEnd}
 
 -- it made these marks, and its responder stands for them

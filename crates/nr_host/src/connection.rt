@@ -6,13 +6,13 @@ ghost use Rattle.nr_outside.specs.Content.{HandsOut};
 ghost use Rattle.nr_outside.specs.Faults.{Rises};
 ghost use Rattle.nr_endpoint.specs.FedBytes.{fed_bytes};
 ghost use Rattle.nr_responder.specs.ResponderState.{end_of};
-ghost use Rattle.nr_host.specs.Ending.{AheadAt, FailedAt, MoreAt, ReadAt, SinkCount, SourceCount, piece_max, read_max};
+ghost use Rattle.nr_links.specs.Limits.{piece_max, read_max};
+ghost use Rattle.nr_host.specs.Ending.{AheadAt, FailedAt, MoreAt, ReadAt, SinkCount, SourceCount};
 ghost use Rattle.nr_host.specs.Steps.{CarriesTo, EndsIdle, IsServed, outside, sink_state};
 
 use crate::conn_end::ConnEnd;
 use crate::feeding::feed_all;
-use crate::limits::{PIECE_MAX, READ_MAX};
-use nr_links::Clock;
+use nr_links::{Clock, PIECE_MAX, READ_MAX};
 use nr_outside::{Failed, Sink, Source};
 use nr_plain::Server;
 use nr_responder::Responder;

@@ -3,7 +3,8 @@
 ghost use Rattle.std.specs.Prelude.{◌≡◌, ℕ, ◌+◌, ◌*◌, ◌≤◌, ◌^◌, false, None, Some, [], length, IfErr, OnOk, OnErr};
 ghost use Rattle.nr_endpoint.specs.FedBytes.{fed_bytes};
 ghost use Rattle.nr_responder.specs.ResponderState.{end_of};
-ghost use Rattle.nr_host.specs.Ending.{FailedAt, SinkCount, SourceCount, piece_max};
+ghost use Rattle.nr_links.specs.Limits.{piece_max};
+ghost use Rattle.nr_host.specs.Ending.{FailedAt, SinkCount, SourceCount};
 ghost use Rattle.nr_host.specs.Steps.{EndsAt, EndsWith, FaultsAt, FaultsFrom, FeedEnds, FeedsTo, GoesOn, GoesQuietly, RunsOut, sink_state};
 ghost use Rattle.nr_host.specs.declared.conn_end.ConnEnd.TheVariants as ends;
 

@@ -6,7 +6,6 @@ mod connection;
 mod draining;
 mod executing;
 mod feeding;
-mod limits;
 mod serving;
 
 pub use conn_end::ConnEnd;

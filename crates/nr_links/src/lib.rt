@@ -13,6 +13,7 @@
 
 mod clock;
 mod counted;
+mod limits;
 mod links;
 mod mem_acceptor;
 mod mem_clock;
@@ -25,6 +26,7 @@ mod tcp_dialer;
 
 pub use clock::Clock;
 pub use counted::Counted;
+pub use limits::{PIECE_MAX, READ_MAX};
 pub use links::{Acceptor, Dialer};
 pub use mem_acceptor::MemAcceptor;
 pub use mem_clock::MemClock;

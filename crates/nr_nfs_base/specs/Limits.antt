@@ -10,6 +10,10 @@ transfer_max = 32768
 abbrev pub listing_max : ℕ
 listing_max = 32768
 
+-- the maximum length of a name in a directory in bytes (RFC 1813 section 3.3.20, `name_max`)
+abbrev pub name_length_max : ℕ
+name_length_max = 255
+
 -- the maximum length of the target of a symbolic link in bytes
 abbrev pub link_target_max : ℕ
 link_target_max = 1024

@@ -7,5 +7,8 @@ pub const TRANSFER_MAX: u32 = 32_768;
 /// The maximum length of the results of READDIR and READDIRPLUS in bytes: a larger count works as this one.
 pub const LISTING_MAX: u32 = 32_768;
 
+/// The maximum length of a name in a directory in bytes, which PATHCONF reports (RFC 1813 section 3.3.20, `name_max`).
+pub const NAME_LENGTH_MAX: u32 = 255;
+
 /// The maximum length of the target of a symbolic link in bytes.
 pub const LINK_TARGET_MAX: u32 = 1024;

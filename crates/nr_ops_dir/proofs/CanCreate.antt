@@ -6,7 +6,8 @@ use Rattle.nr_nfs_base.specs.declared.time.Time.{Time}
 use Rattle.nr_nfs_base.specs.declared.status.Status.TheVariants.{Exist, Fbig}
 use Rattle.nr_tree.specs.declared.node.Node.{Node}
 use Rattle.nr_tree.specs.declared.rules.Space.{Space}
-use Rattle.nr_tree.specs.Entries.{Entry, name_length_max}
+use Rattle.nr_nfs_base.specs.Limits.{name_length_max}
+use Rattle.nr_tree.specs.Entries.{Entry}
 use Rattle.nr_tree.specs.Tree.{Tree, is_regular}
 use Rattle.nr_tree.specs.Sane.{IsSane, file_size_max}
 use Rattle.nr_tree.specs.Steps.{is_live_at, CanAddNode, entries_at, is_regular_at}

@@ -5,7 +5,8 @@ use Rattle.std.proofs.lemmas.Bool.{or_parts, eqb-false, ltb-false, ne_eqb}
 use Rattle.nr_nfs_base.specs.declared.caller.Caller.{Caller}
 use Rattle.nr_nfs_base.specs.declared.status.Status.TheVariants.{Exist, Inval}
 use Rattle.nr_tree.specs.declared.rules.Space.{Space}
-use Rattle.nr_tree.specs.Entries.{Entry, name_length_max}
+use Rattle.nr_nfs_base.specs.Limits.{name_length_max}
+use Rattle.nr_tree.specs.Entries.{Entry}
 use Rattle.nr_tree.specs.Tree.{Tree}
 use Rattle.nr_tree.specs.Sane.{skeleton, IsSane}
 use Rattle.nr_tree.specs.Steps.{is_dir_at, links_at, CanRename, IsFreeTarget, entries_at}

@@ -9,7 +9,8 @@ use Rattle.nr_nfs_base.specs.declared.status.Status.TheVariants.{Exist, Isdir, M
 use Rattle.nr_nfs_args.specs.declared.remove.LinkArgs.{LinkArgs}
 use Rattle.nr_tree.specs.declared.node.Node.{Node}
 use Rattle.nr_tree.specs.declared.rules.Space.{Space}
-use Rattle.nr_tree.specs.Entries.{Entry, name_length_max}
+use Rattle.nr_nfs_base.specs.Limits.{name_length_max}
+use Rattle.nr_tree.specs.Entries.{Entry}
 use Rattle.nr_tree.specs.Tree.{Tree}
 use Rattle.nr_tree.specs.Sane.{skeleton}
 use Rattle.nr_tree.specs.Steps.{IsFree, CanAddLink, is_dir_at, links_at}

@@ -12,7 +12,7 @@ use Rattle.nr_nfs_res.specs.declared.file_system.FsinfoOk.{FsinfoOk}
 use Rattle.nr_nfs_res.specs.declared.file_system.FsstatOk.{FsstatOk}
 use Rattle.nr_nfs_res.specs.declared.file_system.PathconfOk.{PathconfOk}
 use Rattle.nr_nfs_base.specs.Limits.{listing_max, transfer_max}
-use Rattle.nr_tree.specs.Entries.{name_length_max}
+use Rattle.nr_nfs_base.specs.Limits.{name_length_max}
 use Rattle.nr_tree.specs.Replies.{attributes_at}
 use Rattle.nr_tree.specs.Rules.{first, answer, handle_rule, entry_cost}
 use Rattle.nr_tree.specs.Sane.{file_size_max}

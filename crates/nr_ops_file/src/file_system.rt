@@ -4,11 +4,9 @@ ghost use Rattle.std.specs.Prelude.{◌≡◌};
 ghost use Rattle.nr_ops_file.specs.FileSystem.{fsstat_ok, fsstat_reply, fsinfo_ok, fsinfo_reply, pathconf_ok, pathconf_reply};
 
 use nr_nfs_args::{FsinfoArgs, FsstatArgs, PathconfArgs};
-use nr_nfs_base::{Attributes, LISTING_MAX, StatusUnion, TRANSFER_MAX, Time};
+use nr_nfs_base::{Attributes, LISTING_MAX, NAME_LENGTH_MAX, StatusUnion, TRANSFER_MAX, Time};
 use nr_nfs_res::{FsinfoOk, FsinfoRes, FsstatOk, FsstatRes, PathconfOk, PathconfRes};
-use nr_tree::{
-    ENTRY_COST, FILE_SIZE_MAX, LINKS_MAX, NAME_LENGTH_MAX, Space, Tree, attributes_at, live_node,
-};
+use nr_tree::{ENTRY_COST, FILE_SIZE_MAX, LINKS_MAX, Space, Tree, attributes_at, live_node};
 
 /// What the bytes of a READ and of a WRITE should be a multiple of.
 const TRANSFER_MULTIPLE: u32 = 4096;

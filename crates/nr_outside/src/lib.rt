@@ -32,4 +32,4 @@ pub use moment::Moment;
 pub use std_sink::StdSink;
 pub use std_source::StdSource;
 pub use traits::{Failed, Sink, Source};
-pub use whole::{ReadEnd, read_whole, write_whole};
+pub use whole::{INPUT_MAX, ReadEnd, read_whole, write_whole};

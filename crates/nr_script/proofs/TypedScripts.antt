@@ -18,7 +18,8 @@ use Rattle.nr_script.specs.declared.script.Opening.{Opening}
 use Rattle.nr_script.specs.declared.script.Line.{Line}
 use Rattle.nr_script.specs.declared.script.Line.TheVariants as lines
 use Rattle.nr_script.specs.declared.program.Program.{Program}
-use Rattle.nr_script.specs.Limits.{clients_max, number_max, capacity_max, script_max}
+use Rattle.nr_outside.specs.Whole.{input_max}
+use Rattle.nr_script.specs.Limits.{clients_max, number_max, capacity_max}
 use Rattle.nr_script.specs.Words.{◌>>=◌, is_numeral, numeral_value, number_within, number_in, decoded, bytes_in, arguments_in, parts}
 use Rattle.nr_script.specs.Forms.{OfferPart, semicolon, equals, at_sign, dot, lengths_in, write_lengths_in, position_by, read_part, write_part, reply_part, named_part, part_by, part_in, nothing_offered, with_part, offer_by, offer_in, given, given_form, form_in, numbered_program, program_in}
 use Rattle.nr_script.specs.Forms.OfferPart.{Read, Write, Reply}
@@ -463,7 +464,7 @@ from_few n number read (text ∷ next ∷ others) h =
 
 -- What a text says, if it is a script, is one: its numbers are in range, each line may follow those before it, and all is of its types. It has no
 -- more lines than its text has bytes.
-pub script_is : (text : List ℕ) (script : ScriptLines) → length text ≤ script_max → script_of text ≡ Ok script → IsScript script
+pub script_is : (text : List ℕ) (script : ScriptLines) → length text ≤ input_max → script_of text ≡ Ok script → IsScript script
 unfolding script_of
 script_is text script short e =
     let is : IsRead script = subst OkScript e (from_if 1 None (parts newline text) tt) in

@@ -1,7 +1,7 @@
 //! Reading of scripts.
 
 ghost use Rattle.std.specs.Prelude.{◌≡◌, ℕ, ◌+◌, ◌<◌, ◌≤◌, ◌^◌, ◌==◌, [], ◌∷◌, length, true, None, Some, Ok, Err, IfOk, MatchResult, if◌then◌else◌};
-ghost use Rattle.nr_script.specs.Limits.{script_max};
+ghost use Rattle.nr_outside.specs.Whole.{input_max};
 ghost use Rattle.nr_script.specs.private.Pieces.{texts};
 ghost use Rattle.nr_script.specs.Script.{GivesScript, followed_by, is_ascii, is_skipped, newline, script_from, script_of, with_text};
 ghost use Rattle.nr_script.specs.private.Steps.{GivesOpening, GivesLines, with_opening};
@@ -14,9 +14,6 @@ use crate::script::{Opening, Script, ScriptFault};
 use crate::words::{cut, words_of};
 use nr_xdr::Memory;
 use std::alloc::Global;
-
-/// The maximum length of the text of a script in bytes.
-pub const SCRIPT_MAX: usize = 16_777_216;
 
 fn is_ascii(line: &[u8]) -> bool
     ensures { result ≡ is_ascii line.now }
@@ -53,7 +50,7 @@ fn first_line(alloc: Global, line: &[u8]) -> Result<Option<Option<Opening>>, Mem
 
 /// The first line of a script, with the number of the line after it and the text from there on.
 fn opening_from(alloc: Global, text: &[u8]) -> Result<(Opening, u64, &[u8]), ScriptFault>
-    requires { length text.now ≤ script_max }
+    requires { length text.now ≤ input_max }
     ensures { GivesOpening text.now result }
 {
     let mut rest = text;
@@ -130,7 +127,7 @@ fn add_lines(alloc: Global, draft: &mut Draft, first: u64, text: &[u8]) -> Resul
 
 /// Reads the text of a script: `clients N credits G`, with ` capacity B` after it if it is given, and then the other lines.
 /// Each line ends with a newline, and words are separated by one space. Empty lines and lines that begin with `#` are
-/// skipped. All is ASCII. The text may have at most [`SCRIPT_MAX`](crate::SCRIPT_MAX) bytes.
+/// skipped. All is ASCII. The text may have at most `nr_outside::INPUT_MAX` bytes.
 ///
 /// # Errors
 ///
@@ -138,7 +135,7 @@ fn add_lines(alloc: Global, draft: &mut Draft, first: u64, text: &[u8]) -> Resul
 /// [`ScriptFault::Memory`] if memory ran out.
 #[tactic(auto, unfolding(crate::specs::Script::script_of))]
 pub fn read_script(alloc: Global, text: &[u8]) -> Result<Script, ScriptFault>
-    requires { length text.now ≤ script_max }
+    requires { length text.now ≤ input_max }
     ensures { GivesScript result (script_of text.now) }
 {
     let (opening, number, rest) = opening_from(alloc, text)?;

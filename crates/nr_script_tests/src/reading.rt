@@ -1,13 +1,14 @@
 //! Texts that are read.
 
 use crate::compare::same;
-use nr_script::{SCRIPT_MAX, ScriptFault, read_script};
+use nr_outside::INPUT_MAX;
+use nr_script::{ScriptFault, read_script};
 use std::alloc::Global;
 use std::process::Abort;
 
 /// How many lines a text has after its first line, or the number of its first invalid line.
 fn lines_of(rt: &impl Abort, alloc: Global, text: &[u8]) -> Result<usize, u64> {
-    assert!(rt; text.len() <= SCRIPT_MAX);
+    assert!(rt; text.len() <= INPUT_MAX);
     match read_script(alloc, text) {
         Ok(script) => Ok(script.lines().len()),
         Err(ScriptFault::BadLine { line }) => Err(line),

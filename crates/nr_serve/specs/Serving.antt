@@ -15,10 +15,6 @@ use Rattle.nr_words.specs.Lines.{Text}
 use Rattle.nr_host.specs.declared.conn_end.ConnEnd.{ConnEnd}
 use Rattle.nr_host.specs.Serving.{ServesAll, between}
 
--- the maximum length of a configuration in bytes
-abbrev pub config_max : ℕ
-config_max = 16777216
-
 -- the setup that a configuration asks for: a root alone, made at this moment
 abbrev pub setup_of : Settings Text → Moment → Setup
 setup_of settings moment = record {

@@ -19,23 +19,24 @@ use Rattle.nr_host.specs.Serving.{ServesAll, between}
 use Rattle.nr_host.specs.declared.serving.ServeFault.{ServeFault}
 use Rattle.nr_host.specs.declared.serving.ServeFault.TheVariants as serve_faults
 use Rattle.nr_host.specs.declared.conn_end.ConnEnd.{ConnEnd}
-use Rattle.nr_serve.specs.Serving.{AcceptorAt, Serves, ServesConnections, config_max, served_text}
+use Rattle.nr_outside.specs.Whole.{input_max}
+use Rattle.nr_serve.specs.Serving.{AcceptorAt, Serves, ServesConnections, served_text}
 use Rattle.nr_serve.specs.declared.stop.ServeStop.{ServeStop}
 use Rattle.nr_serve.specs.declared.stop.ServeStop.TheVariants as stops
 
 -- the input has this configuration
 pub record ReadsConfig (input input' : SourceAt) (settings : Settings Text) : Type 0 where
   pub text : List ℕ
-  pub whole : ReadsAll config_max input input' text
+  pub whole : ReadsAll input_max input input' text
   pub reads : config_of text ≡ Some settings
 
 -- no configuration was read
 abbrev pub StoppedReading : ServeStop → SourceAt → SourceAt → Type 0
-StoppedReading stops.Memory input input' = ReadsWithin config_max input input' × (input'.faults ≡ input.faults)
-StoppedReading stops.Input input input' = ReadsWithin config_max input input' × Rises input.faults input'.faults
+StoppedReading stops.Memory input input' = ReadsWithin input_max input input' × (input'.faults ≡ input.faults)
+StoppedReading stops.Input input input' = ReadsWithin input_max input input' × Rises input.faults input'.faults
 StoppedReading stops.Budget input input' =
-    IfSome input.left (λ left. config_max < length left) × ReadsBeyond config_max input input' × (input'.faults ≡ input.faults)
-StoppedReading stops.Configuration input input' = (text : List ℕ) × (ReadsAll config_max input input' text × (config_of text ≡ None))
+    IfSome input.left (λ left. input_max < length left) × ReadsBeyond input_max input input' × (input'.faults ≡ input.faults)
+StoppedReading stops.Configuration input input' = (text : List ℕ) × (ReadsAll input_max input input' text × (config_of text ≡ None))
 StoppedReading stops.Link input input' = ⊥
 StoppedReading stops.Output input input' = ⊥
 

@@ -10,15 +10,12 @@ use crate::stop::{ServeStop, stop_of_config, stop_of_read, stop_of_serve};
 use nr_host::serve;
 use nr_links::{Acceptor, Clock};
 use nr_nfs_base::{Time, Verifier};
-use nr_outside::{Sink, Source, read_whole, write_whole};
+use nr_outside::{INPUT_MAX, Sink, Source, read_whole, write_whole};
 use nr_plain::Server;
 use nr_tree::Tree;
 use nr_words::{Config, read_config};
 use nr_xdr::{Memory, Octets};
 use std::alloc::Global;
-
-/// The maximum length of a configuration in bytes.
-const CONFIG_MAX: usize = 16_777_216;
 
 /// Reads a configuration.
 #[tactic(none)]
@@ -29,7 +26,7 @@ fn read_settings<I: Source>(alloc: Global, input: &mut I) -> Result<Config, Serv
         (λ stop. StoppedReading stop (source_at (I.left input.old) (I.given input.old) (I.faults input.old))
         (source_at (I.left input.new) (I.given input.new) (I.faults input.new))) }
 {
-    let text = match read_whole(alloc, input, CONFIG_MAX) {
+    let text = match read_whole(alloc, input, INPUT_MAX) {
         Ok(text) => text,
         Err(end) => return Err(stop_of_read(end)),
     };

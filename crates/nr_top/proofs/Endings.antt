@@ -1,7 +1,7 @@
 -- What a cause, and what is written for it, say of the status.
 use Rattle.std.proofs.Common.{◌≡◌, ℕ, ◌<◌, ◌≤◌, rules, List, length, codes, Option, Some, IfSome, Result, Ok, Err, IfOk, refl, sym, ap, subst, ◌∙◌, arith, inl, inr, le-ltb, lt-ltb}
 use Rattle.nr_outside.specs.Streams.{SourceAt, SinkAt, Writes, WritesNone}
-use Rattle.nr_script.specs.Limits.{script_max}
+use Rattle.nr_outside.specs.Whole.{input_max}
 use Rattle.nr_script.specs.Script.{ScriptLines, script_of}
 use Rattle.nr_drill.specs.declared.report.Report.{Report}
 use Rattle.nr_drill.specs.DrillSetup.{GivesReport, drill_setup, server_of}
@@ -77,8 +77,8 @@ report_same : (left : Option (List ℕ)) (text read : List ℕ) → IfSome left 
 report_same left text read all told = subst (λ (l : Option (List ℕ)). IfSome l (λ given. read ≡ given)) told all
 
 -- the status for a script with an invalid line
-due_of_bad : (arguments : List (List ℕ)) (text : List ℕ) (number : ℕ) → source_of arguments ≡ Some sources.Input → length text ≤ script_max → script_of text ≡ Err number → due_status arguments text ≡ statuses.bad_input
-due_of_bad arguments text number line within bad = rw (line, le-ltb script_max (length text) within, bad) refl
+due_of_bad : (arguments : List (List ℕ)) (text : List ℕ) (number : ℕ) → source_of arguments ≡ Some sources.Input → length text ≤ input_max → script_of text ≡ Err number → due_status arguments text ≡ statuses.bad_input
+due_of_bad arguments text number line within bad = rw (line, le-ltb input_max (length text) within, bad) refl
 
 bad_script : (number : ℕ) (arguments : List (List ℕ)) (status : ℕ) (input input' : SourceAt) (out out' err err' : SinkAt) → Stopped (BadScript number) arguments input input' out out' → status ≡ statuses.bad_input → Writes err err' (bad_line_text number) → Ends arguments status input input' out out' err err'
 bad_script number arguments status input input' out out' err err' stopped is said =
@@ -94,13 +94,13 @@ bad_script number arguments status input input' out out' err err' stopped is sai
       unfailing = λ _. (bad.whole.unfailing, stopped.1.unfailing, said.unfailing);
       due = λ text left.
           let same : bad.text ≡ text = report_same input.left text bad.text bad.whole.all left in
-          inl (is ∙ sym (due_of_bad arguments text number bad.line (subst (λ (l : List ℕ). length l ≤ script_max) same bad.whole.within) (subst (λ (l : List ℕ). script_of l ≡ Err number) same bad.bad)));
+          inl (is ∙ sym (due_of_bad arguments text number bad.line (subst (λ (l : List ℕ). length l ≤ input_max) same bad.whole.within) (subst (λ (l : List ℕ). script_of l ≡ Err number) same bad.bad)));
       arguments_due = λ other. absurd (cc (bad.line, other));
     }
 
 -- the status for an input that is too long
-due_of_long : (arguments : List (List ℕ)) (text : List ℕ) → source_of arguments ≡ Some sources.Input → script_max < length text → due_status arguments text ≡ statuses.over_budget
-due_of_long arguments text line long = rw (line, lt-ltb script_max (length text) long) refl
+due_of_long : (arguments : List (List ℕ)) (text : List ℕ) → source_of arguments ≡ Some sources.Input → input_max < length text → due_status arguments text ≡ statuses.over_budget
+due_of_long arguments text line long = rw (line, lt-ltb input_max (length text) long) refl
 
 over_budget : (arguments : List (List ℕ)) (status : ℕ) (input input' : SourceAt) (out out' err err' : SinkAt) → Stopped OverBudget arguments input input' out out' → status ≡ statuses.over_budget → Writes err err' budget_text → Ends arguments status input input' out out' err err'
 over_budget arguments status input input' out out' err err' stopped is said =
@@ -114,7 +114,7 @@ over_budget arguments status input input' out out' err err' stopped is said =
       budget = λ _. (stopped, said);
       fault = λ e. absurd (omega (arith, e, is));
       unfailing = λ _. (stopped.2, stopped.3.unfailing, said.unfailing);
-      due = λ text left. inl (is ∙ sym (due_of_long arguments text long.line (subst (λ (l : Option (List ℕ)). IfSome l (λ given. script_max < length given)) left long.long)));
+      due = λ text left. inl (is ∙ sym (due_of_long arguments text long.line (subst (λ (l : Option (List ℕ)). IfSome l (λ given. input_max < length given)) left long.long)));
       arguments_due = λ other. absurd (cc (long.line, other));
     }
 
@@ -179,14 +179,14 @@ given_unfailing sources.Input input input' script given = given.whole.unfailing
 given_unfailing (sources.Seed seed clients calls) input input' script given = ap (λ (i : SourceAt). i.faults) given.0
 
 -- the status for a script
-due_of_good : (arguments : List (List ℕ)) (text : List ℕ) (script : ScriptLines) → source_of arguments ≡ Some sources.Input → length text ≤ script_max → script_of text ≡ Ok script → due_status arguments text ≡ statuses.done
-due_of_good arguments text script line within good = rw (line, le-ltb script_max (length text) within, good) refl
+due_of_good : (arguments : List (List ℕ)) (text : List ℕ) (script : ScriptLines) → source_of arguments ≡ Some sources.Input → length text ≤ input_max → script_of text ≡ Ok script → due_status arguments text ≡ statuses.done
+due_of_good arguments text script line within good = rw (line, le-ltb input_max (length text) within, good) refl
 
 due_of_done : (source : ScriptSource) (arguments : List (List ℕ)) (text : List ℕ) (input input' : SourceAt) (script : ScriptLines) → source_of arguments ≡ Some source → IsGiven source input input' script → input.left ≡ Some text
     → due_status arguments text ≡ statuses.done
 due_of_done sources.Input arguments text input input' script line given left =
     let same : given.text ≡ text = report_same input.left text given.text given.whole.all left in
-    due_of_good arguments text script line (subst (λ (l : List ℕ). length l ≤ script_max) same given.whole.within) (subst (λ (l : List ℕ). script_of l ≡ Ok script) same given.reads)
+    due_of_good arguments text script line (subst (λ (l : List ℕ). length l ≤ input_max) same given.whole.within) (subst (λ (l : List ℕ). script_of l ≡ Ok script) same given.reads)
 due_of_done (sources.Seed seed clients calls) arguments text input input' script line given left = rw (line) refl
 
 pub done_ends : (arguments : List (List ℕ)) (input input' : SourceAt) (out out' err : SinkAt) → Done arguments input input' out out' → Ends arguments statuses.done input input' out out' err err

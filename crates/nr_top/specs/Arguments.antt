@@ -1,7 +1,8 @@
 -- The arguments of the program, and which status is due for them.
 use Rattle.std.specs.Prelude.{ℕ, ◌<◌, ◌≤◌, ◌&&◌, ◌==◌, if◌then◌else◌, List, [], length, codes, nat_lt, slice_index_or, Option, None, Some, Result, Ok, Err}
 use Rattle.std.specs.Str.{bytes_eq}
-use Rattle.nr_script.specs.Limits.{script_max, clients_max, calls_max}
+use Rattle.nr_outside.specs.Whole.{input_max}
+use Rattle.nr_script.specs.Limits.{clients_max, calls_max}
 use Rattle.nr_script.specs.Script.{ScriptLines, script_of}
 use Rattle.nr_script.specs.Words.{number_within}
 use Rattle.nr_top.specs.declared.words.ScriptSource.{ScriptSource}
@@ -52,7 +53,7 @@ status_of_script (Err line) = bad_input
 -- the status that is due for these arguments and this input, if memory lasts and nothing outside fails
 abbrev pub status_by : Option ScriptSource → List ℕ → ℕ
 status_by None text = bad_arguments
-status_by (Some sources.Input) text = if nat_lt script_max (length text) then over_budget else status_of_script (script_of text)
+status_by (Some sources.Input) text = if nat_lt input_max (length text) then over_budget else status_of_script (script_of text)
 status_by (Some (sources.Seed seed clients calls)) text = done
 
 abbrev pub due_status : List (List ℕ) → List ℕ → ℕ

@@ -7,7 +7,7 @@ use Rattle.nr_outside.specs.Streams.{SourceAt, SinkAt, ReadsAll, ReadsWithin, Re
 use Rattle.nr_reduce.specs.declared.mark.Mark.{Mark}
 use Rattle.nr_tree.specs.Tree.{Tree}
 use Rattle.nr_tree.specs.Drill.{IsDrill}
-use Rattle.nr_script.specs.Limits.{script_max}
+use Rattle.nr_outside.specs.Whole.{input_max}
 use Rattle.nr_script.specs.Script.{ScriptLines, script_of}
 use Rattle.nr_drill.specs.DrillSetup.{drill_setup, server_of}
 use Rattle.nr_drill.specs.Follows.{setting_of}
@@ -32,7 +32,7 @@ pub record IsRunOf (tree : Tree) (script : ScriptLines) (run : List Mark) : Type
 -- the input was read, and it says this script
 pub record ReadsScript (input input' : SourceAt) (script : ScriptLines) : Type 0 where
   pub text : List ℕ
-  pub whole : ReadsAll script_max input input' text
+  pub whole : ReadsAll input_max input input' text
   pub reads : script_of text ≡ Ok script
 
 -- the script that was run, and what was read for it
@@ -64,13 +64,13 @@ pub record PrintsSome (arguments : List (List ℕ)) (input input' : SourceAt) (o
 pub record BadLine (number : ℕ) (arguments : List (List ℕ)) (input input' : SourceAt) : Type 0 where
   pub line : source_of arguments ≡ Some sources.Input
   pub text : List ℕ
-  pub whole : ReadsAll script_max input input' text
+  pub whole : ReadsAll input_max input input' text
   pub bad : script_of text ≡ Err number
 
 -- the input is too long
 pub record TooLong (arguments : List (List ℕ)) (input : SourceAt) : Type 0 where
   pub line : source_of arguments ≡ Some sources.Input
-  pub long : IfSome input.left (λ left. script_max < length left)
+  pub long : IfSome input.left (λ left. input_max < length left)
 
 -- why a command isn't done: its arguments are not those of a command, memory ran out, the input or the output failed, a
 -- line of the script is invalid, or the input is too long
@@ -84,23 +84,23 @@ pub data Cause : Type 0 where
 
 -- what was read if memory ran out: nothing for a script that is made from a seed
 abbrev pub ReadsFor : ScriptSource → SourceAt → SourceAt → Type 0
-ReadsFor sources.Input input input' = ReadsWithin script_max input input' × (input'.faults ≡ input.faults)
+ReadsFor sources.Input input input' = ReadsWithin input_max input input' × (input'.faults ≡ input.faults)
 ReadsFor (sources.Seed seed clients calls) input input' = input' ≡ input
 
 -- what holds if a command wasn't done, by the cause
 abbrev pub Stopped : Cause → List (List ℕ) → SourceAt → SourceAt → SinkAt → SinkAt → Type 0
 Stopped BadArguments arguments input input' out out' = (source_of arguments ≡ None) × (input' ≡ input) × (out' ≡ out)
 Stopped NoMemory arguments input input' out out' = (source : ScriptSource) × (source_of arguments ≡ Some source) × ReadsFor source input input' × WritesNone out out'
-Stopped InputFault arguments input input' out out' = (source_of arguments ≡ Some sources.Input) × ReadsWithin script_max input input' × Rises input.faults input'.faults × WritesNone out out'
+Stopped InputFault arguments input input' out out' = (source_of arguments ≡ Some sources.Input) × ReadsWithin input_max input input' × Rises input.faults input'.faults × WritesNone out out'
 Stopped OutputFault arguments input input' out out' = PrintsSome arguments input input' out out'
 Stopped (BadScript number) arguments input input' out out' = BadLine number arguments input input' × WritesNone out out'
-Stopped OverBudget arguments input input' out out' = TooLong arguments input × ReadsBeyond script_max input input' × (input'.faults ≡ input.faults) × WritesNone out out'
+Stopped OverBudget arguments input input' out out' = TooLong arguments input × ReadsBeyond input_max input input' × (input'.faults ≡ input.faults) × WritesNone out out'
 
 -- the texts for memory that ran out, for an input that is too long, and for an invalid line
 abbrev pub memory_text : List ℕ
 memory_text = codes "memory\n"
 
--- (the number is script_max in decimal digits: a literal text needs no memory)
+-- (the number is input_max in decimal digits: a literal text needs no memory)
 abbrev pub budget_text : List ℕ
 budget_text = codes "budget 16777216\n"
 
@@ -114,12 +114,12 @@ Reported due text status err err' = ((status ≡ due) × Writes err err' text) �
 -- what is so if the input was read and gave no script
 abbrev pub StoppedReading : Cause → SourceAt → SourceAt → Type 0
 StoppedReading BadArguments input input' = ⊥
-StoppedReading NoMemory input input' = ReadsWithin script_max input input' × (input'.faults ≡ input.faults)
-StoppedReading InputFault input input' = ReadsWithin script_max input input' × Rises input.faults input'.faults
+StoppedReading NoMemory input input' = ReadsWithin input_max input input' × (input'.faults ≡ input.faults)
+StoppedReading InputFault input input' = ReadsWithin input_max input input' × Rises input.faults input'.faults
 StoppedReading OutputFault input input' = ⊥
-StoppedReading (BadScript number) input input' = (text : List ℕ) × ReadsAll script_max input input' text × (script_of text ≡ Err number)
+StoppedReading (BadScript number) input input' = (text : List ℕ) × ReadsAll input_max input input' text × (script_of text ≡ Err number)
 StoppedReading OverBudget input input' =
-    IfSome input.left (λ left. script_max < length left) × ReadsBeyond script_max input input' × (input'.faults ≡ input.faults)
+    IfSome input.left (λ left. input_max < length left) × ReadsBeyond input_max input input' × (input'.faults ≡ input.faults)
 
 -- the text is what is printed of a run of the script that keeps the promise of a drill
 abbrev pub IsPrinted : ScriptSource → ScriptLines → List ℕ → Type 0

@@ -15,7 +15,7 @@ use crate::status::{BAD_ARGUMENTS, BAD_INPUT, DONE, FAULT, NO_MEMORY, OVER_BUDGE
 use crate::words::{ScriptSource, source_of};
 use nr_drill::{shown, summary};
 use nr_outside::{ReadEnd, Sink, Source, read_whole, write_whole};
-use nr_script::{SCRIPT_MAX, Script, ScriptFault, make_script, read_script};
+use nr_script::{Script, ScriptFault, make_script, read_script};
 use nr_world::run_world;
 use nr_xdr::{Memory, Octets};
 use std::alloc::Global;
@@ -76,7 +76,7 @@ fn read_drill<I: Source>(alloc: Global, input: &mut I) -> Result<Script, Failure
         (λ stop. StoppedReading (cause_of stop) (source_at (I.left input.old) (I.given input.old) (I.faults input.old))
         (source_at (I.left input.new) (I.given input.new) (I.faults input.new))) }
 {
-    let text = read_whole(alloc, input, SCRIPT_MAX)?;
+    let text = read_whole(alloc, input, INPUT_MAX)?;
     let script = read_script(alloc, text.as_slice())?;
     Ok(script)
 }

@@ -7,7 +7,8 @@ use Rattle.std.specs.Cmp.Lexicographic.{pointwise}
 use Rattle.std.proofs.lemmas.Cmp.{nat_list_eq_equiv}
 use Rattle.std.specs.FinMap.{FinMap, get, insert, remove, get-insert, get-remove}
 use Rattle.nr_nfs_base.specs.declared.time.Time.{Time}
-use Rattle.nr_tree.specs.Entries.{Entry, entry_of_name, is_name, list_without, CookiesAscend, NamesAreValid, name_length_max}
+use Rattle.nr_nfs_base.specs.Limits.{name_length_max}
+use Rattle.nr_tree.specs.Entries.{Entry, entry_of_name, is_name, list_without, CookiesAscend, NamesAreValid}
 use Rattle.nr_tree.specs.Tree.{value_at, nodes_with_change, is_dir, entries_in}
 use Rattle.nr_tree.specs.Sane.{IsValidContent}
 use Rattle.nr_tree.specs.Changes.{node_with_entry, node_without_entry}

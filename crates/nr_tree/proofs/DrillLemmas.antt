@@ -9,7 +9,8 @@ use Rattle.std.specs.Ordering.{nat_cmp, eq_by_cmp}
 use Rattle.std.specs.Cmp.{nat_cmp_total}
 use Rattle.std.specs.FinMap.{FinMap, get, insert, empty, get-insert, get-empty}
 use Rattle.nr_nfs_base.specs.declared.time.Time.{Time}
-use Rattle.nr_tree.specs.Entries.{Entry, entry_of_name, name_length_max}
+use Rattle.nr_nfs_base.specs.Limits.{name_length_max}
+use Rattle.nr_tree.specs.Entries.{Entry, entry_of_name}
 use Rattle.nr_tree.specs.Tree.{Tree, is_dir, entries_in}
 use Rattle.nr_tree.specs.Steps.{IsBelow, IsNew, CanAddNode}
 use Rattle.nr_tree.specs.Changes.{next_cookie_of, node_with_entry, tree_with_node}

@@ -11,7 +11,7 @@ use Rattle.nr_tree.specs.Sane.{IsSane}
 use Rattle.nr_tree.specs.Rules.{first, or_else, ◌⇒◌, on, after, node_of_handle, number_of_handle, was_given, handle_rule, name_rules, change_rules}
 use Rattle.nr_tree.specs.declared.node.Node.{Node}
 use Rattle.nr_tree.proofs.SkeletonChanges.{value_at_at}
-use Rattle.nr_tree.specs.Entries.{name_length_max}
+use Rattle.nr_nfs_base.specs.Limits.{name_length_max}
 
 pub passed : (r o : Option Status) → or_else r o ≡ None → (r ≡ None) × (o ≡ None)
 passed None o p = (refl, p)

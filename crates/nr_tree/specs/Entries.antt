@@ -2,6 +2,7 @@
 use Rattle.std.specs.Prelude.{ℕ, ◌+◌, ◌<◌, ◌≤◌, ◌++◌, ◌≡◌, Bool, if◌then◌else◌, List, [], ◌∷◌, length, Option, None, Some, nat_eq, refl}
 use Rattle.std.specs.Cmp.Lexicographic.{pointwise}
 use Rattle.std.specs.Coded.{Coded, code_by, coded×, coded_ℕ, coded_list}
+use Rattle.nr_nfs_base.specs.Limits.{name_length_max}
 
 -- what a directory has under a name: the cookie to go on from, and the number of the node
 pub record Entry : Type 0 where
@@ -61,10 +62,6 @@ count test (e ∷ es) = (if test e then 1 else 0) + count test es
 abbrev pub CookiesAscend : ℕ → List Entry → ℕ → Type 0
 CookiesAscend from [] next = from ≤ next
 CookiesAscend from (e ∷ es) next = (from ≤ e.cookie) × CookiesAscend (e.cookie + 1) es next
-
--- the maximum length of a name in bytes
-abbrev pub name_length_max : ℕ
-name_length_max = 255
 
 -- names differ, and have 1 to 255 bytes
 abbrev pub NamesAreValid : List Entry → Type 0

@@ -11,7 +11,7 @@ use Rattle.nr_nfs_base.specs.declared.set_attributes.SetAttributes.{SetAttribute
 use Rattle.nr_nfs_base.specs.declared.set_attributes.SetTime.{SetTime}
 use Rattle.nr_nfs_base.specs.declared.set_attributes.SetTime.TheVariants.{Leave, ServerTime, ClientTime}
 use Rattle.nr_nfs_base.specs.declared.status.Status.TheVariants.{Acces, Notdir, Nospc, Nametoolong, Stale, Badhandle, Inval, Fbig}
-use Rattle.nr_tree.specs.Entries.{name_length_max}
+use Rattle.nr_nfs_base.specs.Limits.{name_length_max}
 use Rattle.nr_tree.specs.Tree.{Tree, is_dir}
 use Rattle.nr_tree.specs.Sane.{file_size_max}
 use Rattle.nr_tree.specs.declared.node.Node.{Node}

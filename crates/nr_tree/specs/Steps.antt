@@ -2,7 +2,8 @@
 use Rattle.std.specs.Prelude.{◌≡◌, ℕ, ◌+◌, ◌<◌, ◌≤◌, ◌^◌, Bool, true, false, if◌then◌else◌, List, [], length, Option, None, Some}
 use Rattle.std.specs.Option.{option_map}
 use Rattle.std.specs.FinMap.{get}
-use Rattle.nr_tree.specs.Entries.{Entry, entry_of_name, name_length_max}
+use Rattle.nr_nfs_base.specs.Limits.{name_length_max}
+use Rattle.nr_tree.specs.Entries.{Entry, entry_of_name}
 use Rattle.nr_tree.specs.DirectoryGraph.{DirectoryGraph, one_if, LiesBelow, links_max}
 use Rattle.nr_tree.specs.Tree.{Tree, value_at, is_dir, is_regular, entries_in, bytes_of}
 use Rattle.nr_tree.specs.Pages.{pages_of}

@@ -6,7 +6,7 @@ ghost use Rattle.nr_tree.specs.Rules.{first, name_rules, bit_of, may as has_righ
 
 use crate::node::Node;
 use crate::tree::Tree;
-use nr_nfs_base::{Caller, SetAttributes, SetTime, Status, Time, Verifier};
+use nr_nfs_base::{Caller, NAME_LENGTH_MAX, SetAttributes, SetTime, Status, Time, Verifier};
 
 /// A right on a node (RFC 1813 section 2.5, the mode of `fattr3`).
 #[derive(Clone, Copy)]
@@ -32,9 +32,6 @@ impl Right {
         }
     }
 }
-
-/// The maximum length of a name in bytes.
-pub const NAME_LENGTH_MAX: u32 = 255;
 
 /// The maximum number of links of a node.
 pub const LINKS_MAX: u32 = 65_535;

@@ -12,7 +12,7 @@ ghost use Rattle.std.specs.Prelude.{◌<◌, ◌^◌, IfOk};
 
 use hex::FromHexError;
 use nr_nfs_base::Verifier;
-use nr_outside::{Moment, ReadEnd, StdSource, read_whole};
+use nr_outside::{INPUT_MAX, Moment, ReadEnd, StdSource, read_whole};
 use nr_plain::{Fault, Reply, Server};
 use nr_tree::Tree;
 use nr_xdr::{Memory, Octets};
@@ -35,9 +35,6 @@ const BAD_LINE: u8 = 10;
 
 /// The status after an input of more than `INPUT_MAX` bytes.
 const OVER_BUDGET: u8 = 11;
-
-/// The maximum length of an input in bytes, as of a script.
-const INPUT_MAX: usize = 16_777_216;
 
 /// The capacities are below this one, so that no number of the server passes 64 bits.
 const CAPACITY_END: u64 = 1 << 63;

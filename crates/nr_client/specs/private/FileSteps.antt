@@ -11,7 +11,8 @@ use Rattle.nr_client.specs.Following.{Unanswered}
 use Rattle.nr_client.specs.Reading.{offset_after, piece_left, read_call, read_result}
 use Rattle.nr_client.specs.Results.{Gives}
 use Rattle.nr_client.specs.Transfers.{LinkBytes}
-use Rattle.nr_client.specs.Writing.{input_max, write_call, write_result}
+use Rattle.nr_outside.specs.Whole.{input_max}
+use Rattle.nr_client.specs.Writing.{write_call, write_result}
 
 -- a READ of the next bytes was answered, and they were written to the output
 pub record ReadsOn (uid gid : ℕ) (file : List ℕ) (size at at' : ℕ) (b b' : LinkBytes) (h h' : RequesterSide) (taken taken' : Option (List ℕ)) : Type 0 where

@@ -1,6 +1,6 @@
 use Rattle.std.proofs.Common.{◌≡◌, ◌-◌, length}
 use Rattle.nr_requester.specs.OpenCalls.{KeepsTickets}
-use Rattle.nr_client.specs.Ending.{read_max}
+use Rattle.nr_links.specs.Limits.{read_max}
 use Rattle.nr_client.specs.Steps.{Fits, GoesOn}
 use Rattle.nr_client.specs.Transfers.{link_bytes}
 use Rattle.nr_client.proofs.calling.wait_for_answer.Given as goal

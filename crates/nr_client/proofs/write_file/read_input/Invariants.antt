@@ -1,6 +1,6 @@
 use Rattle.std.proofs.Common.{◌≡◌, ◌-◌, ◌+◌, vec_len}
 use Rattle.nr_outside.specs.Content.{HandsOut}
-use Rattle.nr_client.specs.Writing.{input_max}
+use Rattle.nr_outside.specs.Whole.{input_max}
 use Rattle.nr_client.proofs.write_file.read_input.Given as goal
 
 abbrev pub invariant-loop-chunk : goal.invariant-loop-chunk

@@ -1,7 +1,7 @@
 use Rattle.std.proofs.Common.{◌≡◌, ◌≤◌, ◌-◌, ℕ, List, length, take}
 use Rattle.nr_requester.specs.RequesterState.{RequesterSide}
 use Rattle.nr_client.specs.Transfers.{LinkBytes, link_bytes}
-use Rattle.nr_client.specs.Writing.{input_max}
+use Rattle.nr_outside.specs.Whole.{input_max}
 use Rattle.nr_client.proofs.FileWriting.{WriteSoFar}
 use Rattle.nr_client.proofs.write_file.write_bytes.Given as goal
 

@@ -1,6 +1,7 @@
 use Rattle.std.proofs.Common.{◌≡◌, ◌+◌, ◌<◌, ◌≤◌, ℕ, Bool, true, false, [], length, take, arith, refl, sym, ap, subst, ◌∙◌}
 use Rattle.nr_outside.specs.Content.{HandsOut}
-use Rattle.nr_host.specs.Ending.{SinkCount, SourceCount, read_max}
+use Rattle.nr_links.specs.Limits.{read_max}
+use Rattle.nr_host.specs.Ending.{SinkCount, SourceCount}
 use Rattle.nr_host.specs.Steps.{CarriesTo, FaultsAt, FeedsTo, outside, sink_state}
 use Rattle.nr_host.proofs.Carries.{carry_ends, carry_on, nothing_read, read_ends, read_enough, read_fails, write_failed}
 use Rattle.nr_host.proofs.connection.carry.Goals as goal

@@ -1,7 +1,7 @@
 use Rattle.std.proofs.Common.{◌≡◌, ◌-◌, ◌*◌, ◌≤◌, ℕ, false, None, length}
 use Rattle.nr_endpoint.specs.FedBytes.{fed_bytes}
 use Rattle.nr_responder.specs.ResponderState.{end_of}
-use Rattle.nr_host.specs.Ending.{piece_max, read_max}
+use Rattle.nr_links.specs.Limits.{piece_max, read_max}
 use Rattle.nr_host.specs.Steps.{CarriesTo, outside, sink_state}
 use Rattle.nr_host.proofs.connection.carry.Given as goal
 

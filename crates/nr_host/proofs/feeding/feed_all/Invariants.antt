@@ -1,7 +1,7 @@
 use Rattle.std.proofs.Common.{◌≡◌, ◌+◌, ◌*◌, ◌≤◌, false, None, length}
 use Rattle.nr_endpoint.specs.FedBytes.{fed_bytes}
 use Rattle.nr_responder.specs.ResponderState.{end_of}
-use Rattle.nr_host.specs.Ending.{piece_max}
+use Rattle.nr_links.specs.Limits.{piece_max}
 use Rattle.nr_host.specs.Steps.{FaultsAt, FeedsTo, sink_state}
 use Rattle.nr_host.proofs.feeding.feed_all.Given as goal
 
