@@ -1,6 +1,6 @@
 -- A call from its Submit to its answer or its end.
-use Rattle.std.proofs.Common.{◌≡◌, ℕ, true, false, is_some, List, [], ◌∷◌, ◌++◌, Option, Some, None, inl, inr, ap, subst, sym, ◌∙◌}
-use Rattle.std.proofs.lemmas.Option.{same_Some}
+use Rattle.std.proofs.Common.{◌≡◌, ℕ, true, false, is_some, List, [], ◌∷◌, ◌++◌, length, Option, Some, None, arith, inl, inr, ap, subst, sym, ◌∙◌}
+use Rattle.std.proofs.lemmas.List.{length-append, nil_from_length}
 use Rattle.nr_requester.specs.AfterCalls.{after_forget}
 use Rattle.nr_rpc.specs.Credential.{CanWriteCred}
 use Rattle.nr_reduce.specs.declared.call.Call.{Call}
@@ -12,7 +12,9 @@ use Rattle.nr_reduce.specs.declared.mark.Mark.{Mark}
 use Rattle.nr_reduce.specs.declared.mark.Mark.TheVariants as marks
 use Rattle.nr_reduce.specs.Opening.{IsOpened}
 use Rattle.nr_requester.specs.declared.answer.AnsweredCall.{AnsweredCall}
-use Rattle.nr_requester.specs.RequesterState.{RequesterSide, RequesterState}
+use Rattle.nr_wire.specs.declared.hello.Side.TheVariants.{Initiator}
+use Rattle.nr_reduce.specs.History.{bytes_received}
+use Rattle.nr_requester.specs.RequesterState.{RequesterSide, RequesterState, queue_of}
 use Rattle.nr_requester.specs.OpenCalls.{found_answer, open_call}
 use Rattle.nr_requester.specs.Standing.{StandsOn, StaysOut}
 use Rattle.nr_requester.proofs.OwnLaw.{submit_keeps_law}
@@ -20,9 +22,9 @@ use Rattle.nr_requester.proofs.OpenTickets.{done_keeps_law, forget_keeps_law, fo
 use Rattle.nr_client.specs.declared.call_end.CallEnd.{CallEnd}
 use Rattle.nr_client.specs.declared.call_end.CallEnd.TheVariants as calls
 use Rattle.nr_client.specs.Ending.{LinkCause}
-use Rattle.nr_client.specs.Calls.{Answers, Completes, Forgets, GivesUp, HandsOver, IsSent, NoneCame}
-use Rattle.nr_client.specs.Steps.{GoesOn, GoesTo, IsLeft, IsLive, LacksAnswer}
-use Rattle.nr_client.specs.Transfers.{LinkBytes}
+use Rattle.nr_client.specs.Calls.{Answers, Completes, Forgets, GivesUp, HandsOver, IsSent, MovesOfCall, NoneCame, run_to_submit}
+use Rattle.nr_client.specs.Steps.{GoesOn, GoesTo, HasCreditLeft, HasMoved, IsLeft, IsLive, LacksAnswer, ReadsNone, WritesFirst}
+use Rattle.nr_client.specs.Transfers.{LinkBytes, Moves}
 use Rattle.nr_client.proofs.Unanswered.{none_came}
 use Rattle.nr_client.proofs.Moves.{moves_both}
 use Rattle.nr_client.proofs.Turns.{ends_there}
@@ -42,8 +44,8 @@ hands_over xid h i a found on opened link run live =
 
 pub completes : (xid : ℕ) (outcome : Outcome) (b c : LinkBytes) (h i j : RequesterSide) → GoesOn b c h i → HandsOver xid outcome i j → Completes xid outcome b c h j
 completes xid outcome b c h i j goes over opened link run fine live =
-    let (moved, (moves, on)) = goes opened link run fine live in
-    (moved, (moves, over opened link (run ++ moved) on))
+    let one = goes opened link run fine live in
+    (one.moved, (one.bytes, (one.written, over opened link (run ++ one.moved) one.live)))
 
 -- it is forgotten
 forgotten_at : (xid : ℕ) (end : CallEnd) (h i : RequesterSide) (opened : LinkParameters) (link : ℕ) (ahead : List ℕ) (run : List Mark) → StandsOn h (λ link. marks.Forget link xid) i
@@ -64,33 +66,78 @@ none_at xid end h opened link ahead run is_open (inr none) (inr (is, stopped)) =
 pub forgets : (xid : ℕ) (end : CallEnd) (b c : LinkBytes) (h i j : RequesterSide) → GoesTo end b c h i → LacksAnswer end xid i → StandsOn i (λ link. marks.Forget link xid) j
     → StaysOut i (λ link. marks.Forget link xid) j → is_some (open_call xid i.state) ≡ true → Forgets xid end b c h j
 forgets xid end b c h i j goes lacks on out is_open opened link run fine live =
-    let (moved, ahead, (moves, left)) = goes opened link run fine live in
-    (moved, ahead, (moves, (none_at xid end i opened link ahead (run ++ moved) is_open lacks left, forgotten_at xid end i j opened link ahead (run ++ moved) on out is_open left)))
+    let one = goes opened link run fine live in (
+      one.moved,
+      one.ahead,
+      (
+        one.bytes,
+        (
+          one.written,
+          (
+            one.all,
+            (
+              none_at xid end i opened link one.ahead (run ++ one.moved) is_open lacks one.left,
+              forgotten_at xid end i j opened link one.ahead (run ++ one.moved) on out is_open one.left,
+            ),
+          ),
+        ),
+      ),
+    )
+
+-- what a call moves: nothing is read before its Submit if nothing was then
+no_bytes : (link : ℕ) (b c : LinkBytes) (moved : List Mark) → Moves link b c [] moved → ReadsNone b c → bytes_received link Initiator moved ≡ []
+no_bytes link b c moved moves none = nil_from_length (bytes_received link Initiator moved) (let count = moves.count in let same = none.1.1 in let over = length-append (bytes_received link Initiator moved) [] in omega (arith, count, same, over))
+
+of_call : (call : Call) (xid : ℕ) (b c d : LinkBytes) (h i : RequesterSide) (opened : LinkParameters) (link : ℕ) (run : List Mark) (ahead : List ℕ) (moved : List Mark)
+    → (HasCreditLeft h → ReadsNone b c) → (one : HasMoved opened link run b c i) → Moves link c d ahead moved
+    → WritesFirst opened link (run_to_submit run link call xid one.moved) moved → MovesOfCall opened link run b d h call xid ahead one.moved moved
+of_call call xid b c d h i opened link run ahead moved at_once one more written = record {
+  bytes = moves_both link b c d ahead one.moved moved one.bytes more;
+  at_once = λ credit. no_bytes link b c one.moved one.bytes (at_once credit);
+  before = one.written;
+  written = written;
+}
 
 -- all of a call
-pub answers : (call : Call) (xid : ℕ) (outcome : Outcome) (b c d : LinkBytes) (h i j k : RequesterSide) → CanWriteCred call.cred → GoesOn b c h i → IsSent xid call i j
-    → Completes xid outcome c d j k → Answers b d h k call outcome
-answers call xid outcome b c d h i j k writable goes sent completed opened link run fine live =
-    let (waits, (moves, on)) = goes opened link run fine live in
-    let sent_on = submitted call xid i j opened link (run ++ waits) sent writable fine on in
-    let (moved, (moves_more, done)) = completed opened link ((run ++ waits) ++ marks.Submit link call forms.Auto (submissions.Accepted xid) ∷ []) fine sent_on in
-    record { waits = waits; xid = xid; moved = moved; bytes = moves_both link b c d [] waits moved moves moves_more; live = done }
+pub answers : (call : Call) (xid : ℕ) (outcome : Outcome) (b c d : LinkBytes) (h i j k : RequesterSide) → CanWriteCred call.cred → h.state.side.ended ≡ None → (HasCreditLeft h → ReadsNone b c)
+    → GoesOn b c h i → IsSent xid call i j → Completes xid outcome c d j k → Answers b d h k call outcome
+answers call xid outcome b c d h i j k writable started at_once goes sent completed = (
+  started,
+  λ opened link run fine live.
+      (let one = goes opened link run fine live in
+      let sent_on = submitted call xid i j opened link (run ++ one.moved) sent writable fine one.live in
+      let (moved, (moves, (written, done))) = completed opened link (run_to_submit run link call xid one.moved) fine sent_on in
+      record { waits = one.moved; xid = xid; moved = moved; moves = of_call call xid b c d h i opened link run [] moved at_once one moves written; live = done }),
+)
 
-pub gives_up : (call : Call) (xid : ℕ) (end : CallEnd) (b c d : LinkBytes) (h i j k : RequesterSide) → CanWriteCred call.cred → GoesOn b c h i → IsSent xid call i j
-    → Forgets xid end c d j k → GivesUp b d h k call end
-gives_up call xid end b c d h i j k writable goes sent forgotten =
-    inr (λ opened link run fine live.
-    (let (waits, (moves, on)) = goes opened link run fine live in
-    let sent_on = submitted call xid i j opened link (run ++ waits) sent writable fine on in
-    let (moved, ahead, (moves_more, (none, left))) = forgotten opened link ((run ++ waits) ++ marks.Submit link call forms.Auto (submissions.Accepted xid) ∷ []) fine sent_on in
-    record { waits = waits; xid = xid; moved = moved; ahead = ahead; bytes = moves_both link b c d ahead waits moved moves moves_more; unanswered = none; left = left }))
+pub gives_up : (call : Call) (xid : ℕ) (end : CallEnd) (b c d : LinkBytes) (h i j k : RequesterSide) → CanWriteCred call.cred → (HasCreditLeft h → ReadsNone b c)
+    → GoesOn b c h i → IsSent xid call i j → Forgets xid end c d j k → LinkCause end d.left d.read k → GivesUp b d h k call end
+gives_up call xid end b c d h i j k writable at_once goes sent forgotten cause =
+    inr (
+      cause,
+      λ opened link run fine live.
+          (let one = goes opened link run fine live in
+          let sent_on = submitted call xid i j opened link (run ++ one.moved) sent writable fine one.live in
+          let (moved, ahead, (moves, (written, (all, (none, left))))) = forgotten opened link (run_to_submit run link call xid one.moved) fine sent_on in
+          record {
+            waits = one.moved;
+            xid = xid;
+            moved = moved;
+            ahead = ahead;
+            moves = of_call call xid b c d h i opened link run ahead moved at_once one moves written;
+            all = all;
+            unanswered = none;
+            left = left;
+          }),
+    )
 
 -- it was not submitted
-pub refused : (call : Call) (end : CallEnd) (b c : LinkBytes) (h i j : RequesterSide) → j ≡ i → GoesOn b c h i → GivesUp b c h j call end
-refused call end b c h i j same goes = inl (ends_there end b c h j (subst (GoesOn b c h) (sym same) goes))
+pub refused : (call : Call) (end : CallEnd) (b c : LinkBytes) (h i j : RequesterSide) → j ≡ i → queue_of i.state ≡ [] → (HasCreditLeft h → ReadsNone b c) → GoesOn b c h i → GivesUp b c h j call end
+refused call end b c h i j same none at_once goes =
+    inl (ends_there end b c h j (inr (ap (λ (x : RequesterSide). queue_of x.state) same ∙ none)) (subst (GoesOn b c h) (sym same) goes), at_once)
 
-pub not_sent : (call : Call) (end : CallEnd) (b c : LinkBytes) (h i : RequesterSide) → GoesTo end b c h i → GivesUp b c h i call end
-not_sent call end b c h i goes = inl goes
+pub not_sent : (call : Call) (end : CallEnd) (b c : LinkBytes) (h i : RequesterSide) → GoesTo end b c h i → (HasCreditLeft h → ReadsNone b c) → GivesUp b c h i call end
+not_sent call end b c h i goes at_once = inl (goes, at_once)
 
 -- it has an answer, so it doesn't lack one
 pub lacks_answer : (xid : ℕ) (r : RequesterState) → is_some (found_answer xid r) ≡ true → found_answer xid r ≡ None → ⊥
@@ -110,6 +157,3 @@ still_caused xid (calls.Spent left_over need) left read h i is cause = absurd ca
 still_caused xid (calls.TooLarge need room) left read h i is cause = absurd cause
 still_caused xid (calls.Budget count) left read h i is cause = (ap (λ (x : RequesterSide). x.state.side.ended) is ∙ cause.0, cause.1)
 still_caused xid calls.Memory left read h i is cause = absurd cause
-
-pub same_call : {a b : Call} → Some a ≡ Some b → a ≡ b
-same_call {a = a} {b = b} same = same_Some a b same

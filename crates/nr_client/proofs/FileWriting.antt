@@ -196,7 +196,7 @@ input_failed uid gid dir name b h left given left' given' end (handed, hands) (i
       hands_out = hands;
       is_rest = rest_is_known left';
       is_read = tt;
-      calls = inr (refl, ([], (refl, refl)));
+      calls = inr (refl, (refl, refl));
     })
 input_failed uid gid dir name b h left given left' given' end (handed, hands) (inr is) =
     subst (λ (e : ClientEnd). WritesFile uid gid dir name b b h h left given left' given' (Err e)) (sym is) (record {

@@ -7,29 +7,10 @@ use Rattle.nr_rpc.specs.Reply.{BeginsReply}
 use Rattle.nr_rpc.specs.declared.head.ReplyHead.{ReplyHead}
 use Rattle.nr_rpc.specs.declared.head.ReplyHead.TheVariants as heads
 use Rattle.nr_reduce.specs.declared.call.Call.{Call}
-use Rattle.nr_reduce.specs.declared.call.Outcome.{Outcome}
-use Rattle.nr_requester.specs.RequesterState.{RequesterSide}
 use Rattle.nr_client.specs.declared.client_end.ClientEnd.{ClientEnd}
 use Rattle.nr_client.specs.declared.client_end.ClientEnd.TheVariants as client
-use Rattle.nr_client.specs.declared.call_end.CallEnd.{CallEnd}
-use Rattle.nr_client.specs.Calls.{Answers, GivesUp}
-use Rattle.nr_client.specs.Ending.{IsCause}
-use Rattle.nr_client.specs.Requests.{Asks, client_call, machine, SinkFaults, SourceFaults}
-use Rattle.nr_client.specs.Results.{Gives, IsOfCall, NotLink}
-use Rattle.nr_client.specs.Transfers.{LinkBytes}
-
-pub asks_answered : {A : Type 0} (reads : Outcome → Result A ClientEnd) (call asked : Call) (outcome : Outcome) (b c : LinkBytes) (h i : RequesterSide) (result : Result A ClientEnd)
-    → call ≡ asked → Answers b c h i call outcome → Gives result (reads outcome) → Asks reads asked b c h i result
-asks_answered reads call asked outcome b c h i result same answers gives =
-    inl (outcome, (subst (λ (a : Call). Answers b c h i a outcome) same answers, gives))
-
-pub asks_given_up : {A : Type 0} (reads : Outcome → Result A ClientEnd) (call asked : Call) (end : CallEnd) (b c : LinkBytes) (h i : RequesterSide)
-    → call ≡ asked → GivesUp b c h i call end → IsCause end c.left c.read i call → Asks {A = A} reads asked b c h i (Err (client.Link end))
-asks_given_up reads call asked end b c h i same given_up cause =
-    inr (inl (end, (refl, (subst (λ (a : Call). GivesUp b c h i a end) same given_up, subst (λ (a : Call). IsCause end c.left c.read i a) same cause))))
-
-pub asks_out : {A : Type 0} (reads : Outcome → Result A ClientEnd) (asked : Call) (b : LinkBytes) (h : RequesterSide) → Asks {A = A} reads asked b b h h (Err client.Memory)
-asks_out reads asked b h = inr (inr (refl, (refl, refl)))
+use Rattle.nr_client.specs.Requests.{client_call, machine, SinkFaults, SourceFaults}
+use Rattle.nr_client.specs.Results.{Gives, IsOfCall, IsOfReply}
 
 -- results begin within the reply
 pub begins_within : (head : ReplyHead) (xid stat at : ℕ) (bytes : List ℕ) → head ≡ heads.Accepted xid stat at → BeginsReply head bytes → at ≤ length bytes
@@ -40,7 +21,7 @@ begins_within head xid stat at bytes same begins =
     omega (arith, len, all, length-append front behind)
 
 -- a reply was read, so no fault count rose
-pub no_source_fault : {A : Type 0} (result : Result A ClientEnd) (before after : ℕ) → IfErr result NotLink → after ≡ before → SourceFaults result before after
+pub no_source_fault : {A : Type 0} (result : Result A ClientEnd) (before after : ℕ) → IfErr result IsOfReply → after ≡ before → SourceFaults result before after
 no_source_fault (Ok value) before after link same = same
 no_source_fault (Err client.DialFault) before after link same = same
 no_source_fault (Err (client.Link end)) before after link same = absurd link
@@ -56,7 +37,7 @@ no_source_fault (Err client.OutputFault) before after link same = same
 no_source_fault (Err (client.Budget count)) before after link same = same
 no_source_fault (Err client.Memory) before after link same = same
 
-pub no_sink_fault : {A : Type 0} (result : Result A ClientEnd) (before after : ℕ) → IfErr result NotLink → after ≡ before → SinkFaults result before after
+pub no_sink_fault : {A : Type 0} (result : Result A ClientEnd) (before after : ℕ) → IfErr result IsOfReply → after ≡ before → SinkFaults result before after
 no_sink_fault (Ok value) before after link same = same
 no_sink_fault (Err client.DialFault) before after link same = same
 no_sink_fault (Err (client.Link end)) before after link same = absurd link
@@ -88,7 +69,7 @@ writable (Ok call) prog vers proc uid gid args same = subst (λ (c : Call). CanW
 writable (Err memory) prog vers proc uid gid args same = tt
 
 -- an end of a reply is one of its call
-pub of_call : (end : ClientEnd) → NotLink end → IsOfCall end
+pub of_call : (end : ClientEnd) → IsOfReply end → IsOfCall end
 of_call client.DialFault of_reply = absurd of_reply
 of_call (client.Link end) of_reply = absurd of_reply
 of_call (client.Rpc kind code) of_reply = tt
@@ -103,6 +84,6 @@ of_call client.OutputFault of_reply = absurd of_reply
 of_call (client.Budget count) of_reply = absurd of_reply
 of_call client.Memory of_reply = tt
 
-pub of_call_result : {A : Type 0} (given : Result A ClientEnd) → IfErr given NotLink → IfErr given IsOfCall
+pub of_call_result : {A : Type 0} (given : Result A ClientEnd) → IfErr given IsOfReply → IfErr given IsOfCall
 of_call_result (Ok value) of_reply = tt
 of_call_result (Err end) of_reply = of_call end of_reply

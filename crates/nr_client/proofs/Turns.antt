@@ -1,113 +1,176 @@
 -- One step of a call after another.
-use Rattle.std.proofs.Common.{◌≡◌, ℕ, ◌+◌, List, [], ◌∷◌, ◌++◌, length, take, drop, Option, inl, inr, refl, sym, ap, subst, ◌∙◌, append_assoc, append-nil, take-append-drop}
+use Rattle.std.proofs.Common.{◌≡◌, ◌≤◌, ◌⊎◌, ⊥, ℕ, ◌+◌, arith, None, List, [], ◌∷◌, ◌++◌, length, take, drop, Option, inl, inr, refl, sym, ap, subst, ◌∙◌, append_assoc, append-nil, take-append-drop, drop-length}
 use Rattle.nr_link.specs.declared.end.End.TheVariants as ends
 use Rattle.nr_wire.specs.declared.hello.Side.TheVariants.{Initiator}
 use Rattle.std.specs.Io.KnownBytes.{Appends}
 use Rattle.nr_outside.specs.Content.{HandsOut}
 use Rattle.nr_reduce.specs.declared.mark.Mark.{Mark}
 use Rattle.nr_reduce.specs.declared.mark.Mark.TheVariants as marks
+use Rattle.nr_reduce.specs.declared.mark.LinkParameters.{LinkParameters}
+use Rattle.nr_reduce.specs.History.{bytes_sent}
+use Rattle.nr_reduce.specs.Run.{HasWritten}
+use Rattle.nr_requester.specs.AfterCalls.{after_drain}
 use Rattle.nr_requester.specs.RequesterState.{RequesterSide, queue_of}
+use Rattle.nr_requester.proofs.Queues.{written_writable}
 use Rattle.nr_requester.specs.Standing.{StandsOn}
 use Rattle.nr_requester.proofs.OwnLaw.{drain_keeps_law, drain_keeps_grant, piece_keeps_law}
 use Rattle.nr_client.specs.declared.call_end.CallEnd.{CallEnd}
 use Rattle.nr_client.specs.declared.call_end.CallEnd.TheVariants as calls
 use Rattle.nr_client.specs.Ending.{SinkCountAt, SourceCountAt}
-use Rattle.nr_client.specs.Steps.{FeedsOut, GoesOn, GoesTo, IsLeft, IsLive, Reads, ReadsTo, Writes}
+use Rattle.nr_client.specs.Steps.{FeedsOut, GoesOn, GoesTo, HasCreditLeft, HasWrittenAt, IsDrained, IsLeft, IsLive, Reads, ReadsTo, Writes, WritesFirst}
 use Rattle.nr_client.specs.Transfers.{LinkBytes, link_bytes}
 use Rattle.nr_client.proofs.Moves.{moves_both, moves_fed, moves_none, moves_wrote, stays}
 
+-- all that may be written is written, so all output is
+pub written_now : (opened : LinkParameters) (link : ℕ) (run : List Mark) (h : RequesterSide) → queue_of h.state ≡ [] → IsLive opened link h run → HasWritten opened link Initiator run
+written_now opened link run h none live =
+    sym (append-nil (bytes_sent link Initiator run)) ∙ ap (λ (l : List ℕ). bytes_sent link Initiator run ++ l) (sym none) ∙ live.stands.keeps.kept.output
+
+pub written_at : (end : CallEnd) (opened : LinkParameters) (link : ℕ) (run : List Mark) (h : RequesterSide) → IsDrained end h → IsLive opened link h run → HasWrittenAt end opened link run
+written_at end opened link run h (inl failed) live = inl failed
+written_at end opened link run h (inr none) live = inr (inr (written_now opened link run h none live))
+
+-- output is written first by two lists of marks, one after another
+pub first_both : (opened : LinkParameters) (link : ℕ) (run moved more : List Mark) → WritesFirst opened link run moved → WritesFirst opened link (run ++ moved) more → WritesFirst opened link run (moved ++ more)
+first_both opened link run [] more first second = subst (λ (r : List Mark). WritesFirst opened link r more) (append-nil run) second
+first_both opened link run (m ∷ moved) more first second =
+    (first.0, first_both opened link (run ++ m ∷ []) moved more first.1 (subst (λ (r : List Mark). WritesFirst opened link r more) (sym (append_assoc run (m ∷ []) moved)) second))
+
 -- nothing happens
 pub no_turn : (b : LinkBytes) (h : RequesterSide) → GoesOn b b h h
-no_turn b h opened link run fine live = ([], (stays link b, subst (λ (all : List Mark). IsLive opened link h all) (sym (append-nil run)) live))
+no_turn b h opened link run fine live =
+    record { moved = []; bytes = stays link b; written = tt; live = subst (λ (all : List Mark). IsLive opened link h all) (sym (append-nil run)) live }
 
 pub turns_compose : (b c d : LinkBytes) (h i j : RequesterSide) → GoesOn b c h i → GoesOn c d i j → GoesOn b d h j
 turns_compose b c d h i j first second opened link run fine live =
-    let (moved, (moves, on)) = first opened link run fine live in
-    let (more, (moves_more, then_on)) = second opened link (run ++ moved) fine on in (
-      moved ++ more,
-      (
-        moves_both link b c d [] moved more moves moves_more,
-        subst (λ (all : List Mark). IsLive opened link j all) (append_assoc run moved more) then_on,
-      ),
-    )
+    let one = first opened link run fine live in
+    let two = second opened link (run ++ one.moved) fine one.live in
+    record {
+      moved = one.moved ++ two.moved;
+      bytes = moves_both link b c d [] one.moved two.moved one.bytes two.bytes;
+      written = first_both opened link run one.moved two.moved one.written two.written;
+      live = subst (λ (all : List Mark). IsLive opened link j all) (append_assoc run one.moved two.moved) two.live;
+    }
 
 pub turn_to : (end : CallEnd) (b c d : LinkBytes) (h i j : RequesterSide) → GoesOn b c h i → GoesTo end c d i j → GoesTo end b d h j
 turn_to end b c d h i j first second opened link run fine live =
-    let (moved, (moves, on)) = first opened link run fine live in
-    let (more, ahead, (moves_more, then_left)) = second opened link (run ++ moved) fine on in (
-      moved ++ more,
-      ahead,
-      (
-        moves_both link b c d ahead moved more moves moves_more,
-        subst (λ (all : List Mark). IsLeft end opened link j ahead all) (append_assoc run moved more) then_left,
-      ),
-    )
+    let one = first opened link run fine live in
+    let two = second opened link (run ++ one.moved) fine one.live in
+    record {
+      moved = one.moved ++ two.moved;
+      ahead = two.ahead;
+      bytes = moves_both link b c d two.ahead one.moved two.moved one.bytes two.bytes;
+      written = first_both opened link run one.moved two.moved one.written two.written;
+      all = subst (λ (all : List Mark). HasWrittenAt end opened link all) (append_assoc run one.moved two.moved) two.all;
+      left = subst (λ (all : List Mark). IsLeft end opened link j two.ahead all) (append_assoc run one.moved two.moved) two.left;
+    }
 
 -- an end that leaves nothing over
-pub ends_there : (end : CallEnd) (b c : LinkBytes) (h i : RequesterSide) → GoesOn b c h i → GoesTo end b c h i
-ends_there end b c h i goes opened link run fine live =
-    let (moved, (moves, on)) = goes opened link run fine live in
-    (moved, [], (moves, inl (on, refl)))
+pub ends_there : (end : CallEnd) (b c : LinkBytes) (h i : RequesterSide) → IsDrained end i → GoesOn b c h i → GoesTo end b c h i
+ends_there end b c h i drained goes opened link run fine live =
+    let one = goes opened link run fine live in
+    record {
+      moved = one.moved;
+      ahead = [];
+      bytes = one.bytes;
+      written = one.written;
+      all = written_at end opened link (run ++ one.moved) i drained one.live;
+      left = inl (one.live, refl);
+    }
 
 -- what is due is written
 pub writes : (taken taken' : Option (List ℕ)) (h i : RequesterSide) (n : ℕ) → Appends taken taken' (take n (queue_of h.state))
     → StandsOn h (λ link. marks.Wrote link Initiator (take n (queue_of h.state))) i → Writes taken taken' h i
 writes taken taken' h i n takes on left given read opened link run fine live =
-    let bytes = take n (queue_of h.state) in (
-      marks.Wrote link Initiator bytes ∷ [],
-      (
-        moves_wrote link left given taken taken' read bytes takes,
-        record {
-          stands = on opened link run live.stands;
-          asked = drain_keeps_law opened link h run n live.stands live.asked;
-          granted = drain_keeps_grant opened link run bytes live.granted;
-        },
-      ),
-    )
+    let bytes = take n (queue_of h.state) in
+    record {
+      moved = marks.Wrote link Initiator bytes ∷ [];
+      bytes = moves_wrote link left given taken taken' read bytes takes;
+      written = (tt, tt);
+      live = record {
+        stands = on opened link run live.stands;
+        asked = drain_keeps_law opened link h run n live.stands live.asked;
+        granted = drain_keeps_grant opened link run bytes live.granted;
+      };
+    }
+
+-- after all that may be written nothing is left of it
+pub drained_all : (h i : RequesterSide) (n : ℕ) → i ≡ after_drain n h → n ≡ length (queue_of h.state) → queue_of i.state ≡ []
+unfolding after_drain
+drained_all h i n is all =
+    ap (λ (x : RequesterSide). queue_of x.state) is ∙ written_writable h.state.side.has_hello n h.state.side.send_queue
+    ∙ ap (λ (k : ℕ). drop k (queue_of h.state)) all ∙ drop-length (queue_of h.state)
+
+-- a drain ends no side
+pub drained_end : (h i : RequesterSide) (n : ℕ) → i ≡ after_drain n h → h.state.side.ended ≡ i.state.side.ended
+unfolding after_drain
+drained_end h i n is = sym (ap (λ (x : RequesterSide). x.state.side.ended) is)
+
+pub drained_credit : (h i : RequesterSide) (n : ℕ) → i ≡ after_drain n h → (length i.state.outstanding ≡ length h.state.outstanding) × (i.state.grant ≡ h.state.grant)
+unfolding after_drain
+drained_credit h i n is = (ap (λ (x : RequesterSide). length x.state.outstanding) is, ap (λ (x : RequesterSide). x.state.grant) is)
 
 -- nothing is read
 pub reads_none : (left given left' given' : Option (List ℕ)) (read : ℕ) (h : RequesterSide) → HandsOut left given left' given' [] → Reads left given left' given' read read h h
-reads_none left given left' given' read h hands taken opened link run fine live =
-    ([], (moves_none link left given left' given' taken read hands, subst (λ (all : List Mark). IsLive opened link h all) (sym (append-nil run)) live))
+reads_none left given left' given' read h hands taken opened link run fine live = record {
+  moved = [];
+  bytes = moves_none link left given left' given' taken read hands;
+  written = tt;
+  live = subst (λ (all : List Mark). IsLive opened link h all) (sym (append-nil run)) live;
+}
 
 -- a piece is read and fed
-pub reads : (left given left' given' : Option (List ℕ)) (read read' : ℕ) (piece : List ℕ) (h i : RequesterSide) → HandsOut left given left' given' piece → read + length piece ≡ read'
-    → StandsOn h (λ link. marks.Fed link Initiator piece) i → Reads left given left' given' read read' h i
-reads left given left' given' read read' piece h i hands counts on taken opened link run fine live =
+pub reads : (left given left' given' : Option (List ℕ)) (read read' : ℕ) (piece : List ℕ) (h i : RequesterSide) → queue_of h.state ≡ [] → HandsOut left given left' given' piece
+    → read + length piece ≡ read' → StandsOn h (λ link. marks.Fed link Initiator piece) i → Reads left given left' given' read read' h i
+reads left given left' given' read read' piece h i none hands counts on taken opened link run fine live =
     let all : piece ++ [] ≡ piece = append-nil piece in
-    let kept = piece_keeps_law opened link run piece live.asked live.granted in (
-      marks.Fed link Initiator piece ∷ [],
-      (
-        moves_fed link left given left' given' taken read read' piece [] (subst (HandsOut left given left' given') (sym all) hands)
-            (ap (λ (bytes : List ℕ). read + length bytes) all ∙ counts),
-        record { stands = on opened link run live.stands; asked = kept.0; granted = kept.1 },
-      ),
-    )
+    let kept = piece_keeps_law opened link run piece live.asked live.granted in
+    record {
+      moved = marks.Fed link Initiator piece ∷ [];
+      bytes = moves_fed link left given left' given' taken read read' piece [] (subst (HandsOut left given left' given') (sym all) hands)
+          (ap (λ (bytes : List ℕ). read + length bytes) all ∙ counts);
+      written = (written_now opened link run h none live, tt);
+      live = record { stands = on opened link run live.stands; asked = kept.0; granted = kept.1 };
+    }
 
 -- memory ran out for a frame of it
-pub reads_out : (left given left' given' : Option (List ℕ)) (read read' : ℕ) (piece : List ℕ) (h i : RequesterSide) → HandsOut left given left' given' piece → read + length piece ≡ read'
-    → FeedsOut piece h i → ReadsTo (calls.Ended ends.Memory) left given left' given' read read' h i
-reads_out left given left' given' read read' piece h i hands counts out taken opened link run fine live =
+pub reads_out : (left given left' given' : Option (List ℕ)) (read read' : ℕ) (piece : List ℕ) (h i : RequesterSide) → queue_of h.state ≡ [] → HandsOut left given left' given' piece
+    → read + length piece ≡ read' → FeedsOut piece h i → ReadsTo (calls.Ended ends.Memory) left given left' given' read read' h i
+reads_out left given left' given' read read' piece h i none hands counts out taken opened link run fine live =
     let (n, stops) = out in
     let all : take n piece ++ drop n piece ≡ piece = take-append-drop n piece in
-    let kept = piece_keeps_law opened link run (take n piece) live.asked live.granted in (
-      marks.Fed link Initiator (take n piece) ∷ [],
-      drop n piece,
-      (
-        moves_fed link left given left' given' taken read read' (take n piece) (drop n piece) (subst (HandsOut left given left' given') (sym all) hands)
-            (ap (λ (bytes : List ℕ). read + length bytes) all ∙ counts),
-        inr (refl, record { stopped = _; stands = stops opened link run live.stands; asked = kept.0; granted = kept.1 }),
-      ),
-    )
+    let kept = piece_keeps_law opened link run (take n piece) live.asked live.granted in
+    record {
+      moved = marks.Fed link Initiator (take n piece) ∷ [];
+      ahead = drop n piece;
+      bytes = moves_fed link left given left' given' taken read read' (take n piece) (drop n piece) (subst (HandsOut left given left' given') (sym all) hands)
+          (ap (λ (bytes : List ℕ). read + length bytes) all ∙ counts);
+      written = (written_now opened link run h none live, tt);
+      all = inr (inl refl);
+      left = inr (refl, record { stopped = _; stands = stops opened link run live.stands; asked = kept.0; granted = kept.1 });
+    }
 
-pub reads_to : (end : CallEnd) (left given left' given' : Option (List ℕ)) (read read' : ℕ) (h i : RequesterSide) → Reads left given left' given' read read' h i → ReadsTo end left given left' given' read read' h i
-reads_to end left given left' given' read read' h i reading taken =
-    ends_there end (link_bytes left given taken read) (link_bytes left' given' taken read') h i (reading taken)
+pub reads_to : (end : CallEnd) (left given left' given' : Option (List ℕ)) (read read' : ℕ) (h i : RequesterSide) → queue_of i.state ≡ [] → Reads left given left' given' read read' h i
+    → ReadsTo end left given left' given' read read' h i
+reads_to end left given left' given' read read' h i none reading taken =
+    ends_there end (link_bytes left given taken read) (link_bytes left' given' taken read') h i (inr none) (reading taken)
 
 pub reads_out_at : (end : CallEnd) → end ≡ calls.Ended ends.Memory → (left given left' given' : Option (List ℕ)) (read read' : ℕ) (piece : List ℕ) (h i : RequesterSide)
-    → HandsOut left given left' given' piece → read + length piece ≡ read' → FeedsOut piece h i → ReadsTo end left given left' given' read read' h i
-reads_out_at end is left given left' given' read read' piece h i hands counts out =
-    subst (λ (e : CallEnd). ReadsTo e left given left' given' read read' h i) (sym is) (reads_out left given left' given' read read' piece h i hands counts out)
+    → queue_of h.state ≡ [] → HandsOut left given left' given' piece → read + length piece ≡ read' → FeedsOut piece h i → ReadsTo end left given left' given' read read' h i
+reads_out_at end is left given left' given' read read' piece h i none hands counts out =
+    subst (λ (e : CallEnd). ReadsTo e left given left' given' read read' h i) (sym is) (reads_out left given left' given' read read' piece h i none hands counts out)
+
+-- a call never waits while a credit is left
+pub never_waits : (h i : RequesterSide) → i ≡ h → HasCreditLeft h → i.state.grant ≤ length i.state.outstanding → ⊥
+never_waits h i same credit none =
+    let outs = ap (λ (x : RequesterSide). length x.state.outstanding) same in
+    let grants = ap (λ (x : RequesterSide). x.state.grant) same in
+    omega (arith, credit, none, outs, grants)
+
+-- the side of the link had not ended at first
+pub started_with : (h i : RequesterSide) → (i ≡ h) ⊎ (h.state.side.ended ≡ None) → i.state.side.ended ≡ None → h.state.side.ended ≡ None
+started_with h i (inl same) live = sym (ap (λ (x : RequesterSide). x.state.side.ended) same) ∙ live
+started_with h i (inr known) live = known
 
 -- ---- Fault counts
 

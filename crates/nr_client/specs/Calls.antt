@@ -1,5 +1,6 @@
 -- What a call over a link makes of the marks that its requester stands for.
-use Rattle.std.specs.Prelude.{◌≡◌, ◌≢◌, Contains, ℕ, ◌⊎◌, List, [], ◌∷◌, ◌++◌}
+use Rattle.std.specs.Prelude.{◌≡◌, ◌≢◌, Contains, ℕ, ◌⊎◌, List, [], ◌∷◌, ◌++◌, None}
+use Rattle.nr_wire.specs.declared.hello.Side.TheVariants.{Initiator}
 use Rattle.nr_reduce.specs.declared.call.Call.{Call}
 use Rattle.nr_reduce.specs.declared.call.Outcome.{Outcome}
 use Rattle.nr_reduce.specs.declared.call.Form.TheVariants as forms
@@ -8,14 +9,15 @@ use Rattle.nr_reduce.specs.declared.mark.LinkParameters.{LinkParameters}
 use Rattle.nr_reduce.specs.declared.mark.Mark.{Mark}
 use Rattle.nr_reduce.specs.declared.mark.Mark.TheVariants as marks
 use Rattle.nr_link.specs.declared.end.End.TheVariants as ends
-use Rattle.nr_reduce.specs.History.{CompletedCall}
+use Rattle.nr_reduce.specs.History.{CompletedCall, bytes_received}
 use Rattle.nr_reduce.specs.Run.{client}
 use Rattle.nr_client.specs.declared.call_end.CallEnd.TheVariants as calls
 use Rattle.nr_reduce.specs.Opening.{IsOpened}
 use Rattle.nr_requester.specs.RequesterState.{RequesterSide}
 use Rattle.nr_requester.specs.Answers.{answer_of}
 use Rattle.nr_requester.specs.Standing.{StandsOn}
-use Rattle.nr_client.specs.Steps.{GoesTo, IsLeft, IsLive}
+use Rattle.nr_client.specs.Ending.{LinkCause}
+use Rattle.nr_client.specs.Steps.{GoesTo, HasCreditLeft, HasWrittenAt, IsLeft, IsLive, ReadsNone, WritesFirst}
 use Rattle.nr_client.specs.Transfers.{LinkBytes, Moves}
 use Rattle.nr_client.specs.declared.call_end.CallEnd.{CallEnd}
 
@@ -27,12 +29,20 @@ run_to_submit run link call xid waits = (run ++ waits) ++ marks.Submit link call
 abbrev pub run_of_call : List Mark → ℕ → Call → ℕ → (waits moved : List Mark) → Mark → List Mark
 run_of_call run link call xid waits moved last = (run_to_submit run link call xid waits ++ moved) ++ last ∷ []
 
+-- The bytes that a call moves. Nothing is read before its Submit if a credit is left. Before bytes are fed all output is written, the call
+-- itself after its Submit.
+pub record MovesOfCall (opened : LinkParameters) (link : ℕ) (run : List Mark) (b b' : LinkBytes) (h : RequesterSide) (call : Call) (xid : ℕ) (ahead : List ℕ) (waits moved : List Mark) : Type 0 where
+  pub bytes : Moves link b b' ahead (waits ++ moved)
+  pub at_once : HasCreditLeft h → bytes_received link Initiator waits ≡ []
+  pub before : WritesFirst opened link run waits
+  pub written : WritesFirst opened link (run_to_submit run link call xid waits) moved
+
 -- The call was submitted and answered with this outcome.
-pub record IsAnswered (opened : LinkParameters) (link : ℕ) (run : List Mark) (b b' : LinkBytes) (h' : RequesterSide) (call : Call) (outcome : Outcome) : Type 0 where
+pub record IsAnswered (opened : LinkParameters) (link : ℕ) (run : List Mark) (b b' : LinkBytes) (h h' : RequesterSide) (call : Call) (outcome : Outcome) : Type 0 where
   pub waits : List Mark
   pub xid : ℕ
   pub moved : List Mark
-  pub bytes : Moves link b b' [] (waits ++ moved)
+  pub moves : MovesOfCall opened link run b b' h call xid [] waits moved
   pub live : IsLive opened link h' (run_of_call run link call xid waits moved (marks.Done link xid outcome))
 
 -- By these marks no message brought an outcome of an xid; or memory ran out for a frame.
@@ -40,22 +50,28 @@ abbrev pub NoneCame : CallEnd → LinkParameters → ℕ → List Mark → ℕ �
 NoneCame end opened link run xid = (end ≡ calls.Ended ends.Memory) ⊎ ((c : CompletedCall) → Contains (client opened link run).state.outcomes c → c.xid ≢ xid)
 
 -- The call was submitted, and forgotten at this end: its answer had not come.
-pub record IsForgotten (opened : LinkParameters) (link : ℕ) (run : List Mark) (b b' : LinkBytes) (h' : RequesterSide) (call : Call) (end : CallEnd) : Type 0 where
+pub record IsForgotten (opened : LinkParameters) (link : ℕ) (run : List Mark) (b b' : LinkBytes) (h h' : RequesterSide) (call : Call) (end : CallEnd) : Type 0 where
   pub waits : List Mark
   pub xid : ℕ
   pub moved : List Mark
   pub ahead : List ℕ
-  pub bytes : Moves link b b' ahead (waits ++ moved)
+  pub moves : MovesOfCall opened link run b b' h call xid ahead waits moved
+  pub all : HasWrittenAt end opened link (run_to_submit run link call xid waits ++ moved)
   pub unanswered : NoneCame end opened link (run_to_submit run link call xid waits ++ moved) xid
   pub left : IsLeft end opened link h' ahead (run_of_call run link call xid waits moved (marks.Forget link xid))
 
+-- It was answered: the client's side of the link had not ended when it was made.
 abbrev pub Answers : (b b' : LinkBytes) (h h' : RequesterSide) → Call → Outcome → Type 0
-Answers b b' h h' call outcome = (opened : LinkParameters) (link : ℕ) (run : List Mark) → IsOpened opened → IsLive opened link h run → IsAnswered opened link run b b' h' call outcome
+Answers b b' h h' call outcome =
+    (h.state.side.ended ≡ None)
+    × ((opened : LinkParameters) (link : ℕ) (run : List Mark) → IsOpened opened → IsLive opened link h run → IsAnswered opened link run b b' h h' call outcome)
 
--- It has no answer: it was not submitted, or it was forgotten.
+-- It has no answer: it was not submitted, and nothing was read if a credit was left; or it was forgotten at an end of the link.
 abbrev pub GivesUp : (b b' : LinkBytes) (h h' : RequesterSide) → Call → CallEnd → Type 0
 GivesUp b b' h h' call end =
-    GoesTo end b b' h h' ⊎ ((opened : LinkParameters) (link : ℕ) (run : List Mark) → IsOpened opened → IsLive opened link h run → IsForgotten opened link run b b' h' call end)
+    (GoesTo end b b' h h' × (HasCreditLeft h → ReadsNone b b'))
+    ⊎ (LinkCause end b'.left b'.read h'
+    × ((opened : LinkParameters) (link : ℕ) (run : List Mark) → IsOpened opened → IsLive opened link h run → IsForgotten opened link run b b' h h' call end))
 
 -- ---- Its steps
 
@@ -73,9 +89,10 @@ HandsOver xid outcome h h' =
 abbrev pub Completes : ℕ → Outcome → (b b' : LinkBytes) (h h' : RequesterSide) → Type 0
 Completes xid outcome b b' h h' =
     (opened : LinkParameters) (link : ℕ) (run : List Mark) → IsOpened opened → IsLive opened link h run →
-    (moved : List Mark) × (Moves link b b' [] moved × IsLive opened link h' ((run ++ moved) ++ marks.Done link xid outcome ∷ []))
+    (moved : List Mark) × (Moves link b b' [] moved × (WritesFirst opened link run moved × IsLive opened link h' ((run ++ moved) ++ marks.Done link xid outcome ∷ [])))
 
 abbrev pub Forgets : ℕ → CallEnd → (b b' : LinkBytes) (h h' : RequesterSide) → Type 0
 Forgets xid end b b' h h' =
     (opened : LinkParameters) (link : ℕ) (run : List Mark) → IsOpened opened → IsLive opened link h run →
-    (moved : List Mark) × (ahead : List ℕ) × (Moves link b b' ahead moved × (NoneCame end opened link (run ++ moved) xid × IsLeft end opened link h' ahead ((run ++ moved) ++ marks.Forget link xid ∷ [])))
+    (moved : List Mark) × (ahead : List ℕ) × (Moves link b b' ahead moved × (WritesFirst opened link run moved × (HasWrittenAt end opened link (run ++ moved)
+    × (NoneCame end opened link (run ++ moved) xid × IsLeft end opened link h' ahead ((run ++ moved) ++ marks.Forget link xid ∷ [])))))

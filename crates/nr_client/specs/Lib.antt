@@ -1,4 +1,5 @@
 pub mod Calls
+pub mod Dialing
 pub mod Ending
 pub mod Following
 pub mod LinkParts

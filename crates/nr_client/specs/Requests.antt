@@ -28,7 +28,6 @@ use Rattle.nr_nfs_base.specs.declared.procedure.MountProcedure.TheVariants as mo
 use Rattle.nr_nfs_base.specs.declared.procedure.NfsProcedure.TheVariants as nfs
 use Rattle.nr_nfs_res.specs.Mount.{mount_ok_codec}
 use Rattle.nr_nfs_res.specs.declared.mount.MountOk.{MountOk}
-use Rattle.nr_outside.specs.Faults.{Rises}
 use Rattle.nr_reduce.specs.declared.call.Call.{Call}
 use Rattle.nr_reduce.specs.declared.call.Outcome.{Outcome}
 use Rattle.nr_requester.specs.RequesterState.{RequesterSide}
@@ -130,9 +129,3 @@ SourceFaults result before after = after ≡ before
 abbrev pub SinkFaults : {A : Type 0} → Result A ClientEnd → ℕ → ℕ → Type 0
 SinkFaults (Err (client.Link end)) before after = SinkCountAt end before after
 SinkFaults result before after = after ≡ before
-
--- A session was not opened: the dialer's fault count rose if and only if it failed.
-abbrev pub OpenFails : ClientEnd → ℕ → ℕ → Type 0
-OpenFails client.DialFault before after = Rises before after
-OpenFails client.Memory before after = after ≡ before
-OpenFails end before after = ⊥

@@ -68,20 +68,20 @@ Gives (Ok value) read = read ≡ Ok value
 Gives (Err client.Memory) read = ⊤
 Gives (Err end) read = read ≡ Err end
 
--- an end that a reply gives: its call has an answer
-abbrev pub NotLink : ClientEnd → Type 0
-NotLink (client.Link end) = ⊥
-NotLink client.DialFault = ⊥
-NotLink (client.BadPath at) = ⊥
-NotLink client.InputFault = ⊥
-NotLink client.OutputFault = ⊥
-NotLink (client.Budget count) = ⊥
-NotLink end = ⊤
+-- an end that the reply to a call gives, or of which memory ran out
+abbrev pub IsOfReply : ClientEnd → Type 0
+IsOfReply (client.Link end) = ⊥
+IsOfReply client.DialFault = ⊥
+IsOfReply (client.BadPath at) = ⊥
+IsOfReply client.InputFault = ⊥
+IsOfReply client.OutputFault = ⊥
+IsOfReply (client.Budget count) = ⊥
+IsOfReply end = ⊤
 
 -- an end of a call: that of its reply, or it has no answer
 abbrev pub IsOfCall : ClientEnd → Type 0
 IsOfCall (client.Link end) = ⊤
-IsOfCall end = NotLink end
+IsOfCall end = IsOfReply end
 
 -- an end at which no fault count of the link rises
 abbrev pub KeepsCounts : ClientEnd → Type 0

@@ -1,14 +1,16 @@
 -- What a step of a call makes of the marks that a requester stands for.
-use Rattle.std.specs.Prelude.{◌≡◌, ℕ, ◌≤◌, ◌⊎◌, List, [], ◌∷◌, ◌++◌, take, Option, None}
+use Rattle.std.specs.Prelude.{◌≡◌, ⊤, ℕ, ◌<◌, ◌≤◌, ◌⊎◌, List, [], ◌∷◌, ◌++◌, length, take, Option, None}
 use Rattle.nr_link.specs.declared.end.End.TheVariants as ends
 use Rattle.nr_wire.specs.declared.hello.Side.TheVariants.{Initiator}
 use Rattle.nr_reduce.specs.declared.mark.LinkParameters.{LinkParameters}
 use Rattle.nr_reduce.specs.declared.mark.Mark.{Mark}
 use Rattle.nr_reduce.specs.declared.mark.Mark.TheVariants as marks
 use Rattle.nr_reduce.specs.Asked.{AskedSoFar}
+use Rattle.nr_reduce.specs.AtEachMark.{AtEachMark}
 use Rattle.nr_reduce.specs.Credits.{KeepsGrant}
 use Rattle.nr_reduce.specs.Opening.{IsOpened}
-use Rattle.nr_requester.specs.RequesterState.{RequesterSide}
+use Rattle.nr_reduce.specs.Run.{HasWritten}
+use Rattle.nr_requester.specs.RequesterState.{RequesterSide, queue_of}
 use Rattle.nr_requester.specs.Standing.{RequesterRepresents, RequesterRunsOut}
 use Rattle.nr_requester.specs.Fed.{fed_bytes}
 use Rattle.nr_requester.specs.OpenCalls.{found_answer}
@@ -34,17 +36,53 @@ pub record IsOut (opened : LinkParameters) (link : ℕ) (h : RequesterSide) (run
 abbrev pub IsLeft : CallEnd → LinkParameters → ℕ → RequesterSide → List ℕ → List Mark → Type 0
 IsLeft end opened link h ahead run = (IsLive opened link h run × (ahead ≡ [])) ⊎ ((end ≡ calls.Ended ends.Memory) × IsOut opened link h run)
 
--- For all marks that the requester stood for, bytes moved and it stands for the marks of that too.
-abbrev pub GoesOn : (b b' : LinkBytes) (h h' : RequesterSide) → Type 0
-GoesOn b b' h h' =
-    (opened : LinkParameters) (link : ℕ) (run : List Mark) → IsOpened opened → IsLive opened link h run →
-    (moved : List Mark) × (Moves link b b' [] moved × IsLive opened link h' (run ++ moved))
+-- if a mark that follows these feeds bytes, all output of the client is written
+abbrev pub WrittenIfFed : LinkParameters → ℕ → List Mark → Mark → Type 0
+WrittenIfFed opened link run (marks.Fed l Initiator bytes) = HasWritten opened link Initiator run
+WrittenIfFed opened link run mark = ⊤
+
+-- Each time that these marks, which follow a run, feed bytes, all output of the client was written before.
+abbrev pub WritesFirst : LinkParameters → ℕ → (run moved : List Mark) → Type 0
+WritesFirst opened link run moved = AtEachMark (WrittenIfFed opened link) run moved
+
+-- At an end of a call all output of the client is written, unless a write failed, or memory ran out for a frame.
+abbrev pub HasWrittenAt : CallEnd → LinkParameters → ℕ → List Mark → Type 0
+HasWrittenAt end opened link run = (end ≡ calls.LinkWrite) ⊎ ((end ≡ calls.Ended ends.Memory) ⊎ HasWritten opened link Initiator run)
+
+-- Bytes moved after these marks, and a requester stands for the marks of that too.
+pub record HasMoved (opened : LinkParameters) (link : ℕ) (run : List Mark) (b b' : LinkBytes) (h' : RequesterSide) : Type 0 where
+  pub moved : List Mark
+  pub bytes : Moves link b b' [] moved
+  pub written : WritesFirst opened link run moved
+  pub live : IsLive opened link h' (run ++ moved)
 
 -- The same, up to an end.
+pub record HasMovedTo (end : CallEnd) (opened : LinkParameters) (link : ℕ) (run : List Mark) (b b' : LinkBytes) (h' : RequesterSide) : Type 0 where
+  pub moved : List Mark
+  pub ahead : List ℕ
+  pub bytes : Moves link b b' ahead moved
+  pub written : WritesFirst opened link run moved
+  pub all : HasWrittenAt end opened link (run ++ moved)
+  pub left : IsLeft end opened link h' ahead (run ++ moved)
+
+-- so it is for all marks that the requester stood for
+abbrev pub GoesOn : (b b' : LinkBytes) (h h' : RequesterSide) → Type 0
+GoesOn b b' h h' = (opened : LinkParameters) (link : ℕ) (run : List Mark) → IsOpened opened → IsLive opened link h run → HasMoved opened link run b b' h'
+
 abbrev pub GoesTo : CallEnd → (b b' : LinkBytes) (h h' : RequesterSide) → Type 0
-GoesTo end b b' h h' =
-    (opened : LinkParameters) (link : ℕ) (run : List Mark) → IsOpened opened → IsLive opened link h run →
-    (moved : List Mark) × (ahead : List ℕ) × (Moves link b b' ahead moved × IsLeft end opened link h' ahead (run ++ moved))
+GoesTo end b b' h h' = (opened : LinkParameters) (link : ℕ) (run : List Mark) → IsOpened opened → IsLive opened link h run → HasMovedTo end opened link run b b' h'
+
+-- nothing is read
+abbrev pub ReadsNone : (b b' : LinkBytes) → Type 0
+ReadsNone b b' = (b'.left ≡ b.left) × ((b'.given ≡ b.given) × (b'.read ≡ b.read))
+
+-- a credit is left
+abbrev pub HasCreditLeft : RequesterSide → Type 0
+HasCreditLeft h = length h.state.outstanding < h.state.grant
+
+-- all that may be written is written, unless a write failed
+abbrev pub IsDrained : CallEnd → RequesterSide → Type 0
+IsDrained end h = (end ≡ calls.LinkWrite) ⊎ (queue_of h.state ≡ [])
 
 -- bytes are written, and none read
 abbrev pub Writes : (taken taken' : Option (List ℕ)) (h h' : RequesterSide) → Type 0

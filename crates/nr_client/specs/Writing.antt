@@ -23,7 +23,7 @@ use Rattle.nr_reduce.specs.declared.call.Outcome.{Outcome}
 use Rattle.nr_requester.specs.RequesterState.{RequesterSide}
 use Rattle.nr_client.specs.declared.client_end.ClientEnd.{ClientEnd}
 use Rattle.nr_client.specs.declared.client_end.ClientEnd.TheVariants as client
-use Rattle.nr_client.specs.Following.{Follows, MakesCalls, Next}
+use Rattle.nr_client.specs.Following.{Follows, Next}
 use Rattle.nr_client.specs.Following.Next.{Calls, Returns}
 use Rattle.nr_client.specs.Listing.{no_progress}
 use Rattle.nr_client.specs.Reading.{post_op_attr_len, results_offset}
@@ -131,7 +131,7 @@ IsRead (Err (client.Budget count)) handed rest = input_max < length handed
 IsRead (Err end) handed rest = ⊤
 
 -- A file was written from an input: its calls were made in order, by all the bytes of the input, those that were read and the rest. Or the
--- input failed, after some of them.
+-- input failed, and no call was made.
 pub record WritesFile (uid gid : ℕ) (dir name : List ℕ) (b b' : LinkBytes) (h h' : RequesterSide) (left given left' given' : Option (List ℕ)) (result : Result (Unit {0}) ClientEnd) : Type 0 where
   pub handed : List ℕ
   pub rest : List ℕ
@@ -139,4 +139,4 @@ pub record WritesFile (uid gid : ℕ) (dir name : List ℕ) (b b' : LinkBytes) (
   pub is_rest : IfSome left' (λ known. rest ≡ known)
   pub is_read : IsRead result handed rest
   pub calls : Follows (writing uid gid dir name (handed ++ rest)) b b' h h' result
-      ⊎ ((result ≡ Err client.InputFault) × ((outcomes : List Outcome) × MakesCalls (writing uid gid dir name (handed ++ rest)) outcomes b b' h h'))
+      ⊎ ((result ≡ Err client.InputFault) × ((b' ≡ b) × (h' ≡ h)))

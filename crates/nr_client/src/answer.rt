@@ -13,7 +13,6 @@ use crate::client_end::ClientEnd;
 use crate::link::Link;
 use nr_outside::{Sink, Source};
 use nr_reduce::{Call, Outcome};
-use nr_requester::Done;
 use nr_xdr::Memory;
 
 /// Makes a call, if there was memory for it. Gives its outcome.
@@ -38,16 +37,8 @@ pub(crate) fn outcome_of<I: Source, O: Sink>(
         Ok(call) => call,
         Err(_) => return Err(ClientEnd::Memory),
     };
-    let done = match link.call(call) {
-        Ok(done) => done,
-        Err(end) => return Err(ClientEnd::Link(end)),
-    };
-    let Done {
-        call,
-        buffers,
-        outcome,
-    } = done;
-    drop(call);
-    drop(buffers);
-    Ok(outcome)
+    match link.call(call) {
+        Ok(outcome) => Ok(outcome),
+        Err(end) => Err(ClientEnd::Link(end)),
+    }
 }

@@ -7,6 +7,7 @@ ghost use Rattle.nr_reduce.specs.declared.call.Call.{Call};
 ghost use Rattle.nr_rpc.specs.Credential.{CanWriteCred};
 ghost use Rattle.nr_client.specs.Transfers.{link_bytes};
 
+use crate::answer::outcome_of;
 use crate::client_end::ClientEnd;
 use crate::link::Link;
 use crate::requests::mnt_call;
@@ -32,15 +33,11 @@ pub(crate) fn mount_over<I: Source, O: Sink>(
     ensures source_faults { SourceFaults result (I.faults link.old.source) (I.faults link.new.source) }
     ensures sink_faults { SinkFaults result (O.faults link.old.sink) (O.faults link.new.sink) }
 {
-    let call = match mnt_call(alloc, uid, gid, export) {
-        Ok(call) => call,
-        Err(_) => return Err(ClientEnd::Memory),
+    let outcome = match outcome_of(link, mnt_call(alloc, uid, gid, export)) {
+        Ok(outcome) => outcome,
+        Err(end) => return Err(end),
     };
-    let done = match link.call(call) {
-        Ok(done) => done,
-        Err(end) => return Err(ClientEnd::Link(end)),
-    };
-    handle_in(alloc, &done.outcome)
+    handle_in(alloc, &outcome)
 }
 
 /// A call of a procedure of NFS with these results, if there was memory for it.
@@ -58,13 +55,9 @@ pub(crate) fn ask_nfs<I: Source, O: Sink, D: Xdr, F: Xdr>(
     ensures source_faults { SourceFaults result (I.faults link.old.source) (I.faults link.new.source) }
     ensures sink_faults { SinkFaults result (O.faults link.old.sink) (O.faults link.new.sink) }
 {
-    let call = match call {
-        Ok(call) => call,
-        Err(_) => return Err(ClientEnd::Memory),
+    let outcome = match outcome_of(link, call) {
+        Ok(outcome) => outcome,
+        Err(end) => return Err(end),
     };
-    let done = match link.call(call) {
-        Ok(done) => done,
-        Err(end) => return Err(ClientEnd::Link(end)),
-    };
-    nfs_results::<D, F>(alloc, &done.outcome)
+    nfs_results::<D, F>(alloc, &outcome)
 }

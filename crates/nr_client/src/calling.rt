@@ -4,18 +4,20 @@ ghost use Rattle.std.specs.Prelude.{◌≡◌, ◌<◌, true, is_some, Some, len
 ghost use Rattle.nr_rpc.specs.Credential.{CanWriteCred};
 ghost use Rattle.nr_requester.specs.Fed.{fed_bytes};
 ghost use Rattle.nr_requester.specs.OpenCalls.{KeepsTickets, found_answer, open_call};
+ghost use Rattle.nr_requester.specs.RequesterState.{queue_of};
 ghost use Rattle.nr_client.specs.Calls.{Answers, Completes, Forgets, GivesUp, HandsOver, IsSent};
 ghost use Rattle.nr_client.specs.Ending.{HasCredit, IsCause, IsEndOf, LinkCause, SinkCount, SourceCount};
-ghost use Rattle.nr_client.specs.Steps.{Fits, GoesOn, GoesTo, LacksAnswer};
+ghost use Rattle.nr_client.specs.Steps.{Fits, GoesOn, GoesTo, HasCreditLeft, LacksAnswer, ReadsNone};
 ghost use Rattle.nr_client.specs.Transfers.{link_bytes};
 
 use crate::call_end::CallEnd;
-use crate::transfer::transfer;
+use crate::transfer::{transfer, write_due};
 use nr_outside::{Sink, Source};
-use nr_reduce::{Call, Form, Refused};
+use nr_reduce::{Call, Form, Outcome, Refused};
 use nr_requester::{Done, Requester, Take, Ticket};
 
-/// Writes and reads until a credit is left.
+/// Writes and reads until a credit is left, and writes what is due. If one is left at first, nothing is read. Fails if the client's side has
+/// ended.
 fn wait_for_credit<I: Source, O: Sink>(
     requester: &mut Requester,
     source: &mut I,
@@ -26,6 +28,10 @@ fn wait_for_credit<I: Source, O: Sink>(
     requires fits { Fits requester.old read.old (length buf.old) }
     ensures fits { Fits requester.new read.new (length buf.new) }
     ensures credit { OnOk result (length requester.new.state.outstanding < requester.new.state.grant) }
+    ensures started { OnOk result (requester.old.state.side.ended ≡ None) }
+    ensures drained { OnOk result (queue_of requester.new.state ≡ []) }
+    ensures at_once { HasCreditLeft requester.old → ReadsNone (link_bytes (I.left source.old) (I.given source.old) (O.taken sink.old) read.old)
+        (link_bytes (I.left source.new) (I.given source.new) (O.taken sink.new) read.new) }
     ensures ok { OnOk result (GoesOn (link_bytes (I.left source.old) (I.given source.old) (O.taken sink.old) read.old)
         (link_bytes (I.left source.new) (I.given source.new) (O.taken sink.new) read.new) requester.old requester.new) }
     ensures err { IfErr result (λ end. GoesTo end (link_bytes (I.left source.old) (I.given source.old) (O.taken sink.old) read.old)
@@ -40,7 +46,10 @@ fn wait_for_credit<I: Source, O: Sink>(
             Err(end) => return Err(end),
         }
     }
-    Ok(())
+    match write_due(requester, sink) {
+        Ok(()) => Ok(()),
+        Err(end) => Err(end),
+    }
 }
 
 /// Writes and reads until the answer to a call has come.
@@ -109,19 +118,26 @@ fn submit(requester: &mut Requester, call: Call) -> Result<Ticket, CallEnd>
     }
 }
 
-/// Takes the answer to a call, which has come.
-fn take_answer(requester: &mut Requester, ticket: Ticket) -> Done
+/// Takes the outcome of a call, whose answer has come.
+fn take_outcome(requester: &mut Requester, ticket: Ticket) -> Outcome
     requires there { is_some (found_answer ticket requester.old.state) ≡ true }
     requires open { is_some (open_call ticket requester.old.state) ≡ true }
-    ensures completes { HandsOver ticket result.outcome requester.old requester.new }
-    ensures call { open_call ticket requester.old.state ≡ Some result.call }
+    ensures completes { HandsOver ticket result requester.old requester.new }
     ensures fed { fed_bytes requester.new ≡ fed_bytes requester.old }
 {
-    match requester.try_take(ticket) {
+    let done = match requester.try_take(ticket) {
         Take::Done(done) => done,
         Take::NotYet(_) => unreachable!(),
         Take::Failed { .. } => unreachable!(),
-    }
+    };
+    let Done {
+        call,
+        buffers,
+        outcome,
+    } = done;
+    drop(call);
+    drop(buffers);
+    outcome
 }
 
 /// Waits for the answer to a call that was submitted. If there is none, the call is forgotten.
@@ -132,13 +148,12 @@ fn complete<I: Source, O: Sink>(
     read: &mut u64,
     buf: &mut [u8],
     ticket: Ticket,
-) -> Result<Done, CallEnd>
+) -> Result<Outcome, CallEnd>
     requires fits { Fits requester.old read.old (length buf.old) }
     requires open { is_some (open_call ticket requester.old.state) ≡ true }
     ensures fits { Fits requester.new read.new (length buf.new) }
-    ensures ok { IfOk result (λ done. Completes ticket done.outcome (link_bytes (I.left source.old) (I.given source.old) (O.taken sink.old) read.old)
+    ensures ok { IfOk result (λ outcome. Completes ticket outcome (link_bytes (I.left source.old) (I.given source.old) (O.taken sink.old) read.old)
         (link_bytes (I.left source.new) (I.given source.new) (O.taken sink.new) read.new) requester.old requester.new) }
-    ensures call { IfOk result (λ done. open_call ticket requester.old.state ≡ Some done.call) }
     ensures err { IfErr result (λ end. Forgets ticket end (link_bytes (I.left source.old) (I.given source.old) (O.taken sink.old) read.old)
         (link_bytes (I.left source.new) (I.given source.new) (O.taken sink.new) read.new) requester.old requester.new) }
     ensures cause { IfErr result (λ end. LinkCause end (I.left source.new) read.new requester.new) }
@@ -146,7 +161,7 @@ fn complete<I: Source, O: Sink>(
     ensures sink_count { SinkCount result (O.faults sink.old) (O.faults sink.new) }
 {
     match wait_for_answer(requester, source, sink, read, buf, &ticket) {
-        Ok(()) => Ok(take_answer(requester, ticket)),
+        Ok(()) => Ok(take_outcome(requester, ticket)),
         Err(end) => {
             requester.forget(ticket);
             Err(end)
@@ -162,13 +177,12 @@ pub(crate) fn call_over<I: Source, O: Sink>(
     read: &mut u64,
     buf: &mut [u8],
     call: Call,
-) -> Result<Done, CallEnd>
+) -> Result<Outcome, CallEnd>
     requires writable { CanWriteCred call.cred }
     requires fits { Fits requester.old read.old (length buf.old) }
     ensures fits { Fits requester.new read.new (length buf.new) }
-    ensures ok { IfOk result (λ done. Answers (link_bytes (I.left source.old) (I.given source.old) (O.taken sink.old) read.old)
-        (link_bytes (I.left source.new) (I.given source.new) (O.taken sink.new) read.new) requester.old requester.new call done.outcome) }
-    ensures call { IfOk result (λ done. done.call ≡ call) }
+    ensures ok { IfOk result (λ outcome. Answers (link_bytes (I.left source.old) (I.given source.old) (O.taken sink.old) read.old)
+        (link_bytes (I.left source.new) (I.given source.new) (O.taken sink.new) read.new) requester.old requester.new call outcome) }
     ensures err { IfErr result (λ end. GivesUp (link_bytes (I.left source.old) (I.given source.old) (O.taken sink.old) read.old)
         (link_bytes (I.left source.new) (I.given source.new) (O.taken sink.new) read.new) requester.old requester.new call end) }
     ensures cause { IfErr result (λ end. IsCause end (I.left source.new) read.new requester.new call) }
@@ -187,7 +201,7 @@ pub(crate) fn call_over<I: Source, O: Sink>(
         Err(end) => return Err(end),
     };
     match complete(requester, source, sink, read, buf, ticket) {
-        Ok(done) => Ok(done),
+        Ok(outcome) => Ok(outcome),
         Err(end) => Err(end),
     }
 }

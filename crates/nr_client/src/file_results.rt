@@ -2,19 +2,17 @@
 
 ghost use Rattle.std.specs.Prelude.{◌≡◌, ◌<◌, ◌≤◌, ◌^◌, false, length, IfErr, IfOk};
 ghost use Rattle.nr_client.specs.Reading.{post_op_attr_len, read_result, results_offset};
-ghost use Rattle.nr_client.specs.Results.{Gives, NotLink};
+ghost use Rattle.nr_client.specs.Results.{Gives, IsOfReply};
 ghost use Rattle.nr_client.specs.Writing.{created_file, wcc_data_len, write_result};
 
 use crate::client_end::ClientEnd;
+use crate::reasons::NO_PROGRESS;
 use crate::results::nfs_results;
 use nr_nfs_base::{Attributes, Handle, WccData};
 use nr_nfs_res::{CreateOk, ReadOk, WriteOk};
 use nr_reduce::Outcome;
 use nr_rpc::{ReplyHead, read_reply};
 use std::alloc::Global;
-
-/// The reason of a reply that gives nothing and no end, or more than was asked for, or no handle.
-const NO_PROGRESS: u32 = 25;
 
 /// The offset of the results in a reply, after its head; 0 if it has none.
 fn results_offset(outcome: &Outcome) -> usize
@@ -58,7 +56,7 @@ fn wcc_data_len(wcc: &WccData) -> usize
 /// The results of a READ of `count` bytes.
 pub(crate) fn read_in(alloc: Global, outcome: &Outcome, count: u32) -> Result<ReadOk, ClientEnd>
     ensures gives { Gives result (read_result count outcome.now) }
-    ensures no_link { IfErr result NotLink }
+    ensures of_reply { IfErr result IsOfReply }
     ensures within { IfOk result (λ r. length r.bytes ≤ count) }
     ensures sense { IfOk result (λ r. r.eof ≡ false → 0 < length r.bytes) }
 {
@@ -81,7 +79,7 @@ pub(crate) fn read_in(alloc: Global, outcome: &Outcome, count: u32) -> Result<Re
 /// The handle of the file, in the outcome of CREATE.
 pub(crate) fn created_in(alloc: Global, outcome: &Outcome) -> Result<Handle, ClientEnd>
     ensures gives { Gives result (created_file outcome.now) }
-    ensures no_link { IfErr result NotLink }
+    ensures of_reply { IfErr result IsOfReply }
 {
     match nfs_results::<CreateOk, WccData>(alloc, outcome) {
         Ok(
@@ -101,7 +99,7 @@ pub(crate) fn created_in(alloc: Global, outcome: &Outcome) -> Result<Handle, Cli
 /// How many bytes were written by a WRITE of `sent` bytes.
 pub(crate) fn written_in(alloc: Global, outcome: &Outcome, sent: u32) -> Result<u32, ClientEnd>
     ensures gives { Gives result (write_result sent outcome.now) }
-    ensures no_link { IfErr result NotLink }
+    ensures of_reply { IfErr result IsOfReply }
     ensures some { IfOk result (λ n. 0 < n) }
     ensures within { IfOk result (λ n. n ≤ sent) }
 {

@@ -14,6 +14,7 @@ mod listing;
 mod names;
 mod path;
 mod read_file;
+mod reasons;
 mod requests;
 mod results;
 mod session;

@@ -13,8 +13,8 @@ use crate::call_end::CallEnd;
 use crate::calling::call_over;
 use nr_links::PIECE_MAX;
 use nr_outside::{Sink, Source};
-use nr_reduce::Call;
-use nr_requester::{Done, Requester};
+use nr_reduce::{Call, Outcome};
+use nr_requester::Requester;
 use std::alloc::Global;
 use std::marker::Model;
 
@@ -67,12 +67,12 @@ impl<I: Source, O: Sink> Link<I, O> {
         })
     }
 
-    /// Makes a call in the form that fits it best, and waits for its answer. It is submitted once a credit is left.
-    pub fn call(&mut self, call: Call) -> Result<Done, CallEnd>
+    /// Makes a call in the form that fits it best, and waits for its outcome. It is submitted once a credit is left. All that is due is written
+    /// before each read.
+    pub fn call(&mut self, call: Call) -> Result<Outcome, CallEnd>
         requires { CanWriteCred call.cred }
-        ensures ok { IfOk result (λ done. Answers (link_bytes (I.left self.old.source) (I.given self.old.source) (O.taken self.old.sink) self.old.read)
-            (link_bytes (I.left self.new.source) (I.given self.new.source) (O.taken self.new.sink) self.new.read) self.old.requester self.new.requester call done.outcome) }
-        ensures call { IfOk result (λ done. done.call ≡ call) }
+        ensures ok { IfOk result (λ outcome. Answers (link_bytes (I.left self.old.source) (I.given self.old.source) (O.taken self.old.sink) self.old.read)
+            (link_bytes (I.left self.new.source) (I.given self.new.source) (O.taken self.new.sink) self.new.read) self.old.requester self.new.requester call outcome) }
         ensures err { IfErr result (λ end. GivesUp (link_bytes (I.left self.old.source) (I.given self.old.source) (O.taken self.old.sink) self.old.read)
             (link_bytes (I.left self.new.source) (I.given self.new.source) (O.taken self.new.sink) self.new.read) self.old.requester self.new.requester call end) }
         ensures cause { IfErr result (λ end. IsCause end (I.left self.new.source) self.new.read self.new.requester call) }

@@ -9,10 +9,12 @@ ghost use Rattle.nr_client.specs.Results.{Gives, KeepsCounts};
 ghost use Rattle.nr_client.specs.Transfers.{link_bytes};
 ghost use Rattle.nr_client.specs.private.Becomes.{becomes};
 
+use crate::answer::outcome_of;
 use crate::client_end::ClientEnd;
 use crate::limits::ENTRIES_MAX;
 use crate::link::Link;
 use crate::names::Names;
+use crate::reasons::NO_PROGRESS;
 use crate::requests::readdir_call;
 use crate::results::nfs_results;
 use nr_nfs_base::{Attributes, Handle, Name, Verifier};
@@ -21,9 +23,6 @@ use nr_outside::{Sink, Source};
 use nr_reduce::Outcome;
 use nr_xdr::Memory;
 use std::alloc::Global;
-
-/// The reason of a reply that has no entry and is not the last.
-const NO_PROGRESS: u32 = 25;
 
 /// What is listed of a directory so far.
 #[derive(Drop)]
@@ -122,12 +121,10 @@ fn list_more<I: Source, O: Sink>(
     ensures source_faults { SourceFaults result (I.faults link.old.source) (I.faults link.new.source) }
     ensures sink_faults { SinkFaults result (O.faults link.old.sink) (O.faults link.new.sink) }
 {
-    let Ok(call) = readdir_call(alloc, uid, gid, dir, listed.cookie, listed.verifier) else {
-        return Err(ClientEnd::Memory);
-    };
-    match link.call(call) {
-        Ok(done) => add_outcome(alloc, listed, &done.outcome),
-        Err(end) => Err(ClientEnd::Link(end)),
+    let call = readdir_call(alloc, uid, gid, dir, listed.cookie, listed.verifier);
+    match outcome_of(link, call) {
+        Ok(outcome) => add_outcome(alloc, listed, &outcome),
+        Err(end) => Err(end),
     }
 }
 

@@ -2,9 +2,10 @@
 
 ghost use Rattle.std.specs.Prelude.{◌≤◌, length, IfErr};
 ghost use Rattle.nr_client.specs.Requests.{mnt_result};
-ghost use Rattle.nr_client.specs.Results.{Gives, NotLink, mount_done, nfs_done, result_of_outcome, result_of_reply, results_in, results_or};
+ghost use Rattle.nr_client.specs.Results.{Gives, IsOfReply, mount_done, nfs_done, result_of_outcome, result_of_reply, results_in, results_or};
 
 use crate::client_end::{ClientEnd, RpcKind};
+use crate::reasons::NOT_READ;
 use nr_nfs_base::{Handle, MountStatus, StatusUnion, ValueFault, Xdr};
 use nr_nfs_res::MountOk;
 use nr_reduce::Outcome;
@@ -12,14 +13,11 @@ use nr_rpc::{HeadFault, ReplyHead, read_reply};
 use nr_xdr::Reader;
 use std::alloc::Global;
 
-/// The reason of a reply that can't be read.
-const NOT_READ: u32 = 24;
-
 /// Reads the results that begin at this offset of a reply.
 fn read_results<T: Xdr>(alloc: Global, payload: &[u8], at: usize) -> Result<T, ClientEnd>
     requires { at ≤ length payload.now }
     ensures gives { Gives result (results_or (results_in T.codec payload.now at)) }
-    ensures no_link { IfErr result NotLink }
+    ensures of_reply { IfErr result IsOfReply }
 {
     let _len = payload.len();
     let (_, rest) = payload.split_at(at);
@@ -44,7 +42,7 @@ fn read_results<T: Xdr>(alloc: Global, payload: &[u8], at: usize) -> Result<T, C
 /// Reads the results in a reply.
 fn results_of_reply<T: Xdr>(alloc: Global, payload: &[u8]) -> Result<T, ClientEnd>
     ensures gives { Gives result (result_of_reply T.codec payload.now) }
-    ensures no_link { IfErr result NotLink }
+    ensures of_reply { IfErr result IsOfReply }
 {
     match read_reply(payload) {
         Ok(
@@ -85,7 +83,7 @@ fn results_of_reply<T: Xdr>(alloc: Global, payload: &[u8]) -> Result<T, ClientEn
 /// Reads the results that an outcome has.
 pub(crate) fn results<T: Xdr>(alloc: Global, outcome: &Outcome) -> Result<T, ClientEnd>
     ensures gives { Gives result (result_of_outcome T.codec outcome.now) }
-    ensures no_link { IfErr result NotLink }
+    ensures of_reply { IfErr result IsOfReply }
 {
     match outcome {
         Outcome::Reply(payload) => results_of_reply(alloc, payload.as_slice()),
@@ -100,7 +98,7 @@ pub(crate) fn results<T: Xdr>(alloc: Global, outcome: &Outcome) -> Result<T, Cli
 /// Reads the results of an NFS procedure that an outcome has, if it succeeded.
 pub(crate) fn nfs_results<D: Xdr, F: Xdr>(alloc: Global, outcome: &Outcome) -> Result<D, ClientEnd>
     ensures gives { Gives result (nfs_done (result_of_outcome ⟦<StatusUnion<D, F> as Xdr>⟧.codec outcome.now)) }
-    ensures no_link { IfErr result NotLink }
+    ensures of_reply { IfErr result IsOfReply }
 {
     match results::<StatusUnion<D, F>>(alloc, outcome) {
         Ok(StatusUnion::Done(results)) => Ok(results),
@@ -115,7 +113,7 @@ pub(crate) fn mount_results<D: Xdr, F: Xdr>(
     outcome: &Outcome,
 ) -> Result<D, ClientEnd>
     ensures gives { Gives result (mount_done (result_of_outcome ⟦<StatusUnion<D, F, MountStatus> as Xdr>⟧.codec outcome.now)) }
-    ensures no_link { IfErr result NotLink }
+    ensures of_reply { IfErr result IsOfReply }
 {
     match results::<StatusUnion<D, F, MountStatus>>(alloc, outcome) {
         Ok(StatusUnion::Done(results)) => Ok(results),
@@ -127,7 +125,7 @@ pub(crate) fn mount_results<D: Xdr, F: Xdr>(
 /// Reads the handle that the outcome of MNT has.
 pub(crate) fn handle_in(alloc: Global, outcome: &Outcome) -> Result<Handle, ClientEnd>
     ensures gives { Gives result (mnt_result outcome.now) }
-    ensures no_link { IfErr result NotLink }
+    ensures of_reply { IfErr result IsOfReply }
 {
     match mount_results::<MountOk, ()>(alloc, outcome) {
         Ok(MountOk { handle, flavors }) => {

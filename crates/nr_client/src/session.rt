@@ -9,7 +9,8 @@ ghost use Rattle.nr_requester.specs.AfterCalls.{opened_as};
 ghost use Rattle.nr_requester.specs.Standing.{RequesterRepresents};
 ghost use Rattle.nr_client.specs.Following.{Follows};
 ghost use Rattle.nr_client.specs.Listing.{list_next};
-ghost use Rattle.nr_client.specs.Requests.{Asks, OpenFails, SinkFaults, SourceFaults, create_result, getattr_call, getattr_result, lookup_call, lookup_result, mkdir_call, mnt_call, mnt_result, readlink_call, readlink_result, remove_call, remove_result, symlink_call};
+ghost use Rattle.nr_client.specs.Dialing.{OpenFails, dialer_at};
+ghost use Rattle.nr_client.specs.Requests.{Asks, SinkFaults, SourceFaults, create_result, getattr_call, getattr_result, lookup_call, lookup_result, mkdir_call, mnt_call, mnt_result, readlink_call, readlink_result, remove_call, remove_result, symlink_call};
 ghost use Rattle.nr_client.specs.Reading.{InputFaults, OutputFaults, ReadsFile};
 ghost use Rattle.nr_client.specs.Transfers.{link_bytes};
 ghost use Rattle.nr_client.specs.Writing.{WritesFile};
@@ -58,7 +59,7 @@ impl<I, O> Model for Session<I, O> {
 }
 
 impl<I: Source, O: Sink> Session<I, O> {
-    /// A session of a user over a link to this address. `DialFault` if the dialer failed. If memory runs out, the link is hung up.
+    /// A session of a user over a link to this address. `DialFault` if the dialer failed. If memory runs out, the link is hung up as it was made.
     pub fn open<D: Dialer<Source = I, Sink = O>>(
         alloc: Global,
         dialer: &mut D,
@@ -71,7 +72,8 @@ impl<I: Source, O: Sink> Session<I, O> {
         ensures fresh { IfOk result (λ s. IsNewLink (I.given s.link.source) (O.taken s.link.sink) (I.faults s.link.source) (O.faults s.link.sink)) }
         ensures state { IfOk result (λ s. (s.link.requester ≡ opened_as 1 1 16 s.link.requester.staging) × ((s.link.read ≡ 0) × ((s.uid ≡ uid) × (s.gid ≡ gid)))) }
         ensures stands { IfOk result (λ s. (opened : LinkParameters) (link : ℕ) → opened.first_xid ≡ 1 → opened.first_stag ≡ 1 → opened.wished ≡ 16 → RequesterRepresents opened link s.link.requester []) }
-        ensures err { IfErr result (λ end. OpenFails end (D.faults dialer.old) (D.faults dialer.new)) }
+        ensures err { IfErr result (λ end. OpenFails end addr.now (dialer_at (D.asked dialer.old) (D.ended dialer.old) (D.lost dialer.old) (D.faults dialer.old))
+            (dialer_at (D.asked dialer.new) (D.ended dialer.new) (D.lost dialer.new) (D.faults dialer.new))) }
         ensures counted { OnOk result (D.faults dialer.new ≡ D.faults dialer.old) }
         ensures lost { OnOk result (D.lost dialer.new ≡ D.lost dialer.old) }
     {

@@ -9,10 +9,11 @@ ghost use Rattle.nr_wire.specs.declared.hello.Side.TheVariants.{Initiator};
 ghost use Rattle.nr_reduce.specs.declared.mark.Mark.TheVariants as marks;
 ghost use Rattle.nr_requester.specs.Fed.{fed_bytes};
 ghost use Rattle.nr_requester.specs.OpenCalls.{KeepsTickets, found_answer};
+ghost use Rattle.nr_requester.specs.RequesterState.{queue_of};
 ghost use Rattle.nr_requester.specs.Standing.{StandsOn};
 ghost use Rattle.nr_client.specs.declared.call_end.CallEnd.TheVariants as calls;
 ghost use Rattle.nr_client.specs.Ending.{LinkCause, SinkCount, SourceCount};
-ghost use Rattle.nr_client.specs.Steps.{AnswersNone, FeedsOut, Fits, GoesOn, GoesTo, Reads, ReadsTo, Writes};
+ghost use Rattle.nr_client.specs.Steps.{AnswersNone, FeedsOut, Fits, GoesOn, GoesTo, IsDrained, Reads, ReadsTo, Writes};
 ghost use Rattle.nr_client.specs.Transfers.{link_bytes};
 
 use crate::call_end::CallEnd;
@@ -40,6 +41,9 @@ fn read_part<I: Source>(source: &mut I, buf: &mut [u8], room: usize) -> Result<u
 /// Writes what is due. Fails if the write does, or if the client's side has ended, after that is written.
 fn write_due<O: Sink>(requester: &mut Requester, sink: &mut O) -> Result<(), CallEnd>
     ensures live { OnOk result (requester.new.state.side.ended ≡ None) }
+    ensures started { OnOk result (requester.old.state.side.ended ≡ None) }
+    ensures drained { MatchResult result (λ _. queue_of requester.new.state ≡ []) (λ end. IsDrained end requester.new) }
+    ensures credit { OnOk result ((length requester.new.state.outstanding ≡ length requester.old.state.outstanding) × (requester.new.state.grant ≡ requester.old.state.grant)) }
     ensures writes { Writes (O.taken sink.old) (O.taken sink.new) requester.old requester.new }
     ensures cause { IfErr result (λ end. (left : Option (List ℕ)) (read : ℕ) → LinkCause end left read requester.new) }
     ensures answers { (xid : ℕ) → found_answer xid requester.new.state ≡ found_answer xid requester.old.state }
@@ -84,6 +88,7 @@ fn read_piece<I: Source>(
     buf: &mut [u8],
 ) -> Result<(), CallEnd>
     requires live { requester.old.state.side.ended ≡ None }
+    requires drained { queue_of requester.old.state ≡ [] }
     requires fits { Fits requester.old read.old (length buf.old) }
     ensures fits { Fits requester.new read.new (length buf.new) }
     ensures more { OnOk result (read.old < read.new) }
@@ -125,6 +130,7 @@ pub(crate) fn transfer<I: Source, O: Sink>(
     requires fits { Fits requester.old read.old (length buf.old) }
     ensures fits { Fits requester.new read.new (length buf.new) }
     ensures more { OnOk result (read.old < read.new) }
+    ensures started { OnOk result (requester.old.state.side.ended ≡ None) }
     ensures ok { OnOk result (GoesOn (link_bytes (I.left source.old) (I.given source.old) (O.taken sink.old) read.old)
         (link_bytes (I.left source.new) (I.given source.new) (O.taken sink.new) read.new) requester.old requester.new) }
     ensures err { IfErr result (λ end. GoesTo end (link_bytes (I.left source.old) (I.given source.old) (O.taken sink.old) read.old)

@@ -23,7 +23,7 @@ use nr_outside::{INPUT_MAX, Sink, Source};
 use std::alloc::Global;
 
 /// The maximum number of bytes that one read of the input asks for.
-const CHUNK: usize = 4096;
+const INPUT_PIECE_MAX: usize = 4096;
 
 /// Reads an input to its end, or until more than the maximum came.
 fn read_input<N: Source>(input: &mut N, bytes: &mut Vec<u8>) -> Result<(), ClientEnd>
@@ -34,16 +34,16 @@ fn read_input<N: Source>(input: &mut N, bytes: &mut Vec<u8>) -> Result<(), Clien
     ensures faults { InputFaults result (N.faults input.old) (N.faults input.new) }
     ensures cause { IfErr result (λ end. (end ≡ client.InputFault) ⊎ (end ≡ client.Memory)) }
 {
-    let mut chunk = [0u8; CHUNK];
+    let mut piece = [0u8; INPUT_PIECE_MAX];
     while bytes.len() <= INPUT_MAX {
-        let n = match input.read(&mut chunk) {
+        let n = match input.read(&mut piece) {
             Ok(n) => n,
             Err(_) => return Err(ClientEnd::InputFault),
         };
         if n == 0 {
             return Ok(());
         }
-        match bytes.extend_from_slice(&chunk[..n]) {
+        match bytes.extend_from_slice(&piece[..n]) {
             Ok(()) => {}
             Err(_) => return Err(ClientEnd::Memory),
         }

@@ -2,7 +2,7 @@
 use Rattle.std.specs.Prelude.{◌≡◌, ℕ, List, [], Option, Result, Ok, Err}
 use Rattle.nr_outside.specs.Streams.{SinkAt, SourceAt, Writes, WritesSome}
 use Rattle.nr_links.specs.Asked.{Asks as AsksFor}
-use Rattle.nr_links.specs.Links.{CountsLost, EndsLink, IsNewLink, LinkLog, MakesLink, ended_link}
+use Rattle.nr_links.specs.Links.{CountsLost, EndsLink, IsNewLink, MakesLink, ended_link}
 use Rattle.nr_reduce.specs.declared.mark.LinkParameters.{LinkParameters}
 use Rattle.nr_requester.specs.AfterCalls.{opened_as}
 use Rattle.nr_requester.specs.Standing.{RequesterRepresents}
@@ -12,19 +12,9 @@ use Rattle.nr_words.specs.declared.commands.Action.TheVariants as actions
 use Rattle.nr_words.specs.declared.commands.Client.{Client}
 use Rattle.nr_client.specs.declared.client_end.ClientEnd.{ClientEnd}
 use Rattle.nr_client.specs.declared.client_end.ClientEnd.TheVariants as client
-use Rattle.nr_client.specs.Requests.{OpenFails}
+use Rattle.nr_client.specs.Dialing.{DialerAt, OpenFails}
 use Rattle.nr_commands.specs.Commands.{Gets, Lists, MakesDirectory, MakesSymlink, MountsAndPrints, Puts, ReadsLink, Removes, Stats}
 use Rattle.nr_commands.specs.Sessions.{Part, SessionAt}
-
--- what is known of a dialer: the addresses of its links, its links, and its counts
-pub record DialerAt : Type 0 where
-  pub asked : Option (List (List ℕ))
-  pub ended : Option LinkLog
-  pub lost : ℕ
-  pub faults : ℕ
-
-abbrev pub dialer_at : Option (List (List ℕ)) → Option LinkLog → (lost faults : ℕ) → DialerAt
-dialer_at asked ended lost faults = record { asked = asked; ended = ended; lost = lost; faults = faults }
 
 -- A session was opened over a new link to this address. Its requester has made no marks, and wishes for 16 credits.
 pub record Opens (addr : List ℕ) (before after : DialerAt) (s : SessionAt) : Type 0 where
@@ -73,6 +63,6 @@ pub record Prints (c : Client Text) (s s' : SessionAt) (input input' : SourceAt)
 
 -- A command was done, up to its result: no session was opened; or one was, its requests were made, and it was closed.
 pub data Runs (c : Client Text) (before after : DialerAt) (input input' : SourceAt) (out out' : SinkAt) (result : Result (Unit {0}) ClientEnd) : Type 0 where
-  NotOpened : (end : ClientEnd) → result ≡ Err end → OpenFails end before.faults after.faults → input' ≡ input → out' ≡ out → Runs c before after input input' out out' result
+  NotOpened : (end : ClientEnd) → result ≡ Err end → OpenFails end c.addr before after → input' ≡ input → out' ≡ out → Runs c before after input input' out out' result
   Opened : (dialed : DialerAt) → (s s' : SessionAt) → Opens c.addr before dialed s → Prints c s s' input input' out out' result → Closes s' dialed after →
       Runs c before after input input' out out' result

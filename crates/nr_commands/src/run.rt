@@ -2,7 +2,8 @@
 
 ghost use Rattle.nr_outside.specs.Streams.{sink_at, source_at};
 ghost use Rattle.nr_words.specs.Lines.{plain_action, plain_client};
-ghost use Rattle.nr_commands.specs.Running.{IsPrinted, Runs, dialer_at, text_of};
+ghost use Rattle.nr_client.specs.Dialing.{dialer_at};
+ghost use Rattle.nr_commands.specs.Running.{IsPrinted, Runs, text_of};
 ghost use Rattle.nr_commands.specs.Sessions.{session_at};
 
 use crate::files::{get, put};

@@ -10,7 +10,8 @@ use Rattle.nr_client.specs.declared.call_end.CallEnd.TheVariants as calls
 use Rattle.nr_client.specs.declared.client_end.ClientEnd.{ClientEnd}
 use Rattle.nr_client.specs.declared.client_end.ClientEnd.TheVariants as client
 use Rattle.nr_commands.specs.Endings.{end_text}
-use Rattle.nr_commands.specs.Running.{DialerAt, Runs}
+use Rattle.nr_client.specs.Dialing.{DialerAt}
+use Rattle.nr_commands.specs.Running.{Runs}
 use Rattle.nr_top.specs.Ends.{Reported, memory_text}
 use Rattle.nr_top.specs.Statuses as statuses
 

@@ -5,7 +5,7 @@ use Rattle.nr_outside.specs.declared.moment.Moment.{Moment}
 use Rattle.nr_words.specs.Lines.{Text}
 use Rattle.nr_words.specs.declared.commands.Command.{Command}
 use Rattle.nr_words.specs.declared.commands.Command.TheVariants as commands
-use Rattle.nr_commands.specs.Running.{DialerAt}
+use Rattle.nr_client.specs.Dialing.{DialerAt}
 use Rattle.nr_serve.specs.Serving.{AcceptorAt}
 use Rattle.nr_top.specs.Clients.{ClientEnds}
 use Rattle.nr_top.specs.Ends.{Ends}

@@ -3,7 +3,7 @@
 ghost use Rattle.std.specs.Prelude.{◌≡◌};
 ghost use Rattle.nr_outside.specs.Streams.{sink_at, source_at};
 ghost use Rattle.nr_words.specs.Lines.{plain_client};
-ghost use Rattle.nr_commands.specs.Running.{dialer_at};
+ghost use Rattle.nr_client.specs.Dialing.{dialer_at};
 ghost use Rattle.nr_top.specs.Clients.{ClientEnds, ReportsEnd, call_status, link_status, status_of};
 
 use crate::command::write_error;

@@ -4,7 +4,7 @@ ghost use Rattle.std.specs.Prelude.{map};
 ghost use Rattle.std.specs.String.{string_bytes};
 ghost use Rattle.nr_outside.specs.Streams.{source_at, sink_at};
 ghost use Rattle.nr_words.specs.Lines.{line_of};
-ghost use Rattle.nr_commands.specs.Running.{dialer_at};
+ghost use Rattle.nr_client.specs.Dialing.{dialer_at};
 ghost use Rattle.nr_serve.specs.Serving.{acceptor_at};
 ghost use Rattle.nr_top.specs.RunEnds.{RunEnds, outside};
 

@@ -12,7 +12,7 @@ returns-in-Err-call-clause-err g c asked is =
     given_up_as c.in-Ok.call asked c.in-Err-call.end (link_bytes (g.I.Source.left c.args.link.now.source) (g.I.Source.given c.args.link.now.source) (g.O.Sink.taken c.args.link.now.sink) c.args.link.now.read) (link_bytes (g.I.Source.left c.call.new.self.source) (g.I.Source.given c.call.new.self.source) (g.O.Sink.taken c.call.new.self.sink) c.call.new.self.read)
     c.args.link.now.requester c.call.new.self.requester (same_asked c.in-Ok.call asked c.in-Ok.is is) c.in-Err-call.ensures.err c.in-Err-call.ensures.cause
 
-pub returns-clause-ok : goal.returns-clause-ok
-returns-clause-ok g c asked is =
-    answered_as c.in-Ok.call asked c.in-Ok-call.done.outcome (link_bytes (g.I.Source.left c.args.link.now.source) (g.I.Source.given c.args.link.now.source) (g.O.Sink.taken c.args.link.now.sink) c.args.link.now.read) (link_bytes (g.I.Source.left c.call.new.self.source) (g.I.Source.given c.call.new.self.source) (g.O.Sink.taken c.call.new.self.sink) c.call.new.self.read)
+pub returns-in-Ok-call-clause-ok : goal.returns-in-Ok-call-clause-ok
+returns-in-Ok-call-clause-ok g c asked is =
+    answered_as c.in-Ok.call asked c.in-Ok-call.outcome (link_bytes (g.I.Source.left c.args.link.now.source) (g.I.Source.given c.args.link.now.source) (g.O.Sink.taken c.args.link.now.sink) c.args.link.now.read) (link_bytes (g.I.Source.left c.call.new.self.source) (g.I.Source.given c.call.new.self.source) (g.O.Sink.taken c.call.new.self.sink) c.call.new.self.read)
     c.args.link.now.requester c.call.new.self.requester (same_asked c.in-Ok.call asked c.in-Ok.is is) c.in-Ok-call.ensures.ok

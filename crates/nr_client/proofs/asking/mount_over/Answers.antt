@@ -1,30 +1,28 @@
+use Rattle.std.proofs.Common.{ℕ, List}
+use Rattle.nr_nfs_base.specs.Procedures.{mount_program, mount_version}
 use Rattle.nr_client.specs.Requests.{mnt_call, mnt_result}
 use Rattle.nr_client.specs.Transfers.{link_bytes}
-use Rattle.nr_client.proofs.Outcomes.{asks_answered, asks_given_up, asks_out, no_sink_fault, no_source_fault}
+use Rattle.nr_client.proofs.CallsMade.{asks_by_answer, asks_by_end}
+use Rattle.nr_client.proofs.Outcomes.{no_sink_fault, no_source_fault, writable}
 use Rattle.nr_client.proofs.asking.mount_over.Goals as goal
+
+pub outcome_of-requires : goal.outcome_of-requires
+outcome_of-requires g c = writable c.mnt_call.result mount_program mount_version 1 c.args.uid c.args.gid _ c.mnt_call.ensures
 
 pub returns-in-Err-clause-asks : goal.returns-in-Err-clause-asks
 returns-in-Err-clause-asks g c =
-    asks_out mnt_result (mnt_call c.args.uid c.args.gid c.args.export.now)
-    (link_bytes (g.I.Source.left c.args.link.now.source) (g.I.Source.given c.args.link.now.source) (g.O.Sink.taken c.args.link.now.sink) c.args.link.now.read)
-    c.args.link.now.requester
-
-pub returns-in-Err-call-clause-asks : goal.returns-in-Err-call-clause-asks
-returns-in-Err-call-clause-asks g c =
-    asks_given_up mnt_result c.in-Ok.call (mnt_call c.args.uid c.args.gid c.args.export.now) c.in-Err-call.end
-    (link_bytes (g.I.Source.left c.args.link.now.source) (g.I.Source.given c.args.link.now.source) (g.O.Sink.taken c.args.link.now.sink) c.args.link.now.read)
-    (link_bytes (g.I.Source.left c.call.new.self.source) (g.I.Source.given c.call.new.self.source) (g.O.Sink.taken c.call.new.self.sink) c.call.new.self.read)
-    c.args.link.now.requester c.call.new.self.requester c.in-Ok.ensures c.in-Err-call.ensures.err c.in-Err-call.ensures.cause
+    asks_by_end (List ℕ) mnt_result (mnt_call c.args.uid c.args.gid c.args.export.now) (link_bytes (g.I.Source.left c.args.link.now.source) (g.I.Source.given c.args.link.now.source) (g.O.Sink.taken c.args.link.now.sink) c.args.link.now.read)
+    (link_bytes (g.I.Source.left c.outcome_of.new.link.source) (g.I.Source.given c.outcome_of.new.link.source) (g.O.Sink.taken c.outcome_of.new.link.sink) c.outcome_of.new.link.read)
+    c.args.link.now.requester c.outcome_of.new.link.requester c.in-Err.end (c.in-Err.ensures.err _ c.mnt_call.ensures)
 
 pub returns-clause-asks : goal.returns-clause-asks
 returns-clause-asks g c =
-    asks_answered mnt_result c.in-Ok.call (mnt_call c.args.uid c.args.gid c.args.export.now) c.in-Ok-call.done.outcome
-    (link_bytes (g.I.Source.left c.args.link.now.source) (g.I.Source.given c.args.link.now.source) (g.O.Sink.taken c.args.link.now.sink) c.args.link.now.read)
-    (link_bytes (g.I.Source.left c.call.new.self.source) (g.I.Source.given c.call.new.self.source) (g.O.Sink.taken c.call.new.self.sink) c.call.new.self.read)
-    c.args.link.now.requester c.call.new.self.requester c.handle_in.result c.in-Ok.ensures c.in-Ok-call.ensures.ok c.handle_in.ensures.gives
+    asks_by_answer mnt_result (mnt_call c.args.uid c.args.gid c.args.export.now) (link_bytes (g.I.Source.left c.args.link.now.source) (g.I.Source.given c.args.link.now.source) (g.O.Sink.taken c.args.link.now.sink) c.args.link.now.read)
+    (link_bytes (g.I.Source.left c.outcome_of.new.link.source) (g.I.Source.given c.outcome_of.new.link.source) (g.O.Sink.taken c.outcome_of.new.link.sink) c.outcome_of.new.link.read)
+    c.args.link.now.requester c.outcome_of.new.link.requester c.in-Ok.outcome c.handle_in.result (c.in-Ok.ensures.ok _ c.mnt_call.ensures) c.handle_in.ensures.gives
 
 pub returns-clause-source_faults : goal.returns-clause-source_faults
-returns-clause-source_faults g c = no_source_fault c.handle_in.result (g.I.Source.faults c.args.link.now.source) (g.I.Source.faults c.call.new.self.source) c.handle_in.ensures.no_link c.in-Ok-call.ensures.source_count
+returns-clause-source_faults g c = no_source_fault c.handle_in.result (g.I.Source.faults c.args.link.now.source) (g.I.Source.faults c.outcome_of.new.link.source) c.handle_in.ensures.of_reply c.in-Ok.ensures.source_faults
 
 pub returns-clause-sink_faults : goal.returns-clause-sink_faults
-returns-clause-sink_faults g c = no_sink_fault c.handle_in.result (g.O.Sink.faults c.args.link.now.sink) (g.O.Sink.faults c.call.new.self.sink) c.handle_in.ensures.no_link c.in-Ok-call.ensures.sink_count
+returns-clause-sink_faults g c = no_sink_fault c.handle_in.result (g.O.Sink.faults c.args.link.now.sink) (g.O.Sink.faults c.outcome_of.new.link.sink) c.handle_in.ensures.of_reply c.in-Ok.ensures.sink_faults

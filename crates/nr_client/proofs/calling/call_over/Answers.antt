@@ -1,6 +1,6 @@
 use Rattle.std.proofs.Common.{is_some, ap, sym, ◌∙◌}
 use Rattle.nr_client.specs.Transfers.{link_bytes}
-use Rattle.nr_client.proofs.Answering.{answers, gives_up, not_sent, refused, same_call}
+use Rattle.nr_client.proofs.Answering.{answers, gives_up, not_sent, refused}
 use Rattle.nr_client.proofs.Refusals.{link_cause}
 use Rattle.nr_client.proofs.Turns.{same_source, same_sink}
 use Rattle.nr_client.proofs.calling.call_over.Goals as goal
@@ -13,29 +13,26 @@ returns-in-Err-clause-err g c =
     not_sent c.args.call c.in-Err.end
     (link_bytes (g.I.Source.left c.args.source.now) (g.I.Source.given c.args.source.now) (g.O.Sink.taken c.args.sink.now) c.args.read.now)
     (link_bytes (g.I.Source.left c.wait_for_credit.new.source) (g.I.Source.given c.wait_for_credit.new.source) (g.O.Sink.taken c.wait_for_credit.new.sink) c.wait_for_credit.new.read)
-    c.args.requester.now c.wait_for_credit.new.requester c.in-Err.ensures.err
+    c.args.requester.now c.wait_for_credit.new.requester c.in-Err.ensures.err c.wait_for_credit.ensures.at_once
 
 pub returns-in-Err-submit-clause-err : goal.returns-in-Err-submit-clause-err
 returns-in-Err-submit-clause-err g c =
     refused c.args.call c.in-Err-submit.end
     (link_bytes (g.I.Source.left c.args.source.now) (g.I.Source.given c.args.source.now) (g.O.Sink.taken c.args.sink.now) c.args.read.now)
     (link_bytes (g.I.Source.left c.wait_for_credit.new.source) (g.I.Source.given c.wait_for_credit.new.source) (g.O.Sink.taken c.wait_for_credit.new.sink) c.wait_for_credit.new.read)
-    c.args.requester.now c.wait_for_credit.new.requester c.submit.new.requester c.in-Err-submit.ensures.err c.in-Ok.ensures.ok
+    c.args.requester.now c.wait_for_credit.new.requester c.submit.new.requester c.in-Err-submit.ensures.err c.in-Ok.ensures.drained c.wait_for_credit.ensures.at_once c.in-Ok.ensures.ok
 
 pub complete-requires-clause-open : goal.complete-requires-clause-open
 complete-requires-clause-open g c = ap is_some c.in-Ok-submit.ensures.open
 
 pub returns-in-Ok-complete-clause-ok : goal.returns-in-Ok-complete-clause-ok
 returns-in-Ok-complete-clause-ok g c =
-    answers c.args.call c.in-Ok-submit.ticket c.in-Ok-complete.done.outcome
+    answers c.args.call c.in-Ok-submit.ticket c.in-Ok-complete.outcome
     (link_bytes (g.I.Source.left c.args.source.now) (g.I.Source.given c.args.source.now) (g.O.Sink.taken c.args.sink.now) c.args.read.now)
     (link_bytes (g.I.Source.left c.wait_for_credit.new.source) (g.I.Source.given c.wait_for_credit.new.source) (g.O.Sink.taken c.wait_for_credit.new.sink) c.wait_for_credit.new.read)
     (link_bytes (g.I.Source.left c.complete.new.source) (g.I.Source.given c.complete.new.source) (g.O.Sink.taken c.complete.new.sink) c.complete.new.read)
     c.args.requester.now c.wait_for_credit.new.requester c.submit.new.requester c.complete.new.requester c.requires.writable
-    c.in-Ok.ensures.ok c.in-Ok-submit.ensures.sent c.in-Ok-complete.ensures.ok
-
-pub returns-in-Ok-complete-clause-call : goal.returns-in-Ok-complete-clause-call
-returns-in-Ok-complete-clause-call g c = same_call (sym c.in-Ok-complete.ensures.call ∙ c.in-Ok-submit.ensures.open)
+    c.in-Ok.ensures.started c.wait_for_credit.ensures.at_once c.in-Ok.ensures.ok c.in-Ok-submit.ensures.sent c.in-Ok-complete.ensures.ok
 
 pub returns-in-Err-complete-clause-err : goal.returns-in-Err-complete-clause-err
 returns-in-Err-complete-clause-err g c =
@@ -44,7 +41,7 @@ returns-in-Err-complete-clause-err g c =
     (link_bytes (g.I.Source.left c.wait_for_credit.new.source) (g.I.Source.given c.wait_for_credit.new.source) (g.O.Sink.taken c.wait_for_credit.new.sink) c.wait_for_credit.new.read)
     (link_bytes (g.I.Source.left c.complete.new.source) (g.I.Source.given c.complete.new.source) (g.O.Sink.taken c.complete.new.sink) c.complete.new.read)
     c.args.requester.now c.wait_for_credit.new.requester c.submit.new.requester c.complete.new.requester c.requires.writable
-    c.in-Ok.ensures.ok c.in-Ok-submit.ensures.sent c.in-Err-complete.ensures.err
+    c.wait_for_credit.ensures.at_once c.in-Ok.ensures.ok c.in-Ok-submit.ensures.sent c.in-Err-complete.ensures.err c.in-Err-complete.ensures.cause
 
 pub returns-in-Err-complete-clause-cause : goal.returns-in-Err-complete-clause-cause
 returns-in-Err-complete-clause-cause g c = link_cause c.complete.new.requester c.args.call c.in-Err-complete.end (g.I.Source.left c.complete.new.source) c.complete.new.read c.in-Err-complete.ensures.cause

@@ -3,18 +3,15 @@ use Rattle.nr_client.specs.Transfers.{link_bytes}
 use Rattle.nr_client.proofs.Answering.{completes, forgets, still_caused}
 use Rattle.nr_client.proofs.calling.complete.Goals as goal
 
-pub take_answer-requires-clause-open : goal.take_answer-requires-clause-open
-take_answer-requires-clause-open g c = ap is_some (c.in-Ok.ensures.tickets c.args.ticket) ∙ c.requires.open
+pub take_outcome-requires-clause-open : goal.take_outcome-requires-clause-open
+take_outcome-requires-clause-open g c = ap is_some (c.in-Ok.ensures.tickets c.args.ticket) ∙ c.requires.open
 
 pub returns-in-Ok-clause-ok : goal.returns-in-Ok-clause-ok
 returns-in-Ok-clause-ok g c =
-    completes c.args.ticket c.take_answer.result.outcome
+    completes c.args.ticket c.take_outcome.result
     (link_bytes (g.I.Source.left c.args.source.now) (g.I.Source.given c.args.source.now) (g.O.Sink.taken c.args.sink.now) c.args.read.now)
     (link_bytes (g.I.Source.left c.wait_for_answer.new.source) (g.I.Source.given c.wait_for_answer.new.source) (g.O.Sink.taken c.wait_for_answer.new.sink) c.wait_for_answer.new.read)
-    c.args.requester.now c.wait_for_answer.new.requester c.take_answer.new.requester c.in-Ok.ensures.ok c.take_answer.ensures.completes
-
-pub returns-in-Ok-clause-call : goal.returns-in-Ok-clause-call
-returns-in-Ok-clause-call g c = sym (c.in-Ok.ensures.tickets c.args.ticket) ∙ c.take_answer.ensures.call
+    c.args.requester.now c.wait_for_answer.new.requester c.take_outcome.new.requester c.in-Ok.ensures.ok c.take_outcome.ensures.completes
 
 pub returns-in-Err-clause-err : goal.returns-in-Err-clause-err
 returns-in-Err-clause-err g c =

@@ -8,7 +8,7 @@ pub returns-in-Err-clause-err : goal.returns-in-Err-clause-err
 returns-in-Err-clause-err g c =
     ends_there _ (link_bytes (g.I.Source.left c.args.source.now) (g.I.Source.given c.args.source.now) (g.O.Sink.taken c.args.sink.now) c.args.read.now)
     (link_bytes (g.I.Source.left c.args.source.now) (g.I.Source.given c.args.source.now) (g.O.Sink.taken c.write_due.new.sink) c.args.read.now)
-    c.args.requester.now c.write_due.new.requester
+    c.args.requester.now c.write_due.new.requester c.in-Err.ensures.drained
     (c.in-Err.ensures.writes (g.I.Source.left c.args.source.now) (g.I.Source.given c.args.source.now) c.args.read.now)
 
 pub returns-in-Ok-read_piece-clause-ok : goal.returns-in-Ok-read_piece-clause-ok

@@ -1,5 +1,5 @@
-use Rattle.std.proofs.Common.{sym}
-use Rattle.nr_client.proofs.Turns.{writes}
+use Rattle.std.proofs.Common.{refl, sym, inl, inr, ◌∙◌}
+use Rattle.nr_client.proofs.Turns.{drained_all, drained_credit, drained_end, writes}
 use Rattle.nr_client.proofs.Unanswered.{drain_answers}
 use Rattle.nr_client.proofs.transfer.write_due.Goals as goal
 
@@ -35,3 +35,26 @@ pub returns-in-Some-clause-answers : goal.returns-in-Some-clause-answers
 returns-in-Some-clause-answers g c xid =
     let (n, within, takes, is, on, out, all) = c.in-Ok.ensures.taken in
     drain_answers xid n c.args.requester.now c.drain_into.new.self is
+
+pub returns-in-Err-clause-drained : goal.returns-in-Err-clause-drained
+returns-in-Err-clause-drained g c = inl refl
+
+pub returns-in-None-clause-drained : goal.returns-in-None-clause-drained
+returns-in-None-clause-drained g c =
+    let (n, within, takes, is, on, out, all) = c.in-Ok.ensures.taken in
+    drained_all c.args.requester.now c.drain_into.new.self n is all
+
+pub returns-in-Some-clause-drained : goal.returns-in-Some-clause-drained
+returns-in-Some-clause-drained g c =
+    let (n, within, takes, is, on, out, all) = c.in-Ok.ensures.taken in
+    inr (drained_all c.args.requester.now c.drain_into.new.self n is all)
+
+pub returns-in-None-clause-started : goal.returns-in-None-clause-started
+returns-in-None-clause-started g c =
+    let (n, within, takes, is, on, out, all) = c.in-Ok.ensures.taken in
+    drained_end c.args.requester.now c.drain_into.new.self n is ∙ sym c.in-None.ensures
+
+pub returns-in-None-clause-credit : goal.returns-in-None-clause-credit
+returns-in-None-clause-credit g c =
+    let (n, within, takes, is, on, out, all) = c.in-Ok.ensures.taken in
+    drained_credit c.args.requester.now c.drain_into.new.self n is

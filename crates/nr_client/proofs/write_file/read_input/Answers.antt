@@ -4,16 +4,16 @@ use Rattle.nr_outside.proofs.Moves.{HandsOut_append, HandsOut_nil}
 use Rattle.nr_client.proofs.FileWriting.{hands_kept}
 use Rattle.nr_client.proofs.write_file.read_input.Goals as goal
 
-pub loop-chunk-init : goal.loop-chunk-init
-loop-chunk-init g c =
+pub loop-piece-init : goal.loop-piece-init
+loop-piece-init g c =
     let left = g.N.Source.left c.args.input.now in
     let given = g.N.Source.given c.args.input.now in
     (subst (λ (l : List ℕ). HandsOut left given left given l) (sym c.requires) (HandsOut_nil left given), refl)
 
 pub returns-in-Err-clause-err : goal.returns-in-Err-clause-err
 returns-in-Err-clause-err g c =
-    (c.loop-chunk.bytes.items, hands_kept _ _ _ _ _ _ c.loop-chunk.bytes.items c.loop-chunk.invariant.0 c.in-Err.ensures.err_left c.in-Err.ensures.err_given)
+    (c.loop-piece.bytes.items, hands_kept _ _ _ _ _ _ c.loop-piece.bytes.items c.loop-piece.invariant.0 c.in-Err.ensures.err_left c.in-Err.ensures.err_given)
 
 pub returns-in-Err-extend_from_slice-clause-err : goal.returns-in-Err-extend_from_slice-clause-err
 returns-in-Err-extend_from_slice-clause-err g c =
-    (c.loop-chunk.bytes.items ++ take c.in-Ok.n c.read.new.buf, HandsOut_append _ _ _ _ _ _ c.loop-chunk.bytes.items _ c.loop-chunk.invariant.0 c.in-Ok.ensures.handed)
+    (c.loop-piece.bytes.items ++ take c.in-Ok.n c.read.new.buf, HandsOut_append _ _ _ _ _ _ c.loop-piece.bytes.items _ c.loop-piece.invariant.0 c.in-Ok.ensures.handed)

@@ -1,7 +1,8 @@
 use Rattle.std.proofs.Common.{ℕ, refl}
 use Rattle.nr_outside.specs.Streams.{sink_at, source_at}
 use Rattle.nr_words.specs.Lines.{plain_action}
-use Rattle.nr_commands.specs.Running.{dialer_at, text_of}
+use Rattle.nr_client.specs.Dialing.{dialer_at}
+use Rattle.nr_commands.specs.Running.{text_of}
 use Rattle.nr_commands.specs.Running.Runs.{NotOpened, Opened}
 use Rattle.nr_commands.specs.Sessions.{session_at}
 use Rattle.nr_commands.proofs.Parts.{with_user}

@@ -2,7 +2,8 @@ use Rattle.std.proofs.Common.{ℕ, Result, refl, subst}
 use Rattle.nr_outside.specs.Streams.{sink_at, source_at}
 use Rattle.nr_words.specs.Lines.{plain_client}
 use Rattle.nr_client.specs.declared.client_end.ClientEnd.{ClientEnd}
-use Rattle.nr_commands.specs.Running.{Runs, dialer_at}
+use Rattle.nr_client.specs.Dialing.{dialer_at}
+use Rattle.nr_commands.specs.Running.{Runs}
 use Rattle.nr_top.specs.Clients.ClientEnds.{Done, NotDone}
 use Rattle.nr_top.proofs.client.run_client.Goals as goal
 

@@ -6,7 +6,7 @@ use Rattle.nr_outside.specs.Streams.{source_at, sink_at}
 use Rattle.nr_words.specs.Lines.{Text, line_of, plain_client, plain_command}
 use Rattle.nr_words.specs.declared.commands.Command.{Command}
 use Rattle.nr_words.specs.declared.commands.Command.TheVariants as commands
-use Rattle.nr_commands.specs.Running.{dialer_at}
+use Rattle.nr_client.specs.Dialing.{dialer_at}
 use Rattle.nr_serve.specs.Serving.{acceptor_at}
 use Rattle.nr_top.specs.RunEnds.{outside}
 use Rattle.nr_top.proofs.Lines.{client_ends, drill_ends, generated_ends, no_line_ends, serve_ends}

@@ -1,5 +1,5 @@
 use Rattle.nr_client.proofs.Answering.{hands_over, lacks_answer}
-use Rattle.nr_client.proofs.calling.take_answer.Goals as goal
+use Rattle.nr_client.proofs.calling.take_outcome.Goals as goal
 
 pub unreachable-requires : goal.unreachable-requires
 unreachable-requires c = lacks_answer c.args.ticket c.args.requester.now.state c.requires.there c.in-NotYet.ensures.taken.1.0
@@ -9,6 +9,3 @@ unreachable-requires-in-Failed c = lacks_answer c.args.ticket c.args.requester.n
 
 pub returns-clause-completes : goal.returns-clause-completes
 returns-clause-completes c = hands_over c.args.ticket c.args.requester.now c.try_take.new.self _ c.in-Done.ensures.taken.0 c.in-Done.ensures.stands.0
-
-pub returns-clause-call : goal.returns-clause-call
-returns-clause-call c = c.in-Done.ensures.taken.1.0
