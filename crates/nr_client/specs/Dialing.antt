@@ -1,4 +1,4 @@
--- What a dialer did for a session that was not opened.
+-- What a dialer did if no session was opened.
 use Rattle.std.specs.Prelude.{◌≡◌, ⊥, ℕ, List, Option}
 use Rattle.nr_outside.specs.Faults.{Rises}
 use Rattle.nr_links.specs.Asked.{Asks}
