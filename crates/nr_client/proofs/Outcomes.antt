@@ -2,6 +2,7 @@
 use Rattle.std.proofs.Common.{◌≡◌, ℕ, ◌≤◌, List, length, Result, Ok, Err, IfErr, IfOk, inl, inr, arith, refl, sym, ap, subst}
 use Rattle.std.proofs.lemmas.List.{length-append}
 use Rattle.nr_xdr.specs.declared.fault.Memory.{Memory}
+use Rattle.nr_rpc.specs.Constants.{GIDS_MAX, MACHINE_MAX}
 use Rattle.nr_rpc.specs.Credential.{CanWriteCred}
 use Rattle.nr_rpc.specs.Reply.{BeginsReply}
 use Rattle.nr_rpc.specs.declared.head.ReplyHead.{ReplyHead}
@@ -61,10 +62,10 @@ same_asked call asked is same = subst (λ (r : Result Call Memory). IfOk r (λ c
 pub writable : (given : Result Call Memory) (prog vers proc uid gid : ℕ) (args : List ℕ) → IfOk given (λ c. c ≡ client_call prog vers proc uid gid args) → IfOk given (λ c. CanWriteCred c.cred)
 writable (Ok call) prog vers proc uid gid args same = subst (λ (c : Call). CanWriteCred c.cred) (sym same) (machine_fits, none_fit)
   where
-    machine_fits : length machine ≤ 255
+    machine_fits : length machine ≤ MACHINE_MAX
     machine_fits = omega arith
 
-    none_fit : 0 ≤ 16
+    none_fit : 0 ≤ GIDS_MAX
     none_fit = omega arith
 writable (Err memory) prog vers proc uid gid args same = tt
 

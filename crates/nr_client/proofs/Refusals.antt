@@ -113,7 +113,7 @@ link_cause h call (calls.TooLarge need room) left read cause = absurd cause
 link_cause h call (calls.Budget count) left read cause = cause
 link_cause h call calls.Memory left read cause = absurd cause
 
--- ---- What is no want of memory
+-- ---- Ends other than out of memory
 
 abbrev NotOut : {A : Type 0} → Result A End → Type 0
 NotOut (Err ends.Memory) = ⊥

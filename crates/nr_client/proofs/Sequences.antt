@@ -123,6 +123,6 @@ ends_there {A} {B} request call reads next end b c h i first later (inr (inr (is
 
 -- ---- What is left of a request
 
--- However what is left of a request ends, the request as a whole ends so.
+-- However what is left of a request ends, the complete request ends so.
 abbrev pub LeadsTo : {A : Type 0} → (whole : List Outcome → Next A) (b : LinkBytes) (h : RequesterSide) (rest : List Outcome → Next A) (c : LinkBytes) (i : RequesterSide) → Type 0
 LeadsTo {A} whole b h rest c i = (d : LinkBytes) (j : RequesterSide) (result : Result A ClientEnd) → Follows rest c d i j result → Follows whole b d h j result

@@ -16,6 +16,10 @@ pub record DialerAt : Type 0 where
 abbrev pub dialer_at : Option (List (List ℕ)) → Option LinkLog → (lost faults : ℕ) → DialerAt
 dialer_at asked ended lost faults = record { asked = asked; ended = ended; lost = lost; faults = faults }
 
+-- how many credits a session wishes for
+abbrev pub session_credits : ℕ
+session_credits = 16
+
 -- It failed: it made no link.
 pub record MakesNone (before after : DialerAt) : Type 0 where
   pub asked : after.asked ≡ before.asked

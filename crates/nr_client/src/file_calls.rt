@@ -10,21 +10,21 @@ ghost use Rattle.nr_client.specs.Writing.{create_call, new_file, write_call};
 use crate::requests::client_call;
 use nr_nfs_args::{CreateArgs, CreateHow, ReadArgs};
 use nr_nfs_base::{
-    Handle, NFS_PROGRAM, NFS_VERSION, Name, SetAttributes, SetTime, StableHow, UNLIMITED, Xdr,
-    write_four, write_opaque,
+    Handle, NFS_PROGRAM, NFS_VERSION, Name, NfsProcedure, SetAttributes, SetTime, StableHow,
+    UNLIMITED, Xdr, write_four, write_opaque,
 };
 use nr_reduce::Call;
 use nr_xdr::{Memory, RoomWriter};
 use std::alloc::Global;
 
 /// The number of READ.
-const READ: u32 = 6;
+const READ: u32 = NfsProcedure::Read as u32;
 
 /// The number of WRITE.
-const WRITE: u32 = 7;
+const WRITE: u32 = NfsProcedure::Write as u32;
 
 /// The number of CREATE.
-const CREATE: u32 = 8;
+const CREATE: u32 = NfsProcedure::Create as u32;
 
 /// The mode of a new file.
 const FILE_MODE: u32 = 0o644;

@@ -8,8 +8,8 @@ use nr_nfs_args::{
     GetattrArgs, LookupArgs, MkdirArgs, MntArgs, ReaddirArgs, ReadlinkArgs, RemoveArgs, SymlinkArgs,
 };
 use nr_nfs_base::{
-    Handle, LISTING_MAX, MOUNT_PROGRAM, MOUNT_VERSION, MountPath, NFS_PROGRAM, NFS_VERSION, Name,
-    Path, SetAttributes, SetTime, Verifier, Xdr,
+    Handle, LISTING_MAX, MOUNT_PROGRAM, MOUNT_VERSION, MountPath, MountProcedure, NFS_PROGRAM,
+    NFS_VERSION, Name, NfsProcedure, Path, SetAttributes, SetTime, Verifier, Xdr,
 };
 use nr_reduce::Call;
 use nr_rpc::{Cred, Gids};
@@ -17,31 +17,31 @@ use nr_xdr::{Memory, Octets};
 use std::alloc::Global;
 
 /// The number of GETATTR.
-const GETATTR: u32 = 1;
+const GETATTR: u32 = NfsProcedure::Getattr as u32;
 
 /// The number of LOOKUP.
-const LOOKUP: u32 = 3;
+const LOOKUP: u32 = NfsProcedure::Lookup as u32;
 
 /// The number of READLINK.
-const READLINK: u32 = 5;
+const READLINK: u32 = NfsProcedure::Readlink as u32;
 
 /// The number of MKDIR.
-const MKDIR: u32 = 9;
+const MKDIR: u32 = NfsProcedure::Mkdir as u32;
 
 /// The number of SYMLINK.
-const SYMLINK: u32 = 10;
+const SYMLINK: u32 = NfsProcedure::Symlink as u32;
 
 /// The number of READDIR.
-const READDIR: u32 = 16;
+const READDIR: u32 = NfsProcedure::Readdir as u32;
 
 /// The mode of a new directory.
 const DIRECTORY_MODE: u32 = 0o755;
 
 /// The number of REMOVE.
-const REMOVE: u32 = 12;
+const REMOVE: u32 = NfsProcedure::Remove as u32;
 
 /// The number of MNT.
-const MNT: u32 = 1;
+const MNT: u32 = MountProcedure::Mnt as u32;
 
 /// The name of the machine in each credential.
 const MACHINE: [u8; 7] = [110, 102, 115, 114, 100, 109, 97];

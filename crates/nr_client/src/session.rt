@@ -9,7 +9,7 @@ ghost use Rattle.nr_requester.specs.AfterCalls.{opened_as};
 ghost use Rattle.nr_requester.specs.Standing.{RequesterRepresents};
 ghost use Rattle.nr_client.specs.Following.{Follows};
 ghost use Rattle.nr_client.specs.Listing.{list_next};
-ghost use Rattle.nr_client.specs.Dialing.{OpenFails, dialer_at};
+ghost use Rattle.nr_client.specs.Dialing.{OpenFails, dialer_at, session_credits};
 ghost use Rattle.nr_client.specs.Requests.{Asks, SinkFaults, SourceFaults, create_result, getattr_call, getattr_result, lookup_call, lookup_result, mkdir_call, mnt_call, mnt_result, readlink_call, readlink_result, remove_call, remove_result, symlink_call};
 ghost use Rattle.nr_client.specs.Reading.{InputFaults, OutputFaults, ReadsFile};
 ghost use Rattle.nr_client.specs.Transfers.{link_bytes};
@@ -70,8 +70,8 @@ impl<I: Source, O: Sink> Session<I, O> {
         ensures asked { OnOk result (AsksFor (D.asked dialer.old) (D.asked dialer.new) addr.now) }
         ensures made { OnOk result (MakesLink (D.ended dialer.old) (D.ended dialer.new)) }
         ensures fresh { IfOk result (λ s. IsNewLink (I.given s.link.source) (O.taken s.link.sink) (I.faults s.link.source) (O.faults s.link.sink)) }
-        ensures state { IfOk result (λ s. (s.link.requester ≡ opened_as 1 1 16 s.link.requester.staging) × ((s.link.read ≡ 0) × ((s.uid ≡ uid) × (s.gid ≡ gid)))) }
-        ensures stands { IfOk result (λ s. (opened : LinkParameters) (link : ℕ) → opened.first_xid ≡ 1 → opened.first_stag ≡ 1 → opened.wished ≡ 16 → RequesterRepresents opened link s.link.requester []) }
+        ensures state { IfOk result (λ s. (s.link.requester ≡ opened_as 1 1 session_credits s.link.requester.staging) × ((s.link.read ≡ 0) × ((s.uid ≡ uid) × (s.gid ≡ gid)))) }
+        ensures stands { IfOk result (λ s. (opened : LinkParameters) (link : ℕ) → opened.first_xid ≡ 1 → opened.first_stag ≡ 1 → opened.wished ≡ session_credits → RequesterRepresents opened link s.link.requester []) }
         ensures err { IfErr result (λ end. OpenFails end addr.now (dialer_at (D.asked dialer.old) (D.ended dialer.old) (D.lost dialer.old) (D.faults dialer.old))
             (dialer_at (D.asked dialer.new) (D.ended dialer.new) (D.lost dialer.new) (D.faults dialer.new))) }
         ensures counted { OnOk result (D.faults dialer.new ≡ D.faults dialer.old) }

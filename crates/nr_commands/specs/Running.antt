@@ -12,18 +12,18 @@ use Rattle.nr_words.specs.declared.commands.Action.TheVariants as actions
 use Rattle.nr_words.specs.declared.commands.Client.{Client}
 use Rattle.nr_client.specs.declared.client_end.ClientEnd.{ClientEnd}
 use Rattle.nr_client.specs.declared.client_end.ClientEnd.TheVariants as client
-use Rattle.nr_client.specs.Dialing.{DialerAt, OpenFails}
+use Rattle.nr_client.specs.Dialing.{DialerAt, OpenFails, session_credits}
 use Rattle.nr_commands.specs.Commands.{Gets, Lists, MakesDirectory, MakesSymlink, MountsAndPrints, Puts, ReadsLink, Removes, Stats}
 use Rattle.nr_commands.specs.Sessions.{Part, SessionAt}
 
--- A session was opened over a new link to this address. Its requester has made no marks, and wishes for 16 credits.
+-- A session was opened over a new link to this address. Its requester has made no marks.
 pub record Opens (addr : List ℕ) (before after : DialerAt) (s : SessionAt) : Type 0 where
   pub asks : AsksFor before.asked after.asked addr
   pub makes : MakesLink before.ended after.ended
   pub fresh : IsNewLink s.bytes.given s.bytes.taken s.source_faults s.sink_faults
   pub nothing_read : s.bytes.read ≡ 0
-  pub requester : s.requester ≡ opened_as 1 1 16 s.requester.staging
-  pub stands : (opened : LinkParameters) (link : ℕ) → opened.first_xid ≡ 1 → opened.first_stag ≡ 1 → opened.wished ≡ 16 → RequesterRepresents opened link s.requester []
+  pub requester : s.requester ≡ opened_as 1 1 session_credits s.requester.staging
+  pub stands : (opened : LinkParameters) (link : ℕ) → opened.first_xid ≡ 1 → opened.first_stag ≡ 1 → opened.wished ≡ session_credits → RequesterRepresents opened link s.requester []
   pub none_lost : after.lost ≡ before.lost
   pub unfailing : after.faults ≡ before.faults
 

@@ -5,6 +5,7 @@ use Rattle.nr_outside.specs.Whole.{input_max}
 use Rattle.nr_script.specs.Limits.{clients_max, calls_max}
 use Rattle.nr_script.specs.Script.{ScriptLines, script_of}
 use Rattle.nr_script.specs.Words.{number_within}
+use Rattle.nr_words.specs.Limits.{seed_max}
 use Rattle.nr_top.specs.declared.words.ScriptSource.{ScriptSource}
 use Rattle.nr_top.specs.declared.words.ScriptSource.TheVariants as sources
 use Rattle.nr_top.specs.Statuses.{done, bad_arguments, bad_input, over_budget}
@@ -20,9 +21,6 @@ number_for name low high arguments =
     else (if bytes_eq (word_at 4 arguments) name then number_within low high (word_at 5 arguments)
     else (if bytes_eq (word_at 6 arguments) name then number_within low high (word_at 7 arguments) else None))
 
-abbrev pub most_seed : ℕ
-most_seed = 18446744073709551615
-
 abbrev pub seeded_by : Option ℕ → Option ℕ → Option ℕ → Option ScriptSource
 seeded_by None clients calls = None
 seeded_by (Some seed) None calls = None
@@ -32,7 +30,7 @@ seeded_by (Some seed) (Some clients) (Some calls) = Some (sources.Seed seed clie
 -- the seed, and the numbers of clients and calls, each given once
 unfoldable pub seeded : List (List ℕ) → Option ScriptSource
 seeded arguments =
-    seeded_by (number_for (codes "--seed") 0 most_seed arguments) (number_for (codes "--clients") 1 clients_max arguments) (number_for (codes "--calls") 1 calls_max arguments)
+    seeded_by (number_for (codes "--seed") 0 seed_max arguments) (number_for (codes "--clients") 1 clients_max arguments) (number_for (codes "--calls") 1 calls_max arguments)
 
 -- The source of the script, if the arguments are those of a drill: `drill` alone, or with all three options.
 unfoldable pub source_of : List (List ℕ) → Option ScriptSource

@@ -173,7 +173,7 @@ pub(crate) fn write_error<E: Sink>(err: &mut E, text: &[u8], status: u8) -> u8
     }
 }
 
-/// Reports the first bad line on `err`, and gives the status. Where there is no memory for the text, that is reported.
+/// Reports the first bad line on `err`, and gives the status. If there is no memory for the text, that is reported.
 #[tactic(auto, unfolding(crate::specs::Ends::bad_line_text))]
 fn report_bad_line<E: Sink>(alloc: Global, line: u64, err: &mut E) -> u8
     ensures { ReportsFailure (BadScript line) result (sink_at (E.taken err.old) (E.faults err.old)) (sink_at (E.taken err.new) (E.faults err.new)) }
