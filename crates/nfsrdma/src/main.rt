@@ -6,7 +6,7 @@
 use nr_links::{SystemClock, TcpAcceptor, TcpDialer};
 use nr_outside::{StdSink, StdSource};
 use nr_top::{refuse, run};
-use nr_words::{Command, read_line};
+use nr_words::{Command, read_words};
 use std::fs::File;
 use std::io::{ErrorKind, Read};
 use std::process::ExitCode;
@@ -41,8 +41,8 @@ fn arguments(rt: &HostRuntime) -> io::Result<Vec<String>> {
 
 /// Runs the program, and gives the status.
 fn run_with(rt: HostRuntime, arguments: &[String]) -> u8 {
-    let input = match read_line(arguments) {
-        Some(Command::Serve { config }) => match File::open(&rt, config) {
+    let input = match read_words(rt.alloc(), arguments) {
+        Ok(Command::Serve { config }) => match File::open(&rt, config) {
             Ok(file) => Input::File(file),
             Err(_) => Input::Missing,
         },

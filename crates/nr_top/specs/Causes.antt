@@ -1,15 +1,14 @@
--- The cause that is reported for each fault of a command.
+-- The cause that is reported for each fault of a drill.
 use Rattle.nr_outside.specs.declared.whole.ReadEnd.{ReadEnd}
 use Rattle.nr_outside.specs.declared.whole.ReadEnd.TheVariants as ends
 use Rattle.nr_script.specs.declared.script.ScriptFault.{ScriptFault}
 use Rattle.nr_script.specs.declared.script.ScriptFault.TheVariants as faults
-use Rattle.nr_top.specs.declared.command.Failure.{Failure}
-use Rattle.nr_top.specs.declared.command.Failure.TheVariants as stops
+use Rattle.nr_top.specs.declared.drill.Failure.{Failure}
+use Rattle.nr_top.specs.declared.drill.Failure.TheVariants as stops
 use Rattle.nr_top.specs.Ends.{Cause}
-use Rattle.nr_top.specs.Ends.Cause.{BadArguments, NoMemory, InputFault, OutputFault, BadScript, OverBudget}
+use Rattle.nr_top.specs.Ends.Cause.{NoMemory, InputFault, OutputFault, BadScript, OverBudget}
 
 abbrev pub cause_of : Failure → Cause
-cause_of stops.Arguments = BadArguments
 cause_of stops.Memory = NoMemory
 cause_of stops.Input = InputFault
 cause_of stops.Output = OutputFault

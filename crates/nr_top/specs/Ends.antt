@@ -1,4 +1,4 @@
--- How a run of the program ends, and what its status says. Clauses about bytes apply only if the bytes are known;
+-- How a drill ends, and what its status says. Clauses about bytes apply only if the bytes are known;
 -- fault counts are always known.
 use Rattle.std.specs.Prelude.{◌≡◌, ◌≢◌, ℕ, ◌<◌, ◌≤◌, ◌⊎◌, List, ◌++◌, length, take, codes, Option, None, Some, IfSome, Ok, Err}
 use Rattle.std.specs.Fmt.{decimal}
@@ -15,9 +15,9 @@ use Rattle.nr_drill.specs.Headline.{IsDrillRun}
 use Rattle.nr_drill.specs.Shown.{shown, summary}
 use Rattle.nr_top.specs.Statuses as statuses
 use Rattle.nr_script.specs.Generator.{made_script}
-use Rattle.nr_top.specs.declared.words.ScriptSource.{ScriptSource}
-use Rattle.nr_top.specs.declared.words.ScriptSource.TheVariants as sources
-use Rattle.nr_top.specs.Arguments.{source_of, due_status}
+use Rattle.nr_top.specs.declared.drill.ScriptSource.{ScriptSource}
+use Rattle.nr_top.specs.declared.drill.ScriptSource.TheVariants as sources
+use Rattle.nr_top.specs.Sources.{due_status}
 
 -- What a drill prints of a run of a script: what is shown of the run; of a script that was made from a seed the line of sums.
 abbrev pub printed : ScriptSource → Tree → ScriptLines → List Mark → List ℕ
@@ -41,9 +41,7 @@ IsGiven sources.Input input input' script = ReadsScript input input' script
 IsGiven (sources.Seed seed clients calls) input input' script = (input' ≡ input) × (script ≡ made_script seed clients calls)
 
 -- a script was read or made, and run
-pub record Ran (arguments : List (List ℕ)) (input input' : SourceAt) : Type 0 where
-  pub source : ScriptSource
-  pub line : source_of arguments ≡ Some source
+pub record Ran (source : ScriptSource) (input input' : SourceAt) : Type 0 where
   pub script : ScriptLines
   pub tree : Tree
   pub run : List Mark
@@ -51,31 +49,30 @@ pub record Ran (arguments : List (List ℕ)) (input input' : SourceAt) : Type 0 
   pub drill : IsRunOf tree script run
 
 -- and what is shown of the run was written
-pub record Done (arguments : List (List ℕ)) (input input' : SourceAt) (out out' : SinkAt) : Type 0 where
-  pub ran : Ran arguments input input'
-  pub prints : Writes out out' (printed ran.source ran.tree ran.script ran.run)
+pub record Done (source : ScriptSource) (input input' : SourceAt) (out out' : SinkAt) : Type 0 where
+  pub ran : Ran source input input'
+  pub prints : Writes out out' (printed source ran.tree ran.script ran.run)
 
 -- and a proper prefix of that was written
-pub record PrintsSome (arguments : List (List ℕ)) (input input' : SourceAt) (out out' : SinkAt) : Type 0 where
-  pub ran : Ran arguments input input'
-  pub cut : WritesSome out out' (printed ran.source ran.tree ran.script ran.run)
+pub record PrintsSome (source : ScriptSource) (input input' : SourceAt) (out out' : SinkAt) : Type 0 where
+  pub ran : Ran source input input'
+  pub cut : WritesSome out out' (printed source ran.tree ran.script ran.run)
 
 -- the input is no script: this is the number of its first invalid line
-pub record BadLine (number : ℕ) (arguments : List (List ℕ)) (input input' : SourceAt) : Type 0 where
-  pub line : source_of arguments ≡ Some sources.Input
+pub record BadLine (number : ℕ) (source : ScriptSource) (input input' : SourceAt) : Type 0 where
+  pub from_input : source ≡ sources.Input
   pub text : List ℕ
   pub whole : ReadsAll input_max input input' text
   pub bad : script_of text ≡ Err number
 
 -- the input is too long
-pub record TooLong (arguments : List (List ℕ)) (input : SourceAt) : Type 0 where
-  pub line : source_of arguments ≡ Some sources.Input
+pub record TooLong (source : ScriptSource) (input : SourceAt) : Type 0 where
+  pub from_input : source ≡ sources.Input
   pub long : IfSome input.left (λ left. input_max < length left)
 
--- why a command isn't done: its arguments are not those of a command, memory ran out, the input or the output failed, a
--- line of the script is invalid, or the input is too long
+-- why a drill isn't done: memory ran out, the input or the output failed, a line of the script is invalid, or the input is
+-- too long
 pub data Cause : Type 0 where
-  BadArguments : Cause
   NoMemory : Cause
   InputFault : Cause
   OutputFault : Cause
@@ -87,14 +84,13 @@ abbrev pub ReadsFor : ScriptSource → SourceAt → SourceAt → Type 0
 ReadsFor sources.Input input input' = ReadsWithin input_max input input' × (input'.faults ≡ input.faults)
 ReadsFor (sources.Seed seed clients calls) input input' = input' ≡ input
 
--- what holds if a command wasn't done, by the cause
-abbrev pub Stopped : Cause → List (List ℕ) → SourceAt → SourceAt → SinkAt → SinkAt → Type 0
-Stopped BadArguments arguments input input' out out' = (source_of arguments ≡ None) × (input' ≡ input) × (out' ≡ out)
-Stopped NoMemory arguments input input' out out' = (source : ScriptSource) × (source_of arguments ≡ Some source) × ReadsFor source input input' × WritesNone out out'
-Stopped InputFault arguments input input' out out' = (source_of arguments ≡ Some sources.Input) × ReadsWithin input_max input input' × Rises input.faults input'.faults × WritesNone out out'
-Stopped OutputFault arguments input input' out out' = PrintsSome arguments input input' out out'
-Stopped (BadScript number) arguments input input' out out' = BadLine number arguments input input' × WritesNone out out'
-Stopped OverBudget arguments input input' out out' = TooLong arguments input × ReadsBeyond input_max input input' × (input'.faults ≡ input.faults) × WritesNone out out'
+-- what holds if a drill wasn't done, by the cause
+abbrev pub Stopped : Cause → ScriptSource → SourceAt → SourceAt → SinkAt → SinkAt → Type 0
+Stopped NoMemory source input input' out out' = ReadsFor source input input' × WritesNone out out'
+Stopped InputFault source input input' out out' = (source ≡ sources.Input) × ReadsWithin input_max input input' × Rises input.faults input'.faults × WritesNone out out'
+Stopped OutputFault source input input' out out' = PrintsSome source input input' out out'
+Stopped (BadScript number) source input input' out out' = BadLine number source input input' × WritesNone out out'
+Stopped OverBudget source input input' out out' = TooLong source input × ReadsBeyond input_max input input' × (input'.faults ≡ input.faults) × WritesNone out out'
 
 -- the texts for memory that ran out, for an input that is too long, and for an invalid line
 abbrev pub memory_text : List ℕ
@@ -113,7 +109,6 @@ Reported due text status err err' = ((status ≡ due) × Writes err err' text) �
 
 -- what is so if the input was read and gave no script
 abbrev pub StoppedReading : Cause → SourceAt → SourceAt → Type 0
-StoppedReading BadArguments input input' = ⊥
 StoppedReading NoMemory input input' = ReadsWithin input_max input input' × (input'.faults ≡ input.faults)
 StoppedReading InputFault input input' = ReadsWithin input_max input input' × Rises input.faults input'.faults
 StoppedReading OutputFault input input' = ⊥
@@ -138,37 +133,32 @@ StoppedBefore (sources.Seed seed clients calls) cause input input' = (cause ≡ 
 
 -- What is written for a cause. The text with the number of a line needs memory; if there is none, that is written.
 abbrev pub ReportsFailure : Cause → ℕ → SinkAt → SinkAt → Type 0
-ReportsFailure BadArguments status err err' = Reported statuses.bad_arguments (codes "bad words\n") status err err'
 ReportsFailure NoMemory status err err' = Reported statuses.no_memory memory_text status err err'
 ReportsFailure InputFault status err err' = Reported statuses.fault (codes "input fault\n") status err err'
 ReportsFailure OutputFault status err err' = Reported statuses.fault (codes "output fault\n") status err err'
 ReportsFailure (BadScript number) status err err' = Reported statuses.bad_input (bad_line_text number) status err err' ⊎ Reported statuses.no_memory memory_text status err err'
 ReportsFailure OverBudget status err err' = Reported statuses.over_budget budget_text status err err'
 
--- Why the command wasn't done, if a fault count rose, and what was written for it: for a fault of the input or of
+-- Why the drill wasn't done, if a fault count rose, and what was written for it: for a fault of the input or of
 -- the output the complete text, or a proper prefix, if err failed too; for another cause a proper prefix.
-abbrev pub FaultReport : List (List ℕ) → SourceAt → SourceAt → SinkAt → SinkAt → SinkAt → SinkAt → Type 0
-FaultReport arguments input input' out out' err err' = (cause : Cause) × Stopped cause arguments input input' out out' × ReportsFailure cause statuses.fault err err'
+abbrev pub FaultReport : ScriptSource → SourceAt → SourceAt → SinkAt → SinkAt → SinkAt → SinkAt → Type 0
+FaultReport source input input' out out' err err' = (cause : Cause) × Stopped cause source input input' out out' × ReportsFailure cause statuses.fault err err'
 
--- What the status of a run says.
-pub record Ends (arguments : List (List ℕ)) (status : ℕ) (input input' : SourceAt) (out out' err err' : SinkAt) : Type 0 where
+-- What the status of a drill says.
+pub record Ends (source : ScriptSource) (status : ℕ) (input input' : SourceAt) (out out' err err' : SinkAt) : Type 0 where
   -- it is one of these
   pub known : statuses.IsStatus status
   -- the script was run, the run keeps the promise, and its lines were printed
-  pub done : status ≡ statuses.done → Done arguments input input' out out' × WritesNone err err'
-  -- the arguments are not those of a command, and nothing else happened
-  pub arguments_bad : status ≡ statuses.bad_arguments → Stopped BadArguments arguments input input' out out' × Writes err err' (codes "bad words\n")
+  pub done : status ≡ statuses.done → Done source input input' out out' × WritesNone err err'
   -- memory ran out
-  pub memory : status ≡ statuses.no_memory → Stopped NoMemory arguments input input' out out' × Writes err err' memory_text
+  pub memory : status ≡ statuses.no_memory → Stopped NoMemory source input input' out out' × Writes err err' memory_text
   -- the number of the first invalid line
-  pub script : status ≡ statuses.bad_input → (number : ℕ) × Stopped (BadScript number) arguments input input' out out' × Writes err err' (bad_line_text number)
+  pub script : status ≡ statuses.bad_input → (number : ℕ) × Stopped (BadScript number) source input input' out out' × Writes err err' (bad_line_text number)
   -- the input is longer than a script may be
-  pub budget : status ≡ statuses.over_budget → Stopped OverBudget arguments input input' out out' × Writes err err' budget_text
+  pub budget : status ≡ statuses.over_budget → Stopped OverBudget source input input' out out' × Writes err err' budget_text
   -- a fault count rose
-  pub fault : status ≡ statuses.fault → FaultReport arguments input input' out out' err err'
+  pub fault : status ≡ statuses.fault → FaultReport source input input' out out' err err'
   -- with any other status no fault count rose
   pub unfailing : status ≢ statuses.fault → (input'.faults ≡ input.faults) × (out'.faults ≡ out.faults) × (err'.faults ≡ err.faults)
-  -- the status is the one that is due for arguments and input, unless memory ran out or a fault count rose
-  pub due : (text : List ℕ) → input.left ≡ Some text → (status ≡ due_status arguments text) ⊎ ((status ≡ statuses.no_memory) ⊎ (status ≡ statuses.fault))
-  -- arguments that are not those of a command are reported, whatever the input
-  pub arguments_due : source_of arguments ≡ None → (status ≡ statuses.bad_arguments) ⊎ (status ≡ statuses.fault)
+  -- the status is the one that is due for the input, unless memory ran out or a fault count rose
+  pub due : (text : List ℕ) → input.left ≡ Some text → (status ≡ due_status source text) ⊎ ((status ≡ statuses.no_memory) ⊎ (status ≡ statuses.fault))

@@ -1,5 +1,5 @@
 pub mod Statuses
-pub mod Arguments
+pub mod Sources
 pub mod Ends
 pub mod Causes
 pub mod Serving

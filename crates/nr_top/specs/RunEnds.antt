@@ -1,14 +1,21 @@
--- How a run of the program ends, by the command of its line.
-use Rattle.std.specs.Prelude.{◌≡◌, ℕ, List, Option, Some}
-use Rattle.nr_outside.specs.Streams.{SinkAt, SourceAt}
+-- How a run of the program ends, by its words.
+use Rattle.std.specs.Prelude.{◌≡◌, ℕ, ◌⊎◌, List, Option, Result, Ok, Err, codes, string_bytes}
+use Rattle.std.specs.Borrow.{Bor}
+use Rattle.nr_outside.specs.Streams.{SinkAt, SourceAt, Writes, WritesSome}
 use Rattle.nr_outside.specs.declared.moment.Moment.{Moment}
-use Rattle.nr_words.specs.Lines.{Text}
+use Rattle.nr_words.specs.Lines.{Text, plain_command}
+use Rattle.nr_words.specs.Reads.{Reads}
 use Rattle.nr_words.specs.declared.commands.Command.{Command}
 use Rattle.nr_words.specs.declared.commands.Command.TheVariants as commands
+use Rattle.nr_words.specs.declared.words.WordsFault.{WordsFault}
+use Rattle.nr_words.specs.declared.words.WordsFault.TheVariants as faults
 use Rattle.nr_client.specs.Dialing.{DialerAt}
 use Rattle.nr_serve.specs.Serving.{AcceptorAt}
 use Rattle.nr_top.specs.Clients.{ClientEnds}
-use Rattle.nr_top.specs.Ends.{Ends}
+use Rattle.nr_top.specs.Ends.{Ends, Reported, memory_text}
+use Rattle.nr_top.specs.Statuses as statuses
+use Rattle.nr_top.specs.declared.drill.ScriptSource.{ScriptSource}
+use Rattle.nr_top.specs.declared.drill.ScriptSource.TheVariants as sources
 use Rattle.nr_top.specs.Serving.{ServeEnds}
 
 -- what is known of all that a run uses: its input, both outputs, the dialer, the acceptor, and the moments that the clock gave
@@ -28,15 +35,36 @@ pub record AcceptsNone (before after : Outside) : Type 0 where
   pub acceptor : after.acceptor ≡ before.acceptor
   pub gave : after.gave ≡ before.gave
 
--- a drill, or words that are none; the dialer was not used
-abbrev pub OtherEnds : List Text → ℕ → (before after : Outside) → Type 0
-OtherEnds words status before after =
-    Ends words status before.input after.input before.out after.out before.err after.err × ((after.dialer ≡ before.dialer) × AcceptsNone before after)
+-- a drill; the dialer was not used
+abbrev pub DrillEnds : ScriptSource → ℕ → (before after : Outside) → Type 0
+DrillEnds source status before after =
+    Ends source status before.input after.input before.out after.out before.err after.err × ((after.dialer ≡ before.dialer) × AcceptsNone before after)
 
--- A line of a client; one of `serve`; and all other words, which are those of a drill or none.
-abbrev pub RunEnds : Option (Command Text) → List Text → ℕ → (before after : Outside) → Type 0
-RunEnds (Some (commands.Client c)) words status before after =
+-- each command of a line
+abbrev pub CommandEnds : Command Text → ℕ → (before after : Outside) → Type 0
+CommandEnds (commands.Client c) status before after =
     ClientEnds c status before.dialer after.dialer before.input after.input before.out after.out before.err after.err × AcceptsNone before after
-RunEnds (Some (commands.Serve config)) words status before after =
+CommandEnds (commands.Serve config) status before after =
     ServeEnds status before.input after.input before.out after.out before.err after.err before.acceptor after.acceptor before.gave after.gave × (after.dialer ≡ before.dialer)
-RunEnds line words status before after = OtherEnds words status before after
+CommandEnds commands.Drill status before after = DrillEnds sources.Input status before after
+CommandEnds (commands.GeneratedDrill seed clients calls) status before after = DrillEnds (sources.Seed seed clients calls) status before after
+
+-- Words that give no command: help or the version is printed; or they are refused with a text; or no command is what they spell; or memory
+-- ran out.
+abbrev pub WordsEnd : WordsFault → ℕ → (out out' err err' : SinkAt) → Type 0
+WordsEnd (faults.Asked text) status out out' err err' =
+    ((status ≡ statuses.done) × (Writes out out' (string_bytes text) × (err' ≡ err)))
+    ⊎ (WritesSome out out' (string_bytes text) × Reported statuses.fault (codes "output fault\n") status err err')
+WordsEnd (faults.Refused text) status out out' err err' = Reported statuses.bad_arguments (string_bytes text) status err err' × (out' ≡ out)
+WordsEnd faults.Bad status out out' err err' = Reported statuses.bad_arguments (codes "bad words\n") status err err' × (out' ≡ out)
+WordsEnd faults.Memory status out out' err err' = Reported statuses.no_memory memory_text status err err' × (out' ≡ out)
+
+-- what is read of the words: a command, or none
+abbrev pub ReadEnds : Result (Command (Bor Text)) WordsFault → ℕ → (before after : Outside) → Type 0
+ReadEnds (Ok command) status before after = CommandEnds (plain_command command) status before after
+ReadEnds (Err fault) status before after =
+    WordsEnd fault status before.out after.out before.err after.err × ((after.input ≡ before.input) × ((after.dialer ≡ before.dialer) × AcceptsNone before after))
+
+-- A run ends by what is read of its words. A line gives its command, whatever memory there is.
+abbrev pub RunEnds : List Text → ℕ → (before after : Outside) → Type 0
+RunEnds words status before after = (read : Result (Command (Bor Text)) WordsFault) × (Reads words read × ReadEnds read status before after)

@@ -5,7 +5,7 @@ use Rattle.std.specs.Prelude.{◌≡◌, ℕ, ◌⊎◌}
 abbrev pub done : ℕ
 done = 0
 
--- the arguments are not those of a command
+-- the words are not those of a command
 abbrev pub bad_arguments : ℕ
 bad_arguments = 1
 
@@ -51,4 +51,4 @@ over_budget = 11
 
 -- a drill has no other status
 abbrev pub IsStatus : ℕ → Type 0
-IsStatus status = (status ≡ done) ⊎ ((status ≡ bad_arguments) ⊎ ((status ≡ no_memory) ⊎ ((status ≡ fault) ⊎ ((status ≡ bad_input) ⊎ (status ≡ over_budget)))))
+IsStatus status = (status ≡ done) ⊎ ((status ≡ no_memory) ⊎ ((status ≡ fault) ⊎ ((status ≡ bad_input) ⊎ (status ≡ over_budget))))

@@ -6,7 +6,7 @@ ghost use Rattle.nr_words.specs.Lines.{plain_client};
 ghost use Rattle.nr_client.specs.Dialing.{dialer_at};
 ghost use Rattle.nr_top.specs.Clients.{ClientEnds, ReportsEnd, call_status, link_status, status_of};
 
-use crate::command::write_error;
+use crate::report::write_error;
 use crate::status::{
     BAD_INPUT, DONE, FAULT, LINK_CLOSED, LINK_FAULT, NFS_FAILED, NO_MEMORY, OVER_BUDGET,
     PROTOCOL_FAULT, REFUSED, TRANSPORT_ERROR,

@@ -1,28 +1,82 @@
 //! A run of the program: from the words to what is printed, and the status.
 
-ghost use Rattle.std.specs.Prelude.{map};
+ghost use Rattle.std.specs.Prelude.{◌≡◌, map, true};
 ghost use Rattle.std.specs.String.{string_bytes};
 ghost use Rattle.nr_outside.specs.Streams.{source_at, sink_at};
-ghost use Rattle.nr_words.specs.Lines.{line_of};
+ghost use Rattle.nr_words.specs.Lines.{plain_command};
+ghost use Rattle.nr_words.specs.Reads.{is_command};
 ghost use Rattle.nr_client.specs.Dialing.{dialer_at};
 ghost use Rattle.nr_serve.specs.Serving.{acceptor_at};
-ghost use Rattle.nr_top.specs.RunEnds.{RunEnds, outside};
+ghost use Rattle.nr_top.specs.RunEnds.{CommandEnds, RunEnds, outside};
 
 use crate::client::run_client;
-use crate::command::run_drill;
+use crate::drill::{ScriptSource, run_drill};
+use crate::report::answer_words;
 use crate::serving::run_server;
 use nr_links::{Acceptor, Clock, Dialer};
 use nr_outside::{Sink, Source};
-use nr_words::{Command, read_line};
+use nr_words::{Command, read_words};
 use std::alloc::Global;
 
+/// Runs a command, and gives the status.
+fn dispatch<
+    I: Source,
+    O: Sink,
+    E: Sink,
+    P: Source,
+    Q: Sink,
+    D: Dialer<Source = P, Sink = Q>,
+    A: Acceptor,
+    C: Clock,
+>(
+    alloc: Global,
+    command: Command<&str>,
+    input: &mut I,
+    out: &mut O,
+    err: &mut E,
+    dial: &mut D,
+    accept: &mut A,
+    clock: &mut C,
+) -> u8
+    requires { is_command (plain_command command) ≡ true }
+    ensures { CommandEnds (plain_command command) result
+        (outside (source_at (I.left input.old) (I.given input.old) (I.faults input.old)) (sink_at (O.taken out.old) (O.faults out.old)) (sink_at (E.taken err.old) (E.faults err.old))
+        (dialer_at (D.asked dial.old) (D.ended dial.old) (D.lost dial.old) (D.faults dial.old)) (acceptor_at (A.asked accept.old) (A.ended accept.old) (A.lost accept.old) (A.faults accept.old)) (C.gave clock.old))
+        (outside (source_at (I.left input.new) (I.given input.new) (I.faults input.new)) (sink_at (O.taken out.new) (O.faults out.new)) (sink_at (E.taken err.new) (E.faults err.new))
+        (dialer_at (D.asked dial.new) (D.ended dial.new) (D.lost dial.new) (D.faults dial.new)) (acceptor_at (A.asked accept.new) (A.ended accept.new) (A.lost accept.new) (A.faults accept.new)) (C.gave clock.new)) }
+{
+    match command {
+        Command::Client { client } => run_client(alloc, &client, dial, input, out, err),
+        Command::Serve { config: _config } => run_server(alloc, input, out, err, accept, clock),
+        Command::Drill => run_drill(alloc, ScriptSource::Input, input, out, err),
+        Command::GeneratedDrill {
+            seed,
+            clients,
+            calls,
+        } => {
+            let calls = u64::from(calls);
+            run_drill(
+                alloc,
+                ScriptSource::Seed {
+                    seed,
+                    clients,
+                    calls,
+                },
+                input,
+                out,
+                err,
+            )
+        }
+    }
+}
+
 /// Runs the program, and gives the status. The words are the name under which it was started, and a command with its
-/// options. A command of a client dials its address by `dial`, and `put` reads the bytes of its file from `input`; `serve`
+/// options; `--help` and `--version` are answered on `out`. A command of a client dials its address by `dial`, and `put` reads the bytes of its file from `input`; `serve`
 /// reads its configuration from `input`, listens by `accept` and takes the time from `clock`; a drill reads its script from
 /// `input`. What is printed goes to `out`; `err` takes
 /// the reason if the command isn't done.
 ///
-/// `RunEnds` of the specs says what each status means. 0: the command was done. 1: the words are not those of a command.
+/// `RunEnds` of the specs says what each status means. 0: the command was done. 1: the words are refused.
 /// 2: memory ran out. 3: a fault count of `dial` or `accept` rose, or the count of lost links. 4: the server ended its
 /// stream. 5: the protocol of the link was broken, or a reply had no results. 6: a call or a mount was refused. 7: an NFS
 /// procedure failed. 8: the server answered ERR_CHUNK or ERR_VERS. 9: a fault count of `input`, `out` or `err` rose. 10: the
@@ -46,23 +100,14 @@ pub fn run<
     accept: &mut A,
     clock: &mut C,
 ) -> u8
-    ensures { RunEnds (line_of (map string_bytes words.now)) (map string_bytes words.now) result
+    ensures { RunEnds (map string_bytes words.now) result
         (outside (source_at (I.left input.old) (I.given input.old) (I.faults input.old)) (sink_at (O.taken out.old) (O.faults out.old)) (sink_at (E.taken err.old) (E.faults err.old))
         (dialer_at (D.asked dial.old) (D.ended dial.old) (D.lost dial.old) (D.faults dial.old)) (acceptor_at (A.asked accept.old) (A.ended accept.old) (A.lost accept.old) (A.faults accept.old)) (C.gave clock.old))
         (outside (source_at (I.left input.new) (I.given input.new) (I.faults input.new)) (sink_at (O.taken out.new) (O.faults out.new)) (sink_at (E.taken err.new) (E.faults err.new))
         (dialer_at (D.asked dial.new) (D.ended dial.new) (D.lost dial.new) (D.faults dial.new)) (acceptor_at (A.asked accept.new) (A.ended accept.new) (A.lost accept.new) (A.faults accept.new)) (C.gave clock.new)) }
 {
-    let Some(command) = read_line(words) else {
-        return run_drill(alloc, words, input, out, err);
-    };
-    match command {
-        Command::Client { client } => run_client(alloc, &client, dial, input, out, err),
-        Command::Serve { config: _config } => run_server(alloc, input, out, err, accept, clock),
-        Command::Drill => run_drill(alloc, words, input, out, err),
-        Command::GeneratedDrill {
-            seed: _seed,
-            clients: _clients,
-            calls: _calls,
-        } => run_drill(alloc, words, input, out, err),
+    match read_words(alloc, words) {
+        Ok(command) => dispatch(alloc, command, input, out, err, dial, accept, clock),
+        Err(fault) => answer_words(fault, out, err),
     }
 }

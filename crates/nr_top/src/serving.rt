@@ -4,7 +4,7 @@ ghost use Rattle.nr_outside.specs.Streams.{source_at, sink_at};
 ghost use Rattle.nr_serve.specs.Serving.{acceptor_at};
 ghost use Rattle.nr_top.specs.Serving.{ReportsStop, ServeEnds};
 
-use crate::command::write_error;
+use crate::report::write_error;
 use crate::status::{BAD_INPUT, DONE, FAULT, LINK_FAULT, NO_MEMORY, OVER_BUDGET};
 use nr_links::{Acceptor, Clock};
 use nr_outside::{Sink, Source};

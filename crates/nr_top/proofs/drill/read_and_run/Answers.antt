@@ -1,4 +1,4 @@
-use Rattle.nr_top.proofs.command.read_and_run.Goals as goal
+use Rattle.nr_top.proofs.drill.read_and_run.Goals as goal
 
 pub returns : goal.returns
 returns g c = record {

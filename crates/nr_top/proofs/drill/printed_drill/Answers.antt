@@ -1,6 +1,6 @@
 use Rattle.std.proofs.Common.{refl}
 use Rattle.nr_script.specs.Generator.{made_script}
-use Rattle.nr_top.proofs.command.printed_drill.Goals as goal
+use Rattle.nr_top.proofs.drill.printed_drill.Goals as goal
 
 pub returns-in-Ok : goal.returns-in-Ok
 returns-in-Ok g c =

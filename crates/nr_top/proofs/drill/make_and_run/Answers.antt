@@ -1,9 +1,9 @@
 use Rattle.std.proofs.Common.{IfOk, subst}
 use Rattle.nr_script.specs.Script.{ScriptLines}
-use Rattle.nr_top.specs.declared.words.ScriptSource.TheVariants as sources
+use Rattle.nr_top.specs.declared.drill.ScriptSource.TheVariants as sources
 use Rattle.nr_top.specs.Ends.{IsPrinted}
 use Rattle.nr_top.proofs.Endings.{summed_text}
-use Rattle.nr_top.proofs.command.make_and_run.Goals as goal
+use Rattle.nr_top.proofs.drill.make_and_run.Goals as goal
 
 pub returns : goal.returns
 returns c =

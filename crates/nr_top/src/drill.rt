@@ -1,18 +1,17 @@
-//! Drills: from the arguments to what is printed, and the status.
+//! Drills: from where a script comes to what is printed, and the status.
 
-ghost use Rattle.std.specs.Prelude.{◌≡◌, ◌<◌, ◌≤◌, true, false, map, IfOk, MatchResult};
-ghost use Rattle.std.specs.String.{string_bytes};
+ghost use Rattle.std.specs.Prelude.{◌≡◌, ◌<◌, ◌≤◌, IfOk, MatchResult};
 ghost use Rattle.nr_outside.specs.Streams.{source_at, sink_at};
 ghost use Rattle.nr_script.specs.Generator.{made_script};
 ghost use Rattle.nr_script.specs.Limits.{clients_max, calls_max};
-ghost use Rattle.nr_top.specs.declared.words.ScriptSource.TheVariants as sources;
-ghost use Rattle.nr_top.specs.Arguments.{HasRanges};
+ghost use Rattle.nr_top.specs.declared.drill.ScriptSource.TheVariants as sources;
+ghost use Rattle.nr_top.specs.Sources.{HasRanges};
 ghost use Rattle.nr_top.specs.Causes.{cause_of};
-ghost use Rattle.nr_top.specs.Ends.{Ends, Done, IsPrinted, ReadsScript, Stopped, StoppedBefore, StoppedReading, Shown, Reported, ReportsFailure};
-ghost use Rattle.nr_top.specs.Ends.Cause.{NoMemory, BadArguments, BadScript};
+ghost use Rattle.nr_top.specs.Ends.{Ends, Done, IsPrinted, ReadsScript, Stopped, StoppedBefore, StoppedReading, Shown, ReportsFailure};
+ghost use Rattle.nr_top.specs.Ends.Cause.{BadScript};
 
-use crate::status::{BAD_ARGUMENTS, BAD_INPUT, DONE, FAULT, NO_MEMORY, OVER_BUDGET};
-use crate::words::{ScriptSource, source_of};
+use crate::report::write_error;
+use crate::status::{BAD_INPUT, DONE, FAULT, NO_MEMORY, OVER_BUDGET};
 use nr_drill::{shown, summary};
 use nr_outside::{ReadEnd, Sink, Source, read_whole, write_whole};
 use nr_script::{Script, ScriptFault, make_script, read_script};
@@ -20,10 +19,18 @@ use nr_world::run_world;
 use nr_xdr::{Memory, Octets};
 use std::alloc::Global;
 
-/// Why a command wasn't done.
+/// The source of a drill's script.
+#[derive(Clone, Copy)]
+pub(crate) enum ScriptSource {
+    /// It is read from the input.
+    Input,
+    /// It is made from a seed, for this many clients and calls.
+    Seed { seed: u64, clients: u32, calls: u64 },
+}
+
+/// Why a drill wasn't done.
 #[derive(Clone, Copy)]
 enum Failure {
-    Arguments,
     Memory,
     Input,
     Output,
@@ -59,7 +66,7 @@ impl From<ScriptFault> for Failure {
 }
 
 impl From<Memory> for Failure {
-    ghost use Rattle.nr_top.specs.declared.command.Failure.TheVariants as stops;
+    ghost use Rattle.nr_top.specs.declared.drill.Failure.TheVariants as stops;
 
     ghost from_gives = { λ _ stop. stop ≡ stops.Memory };
 
@@ -141,35 +148,23 @@ fn printed_drill<I: Source>(
 /// Reads or makes a script, runs it, and prints what happened.
 fn drill<I: Source, O: Sink>(
     alloc: Global,
-    arguments: &[String],
+    source: ScriptSource,
     input: &mut I,
     out: &mut O,
 ) -> Result<(), Failure>
+    requires { HasRanges source }
     ensures { MatchResult result
-        (λ _. Done (map string_bytes arguments.now) (source_at (I.left input.old) (I.given input.old) (I.faults input.old))
+        (λ _. Done source (source_at (I.left input.old) (I.given input.old) (I.faults input.old))
         (source_at (I.left input.new) (I.given input.new) (I.faults input.new))
         (sink_at (O.taken out.old) (O.faults out.old)) (sink_at (O.taken out.new) (O.faults out.new)))
-        (λ stop. Stopped (cause_of stop) (map string_bytes arguments.now) (source_at (I.left input.old) (I.given input.old) (I.faults input.old))
+        (λ stop. Stopped (cause_of stop) source (source_at (I.left input.old) (I.given input.old) (I.faults input.old))
         (source_at (I.left input.new) (I.given input.new) (I.faults input.new))
         (sink_at (O.taken out.old) (O.faults out.old)) (sink_at (O.taken out.new) (O.faults out.new))) }
 {
-    let Some(source) = source_of(arguments) else {
-        return Err(Failure::Arguments);
-    };
     let printed = printed_drill(alloc, source, input)?;
     match write_whole(out, printed.as_slice()) {
         Ok(()) => Ok(()),
         Err(_) => Err(Failure::Output),
-    }
-}
-
-/// Writes a text to `err`, and gives this status, or that of a fault.
-pub(crate) fn write_error<E: Sink>(err: &mut E, text: &[u8], status: u8) -> u8
-    ensures { Reported status text.now result (sink_at (E.taken err.old) (E.faults err.old)) (sink_at (E.taken err.new) (E.faults err.new)) }
-{
-    match write_whole(err, text) {
-        Ok(()) => status,
-        Err(_) => FAULT,
     }
 }
 
@@ -184,12 +179,11 @@ fn report_bad_line<E: Sink>(alloc: Global, line: u64, err: &mut E) -> u8
     }
 }
 
-/// Reports on `err` why the command wasn't done, and gives the status.
+/// Reports on `err` why a drill wasn't done, and gives the status.
 fn report_failure<E: Sink>(alloc: Global, stop: Failure, err: &mut E) -> u8
     ensures { ReportsFailure (cause_of stop) result (sink_at (E.taken err.old) (E.faults err.old)) (sink_at (E.taken err.new) (E.faults err.new)) }
 {
     match stop {
-        Failure::Arguments => write_error(err, b"bad words\n", BAD_ARGUMENTS),
         Failure::Memory => write_error(err, b"memory\n", NO_MEMORY),
         Failure::Input => write_error(err, b"input fault\n", FAULT),
         Failure::Output => write_error(err, b"output fault\n", FAULT),
@@ -198,37 +192,24 @@ fn report_failure<E: Sink>(alloc: Global, stop: Failure, err: &mut E) -> u8
     }
 }
 
-/// Reports on `err` why the arguments can't be had, and gives the status: memory ran out for them, or one of them isn't
-/// UTF-8.
-pub fn refuse<E: Sink>(err: &mut E, memory: bool) -> u8
-    ensures memory { memory ≡ true → ReportsFailure NoMemory result (sink_at (E.taken err.old) (E.faults err.old)) (sink_at (E.taken err.new) (E.faults err.new)) }
-    ensures arguments { memory ≡ false → ReportsFailure BadArguments result (sink_at (E.taken err.old) (E.faults err.old)) (sink_at (E.taken err.new) (E.faults err.new)) }
-{
-    if memory {
-        write_error(err, b"memory\n", NO_MEMORY)
-    } else {
-        write_error(err, b"bad words\n", BAD_ARGUMENTS)
-    }
-}
-
-/// Runs a drill, and gives the status. `drill` reads a script from `input`, runs it, and prints on `out` what happened;
-/// `drill --seed N --clients C --calls K` makes a script from a seed, and prints one line of sums. Other arguments are
-/// reported as bad words. If the command isn't done, `err` takes the reason. The record `Ends` of the specs says what each
+/// Runs a drill, and gives the status. A script that is read from `input` is run, and what happened is printed on `out`; of one that is made
+/// from a seed one line of sums is printed. If the drill isn't done, `err` takes the reason. The record `Ends` of the specs says what each
 /// status means.
 pub(crate) fn run_drill<I: Source, O: Sink, E: Sink>(
     alloc: Global,
-    arguments: &[String],
+    source: ScriptSource,
     input: &mut I,
     out: &mut O,
     err: &mut E,
 ) -> u8
-    ensures { Ends (map string_bytes arguments.now) result
+    requires { HasRanges source }
+    ensures { Ends source result
         (source_at (I.left input.old) (I.given input.old) (I.faults input.old))
         (source_at (I.left input.new) (I.given input.new) (I.faults input.new))
         (sink_at (O.taken out.old) (O.faults out.old)) (sink_at (O.taken out.new) (O.faults out.new))
         (sink_at (E.taken err.old) (E.faults err.old)) (sink_at (E.taken err.new) (E.faults err.new)) }
 {
-    match drill(alloc, arguments, input, out) {
+    match drill(alloc, source, input, out) {
         Ok(()) => DONE,
         Err(stop) => report_failure(alloc, stop, err),
     }
