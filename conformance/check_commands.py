@@ -45,6 +45,11 @@ class Tries:
         what = ' '.join(it if len(it) < 40 else it[:37] + '..' for it in words)
         self.same(what, (done.returncode, done.stdout, done.stderr.decode('utf-8', 'replace')), want)
 
+    def refuses(self, words: list[str]) -> None:
+        """Runs a command whose words are refused, with a text that begins with `error: `."""
+        done = subprocess.run(self.command(*words), capture_output=True, check=False, timeout=120)
+        self.same(' '.join(words), (done.returncode, done.stdout, done.stderr[:7]), (1, b'', b'error: '))
+
 
 def single_calls(t: Tries) -> None:
     """Commands on the root, and each reason that a command is not done."""
@@ -55,7 +60,9 @@ def single_calls(t: Tries) -> None:
         t.ends(['stat', '/', '/missing/' + 'a' * 256], (10, b'', 'bad path 9\n'))
         t.ends(['stat', '/' + 'a' * 1024, '/'], (11, b'', 'budget 1024\n'))
         t.ends(['stat', '/none', '/'], (6, b'', 'mount 2\n'))
-        t.ends(['stat', '/', '/', '--uid', 'x'], (1, b'', 'bad words\n'))
+        t.refuses(['stat', '/', '/', '--uid', 'x'])
+        t.refuses(['stat', '/'])
+        t.ends(['stat', '/', '/', '--uid=+5'], (0, b'dir 0777 2 0 0 0 1\n', ''))
     if t.has('mount'):
         done = subprocess.run(t.command('mount', '/'), capture_output=True, check=False, timeout=120)
         t.same('mount', (done.returncode, done.stdout[:7], done.stdout[-1:], done.stderr), (0, b'handle ', b'\n', b''))

@@ -39,7 +39,7 @@ type Row = (
     (u8, &'static [u8], &'static [u8]),
 );
 
-static ROWS: [Row; 22] = [
+static ROWS: [Row; 17] = [
     (DRILL, SCRIPT, NONE, (DONE, PRINTED, b"")),
     (
         DRILL,
@@ -83,24 +83,6 @@ static ROWS: [Row; 22] = [
         b"clients 1 credits 16\ndr\xc3\xa4in\n",
         NONE,
         (BAD_SCRIPT, b"", b"bad line 2\n"),
-    ),
-    (
-        &["nfsrdma"],
-        SCRIPT,
-        NONE,
-        (BAD_ARGUMENTS, b"", b"bad words\n"),
-    ),
-    (
-        &["nfsrdma", "drill", "drill"],
-        SCRIPT,
-        NONE,
-        (BAD_ARGUMENTS, b"", b"bad words\n"),
-    ),
-    (
-        &["nfsrdma", "Drill"],
-        SCRIPT,
-        NONE,
-        (BAD_ARGUMENTS, b"", b"bad words\n"),
     ),
     (
         DRILL,
@@ -156,6 +138,25 @@ static ROWS: [Row; 22] = [
         NONE,
         (BAD_ARGUMENTS, b"", b"bad words\n"),
     ),
+    (DRILL, SCRIPT, [&[0], &[], &[0]], (FAULT, b"", b"")),
+    (
+        &["nfsrdma", "--version"],
+        b"",
+        [&[], &[0], &[]],
+        (FAULT, b"", b"output fault\n"),
+    ),
+];
+
+/// Words that are no line: the status, and how the bytes on `out` and on `err` begin.
+static WORDS: [(&[&str], u8, &[u8], &[u8]); 9] = [
+    (&["nfsrdma"], BAD_ARGUMENTS, b"", b"error: "),
+    (&["nfsrdma", "Drill"], BAD_ARGUMENTS, b"", b"error: "),
+    (
+        &["nfsrdma", "drill", "drill"],
+        BAD_ARGUMENTS,
+        b"",
+        b"error: ",
+    ),
     (
         &[
             "nfsrdma",
@@ -167,9 +168,9 @@ static ROWS: [Row; 22] = [
             "--calls",
             "1",
         ],
+        BAD_ARGUMENTS,
         b"",
-        NONE,
-        (BAD_ARGUMENTS, b"", b"bad words\n"),
+        b"error: ",
     ),
     (
         &[
@@ -182,19 +183,31 @@ static ROWS: [Row; 22] = [
             "--calls",
             "0",
         ],
+        BAD_ARGUMENTS,
         b"",
-        NONE,
-        (BAD_ARGUMENTS, b"", b"bad words\n"),
+        b"error: ",
     ),
     (
         &[
             "nfsrdma", "drill", "--seed", "1", "--seed", "1", "--calls", "1",
         ],
+        BAD_ARGUMENTS,
         b"",
-        NONE,
-        (BAD_ARGUMENTS, b"", b"bad words\n"),
+        b"error: ",
     ),
-    (DRILL, SCRIPT, [&[0], &[], &[0]], (FAULT, b"", b"")),
+    (
+        &["nfsrdma", "--help"],
+        DONE,
+        b"NFSv3 over RPC-over-RDMA\n\nUsage: nfsrdma <COMMAND>\n",
+        b"",
+    ),
+    (&["nfsrdma", "--version"], DONE, b"nfsrdma 0.1.0\n", b""),
+    (
+        &["nfsrdma", "drill", "--seed=1", "--clients=1", "--calls=1"],
+        DONE,
+        b"calls 1 done 1 refused 0 journal 1 bytes 160\n",
+        b"",
+    ),
 ];
 
 fn strings(rt: &impl Abort, alloc: Global, arguments: &[&str]) -> Vec<String> {
@@ -293,6 +306,24 @@ fn each_status_with_its_text(rt: HostRuntime) {
         let arguments = strings(&rt, rt.alloc(), arguments);
         let input = input.to_vec(rt.alloc()).expect(&rt, "memory");
         same_run(&rt, rt.alloc(), row, &arguments, input, *failing, *want);
+    }
+}
+
+#[test]
+fn words_that_are_no_line(rt: HostRuntime) {
+    for (row, (words, status, printed, reported)) in WORDS.iter().enumerate() {
+        let words = strings(&rt, rt.alloc(), words);
+        let mut input = source(&rt, rt.alloc(), Vec::new(rt.alloc()), &[]);
+        let mut out = sink(&rt, rt.alloc(), &[]);
+        let mut err = sink(&rt, rt.alloc(), &[]);
+        let got = run_over(rt.alloc(), &words, &mut input, &mut out, &mut err);
+        drop(input);
+        let (out, err) = (out.bytes(), err.bytes());
+        let empty = (printed.is_empty(), reported.is_empty());
+        let got = (got, out.is_empty(), err.is_empty());
+        same(&rt, row, got, (*status, empty.0, empty.1));
+        let begin = (out.starts_with(printed), err.starts_with(reported));
+        same(&rt, row, begin, (true, true));
     }
 }
 
