@@ -13,7 +13,7 @@ ghost use Rattle.nr_top.specs.Ends.Cause.{BadScript};
 use crate::report::write_error;
 use crate::status::{BAD_INPUT, DONE, FAULT, NO_MEMORY, OVER_BUDGET};
 use nr_drill::{shown, summary};
-use nr_outside::{ReadEnd, Sink, Source, read_whole, write_whole};
+use nr_outside::{INPUT_MAX, ReadEnd, Sink, Source, read_whole, write_whole};
 use nr_script::{Script, ScriptFault, make_script, read_script};
 use nr_world::run_world;
 use nr_xdr::{Memory, Octets};
