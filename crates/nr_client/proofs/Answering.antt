@@ -1,5 +1,5 @@
 -- A call from its Submit to its answer or its end.
-use Rattle.std.proofs.Common.{◌≡◌, ℕ, true, false, is_some, List, [], ◌∷◌, ◌++◌, length, Option, Some, None, arith, inl, inr, ap, subst, sym, ◌∙◌}
+use Rattle.std.proofs.Common.{◌≡◌, ℕ, true, false, is_some, List, [], ◌∷◌, ◌++◌, Option, Some, None, arith, inl, inr, ap, subst, sym, ◌∙◌}
 use Rattle.std.proofs.lemmas.List.{length-append, nil_from_length}
 use Rattle.nr_requester.specs.AfterCalls.{after_forget}
 use Rattle.nr_rpc.specs.Credential.{CanWriteCred}

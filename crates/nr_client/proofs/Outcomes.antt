@@ -1,5 +1,5 @@
 -- A request, by how its call ended.
-use Rattle.std.proofs.Common.{◌≡◌, ℕ, ◌≤◌, List, length, Result, Ok, Err, IfErr, IfOk, inl, inr, arith, refl, sym, ap, subst}
+use Rattle.std.proofs.Common.{◌≡◌, ℕ, ◌≤◌, List, length, Result, Ok, Err, IfErr, IfOk, arith, sym, ap, subst}
 use Rattle.std.proofs.lemmas.List.{length-append}
 use Rattle.nr_xdr.specs.declared.fault.Memory.{Memory}
 use Rattle.nr_rpc.specs.Constants.{GIDS_MAX, MACHINE_MAX}
@@ -11,7 +11,7 @@ use Rattle.nr_reduce.specs.declared.call.Call.{Call}
 use Rattle.nr_client.specs.declared.client_end.ClientEnd.{ClientEnd}
 use Rattle.nr_client.specs.declared.client_end.ClientEnd.TheVariants as client
 use Rattle.nr_client.specs.Requests.{client_call, machine, SinkFaults, SourceFaults}
-use Rattle.nr_client.specs.Results.{Gives, IsOfCall, IsOfReply}
+use Rattle.nr_client.specs.Results.{IsOfCall, IsOfReply}
 
 -- results begin within the reply
 pub begins_within : (head : ReplyHead) (xid stat at : ℕ) (bytes : List ℕ) → head ≡ heads.Accepted xid stat at → BeginsReply head bytes → at ≤ length bytes

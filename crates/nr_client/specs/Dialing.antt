@@ -1,5 +1,5 @@
 -- What a dialer did if no session was opened.
-use Rattle.std.specs.Prelude.{◌≡◌, ⊥, ℕ, List, Option}
+use Rattle.std.specs.Prelude.{◌≡◌, ℕ, List, Option}
 use Rattle.nr_outside.specs.Faults.{Rises}
 use Rattle.nr_links.specs.Asked.{Asks}
 use Rattle.nr_links.specs.Links.{CountsLost, EndsLink, IsNewLink, LinkLog, MakesLink, ended_link}

@@ -1,6 +1,6 @@
 //! A call over a link.
 
-ghost use Rattle.std.specs.Prelude.{◌≡◌, ◌<◌, true, is_some, Some, length, Option, List, ℕ, IfOk, IfErr, OnOk, OnErr};
+ghost use Rattle.std.specs.Prelude.{◌≡◌, ◌<◌, true, is_some, Some, [], length, Option, List, ℕ, IfOk, IfErr, OnOk, OnErr};
 ghost use Rattle.nr_rpc.specs.Credential.{CanWriteCred};
 ghost use Rattle.nr_requester.specs.Fed.{fed_bytes};
 ghost use Rattle.nr_requester.specs.OpenCalls.{KeepsTickets, found_answer, open_call};

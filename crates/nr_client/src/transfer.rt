@@ -39,7 +39,7 @@ fn read_part<I: Source>(source: &mut I, buf: &mut [u8], room: usize) -> Result<u
 }
 
 /// Writes what is due. Fails if the write does, or if the client's side has ended, after that is written.
-fn write_due<O: Sink>(requester: &mut Requester, sink: &mut O) -> Result<(), CallEnd>
+pub(crate) fn write_due<O: Sink>(requester: &mut Requester, sink: &mut O) -> Result<(), CallEnd>
     ensures live { OnOk result (requester.new.state.side.ended ≡ None) }
     ensures started { OnOk result (requester.old.state.side.ended ≡ None) }
     ensures drained { MatchResult result (λ _. queue_of requester.new.state ≡ []) (λ end. IsDrained end requester.new) }

@@ -58,3 +58,24 @@ loop-requester-init g c = (
   inl refl,
   no_turn (link_bytes (g.I.Source.left c.args.source.now) (g.I.Source.given c.args.source.now) (g.O.Sink.taken c.args.sink.now) c.args.read.now) c.args.requester.now,
 )
+
+pub returns-in-Ok-write_due-clause-ok : goal.returns-in-Ok-write_due-clause-ok
+returns-in-Ok-write_due-clause-ok g c =
+    let (fits, sources, sinks, at_once, started, goes) = c.loop-requester.invariant in
+    turns_compose (link_bytes (g.I.Source.left c.args.source.now) (g.I.Source.given c.args.source.now) (g.O.Sink.taken c.args.sink.now) c.args.read.now)
+    (link_bytes (g.I.Source.left c.loop-requester.source) (g.I.Source.given c.loop-requester.source) (g.O.Sink.taken c.loop-requester.sink) c.loop-requester.read)
+    (link_bytes (g.I.Source.left c.loop-requester.source) (g.I.Source.given c.loop-requester.source) (g.O.Sink.taken c.write_due.new.sink) c.loop-requester.read)
+    c.args.requester.now c.loop-requester.requester c.write_due.new.requester goes
+    (c.in-Ok-write_due.ensures.writes (g.I.Source.left c.loop-requester.source) (g.I.Source.given c.loop-requester.source) c.loop-requester.read)
+
+pub returns-in-Err-write_due-clause-err : goal.returns-in-Err-write_due-clause-err
+returns-in-Err-write_due-clause-err g c =
+    let (fits, sources, sinks, at_once, started, goes) = c.loop-requester.invariant in
+    turn_to c.in-Err-write_due.end (link_bytes (g.I.Source.left c.args.source.now) (g.I.Source.given c.args.source.now) (g.O.Sink.taken c.args.sink.now) c.args.read.now)
+    (link_bytes (g.I.Source.left c.loop-requester.source) (g.I.Source.given c.loop-requester.source) (g.O.Sink.taken c.loop-requester.sink) c.loop-requester.read)
+    (link_bytes (g.I.Source.left c.loop-requester.source) (g.I.Source.given c.loop-requester.source) (g.O.Sink.taken c.write_due.new.sink) c.loop-requester.read)
+    c.args.requester.now c.loop-requester.requester c.write_due.new.requester goes
+    (ends_there c.in-Err-write_due.end (link_bytes (g.I.Source.left c.loop-requester.source) (g.I.Source.given c.loop-requester.source) (g.O.Sink.taken c.loop-requester.sink) c.loop-requester.read)
+    (link_bytes (g.I.Source.left c.loop-requester.source) (g.I.Source.given c.loop-requester.source) (g.O.Sink.taken c.write_due.new.sink) c.loop-requester.read)
+    c.loop-requester.requester c.write_due.new.requester c.in-Err-write_due.ensures.drained
+    (c.in-Err-write_due.ensures.writes (g.I.Source.left c.loop-requester.source) (g.I.Source.given c.loop-requester.source) c.loop-requester.read))
