@@ -1,5 +1,5 @@
 -- A command of a client, from its words to its end.
-use Rattle.std.specs.Prelude.{◌≡◌, ℕ, List, [], Option, Result, Ok, Err}
+use Rattle.std.specs.Prelude.{◌≡◌, ℕ, List, [], Result, Ok, Err}
 use Rattle.nr_outside.specs.Streams.{SinkAt, SourceAt, Writes, WritesSome}
 use Rattle.nr_links.specs.Asked.{Asks as AsksFor}
 use Rattle.nr_links.specs.Links.{CountsLost, EndsLink, IsNewLink, MakesLink, ended_link}

@@ -1,4 +1,4 @@
-use Rattle.std.proofs.Common.{◌≡◌, ℕ, ◌<◌, List, Result, Ok, Err, length, take, refl, sym, subst}
+use Rattle.std.proofs.Common.{ℕ, ◌<◌, List, Result, Ok, Err, length, take, refl, sym, subst}
 use Rattle.std.specs.Io.KnownBytes.{Appends}
 use Rattle.nr_outside.specs.Streams.{sink_at}
 use Rattle.nr_client.specs.declared.client_end.ClientEnd.{ClientEnd}

@@ -1,4 +1,4 @@
-use Rattle.std.proofs.Common.{ℕ, refl}
+use Rattle.std.proofs.Common.{refl}
 use Rattle.nr_outside.specs.Streams.{sink_at, source_at}
 use Rattle.nr_words.specs.Lines.{plain_action}
 use Rattle.nr_client.specs.Dialing.{dialer_at}

@@ -1,4 +1,4 @@
-use Rattle.std.proofs.Common.{ℕ, refl, sym, subst}
+use Rattle.std.proofs.Common.{refl, sym, subst}
 use Rattle.std.specs.Borrow.{Bor}
 use Rattle.nr_outside.specs.Streams.{sink_at, source_at}
 use Rattle.nr_words.specs.Lines.{Text, plain_action}

@@ -1,11 +1,8 @@
-use Rattle.std.proofs.Common.{Ok, Err, [], ℕ, List, sym, subst, refl, ap}
-use Rattle.nr_commands.specs.Commands.{Finds, FindsParent, Mounts, Symlinks}
-use Rattle.nr_commands.specs.Sessions.{Request, Requests, Text, Then, session_at}
+use Rattle.std.proofs.Common.{Ok, Err, [], refl}
+use Rattle.nr_commands.specs.Commands.{FindsParent}
+use Rattle.nr_commands.specs.Sessions.{Request, Text, Then, session_at}
 use Rattle.nr_commands.proofs.Parts.{then_ends, then_goes, with_user}
-use Rattle.nr_client.specs.Listing.{list_next}
-use Rattle.nr_client.specs.Requests.{create_result, getattr_call, getattr_result, mkdir_call, readlink_call, readlink_result, remove_call, remove_result}
-use Rattle.nr_client.specs.Walking.{parent_next, walk_next}
-use Rattle.nr_commands.specs.Printed.{attributes_text, handle_text, names_text, path_text}
+use Rattle.nr_client.specs.Requests.{create_result, mkdir_call}
 use Rattle.nr_commands.proofs.texts.make_directory.Goals as goal
 
 pub returns-in-Err-clause-part : goal.returns-in-Err-clause-part

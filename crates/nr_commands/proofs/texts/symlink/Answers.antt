@@ -1,7 +1,6 @@
-use Rattle.std.proofs.Common.{◌≡◌, ◌<◌, ◌≤◌, ℕ, List, length, arith, subst, ◌∙◌}
+use Rattle.std.proofs.Common.{ℕ, List, arith, subst, ◌∙◌}
 use Rattle.nr_nfs_base.specs.Limits.{link_target_max}
-use Rattle.nr_words.specs.Limits.{mount_path_max}
-use Rattle.nr_client.specs.Requests.{create_result, mnt_call, mnt_result, symlink_call}
+use Rattle.nr_client.specs.Requests.{create_result, symlink_call}
 use Rattle.nr_commands.specs.Sessions.{Request, session_at}
 use Rattle.nr_commands.proofs.Limits.{fits, too_long}
 use Rattle.nr_commands.proofs.texts.symlink.Goals as goal
