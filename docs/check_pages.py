@@ -221,7 +221,7 @@ def check_reasons(crates: list[str]) -> list[str]:
     given: set[int] = set()
     for crate in crates:
         for path in sources(crate, ('src', 'specs')):
-            given |= {int(n) for n in re.findall(r'\b(?:REASON_\w+|NO_BUFFER_WORD)(?:: u32)? = (\d+)', read(path))}
+            given |= {int(n) for n in re.findall(r'\b(?:REASON_\w+|NO_BUFFER_WORD|NOT_READ|NO_PROGRESS)(?:: u32)? = (\d+)', read(path))}
             given |= {int(n) for n in re.findall(r'\bdenied_word \w+ = (\d+)', read(path))}
     table = read(os.path.join(ROOT, 'docs', 'WIRE.md')).split('| number | given for |', 1)[-1].split('\n\n', 1)[0]
     rows = {int(n) for n in re.findall(r'^\| (\d+) \|', table, re.M)}
