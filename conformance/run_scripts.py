@@ -22,12 +22,17 @@ NAME = 'script_runner'
 PROGRAM = '''//! Runs the scripts of the input, and writes for each what the drill writes.
 #![tactic(auto)]
 
-use nr_outside::{MemSink, MemSource, StdSource, read_whole};
+use nr_links::{MemAcceptor, MemClock, MemDialer};
+use nr_outside::{INPUT_MAX, MemSink, MemSource, Moment, StdSource, read_whole};
 use nr_top::run;
 use std::alloc::Global;
 use std::io;
 
-const INPUT_MAX: usize = 16_777_216;
+/// The moments of the clock, which no drill asks for.
+static MOMENTS: [Moment; 1] = [Moment {
+    seconds: 0,
+    nanos: 0,
+}];
 
 fn print(rt: &HostRuntime, text: &[u8]) -> io::Result<()> {
     match str::from_utf8(text) {
@@ -50,7 +55,19 @@ fn drill(rt: &HostRuntime, script: &[u8], words: &[String]) -> io::Result<()> {
     let mut input = MemSource::new(script, Vec::new(alloc), Vec::new(alloc));
     let mut out = MemSink::new(alloc, Vec::new(alloc));
     let mut err = MemSink::new(alloc, Vec::new(alloc));
-    let status = run(alloc, words, &mut input, &mut out, &mut err);
+    let mut dial = MemDialer::new(alloc, Vec::new(alloc), Vec::new(alloc));
+    let mut accept = MemAcceptor::new(alloc, Vec::new(alloc), Vec::new(alloc));
+    let mut clock = MemClock::new(&MOMENTS);
+    let status = run(
+        alloc,
+        words,
+        &mut input,
+        &mut out,
+        &mut err,
+        &mut dial,
+        &mut accept,
+        &mut clock,
+    );
     drop(input);
     print(rt, out.bytes())?;
     println!(rt; "== {status}")?;
@@ -92,7 +109,7 @@ def answers(texts: list[bytes]) -> list[str]:
         with open(os.path.join(crate, 'src', 'main.rt'), 'w', encoding='utf-8') as h:
             h.write(PROGRAM)
         with open(os.path.join(repo, 'crates.txt'), 'a', encoding='utf-8') as h:
-            h.write('%s: nr_outside nr_top\n' % NAME)
+            h.write('%s: nr_outside nr_links nr_top\n' % NAME)
         given = b''.join(len(text).to_bytes(4, 'big') + text for text in texts)
         done = subprocess.run(['rt', 'try', '--steps', '1', '--seconds', '3000'], cwd=crate, input=given, stdout=subprocess.PIPE, check=False)
         return [x + '==\n' for x in done.stdout.decode('latin-1').split('==\n')[:-1]]
