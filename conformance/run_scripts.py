@@ -59,7 +59,14 @@ fn drill(rt: &HostRuntime, script: &[u8], words: &[String]) -> io::Result<()> {
     let mut accept = MemAcceptor::new(alloc, Vec::new(alloc), Vec::new(alloc));
     let mut clock = MemClock::new(&MOMENTS);
     let status = run(
-        alloc, words, &mut input, &mut out, &mut err, &mut dial, &mut accept, &mut clock,
+        alloc,
+        words,
+        &mut input,
+        &mut out,
+        &mut err,
+        &mut dial,
+        &mut accept,
+        &mut clock,
     );
     drop(input);
     print(rt, out.bytes())?;

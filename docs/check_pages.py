@@ -3,8 +3,9 @@
     python3 docs/check_pages.py [--only WORD]
 
 A page docs/crates/NAME.md has to name, in backticks or in a code block, each public call of the crate NAME: each
-function that its lib.rt makes public, and each public method; and "Stands on" has the crates of crates.txt. Tests and
-benchmarks have a heading each in tests.md and benches.md. Each name in backticks on any page has to be there: a word of
+function that its lib.rt makes public, and each public method; and each edit of its must-fail/. "Stands on" has the
+crates of crates.txt; a source file in backticks is one of the crate, and a name before "(FILE; .." stands in that file
+of its specs/. Tests and benchmarks have a heading each in tests.md and benches.md. Each name in backticks on any page has to be there: a word of
 the code (on a crate's page of that crate, of those that it stands on or that stand on it), a file, a crate, a script;
 but for the first column of a table from names before to names now.
 Lines have at most 160 characters, prose 120, table cells 40 words; links lead to a file; the words of CONTRIBUTING's
@@ -221,12 +222,30 @@ def check_reasons(crates: list[str]) -> list[str]:
     given: set[int] = set()
     for crate in crates:
         for path in sources(crate, ('src', 'specs')):
-            given |= {int(n) for n in re.findall(r'\b(?:REASON_\w+|NO_BUFFER_WORD)(?:: u32)? = (\d+)', read(path))}
+            given |= {int(n) for n in re.findall(r'\b(?:REASON_\w+|NO_BUFFER_WORD|NOT_READ|NO_PROGRESS)(?:: u32)? = (\d+)', read(path))}
             given |= {int(n) for n in re.findall(r'\bdenied_word \w+ = (\d+)', read(path))}
     table = read(os.path.join(ROOT, 'docs', 'WIRE.md')).split('| number | given for |', 1)[-1].split('\n\n', 1)[0]
     rows = {int(n) for n in re.findall(r'^\| (\d+) \|', table, re.M)}
     out = ['docs/WIRE.md: no row of the reason or word %d' % n for n in sorted(given - rows)]
     return out + ['docs/WIRE.md: the number %d is no reason or word' % n for n in sorted(rows - given)]
+
+
+def check_files(page: str, crate: str, text: str) -> list[str]:
+    """The files and the edits of a crate that its page names."""
+    files = {os.path.basename(x) for x in sources(crate)}
+    out = ['%s:%d: no file `%s` in the crate' % (page, n, x) for n, x in spans(text)
+           if re.search(r'^[\w/]+\.(rt|antt)$', x) and os.path.basename(x) not in files]
+    edits = glob.glob(os.path.join(ROOT, 'crates', crate, 'must-fail', '*.edit'))
+    out += ['%s: the edit `%s` is missing' % (page, x) for x in sorted(os.path.basename(e)[:-len('.edit')] for e in edits)
+            if '`%s`' % x not in text]
+    specs = {os.path.splitext(os.path.basename(x))[0]: read(x) for x in sources(crate, ('specs',))}
+    for names, name in re.findall(r"((?:`[\w']+`(?:, | ))+)\(([A-Z]\w+)(?:\.antt)?;", re.sub(r'\s+', ' ', text)):
+        if name not in specs:
+            out.append('%s: no file %s of definitions' % (page, name))
+            continue
+        out += ['%s: no `%s` in %s' % (page, x, name) for x in re.findall(r'`([^`]+)`', names)
+                if not re.search(r"\b%s(?![\w'])" % re.escape(x), specs[name])]
+    return out
 
 
 def check_crates(crates: list[str]) -> list[str]:
@@ -249,6 +268,7 @@ def check_crates(crates: list[str]) -> list[str]:
         stands = re.search(r'^Stands on ([^.]*)\.', text, re.M)
         if stands is None or set(WORD.findall(stands.group(1))) & set(crates) != below(crate):
             out.append('%s: "Stands on" has other crates than crates.txt: %s' % (page, ' '.join(sorted(below(crate)))))
+        out += check_files(page, crate, text)
     pages = {os.path.basename(p)[:-3] for p in glob.glob(os.path.join(ROOT, 'docs', 'crates', '*.md'))}
     out += ['docs/crates/%s.md: no such crate' % p for p in sorted(pages - set(crates) - {'tests', 'benches'})]
     return out
@@ -260,7 +280,7 @@ def main(argv: list[str]) -> int:
     a = p.parse_args(argv)
     crates = crate_names()
     words = vocabularies(crates)
-    pages = ['README.md', 'CONTRIBUTING.md', 'conformance/README.md']
+    pages = ['README.md', 'CONTRIBUTING.md', 'conformance/README.md', 'drills/README.md']
     pages += [os.path.relpath(x, ROOT) for x in sorted(glob.glob(os.path.join(ROOT, 'docs', '**', '*.md'), recursive=True))]
     wrong = check_crates(crates) + check_reasons(crates)
     for page in pages:
