@@ -10,7 +10,7 @@ use Rattle.nr_xdr.specs.Item.{word, hyper}
 use Rattle.nr_wire.specs.Constants.{OPCODE_SEND, QUEUE_SEND, UNTAGGED_LEN}
 use Rattle.nr_wire.specs.Segment.Segment.{Untagged}
 use Rattle.nr_link.specs.Output.{cut, segment_count, segment_payload, send, write, read_response}
-use Rattle.nr_endpoint.specs.Carriers.{operation_segment}
+use Rattle.nr_endpoint.specs.OperationSegments.{operation_segment}
 use Rattle.nr_endpoint.specs.declared.framing.Operation.{Operation}
 use Rattle.nr_endpoint.specs.declared.framing.Operation.TheVariants as carriers
 use Rattle.nr_link.specs.Limits.{segment_max}

@@ -7,7 +7,7 @@ use Rattle.nr_wire.specs.Constants.{HELLO_LEN, OPCODE_READ_RESPONSE, OPCODE_TERM
 use Rattle.nr_wire.specs.declared.hello.Side.{Side}
 use Rattle.nr_wire.specs.declared.stream.Awaited.{Awaited}
 use Rattle.nr_wire.specs.declared.stream.Awaited.TheVariants.{Hello as HelloFrom, Fpdu}
-use Rattle.nr_wire.specs.Hello.{Hello, hello_of, hello_flaw, value_unless}
+use Rattle.nr_wire.specs.Hello.{Hello, hello_of, hello_reason, value_unless}
 use Rattle.nr_wire.specs.Segment.{Segment, segment_of, frame_reason}
 use Rattle.nr_wire.specs.Segment.Segment.{Tagged, Untagged}
 use Rattle.nr_regions.specs.declared.denied.Denied.{Denied}
@@ -48,13 +48,13 @@ hello_flaw_by side b1 b2 b3 b4 =
     (some_if P b3 REASON_REVISION _ (omega arith, omega arith)
     (some_if P b4 REASON_PRIVATE None (omega arith, omega arith) tt)))
 
-hello_flaw_lem : (side : Side) (head : List ℕ) → IfSome (hello_flaw side head) (IsFrameReason (HelloFrom side))
-unfolding hello_flaw
+hello_flaw_lem : (side : Side) (head : List ℕ) → IfSome (hello_reason side head) (IsFrameReason (HelloFrom side))
+unfolding hello_reason
 hello_flaw_lem side head = hello_flaw_by side _ _ _ _
 
 hello_reason : (side : Side) (frame : List ℕ) → IfErr (hello_of side frame) (IsFrameReason (HelloFrom side))
 unfolding hello_of
-hello_reason side frame = value_error (IsFrameReason (HelloFrom side)) (hello_flaw side (take HELLO_LEN frame)) _ (hello_flaw_lem side (take HELLO_LEN frame))
+hello_reason side frame = value_error (IsFrameReason (HelloFrom side)) (hello_reason side (take HELLO_LEN frame)) _ (hello_flaw_lem side (take HELLO_LEN frame))
 
 flaw_reason : (b1 b2 b3 b4 b5 b6 : Bool) → IfSome
     (cond b1 (Some REASON_LENGTH) (cond b2 (Some REASON_DDP_VERSION) (cond b3 (Some REASON_RDMAP_VERSION) (cond b4 (Some REASON_OPCODE) (cond b5 (Some REASON_TAGGED) (cond b6 (Some REASON_QUEUE) None))))))

@@ -18,7 +18,7 @@ use Rattle.nr_endpoint.specs.LinkState.{LinkSide, LinkState, has_ended}
 use Rattle.std.specs.Ordering.{nat_cmp}
 use Rattle.std.specs.FinMap.{FinMap}
 use Rattle.nr_regions.specs.RegisteredMemory.{Outside}
-use Rattle.nr_endpoint.specs.Carriers.{cut_room, writes_room}
+use Rattle.nr_endpoint.specs.OperationSegments.{cut_room, writes_room}
 use Rattle.nr_endpoint.specs.EndpointState.{EndpointState}
 use Rattle.nr_endpoint.specs.Calls.{Call, after_call, after_calls, with_state, unless_ended}
 use Rattle.nr_endpoint.specs.Calls.Call.{Send}

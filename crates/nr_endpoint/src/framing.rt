@@ -4,7 +4,7 @@ ghost use Rattle.std.specs.Prelude.{◌≡◌, ℕ, ◌+◌, ◌*◌, ◌^◌, �
 ghost use Rattle.nr_wire.specs.Segment.{IsWritable, encoding, payload_in};
 ghost use Rattle.nr_wire.specs.View.{segment as plain};
 ghost use Rattle.nr_link.specs.Output.{cut, segment_count, segment_payload, terminate_message};
-ghost use Rattle.nr_endpoint.specs.Carriers.{operation_segment, cut_room, writes_room, FitsAt, FitsOperation};
+ghost use Rattle.nr_endpoint.specs.OperationSegments.{operation_segment, cut_room, writes_room, FitsAt, FitsOperation};
 ghost use Rattle.nr_endpoint.specs.Offering.{FitsRegion, writes_output};
 
 use crate::constants::{FRAMING_MAX, SEGMENT_MAX};

@@ -3,7 +3,7 @@
 ghost use Rattle.std.specs.Prelude.{◌≡◌, ◌+◌, ◌^◌, ◌<◌, ◌≤◌, ◌++◌, length, All, IfOk, OnOk, OnErr};
 ghost use Rattle.nr_wire.specs.Segment.{encoding};
 ghost use Rattle.nr_link.specs.Output.{cut, segment_payload};
-ghost use Rattle.nr_endpoint.specs.Carriers.{operation_segment, FitsAt, FitsOperation};
+ghost use Rattle.nr_endpoint.specs.OperationSegments.{operation_segment, FitsAt, FitsOperation};
 ghost use Rattle.nr_endpoint.specs.Offering.{FitsSharedRegion, shared_output};
 
 use crate::constants::{FRAMING_MAX, SEGMENT_MAX, SHARED_MIN};

@@ -17,7 +17,7 @@ use Rattle.nr_reduce.specs.OfferedRegions.{region_grants}
 use Rattle.nr_reduce.specs.ClientState.{ClientState}
 use Rattle.nr_reduce.specs.ServerState.{ServerState}
 use Rattle.nr_reduce.specs.ServerFrames.{FrameEffect, effect_in, frame_effect}
-use Rattle.nr_reduce.specs.Server.{server_end, server_state_after, server_output, readiness, or_refusal, refusal_end, newly_open_reads, effect_output, with_effect, with_own_hello, received_by}
+use Rattle.nr_reduce.specs.Server.{server_end, server_state_after, server_output, server_readiness, or_refusal, refusal_end, newly_open_reads, effect_output, with_effect, with_own_hello, received_by}
 use Rattle.nr_laws.proofs.FrameContents.{FrameContent, numbered_segment, frame_bytes, output_bytes, total_of, sends_in, requests_in, hellos_in, effect_frames, server_frames, Carries, SentMessage, CompletesMessage, part_segment, last_segment}
 use Rattle.nr_laws.proofs.FrameContents.FrameContent.{HelloFrame, PartFrame, SendFrame, RequestFrame, TaggedFrame}
 use Rattle.nr_laws.proofs.LinkInvariants.{Transit, TotalsAgree, PendingAgree}
@@ -75,8 +75,8 @@ refusal_by s f None (Some reason) is e = absurd (let wrong : refusal_end f (Some
 pub not_refused_lem : (opened : LinkParameters) (s : ServerState) (f : Frame) → is_hello f ≡ false → server_end opened s (FrameReceived f) ≡ None → (frame_effect s f).refusal ≡ None
 unfolding server_end
 not_refused_lem opened s f behind e =
-    refusal_by s f (frame_end (readiness opened s) (region_grants f.end s.regions) f) (frame_effect s f).refusal refl
-    ((λ i. cond (sym behind i) (hello_end (hello_of Initiator f.bytes)) (or_refusal s f (frame_end (readiness opened s) (region_grants f.end s.regions) f))) ∙ e)
+    refusal_by s f (frame_end (server_readiness opened s) (region_grants f.end s.regions) f) (frame_effect s f).refusal refl
+    ((λ i. cond (sym behind i) (hello_end (hello_of Initiator f.bytes)) (or_refusal s f (frame_end (server_readiness opened s) (region_grants f.end s.regions) f))) ∙ e)
 
 pub says_hello : (opened : LinkParameters) (s : ServerState) (f : Frame) → is_hello f ≡ true → server_frames opened s (FrameReceived f) ≡ HelloFrame ∷ []
 unfolding server_frames

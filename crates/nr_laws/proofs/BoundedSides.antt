@@ -35,7 +35,7 @@ use Rattle.nr_reduce.specs.ServerMessages.{CallVerdict, Verdict, by_payload, pen
 use Rattle.nr_reduce.specs.ServerMessages.CallVerdict.{Refuses, IsReady}
 use Rattle.nr_reduce.specs.ServerMessages.Verdict.{EndsLink, OtherVersion, BadChunks, MakesPending}
 use Rattle.nr_reduce.specs.ServerFrames.{FrameEffect, frame_effect, no_effect, with_verdict, ready_if_whole, message_effect, with_refused_call, with_access, call_of_number}
-use Rattle.nr_reduce.specs.Server.{server_rules, server_end, server_state_after, initial_server, readiness, or_refusal, received_by, with_effect, with_own_hello, send_ends_from, execution_output}
+use Rattle.nr_reduce.specs.Server.{server_rules, server_end, server_state_after, initial_server, server_readiness, or_refusal, received_by, with_effect, with_own_hello, send_ends_from, execution_output}
 use Rattle.nr_reduce.specs.RunLaws.{server_by, ends_response}
 use Rattle.nr_reduce.specs.Served.{ServedSoFar}
 use Rattle.nr_reduce.specs.Run.{client, server}
@@ -215,13 +215,13 @@ any_less {X} p (y ∷ xs) e = by (p y) e (λ h. any_less p xs h)
 -- ---- A frame at a server
 
 server_unharmed : (opened : LinkParameters) (k : ServerState) (f : Frame) (segment : Segment) → is_hello f ≡ false → frame_segment f ≡ Ok segment → server_end opened k (FrameReceived f) ≡ None
-    → segment_reason (readiness opened k (missing_access (region_grants f.end k.regions) f segment)) segment ≡ None
+    → segment_reason (server_readiness opened k (missing_access (region_grants f.end k.regions) f segment)) segment ≡ None
 unfolding server_end frame_end
 server_unharmed opened k f segment behind is e =
-    let others : or_refusal k f (frame_end (readiness opened k) (region_grants f.end k.regions) f) ≡ None =
-    ap (λ (b : Bool). cond b (hello_end (hello_of Initiator f.bytes)) (or_refusal k f (frame_end (readiness opened k) (region_grants f.end k.regions) f))) (sym behind) ∙ e in
-    let none : frame_end (readiness opened k) (region_grants f.end k.regions) f ≡ None = by_end (frame_end (readiness opened k) (region_grants f.end k.regions) f) others in
-    no_flaw f segment _ (ap (λ (r : Result Segment ℕ). frame_end_by (readiness opened k) (region_grants f.end k.regions) f r) (sym is) ∙ none)
+    let others : or_refusal k f (frame_end (server_readiness opened k) (region_grants f.end k.regions) f) ≡ None =
+    ap (λ (b : Bool). cond b (hello_end (hello_of Initiator f.bytes)) (or_refusal k f (frame_end (server_readiness opened k) (region_grants f.end k.regions) f))) (sym behind) ∙ e in
+    let none : frame_end (server_readiness opened k) (region_grants f.end k.regions) f ≡ None = by_end (frame_end (server_readiness opened k) (region_grants f.end k.regions) f) others in
+    no_flaw f segment _ (ap (λ (r : Result Segment ℕ). frame_end_by (server_readiness opened k) (region_grants f.end k.regions) f r) (sym is) ∙ none)
   where
     by_end : (o : Option Stop) → or_refusal k f o ≡ None → o ≡ None
     by_end None e = refl
@@ -298,7 +298,7 @@ frame_keeps opened k f (Tagged last opcode stag to payload) behind is stays =
 frame_keeps opened k f (Untagged last opcode w queue msn offset payload) behind is stays = by (is_send opcode) refl
   where
     r : Readiness Denied
-    r = readiness opened k (missing_access (region_grants f.end k.regions) f (Untagged last opcode w queue msn offset payload))
+    r = server_readiness opened k (missing_access (region_grants f.end k.regions) f (Untagged last opcode w queue msn offset payload))
 
     case : EffectCase k f (Untagged last opcode w queue msn offset payload) (frame_effect k f)
     case = effect_case k f (Untagged last opcode w queue msn offset payload) is
@@ -369,9 +369,9 @@ written_receives granted opened k taken h = (let less = waiting_later k.written 
 pub wrong_frame : (opened : LinkParameters) (k : ServerState) (f : Frame) (reason : ℕ) → is_hello f ≡ false → frame_segment f ≡ Err reason → server_end opened k (FrameReceived f) ≡ None → ⊥
 unfolding server_end frame_end
 wrong_frame opened k f reason behind is e =
-    let ends : or_refusal k f (frame_end_by (readiness opened k) (region_grants f.end k.regions) f (frame_segment f)) ≡ None =
-    ap (λ (b : Bool). cond b (hello_end (hello_of Initiator f.bytes)) (or_refusal k f (frame_end_by (readiness opened k) (region_grants f.end k.regions) f (frame_segment f)))) (sym behind) ∙ e in
-    let wrong : Some (ends_as.Bad f.at reason) ≡ None = ap (λ (r : Result Segment ℕ). or_refusal k f (frame_end_by (readiness opened k) (region_grants f.end k.regions) f r)) (sym is) ∙ ends in cc
+    let ends : or_refusal k f (frame_end_by (server_readiness opened k) (region_grants f.end k.regions) f (frame_segment f)) ≡ None =
+    ap (λ (b : Bool). cond b (hello_end (hello_of Initiator f.bytes)) (or_refusal k f (frame_end_by (server_readiness opened k) (region_grants f.end k.regions) f (frame_segment f)))) (sym behind) ∙ e in
+    let wrong : Some (ends_as.Bad f.at reason) ≡ None = ap (λ (r : Result Segment ℕ). or_refusal k f (frame_end_by (server_readiness opened k) (region_grants f.end k.regions) f r)) (sym is) ∙ ends in cc
 
 quiet_submitted : (opened : LinkParameters) (k : ServerState) (p : ℕ) (a : AcceptedCall) → receives_in_use k ≤ opened.granted → receives_in_use (server_state_after opened k (CallSubmitted p a)) ≤ opened.granted
 unfolding server_state_after

@@ -16,7 +16,7 @@ use Rattle.nr_reduce.specs.Events.RunEvent.{FrameReceived, CallSubmitted, Memory
 use Rattle.nr_reduce.specs.EndRules.{end_state_after}
 use Rattle.nr_reduce.specs.ServerState.{ServerState}
 use Rattle.nr_reduce.specs.ServerFrames.{frame_effect}
-use Rattle.nr_reduce.specs.Server.{server_rules, server_end, initial_server, readiness, or_refusal, refusal_end}
+use Rattle.nr_reduce.specs.Server.{server_rules, server_end, initial_server, server_readiness, or_refusal, refusal_end}
 use Rattle.nr_reduce.specs.Run.{server}
 use Rattle.nr_reduce.specs.RunLaws.{server_by}
 use Rattle.nr_laws.proofs.EndReasons.{IsCallReason}
@@ -41,7 +41,7 @@ pub record RefusedAt (opened : LinkParameters) (link : ℕ) (run : List Mark) (r
   pub behind : is_hello frame ≡ false
   pub is_segment : frame_segment frame ≡ Ok segment
   pub live : (end_state_after (server_rules opened) (initial_server opened) earlier).ended ≡ None
-  pub fits : frame_end (readiness opened (server_by opened earlier)) (region_grants frame.end (server_by opened earlier).regions) frame ≡ None
+  pub fits : frame_end (server_readiness opened (server_by opened earlier)) (region_grants frame.end (server_by opened earlier).regions) frame ≡ None
   pub cause : RefusedBy (server_by opened earlier) frame segment reason
 
 reason_same : (a b n m : ℕ) → Some (ends.Bad a n) ≡ Some (ends.Bad b m) → n ≡ m
@@ -53,7 +53,7 @@ unfolding server_end
 refused_frame opened link run es f more at reason all live (inl h) own e =
     absurd (none_some_lem (ends.Bad at reason) (server_end opened (server_by opened es) (FrameReceived f)) (hello_goes opened (server_by opened es) f h.0 h.1) e)
 refused_frame opened link run es f more at reason all live (inr (s, behind, is)) own e =
-    by (frame_end (readiness opened k) grants f) refl (ap (λ (b : Bool). cond b (hello_end (hello_of Initiator f.bytes)) (or_refusal k f (frame_end (readiness opened k) grants f))) (sym behind) ∙ e)
+    by (frame_end (server_readiness opened k) grants f) refl (ap (λ (b : Bool). cond b (hello_end (hello_of Initiator f.bytes)) (or_refusal k f (frame_end (server_readiness opened k) grants f))) (sym behind) ∙ e)
   where
     k : ServerState
     k = server_by opened es
@@ -61,7 +61,7 @@ refused_frame opened link run es f more at reason all live (inr (s, behind, is))
     grants : List Grant
     grants = region_grants f.end k.regions
 
-    by_refusal : frame_end (readiness opened k) grants f ≡ None → (o : Option ℕ) → (frame_effect k f).refusal ≡ o → refusal_end f o ≡ Some (ends.Bad at reason) → RefusedAt opened link run reason
+    by_refusal : frame_end (server_readiness opened k) grants f ≡ None → (o : Option ℕ) → (frame_effect k f).refusal ≡ o → refusal_end f o ≡ Some (ends.Bad at reason) → RefusedAt opened link run reason
     by_refusal fits None refusal e = absurd cc
     by_refusal fits (Some n) refusal e =
         let same : n ≡ reason = reason_same f.at at n reason e in
@@ -78,8 +78,8 @@ refused_frame opened link run es f more at reason all live (inr (s, behind, is))
           cause = subst (λ (x : ℕ). RefusedBy k f s x) same (refused_by k f s n (subst IsCallReason (sym same) own) is refusal);
         }
 
-    by : (o : Option Stop) → frame_end (readiness opened k) grants f ≡ o → or_refusal k f o ≡ Some (ends.Bad at reason) → RefusedAt opened link run reason
-    by (Some end) fits e = absurd (frame_other (readiness opened k) grants f s at reason is own (fits ∙ e))
+    by : (o : Option Stop) → frame_end (server_readiness opened k) grants f ≡ o → or_refusal k f o ≡ Some (ends.Bad at reason) → RefusedAt opened link run reason
+    by (Some end) fits e = absurd (frame_other (server_readiness opened k) grants f s at reason is own (fits ∙ e))
     by None fits e = by_refusal fits (frame_effect k f).refusal refl e
 
 pub refused_at_lem : (opened : LinkParameters) (link : ℕ) (run : List Mark) → IsTyped run → MatchedSoFar opened link run → (at reason : ℕ) → IsCallReason reason → (server opened link run).ended ≡ Some (ends.Bad at reason) → RefusedAt opened link run reason

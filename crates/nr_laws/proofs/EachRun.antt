@@ -11,7 +11,7 @@ use Rattle.nr_reduce.specs.History.{bytes_sent, bytes_received}
 use Rattle.nr_reduce.specs.Events.{RunEvent, if_own, events_at, events}
 use Rattle.nr_reduce.specs.EndRules.{EndState, EndMachine, end_state_after}
 use Rattle.nr_reduce.specs.ClientState.{initial_client_state as client_initial_state}
-use Rattle.nr_reduce.specs.ServerState.{initial_state as server_initial_state}
+use Rattle.nr_reduce.specs.ServerState.{initial_server_state as server_initial_state}
 use Rattle.nr_reduce.specs.Client.{client_rules}
 use Rattle.nr_reduce.specs.Server.{server_rules}
 use Rattle.nr_reduce.specs.Run.{client, server, output_due}

@@ -19,7 +19,7 @@ use Rattle.nr_reduce.specs.Events.RunEvent.{FrameReceived}
 use Rattle.nr_reduce.specs.ClientState.{ClientState}
 use Rattle.nr_reduce.specs.Client.{client_readiness as client_readiness, client_end, or_message_end, client_message_end, segment_message}
 use Rattle.nr_reduce.specs.ServerState.{ServerState, PendingRead}
-use Rattle.nr_reduce.specs.Server.{readiness, server_end, or_refusal, refusal_end}
+use Rattle.nr_reduce.specs.Server.{server_readiness, server_end, or_refusal, refusal_end}
 use Rattle.nr_reduce.specs.ServerFrames.{frame_effect}
 use Rattle.nr_laws.proofs.FrameContents.{FrameContent, Carries, total_of, sends_in, SentMessage, part_segment}
 use Rattle.nr_laws.proofs.FrameContents.FrameContent.{PartFrame, SendFrame, TaggedFrame}
@@ -33,7 +33,7 @@ use Rattle.nr_link.specs.ReceiveState.{begun_bytes}
 
 -- ---- The server
 
-server_by_lem : (opened : LinkParameters) (s : ServerState) (f : Frame) (first_fault : Option End) → is_hello f ≡ false → frame_end (readiness opened s) (region_grants f.end s.regions) f ≡ first_fault → server_end opened s (FrameReceived f) ≡ or_refusal s f first_fault
+server_by_lem : (opened : LinkParameters) (s : ServerState) (f : Frame) (first_fault : Option End) → is_hello f ≡ false → frame_end (server_readiness opened s) (region_grants f.end s.regions) f ≡ first_fault → server_end opened s (FrameReceived f) ≡ or_refusal s f first_fault
 unfolding server_end
 server_by_lem opened s f first_fault behind is = λ i. cond (behind i) (hello_end (hello_of Initiator f.bytes)) (or_refusal s f (is i))
 
@@ -45,7 +45,7 @@ server_send opened k s w f message rest c g head p long short limits =
     let some : 0 < total_of sends_in (w.up ++ w.queued_up) = omega (arith, ap (λ (ps : List FrameContent). total_of sends_in (ps ++ w.queued_up)) head) in
     let front = at_front s.received.begun w.up w.queued_up (SendFrame message) rest head c.whole_up in
     server_by_lem opened s f None p.behind
-    (send_frame (readiness opened s) (region_grants f.end s.regions) s.received.sends s.received.requests f message p refl front.0 front.1 (receives opened k s w c g some) refl long (omega (arith, short, up)))
+    (send_frame (server_readiness opened s) (region_grants f.end s.regions) s.received.sends s.received.requests f message p refl front.0 front.1 (receives opened k s w c g some) refl long (omega (arith, short, up)))
 
 -- a segment of a Send that isn't its last: nothing
 pub server_part : (opened : LinkParameters) (k : ClientState) (s : ServerState) (w : Transit) (f : Frame) (offset : ℕ) (payload : List ℕ) (rest : List FrameContent) → TotalsAgree k s w → WithinWindow opened k → w.up ≡ PartFrame offset payload ∷ rest
@@ -55,7 +55,7 @@ server_part opened k s w f offset payload rest c g head p =
     let some : 0 < total_of sends_in (w.up ++ w.queued_up) =
     omega (arith, ap (λ (ps : List FrameContent). total_of sends_in (ps ++ w.queued_up)) head, send_goes_on (begun_bytes s.received.begun ++ payload) (rest ++ w.queued_up) front.1) in
     server_by_lem opened s f None p.behind
-    (part_frame_end (readiness opened s) (region_grants f.end s.regions) s.received.sends s.received.requests f offset payload p refl front.0 (receives opened k s w c g some) refl)
+    (part_frame_end (server_readiness opened s) (region_grants f.end s.regions) s.received.sends s.received.requests f offset payload p refl front.0 (receives opened k s w c g some) refl)
 
 -- a segment of a Response: only what its access lacks
 lacks_none : (f : Frame) (segment : Segment) (lack : Option Denied) → lack ≡ None → end_of_fault f segment (first_fault (missing_fault lack ∷ [])) ≡ None
@@ -72,9 +72,9 @@ server_response opened s w f last stag to payload rest c head p allowed =
     let answers = subst (λ (ps : List FrameContent). AreResponses s.response_bytes c.answered (ps ++ w.queued_up)) head c.answers in
     let reads = all_reads s.reads c.answered c.asked c.parts in
     let expected = is_expected_lem s c.answered last OPCODE_READ_RESPONSE stag to payload (rest ++ w.queued_up) (c.asked ++ drop open_reads_max s.reads) reads answers in
-    let flaw = response_flaw (readiness opened s (missing_access grants f segment)) last stag to payload expected in
+    let flaw = response_flaw (server_readiness opened s (missing_access grants f segment)) last stag to payload expected in
     server_by_lem opened s f None p.behind
-    (ap (λ (r : Result Segment ℕ). frame_end_by (readiness opened s) grants f r) is
+    (ap (λ (r : Result Segment ℕ). frame_end_by (server_readiness opened s) grants f r) is
     ∙ ap (λ (x : Option (SegmentReason Denied)). end_of_fault f segment x) flaw
     ∙ lacks_none f segment (missing_access grants f segment) allowed)
   where

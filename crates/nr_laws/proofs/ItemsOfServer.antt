@@ -20,7 +20,7 @@ use Rattle.nr_reduce.specs.Events.{RunEvent, events}
 use Rattle.nr_reduce.specs.Events.RunEvent.{FrameReceived, CallSubmitted, MemoryRevoked, CallExecuted, QueueWritten}
 use Rattle.nr_reduce.specs.EndRules.{EndState, live, next_end_state, next_end_state_by, end_state_after, output_for_by, output_for, output_for_in, output_for_all}
 use Rattle.nr_reduce.specs.ServerState.{ServerState, ReadyCall}
-use Rattle.nr_reduce.specs.Server.{server_rules, server_end, server_output, server_state_after, initial_server, readiness, or_refusal}
+use Rattle.nr_reduce.specs.Server.{server_rules, server_end, server_output, server_state_after, initial_server, server_readiness, or_refusal}
 use Rattle.nr_reduce.specs.Run.{server, output_due}
 use Rattle.nr_reduce.specs.DueItems.{server_items_at, server_hello_at, due_for_by, due_for_in, due_for, due_for_all, items_due, hello_due}
 use Rattle.nr_reduce.proofs.Steps.{ended_stays}
@@ -73,7 +73,7 @@ ends_big opened k f behind = by (frame_segment f) refl
     by (Ok s) is = segment_ends opened k f s behind is
     by (Err reason) is =
         let whole : server_end opened k (FrameReceived f) ≡ Some (ends.Bad f.at reason) =
-        (λ i. cond (behind i) (hello_end (hello_of Initiator f.bytes)) (or_refusal k f (frame_end_by (readiness opened k) (region_grants f.end k.regions) f (is i)))) in
+        (λ i. cond (behind i) (hello_end (hello_of Initiator f.bytes)) (or_refusal k f (frame_end_by (server_readiness opened k) (region_grants f.end k.regions) f (is i)))) in
         subst (λ (o : Option End). BigEnd o) (sym whole) (segment_big f reason is)
 
 not_rejected : (end : End) → BigEnd (Some end) → rejection Responder end ≡ []

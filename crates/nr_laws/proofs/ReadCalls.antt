@@ -24,7 +24,7 @@ use Rattle.nr_link.specs.declared.end.End.TheVariants as ends
 use Rattle.nr_reduce.specs.ServerMessages.{CallVerdict}
 use Rattle.nr_reduce.specs.ServerMessages.CallVerdict.{Refuses, IsReady}
 use Rattle.nr_reduce.specs.ServerFrames.{with_access}
-use Rattle.nr_reduce.specs.Server.{readiness}
+use Rattle.nr_reduce.specs.Server.{server_readiness}
 use Rattle.nr_reduce.specs.Run.{end_of_side}
 use Rattle.nr_reduce.specs.RunLaws.{server_by, ends_response}
 use Rattle.nr_laws.specs.EndCauses.{KeepLaws, ServerEndsForCalls}
@@ -47,13 +47,13 @@ use Rattle.nr_reduce.proofs.Touches.{AreNone, all_none, no_flaw, no_lack}
 
 -- ---- A frame that breaks no rule is allowed its access
 
-response_allowed : (opened : LinkParameters) (k : ServerState) (f : Frame) (s : Segment) → frame_segment f ≡ Ok s → ends_response s ≡ true → frame_end (readiness opened k) (region_grants f.end k.regions) f ≡ None → missing_access (region_grants f.end k.regions) f s ≡ None
+response_allowed : (opened : LinkParameters) (k : ServerState) (f : Frame) (s : Segment) → frame_segment f ≡ Ok s → ends_response s ≡ true → frame_end (server_readiness opened k) (region_grants f.end k.regions) f ≡ None → missing_access (region_grants f.end k.regions) f s ≡ None
 unfolding frame_end segment_reason
 response_allowed opened k f (Tagged last opcode stag to payload) is ends fits =
     let s : Segment = Tagged last opcode stag to payload in
     let lack : Option Denied = missing_access (region_grants f.end k.regions) f s in
-    let flaws : List (Option (SegmentReason Denied)) = missing_fault lack ∷ reason_if REASON_RESPONSE (is_unexpected (readiness opened k lack) opcode last stag to (length payload)) ∷ [] in
-    let none : AreNone flaws = all_none flaws (no_flaw f s (segment_reason (readiness opened k lack) s) (ap (λ (r : Result Segment ℕ). frame_end_by (readiness opened k) (region_grants f.end k.regions) f r) (sym is) ∙ fits)) in
+    let flaws : List (Option (SegmentReason Denied)) = missing_fault lack ∷ reason_if REASON_RESPONSE (is_unexpected (server_readiness opened k lack) opcode last stag to (length payload)) ∷ [] in
+    let none : AreNone flaws = all_none flaws (no_flaw f s (segment_reason (server_readiness opened k lack) s) (ap (λ (r : Result Segment ℕ). frame_end_by (server_readiness opened k) (region_grants f.end k.regions) f r) (sym is) ∙ fits)) in
     no_lack lack none.0
 response_allowed opened k f (Untagged last opcode w queue msn offset payload) is ends fits = absurd cc
 

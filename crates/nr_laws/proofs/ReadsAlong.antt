@@ -22,7 +22,7 @@ use Rattle.nr_reduce.specs.ServerReads.{expected_read_response, reads_of, region
 use Rattle.nr_reduce.specs.ServerMessages.{Verdict, verdict}
 use Rattle.nr_reduce.specs.ServerMessages.Verdict.{EndsLink, OtherVersion, BadChunks, MakesPending}
 use Rattle.nr_reduce.specs.ServerFrames.{FrameEffect, no_effect, message_effect, response_effect, call_of_number, by_message, with_access, effect_in, frame_effect}
-use Rattle.nr_reduce.specs.Server.{server_end, server_state_after, with_effect, received_by, or_refusal, readiness, newly_open_reads, offer_of}
+use Rattle.nr_reduce.specs.Server.{server_end, server_state_after, with_effect, received_by, or_refusal, server_readiness, newly_open_reads, offer_of}
 use Rattle.nr_reduce.specs.Holds.{Answer, answer_message, chunk_error}
 use Rattle.nr_link.specs.Output.{segment_count}
 use Rattle.nr_laws.specs.MessageSegments.{message_segment}
@@ -154,11 +154,11 @@ unfolding server_end frame_end segment_reason
 unexpected opened k f last opcode stag to payload behind is stays own none =
     let grants = region_grants f.end k.regions in
     let s : Segment = Tagged last opcode stag to payload in
-    let r : Readiness Denied = readiness opened k (missing_access grants f s) in
-    let others : or_refusal k f (frame_end_by (readiness opened k) grants f (frame_segment f)) ≡ None =
-    ap (λ (b : Bool). cond b (hello_end (hello_of Initiator f.bytes)) (or_refusal k f (frame_end_by (readiness opened k) grants f (frame_segment f)))) (sym behind) ∙ stays in
-    let fine : frame_end_by (readiness opened k) grants f (frame_segment f) ≡ None = by_end (frame_end_by (readiness opened k) grants f (frame_segment f)) others in
-    let whole : end_of_fault f s (segment_reason r s) ≡ None = ap (λ (x : Result Segment ℕ). frame_end_by (readiness opened k) grants f x) (sym is) ∙ fine in
+    let r : Readiness Denied = server_readiness opened k (missing_access grants f s) in
+    let others : or_refusal k f (frame_end_by (server_readiness opened k) grants f (frame_segment f)) ≡ None =
+    ap (λ (b : Bool). cond b (hello_end (hello_of Initiator f.bytes)) (or_refusal k f (frame_end_by (server_readiness opened k) grants f (frame_segment f)))) (sym behind) ∙ stays in
+    let fine : frame_end_by (server_readiness opened k) grants f (frame_segment f) ≡ None = by_end (frame_end_by (server_readiness opened k) grants f (frame_segment f)) others in
+    let whole : end_of_fault f s (segment_reason r s) ≡ None = ap (λ (x : Result Segment ℕ). frame_end_by (server_readiness opened k) grants f x) (sym is) ∙ fine in
     let all : AreNone (missing_fault r.missing ∷ reason_if REASON_RESPONSE (is_unexpected r opcode last stag to (length payload)) ∷ []) =
     all_none (missing_fault r.missing ∷ reason_if REASON_RESPONSE (is_unexpected r opcode last stag to (length payload)) ∷ []) (no_flaw f s (segment_reason r s) whole) in
     let bad : is_unexpected r opcode last stag to (length payload) ≡ true =

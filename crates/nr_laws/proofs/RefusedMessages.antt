@@ -38,7 +38,7 @@ use Rattle.nr_reduce.specs.ServerReads.{is_read_at}
 use Rattle.nr_reduce.specs.ServerMessages.{Verdict, verdict, by_header, chunk_bytes}
 use Rattle.nr_reduce.specs.ServerMessages.Verdict.{EndsLink, OtherVersion, BadChunks}
 use Rattle.nr_reduce.specs.ServerFrames.{frame_effect, effect_in, effect_by, by_message, message_effect, with_access}
-use Rattle.nr_reduce.specs.Server.{server_rules, initial_server, server_end, refusal_end, or_refusal, readiness}
+use Rattle.nr_reduce.specs.Server.{server_rules, initial_server, server_end, refusal_end, or_refusal, server_readiness}
 use Rattle.nr_reduce.specs.Run.{client}
 use Rattle.nr_reduce.specs.RunLaws.{server_by, IsReceivedCall, RefusesSend}
 use Rattle.nr_reduce.proofs.Sizes.{message_size}
@@ -210,7 +210,7 @@ stays_not : (opened : LinkParameters) (k : ServerState) (f : Frame) (segment : S
     → verdict k message ≡ EndsLink reason → server_end opened k (FrameReceived f) ≡ None → ⊥
 unfolding server_end
 stays_not opened k f segment message reason behind is whole v stays =
-    ends_by_lem opened k f _ reason (refusal_is k f segment message reason is whole v) (ap (λ (b : Bool). cond b (hello_end (hello_of Initiator f.bytes)) (or_refusal k f (frame_end (readiness opened k) (region_grants f.end k.regions) f))) (sym behind) ∙ stays)
+    ends_by_lem opened k f _ reason (refusal_is k f segment message reason is whole v) (ap (λ (b : Bool). cond b (hello_end (hello_of Initiator f.bytes)) (or_refusal k f (frame_end (server_readiness opened k) (region_grants f.end k.regions) f))) (sym behind) ∙ stays)
 
 must_be_bad : (opened : LinkParameters) (k : ServerState) (f : Frame) (segment : Segment) (message : List ℕ) → is_hello f ≡ false → frame_segment f ≡ Ok segment → message_completed k.received segment ≡ Some message
     → server_end opened k (FrameReceived f) ≡ None → 16 ≤ length message → word_at 4 message ≡ 1 → word_at 12 message ≤ 1 → IsRefusedMessage message → verdict k message ≡ BadChunks

@@ -22,7 +22,7 @@ use Rattle.nr_reduce.specs.ServerMessages.{Verdict, CallVerdict, verdict, by_hea
 use Rattle.nr_reduce.specs.ServerMessages.Verdict.{EndsLink, OtherVersion, BadChunks, MakesPending}
 use Rattle.nr_reduce.specs.ServerMessages.CallVerdict.{Refuses, IsReady}
 use Rattle.nr_reduce.specs.ServerFrames.{FrameEffect, with_verdict, frame_effect}
-use Rattle.nr_reduce.specs.Server.{server_end, or_refusal, refusal_end, readiness}
+use Rattle.nr_reduce.specs.Server.{server_end, or_refusal, refusal_end, server_readiness}
 use Rattle.nr_laws.proofs.Brought.{hello_is}
 use Rattle.nr_laws.proofs.EachEffect.{each_verdict, each_effect}
 use Rattle.nr_laws.proofs.EachFault.{OfReason, each_fault}
@@ -109,9 +109,9 @@ pub segment_ends : (opened : LinkParameters) (k : ServerState) (f : Frame) (s : 
 unfolding server_end frame_end
 segment_ends opened k f s behind is =
     let grants = region_grants f.end k.regions in
-    let whole : server_end opened k (FrameReceived f) ≡ or_refusal k f (end_of_fault f s (segment_reason (readiness opened k (missing_access grants f s)) s)) =
-    (λ i. cond (behind i) (hello_end (hello_of Initiator f.bytes)) (or_refusal k f (frame_end_by (readiness opened k) grants f (is i)))) in
-    subst (λ (o : Option Stop). BigEnd o) (sym whole) (by (end_of_fault f s (segment_reason (readiness opened k (missing_access grants f s)) s)) (fault_end f s _ (fault_big (readiness opened k (missing_access grants f s)) s)))
+    let whole : server_end opened k (FrameReceived f) ≡ or_refusal k f (end_of_fault f s (segment_reason (server_readiness opened k (missing_access grants f s)) s)) =
+    (λ i. cond (behind i) (hello_end (hello_of Initiator f.bytes)) (or_refusal k f (frame_end_by (server_readiness opened k) grants f (is i)))) in
+    subst (λ (o : Option Stop). BigEnd o) (sym whole) (by (end_of_fault f s (segment_reason (server_readiness opened k (missing_access grants f s)) s)) (fault_end f s _ (fault_big (server_readiness opened k (missing_access grants f s)) s)))
   where
     by : (o : Option Stop) → BigEnd o → BigEnd (or_refusal k f o)
     by None h = refusal_big f (frame_effect k f).refusal (effect_big k f)
@@ -121,5 +121,5 @@ segment_ends opened k f s behind is =
 pub hello_goes : (opened : LinkParameters) (k : ServerState) (f : Frame) → is_hello f ≡ true → f.bytes ≡ own_hello Initiator → server_end opened k (FrameReceived f) ≡ None
 unfolding server_end
 hello_goes opened k f first bytes =
-    ap (λ (b : Bool). cond b (hello_end (hello_of Initiator f.bytes)) (or_refusal k f (frame_end (readiness opened k) (region_grants f.end k.regions) f))) first
+    ap (λ (b : Bool). cond b (hello_end (hello_of Initiator f.bytes)) (or_refusal k f (frame_end (server_readiness opened k) (region_grants f.end k.regions) f))) first
     ∙ ap (λ (xs : List ℕ). hello_end (hello_of Initiator xs)) bytes ∙ ap hello_end (hello_is Initiator).says

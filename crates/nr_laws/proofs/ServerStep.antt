@@ -38,7 +38,7 @@ use Rattle.nr_reduce.specs.ServerMessages.{by_head, by_payload, call_xid, pendin
 use Rattle.nr_reduce.specs.ServerMessages.CallVerdict.{Refuses, IsReady}
 use Rattle.nr_reduce.specs.ServerMessages.Verdict.{EndsLink, OtherVersion, BadChunks, MakesPending}
 use Rattle.nr_reduce.specs.ServerFrames.{FrameEffect, with_verdict, frame_effect}
-use Rattle.nr_reduce.specs.Server.{server_end, server_state_after, readiness, or_refusal, refusal_end}
+use Rattle.nr_reduce.specs.Server.{server_end, server_state_after, server_readiness, or_refusal, refusal_end}
 use Rattle.nr_laws.proofs.EndReasons.{IsCallReason, EndsForCall}
 use Rattle.nr_laws.proofs.FrameContents.{FrameContent, numbered_segment, frame_bytes, total_of, sends_in, requests_in, server_frames, Carries, SentMessage, CompletesMessage, last_segment, part_segment}
 use Rattle.nr_laws.proofs.FrameContents.FrameContent.{HelloFrame, PartFrame, SendFrame, RequestFrame, TaggedFrame}
@@ -155,7 +155,7 @@ by_takes opened k s u d all_up all_down w p rest f refused t = record {
 hello_none : (opened : LinkParameters) (s : ServerState) (f : Frame) → is_hello f ≡ true → hello_of Initiator f.bytes ≡ Ok (record { side = Initiator; flags = 0; private = [] }) → server_end opened s (FrameReceived f) ≡ None
 unfolding server_end
 hello_none opened s f is says =
-    (λ i. cond (is i) (hello_end (says i)) (or_refusal s f (frame_end (readiness opened s) (region_grants f.end s.regions) f)))
+    (λ i. cond (is i) (hello_end (says i)) (or_refusal s f (frame_end (server_readiness opened s) (region_grants f.end s.regions) f)))
 
 step_piece : (opened : LinkParameters) (k : ClientState) (s : ServerState) (u d all_up all_down : List FrameContent) (w : Transit) (place : ℕ) (p : FrameContent) (rest : List FrameContent) (f : Frame) → IsOpened opened → EndsAgree opened k s u d all_up all_down w → Guards opened k s u d all_up all_down w place → w.up ≡ p ∷ rest
     → IsWritable p → Carries s.received.sends s.received.requests f p → IsBytes f.bytes → f.bytes ≡ frame_bytes Initiator (numbered_segment s.received.sends s.received.requests p) → place < f.end

@@ -24,7 +24,7 @@ use Rattle.nr_reduce.specs.Events.RunEvent.{FrameReceived, CallSubmitted, QueueW
 use Rattle.nr_reduce.specs.ClientState.{ClientState, OutstandingCall, is_sent, client_memory_at, initial_client_state as client_initial_state}
 use Rattle.nr_reduce.specs.ClientMessages.{reply_verdict, reply_by_header, by_call, answered_call}
 use Rattle.nr_reduce.specs.Client.{end_of_verdict, client_message_end, or_message_end, segment_message, client_readiness, client_end, client_state_after, with_segment, outstanding_of, segment_request, with_hello, call_output, call_ends, submitted_ends, response_output}
-use Rattle.nr_reduce.specs.ServerState.{ServerState, initial_state as server_initial_state}
+use Rattle.nr_reduce.specs.ServerState.{ServerState, initial_server_state as server_initial_state}
 use Rattle.nr_laws.proofs.FrameContents.{FrameContent, Carries, total_of, sends_in, requests_in, responses_in, hellos_in, one_if_response, tagged_frame, tagged_frames, response_frames, client_frames, SentMessage, part_segment, last_segment, send_frames, calls_frames}
 use Rattle.nr_laws.proofs.FrameContents.FrameContent.{HelloFrame, PartFrame, SendFrame, RequestFrame, TaggedFrame}
 use Rattle.nr_laws.proofs.LinkInvariants.{Transit, TotalsAgree, AreDistinct, AreSends, calls_sent, hello_bit}

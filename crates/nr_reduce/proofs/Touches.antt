@@ -19,7 +19,7 @@ use Rattle.nr_reduce.specs.Events.{RunEvent}
 use Rattle.nr_reduce.specs.Events.RunEvent.{FrameReceived}
 use Rattle.nr_reduce.specs.Client.{client_end, or_message_end, client_readiness as client_ready, client_rules, initial_client}
 use Rattle.nr_reduce.specs.ClientState.{ClientState}
-use Rattle.nr_reduce.specs.Server.{server_end, or_refusal, readiness as server_ready, server_rules, initial_server}
+use Rattle.nr_reduce.specs.Server.{server_end, or_refusal, server_readiness as server_ready, server_rules, initial_server}
 use Rattle.nr_reduce.specs.ServerState.{ServerState}
 use Rattle.std.specs.Prelude.{option_and_then}
 use Rattle.nr_regions.specs.RegisteredMemory.{Access}

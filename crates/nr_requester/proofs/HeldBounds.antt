@@ -13,7 +13,7 @@ use Rattle.nr_requester.specs.declared.outstanding.OutstandingCall.{OutstandingC
 use Rattle.nr_requester.specs.declared.answer.AnsweredCall.{AnsweredCall}
 use Rattle.nr_requester.specs.RequesterState.{StoredCall, RequesterState, RequesterSide}
 use Rattle.nr_requester.specs.Views.{RequesterInvariant, stored_view, requester_view}
-use Rattle.nr_requester.specs.HeldBytes.{NothingOutside, stored_bytes, calls_bytes, rooms_bytes, reply_max, bytes_held_by, held_unit, last_max, frame_max, LinkFits, RegionsHave, claims_total, CallFits, answer_bytes, answers_bytes, AnswerFits, RequesterBounds}
+use Rattle.nr_requester.specs.HeldBytes.{NothingOutside, stored_bytes, calls_bytes, rooms_bytes, held_reply_max, bytes_held_by, held_unit, last_max, frame_max, LinkFits, RegionsHave, claims_total, CallFits, answer_bytes, answers_bytes, AnswerFits, RequesterBounds}
 use Rattle.nr_requester.proofs.OutputBounds.{count_fewer}
 use Rattle.nr_requester.proofs.Unsent.{few_wait}
 
@@ -65,7 +65,7 @@ one_room calls i sum n all c lt is of so_far =
     let step : rooms_bytes (drop i calls) ≡ length c.room + rooms_bytes (drop (i + 1) calls) = ap (λ (cs : List OutstandingCall). rooms_bytes cs) first in
     omega (arith, of, so_far, step)
 
-pub rooms_small : (calls : List OutstandingCall) → AllByRecursion CallFits calls → rooms_bytes calls ≤ reply_max * length calls
+pub rooms_small : (calls : List OutstandingCall) → AllByRecursion CallFits calls → rooms_bytes calls ≤ held_reply_max * length calls
 rooms_small [] h = omega arith
 rooms_small (c ∷ calls) h = (let one = h.0 in omega (arith, one.room, rooms_small calls h.1))
 

@@ -32,7 +32,7 @@ use Rattle.nr_requester.proofs.CountedMarks.{some_bytes}
 use Rattle.nr_requester.specs.OpenCalls.{KeepsTickets}
 use Rattle.nr_requester.specs.Standing.{StandsOn, RequesterRepresents, RequesterRunsOut}
 use Rattle.nr_requester.specs.AfterPiece.{judged, with_deliveries, unless_ended, requester_ended, after_frame, after_piece, after_fed, RanOut}
-use Rattle.nr_requester.specs.Fed.{one_step, StepOut, IsStep, QueuesOutput, bytes_fed, taken_by, late_marks, TakesFrames, RanOutAt}
+use Rattle.nr_requester.specs.Fed.{one_step, StepOut, IsStep, QueuesOutput, bytes_fed, taken_by, late_marks, TakesFrames, RequesterRanOutAt}
 use Rattle.nr_requester.proofs.Stepping.{link_of, told_of, step_fed, piece_rest}
 use Rattle.nr_requester.proofs.RunOut.{fed_out}
 use Rattle.nr_requester.proofs.Fed.{piece_is_a_mark}
@@ -279,10 +279,10 @@ module _ (old now new : RequesterFeeding) (piece left : List ℕ) (at count : �
           ]
 
   -- memory ran out if nothing was taken
-  pub ran_out : count ≡ 0 → RanOutAt old piece at new
+  pub ran_out : count ≡ 0 → RequesterRanOutAt old piece at new
   ran_out none = by s.step
     where
-      by : IsStep now left new → RanOutAt old piece at new
+      by : IsStep now left new → RequesterRanOutAt old piece at new
       by (inl same) = absurd (let some = took_some same in omega (arith, none, some))
       by (inr out) = record {
         within = omega (arith, lt);
@@ -328,7 +328,7 @@ pub stands_fed : (old new : RequesterSide) (piece : List ℕ) → new ≡ after_
 stands_fed old new piece is opened link run s = subst (λ (h : RequesterSide). RequesterRepresents opened link h (run ++ marks.Fed link Initiator piece ∷ [])) (sym is) (piece_is_a_mark old piece new.staging opened link run s)
 
 abbrev pub FedOut : RequesterSide → List ℕ → RequesterSide → Type 0
-FedOut old piece new = (n : ℕ) × (RanOutAt (feeding_of old) piece n (feeding_of new)
+FedOut old piece new = (n : ℕ) × (RequesterRanOutAt (feeding_of old) piece n (feeding_of new)
     × ((opened : LinkParameters) (link : ℕ) (run : List Mark) → RequesterRepresents opened link old run →
     RequesterRunsOut opened link new (run ++ marks.Fed link Initiator (take n piece) ∷ []) (run ++ marks.Fed link Initiator (take n piece) ∷ [])))
 

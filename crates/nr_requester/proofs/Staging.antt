@@ -6,7 +6,7 @@ use Rattle.std.proofs.lemmas.List.{length-drop}
 use Rattle.nr_endpoint.specs.EndpointState.{EndpointState, KeepsStaging as KeepsEndpoint, cut_frame_len}
 use Rattle.nr_endpoint.proofs.Pieces.{keeps_on}
 use Rattle.nr_requester.specs.RequesterState.{RequesterFeeding, RequesterSide, feeding_of, KeepsStaging}
-use Rattle.nr_requester.specs.Fed.{Told}
+use Rattle.nr_requester.specs.Fed.{TakesDeliveries}
 use Rattle.nr_requester.proofs.PieceLoop.{FedTo, Stepped, fed_on, rest_on}
 
 pub unstaged : (h : RequesterSide) (after : RequesterSide) (piece : List ℕ) → after.staging ≡ h.staging → KeepsStaging h after piece
@@ -16,7 +16,7 @@ unstaged h after piece same = record {
 }
 
 -- an event leaves the input
-pub told_rest : (before after : RequesterFeeding) → Told before after → after.rest ≡ before.rest
+pub told_rest : (before after : RequesterFeeding) → TakesDeliveries before after → after.rest ≡ before.rest
 told_rest before after (inl is) = ap (λ (h : RequesterFeeding). h.rest) is
 told_rest before after (inr out) = out.rest ∙ sym out.waits.rest
 

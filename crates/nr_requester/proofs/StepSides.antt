@@ -12,7 +12,7 @@ use Rattle.nr_endpoint.specs.Calls.Call.{FeedOne, OutOfMemory}
 use Rattle.nr_requester.specs.declared.answer.AnsweredCall.{AnsweredCall}
 use Rattle.nr_requester.specs.declared.outstanding.OutstandingCall.{OutstandingCall}
 use Rattle.nr_requester.specs.RequesterState.{RequesterFeeding}
-use Rattle.nr_requester.specs.Fed.{CallsSound, IsReady, Told, IsStep}
+use Rattle.nr_requester.specs.Fed.{CallsSound, IsReady, TakesDeliveries, IsStep}
 use Rattle.nr_requester.specs.Views.{RequesterInvariant, requester_view}
 use Rattle.nr_requester.proofs.OneMessage.{IsQuiet}
 use Rattle.nr_requester.proofs.StepLeaves.{StepLeaves, step_leaves}
@@ -82,12 +82,12 @@ err_sound link link2 next grant room items answers piece e end f is lives s = en
 
 -- it went on, and took what came
 pub ok_step : (link link1 link2 : LinkSide) (sent wished first next grant grant2 room n : ℕ) (items items2 : List OutstandingCall) (answers answers2 : List AnsweredCall) (piece : List ℕ) → FedOne link link1 piece (Ok n) → link.state.ended ≡ None → RequesterInvariant link next grant items answers room →
-    Told (requester_view link1 sent wished first next grant items answers) (requester_view link2 sent wished first next grant2 items2 answers2) → IsStep (requester_view link sent wished first next grant items answers) piece (requester_view link2 sent wished first next grant2 items2 answers2)
+    TakesDeliveries (requester_view link1 sent wished first next grant items answers) (requester_view link2 sent wished first next grant2 items2 answers2) → IsStep (requester_view link sent wished first next grant items answers) piece (requester_view link2 sent wished first next grant2 items2 answers2)
 ok_step link link1 link2 sent wished first next grant grant2 room n items items2 answers answers2 piece f lives s told =
     let o = ok_state link link1 piece n f in
     step_told (requester_view link sent wished first next grant items answers) piece lives s.none_waits s.no_reads (requester_view link2 sent wished first next grant2 items2 answers2)
     (ap (λ (l : LinkSide). l.state.ended) (sym o.0) ∙ o.1)
-    (subst (λ (l : LinkSide). Told (requester_view l sent wished first next grant items answers) (requester_view link2 sent wished first next grant2 items2 answers2)) o.0 told)
+    (subst (λ (l : LinkSide). TakesDeliveries (requester_view l sent wished first next grant items answers) (requester_view link2 sent wished first next grant2 items2 answers2)) o.0 told)
 
 pub ok_ready : (link link1 : LinkSide) (next grant room n : ℕ) (items : List OutstandingCall) (answers : List AnsweredCall) (piece : List ℕ) → FedOne link link1 piece (Ok n) → link.state.ended ≡ None → RequesterInvariant link next grant items answers room → IsReady link1 items answers room
 ok_ready link link1 next grant room n items answers piece f lives s = (let o = ok_state link link1 piece n f in ready_lem link link1 piece next grant room items answers s lives o.0 o.1)

@@ -29,7 +29,7 @@ use Rattle.nr_requester.specs.declared.outstanding.OutstandingCall.{OutstandingC
 use Rattle.nr_requester.specs.RequesterState.{RequesterState, RequesterFeeding, kept_calls}
 use Rattle.nr_requester.specs.AfterPiece.{taken, judged, with_deliveries, unless_ended, requester_ended, after_frame, RanOut}
 use Rattle.nr_requester.specs.Judged.{kept_views}
-use Rattle.nr_requester.specs.Fed.{OneWaits, CallsSound, IsReady, JudgesTo, with_deliveries_side, Told, one_step, StepOut, IsStep}
+use Rattle.nr_requester.specs.Fed.{OneWaits, CallsSound, IsReady, JudgesTo, with_deliveries_side, TakesDeliveries, one_step, StepOut, IsStep}
 use Rattle.nr_requester.specs.Views.{RequesterInvariant, stored_view, requester_view}
 use Rattle.nr_requester.proofs.Stepping.{link_of, told_of, step_fed}
 use Rattle.nr_requester.proofs.StepLeaves.{Delivers, Leaves, StepLeaves, step_leaves, held_still}
@@ -62,7 +62,7 @@ module _ (link0 : LinkSide) (lives : link0.state.ended ≡ None) where
 pub message_told : (link0 link1 link2 : LinkSide) (sent wished first next grant grant2 number : ℕ) (items items2 : List OutstandingCall) (answers answers2 : List AnsweredCall) (message : List ℕ) → link0.state.ended ≡ None →
     link0.state.receive_queue.deliveries ≡ MessageReceived number None message ∷ [] → link0.rest ≡ [] → link1 ≡ after_call link0 NextEvent →
     JudgesTo (kept_verdict (kept_views first sent items) (bytes_under link1.state.memory) message) message link1 link2 items items2 answers answers2 grant grant2 →
-    Told (requester_view link0 sent wished first next grant items answers) (requester_view link2 sent wished first next grant2 items2 answers2)
+    TakesDeliveries (requester_view link0 sent wished first next grant items answers) (requester_view link2 sent wished first next grant2 items2 answers2)
 message_told link0 link1 link2 sent wished first next grant grant2 number items items2 answers answers2 message lives is rest event judges =
     by (kept_verdict (kept_views first sent items) (bytes_under link0.state.memory) message) refl
     (subst (λ (m : RegisteredMemory). JudgesTo (kept_verdict (kept_views first sent items) (bytes_under m) message) message (after_call link0 NextEvent) link2 items items2 answers answers2 grant grant2) (next_memory link0 lives)
@@ -78,13 +78,13 @@ message_told link0 link1 link2 sent wished first next grant grant2 number items 
     made : (v : ReplyVerdict) → kept_verdict (kept_views first sent items) (bytes_under s.memory) message ≡ v → with_deliveries_side before ≡ record { awaited = link0.awaited; rest = link0.rest; state = judged before.state s message v }
     made v e = (λ i. record { awaited = link0.awaited; rest = link0.rest; state = with_deliveries before.state s (is i) }) ∙ ap (λ (x : ReplyVerdict). record { awaited = link0.awaited; rest = link0.rest; state = judged before.state s message x }) e
 
-    by : (v : ReplyVerdict) → kept_verdict (kept_views first sent items) (bytes_under s.memory) message ≡ v → JudgesTo v message (after_call link0 NextEvent) link2 items items2 answers answers2 grant grant2 → Told before (requester_view link2 sent wished first next grant2 items2 answers2)
+    by : (v : ReplyVerdict) → kept_verdict (kept_views first sent items) (bytes_under s.memory) message ≡ v → JudgesTo v message (after_call link0 NextEvent) link2 items items2 answers answers2 grant grant2 → TakesDeliveries before (requester_view link2 sent wished first next grant2 items2 answers2)
     by (EndsLink reason) e j = ended j.0
       where
         same_calls : requester_view link2 sent wished first next grant2 items2 answers2 ≡ record { awaited = link2.awaited; rest = link2.rest; state = record before.state { side = link2.state } }
         same_calls = λ i. record { awaited = link2.awaited; rest = link2.rest; state = record { side = link2.state; sent = sent; wished = wished; first_xid = first; next_xid = next; grant = j.1.1.1.0 i; outstanding = j.1.0 i; answered = j.1.1.0 i } }
 
-        ended : (link2 ≡ after_call (after_call (after_call link0 NextEvent) Post) (Stop reason)) ⊎ (link2 ≡ after_call (after_call (after_call link0 NextEvent) Post) OutOfMemory) → Told before (requester_view link2 sent wished first next grant2 items2 answers2)
+        ended : (link2 ≡ after_call (after_call (after_call link0 NextEvent) Post) (Stop reason)) ⊎ (link2 ≡ after_call (after_call (after_call link0 NextEvent) Post) OutOfMemory) → TakesDeliveries before (requester_view link2 sent wished first next grant2 items2 answers2)
         ended (inl stop) = inl (
             same_calls
             ∙ ap (λ (l : LinkSide). record { awaited = l.awaited; rest = l.rest; state = record before.state { side = l.state } }) (stop ∙ stop_is link0 lives reason)
@@ -126,7 +126,7 @@ message_told link0 link1 link2 sent wished first next grant grant2 number items 
         )
 
 -- no event
-pub none_told : (link0 link2 : LinkSide) (sent wished first next grant : ℕ) (items : List OutstandingCall) (answers : List AnsweredCall) → link0.state.receive_queue.deliveries ≡ [] → link2 ≡ link0 → Told (requester_view link0 sent wished first next grant items answers) (requester_view link2 sent wished first next grant items answers)
+pub none_told : (link0 link2 : LinkSide) (sent wished first next grant : ℕ) (items : List OutstandingCall) (answers : List AnsweredCall) → link0.state.receive_queue.deliveries ≡ [] → link2 ≡ link0 → TakesDeliveries (requester_view link0 sent wished first next grant items answers) (requester_view link2 sent wished first next grant items answers)
 none_told link0 link2 sent wished first next grant items answers none same = inl (
     ap (λ (l : LinkSide). requester_view l sent wished first next grant items answers) same
     ∙ ap (λ (ns : List DeliveredEvent). record { awaited = link0.awaited; rest = link0.rest; state = with_deliveries (requester_view link0 sent wished first next grant items answers).state link0.state ns }) (sym none)
@@ -197,7 +197,7 @@ module _ (h : RequesterFeeding) (piece : List ℕ) (lives : h.state.side.ended �
   step_ended after end is e = inl (is ∙ ap (λ (x : Option End). record { awaited = l.awaited; rest = l.rest; state = unless_ended h.state l.state x }) (sym e) ∙ sym stepped)
 
   -- it went on, and its event was taken
-  pub step_told : (after : RequesterFeeding) → l.state.ended ≡ None → Told (side_with h l) after → IsStep h piece after
+  pub step_told : (after : RequesterFeeding) → l.state.ended ≡ None → TakesDeliveries (side_with h l) after → IsStep h piece after
   step_told after e (inl is) = inl (
       is
       ∙ (λ i. record { awaited = l.awaited; rest = l.rest; state = with_deliveries_as h.state l.state l.state l.state.receive_queue.deliveries i })

@@ -93,8 +93,8 @@ pub record StoppedOut (before after : RequesterFeeding) : Type 0 where
   pub place : after.state.side.place ≡ before.state.side.place
   pub same : after.state ≡ record before.state { side = after.state.side }
 
-abbrev pub Told : (before after : RequesterFeeding) → Type 0
-Told before after = (after ≡ with_deliveries_side before) ⊎ StoppedOut before after
+abbrev pub TakesDeliveries : (before after : RequesterFeeding) → Type 0
+TakesDeliveries before after = (after ≡ with_deliveries_side before) ⊎ StoppedOut before after
 
 -- ---- A step
 
@@ -142,7 +142,7 @@ IsStep before piece after = (after ≡ one_step before piece) ⊎ StepOut before
 
 -- It was fed the first n bytes of a piece, and hadn't ended. The bytes that follow complete the next frame, which would queue output, and memory
 -- ran out for that.
-pub record RanOutAt (before : RequesterFeeding) (piece : List ℕ) (n : ℕ) (after : RequesterFeeding) : Type 0 where
+pub record RequesterRanOutAt (before : RequesterFeeding) (piece : List ℕ) (n : ℕ) (after : RequesterFeeding) : Type 0 where
   pub within : n ≤ length piece
   pub live : (after_piece before (take n piece)).state.side.ended ≡ None
   pub out : RanOut (after_piece before (take n piece)) after
@@ -151,4 +151,4 @@ pub record RanOutAt (before : RequesterFeeding) (piece : List ℕ) (n : ℕ) (af
 
 -- It was fed the first n bytes of a piece: all of them, and memory didn't run out; or memory ran out for the frame that follows these.
 abbrev pub TakesFrames : RequesterFeeding → List ℕ → ℕ → RequesterFeeding → Type 0
-TakesFrames before piece n after = ((after ≡ after_piece before piece) × ((after.state.side.ended ≢ Some ends.Memory) × (n ≡ length piece))) ⊎ RanOutAt before piece n after
+TakesFrames before piece n after = ((after ≡ after_piece before piece) × ((after.state.side.ended ≢ Some ends.Memory) × (n ≡ length piece))) ⊎ RequesterRanOutAt before piece n after

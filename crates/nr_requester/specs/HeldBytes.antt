@@ -86,8 +86,8 @@ abbrev pub offer_max : ℕ
 offer_max = 122880
 
 -- the maximum of the payload of a reply
-abbrev pub reply_max : ℕ
-reply_max = 94208
+abbrev pub held_reply_max : ℕ
+held_reply_max = 94208
 
 -- the maximum of what a call offers for its reply
 abbrev pub back_max : ℕ
@@ -170,13 +170,13 @@ rooms_bytes (c ∷ calls) = length c.room + rooms_bytes calls
 pub record CallFits (c : OutstandingCall) : Type 0 where
   pub call : stored_bytes c.call ≤ call_max
   pub offer : claims_len c.claims ≤ offer_max
-  pub room : length c.room ≤ reply_max
+  pub room : length c.room ≤ held_reply_max
 
 -- so are an answered call, its buffers and its reply
 pub record AnswerFits (a : AnsweredCall) : Type 0 where
   pub call : call_bytes a.call ≤ call_max
   pub offer : buffers_len a.buffers ≤ offer_max
-  pub reply : outcome_bytes a.outcome ≤ reply_max
+  pub reply : outcome_bytes a.outcome ≤ held_reply_max
 
 -- no two answers have one xid
 abbrev pub AreDistinct : List AnsweredCall → Type 0

@@ -21,7 +21,7 @@ ghost use Rattle.nr_requester.specs.HeldClaims.{AreHeldFrom, call_claims};
 ghost use Rattle.nr_requester.specs.AfterPiece.{answered_as, after_fed};
 ghost use Rattle.nr_requester.specs.Buffers.{with_memory};
 ghost use Rattle.nr_requester.specs.Judged.{outcome_by, LiesWithin, kept_views};
-ghost use Rattle.nr_requester.specs.Fed.{answer_with, CallsSound, IsReady, JudgesTo, Told, IsStep, TakesFrames, RanOutAt, fed_bytes, taken_by, late_marks};
+ghost use Rattle.nr_requester.specs.Fed.{answer_with, CallsSound, IsReady, JudgesTo, TakesDeliveries, IsStep, TakesFrames, RequesterRanOutAt, fed_bytes, taken_by, late_marks};
 ghost use Rattle.nr_requester.specs.HeldBytes.{NothingOutside, IsBounded};
 ghost use Rattle.nr_requester.specs.OpenCalls.{KeepsTickets};
 ghost use Rattle.nr_requester.specs.Standing.{StandsOn, RequesterRepresents, RequesterRunsOut};
@@ -202,7 +202,7 @@ fn take_event(
     sent: u64,
 )
     requires ready { IsReady endpoint.old.link outstanding.old.items answered.old.items (vec_capacity answered.old) }
-    ensures told { (wished next : ℕ) → Told (requester_view endpoint.old.link sent wished first_xid next grant.old outstanding.old.items answered.old.items) (requester_view endpoint.new.link sent wished first_xid next grant.new outstanding.new.items answered.new.items) }
+    ensures deliveries { (wished next : ℕ) → TakesDeliveries (requester_view endpoint.old.link sent wished first_xid next grant.old outstanding.old.items answered.old.items) (requester_view endpoint.new.link sent wished first_xid next grant.new outstanding.new.items answered.new.items) }
     ensures sound { (next : ℕ) → CallsSound endpoint.old.link.state.memory next outstanding.old.items answered.old.items (vec_capacity answered.old) →
         CallsSound endpoint.new.link.state.memory next outstanding.new.items answered.new.items (vec_capacity answered.new) }
     ensures granted { (1 ≤ grant.old) × (grant.old ≤ credits_max) → (1 ≤ grant.new) × (grant.new ≤ credits_max) }
@@ -310,7 +310,7 @@ impl Requester {
         ensures ended { result_err result ≡ self.new.state.side.ended }
         ensures state { result ≢ Err ends.Memory → self.new ≡ after_fed self.old piece.now self.new.staging }
         ensures stands { result ≢ Err ends.Memory → StandsOn self.old (λ link. marks.Fed link Initiator piece.now) self.new }
-        ensures memory { result ≡ Err ends.Memory → self.old.state.side.ended ≡ None → (n : ℕ) × (RanOutAt (feeding_of self.old) piece.now n (feeding_of self.new)
+        ensures memory { result ≡ Err ends.Memory → self.old.state.side.ended ≡ None → (n : ℕ) × (RequesterRanOutAt (feeding_of self.old) piece.now n (feeding_of self.new)
             × ((opened : LinkParameters) (link : ℕ) (run : List Mark) → RequesterRepresents opened link self.old run →
             RequesterRunsOut opened link self.new (run ++ marks.Fed link Initiator (take n piece.now) ∷ []) (run ++ marks.Fed link Initiator (take n piece.now) ∷ []))) }
         ensures kept { is_some self.old.state.side.ended ≡ true → (feeding_of self.new ≡ feeding_of self.old) × (self.new.staging ≡ self.old.staging) }

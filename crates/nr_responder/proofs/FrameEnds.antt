@@ -24,7 +24,7 @@ use Rattle.nr_reduce.specs.Plans.{one_if}
 use Rattle.nr_reduce.specs.OfferedRegions.{region_grants}
 use Rattle.nr_reduce.specs.ServerState.{PendingRead, ServerState, receives_in_use}
 use Rattle.nr_reduce.specs.ServerReads as server
-use Rattle.nr_reduce.specs.Server.{readiness}
+use Rattle.nr_reduce.specs.Server.{server_readiness}
 use Rattle.nr_reduce.proofs.MemorySteps.{denied_alike}
 use Rattle.nr_responder.specs.ResponderState.{unsent}
 use Rattle.nr_responder.specs.Keeping.{IsServer, LinkKeeps, QueueKeeps, open_responses}
@@ -55,7 +55,7 @@ pub receives_used : (opened : LinkParameters) (k : ServerState) (s : LinkState) 
 receives_used opened k s h = rw (in_use k (unsent s) (waiting_is k s.send_queue h.queue)) h.free
 
 pub readiness_alike : (opened : LinkParameters) (k : ServerState) (s : LinkState) (missing : Option Denied) → LinkKeeps opened k s → IsServer k s.place →
-    endpoint.readiness s missing ≡ record (readiness opened k missing) { received = received_within send_max k.received }
+    endpoint.readiness s missing ≡ record (server_readiness opened k missing) { received = received_within send_max k.received }
 readiness_alike opened k s missing h is =
     let free : ltb 0 s.receive_queue.free ≡ ltb (receives_in_use k) opened.granted = free_if s.receive_queue.free (receives_in_use k) opened.granted (receives_used opened k s h) in
     let expected : endpoint.expected_response s.reads ≡ server.expected_read_response k.response_bytes k.reads = ap endpoint.expected_response h.reads ∙ expected_alike k.response_bytes k.reads in
@@ -71,10 +71,10 @@ readiness_alike opened k s missing h is =
     }
 
 pub faults_alike : (opened : LinkParameters) (k : ServerState) (s : LinkState) (missing : Option Denied) (segment : Segment) → LinkKeeps opened k s → IsServer k s.place →
-    segment_reason (endpoint.readiness s missing) segment ≡ segment_reason (readiness opened k missing) segment
+    segment_reason (endpoint.readiness s missing) segment ≡ segment_reason (server_readiness opened k missing) segment
 faults_alike opened k s missing segment h is =
     ap (λ (r : Readiness Denied). segment_reason r segment) (readiness_alike opened k s missing h is)
-    ∙ judged_alike send_max (readiness opened k missing) segment
+    ∙ judged_alike send_max (server_readiness opened k missing) segment
 
 -- ---- A frame
 
@@ -84,11 +84,11 @@ ends_by_lem one two grants f same (Ok segment) = ap (λ (fault : Option (Segment
 ends_by_lem one two grants f same (Err reason) = refl
 
 pub frame_ends : (opened : LinkParameters) (k : ServerState) (s : LinkState) (bytes : List ℕ) → LinkKeeps opened k s → IsServer k s.place → 0 < length bytes →
-    (with_frame s Fpdu bytes).ended ≡ frame_end (readiness opened k) (region_grants (s.place + length bytes) k.regions) (next_frame s bytes)
+    (with_frame s Fpdu bytes).ended ≡ frame_end (server_readiness opened k) (region_grants (s.place + length bytes) k.regions) (next_frame s bytes)
 unfolding frame_end
 frame_ends opened k s bytes h is some =
     let f : Frame = next_frame s bytes in
     let grants : List Grant = region_grants (s.place + length bytes) k.regions in
     let alike : DeniesAlike s.memory grants f.end = λ (access : Access). denied_alike k.regions k.accesses_received s.place f.end s.memory access is.offered h.memory (omega arith) in
     grants_end_alike s grants bytes h.live alike
-    ∙ ends_by_lem (endpoint.readiness s) (readiness opened k) grants f (λ (missing : Option Denied) (segment : Segment). faults_alike opened k s missing segment h is) (frame_segment f)
+    ∙ ends_by_lem (endpoint.readiness s) (server_readiness opened k) grants f (λ (missing : Option Denied) (segment : Segment). faults_alike opened k s missing segment h is) (frame_segment f)

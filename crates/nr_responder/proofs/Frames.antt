@@ -25,7 +25,7 @@ use Rattle.nr_reduce.specs.OfferedRegions.{region_grants}
 use Rattle.nr_reduce.specs.Events.RunEvent.{FrameReceived}
 use Rattle.nr_reduce.specs.EndRules.{EndState, live, next_end_state, next_end_state_by, output_for, output_for_by}
 use Rattle.nr_reduce.specs.ServerState.{ReadyCall, ServerState}
-use Rattle.nr_reduce.specs.Server.{server_rules, server_end, with_own_hello, or_refusal, readiness}
+use Rattle.nr_reduce.specs.Server.{server_rules, server_end, with_own_hello, or_refusal, server_readiness}
 use Rattle.nr_reduce.proofs.MemorySteps.{holds_later, received_later, offered_later}
 use Rattle.nr_responder.specs.ResponderState.{ResponderSide, queue, queued_bytes}
 use Rattle.nr_responder.specs.Keeping.{IsServer, Begins, LinkKeeps, QueueKeeps, Keeps, KeepsEnd}
@@ -125,13 +125,13 @@ unfolding server_end
 server_ends opened k l frame end h is (BeforeHello place awaited hello none) some ended =
     let f : Frame = next_frame l.state frame in
     let as_hello : (with_frame l.state (HelloFrom Initiator) frame).ended ≡ Some end = subst (λ (a : Awaited). (with_frame l.state a frame).ended ≡ Some end) awaited ended in
-    ap (λ (b : Bool). cond b (hello_end (hello_of Initiator frame)) (or_refusal k f (frame_end (readiness opened k) (region_grants f.end k.regions) f))) (at_start_lem l.state.place place)
+    ap (λ (b : Bool). cond b (hello_end (hello_of Initiator frame)) (or_refusal k f (frame_end (server_readiness opened k) (region_grants f.end k.regions) f))) (at_start_lem l.state.place place)
     ∙ sym (hello_ended l.state f (hello_of Initiator frame) place h.live) ∙ as_hello
 server_ends opened k l frame end h is (AfterHello place awaited hello) some ended =
     let f : Frame = next_frame l.state frame in
     let as_fpdu : (with_frame l.state Fpdu frame).ended ≡ Some end = subst (λ (a : Awaited). (with_frame l.state a frame).ended ≡ Some end) awaited ended in
-    ap (λ (b : Bool). cond b (hello_end (hello_of Initiator frame)) (or_refusal k f (frame_end (readiness opened k) (region_grants f.end k.regions) f))) (later_frame l.state.place place)
-    ∙ by_end_lem k f (frame_end (readiness opened k) (region_grants f.end k.regions) f) end (sym (frame_ends opened k l.state frame h is some) ∙ as_fpdu)
+    ap (λ (b : Bool). cond b (hello_end (hello_of Initiator frame)) (or_refusal k f (frame_end (server_readiness opened k) (region_grants f.end k.regions) f))) (later_frame l.state.place place)
+    ∙ by_end_lem k f (frame_end (server_readiness opened k) (region_grants f.end k.regions) f) end (sym (frame_ends opened k l.state frame h is some) ∙ as_fpdu)
 
 pub ended_takes : (opened : LinkParameters) (k : ServerState) (input later : InputState) (v : ResponderSide) (frame : List ℕ) (end : End) → Keeps opened k input v → 0 < length frame →
     (with_frame v.link.state v.link.awaited frame).ended ≡ Some end →

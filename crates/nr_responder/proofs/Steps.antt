@@ -30,7 +30,7 @@ use Rattle.nr_reduce.specs.Events.RunEvent.{FrameReceived}
 use Rattle.nr_reduce.specs.EndRules.{EndState, live, next_end_state, next_end_state_by, output_for, output_for_by}
 use Rattle.nr_reduce.specs.ServerState.{ServerState}
 use Rattle.nr_reduce.specs.ServerFrames.{frame_effect}
-use Rattle.nr_reduce.specs.Server.{server_rules, server_end, server_output, server_state_after, or_refusal, readiness, with_effect, with_own_hello, effect_output}
+use Rattle.nr_reduce.specs.Server.{server_rules, server_end, server_output, server_state_after, or_refusal, server_readiness, with_effect, with_own_hello, effect_output}
 use Rattle.nr_responder.specs.ResponderState.{ResponderSide, queued_bytes}
 use Rattle.nr_responder.specs.Keeping.{Begins, Keeps, KeepsEnd}
 use Rattle.nr_responder.specs.Keeping.Begins.{BeforeHello, AfterHello}
@@ -57,7 +57,7 @@ unfolding server_end server_output server_state_after
 hello_server opened k f hello at reads =
     let first : is_hello f ≡ true = eq-eqb f.at 0 at in
     let none : server_end opened k (FrameReceived f) ≡ None =
-    ap (λ (b : Bool). cond b (hello_end (hello_of Initiator f.bytes)) (or_refusal k f (frame_end (readiness opened k) (region_grants f.end k.regions) f))) first
+    ap (λ (b : Bool). cond b (hello_end (hello_of Initiator f.bytes)) (or_refusal k f (frame_end (server_readiness opened k) (region_grants f.end k.regions) f))) first
     ∙ ap hello_end reads in (
       ap (λ (e : Option End). next_end_state_by (server_rules opened) k (FrameReceived f) e) none ∙ ap (λ (b : Bool). live (cond b (with_own_hello k) (with_effect k f (frame_effect k f)))) first,
       ap (λ (e : Option End). output_for_by (server_rules opened) k (FrameReceived f) e) none ∙ ap (λ (b : Bool). cond b (own_hello Responder) (effect_output k (frame_effect k f))) first,

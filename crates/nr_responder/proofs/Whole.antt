@@ -42,7 +42,7 @@ use Rattle.nr_reduce.specs.ServerReads.{is_over}
 use Rattle.nr_reduce.specs.ServerMessages.{verdict, call_xid}
 use Rattle.nr_reduce.specs.ServerMessages.Verdict.{MakesPending}
 use Rattle.nr_reduce.specs.ServerFrames.{FrameEffect, no_effect, by_message, frame_effect}
-use Rattle.nr_reduce.specs.Server.{server_rules, server_end, server_output, server_state_after, with_own_hello, or_refusal, refusal_end, readiness, with_effect, effect_output}
+use Rattle.nr_reduce.specs.Server.{server_rules, server_end, server_output, server_state_after, with_own_hello, or_refusal, refusal_end, server_readiness, with_effect, effect_output}
 use Rattle.nr_responder.specs.ResponderState.{ResponderSide, queued_bytes, unsent}
 use Rattle.nr_responder.specs.Keeping.{IsServer, Begins, LinkKeeps, Keeps, KeepsEnd}
 use Rattle.nr_responder.specs.Keeping.Begins.{BeforeHello, AfterHello}
@@ -62,15 +62,15 @@ pub record At (opened : LinkParameters) (k : ServerState) (f : Frame) (e : Optio
   pub next : next_end_state (server_rules opened) (live k) (FrameReceived f) ≡ state
   pub due : output_for (server_rules opened) (live k) (FrameReceived f) ≡ output
 
-ends_by_lem : (opened : LinkParameters) (k : ServerState) (f : Frame) (s : FrameEffect) → is_hello f ≡ false → frame_end (readiness opened k) (region_grants f.end k.regions) f ≡ None → frame_effect k f ≡ s →
+ends_by_lem : (opened : LinkParameters) (k : ServerState) (f : Frame) (s : FrameEffect) → is_hello f ≡ false → frame_end (server_readiness opened k) (region_grants f.end k.regions) f ≡ None → frame_effect k f ≡ s →
     server_end opened k (FrameReceived f) ≡ refusal_end f s.refusal
 unfolding server_end
 ends_by_lem opened k f s later lives effect =
-    ap (λ (b : Bool). cond b (hello_end (hello_of Initiator f.bytes)) (or_refusal k f (frame_end (readiness opened k) (region_grants f.end k.regions) f))) later
+    ap (λ (b : Bool). cond b (hello_end (hello_of Initiator f.bytes)) (or_refusal k f (frame_end (server_readiness opened k) (region_grants f.end k.regions) f))) later
     ∙ ap (or_refusal k f) lives
     ∙ ap (λ (t : FrameEffect). refusal_end f t.refusal) effect
 
-pub goes_on_lem : (opened : LinkParameters) (k : ServerState) (f : Frame) (s : FrameEffect) → is_hello f ≡ false → frame_end (readiness opened k) (region_grants f.end k.regions) f ≡ None → frame_effect k f ≡ s → s.refusal ≡ None →
+pub goes_on_lem : (opened : LinkParameters) (k : ServerState) (f : Frame) (s : FrameEffect) → is_hello f ≡ false → frame_end (server_readiness opened k) (region_grants f.end k.regions) f ≡ None → frame_effect k f ≡ s → s.refusal ≡ None →
     At opened k f None (record { state = with_effect k f s; ended = None }) (effect_output k s)
 unfolding server_output server_state_after
 goes_on_lem opened k f s later lives effect fine =
@@ -90,7 +90,7 @@ goes_on_lem opened k f s later lives effect fine =
 -- ---- A part of a message
 
 pub lives_on_lem : (opened : LinkParameters) (k : ServerState) (input : InputState) (v : ResponderSide) (frame : List ℕ) → Keeps opened k input v → 0 < v.link.state.place → 0 < length frame → (with_frame v.link.state Fpdu frame).ended ≡ None →
-    frame_end (readiness opened k) (region_grants (v.link.state.place + length frame) k.regions) (next_frame v.link.state frame) ≡ None
+    frame_end (server_readiness opened k) (region_grants (v.link.state.place + length frame) k.regions) (next_frame v.link.state frame) ≡ None
 lives_on_lem opened k input v frame h behind_hello some lives = sym (frame_ends opened k v.link.state frame h.link h.server some) ∙ lives
 
 pub begun_behind : (l : LinkSide) (s : LinkState) → Begins l → 0 < l.state.place → s.has_hello ≡ l.state.has_hello → 0 < s.place → Begins (record { awaited = Fpdu; rest = []; state = s })
@@ -341,7 +341,7 @@ refused_takes opened k input v frame w queue_number msn offset payload message h
 
 -- ---- A message that ends the link
 
-pub refuses : (opened : LinkParameters) (k : ServerState) (f : Frame) (s : FrameEffect) (reason : ℕ) → is_hello f ≡ false → frame_end (readiness opened k) (region_grants f.end k.regions) f ≡ None → frame_effect k f ≡ s → s.refusal ≡ Some reason →
+pub refuses : (opened : LinkParameters) (k : ServerState) (f : Frame) (s : FrameEffect) (reason : ℕ) → is_hello f ≡ false → frame_end (server_readiness opened k) (region_grants f.end k.regions) f ≡ None → frame_effect k f ≡ s → s.refusal ≡ Some reason →
     At opened k f (Some (ends.Bad f.at reason)) (record { state = k; ended = Some (ends.Bad f.at reason) }) (last_output Responder (ends.Bad f.at reason))
 refuses opened k f s reason later lives effect fine =
     let why : server_end opened k (FrameReceived f) ≡ Some (ends.Bad f.at reason) = ends_by_lem opened k f s later lives effect ∙ ap (refusal_end f) fine in

@@ -9,7 +9,7 @@ use Rattle.nr_wire.specs.declared.hello.Side.{Side}
 use Rattle.nr_wire.specs.declared.stream.Awaited.{Awaited}
 use Rattle.nr_wire.specs.declared.stream.Awaited.TheVariants.{Hello, Fpdu}
 use Rattle.nr_wire.specs.Fields.{half_word_at, half_word_of}
-use Rattle.nr_wire.specs.Hello.{hello_flaw, hello_size, hello_len}
+use Rattle.nr_wire.specs.Hello.{hello_reason, hello_size, hello_len}
 use Rattle.nr_wire.specs.Segment.{fpdu_size, fpdu_len, ulpdu_len}
 use Rattle.nr_wire.specs.Stream.{fields_len, frame_len, is_whole, IsFrame, IsPartial, bytes_needed}
 
@@ -23,8 +23,8 @@ unfolding hello_len
 hello_len_append side xs ys le =
     let head : take HELLO_LEN (xs ++ ys) ≡ take HELLO_LEN xs = take-append-le HELLO_LEN xs ys le in
     let private : half_word_at 18 (xs ++ ys) ≡ half_word_at 18 xs = half_word_at_append 18 xs ys (omega arith) in
-    ap (λ (front : List ℕ). hello_size (hello_flaw side front) (half_word_at 18 (xs ++ ys))) head
-    ∙ ap (λ (n : ℕ). hello_size (hello_flaw side (take HELLO_LEN xs)) n) private
+    ap (λ (front : List ℕ). hello_size (hello_reason side front) (half_word_at 18 (xs ++ ys))) head
+    ∙ ap (λ (n : ℕ). hello_size (hello_reason side (take HELLO_LEN xs)) n) private
 
 hello_size_least : (flaw : Option ℕ) (n : ℕ) → HELLO_LEN ≤ hello_size flaw n
 hello_size_least None n = omega arith
@@ -40,7 +40,7 @@ fields_some Fpdu = omega arith
 
 pub fields_within : (a : Awaited) (bytes : List ℕ) → fields_len a ≤ frame_len a bytes
 unfolding hello_len fpdu_len
-fields_within (Hello side) bytes = hello_size_least (hello_flaw side (take HELLO_LEN bytes)) (half_word_at 18 bytes)
+fields_within (Hello side) bytes = hello_size_least (hello_reason side (take HELLO_LEN bytes)) (half_word_at 18 bytes)
 fields_within Fpdu bytes = omega (arith, fpdu_size_least (ulpdu_len bytes))
 
 pub frame_len_append : (a : Awaited) (xs ys : List ℕ) → fields_len a ≤ length xs → frame_len a (xs ++ ys) ≡ frame_len a xs

@@ -13,7 +13,7 @@ use Rattle.nr_wire.specs.declared.hello.Side.{Side}
 use Rattle.nr_wire.specs.declared.hello.Side.TheVariants.{Initiator, Responder}
 use Rattle.nr_wire.specs.declared.stream.Awaited.TheVariants.{Hello as HelloFrom}
 use Rattle.nr_wire.specs.Fields.{half_word, half_word_of}
-use Rattle.nr_wire.specs.Hello.{Hello, key, hello_encoding, flags_of, revision_of, private_len, is_refused_by, IsAccepted, hello_flaw, hello_of, hello_size, hello_len}
+use Rattle.nr_wire.specs.Hello.{Hello, key, hello_encoding, flags_of, revision_of, private_len, is_refused_by, IsAccepted, hello_reason, hello_of, hello_size, hello_len}
 use Rattle.nr_wire.specs.Next.{Next, hello_in}
 use Rattle.nr_wire.specs.Next.Next.{Whole, More, Bad}
 use Rattle.nr_wire.specs.Stream.{is_whole, IsFrame, IsPartial}
@@ -55,15 +55,15 @@ by_side Responder flags n lt = record { key_is = refl; flags_is = refl; revision
 abbrev flaw_by : Bool → Bool → Bool → Bool → Option ℕ
 flaw_by same refused revision long = cond (not same) (Some 1) (cond refused (Some 2) (cond (not revision) (Some 3) (cond long (Some 4) None)))
 
-no_flaw : (side : Side) (flags n : ℕ) (head : List ℕ) → Fields side flags n head → is_refused_by side flags ≡ false → n ≤ PRIVATE_MAX → hello_flaw side head ≡ None
-unfolding hello_flaw
+no_flaw : (side : Side) (flags n : ℕ) (head : List ℕ) → Fields side flags n head → is_refused_by side flags ≡ false → n ≤ PRIVATE_MAX → hello_reason side head ≡ None
+unfolding hello_reason
 no_flaw side flags n head f fine le =
     λ i. flaw_by (f.key_is i) ((ap (is_refused_by side) f.flags_is ∙ fine) i) (eq-eqb (revision_of head) HELLO_REVISION f.revision_is i) ((ap (ltb PRIVATE_MAX) f.private_is ∙ le-ltb PRIVATE_MAX n le) i)
 
 abbrev as_answer : Side → List ℕ → Next Hello
 as_answer side bytes =
     let frame = take (hello_len side bytes) bytes in
-    answer (is_whole (HelloFrom side) bytes) (hello_flaw side (take HELLO_LEN frame)) (record { side = side; flags = flags_of frame; private = drop HELLO_LEN frame }) (hello_len side bytes)
+    answer (is_whole (HelloFrom side) bytes) (hello_reason side (take HELLO_LEN frame)) (record { side = side; flags = flags_of frame; private = drop HELLO_LEN frame }) (hello_len side bytes)
 
 hello_in_answer : (side : Side) (bytes : List ℕ) → hello_in side bytes ≡ as_answer side bytes
 unfolding hello_in hello_of
@@ -71,7 +71,7 @@ hello_in_answer side bytes = refl
 
 -- a complete hello that isn't refused
 record Encoded (hello : Hello) (frame : List ℕ) : Type 0 where
-  flaw : hello_flaw hello.side (take HELLO_LEN frame) ≡ None
+  flaw : hello_reason hello.side (take HELLO_LEN frame) ≡ None
   flags : flags_of frame ≡ hello.flags
   private : drop HELLO_LEN frame ≡ hello.private
   frame_is : IsFrame (HelloFrom hello.side) frame
@@ -86,7 +86,7 @@ encoded hello h =
     let frame = hello_encoding hello in
     let is : frame ≡ head ++ hello.private = encoding_opening hello in
     let front : take HELLO_LEN frame ≡ head = ap (take HELLO_LEN) is ∙ take_at head hello.private HELLO_LEN (length_opening hello) in
-    let flaw : hello_flaw side (take HELLO_LEN frame) ≡ None = ap (hello_flaw side) front ∙ no_flaw side hello.flags n head fields h.0 h.1 in
+    let flaw : hello_reason side (take HELLO_LEN frame) ≡ None = ap (hello_reason side) front ∙ no_flaw side hello.flags n head fields h.0 h.1 in
     let size : private_len frame ≡ n = ap private_len is ∙ half_word_at_append 18 head hello.private (omega (arith, length_opening hello)) ∙ fields.private_is in
     let len : hello_len side frame ≡ HELLO_LEN + n = λ i. hello_size (flaw i) (size i) in
     let whole : length frame ≡ HELLO_LEN + n = ap length is ∙ length-append head hello.private ∙ ap (λ (k : ℕ). k + n) (length_opening hello) in
@@ -107,11 +107,11 @@ hello_again hello more h =
     let front = front_frame (HelloFrom side) frame more s.frame_is in
     let value : ◌≡◌ {A = Hello} (record { side = side; flags = flags_of frame; private = drop HELLO_LEN frame }) hello = λ i. record { side = side; flags = s.flags i; private = s.private i } in
     hello_in_answer side bytes
-    ∙ whole_by (is_whole (HelloFrom side) bytes) (hello_flaw side (take HELLO_LEN (take (hello_len side bytes) bytes)))
+    ∙ whole_by (is_whole (HelloFrom side) bytes) (hello_reason side (take HELLO_LEN (take (hello_len side bytes) bytes)))
     (record { side = side; flags = flags_of (take (hello_len side bytes) bytes); private = drop HELLO_LEN (take (hello_len side bytes) bytes) }) hello (hello_len side bytes) (length frame)
     (record {
       whole_is = front.whole;
-      flaw_is = ap (λ (x : List ℕ). hello_flaw side (take HELLO_LEN x)) front.front ∙ s.flaw;
+      flaw_is = ap (λ (x : List ℕ). hello_reason side (take HELLO_LEN x)) front.front ∙ s.flaw;
       value_is = ap (λ (x : List ℕ). record { side = side; flags = flags_of x; private = drop HELLO_LEN x }) front.front ∙ value;
       len_is = front.len;
     })
@@ -133,13 +133,13 @@ passed true false false long e = absurd (let wrong : some 3 ≡ None = e in cc)
 passed true true revision long e = absurd (let wrong : some 2 ≡ None = e in cc)
 passed false refused revision long e = absurd (let wrong : some 1 ≡ None = e in cc)
 
-passed_in : (side : Side) (head : List ℕ) → hello_flaw side head ≡ None
+passed_in : (side : Side) (head : List ℕ) → hello_reason side head ≡ None
     → Passed (starts_with nat_eq head (key side)) (is_refused_by side (flags_of head)) (eqb (revision_of head) HELLO_REVISION) (ltb PRIVATE_MAX (private_len head))
-unfolding hello_flaw
+unfolding hello_reason
 passed_in side head e = passed (starts_with nat_eq head (key side)) (is_refused_by side (flags_of head)) (eqb (revision_of head) HELLO_REVISION) (ltb PRIVATE_MAX (private_len head)) e
 
 -- 20 bytes that pass are an opening
-opening_of : (side : Side) (head : List ℕ) → IsBytes head → length head ≡ 20 → hello_flaw side head ≡ None → head ≡ key side ++ (flags_of head ∷ HELLO_REVISION ∷ half_word (private_len head))
+opening_of : (side : Side) (head : List ℕ) → IsBytes head → length head ≡ 20 → hello_reason side head ≡ None → head ≡ key side ++ (flags_of head ∷ HELLO_REVISION ∷ half_word (private_len head))
 opening_of side head fits len e =
     let p = passed_in side head e in
     let starts : head ≡ key side ++ drop (length (key side)) head = (starts_is Decides-eqb head (key side) (starts_with nat_eq head (key side)) refl).0 p.same_is in
@@ -160,7 +160,7 @@ pub record HelloFound (side : Side) (bytes : List ℕ) (hello : Hello) (len : �
   pub within : len ≤ length bytes
 
 hello_there : (side : Side) (bytes : List ℕ) → IsBytes bytes → IsWhole (HelloFrom side) bytes
-    → hello_flaw side (take HELLO_LEN (take (hello_len side bytes) bytes)) ≡ None
+    → hello_reason side (take HELLO_LEN (take (hello_len side bytes) bytes)) ≡ None
     → HelloFound side bytes (record { side = side; flags = flags_of (take (hello_len side bytes) bytes); private = drop HELLO_LEN (take (hello_len side bytes) bytes) }) (hello_len side bytes)
 unfolding hello_encoding hello_len
 hello_there side bytes fits w e =
@@ -172,7 +172,7 @@ hello_there side bytes fits w e =
     let frame_len : length frame ≡ size = length-take-le size bytes w.frame in
     let head_len : length head ≡ 20 = length-take-le HELLO_LEN frame (omega arith) in
     let n = private_len bytes in
-    let flaw : hello_flaw side (take HELLO_LEN bytes) ≡ None = ap (hello_flaw side) (sym front) ∙ e in
+    let flaw : hello_reason side (take HELLO_LEN bytes) ≡ None = ap (hello_reason side) (sym front) ∙ e in
     let is : size ≡ HELLO_LEN + n = ap (λ (f : Option ℕ). hello_size f n) flaw in
     let n_is : private_len head ≡ n =
     sym (half_word_at_append 18 head (drop HELLO_LEN bytes) (omega arith))
@@ -196,14 +196,14 @@ hello_found side bytes hello len fits e =
     let size = hello_len side bytes in
     let frame = take size bytes in
     let read : Hello = record { side = side; flags = flags_of frame; private = drop HELLO_LEN frame } in
-    let f = fine_from (is_whole (HelloFrom side) bytes) (hello_flaw side (take HELLO_LEN frame)) read hello size len (sym (hello_in_answer side bytes) ∙ e) in
+    let f = fine_from (is_whole (HelloFrom side) bytes) (hello_reason side (take HELLO_LEN frame)) read hello size len (sym (hello_in_answer side bytes) ∙ e) in
     let there = hello_there side bytes fits (whole_from (HelloFrom side) bytes f.whole_is) f.flaw_is in
     subst (λ (n : ℕ). HelloFound side bytes hello n) f.len_is (subst (λ (h : Hello). HelloFound side bytes h size) f.value_is there)
 
 pub hello_more : (side : Side) (bytes : List ℕ) → (hello_in side bytes ≡ More) ↔ IsPartial (HelloFrom side) bytes
 hello_more side bytes =
     let frame = take (hello_len side bytes) bytes in
-    let iff = more_iff (is_whole (HelloFrom side) bytes) (hello_flaw side (take HELLO_LEN frame)) (record { side = side; flags = flags_of frame; private = drop HELLO_LEN frame }) (hello_len side bytes) in
+    let iff = more_iff (is_whole (HelloFrom side) bytes) (hello_reason side (take HELLO_LEN frame)) (record { side = side; flags = flags_of frame; private = drop HELLO_LEN frame }) (hello_len side bytes) in
     let same = hello_in_answer side bytes in (
       λ e. partial_from (HelloFrom side) bytes (iff.0 (sym same ∙ e)),
       λ p. same ∙ iff.1 (partial_not_whole (HelloFrom side) bytes p),
@@ -212,16 +212,16 @@ hello_more side bytes =
 front_of_frame : (side : Side) (bytes : List ℕ) → take HELLO_LEN (take (hello_len side bytes) bytes) ≡ take HELLO_LEN bytes
 front_of_frame side bytes = take-take HELLO_LEN (hello_len side bytes) bytes (fields_within (HelloFrom side) bytes)
 
-refused_len : (side : Side) (bytes : List ℕ) (reason : ℕ) → hello_flaw side (take HELLO_LEN bytes) ≡ Some reason → hello_len side bytes ≡ HELLO_LEN
+refused_len : (side : Side) (bytes : List ℕ) (reason : ℕ) → hello_reason side (take HELLO_LEN bytes) ≡ Some reason → hello_len side bytes ≡ HELLO_LEN
 unfolding hello_len
 refused_len side bytes reason e = ap (λ (f : Option ℕ). hello_size f (private_len bytes)) e
 
-pub hello_bad : (side : Side) (bytes : List ℕ) (reason : ℕ) → (hello_in side bytes ≡ Bad reason) ↔ ((HELLO_LEN ≤ length bytes) × (hello_flaw side (take HELLO_LEN bytes) ≡ Some reason))
+pub hello_bad : (side : Side) (bytes : List ℕ) (reason : ℕ) → (hello_in side bytes ≡ Bad reason) ↔ ((HELLO_LEN ≤ length bytes) × (hello_reason side (take HELLO_LEN bytes) ≡ Some reason))
 hello_bad side bytes reason =
     let frame = take (hello_len side bytes) bytes in
-    let iff = bad_iff (is_whole (HelloFrom side) bytes) (hello_flaw side (take HELLO_LEN frame)) (record { side = side; flags = flags_of frame; private = drop HELLO_LEN frame }) (hello_len side bytes) reason in
+    let iff = bad_iff (is_whole (HelloFrom side) bytes) (hello_reason side (take HELLO_LEN frame)) (record { side = side; flags = flags_of frame; private = drop HELLO_LEN frame }) (hello_len side bytes) reason in
     let same = hello_in_answer side bytes in
-    let front = ap (hello_flaw side) (front_of_frame side bytes) in (
+    let front = ap (hello_reason side) (front_of_frame side bytes) in (
       λ e. let p = iff.0 (sym same ∙ e) in ((whole_from (HelloFrom side) bytes p.0).fields, sym front ∙ p.1),
       λ p.
           let len = refused_len side bytes reason p.1 in

@@ -42,8 +42,8 @@ abbrev pub IsAccepted : Hello → Type 0
 IsAccepted hello = (is_refused_by hello.side hello.flags ≡ false) × (length hello.private ≤ PRIVATE_MAX)
 
 -- why a hello of this side with these first 20 bytes is refused: the first reason that applies, in this order
-unfoldable pub hello_flaw : Side → List ℕ → Option ℕ
-hello_flaw side head =
+unfoldable pub hello_reason : Side → List ℕ → Option ℕ
+hello_reason side head =
     if not (starts_with nat_eq head (key side)) then Some REASON_KEY
     else (if is_refused_by side (flags_of head) then Some REASON_FLAGS
     else (if not (revision_of head == HELLO_REVISION) then Some REASON_REVISION
@@ -58,7 +58,7 @@ value_unless (Some reason) value = Err reason
 -- the hello that a complete frame of this side holds, or why it is refused
 unfoldable pub hello_of : Side → List ℕ → Result Hello ℕ
 hello_of side frame =
-    value_unless (hello_flaw side (take HELLO_LEN frame)) (record { side = side; flags = flags_of frame; private = drop HELLO_LEN frame })
+    value_unless (hello_reason side (take HELLO_LEN frame)) (record { side = side; flags = flags_of frame; private = drop HELLO_LEN frame })
 
 -- the length of the frame: a refused hello is its first 20 bytes, whatever its private length says
 abbrev pub hello_size : Option ℕ → ℕ → ℕ
@@ -66,4 +66,4 @@ hello_size None private = HELLO_LEN + private
 hello_size (Some reason) private = HELLO_LEN
 
 unfoldable pub hello_len : Side → List ℕ → ℕ
-hello_len side bytes = hello_size (hello_flaw side (take HELLO_LEN bytes)) (private_len bytes)
+hello_len side bytes = hello_size (hello_reason side (take HELLO_LEN bytes)) (private_len bytes)

@@ -4,7 +4,7 @@ ghost use Rattle.nr_wire.specs.Constants.{FPDU_MAX};
 ghost use Rattle.nr_wire.specs.Stream.{IsPartial};
 ghost use Rattle.nr_wire.specs.Next.Next.{Whole, More, Bad};
 ghost use Rattle.std.specs.Prelude.{◌≡◌, ℕ, ◌+◌, ◌<◌, ◌≤◌, length, take, ◌↔◌, List, ◌++◌, IfNone};
-ghost use Rattle.nr_wire.specs.Hello.{key, is_refused_by, hello_flaw, hello_of, hello_len, Hello as PlainHello, IsAccepted, hello_encoding, private_len};
+ghost use Rattle.nr_wire.specs.Hello.{key, is_refused_by, hello_reason, hello_of, hello_len, Hello as PlainHello, IsAccepted, hello_encoding, private_len};
 ghost use Rattle.nr_wire.specs.Next.{hello_in, IfWhole};
 ghost use Rattle.nr_wire.specs.View.{hello as plain, next_hello, result_view};
 
@@ -69,10 +69,10 @@ fn is_refused_by(side: Side, flags: u8) -> bool
 }
 
 /// Why a hello with these first 20 bytes is refused.
-#[tactic(auto, unfolding(crate::specs::Hello::hello_flaw))]
+#[tactic(auto, unfolding(crate::specs::Hello::hello_reason))]
 fn flaw(side: Side, head: &[u8]) -> Option<u32>
     requires { length head.now ≡ HELLO_LEN }
-    ensures exact { result ≡ hello_flaw side head.now }
+    ensures exact { result ≡ hello_reason side head.now }
     ensures private { IfNone result (private_len head.now ≤ PRIVATE_MAX) }
 {
     if !head.starts_with(key(side)) {
@@ -134,7 +134,7 @@ pub fn read_hello(side: Side, bytes: &[u8]) -> NextHello<'_>
     ensures more { (next_hello result ≡ More) ↔ IsPartial (Awaited.Hello side) bytes.now }
     // Which reason it is.
     ensures bad { (reason : ℕ) → (next_hello result ≡ Bad reason)
-        ↔ ((HELLO_LEN ≤ length bytes.now) × (hello_flaw side (take HELLO_LEN bytes.now) ≡ Some reason)) }
+        ↔ ((HELLO_LEN ≤ length bytes.now) × (hello_reason side (take HELLO_LEN bytes.now) ≡ Some reason)) }
     ensures exact { next_hello result ≡ hello_in side bytes.now }
 {
     read_hello_inner(side, bytes)

@@ -1,5 +1,5 @@
 use Rattle.std.proofs.Common.{◌≡◌, ◌≤◌, ◌+◌, ◌++◌, drop}
-use Rattle.nr_endpoint.specs.Carriers.{writes_room}
+use Rattle.nr_endpoint.specs.OperationSegments.{writes_room}
 use Rattle.nr_endpoint.specs.Offering.{writes_output}
 use Rattle.nr_endpoint.proofs.framing.append_writes.Given as goal
 

@@ -2,7 +2,7 @@ use Rattle.std.proofs.Common.{◌≡◌, ℕ, ◌+◌, ◌*◌, List, ◌++◌, 
 use Rattle.std.proofs.lemmas.List.{append-nil}
 use Rattle.nr_link.specs.Limits.{segment_max}
 use Rattle.nr_link.specs.Output.{cut, segment_count}
-use Rattle.nr_endpoint.specs.Carriers.{operation_segment}
+use Rattle.nr_endpoint.specs.OperationSegments.{operation_segment}
 use Rattle.nr_endpoint.proofs.Cuts.{pieces_none, payload_short, piece_pushed, all_pushed}
 use Rattle.nr_endpoint.proofs.sharing.push_shared.Goals as goal
 

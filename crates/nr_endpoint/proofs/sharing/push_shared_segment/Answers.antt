@@ -1,6 +1,6 @@
 use Rattle.std.proofs.Common.{◌++◌, ◌∙◌, ap}
 use Rattle.nr_wire.specs.Segment.{segment_header, segment_tail, ulpdu_size, Segment}
-use Rattle.nr_endpoint.specs.Carriers.{operation_segment}
+use Rattle.nr_endpoint.specs.OperationSegments.{operation_segment}
 use Rattle.nr_endpoint.proofs.Cuts.{segment_pushed, carried_payload, carried_writable}
 use Rattle.std.proofs.Common.{sym, subst}
 use Rattle.nr_wire.specs.Segment.{IsWritable}

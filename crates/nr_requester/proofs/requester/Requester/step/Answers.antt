@@ -52,7 +52,7 @@ returns-clause-step c =
     record { ended = c.in-Ok.ensures.ended; state = c.in-Ok.ensures.state; memory = c.in-Ok.ensures.memory; whole = λ m going. (c.in-Ok.ensures.frame m going).0; queues = λ m going. (c.in-Ok.ensures.frame m going).1 } in
     subst (λ (h : RequesterSide). IsStep (feeding_of h) c.args.left.now (requester_view c.take_event.new.endpoint.link c.self.inside.sent c.self.inside.wished c.self.inside.first_xid c.self.inside.next_xid c.take_event.new.grant c.take_event.new.outstanding.items c.take_event.new.answered.items)) c.self.view_is
     (ok_step c.self.inside.endpoint.link c.feed_one.new.self.link c.take_event.new.endpoint.link c.self.inside.sent c.self.inside.wished c.self.inside.first_xid c.self.inside.next_xid c.self.inside.grant c.take_event.new.grant (vec_capacity c.self.inside.answered) c.in-Ok.taken c.self.inside.outstanding.items c.take_event.new.outstanding.items c.self.inside.answered.items c.take_event.new.answered.items c.args.left.now f lives c.self.invariant.0
-    (c.take_event.ensures.told c.self.inside.wished c.self.inside.next_xid))
+    (c.take_event.ensures.deliveries c.self.inside.wished c.self.inside.next_xid))
 
 pub returns-in_default-clause-tickets : goal.returns-in_default-clause-tickets
 returns-in_default-clause-tickets c =
@@ -80,7 +80,7 @@ pub returns-clause-staging : goal.returns-clause-staging
 returns-clause-staging c =
     let i = c.self.inside in
     let t = c.take_event.new in
-    let rest = told_rest (requester_view c.feed_one.new.self.link i.sent i.wished i.first_xid i.next_xid i.grant i.outstanding.items i.answered.items) (requester_view t.endpoint.link i.sent i.wished i.first_xid i.next_xid t.grant t.outstanding.items t.answered.items) (c.take_event.ensures.told i.wished i.next_xid) in
+    let rest = told_rest (requester_view c.feed_one.new.self.link i.sent i.wished i.first_xid i.next_xid i.grant i.outstanding.items i.answered.items) (requester_view t.endpoint.link i.sent i.wished i.first_xid i.next_xid t.grant t.outstanding.items t.answered.items) (c.take_event.ensures.deliveries i.wished i.next_xid) in
     subst (λ (h : RequesterSide). KeepsStaging h (side_view t.endpoint.staging i.marks (requester_view t.endpoint.link i.sent i.wished i.first_xid i.next_xid t.grant t.outstanding.items t.answered.items)) c.args.left.now) c.self.view_is
     (staged_step i.endpoint c.feed_one.new.self c.args.left.now (side_view i.endpoint.staging i.marks (requester_view i.endpoint.link i.sent i.wished i.first_xid i.next_xid i.grant i.outstanding.items i.answered.items))
     (side_view t.endpoint.staging i.marks (requester_view t.endpoint.link i.sent i.wished i.first_xid i.next_xid t.grant t.outstanding.items t.answered.items)) refl refl refl rest c.take_event.ensures.staging c.in-Ok.ensures.staging)
