@@ -35,6 +35,7 @@ mod send_queue;
 mod sharing;
 mod staging;
 
+pub use constants::OPEN_READS_MAX;
 pub use endpoint::Endpoint;
 pub use event::Event;
 pub use fault::{DrainFault, ReadRefused};
