@@ -52,9 +52,9 @@ hello_flaw_lem : (side : Side) (head : List ℕ) → IfSome (hello_reason side h
 unfolding hello_reason
 hello_flaw_lem side head = hello_flaw_by side _ _ _ _
 
-hello_reason : (side : Side) (frame : List ℕ) → IfErr (hello_of side frame) (IsFrameReason (HelloFrom side))
+reason_of_hello : (side : Side) (frame : List ℕ) → IfErr (hello_of side frame) (IsFrameReason (HelloFrom side))
 unfolding hello_of
-hello_reason side frame = value_error (IsFrameReason (HelloFrom side)) (hello_reason side (take HELLO_LEN frame)) _ (hello_flaw_lem side (take HELLO_LEN frame))
+reason_of_hello side frame = value_error (IsFrameReason (HelloFrom side)) (hello_reason side (take HELLO_LEN frame)) _ (hello_flaw_lem side (take HELLO_LEN frame))
 
 flaw_reason : (b1 b2 b3 b4 b5 b6 : Bool) → IfSome
     (cond b1 (Some REASON_LENGTH) (cond b2 (Some REASON_DDP_VERSION) (cond b3 (Some REASON_RDMAP_VERSION) (cond b4 (Some REASON_OPCODE) (cond b5 (Some REASON_TAGGED) (cond b6 (Some REASON_QUEUE) None))))))
@@ -206,7 +206,7 @@ hello_end_lem side s f (Ok hello) live is = not_ended_lem (IsFrameEnd (HelloFrom
 hello_end_lem side s f (Err reason) live is = (refl, is)
 
 pub frames_end_for_these : FramesEndForThese
-frames_end_for_these s (HelloFrom side) frame live = hello_end_lem side s (next_frame s frame) (hello_of side frame) live (hello_reason side frame)
+frames_end_for_these s (HelloFrom side) frame live = hello_end_lem side s (next_frame s frame) (hello_of side frame) live (reason_of_hello side frame)
 frames_end_for_these s Fpdu frame live = fpdu_end s (next_frame s frame) (segment_of frame) live (fpdu_reason frame)
 
 -- ---- The reasons of `stop` are others
