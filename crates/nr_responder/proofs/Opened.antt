@@ -26,7 +26,7 @@ no_regions_lem : HoldsRegions [] [] 0 (initial_memory 1)
 unfolding live_region held_region initial_memory
 no_regions_lem stag = get-empty nat_cmp stag
 
-server_first : (opened : LinkParameters) → IsServer (server.initial_state opened) 0
+server_first : (opened : LinkParameters) → IsServer (server.initial_server_state opened) 0
 server_first opened = record {
   offered = tt;
   accesses = tt;
@@ -49,7 +49,7 @@ next_first : (initial_memory 1).next ≡ 1 + 0
 unfolding initial_memory
 next_first = refl
 
-link_first : (opened : LinkParameters) → LinkKeeps opened (server.initial_state opened) (initial_state Responder opened.granted 1)
+link_first : (opened : LinkParameters) → LinkKeeps opened (server.initial_server_state opened) (initial_state Responder opened.granted 1)
 link_first opened = record {
   live = refl;
   side = refl;
@@ -65,7 +65,7 @@ link_first opened = record {
   queue = record { due_is = refl; ends_are = sym (ends_none 0 0); each = tt; sends = refl; requests_are = refl; responses = refl };
 }
 
-keeps_first : (opened : LinkParameters) → Keeps opened (server.initial_state opened) (initial_input Initiator) (opened_state opened.granted (initial_link Responder opened.granted 1))
+keeps_first : (opened : LinkParameters) → Keeps opened (server.initial_server_state opened) (initial_input Initiator) (opened_state opened.granted (initial_link Responder opened.granted 1))
 unfolding initial_link
 keeps_first opened = record {
   link = link_first opened;

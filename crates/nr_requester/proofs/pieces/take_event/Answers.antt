@@ -26,8 +26,8 @@ take_message-requires-clause-calls c =
     let memory = ap (λ (l : LinkSide). l.state.memory) c.in-Some-Message.ensures.state ∙ next_memory c.args.endpoint.now.link in
     (c.requires.ready.next_xid, subst (λ (m : RegisteredMemory). CallsSound m c.requires.ready.next_xid c.args.outstanding.now.items c.args.answered.now.items (vec_capacity c.args.answered.now)) (sym memory) c.requires.ready.calls)
 
-pub returns-in-Some-Message-clause-told : goal.returns-in-Some-Message-clause-told
-returns-in-Some-Message-clause-told c = λ wished next.
+pub returns-in-Some-Message-clause-deliveries : goal.returns-in-Some-Message-clause-deliveries
+returns-in-Some-Message-clause-deliveries c = λ wished next.
     let w = message_waits c.args.endpoint.now.link c.in-Some-Message.field-0-0 c.in-Some-Message.field-0-1 (take c.in-Some-Message.len c.in-Some-Message.buf) c.next_event.new.self.link.state.receive_queue.deliveries c.requires.ready.waits (c.in-Some-Message.ensures.event ∙ ap (λ (e : Event). delivery e ∷ c.next_event.new.self.link.state.receive_queue.deliveries) c.in-Some-Message.field-0-is) in
     message_told c.args.endpoint.now.link c.next_event.new.self.link c.take_message.new.endpoint.link c.args.sent wished c.args.first_xid next c.args.grant.now c.take_message.new.grant w.number c.args.outstanding.now.items c.take_message.new.outstanding.items c.args.answered.now.items c.take_message.new.answered.items (take c.in-Some-Message.len c.in-Some-Message.buf)
     c.requires.ready.live w.is w.rest c.in-Some-Message.ensures.state c.take_message.ensures.judged
