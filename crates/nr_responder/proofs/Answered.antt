@@ -239,10 +239,11 @@ answered_stands opened link run v after xid moment payload place reply sent stan
 -- ---- Its payload
 
 -- what is kept of the call that is next
-record NextKept (opened : LinkParameters) (link : ℕ) (run : List Mark) (v : ResponderSide) (xid : ℕ) : Type 0 where
+pub record NextKept (opened : LinkParameters) (link : ℕ) (run : List Mark) (v : ResponderSide) (xid : ℕ) : Type 0 where
   pub server : ServerState
   pub call : ReadyCall
   pub calls : v.calls ≡ server.calls
+  pub reads : v.fetching.reads ≡ server.reads
   pub xids : OwnXids server.calls
   pub is_next : next_call opened link run ≡ Some call
   pub own : xid ≡ call.xid
@@ -253,7 +254,7 @@ xid_of_first : (ready : List ReadyCall) (xid : ℕ) → slice_get (map (λ q. q.
 xid_of_first [] xid is = absurd cc
 xid_of_first (r ∷ ready) xid is = (r, (refl, (let h : r.xid ≡ xid = cc in sym h)))
 
-next_kept : (opened : LinkParameters) (link : ℕ) (run : List Mark) (v : ResponderSide) (xid : ℕ) → Stands opened link run v → end_of v ≡ None → slice_get v.ready 0 ≡ Some xid → NextKept opened link run v xid
+pub next_kept : (opened : LinkParameters) (link : ℕ) (run : List Mark) (v : ResponderSide) (xid : ℕ) → Stands opened link run v → end_of v ≡ None → slice_get v.ready 0 ≡ Some xid → NextKept opened link run v xid
 next_kept opened link run v xid stands live_now first =
     let h : RepresentsServer opened link run v = represents opened link run v live_now stands in
     let both : (h.end.ended ≡ None) × Keeps opened h.end.state h.input v = not_ended_lem opened h.end h.input v live_now h.keeps in
@@ -263,6 +264,7 @@ next_kept opened link run v xid stands live_now first =
       server = h.end.state;
       call = f.0;
       calls = both.1.calls;
+      reads = both.1.reads;
       xids = both.1.server.xids;
       is_next = next_is_lem opened link run v h ∙ ap (λ (o : Option End). first_ready h.end.state.ready o) both.0 ∙ f.1.0;
       own = f.1.1;

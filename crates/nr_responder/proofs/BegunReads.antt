@@ -25,7 +25,8 @@ use Rattle.nr_responder.specs.private.CallsRead.{chunk_positions, reading_call, 
 use Rattle.nr_responder.specs.private.Handling.{out}
 use Rattle.nr_responder.specs.private.Reading.{opening, with_opened}
 use Rattle.nr_responder.specs.private.Starting.{BeginsReads, OpensReads, reads_more, with_room}
-use Rattle.nr_responder.specs.Sound.{AreFetched, AreHeldFrom, QueuesInvariant, HasRoom, InBuffer, NothingOutside, SameInput, claims_of, payload_room, payloads_of, state_of, xids_of}
+use Rattle.nr_responder.specs.Rooms.{payload_room}
+use Rattle.nr_responder.specs.Sound.{AreFetched, AreHeldFrom, QueuesInvariant, HasRoom, InBuffer, NothingOutside, SameInput, claims_of, payloads_of, state_of, xids_of}
 use Rattle.nr_responder.specs.Views.{call_view, read_view, sink_view}
 use Rattle.nr_responder.proofs.ListedReads.{same_sinks}
 use Rattle.nr_responder.proofs.ReadEffects.{requests_ends}

@@ -66,7 +66,7 @@ fetched_makes v after number message lists stream_at inline of_reads few = by
     by (Spends lt is) =
         Ends REASON_STAGS (omega arith)
         (λ k server. (of_reads k server).needs ∙ spends k (call_with (k.received.sends + 1) (word_at 0 message) lists stream) (let next = server.next in omega (arith, lt, next))) is
-    by (ReadsChunks le some is) = Fetches (word_at 0 message) lists stream (λ k server. read_call k server le) some is
+    by (ReadsChunks le total few some is) = Fetches (word_at 0 message) lists stream (λ k server. read_call k server le) le total few some is
     by (IsComplete none alone is) = Completes (word_at 0 message) lists stream (λ k server. read_call k server (no_chunks none)) none alone is
     by (EndsFor reason other none refuses is) = EndsAtOnce (word_at 0 message) lists stream reason other (λ k server. read_call k server (no_chunks none)) none refuses is
     by (RunsOut bytes is) = LeavesReads (λ k server. takes k message lists stream_at inline bytes (of_reads k server)) is

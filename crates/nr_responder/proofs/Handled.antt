@@ -20,6 +20,9 @@ use Rattle.nr_reduce.specs.ServerMessages.{verdict}
 use Rattle.nr_reduce.specs.ServerMessages.Verdict.{MakesPending}
 use Rattle.nr_reduce.specs.ServerFrames.{by_message}
 use Rattle.nr_reduce.specs.Holds.{chunk_error, version_error}
+use Rattle.nr_header.specs.Constants.{VERSION}
+use Rattle.nr_link.specs.Limits.{send_max}
+use Rattle.nr_header.proofs.Lengths.{chunk_error_length, versions_length}
 use Rattle.nr_responder.specs.ResponderState.{ResponderSide}
 use Rattle.nr_responder.specs.private.Handling.{Handled, IsServerOf, MessageTakes, Begins, Makes, OrOut, begun_call, inline_call, refused_effect, on_link, out, with_ready, IsReadCall}
 use Rattle.nr_responder.specs.private.Handling.Handled.{Stopped, Refused, Ready, Fetched, Completed}
@@ -53,10 +56,10 @@ ended_or_out : (v after : ResponderSide) (number reason : ℕ) (message : List �
 ended_or_out v after number reason message other refuses (inl is) = inl (λ k server count. Stopped reason (refuses k server count) other is)
 ended_or_out v after number reason message other refuses (inr is) = inr (record { is_out = is; takes = λ k server count. EndsFor reason (refuses k server count) other })
 
-refused_or_out : (v after : ResponderSide) (number : ℕ) (message answer : List ℕ) → ((k : ServerState) → IsServerOf k v → (place : ℕ) → by_message k place (Some message) ≡ refused_effect k answer) →
+refused_or_out : (v after : ResponderSide) (number : ℕ) (message answer : List ℕ) → length answer ≤ send_max → ((k : ServerState) → IsServerOf k v → (place : ℕ) → by_message k place (Some message) ≡ refused_effect k answer) →
     OrOut (told_of v) (after_call (after_call v.link NextEvent) (Send answer)) after → Goes v number message after ⊎ RanOutOf v number message after
-refused_or_out v after number message answer effect (inl is) = inl (λ k server count. Refused answer (effect k server) is)
-refused_or_out v after number message answer effect (inr is) = inr (record { is_out = is; takes = λ k server count. ErrorFor answer (effect k server) })
+refused_or_out v after number message answer short effect (inl is) = inl (λ k server count. Refused answer (effect k server) short is)
+refused_or_out v after number message answer short effect (inr is) = inr (record { is_out = is; takes = λ k server count. ErrorFor answer (effect k server) })
 
 told_next : (l : LinkSide) → l.state.memory.next ≡ (after_call l NextEvent).state.memory.next
 unfolding after_call
@@ -87,6 +90,15 @@ begins_handled v after number message lists stream_at call (IsReady head reads o
         Ready (word_at 0 message) lists.write lists.reply (drop stream_at message) head c.own (judged_call k message lists stream_at c) reads own
         (is ∙ ap (λ (c : PendingCall). with_ready (told_of v) (after_call v.link NextEvent) c) same)
 
+-- an error message is short
+version_short : (xid version credits : ℕ) → length (version_error xid version credits) ≤ send_max
+unfolding version_error
+version_short xid version credits = omega (arith, versions_length xid credits version VERSION VERSION)
+
+pub chunk_short : (xid credits : ℕ) → length (chunk_error xid credits) ≤ send_max
+unfolding chunk_error
+chunk_short xid credits = omega (arith, chunk_error_length xid credits VERSION)
+
 -- the call has the number of its Send
 at_number : (k : ServerState) (message : List ℕ) (xid number : ℕ) (lists : ChunkLists) (inline : Option (List ℕ)) → number ≡ k.received.sends + 1 → IsReadCall k message xid lists inline →
     verdict k message ≡ MakesPending (record { number = number; xid = xid; lists = lists; inline = inline })
@@ -96,17 +108,17 @@ pub makes_handled : (v after : ResponderSide) (number : ℕ) (message : List ℕ
 makes_handled v after number message (Ends reason other judged is) =
     ended_or_out v after number reason message other (λ k server count place. ends_refusal k message reason place (judged k (told_server_of k v server))) is
 makes_handled v after number message (RefusesVersion judged is) =
-    refused_or_out v after number message (version_error (word_at 0 message) (word_at 4 message) v.credits)
+    refused_or_out v after number message (version_error (word_at 0 message) (word_at 4 message) v.credits) (version_short (word_at 0 message) (word_at 4 message) v.credits)
     (λ k server place. version_refused k message v.credits place (judged k (told_server_of k v server)) server.credits) is
 makes_handled v after number message (RefusesChunks judged is) =
-    refused_or_out v after number message (chunk_error (word_at 0 message) v.credits)
+    refused_or_out v after number message (chunk_error (word_at 0 message) v.credits) (chunk_short (word_at 0 message) v.credits)
     (λ k server place. chunks_refused k message v.credits place (judged k (told_server_of k v server)) server.credits) is
 makes_handled v after number message (Calls lists stream_at judged begins) =
     begins_handled v after number message lists stream_at (λ k server. judged k (told_server_of k v server)) begins
-makes_handled v after number message (Fetches xid lists inline judged chunks is) =
+makes_handled v after number message (Fetches xid lists inline judged fits total few chunks is) =
     inl (λ k server count.
     let r = judged k (told_server_of k v server) in
-    Fetched (record { number = number; xid = xid; lists = lists; inline = inline }) count r.own (at_number k message xid number lists inline count r) chunks is)
+    Fetched (record { number = number; xid = xid; lists = lists; inline = inline }) count r.own (at_number k message xid number lists inline count r) fits total few chunks is)
 makes_handled v after number message (Completes xid lists inline judged none alone is) =
     inl (λ k server count.
     let r = judged k (told_server_of k v server) in
@@ -132,7 +144,7 @@ same_fed l m same = by same.rest
 -- ---- The link after a step
 
 pub step_counts : (l m : LinkSide) (piece : List ℕ) → StepOf l piece m → SameCounts l.state m.state
-step_counts l m piece (Part w is) = subst (λ (x : LinkSide). SameCounts l.state x.state) (sym is) (record { next = refl; lent = refl; receives = refl; ends_are = refl })
+step_counts l m piece (Part w is) = subst (λ (x : LinkSide). SameCounts l.state x.state) (sym is) (record { next = refl; lent = refl; receives = refl; receive_length = refl; ends_are = refl })
 step_counts l m piece (WholeFrame frame w frame_is long is) = subst (λ (x : LinkSide). SameCounts l.state x.state) (sym is) (frame_counts l.state l.awaited frame)
 
 -- how far a step goes

@@ -154,7 +154,7 @@ from_lower m low lower [] le h = omega (arith, le, h)
 from_lower m low lower (c ∷ cs) le h = ((let at = h.0 in omega (arith, le, at)), h.1)
 
 -- the region under an STag below these is released
-held_above : (m : RegisteredMemory) (low s : ℕ) (cs : List Claim) → s < low → AreHeldFrom m low cs → AreHeldFrom (after_release m s) low cs
+pub held_above : (m : RegisteredMemory) (low s : ℕ) (cs : List Claim) → s < low → AreHeldFrom m low cs → AreHeldFrom (after_release m s) low cs
 held_above m low s [] lt h = (let n = release_next m s in omega (arith, n, h))
 held_above m low s (c ∷ cs) lt h = (h.0, (still_held m s c (λ e. (let at = h.0 in omega (arith, lt, at, e))) h.1.0, held_above m (c.stag + 1) s cs (let at = h.0 in omega (arith, lt, at)) h.1.1))
 

@@ -57,3 +57,13 @@ pub mod Told
 pub mod Whole
 pub mod Writes
 pub mod BegunReads
+pub mod ChunkTotals
+pub mod Shares
+pub mod OwnedSinks
+pub mod SinkTotals
+pub mod SinkBounds
+pub mod StepBounds
+pub mod OutputLengths
+pub mod QueueBounds
+pub mod OutputBounds
+pub mod OutputSteps

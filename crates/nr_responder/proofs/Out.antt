@@ -216,7 +216,7 @@ response_same s frame r lives true is =
 response_same s frame r lives false is =
     ap (λ (t : LinkState). t.send_queue) ((frame_lives s frame (Tagged false OPCODE_READ_RESPONSE r.stag r.to r.payload) (response_reads s frame r false is) lives).1 ∙ part_link s frame r.stag r.to r.payload)
 
-lives_same : (s : LinkState) (frame : List ℕ) → Lives s frame → (with_frame s Fpdu frame).ended ≡ None → (with_frame s Fpdu frame).send_queue ≡ s.send_queue
+pub lives_same : (s : LinkState) (frame : List ℕ) → Lives s frame → (with_frame s Fpdu frame).ended ≡ None → (with_frame s Fpdu frame).send_queue ≡ s.send_queue
 lives_same s frame (inl send) lives = sent_same s frame send lives send.last refl
 lives_same s frame (inr r) lives = response_same s frame r lives r.last refl
 

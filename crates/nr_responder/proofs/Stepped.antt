@@ -14,6 +14,7 @@ use Rattle.nr_wire.specs.Feeding.{bytes_taken}
 use Rattle.nr_link.specs.declared.end.End.{End}
 use Rattle.nr_link.specs.declared.end.End.TheVariants as ends
 use Rattle.nr_link.specs.Input.{InputState}
+use Rattle.nr_link.specs.ReceiveState.{ReceiveState}
 use Rattle.nr_endpoint.specs.ReceiveQueue.{DeliveredEvent}
 use Rattle.nr_endpoint.specs.ReceiveQueue.DeliveredEvent.{MessageReceived, ReadDone}
 use Rattle.nr_endpoint.specs.LinkState.{LinkState, LinkSide}
@@ -89,12 +90,12 @@ failed_within l m piece end fed out = by end fed out
 
 -- ---- What a step delivers
 
--- nothing, one message, or a read that is done
-abbrev pub FewDeliveries : List PendingRead → List DeliveredEvent → Type 0
-FewDeliveries reads deliveries = (deliveries ≡ []) ⊎ (((number : ℕ) × ((message : List ℕ) × (deliveries ≡ MessageReceived number None message ∷ []))) ⊎ ((deliveries ≡ ReadDone ∷ []) × (reads ≢ [])))
+-- nothing, the message of the next Send, or a read that is done
+abbrev pub FewDeliveries : ℕ → List PendingRead → List DeliveredEvent → Type 0
+FewDeliveries sends reads deliveries = (deliveries ≡ []) ⊎ (((message : List ℕ) × (deliveries ≡ MessageReceived (sends + 1) None message ∷ [])) ⊎ ((deliveries ≡ ReadDone ∷ []) × (reads ≢ [])))
 
 send_deliveries : (opened : LinkParameters) (k : ServerState) (so_far : InputState) (v : ResponderSide) (frame : List ℕ) → Keeps opened k so_far v → (with_frame v.link.state Fpdu frame).ended ≡ None → (send : IsSend v.link.state frame) → (b : Bool) → send.last ≡ b →
-    FewDeliveries v.fetching.reads (with_frame v.link.state Fpdu frame).receive_queue.deliveries
+    FewDeliveries k.received.sends v.fetching.reads (with_frame v.link.state Fpdu frame).receive_queue.deliveries
 send_deliveries opened k so_far v frame h lives send false is =
     let s : LinkState = v.link.state in
     let reads : segment_of frame ≡ Ok (Untagged false OPCODE_SEND send.w send.queue_number send.msn send.offset send.payload) = send.reads ∙ ap (λ (b : Bool). Ok (Untagged b OPCODE_SEND send.w send.queue_number send.msn send.offset send.payload)) is in
@@ -106,37 +107,35 @@ send_deliveries opened k so_far v frame h lives send true is =
     let state = (frame_lives s frame (Untagged true OPCODE_SEND send.w send.queue_number send.msn send.offset send.payload) reads lives).1 ∙ last_framed s frame send.w send.queue_number send.msn send.offset send.payload in
     let whole : List ℕ = whole_message s send.payload in
     inr (inl (
-      s.receive_queue.received.sends + 1,
-      (
-        whole,
-        ap (λ (t : LinkState). t.receive_queue.deliveries) state ∙ ap (λ (deliveries : List DeliveredEvent). deliveries ++ MessageReceived (s.receive_queue.received.sends + 1) None whole ∷ []) h.link.told,
-      ),
+      whole,
+      ap (λ (t : LinkState). t.receive_queue.deliveries) state ∙ ap (λ (deliveries : List DeliveredEvent). deliveries ++ MessageReceived (s.receive_queue.received.sends + 1) None whole ∷ []) h.link.told
+          ∙ ap (λ (n : ℕ). MessageReceived n None whole ∷ []) (ap (λ (r : ReceiveState). r.sends + 1) h.link.received),
     ))
 
 read_deliveries : (opened : LinkParameters) (k : ServerState) (so_far : InputState) (v : ResponderSide) (frame : List ℕ) → Keeps opened k so_far v → (with_frame v.link.state Fpdu frame).ended ≡ None → (r : IsResponse v.link.state frame) → (b : Bool) → r.last ≡ b →
-    FewDeliveries v.fetching.reads (with_frame v.link.state Fpdu frame).receive_queue.deliveries
+    FewDeliveries k.received.sends v.fetching.reads (with_frame v.link.state Fpdu frame).receive_queue.deliveries
 read_deliveries opened k so_far v frame h lives r false is = inl (response_deliveries opened k so_far v frame h lives r false is)
 read_deliveries opened k so_far v frame h lives r true is =
     inr (inr (response_deliveries opened k so_far v frame h lives r true is, (λ none. none_expected k v.link.state r.last r.stag r.to (length r.payload) h.link.reads r.expected (sym h.reads ∙ none))))
 
 fpdu_deliveries : (opened : LinkParameters) (k : ServerState) (so_far : InputState) (v : ResponderSide) (frame : List ℕ) → Keeps opened k so_far v → (with_frame v.link.state Fpdu frame).ended ≡ None → Lives v.link.state frame →
-    FewDeliveries v.fetching.reads (with_frame v.link.state Fpdu frame).receive_queue.deliveries
+    FewDeliveries k.received.sends v.fetching.reads (with_frame v.link.state Fpdu frame).receive_queue.deliveries
 fpdu_deliveries opened k so_far v frame h lives (inl send) = send_deliveries opened k so_far v frame h lives send send.last refl
 fpdu_deliveries opened k so_far v frame h lives (inr r) = read_deliveries opened k so_far v frame h lives r r.last refl
 
 frame_deliveries : (opened : LinkParameters) (k : ServerState) (so_far : InputState) (v : ResponderSide) (frame : List ℕ) → Keeps opened k so_far v → (with_frame v.link.state v.link.awaited frame).ended ≡ None → Begins v.link →
-    FewDeliveries v.fetching.reads (with_frame v.link.state v.link.awaited frame).receive_queue.deliveries
+    FewDeliveries k.received.sends v.fetching.reads (with_frame v.link.state v.link.awaited frame).receive_queue.deliveries
 frame_deliveries opened k so_far v frame h lives (BeforeHello place awaited hello none) =
     let as_hello : with_frame v.link.state v.link.awaited frame ≡ with_peer_hello (next_frame v.link.state frame) (hello_of Initiator frame) v.link.state = ap (λ (a : Awaited). with_frame v.link.state a frame) awaited in
     inl (ap (λ (t : LinkState). t.receive_queue.deliveries) as_hello ∙ hello_deliveries v.link.state (next_frame v.link.state frame) (hello_of Initiator frame) ∙ h.link.told)
 frame_deliveries opened k so_far v frame h lives (AfterHello place awaited hello) =
     let lives_on : (with_frame v.link.state Fpdu frame).ended ≡ None = subst (λ (a : Awaited). (with_frame v.link.state a frame).ended ≡ None) awaited lives in
-    subst (λ (a : Awaited). FewDeliveries v.fetching.reads (with_frame v.link.state a frame).receive_queue.deliveries) (sym awaited) (fpdu_deliveries opened k so_far v frame h lives_on (frame_is opened k v.link.state frame h.link h.server lives_on))
+    subst (λ (a : Awaited). FewDeliveries k.received.sends v.fetching.reads (with_frame v.link.state a frame).receive_queue.deliveries) (sym awaited) (fpdu_deliveries opened k so_far v frame h lives_on (frame_is opened k v.link.state frame h.link h.server lives_on))
 
-few_deliveries : (opened : LinkParameters) (k : ServerState) (so_far : InputState) (v : ResponderSide) (piece : List ℕ) (m : LinkSide) → Keeps opened k so_far v → m.state.ended ≡ None → StepOf v.link piece m → FewDeliveries v.fetching.reads m.state.receive_queue.deliveries
+pub few_deliveries : (opened : LinkParameters) (k : ServerState) (so_far : InputState) (v : ResponderSide) (piece : List ℕ) (m : LinkSide) → Keeps opened k so_far v → m.state.ended ≡ None → StepOf v.link piece m → FewDeliveries k.received.sends v.fetching.reads m.state.receive_queue.deliveries
 few_deliveries opened k so_far v piece m h lives (Part w link) = inl (ap (λ (l : LinkSide). l.state.receive_queue.deliveries) link ∙ h.link.told)
 few_deliveries opened k so_far v piece m h lives (WholeFrame frame w frame_is long link) =
-    subst (λ (l : LinkSide). FewDeliveries v.fetching.reads l.state.receive_queue.deliveries) (sym link) (frame_deliveries opened k so_far v frame h (sym (ap (λ (l : LinkSide). l.state.ended) link) ∙ lives) h.begins)
+    subst (λ (l : LinkSide). FewDeliveries k.received.sends v.fetching.reads l.state.receive_queue.deliveries) (sym link) (frame_deliveries opened k so_far v frame h (sym (ap (λ (l : LinkSide). l.state.ended) link) ∙ lives) h.begins)
 
 -- ---- A step after which something was delivered
 
@@ -161,20 +160,20 @@ went_on v after piece n (Some end) is fed =
 pub same_message : (a b : ℕ) (i j : Option ℕ) (x y : List ℕ) (rest others : List DeliveredEvent) → MessageReceived a i x ∷ rest ≡ MessageReceived b j y ∷ others → (a ≡ b) × (x ≡ y)
 same_message a b i j x y rest others is = ((let h : a ≡ b = cc in h), (let h : x ≡ y = cc in h))
 
-not_two : (reads : List PendingRead) (number : ℕ) (invalidated : Option ℕ) (bytes : List ℕ) (x : DeliveredEvent) (rest : List DeliveredEvent) → FewDeliveries reads (MessageReceived number invalidated bytes ∷ (x ∷ rest)) → ⊥
-not_two reads number invalidated bytes x rest (inl none) = absurd cc
-not_two reads number invalidated bytes x rest (inr (inl one)) = (let e : MessageReceived number invalidated bytes ∷ (x ∷ rest) ≡ MessageReceived one.0 None one.1.0 ∷ [] = one.1.1 in cc)
-not_two reads number invalidated bytes x rest (inr (inr done)) = (let e : MessageReceived number invalidated bytes ∷ (x ∷ rest) ≡ ReadDone ∷ [] = done.0 in cc)
+not_two : (sends : ℕ) (reads : List PendingRead) (number : ℕ) (invalidated : Option ℕ) (bytes : List ℕ) (x : DeliveredEvent) (rest : List DeliveredEvent) → FewDeliveries sends reads (MessageReceived number invalidated bytes ∷ (x ∷ rest)) → ⊥
+not_two sends reads number invalidated bytes x rest (inl none) = absurd cc
+not_two sends reads number invalidated bytes x rest (inr (inl one)) = (let e : MessageReceived number invalidated bytes ∷ (x ∷ rest) ≡ MessageReceived (sends + 1) None one.0 ∷ [] = one.1 in cc)
+not_two sends reads number invalidated bytes x rest (inr (inr done)) = (let e : MessageReceived number invalidated bytes ∷ (x ∷ rest) ≡ ReadDone ∷ [] = done.0 in cc)
 
-not_more : (reads : List PendingRead) (x : DeliveredEvent) (rest : List DeliveredEvent) → FewDeliveries reads (ReadDone ∷ (x ∷ rest)) → ⊥
-not_more reads x rest (inl none) = absurd cc
-not_more reads x rest (inr (inl one)) = (let e : ReadDone ∷ (x ∷ rest) ≡ MessageReceived one.0 None one.1.0 ∷ [] = one.1.1 in cc)
-not_more reads x rest (inr (inr done)) = (let e : ReadDone ∷ (x ∷ rest) ≡ ReadDone ∷ [] = done.0 in cc)
+not_more : (sends : ℕ) (reads : List PendingRead) (x : DeliveredEvent) (rest : List DeliveredEvent) → FewDeliveries sends reads (ReadDone ∷ (x ∷ rest)) → ⊥
+not_more sends reads x rest (inl none) = absurd cc
+not_more sends reads x rest (inr (inl one)) = (let e : ReadDone ∷ (x ∷ rest) ≡ MessageReceived (sends + 1) None one.0 ∷ [] = one.1 in cc)
+not_more sends reads x rest (inr (inr done)) = (let e : ReadDone ∷ (x ∷ rest) ≡ ReadDone ∷ [] = done.0 in cc)
 
-not_read : (reads : List PendingRead) → reads ≡ [] → FewDeliveries reads (ReadDone ∷ []) → ⊥
-not_read reads none (inl never) = absurd cc
-not_read reads none (inr (inl one)) = (let e : ReadDone ∷ [] ≡ MessageReceived one.0 None one.1.0 ∷ [] = one.1.1 in cc)
-not_read reads none (inr (inr done)) = done.1 none
+not_read : (sends : ℕ) (reads : List PendingRead) → reads ≡ [] → FewDeliveries sends reads (ReadDone ∷ []) → ⊥
+not_read sends reads none (inl never) = absurd cc
+not_read sends reads none (inr (inl one)) = (let e : ReadDone ∷ [] ≡ MessageReceived (sends + 1) None one.0 ∷ [] = one.1 in cc)
+not_read sends reads none (inr (inr done)) = done.1 none
 
 pub step_done_by : (v after : ResponderSide) (piece : List ℕ) (m : LinkSide) → end_of v ≡ None → IsPartial v.link.awaited v.link.rest → StepOf v.link piece m → m.state.ended ≡ None → IsTaken (on_link v m) after →
     Fed v (take (taken_at (end_of after) (length piece) (bytes_taken v.link.awaited v.link.rest piece)) piece) after
@@ -186,9 +185,9 @@ step_done_by v after piece m live p step lives taken = by m.state.receive_queue.
     goes : ((k : ServerState) → IsServerOf k (on_link v m) → IsHandled k (on_link v m) after) → FedOn v (take n piece) after
     goes handled = step_goes v after piece m live p step lives handled
 
-    never : (deliveries : List DeliveredEvent) → m.state.receive_queue.deliveries ≡ deliveries → (FewDeliveries v.fetching.reads deliveries → ⊥) → FedOn v (take n piece) after
+    never : (deliveries : List DeliveredEvent) → m.state.receive_queue.deliveries ≡ deliveries → ((sends : ℕ) → FewDeliveries sends v.fetching.reads deliveries → ⊥) → FedOn v (take n piece) after
     never deliveries found wrong opened end so_far keeps =
-        absurd (wrong (subst (FewDeliveries v.fetching.reads) found (few_deliveries opened end.state so_far v piece m (not_ended_lem opened end so_far v live keeps).1 lives step)))
+        absurd (wrong end.state.received.sends (subst (FewDeliveries end.state.received.sends v.fetching.reads) found (few_deliveries opened end.state so_far v piece m (not_ended_lem opened end so_far v live keeps).1 lives step)))
 
     message : (number : ℕ) (invalidated : Option ℕ) (bytes : List ℕ) → m.state.receive_queue.deliveries ≡ MessageReceived number invalidated bytes ∷ [] → Goes (on_link v m) number bytes after ⊎ RanOutOf (on_link v m) number bytes after →
         Fed v (take (taken_at (end_of after) (length piece) n) piece) after
@@ -230,16 +229,16 @@ step_done_by v after piece m live p step lives taken = by m.state.receive_queue.
     which x rest one reads (inr handled) = done x rest one reads handled
 
     read : m.state.receive_queue.deliveries ≡ ReadDone ∷ [] → (reads : List PendingRead) → v.fetching.reads ≡ reads → Fed v (take (taken_at (end_of after) (length piece) n) piece) after
-    read one [] none = went_on v after piece n (end_of after) refl (never (ReadDone ∷ []) one (not_read v.fetching.reads none))
+    read one [] none = went_on v after piece n (end_of after) refl (never (ReadDone ∷ []) one (λ sends. not_read sends v.fetching.reads none))
     read one (x ∷ rest) is = which x rest one is (taken.read one x rest is)
 
     by : (deliveries : List DeliveredEvent) → m.state.receive_queue.deliveries ≡ deliveries → Fed v (take (taken_at (end_of after) (length piece) n) piece) after
     by [] none =
         went_on v after piece n (end_of after) refl (goes (λ k server. record { none = λ e. taken.none none; some = λ number j x found count. absurd (let two : [] ≡ MessageReceived number j x ∷ [] = sym none ∙ found in cc); read = λ done x rest reads. absurd (let two : [] ≡ ReadDone ∷ [] = sym none ∙ done in cc) }))
     by (MessageReceived number invalidated bytes ∷ []) one = message number invalidated bytes one (makes_handled (on_link v m) after number bytes (taken.some number invalidated bytes one))
-    by (MessageReceived number invalidated bytes ∷ (x ∷ rest)) found = went_on v after piece n (end_of after) refl (never (MessageReceived number invalidated bytes ∷ (x ∷ rest)) found (not_two v.fetching.reads number invalidated bytes x rest))
+    by (MessageReceived number invalidated bytes ∷ (x ∷ rest)) found = went_on v after piece n (end_of after) refl (never (MessageReceived number invalidated bytes ∷ (x ∷ rest)) found (λ sends. not_two sends v.fetching.reads number invalidated bytes x rest))
     by (ReadDone ∷ []) found = read found v.fetching.reads refl
-    by (ReadDone ∷ (x ∷ rest)) found = went_on v after piece n (end_of after) refl (never (ReadDone ∷ (x ∷ rest)) found (not_more v.fetching.reads x rest))
+    by (ReadDone ∷ (x ∷ rest)) found = went_on v after piece n (end_of after) refl (never (ReadDone ∷ (x ∷ rest)) found (λ sends. not_more sends v.fetching.reads x rest))
 
 pub step_done : (v after : ResponderSide) (piece : List ℕ) (m : LinkSide) → end_of v ≡ None → IsPartial v.link.awaited v.link.rest → m ≡ after_call v.link (FeedOne piece) → m.state.ended ≡ None → IsTaken (on_link v m) after →
     Fed v (take (taken_at (end_of after) (length piece) (bytes_taken v.link.awaited v.link.rest piece)) piece) after

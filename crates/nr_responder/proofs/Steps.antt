@@ -135,7 +135,7 @@ message_takes opened k so_far v after frame w queue_number msn offset payload h 
     ∙ ap (λ (n : ℕ). record { awaited = Fpdu; rest = []; state = with_end_of (ends.Bad n reason) (told_link s frame) }) last in
     subst (λ (x : ResponderSide). TakesFrame opened k (behind so_far frame) (next_frame s frame) v x) (sym (is ∙ ap (λ (l : LinkSide). on_link v l) link))
     (stopped_takes opened k so_far (behind so_far frame) v frame w queue_number msn offset payload _ reason h some long reads lives refl (refusal (s.place + length frame)) other)
-message_takes opened k so_far v after frame w queue_number msn offset payload h some awaited long reads lives (Refused answer effect is) =
+message_takes opened k so_far v after frame w queue_number msn offset payload h some awaited long reads lives (Refused answer effect short is) =
     let s : LinkState = v.link.state in
     let link : after_call (after_call (record { awaited = Fpdu; rest = []; state = with_frame s Fpdu frame }) NextEvent) (Send answer) ≡ record { awaited = Fpdu; rest = []; state = with_message (told_link s frame) answer } =
     sent_is (after_call (record { awaited = Fpdu; rest = []; state = with_frame s Fpdu frame }) NextEvent) (told_link s frame) answer (told_is_lem (record { awaited = Fpdu; rest = []; state = with_frame s Fpdu frame }) refl refl) lives in
@@ -146,7 +146,7 @@ message_takes opened k so_far v after frame w queue_number msn offset payload h 
     let link : after_call (record { awaited = Fpdu; rest = []; state = with_frame s Fpdu frame }) NextEvent ≡ record { awaited = Fpdu; rest = []; state = told_link s frame } = told_is_lem (record { awaited = Fpdu; rest = []; state = with_frame s Fpdu frame }) refl refl in
     subst (λ (x : ResponderSide). TakesFrame opened k (behind so_far frame) (next_frame s frame) v x) (sym (is ∙ ap (λ (l : LinkSide). with_ready v l (inline_call k xid write reply stream)) link))
     (ready_takes opened k so_far v frame w queue_number msn offset payload xid write reply stream head h some long reads lives new judged call own)
-message_takes opened k so_far v after frame w queue_number msn offset payload h some awaited long reads lives (Fetched c own new judged chunks is) =
+message_takes opened k so_far v after frame w queue_number msn offset payload h some awaited long reads lives (Fetched c own new judged fits total few chunks is) =
     let s : LinkState = v.link.state in
     let link : after_call (record { awaited = Fpdu; rest = []; state = with_frame s Fpdu frame }) NextEvent ≡ record { awaited = Fpdu; rest = []; state = told_link s frame } = told_is_lem (record { awaited = Fpdu; rest = []; state = with_frame s Fpdu frame }) refl refl in
     subst (λ (x : ResponderSide). TakesFrame opened k (behind so_far frame) (next_frame s frame) v x) (sym (is ∙ ap (λ (l : LinkSide). reading_call (on_link v l) c) link))

@@ -1,5 +1,5 @@
 -- What an answer makes of a responder.
-use Rattle.std.specs.Prelude.{◌≡◌, ℕ, List, [], drop, Option, Some, None, slice_get, if◌then◌else◌}
+use Rattle.std.specs.Prelude.{◌≡◌, ℕ, ◌≤◌, List, [], length, drop, Option, Some, None, slice_get, if◌then◌else◌}
 use Rattle.std.specs.List.{remove}
 use Rattle.nr_link.specs.Limits.{send_max}
 use Rattle.nr_rpc.specs.Reading.{call_of, target_of}
@@ -14,6 +14,7 @@ use Rattle.nr_reduce.specs.Server.{answer_of_target}
 use Rattle.nr_responder.specs.declared.call.Sent.{Sent}
 use Rattle.nr_responder.specs.declared.call.Sent.TheVariants as sents
 use Rattle.nr_responder.specs.Fetching.{payload_taken}
+use Rattle.nr_responder.specs.HeldBytes.{writes_max}
 use Rattle.nr_responder.specs.ResponderState.{ResponderSide}
 
 -- the message of an answer, and the bytes of its RDMA Writes: ERR_CHUNK if the offer doesn't hold the reply
@@ -67,5 +68,7 @@ pub record Answers (before after : ResponderSide) (xid : ℕ) (reply : List ℕ)
   pub conveyed : IsPayload call payload stream
   pub writes : List RemoteWrite
   pub written : writes_output writes ≡ writes_for call.lists (answer_to call stream reply)
+  pub short : length (message_for xid before.credits call.lists (answer_to call stream reply)) ≤ send_max
+  pub few : length (writes_output writes) ≤ writes_max
   pub state : after ≡ answered_by at writes (message_for xid before.credits call.lists (answer_to call stream reply)) before
   pub sent_is : sent ≡ sent_as (answer_to call stream reply)

@@ -4,7 +4,9 @@ pub mod Draining
 pub mod Keeping
 pub mod Laws
 pub mod Fetching
+pub mod HeldBytes
 pub mod ResponderState
+pub mod Rooms
 pub mod Sound
 pub mod Standing
 pub mod Steps

@@ -1,5 +1,5 @@
 -- What a responder keeps of its own, whatever the marks.
-use Rattle.std.specs.Prelude.{◌≡◌, ◌⊎◌, ℕ, ◌+◌, ◌*◌, ◌≤◌, false, List, [], ◌∷◌, length, map, sum_by, Option, None, Some, IfSome, All, slice_get, take, drop, vec_capacity}
+use Rattle.std.specs.Prelude.{◌≡◌, ◌⊎◌, ℕ, ◌+◌, ◌≤◌, false, List, [], ◌∷◌, length, map, sum_by, Option, None, Some, IfSome, All, slice_get, take, drop, vec_capacity}
 use Rattle.std.specs.VecDeque.{deque_capacity}
 use Rattle.nr_regions.specs.RegisteredMemory.{Claim, RegisteredMemory, IsHeld, outside_len}
 use Rattle.nr_regions.specs.Table.{IsTotal}
@@ -18,6 +18,7 @@ use Rattle.nr_responder.specs.declared.call.Pending.{Pending}
 use Rattle.nr_responder.specs.declared.server_end.ServerEnd.{ServerEnd}
 use Rattle.nr_responder.specs.Fetching.{Fetching}
 use Rattle.nr_responder.specs.ResponderState.{ResponderSide, ResponderState, unsent}
+use Rattle.nr_responder.specs.Rooms.{payload_room}
 use Rattle.nr_responder.specs.Views.{call_view, read_view, sink_view}
 
 -- the xids of calls that are ready, and the payloads that were read
@@ -76,10 +77,6 @@ pub record QueuesInvariant (n : ℕ) (s : LinkState) (calls : List Pending) (rea
   pub calls_fit : s.receive_queue.receives ≤ calls_room
   pub ready_fit : s.receive_queue.receives ≤ ready_room
   pub used_fit : s.receive_queue.receives ≤ used_room
-
--- The room of a payload: for a stream and for a chunk, of which each may be a chunk of the maximum length, and for a pad.
-abbrev pub payload_room : ℕ
-payload_room = send_max + 2 * PAYLOAD_MAX + 3
 
 abbrev pub IsRoom : Option (List ℕ) → Type 0
 IsRoom None = ⊥

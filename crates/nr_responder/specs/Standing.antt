@@ -11,6 +11,7 @@ use Rattle.nr_reduce.specs.EndRules.{EndState}
 use Rattle.nr_reduce.specs.ServerState.{ServerState}
 use Rattle.nr_reduce.specs.Standing.{ServerRepresents, ServerRunsOut}
 use Rattle.nr_responder.specs.ResponderState.{ResponderSide, queue, end_of}
+use Rattle.nr_responder.specs.HeldBytes.{KeptFits}
 use Rattle.nr_responder.specs.Keeping.{KeepsEnd}
 
 -- Its state is that of the server after these marks, and its queue is the output that is due by them and isn't written.
@@ -35,3 +36,11 @@ pub record ResponderRunsOut (opened : LinkParameters) (link : ℕ) (run : List M
 
 abbrev pub Stands : (opened : LinkParameters) (link : ℕ) (run : List Mark) (v : ResponderSide) → Type 0
 Stands opened link run v = RepresentsServer opened link run v ⊎ ResponderRunsOut opened link run v
+
+-- It stands for some marks.
+abbrev pub StandsForSome : ResponderSide → Type 0
+StandsForSome v = (opened : LinkParameters) × ((link : ℕ) × ((run : List Mark) × Stands opened link run v))
+
+-- If it stood for some marks and was within bounds, so it is after an answer.
+pub record StaysBounded (before after : ResponderSide) : Type 0 where
+  pub goes : (opened : LinkParameters) (link : ℕ) (run : List Mark) → Stands opened link run before → KeptFits before → KeptFits after × StandsForSome after

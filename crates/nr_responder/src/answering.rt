@@ -10,6 +10,7 @@ ghost use Rattle.nr_reduce.specs.Server.{answer_of_target};
 ghost use Rattle.nr_reduce.specs.Holds.{chunk_error, version_error, writes_into, first_chunk, no_segments};
 ghost use Rattle.nr_reduce.specs.CodeViews.{answer_view};
 ghost use Rattle.nr_responder.specs.Answering.{answer_to, message_for, writes_for, sent_as, Queues};
+ghost use Rattle.nr_responder.specs.HeldBytes.{reply_max};
 ghost use Rattle.nr_responder.specs.Views.{call_view};
 ghost use Rattle.nr_responder.specs.Sound.{InBuffer};
 
@@ -22,10 +23,13 @@ use nr_rpc::{CallTarget, call_target};
 use nr_xdr::{Memory, Octets};
 use std::alloc::Global;
 
+/// The most bytes of a reply.
+const REPLY_MAX: usize = 65536;
+
 /// The most bytes of a message that an endpoint sends.
 pub(crate) const SENDABLE: usize = 4294967295;
 
-/// ERR_CHUNK, as the answer to a message with this xid (RFC 8166 section 4.5.3).
+/// ERR_CHUNK, as the answer to a message with this xid (RFC 8166 sections 4.5.2, 4.5.3).
 #[tactic(auto, unfolding(nr_reduce::specs::Holds::chunk_error))]
 pub(crate) fn chunk_error(alloc: Global, xid: u32, credits: u32) -> Result<Octets, Memory>
     ensures bytes { IfOk result (λ m. m ≡ chunk_error xid credits) }
@@ -221,7 +225,7 @@ fn push_answer<'a>(
 }
 
 /// Queues the answer to a call with this payload: its RDMA Writes and its message. `target` is what the payload's head asks for, if that was
-/// read. An `Err` changes nothing.
+/// read. An `Err` changes nothing: memory ran out, or the reply is longer than a reply may be.
 pub(crate) fn queue_answer(
     endpoint: &mut Endpoint,
     alloc: Global,
@@ -233,15 +237,21 @@ pub(crate) fn queue_answer(
 ) -> Result<Sent, Memory>
     requires call { InBuffer call.now }
     requires target { IfSome target (λ t. t ≡ target_of (call_of stream.now)) }
+    ensures short { IfOk result (λ _. length (message_for call.now.xid credits call.now.lists (answer_to (call_view call.now) stream.now reply.now)) ≤ send_max) }
+    ensures reply { IfOk result (λ _. length reply.now ≤ reply_max) }
     ensures queued { IfOk result (Queues (call_view call.now) stream.now reply.now credits endpoint.old.link endpoint.new.link) }
     ensures err { OnErr result (endpoint.new.link ≡ endpoint.old.link) }
     ensures staging { endpoint.new.staging ≡ endpoint.old.staging }
     ensures outside { endpoint.new.outside ≡ endpoint.old.outside }
 {
+    if reply.len() > REPLY_MAX {
+        return Err(Memory);
+    }
     let answer = answer_to(call, target_of(stream, target), reply);
     let sent = sent_as(&answer);
     let message = message_for(alloc, call.xid, credits, &call.lists, answer)?;
-    if message.len() > SENDABLE {
+    // The answer is one that fits into the client's receive.
+    if message.len() > SEND_MAX as usize {
         return Err(Memory);
     }
     let mut writes = Vec::new(alloc);

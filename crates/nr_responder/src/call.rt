@@ -5,6 +5,7 @@ ghost use Rattle.std.specs.List.{list_any};
 ghost use Rattle.nr_reduce.specs.ServerReads.{is_read};
 ghost use Rattle.nr_responder.specs.Views.{read_view};
 
+use crate::room::Room;
 use nr_header::ChunkLists;
 use nr_regions::Registration;
 use nr_rpc::CallTarget;
@@ -31,7 +32,7 @@ pub struct Pending {
     /// Whether its stream stands in the message.
     pub inline: bool,
     /// The room of its payload, while its chunks are read.
-    pub room: Option<Octets>,
+    pub room: Option<Room>,
     /// What the head of its inline stream asks for, once that was read: `Some(None)` if it is of another RPC version.
     pub target: Option<Option<CallTarget>>,
 }
@@ -42,7 +43,7 @@ pub struct Ready {
     /// Its transaction ID (XID).
     pub xid: u32,
     /// Its payload, if that was put together of its chunks.
-    pub payload: Option<Octets>,
+    pub payload: Option<Room>,
 }
 
 /// A Read Request that is open, or waits until fewer are: `size` bytes of the client's region `stag`, from offset `to` on, into the region

@@ -1,6 +1,6 @@
 //! How many calls and receives a responder has, and how many bytes it keeps.
 
-ghost use Rattle.std.specs.Prelude.{◌≡◌, ◌≢◌, ℕ, ◌+◌, ◌*◌, ◌^◌, ◌≤◌, List, length, sum_by, None, Some};
+ghost use Rattle.std.specs.Prelude.{◌≡◌, ◌≢◌, ℕ, ◌+◌, ◌*◌, ◌≤◌, List, length, sum_by, None, Some};
 ghost use Rattle.nr_link.specs.declared.end.End.TheVariants as ends;
 ghost use Rattle.nr_link.specs.SegmentFaults.{is_begun};
 ghost use Rattle.nr_reduce.specs.declared.mark.LinkParameters.{LinkParameters};
@@ -8,40 +8,45 @@ ghost use Rattle.nr_reduce.specs.declared.mark.Mark.{Mark};
 ghost use Rattle.nr_reduce.specs.Plans.{one_if};
 ghost use Rattle.nr_reduce.specs.Run.{server};
 ghost use Rattle.nr_reduce.specs.ServerState.{receives_in_use};
+ghost use Rattle.nr_responder.specs.HeldBytes.{held_unit, IsBounded};
 ghost use Rattle.nr_responder.specs.ResponderState.{bytes_held_by, end_of, unsent};
+ghost use Rattle.nr_responder.specs.Rooms.{payload_room};
 ghost use Rattle.nr_responder.specs.Sound.{room_len, state_of, with_staging, ServerEndInvariant};
 ghost use Rattle.nr_responder.specs.Standing.{Stands};
 
 use crate::call::{Pending, Ready};
+use crate::room::Room;
 use crate::server_end::ServerEnd;
-use nr_xdr::Octets;
 use std::collections::VecDeque;
 
 /// The length of a receive in bytes.
 const SEND_LEN: u128 = nr_link::constants::SEND_MAX as u128;
 
-fn room_len(room: &Option<Octets>) -> u64
-    ensures { result ≡ room_len room.now }
+/// The bytes of a room, if there is one.
+fn room_len(room: &Option<Room>) -> usize
+    ensures is { result ≡ room_len room.now }
+    ensures most { result ≤ payload_room }
 {
     match room {
-        Some(room) => room.len() as u64,
+        Some(room) => room.len(),
         None => 0,
     }
 }
 
 /// One room more, after `count` rooms.
-fn add_room(total: u128, room: u64, count: usize) -> u128
-    requires { total ≤ 2 ^ 64 * count }
+fn add_room(total: u128, room: usize, count: usize) -> u128
+    requires total { total ≤ payload_room * count }
+    requires room { room ≤ payload_room }
     ensures sum { result ≡ total + room }
-    ensures most { result ≤ 2 ^ 64 * (count + 1) }
+    ensures most { result ≤ payload_room * (count + 1) }
 {
-    total + u128::from(room)
+    total + room as u128
 }
 
 /// The bytes of the rooms of calls that are read.
 fn rooms_len(calls: &[Pending]) -> u128
     ensures sum { result ≡ sum_by (λ c. room_len c.room) calls.now }
-    ensures most { result ≤ 2 ^ 64 * length calls.now }
+    ensures most { result ≤ payload_room * length calls.now }
 {
     let mut total: u128 = 0;
     'calls: for i in 0..calls.len() {
@@ -54,7 +59,7 @@ fn rooms_len(calls: &[Pending]) -> u128
 /// The bytes of the payloads of calls that are ready, if they were read.
 fn payloads_len(ready: &VecDeque<Ready>) -> u128
     ensures sum { result ≡ sum_by (λ q. room_len q.payload) ready.now.items }
-    ensures most { result ≤ 2 ^ 64 * length ready.now.items }
+    ensures most { result ≤ payload_room * length ready.now.items }
 {
     let mut total: u128 = 0;
     'ready: for i in 0..ready.len() {
@@ -105,7 +110,10 @@ impl ServerEnd {
     /// How many bytes all byte buffers have that are kept.
     pub fn held(&self) -> u128
         requires sound { ServerEndInvariant self.now }
+        requires bounded { IsBounded (with_staging self.now) }
         ensures is { result ≡ bytes_held_by (with_staging self.now) }
+        ensures bound { result ≤ held_unit * (self.now.credits + 4) }
+        ensures rooms { (with_staging self.now).rooms ≤ payload_room * (2 * length (with_staging self.now).side.calls) }
     {
         self.endpoint.facts();
         let lent = self.calls.len() + self.used.len();

@@ -29,6 +29,7 @@ mod read_done;
 mod read_lists;
 mod registering;
 mod responder;
+mod room;
 mod server_end;
 mod sink_regions;
 mod starting;

@@ -10,56 +10,46 @@ ghost use Rattle.nr_reduce.specs.ServerState.{PendingCall};
 ghost use Rattle.nr_reduce.specs.ServerMessages.{by_payload};
 ghost use Rattle.nr_reduce.specs.ServerMessages.CallVerdict.{Refuses};
 ghost use Rattle.nr_responder.specs.private.CallsRead.{payload_at_once, verdict_by, verdict_of, IsStreamAlone};
-ghost use Rattle.nr_responder.specs.Sound.{payload_room, payloads_of, InBuffer};
+ghost use Rattle.nr_responder.specs.Sound.{payloads_of, InBuffer};
 ghost use Rattle.nr_responder.specs.Answering.{IsPayload};
 ghost use Rattle.nr_responder.specs.Views.{call_view};
 
 use crate::call::{Pending, Ready, stream_of};
-use nr_header::{PAYLOAD_MAX, ReadSegment};
-use nr_link::constants::{REASON_HEAD, REASON_XID, SEND_MAX};
-use nr_reduce::{Of, call_item, first_bytes, item_position, rebuild_item_into};
+use crate::room::Room;
+use nr_header::ReadSegment;
+use nr_link::constants::{REASON_HEAD, REASON_XID};
+use nr_reduce::{Of, call_item, item_position, rebuild_item_into};
 use nr_rpc::{CallTarget, call_xid};
-use nr_xdr::{Memory, Octets};
-use std::alloc::Global;
+use nr_xdr::Memory;
 use std::collections::VecDeque;
 
-/// The room of a payload: for a stream and a chunk, and for a pad.
-const PAYLOAD_ROOM: usize = SEND_MAX as usize + 2 * PAYLOAD_MAX + 3;
-
-/// Takes the room of a payload.
-pub(crate) fn take_room(alloc: Global) -> Result<Octets, Memory>
-    ensures { IfOk result (λ room. payload_room ≤ length room) }
-{
-    Ok(Octets::from_vec(vec![in alloc; 0u8; PAYLOAD_ROOM]?))
-}
-
 /// A payload that is a stream alone.
-pub(crate) fn stream_alone(room: Octets, stream: &[u8]) -> Octets
+pub(crate) fn stream_alone(room: Room, stream: &[u8]) -> Room
     requires { length stream.now ≤ length room }
     ensures { result ≡ stream.now }
 {
-    let mut room = room;
-    room.overwrite(0, stream);
-    first_bytes(room, stream.len())
+    let mut bytes = room.into_bytes();
+    bytes.overwrite(0, stream);
+    Room::of(bytes, stream.len())
 }
 
 /// The payload of a stream and of the content of its item; `None` if it has no item of that length.
-pub(crate) fn with_item(room: Octets, stream: &[u8], moved: &[u8]) -> Option<Octets>
+pub(crate) fn with_item(room: Room, stream: &[u8], moved: &[u8]) -> Option<Room>
     requires room { length stream.now + length moved.now + 3 ≤ length room }
     requires small { length stream.now < 2 ^ 32 }
     ensures { result ≡ whole of.Call stream.now (Some moved.now) }
 {
     let item = call_item(stream)?;
-    let mut room = room;
+    let mut bytes = room.into_bytes();
     match rebuild_item_into(
-        &mut room,
+        &mut bytes,
         &Of::Call,
         Some(item),
         stream,
         item.pos as u32,
         moved,
     ) {
-        Ok(len) => Some(first_bytes(room, len)),
+        Ok(len) => Some(Room::of(bytes, len)),
         Err(_) => None,
     }
 }
@@ -81,7 +71,7 @@ fn judge_bytes(payload: &[u8], xid: u32) -> Option<u32>
 }
 
 /// The payload of a call, or why the link ends: it is no RPC call with this xid.
-pub(crate) fn judge_payload(payload: Option<Octets>, xid: u32) -> Result<Octets, u32>
+pub(crate) fn judge_payload(payload: Option<Room>, xid: u32) -> Result<Room, u32>
     ensures verdict { (c : PendingCall) → c.xid ≡ xid → by_payload c payload ≡ verdict_of c result }
     ensures reason { IfErr result (λ reason. IsStopReason reason × (5 ≤ reason)) }
 {
@@ -137,7 +127,7 @@ pub(crate) fn judge_at_once(call: &Pending) -> Option<u32>
 }
 
 /// The payload of the first call that is ready, if it was read with its chunks.
-pub(crate) fn first_payload(ready: &VecDeque<Ready>) -> Option<&Octets>
+pub(crate) fn first_payload(ready: &VecDeque<Ready>) -> Option<&Room>
     requires { 0 < length ready.now.items }
     ensures { slice_get (payloads_of ready.now.items) 0 ≡ Some (option_map (λ p. p.now) result) }
 {

@@ -11,18 +11,20 @@ ghost use Rattle.nr_reduce.specs.Chunks.{call_conveyed, call_stream};
 ghost use Rattle.nr_responder.specs.private.Reading.{opening, sink_bytes, with_opened_after};
 ghost use Rattle.nr_responder.specs.private.ReadsDone.{has_bad_chunk, reads_without, still_open, HandlesRead, NothingReady};
 ghost use Rattle.nr_responder.specs.private.DoneReads.{IsOfCall, ReadsOn, ReadyMade};
-ghost use Rattle.nr_responder.specs.Sound.{payload_room, claims_of, state_of, AreHeldFrom, InBuffer, IsRoom, ServerEndInvariant, SameInput};
+ghost use Rattle.nr_responder.specs.Rooms.{payload_room};
+ghost use Rattle.nr_responder.specs.Sound.{claims_of, state_of, AreHeldFrom, InBuffer, IsRoom, ServerEndInvariant, SameInput};
 ghost use Rattle.nr_responder.specs.Views.{call_view, read_view, sink_view};
 
 use crate::answering::chunk_error;
 use crate::call::{OpenSink, Pending, ReadEntry, Ready, is_read};
 use crate::opening::{open_count, open_reads, send_and_open};
 use crate::payloads::{inline_stream, judge_payload, stream_alone, with_item};
+use crate::room::Room;
 use crate::server_end::ServerEnd;
 use crate::sink_regions::{close_over, is_read_at, sink_bytes};
 use nr_endpoint::Endpoint;
 use nr_reduce::{is_read_chunk_of_item, item_position};
-use nr_xdr::{Memory, Octets};
+use nr_xdr::Memory;
 use std::alloc::Global;
 
 /// The place of the call whose Send has this number.
@@ -54,12 +56,7 @@ fn stream_read<'a>(call: &'a Pending, endpoint: &'a Endpoint, sinks: &'a [OpenSi
 }
 
 /// The payload of a call of which all chunks are read, if they convey one.
-fn payload_read(
-    room: Octets,
-    call: &Pending,
-    endpoint: &Endpoint,
-    sinks: &[OpenSink],
-) -> Option<Octets>
+fn payload_read(room: Room, call: &Pending, endpoint: &Endpoint, sinks: &[OpenSink]) -> Option<Room>
     requires room { payload_room ≤ length room }
     requires call { InBuffer call.now }
     requires held { AreHeldFrom endpoint.now.link.state.memory 0 (claims_of sinks.now) }
@@ -77,7 +74,7 @@ fn payload_read(
 }
 
 /// Takes the room of a call's payload out of it.
-fn take_out_room(call: &mut Pending) -> Option<Octets>
+fn take_out_room(call: &mut Pending) -> Option<Room>
     ensures room { result ≡ call.old.room }
     ensures call { call.new ≡ record call.old { room = None } }
 {
@@ -171,7 +168,7 @@ impl ServerEnd {
     }
 
     /// A call is ready with this payload.
-    fn make_ready(&mut self, xid: u32, payload: Octets, kept: usize)
+    fn make_ready(&mut self, xid: u32, payload: Room, kept: usize)
         requires sound { ServerEndInvariant self.old }
         requires live { self.old.endpoint.link.state.ended ≡ None }
         requires few { length self.old.ready.items < length self.old.calls.items }
@@ -191,7 +188,7 @@ impl ServerEnd {
     }
 
     /// The room of the payload of the call at this place, which is read.
-    fn take_room_at(&mut self, at: usize) -> Octets
+    fn take_room_at(&mut self, at: usize) -> Room
         requires sound { ServerEndInvariant self.old }
         requires at { at < length self.old.calls.items }
         requires read { (d : Pending) → is_read (map read_view self.old.reads.items) (get_or self.old.calls.items at d).number ≡ true }

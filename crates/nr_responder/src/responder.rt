@@ -1,6 +1,6 @@
 //! The responder: what contracts see of the server end of a link, and its calls.
 
-ghost use Rattle.std.specs.Prelude.{◌≡◌, ◌≢◌, ℕ, ◌+◌, ◌<◌, ◌≤◌, ◌^◌, List, [], ◌∷◌, ◌++◌, length, take, None, Some, Ok, Err, IfOk, OnOk, IfErr, IfSome, is_some, MatchOption, MatchResult, true, nat_lt, OnErr, ◌⊎◌};
+ghost use Rattle.std.specs.Prelude.{◌≡◌, ◌≢◌, ℕ, ◌+◌, ◌*◌, ◌<◌, ◌≤◌, ◌^◌, List, [], ◌∷◌, ◌++◌, length, take, None, Some, Ok, Err, IfOk, OnOk, IfErr, IfSome, is_some, MatchOption, MatchResult, true, nat_lt, OnErr, ◌⊎◌};
 ghost use Rattle.std.specs.Result.{result_err};
 ghost use Rattle.nr_outside.specs.Faults.{Rises};
 ghost use Rattle.nr_wire.specs.declared.hello.Side.TheVariants.{Responder as ResponderSide};
@@ -17,11 +17,16 @@ ghost use Rattle.nr_reduce.specs.Served.{next_call, IsExecuted};
 ghost use Rattle.nr_responder.specs.Answering.{Answers};
 ghost use Rattle.nr_responder.specs.Draining.{Drains};
 ghost use Rattle.nr_link.specs.declared.end.End.TheVariants as ends;
+ghost use Rattle.nr_header.specs.Constants.{PAYLOAD_MAX};
+ghost use Rattle.nr_link.specs.Limits.{open_reads_max};
 ghost use Rattle.nr_link.specs.SegmentFaults.{is_begun};
+ghost use Rattle.nr_regions.specs.RegisteredMemory.{bytes_held};
 ghost use Rattle.nr_reduce.specs.Plans.{one_if};
 ghost use Rattle.nr_reduce.specs.Run.{server};
 ghost use Rattle.nr_reduce.specs.ServerState.{receives_in_use};
+ghost use Rattle.nr_responder.specs.HeldBytes.{held_unit};
 ghost use Rattle.nr_responder.specs.ResponderState.{bytes_held_by, end_of, may_write, opened_side, unsent, KeepsStaging};
+ghost use Rattle.nr_responder.specs.Rooms.{payload_room};
 ghost use Rattle.nr_responder.specs.Sound.{IsNext};
 ghost use Rattle.nr_responder.specs.Standing.{Stands};
 ghost use Rattle.nr_responder.specs.Steps.{Fed, taken_of};
@@ -49,11 +54,14 @@ impl Model for Responder {
 
     ghost coded = { responder_code };
 
-    ghost use Rattle.nr_responder.specs.Sound.{rooms_of, state_of, ServerEndInvariant};
+    ghost use Rattle.nr_responder.specs.Sound.{rooms_of, state_of, with_staging, ServerEndInvariant};
+    ghost use Rattle.nr_responder.specs.Standing.{StandsForSome};
+    ghost use Rattle.nr_responder.specs.HeldBytes.{IsBounded};
 
     ghost view = { λ r. record { side = state_of r.end; staging = r.end.endpoint.staging; rooms = rooms_of r.end.calls.items r.end.ready.items } };
 
-    ghost invariant = { λ r. ServerEndInvariant r.end };
+    // It stands for some marks, and what it keeps is within bounds.
+    ghost invariant = { λ r. ServerEndInvariant r.end × (StandsForSome (state_of r.end) × IsBounded (with_staging r.end)) };
 }
 
 impl Responder {
@@ -83,7 +91,7 @@ impl Responder {
             Stands opened link (run ++ marks.Fed link ResponderSide piece.now ∷ []) self.new.side }
         ensures kept { is_some (end_of self.old.side) ≡ true → self.new ≡ self.old }
         ensures within { fed_bytes self.new.side.link ≤ fed_bytes self.old.side.link + length piece.now }
-        ensures staging { (opened : LinkParameters) (link : ℕ) (run : List Mark) → Stands opened link run self.old.side → KeepsStaging self.old self.new piece.now }
+        ensures staging { KeepsStaging self.old self.new piece.now }
     {
         self.end.feed(piece)
     }
@@ -100,7 +108,7 @@ impl Responder {
             Stands opened link (run ++ marks.Fed link ResponderSide (taken_of result piece.now) ∷ []) self.new.side }
         ensures kept { is_some (end_of self.old.side) ≡ true → self.new ≡ self.old }
         ensures within { fed_bytes self.new.side.link ≤ fed_bytes self.old.side.link + length piece.now }
-        ensures staging { (opened : LinkParameters) (link : ℕ) (run : List Mark) → Stands opened link run self.old.side → KeepsStaging self.old self.new piece.now }
+        ensures staging { KeepsStaging self.old self.new piece.now }
     {
         self.end.feed_one(piece)
     }
@@ -137,7 +145,8 @@ impl Responder {
     }
 
     /// Queues the answer to the next call: RDMA Writes into what it offered and one Send, or ERR_CHUNK if its offer doesn't hold the reply
-    /// (RFC 8166 sections 3.4.6, 3.5). An `Err` changes nothing and gives the call back.
+    /// (RFC 8166 sections 3.4.6, 3.5). An `Err` changes nothing and gives the call back: memory ran out, or the reply has more than 65536
+    /// bytes.
     pub fn answer(&mut self, call: CallId, reply: &[u8]) -> Result<Sent, (CallId, Memory)>
         requires live { end_of self.old.side ≡ None }
         requires next { IsNext self.old.side call }
@@ -169,9 +178,15 @@ impl Responder {
     }
 
     /// How many bytes all byte buffers have that are kept: the staging buffer, the receives, the regions, the output, and the buffers of
-    /// payloads that are read or were. Lists of calls and their segments aren't counted. Takes no memory.
+    /// payloads that are read or were. At most 262144 for each credit, and four times that. Lists of calls and their segments aren't
+    /// counted. Takes no memory.
     pub fn held(&self) -> u128
         ensures is { result ≡ bytes_held_by self.now }
+        ensures bound { result ≤ held_unit * (self.now.side.credits + 4) }
+        // The rooms of payloads: at most two for each call that isn't answered.
+        ensures rooms { self.now.rooms ≤ payload_room * (2 * length self.now.side.calls) }
+        // The regions: the payload of each of these calls, and for each Read Request that may be open.
+        ensures regions { bytes_held self.now.side.link.state.memory ≤ PAYLOAD_MAX * (length self.now.side.calls + open_reads_max) }
     {
         self.end.held()
     }

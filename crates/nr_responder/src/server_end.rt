@@ -26,7 +26,8 @@ ghost use Rattle.nr_responder.specs.Draining.{Drains};
 ghost use Rattle.nr_responder.specs.private.Handling.{out, IsTaken, ReadsXid};
 ghost use Rattle.nr_responder.specs.ResponderState.{end_of, opened_side, posted_times, may_write, KeepsStaging};
 ghost use Rattle.nr_responder.specs.Sound.{state_of, with_staging, payloads_of, IsNext, ServerEndInvariant};
-ghost use Rattle.nr_responder.specs.Standing.{Stands};
+ghost use Rattle.nr_responder.specs.HeldBytes.{KeptFits};
+ghost use Rattle.nr_responder.specs.Standing.{Stands, StaysBounded};
 ghost use Rattle.nr_responder.specs.Steps.{Fed, taken_of};
 
 use crate::answering::{SENDABLE, queue_answer};
@@ -164,6 +165,7 @@ impl ServerEnd {
         ensures fed { IfOk result (λ r. fed_bytes r.endpoint.link ≡ 0) }
         ensures staging { IfOk result (λ r. length r.endpoint.staging ≡ FPDU_MAX) }
         ensures stands { IfOk result (λ r. (opened : LinkParameters) (link : ℕ) → opened.granted ≡ credits → Stands opened link [] (state_of r)) }
+        ensures bounded { IfOk result (λ r. KeptFits (state_of r)) }
     {
         let ready = VecDeque::with_capacity(alloc, credits as usize)?;
         let used = VecDeque::with_capacity(alloc, credits as usize)?;
@@ -193,6 +195,7 @@ impl ServerEnd {
         ensures within { fed_bytes self.new.endpoint.link ≤ fed_bytes self.old.endpoint.link + length piece.now }
         ensures staging { (opened : LinkParameters) (link : ℕ) (run : List Mark) → Stands opened link run (state_of self.old) → KeepsStaging (with_staging self.old) (with_staging self.new) piece.now }
         ensures sound { ServerEndInvariant self.new }
+        ensures bounded { (opened : LinkParameters) (link : ℕ) (run : List Mark) → Stands opened link run (state_of self.old) → KeptFits (state_of self.old) → KeptFits (state_of self.new) }
     {
         if let Some(end) = self.endpoint.end() {
             return Err(end);
@@ -223,6 +226,7 @@ impl ServerEnd {
         ensures within { fed_bytes self.new.endpoint.link ≤ fed_bytes self.old.endpoint.link + length piece.now }
         ensures staging { (opened : LinkParameters) (link : ℕ) (run : List Mark) → Stands opened link run (state_of self.old) → KeepsStaging (with_staging self.old) (with_staging self.new) piece.now }
         ensures sound { ServerEndInvariant self.new }
+        ensures bounded { (opened : LinkParameters) (link : ℕ) (run : List Mark) → Stands opened link run (state_of self.old) → KeptFits (state_of self.old) → KeptFits (state_of self.new) }
     {
         if let Some(end) = self.endpoint.end() {
             return Err(end);
@@ -295,6 +299,7 @@ impl ServerEnd {
         ensures rest { (self.new.endpoint.link.rest ≡ []) ⊎ (result ≡ length piece.now) }
         ensures sound { ServerEndInvariant self.new }
         ensures within { fed_bytes self.new.endpoint.link ≤ fed_bytes self.old.endpoint.link + result }
+        ensures bounded { (opened : LinkParameters) (link : ℕ) (run : List Mark) → Stands opened link run (state_of self.old) → KeptFits (state_of self.old) → KeptFits (state_of self.new) }
     {
         self.endpoint.facts();
         let all = piece.len();
@@ -373,6 +378,7 @@ impl ServerEnd {
         ensures stands { OnOk result ((opened : LinkParameters) (link : ℕ) (run : List Mark) (moment : Moment) (payload : List ℕ) (place : ℕ) → Stands opened link run (state_of self.old) →
             IsExecuted opened link run xid payload → Stands opened link (run ++ marks.Execute link xid moment payload place reply.now ∷ []) (state_of self.new)) }
         ensures err { OnErr result (with_staging self.new ≡ with_staging self.old) }
+        ensures bounded { StaysBounded (state_of self.old) (state_of self.new) }
         ensures fed { fed_bytes self.new.endpoint.link ≡ fed_bytes self.old.endpoint.link }
         ensures staging { self.new.endpoint.staging ≡ self.old.endpoint.staging }
         ensures sound { ServerEndInvariant self.new }
@@ -393,6 +399,7 @@ impl ServerEnd {
         ensures never_falls { K.faults sink.old ≤ K.faults sink.new }
         ensures fed { fed_bytes self.new.endpoint.link ≡ fed_bytes self.old.endpoint.link }
         ensures sound { ServerEndInvariant self.new }
+        ensures bounded { KeptFits (state_of self.old) → KeptFits (state_of self.new) }
         ensures staging { self.new.endpoint.staging ≡ self.old.endpoint.staging }
     {
         let result = self.endpoint.drain_into(sink);

@@ -3,15 +3,16 @@
 ghost use Rattle.std.specs.Prelude.{◌≡◌, ℕ, ◌+◌, ◌^◌, ◌<◌, ◌≤◌, ◌++◌, ◌∷◌, [], length, take, None, All, IfOk, OnOk, OnErr, map, vec_capacity};
 ghost use Rattle.nr_header.specs.Constants.{PAYLOAD_MAX};
 ghost use Rattle.nr_header.specs.WithinLimits.{read_total};
-ghost use Rattle.nr_responder.specs.Sound.{AreHeldFrom, NothingOutside, claims_of, payload_room};
+ghost use Rattle.nr_responder.specs.Sound.{AreHeldFrom, NothingOutside, claims_of};
+ghost use Rattle.nr_responder.specs.Rooms.{payload_room};
 ghost use Rattle.nr_responder.specs.private.CallsRead.{sink_buffer};
 ghost use Rattle.nr_responder.specs.private.Starting.{BeginsReads, OpensReads, with_room};
 
 use crate::call::{OpenSink, Pending, ReadEntry};
 use crate::opening::{open_count, open_reads};
-use crate::payloads::take_room;
 use crate::read_lists::{push_reads, sink_buffers};
 use crate::registering::register_sinks;
+use crate::room::Room;
 use nr_endpoint::Endpoint;
 use nr_header::ReadSegment;
 use nr_xdr::{Memory, Octets};
@@ -81,7 +82,7 @@ fn take_memory(
     sinks: &mut Vec<OpenSink>,
     chunks: &[u32],
     read: &[ReadSegment],
-) -> Result<(Octets, Vec<Octets>), Memory>
+) -> Result<(Room, Vec<Octets>), Memory>
     requires total { read_total read.now ≤ PAYLOAD_MAX }
     ensures payload { IfOk result (λ taken. payload_room ≤ length taken.0) }
     ensures buffers { IfOk result (λ taken. taken.1.items ≡ map (sink_buffer read.now) chunks.now) }
@@ -92,7 +93,7 @@ fn take_memory(
     ensures outside { endpoint.new.outside ≡ endpoint.old.outside }
     ensures staging { endpoint.new.staging ≡ endpoint.old.staging }
 {
-    let room = take_room(alloc)?;
+    let room = Room::new(alloc)?;
     let buffers = sink_buffers(alloc, chunks, read)?;
     sinks.reserve(chunks.len())?;
     endpoint.make_room(chunks.len())?;
@@ -109,7 +110,7 @@ pub(crate) fn begin_reads(
     number: u64,
     chunks: &[u32],
     read: &[ReadSegment],
-) -> Result<Octets, Memory>
+) -> Result<Room, Memory>
     requires live { endpoint.old.link.state.ended ≡ None }
     requires held { AreHeldFrom endpoint.old.link.state.memory 0 (claims_of sinks.old.items) }
     requires short { All (λ s. s.registration.len ≤ PAYLOAD_MAX) sinks.old.items }
@@ -137,7 +138,7 @@ pub(crate) fn begin_reads(
 }
 
 /// A call of which something is left to be read, with the room of its payload. There is room for it.
-pub(crate) fn push_reading(calls: &mut Vec<Pending>, call: Pending, room: Octets)
+pub(crate) fn push_reading(calls: &mut Vec<Pending>, call: Pending, room: Room)
     requires { length calls.old.items < vec_capacity calls.old }
     ensures items { calls.new.items ≡ calls.old.items ++ with_room call room ∷ [] }
     ensures capacity { vec_capacity calls.new ≡ vec_capacity calls.old }

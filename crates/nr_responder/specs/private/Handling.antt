@@ -2,9 +2,12 @@
 use Rattle.std.specs.Prelude.{◌≡◌, ◌≢◌, ℕ, ◌+◌, ◌<◌, ◌≤◌, length, map, List, [], ◌∷◌, ◌++◌, drop, Option, None, Some, Result, Ok, Err, ◌⊎◌, true, false}
 use Rattle.nr_header.specs.declared.header.RdmaSegment.{RdmaSegment}
 use Rattle.nr_header.specs.declared.header.ChunkLists.{ChunkLists}
+use Rattle.nr_header.specs.Constants.{PAYLOAD_MAX, READ_SEGMENTS_MAX}
+use Rattle.nr_header.specs.WithinLimits.{read_total}
 use Rattle.nr_xdr.specs.Fields.{word_at}
 use Rattle.nr_rpc.specs.declared.head.CallHead.{CallHead}
 use Rattle.nr_rpc.specs.Reading.{call_of}
+use Rattle.nr_link.specs.Limits.{send_max}
 use Rattle.nr_link.specs.Reasons.{REASON_HEAD, REASON_STAGS, REASON_XID}
 use Rattle.nr_reduce.specs.Limits.{numbers_end}
 use Rattle.nr_endpoint.specs.ReceiveQueue.DeliveredEvent.{MessageReceived, ReadDone}
@@ -80,7 +83,7 @@ pub data Begins (before after : ResponderSide) (number : ℕ) (message : List �
 -- with its stream or ends the link; or it has bytes to be read, and memory ran out
 pub data FetchesCall (before after : ResponderSide) (c : PendingCall) : Type 0 where
   Spends : numbers_end < before.link.state.memory.next + length (chunks_of c.lists) → OrOut before (after_call before.link (Stop REASON_STAGS)) after → FetchesCall before after c
-  ReadsChunks : before.link.state.memory.next + length (chunks_of c.lists) ≤ numbers_end → chunks_of c.lists ≢ [] → after ≡ reading_call before c → FetchesCall before after c
+  ReadsChunks : before.link.state.memory.next + length (chunks_of c.lists) ≤ numbers_end → read_total c.lists.read ≤ PAYLOAD_MAX → length c.lists.read ≤ READ_SEGMENTS_MAX → chunks_of c.lists ≢ [] → after ≡ reading_call before c → FetchesCall before after c
   IsComplete : HasNoBytes c.lists.read → IsStreamAlone c → after ≡ with_ready before before.link c → FetchesCall before after c
   EndsFor : (reason : ℕ) → 5 ≤ reason → HasNoBytes c.lists.read → by_payload c (payload_at_once c) ≡ RefusedFor reason → OrOut before (after_call before.link (Stop reason)) after → FetchesCall before after c
   RunsOut : HasBytes c.lists.read → after ≡ out before → FetchesCall before after c
@@ -113,7 +116,7 @@ pub data Makes (before : ResponderSide) (number : ℕ) (message : List ℕ) (aft
   RefusesChunks : OfServers (λ k. verdict k message ≡ BadChunks) before →
       OrOut before (after_call before.link (Send (chunk_error (word_at 0 message) before.credits))) after → Makes before number message after
   Calls : (lists : ChunkLists) (stream_at : ℕ) → OfServers (λ k. IsCall k message lists stream_at) before → Begins before after number message lists stream_at → Makes before number message after
-  Fetches : (xid : ℕ) (lists : ChunkLists) (inline : Option (List ℕ)) → OfServers (λ k. IsReadCall k message xid lists inline) before → chunks_of lists ≢ [] →
+  Fetches : (xid : ℕ) (lists : ChunkLists) (inline : Option (List ℕ)) → OfServers (λ k. IsReadCall k message xid lists inline) before → before.link.state.memory.next + length (chunks_of lists) ≤ numbers_end → read_total lists.read ≤ PAYLOAD_MAX → length lists.read ≤ READ_SEGMENTS_MAX → chunks_of lists ≢ [] →
       after ≡ reading_call before (record { number = number; xid = xid; lists = lists; inline = inline }) → Makes before number message after
   Completes : (xid : ℕ) (lists : ChunkLists) (inline : Option (List ℕ)) → OfServers (λ k. IsReadCall k message xid lists inline) before → HasNoBytes lists.read →
       IsStreamAlone (record { number = number; xid = xid; lists = lists; inline = inline }) →
@@ -130,11 +133,12 @@ pub data Makes (before : ResponderSide) (number : ℕ) (message : List ℕ) (aft
 -- It stops the link for the reason of the server, queues the server's error message, or has one call more, which is ready or is read.
 pub data Handled (k : ServerState) (message : List ℕ) (before after : ResponderSide) : Type 0 where
   Stopped : (reason : ℕ) → ((place : ℕ) → (by_message k place (Some message)).refusal ≡ Some reason) → 5 ≤ reason → after ≡ on_link before (after_call (after_call before.link NextEvent) (Stop reason)) → Handled k message before after
-  Refused : (answer : List ℕ) → ((place : ℕ) → by_message k place (Some message) ≡ refused_effect k answer) → after ≡ on_link before (after_call (after_call before.link NextEvent) (Send answer)) → Handled k message before after
+  Refused : (answer : List ℕ) → ((place : ℕ) → by_message k place (Some message) ≡ refused_effect k answer) → length answer ≤ send_max → after ≡ on_link before (after_call (after_call before.link NextEvent) (Send answer)) → Handled k message before after
   Ready : (xid : ℕ) (write : List (List RdmaSegment)) (reply : Option (List RdmaSegment)) (stream : List ℕ) (head : CallHead) → is_pending k xid ≡ false →
       verdict k message ≡ MakesPending (inline_call k xid write reply stream) → call_of stream ≡ Ok head → call_xid head ≡ xid →
       after ≡ with_ready before (after_call before.link NextEvent) (inline_call k xid write reply stream) → Handled k message before after
-  Fetched : (c : PendingCall) → c.number ≡ k.received.sends + 1 → is_pending k c.xid ≡ false → verdict k message ≡ MakesPending c → chunks_of c.lists ≢ [] →
+  Fetched : (c : PendingCall) → c.number ≡ k.received.sends + 1 → is_pending k c.xid ≡ false → verdict k message ≡ MakesPending c →
+      (after_call before.link NextEvent).state.memory.next + length (chunks_of c.lists) ≤ numbers_end → read_total c.lists.read ≤ PAYLOAD_MAX → length c.lists.read ≤ READ_SEGMENTS_MAX → chunks_of c.lists ≢ [] →
       after ≡ reading_call (on_link before (after_call before.link NextEvent)) c → Handled k message before after
   Completed : (c : PendingCall) → c.number ≡ k.received.sends + 1 → is_pending k c.xid ≡ false → verdict k message ≡ MakesPending c → HasNoBytes c.lists.read → IsStreamAlone c →
       after ≡ with_ready before (after_call before.link NextEvent) c → Handled k message before after

@@ -36,7 +36,7 @@ reading_on v state calls reads kept xids payloads = record {
   fetching = record { reads = reads; sinks = left_sinks calls reads v.fetching.sinks; payloads = v.fetching.payloads ++ payloads };
 }
 
--- a side that ended, whatever it fetched
+-- a side that ended, whatever it still fetched
 abbrev pub ended_as : ResponderSide → LinkSide → Fetching → ResponderSide
 ended_as v link fetching = record { link = link; calls = v.calls; ready = v.ready; credits = v.credits; fetching = fetching }
 
@@ -103,7 +103,7 @@ reads_without number kept reads = take kept reads ++ filter (λ r. not (r.number
 pub data ReadHandled (v : ResponderSide) (r : PendingRead) (rest : List PendingRead) (after : ResponderSide) : Type 0 where
   GoesOn : NothingReady v r rest → after ≡ reading_on v v.link.state v.calls rest (still_open r rest) [] [] → ReadHandled v r rest after
   Readies : (m : MakesReady v r rest) → after ≡ reading_on v v.link.state v.calls rest (still_open r rest) (m.call.xid ∷ []) (Some m.payload ∷ []) → ReadHandled v r rest after
-  Stops : (reason : ℕ) → 5 ≤ reason → EndsLink v r rest reason → (fetching : Fetching) → after ≡ ended_as v (after_call v.link (Stop reason)) fetching → ReadHandled v r rest after
+  Stops : (reason : ℕ) → 5 ≤ reason → EndsLink v r rest reason → (fetching : Fetching) → fetching.sinks ≡ v.fetching.sinks → after ≡ ended_as v (after_call v.link (Stop reason)) fetching → ReadHandled v r rest after
   Refused : (c : RefusesCall v r rest) →
       after ≡ reading_on v (with_sent v.link.state (chunk_error c.call.xid v.credits)) (calls_without c.call.number v.calls) (reads_without c.call.number (still_open r rest) rest) (still_open r rest) [] [] →
       ReadHandled v r rest after
@@ -118,6 +118,7 @@ pub data ReadTakes (v : ResponderSide) (r : PendingRead) (rest : List PendingRea
 pub record ReadRanOut (v : ResponderSide) (r : PendingRead) (rest : List PendingRead) (after : ResponderSide) : Type 0 where
   pub takes : ReadTakes v r rest
   pub fetching : Fetching
+  pub sinks : fetching.sinks ≡ v.fetching.sinks
   pub is_out : after ≡ ended_as v (after_call v.link OutOfMemory) fetching
 
 -- no server of a run has these calls: each call that is ready is pending, and no other call has its number

@@ -1,10 +1,26 @@
-use Rattle.std.proofs.Common.{sym, subst}
+use Rattle.std.proofs.Common.{ℕ, List, [], ◌∷◌, ◌++◌, ◌∙◌, subst}
+use Rattle.nr_wire.specs.declared.hello.Side.TheVariants.{Responder}
+use Rattle.nr_reduce.specs.declared.mark.LinkParameters.{LinkParameters}
+use Rattle.nr_reduce.specs.declared.mark.Mark.{Mark}
+use Rattle.nr_reduce.specs.declared.mark.Mark.TheVariants as marks
 use Rattle.nr_responder.specs.ResponderState.{ResponderState, KeepsStaging}
-use Rattle.nr_responder.specs.Sound.{with_staging}
+use Rattle.nr_responder.specs.Sound.{state_of, with_staging}
 use Rattle.nr_responder.specs.Standing.{Stands}
+use Rattle.nr_responder.specs.Steps.{taken_of}
 use Rattle.nr_responder.proofs.responder.Responder.feed_one.Goals as goal
 
+pub invariant_of-self : goal.invariant_of-self
+invariant_of-self c =
+    let s = c.self.invariant.1.0 in
+    (c.feed_one.ensures.sound, ((s.0, (s.1.0, (s.1.1.0 ++ marks.Fed s.1.0 Responder (taken_of c.feed_one.result c.args.piece.now) ∷ [], c.feed_one.ensures.stands s.0 s.1.0 s.1.1.0 s.1.1.1))), (c.feed_one.ensures.bounded s.0 s.1.0 s.1.1.0 s.1.1.1 c.self.invariant.1.1.0, (c.feed_one.ensures.staging s.0 s.1.0 s.1.1.0 s.1.1.1).len ∙ c.self.invariant.1.1.1)))
+
 pub returns-clause-staging : goal.returns-clause-staging
-returns-clause-staging c = λ opened link run h.
-    subst (λ (v : ResponderState). KeepsStaging v (with_staging c.feed_one.new.self) c.args.piece.now) c.self.view_is
-    (c.feed_one.ensures.staging opened link run (subst (λ (v : ResponderState). Stands opened link run v.side) (sym c.self.view_is) h))
+returns-clause-staging c =
+    let s = c.self.invariant.1.0 in
+    subst (λ (v : ResponderState). KeepsStaging v (with_staging c.feed_one.new.self) c.args.piece.now) c.self.view_is (c.feed_one.ensures.staging s.0 s.1.0 s.1.1.0 s.1.1.1)
+
+pub returns-clause-stands : goal.returns-clause-stands
+returns-clause-stands c =
+    subst
+    (λ (v : ResponderState). (opened : LinkParameters) (link : ℕ) (run : List Mark) → Stands opened link run v.side →
+    Stands opened link (run ++ marks.Fed link Responder (taken_of c.feed_one.result c.args.piece.now) ∷ []) (state_of c.feed_one.new.self)) c.self.view_is c.feed_one.ensures.stands

@@ -13,6 +13,8 @@ use Rattle.nr_responder.proofs.Drained.{drained_link, drained_queues, drained_st
 use Rattle.nr_responder.proofs.Executed.{fewer_wait}
 use Rattle.nr_responder.proofs.HeldSinks.{fetched_as}
 use Rattle.nr_responder.proofs.Sounds.{sound_drained}
+use Rattle.nr_responder.proofs.OutputBounds.{drained_out}
+use Rattle.nr_responder.proofs.StepBounds.{drained_fits}
 use Rattle.nr_responder.proofs.server_end.ServerEnd.drain_into.Goals as goal
 
 pub post_until-requires-clause-left : goal.post_until-requires-clause-left
@@ -68,3 +70,6 @@ pub returns-clause-fed : goal.returns-clause-fed
 returns-clause-fed g c =
     let t = c.drain_into-result.ensures.taken in
     ap (λ (x : LinkSide). fed_bytes x) c.post_until.ensures.posted ∙ ap (λ (x : LinkSide). fed_bytes x) t.3 ∙ drain_fed c.args.self.now.endpoint.link t.0
+
+pub returns-clause-bounded : goal.returns-clause-bounded
+returns-clause-bounded g c = λ fit. (let t = returns-clause-taken g c in record { sinks = drained_fits _ _ t.0 t.1.0.state fit.sinks; output = drained_out _ _ t.0 t.1.0.state fit.output })

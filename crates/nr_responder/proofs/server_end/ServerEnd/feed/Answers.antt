@@ -27,6 +27,7 @@ pieces-init c = record {
   sound = c.requires.sound;
   within = omega arith;
   staging = λ opened link run h. unchanged (with_staging c.args.self.now) c.args.piece.now;
+  bounded = λ opened link run h fit. fit;
   first = inl (refl, refl);
 }
 
@@ -57,6 +58,9 @@ pieces-preserved c =
           (c.step-at.ensures.staging
           (nothing_told opened link (run ++ marks.Fed link Responder (take c.pieces.at c.args.piece.now) ∷ []) (state_of c.pieces.self) live
           (fed_stands_lem opened link run (state_of c.args.self.now) (state_of c.pieces.self) (take c.pieces.at c.args.piece.now) c.pieces.invariant.goes (sym c.end.ensures ∙ c.in_default.is) h))));
+      bounded = λ opened link run h fit.
+          c.step-at.ensures.bounded opened link (run ++ marks.Fed link Responder (take c.pieces.at c.args.piece.now) ∷ [])
+          (fed_stands_lem opened link run (state_of c.args.self.now) (state_of c.pieces.self) (take c.pieces.at c.args.piece.now) c.pieces.invariant.goes (sym c.end.ensures ∙ c.in_default.is) h) (c.pieces.invariant.bounded opened link run h fit);
       first =
           inr (next_first c.step-at.new.self.endpoint.link.rest c.pieces.at c.step-at.result (length (take (length c.args.piece.now - c.pieces.at) (drop c.pieces.at c.args.piece.now))) (length c.args.piece.now)
           (omega (arith, len, c.pieces.invariant.at)) c.step-at.ensures.rest);
@@ -94,3 +98,12 @@ returns-in-Some-end-clause-staging c = c.pieces.invariant.staging
 
 pub returns-clause-staging : goal.returns-clause-staging
 returns-clause-staging c = c.pieces.invariant.staging
+
+pub returns-in-Some-clause-bounded : goal.returns-in-Some-clause-bounded
+returns-in-Some-clause-bounded c = λ opened link run h fit. fit
+
+pub returns-in-Some-end-clause-bounded : goal.returns-in-Some-end-clause-bounded
+returns-in-Some-end-clause-bounded c = c.pieces.invariant.bounded
+
+pub returns-clause-bounded : goal.returns-clause-bounded
+returns-clause-bounded c = c.pieces.invariant.bounded

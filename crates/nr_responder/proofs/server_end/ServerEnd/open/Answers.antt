@@ -10,6 +10,8 @@ use Rattle.nr_endpoint.proofs.FedBytes.{open_fed}
 use Rattle.nr_wire.specs.declared.hello.Side.TheVariants.{Responder}
 use Rattle.nr_responder.proofs.HeldSinks.{empty_fetched, fetched_first}
 use Rattle.nr_responder.proofs.Opened.{opened_stands_lem, opened_lives, opened_queues}
+use Rattle.nr_responder.proofs.OutputBounds.{opened_out}
+use Rattle.nr_responder.proofs.StepBounds.{opened_fits}
 use Rattle.nr_responder.proofs.server_end.ServerEnd.open.Goals as goal
 
 pub returns-clause-sound : goal.returns-clause-sound
@@ -57,3 +59,6 @@ returns-clause-live c = opened_lives c.in_ok-endpoint.endpoint.link c.args.credi
 
 pub returns-clause-fed : goal.returns-clause-fed
 returns-clause-fed c = open_fed c.in_ok-endpoint.endpoint.link Responder c.args.credits 1 c.in_ok-endpoint.ensures.state
+
+pub returns-clause-bounded : goal.returns-clause-bounded
+returns-clause-bounded c = record { sinks = opened_fits _ c.args.credits (returns-clause-state c); output = opened_out _ c.args.credits (returns-clause-state c) }

@@ -16,6 +16,12 @@ use Rattle.nr_responder.proofs.HeldSinks.{fetched_failed, fetched_step}
 use Rattle.nr_responder.proofs.Sounds.{sound_step}
 use Rattle.nr_responder.proofs.Staging.{staging_step, step_rest}
 use Rattle.nr_responder.proofs.Stepped.{taken_at, at_most, at_least, step_done, step_failed, failed_sound, failed_within}
+use Rattle.nr_responder.specs.ResponderState.{ResponderSide}
+use Rattle.nr_responder.proofs.Marks.{fed_stands_lem}
+use Rattle.nr_responder.proofs.SinkTotals.{held_view}
+use Rattle.nr_responder.specs.HeldBytes.{SinksFit}
+use Rattle.nr_responder.proofs.OutputSteps.{failed_out, step_out}
+use Rattle.nr_responder.proofs.StepBounds.{failed_fits, lives_on_lem, step_fits}
 use Rattle.nr_responder.proofs.server_end.ServerEnd.step.Goals as goal
 
 pub take_event-requires-clause-sound : goal.take_event-requires-clause-sound
@@ -96,3 +102,26 @@ pub returns-in-Err-clause-first : goal.returns-in-Err-clause-first
 returns-in-Err-clause-first c =
     first_failed (state_of c.args.self.now) c.args.piece.now c.feed_one.new.self.link c.in-Err.end c.requires.live c.facts.ensures.partial (λ other. c.in-Err.ensures.state (λ e. other (let h : c.in-Err.end ≡ ends.Memory = cc in h)))
     (λ is. (c.in-Err.ensures.memory (ap (λ (e : End). Err e) is), c.in-Err.ensures.frame (ap (λ (e : End). Err e) is) (ap (λ (o : Option End). is_some o) c.requires.live))) (sym c.in-Err.ensures.ended)
+
+pub returns-in-Ok-clause-bounded : goal.returns-in-Ok-clause-bounded
+returns-in-Ok-clause-bounded c = λ opened link run stands fit.
+    let v : ResponderSide = state_of c.args.self.now in
+    let after : ResponderSide = state_of c.take_event.new.self in
+    let m = c.feed_one.new.self.link in
+    let is = c.in-Ok.ensures.state (λ e. absurd cc) in
+    let step = step_of c.args.self.now.endpoint.link m c.args.piece.now c.facts.ensures.partial c.requires.live is in
+    let k = lives_on_lem opened link run v stands c.requires.live in
+    let held = held_view m.state.memory 0 c.args.self.now.sinks.items
+    (fetched_step c.args.self.now.endpoint c.feed_one.new.self c.args.piece.now c.args.self.now.calls.items c.args.self.now.reads.items c.args.self.now.sinks.items (step_counts c.args.self.now.endpoint.link m c.args.piece.now step).next is c.feed_one.ensures.outside c.requires.sound.1).held in
+    let on = fed_stands_lem opened link run v after _ (returns-in-Ok-clause-goes c) c.requires.live stands in
+    let sinks : SinksFit after = step_fits k.0 k.1.0 k.1.1.0 v after c.args.piece.now m k.1.1.1 c.requires.live (sym c.in-Ok.ensures.ended) is step held fit.sinks (lives_on_lem opened link _ after on) c.take_event.ensures.taken in
+    record { sinks = sinks; output = step_out k.0 k.1.0 k.1.1.0 v after c.args.piece.now m k.1.1.1 c.requires.live (sym c.in-Ok.ensures.ended) step (fit.sinks.each c.requires.live) fit.output sinks.each c.take_event.ensures.taken }
+
+pub returns-in-Err-clause-bounded : goal.returns-in-Err-clause-bounded
+returns-in-Err-clause-bounded c = λ opened link run stands fit.
+    let v : ResponderSide = state_of c.args.self.now in
+    let m = c.feed_one.new.self.link in
+    record {
+      sinks = failed_fits v c.args.piece.now m c.in-Err.end c.requires.live c.facts.ensures.partial (λ other. c.in-Err.ensures.state (λ e. other (let h : c.in-Err.end ≡ ends.Memory = cc in h))) (λ is. c.in-Err.ensures.memory (ap (λ (e : End). Err e) is)) fit.sinks;
+      output = failed_out v c.args.piece.now m c.in-Err.end c.requires.live c.facts.ensures.partial (sym c.in-Err.ensures.ended) (λ other. c.in-Err.ensures.state (λ e. other (let h : c.in-Err.end ≡ ends.Memory = cc in h))) (λ is. c.in-Err.ensures.memory (ap (λ (e : End). Err e) is)) fit.output;
+    }

@@ -1,0 +1,115 @@
+-- Bounds of what a responder keeps. They are own.
+use Rattle.std.specs.Prelude.{◌≡◌, ℕ, ◌+◌, ◌-◌, ◌*◌, ◌≤◌, ◌==◌, true, if◌then◌else◌, List, [], ◌∷◌, length, drop, None}
+use Rattle.std.specs.List.{AllByRecursion, list_any}
+use Rattle.nr_regions.specs.RegisteredMemory.{RegisteredMemory}
+use Rattle.nr_regions.specs.Table.{IsTotal, region_len}
+use Rattle.nr_header.specs.Constants.{PAYLOAD_MAX, READ_SEGMENTS_MAX}
+use Rattle.nr_wire.specs.Constants.{FPDU_MAX, HELLO_LEN}
+use Rattle.nr_link.specs.Limits.{open_reads_max, send_max}
+use Rattle.nr_endpoint.specs.ReceiveQueue.{ReceiveQueue, initial_receives}
+use Rattle.nr_endpoint.specs.SendQueue.{SendQueue, ends_left}
+use Rattle.nr_reduce.specs.ServerState.{PendingCall, PendingRead}
+use Rattle.nr_responder.specs.Fetching.{SinkRegion}
+use Rattle.nr_responder.specs.ResponderState.{ResponderSide, ResponderState, end_of}
+
+-- What is held for each credit, and four times for the link itself, in bytes.
+abbrev pub held_unit : ℕ
+held_unit = 262144
+
+-- the sum of the sizes of items, and of those with a number
+abbrev pub sizes : {X : Type 0} → (size : X → ℕ) → List X → ℕ
+sizes size [] = 0
+sizes size (x ∷ xs) = size x + sizes size xs
+
+abbrev pub share : {X : Type 0} → (number size : X → ℕ) → ℕ → List X → ℕ
+share number size n [] = 0
+share number size n (x ∷ xs) = (if number x == n then size x else 0) + share number size n xs
+
+-- the bytes of sinks, and of those of the call whose Send has a number
+abbrev pub sinks_total : List SinkRegion → ℕ
+sinks_total sinks = sizes (λ s. s.len) sinks
+
+abbrev pub sinks_share : ℕ → List SinkRegion → ℕ
+sinks_share n sinks = share (λ s. s.number) (λ s. s.len) n sinks
+
+-- the regions have this number of bytes together
+abbrev pub RegionsHave : RegisteredMemory → ℕ → Type 0
+RegionsHave m total = IsTotal region_len m.next total m.held
+
+-- a read is of a pending call
+abbrev pub IsOfPending : List PendingCall → PendingRead → Type 0
+IsOfPending calls r = list_any (λ c. c.number == r.number) calls ≡ true
+
+-- The sinks of a call are no longer together than its payload may be, and the reads that wait are of pending calls.
+pub record SharesFit (v : ResponderSide) : Type 0 where
+  pub shares : (n : ℕ) → sinks_share n v.fetching.sinks ≤ PAYLOAD_MAX
+  pub waiting : AllByRecursion (IsOfPending v.calls) (drop open_reads_max v.fetching.reads)
+
+-- as many receives, of one length
+pub record SameReceives (p q : ReceiveQueue) : Type 0 where
+  pub count : q.receives ≡ p.receives
+  pub len : q.receive_length ≡ p.receive_length
+
+-- The regions are the sinks: those of each pending call, and those of calls that are over, of which some Read Request is open.
+-- There is a receive for each credit.
+pub record SinksFit (v : ResponderSide) : Type 0 where
+  pub memory : RegionsHave v.link.state.memory (sinks_total v.fetching.sinks)
+  pub most : sinks_total v.fetching.sinks ≤ PAYLOAD_MAX * (length v.calls + open_reads_max)
+  pub each : end_of v ≡ None → SharesFit v
+  pub receives : SameReceives (initial_receives v.credits send_max) v.link.state.receive_queue
+
+-- ---- Output
+
+-- the maximum of a reply, of the frame of a segment, and of that of a Read Request, in bytes
+abbrev pub reply_max : ℕ
+reply_max = 65536
+
+abbrev pub frame_max : ℕ
+frame_max = 4136
+
+abbrev pub request_max : ℕ
+request_max = 68
+
+-- the maximum of the Read Requests of a call, of the RDMA Writes of an answer, and of both with its Send
+abbrev pub requests_max : ℕ
+requests_max = 16 * request_max
+
+abbrev pub writes_max : ℕ
+writes_max = 48 * frame_max
+
+abbrev pub answer_max : ℕ
+answer_max = writes_max + frame_max + requests_max
+
+-- From any offset on, the queue has an answer for each Send that ends after it, and the Read Requests of the pending calls but those that
+-- wait.
+abbrev pub QueueFits : SendQueue → (waiting calls : ℕ) → Type 0
+QueueFits q waiting calls = (n : ℕ) → length q.fpdus - n + request_max * waiting ≤ answer_max * length (ends_left n q.send_ends) + requests_max * calls
+
+-- how many of some reads are of the call whose Send has a number
+abbrev pub reads_share : ℕ → List PendingRead → ℕ
+reads_share n reads = share (λ r. r.number) (λ r. 1) n reads
+
+-- once the side has ended, with one message more
+abbrev pub QueueMost : SendQueue → ℕ → Type 0
+QueueMost q calls = (n : ℕ) → length q.fpdus - n ≤ answer_max * length (ends_left n q.send_ends) + requests_max * calls + frame_max
+
+-- While a side lives. It has no hello to write before the client's.
+pub record OutputLives (v : ResponderSide) : Type 0 where
+  pub queue : QueueFits v.link.state.send_queue (length (drop open_reads_max v.fetching.reads)) (length v.calls)
+  pub reads : (n : ℕ) → reads_share n v.fetching.reads ≤ READ_SEGMENTS_MAX
+  pub hello : length v.link.state.send_queue.hello ≤ HELLO_LEN
+  pub none : v.link.state.place ≡ 0 → length v.link.state.send_queue.hello ≡ 0
+
+-- once it has ended, it may have one message more, and a hello more
+pub record OutputFits (v : ResponderSide) : Type 0 where
+  pub most : QueueMost v.link.state.send_queue (length v.calls)
+  pub hello : length v.link.state.send_queue.hello ≤ 2 * HELLO_LEN
+  pub each : end_of v ≡ None → OutputLives v
+
+-- What a responder keeps is within bounds.
+pub record KeptFits (v : ResponderSide) : Type 0 where
+  pub sinks : SinksFit v
+  pub output : OutputFits v
+
+abbrev pub IsBounded : ResponderState → Type 0
+IsBounded v = KeptFits v.side × (length v.staging ≡ FPDU_MAX)
