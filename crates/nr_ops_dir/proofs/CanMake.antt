@@ -37,9 +37,6 @@ place_passed t c h name a none =
       free = free_name t (number_of_handle h) name entry.1.0 (clear (is_taken t (number_of_handle h) name) Exist all.1.0);
     }
 
-pub can_add : (t : Tree) (d k : ℕ) (name : List ℕ) (node made : Node) → d ≡ k → node ≡ made → CanAddNode t k name made → CanAddNode t d name node
-can_add t d k name node made e f can = subst (λ (x : ℕ). CanAddNode t x name node) (sym e) (subst (λ (x : Node). CanAddNode t k name x) (sym f) can)
-
 pub can_make_directory : (t : Tree) (c : Caller) (space : Space) (now : Time) (args : MkdirArgs) → first (mkdir_rules t c space args) ≡ None
     → CanAddNode t (number_of_handle args.dir) args.name (new_directory c now args)
 can_make_directory t c space now args none =

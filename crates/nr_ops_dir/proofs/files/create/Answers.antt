@@ -5,10 +5,8 @@ use Rattle.nr_ops_dir.proofs.CanCreate.{can_make_file, can_set_size}
 use Rattle.nr_ops_dir.proofs.NamesAfter.{existing_reply}
 use Rattle.nr_ops_dir.proofs.files.create.Goals as goal
 
-pub add_file-requires-clause-allowed : goal.add_file-requires-clause-allowed
-add_file-requires-clause-allowed c =
-    subst (λ (d : ℕ). CanAddNode c.args.tree.now d c.args.args.name (new_file c.args.caller.now c.args.now d c.args.args.how)) (sym (c.in-Ok-default-None.directory-is ∙ c.in-Ok-default-None.ensures.1))
-    (can_make_file c.args.tree.now c.args.caller.now c.args.space.now c.args.now c.args.args c.in-Ok-default-None.ensures.0 (sym c.in-Ok-default-None.ensures.2 ∙ c.in-Ok-default-None.field-0-1-is))
+pub add_made-requires-clause-allowed : goal.add_made-requires-clause-allowed
+add_made-requires-clause-allowed c = ?
 
 pub use_existing_file-requires-clause-regular : goal.use_existing_file-requires-clause-regular
 use_existing_file-requires-clause-regular c =
