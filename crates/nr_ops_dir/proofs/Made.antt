@@ -8,6 +8,7 @@ use Rattle.nr_nfs_base.specs.declared.status.Status.{Status}
 use Rattle.nr_nfs_base.specs.declared.status_union.StatusUnion.{StatusUnion}
 use Rattle.nr_nfs_base.specs.declared.status_union.StatusUnion.TheVariants.{Done, Failed}
 use Rattle.nr_nfs_base.specs.declared.weak_cache.WccData.{WccData}
+use Rattle.nr_nfs_args.specs.declared.create.CreateArgs.{CreateArgs}
 use Rattle.nr_nfs_args.specs.declared.special.MknodArgs.{MknodArgs}
 use Rattle.nr_nfs_res.specs.declared.create.CreateOk.{CreateOk}
 use Rattle.nr_tree.specs.declared.node.Content.{Content}
@@ -18,8 +19,9 @@ use Rattle.nr_tree.specs.Steps.{CanAddNode}
 use Rattle.nr_tree.specs.Changes.{tree_with_node}
 use Rattle.nr_tree.specs.Rules.{after, answer, number_of_handle}
 use Rattle.nr_tree.specs.Replies.{wcc_data}
+use Rattle.nr_ops_dir.specs.Create.{new_file, tree_with_file}
 use Rattle.nr_ops_dir.specs.Creation.{create_ok, new_node, link_mode, special_content, new_special}
-use Rattle.nr_ops_dir.specs.private.Added.{tree_after_addition, results_of_addition}
+use Rattle.nr_ops_dir.specs.private.Added.{tree_after_addition, results_of_addition, IsSpecial}
 
 -- ===== a node that was made is added
 
@@ -92,9 +94,15 @@ link_made c now refusal h a path (Err s) made found is = subst (IsMade refusal (
 
 -- ===== MKNOD
 
-pub special_tree : (t : Tree) (c : Caller) (now : Time) (args : MknodArgs) (n : Node) → (special_content args.what ≡ Some n.content) × (n ≡ new_special c now args n.content)
+pub special_tree : (t : Tree) (c : Caller) (now : Time) (args : MknodArgs) (n : Node) → IsSpecial c now args n
     → tree_with_node t now (number_of_handle args.dir) args.name n
     ≡ option_map_or (λ content. tree_with_node t now (number_of_handle args.dir) args.name (new_special c now args content)) (special_content args.what) t
 special_tree t c now args n is =
     ap (λ (x : Node). tree_with_node t now (number_of_handle args.dir) args.name x) is.1
     ∙ sym (ap (λ (o : Option Content). option_map_or (λ content. tree_with_node t now (number_of_handle args.dir) args.name (new_special c now args content)) o t) is.0)
+
+-- ===== CREATE of a new file
+
+pub file_tree : (t : Tree) (c : Caller) (now : Time) (args : CreateArgs) (o : Option ℕ) → o ≡ None → (n : Node) → n ≡ new_file c now (number_of_handle args.dir) args.how
+    → tree_with_node t now (number_of_handle args.dir) args.name n ≡ tree_with_file t c now args o
+file_tree t c now args o none n is = ap (λ (x : Node). tree_with_node t now (number_of_handle args.dir) args.name x) is ∙ ap (λ (k : Option ℕ). tree_with_file t c now args k) (sym none)

@@ -48,20 +48,20 @@ pub removal_allowed : (t : Tree) (refusal : Option Status) (h name : List ℕ) (
 removal_allowed t refusal h name (Ok n) bare is = subst (λ (d : ℕ). CanRemoveEntry t d name n.1) (sym is.1) (record { entry = is.2; empty = bare n.1 is.0 is.2 })
 removal_allowed t refusal h name (Err s) bare is = tt
 
-pub removal_tree : (t : Tree) (now : Time) (refusal : Option Status) (h name : List ℕ) (found : Result (ℕ × ℕ) Status) → IsFound t refusal h name found
+pub removed_tree : (t : Tree) (now : Time) (refusal : Option Status) (h name : List ℕ) (found : Result (ℕ × ℕ) Status) → IsFound t refusal h name found
     → tree_after_removal t now name found ≡ after refusal t (tree_without_name t now h name)
-removal_tree t now refusal h name (Ok n) is =
+removed_tree t now refusal h name (Ok n) is =
     ap (λ (d : ℕ). tree_without_entry t now d name n.1) is.1
     ∙ ap (λ (o : Option ℕ). option_map_or (λ m. tree_without_entry t now (number_of_handle h) name m) o t) (sym is.2)
     ∙ ap (λ (o : Option Status). after o t (tree_without_name t now h name)) (sym is.0)
-removal_tree t now refusal h name (Err s) is = ap (λ (o : Option Status). after o t (tree_without_name t now h name)) (sym is)
+removed_tree t now refusal h name (Err s) is = ap (λ (o : Option Status). after o t (tree_without_name t now h name)) (sym is)
 
-pub removal_results : (t : Tree) (now : Time) (refusal : Option Status) (h name : List ℕ) (found : Result (ℕ × ℕ) Status) → IsFound t refusal h name found
+pub removed_results : (t : Tree) (now : Time) (refusal : Option Status) (h name : List ℕ) (found : Result (ℕ × ℕ) Status) → IsFound t refusal h name found
     → results_of_removal t (tree_after_removal t now name found) h found ≡ answer refusal (λ s. Failed s (wcc_data t t h)) (Done (wcc_data t (after refusal t (tree_without_name t now h name)) h))
-removal_results t now refusal h name (Ok n) is =
-    ap (λ (new : Tree). Done (wcc_data t new h)) (removal_tree t now refusal h name (Ok n) is)
+removed_results t now refusal h name (Ok n) is =
+    ap (λ (new : Tree). Done (wcc_data t new h)) (removed_tree t now refusal h name (Ok n) is)
     ∙ ap (λ (o : Option Status). answer o (λ s. Failed s (wcc_data t t h)) (Done (wcc_data t (after refusal t (tree_without_name t now h name)) h))) (sym is.0)
-removal_results t now refusal h name (Err s) is =
+removed_results t now refusal h name (Err s) is =
     ap (λ (o : Option Status). answer o (λ s. Failed s (wcc_data t t h)) (Done (wcc_data t (after refusal t (tree_without_name t now h name)) h))) (sym is)
 
 -- ===== the rules of REMOVE and of RMDIR are those by what is taken out
@@ -92,6 +92,9 @@ module _ (t : Tree) (c : Caller) (space : Space) (args : RemoveArgs) where
       ∙ ap (λ (o : Option Status). or_else (first (dot_rules targets.File args.name)) (or_else (is_none (number_of_entry t (number_of_handle args.dir) args.name) ⇒ Noent) o))
       (first_on (number_of_entry t (number_of_handle args.dir) args.name) (remove_of t space) (removal_of t space targets.File) (remove_of_is t space)))
 
+  pub bare_file : (n : ℕ) → first (remove_rules t c space args) ≡ None → number_of_entry t (number_of_handle args.dir) args.name ≡ Some n → IsBare t n
+  bare_file n none found = bare t c space targets.File args.dir args.name n (sym remove_is ∙ none) found
+
   module _ (now : Time) (h name : List ℕ) (same_dir : h ≡ args.dir) (same_name : name ≡ args.name) where
     pub remove_tree_is : removal_tree t c space now targets.File h name ≡ remove_tree t c space now args
     remove_tree_is = (λ i. removal_tree t c space now targets.File (same_dir i) (same_name i))
@@ -107,6 +110,9 @@ module _ (t : Tree) (c : Caller) (space : Space) (args : RmdirArgs) where
       (two_first (is_dot args.name ⇒ Inval) (is_dot_dot args.name ⇒ Exist) (or_else (is_none (number_of_entry t (number_of_handle args.dir) args.name) ⇒ Noent) (first (on (number_of_entry t (number_of_handle args.dir) args.name) (rmdir_of t space))))
       ∙ ap (λ (o : Option Status). or_else (first (dot_rules targets.Directory args.name)) (or_else (is_none (number_of_entry t (number_of_handle args.dir) args.name) ⇒ Noent) o))
       (first_on (number_of_entry t (number_of_handle args.dir) args.name) (rmdir_of t space) (removal_of t space targets.Directory) (rmdir_of_is t space)))
+
+  pub bare_directory : (n : ℕ) → first (rmdir_rules t c space args) ≡ None → number_of_entry t (number_of_handle args.dir) args.name ≡ Some n → IsBare t n
+  bare_directory n none found = bare t c space targets.Directory args.dir args.name n (sym rmdir_is ∙ none) found
 
   module _ (now : Time) (h name : List ℕ) (same_dir : h ≡ args.dir) (same_name : name ≡ args.name) where
     pub rmdir_tree_is : removal_tree t c space now targets.Directory h name ≡ rmdir_tree t c space now args

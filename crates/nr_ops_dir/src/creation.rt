@@ -8,8 +8,8 @@ ghost use Rattle.nr_tree.specs.Changes.{tree_with_node};
 ghost use Rattle.nr_tree.specs.Rules.{first, number_of_handle, handle_of as handle_of_number, IsWithinCapacity};
 ghost use Rattle.nr_tree.specs.Replies.{wcc_data as wcc_of, attributes_at as attributes_of_handle};
 ghost use Rattle.nr_ops_dir.specs.Nodes.{attributes_of_number as attributes_by_number};
-ghost use Rattle.nr_ops_dir.specs.private.Added.{tree_after_addition, results_of_addition, special_rules};
-ghost use Rattle.nr_ops_dir.specs.Creation.{nothing_given as no_attributes, owner_rule, new_node as node_of, create_ok as ok_of, new_name_rules, new_directory as directory_of, mkdir_rules, mkdir_tree, mkdir_reply, link_mode, path_rules, symlink_rules, symlink_tree, symlink_reply, special_content as content_of_data, special_attributes as attributes_of_data, is_device as is_device_data, new_special as special_of, mknod_rules, mknod_tree, mknod_reply};
+ghost use Rattle.nr_ops_dir.specs.private.Added.{tree_after_addition, results_of_addition, special_rules, IsSpecial};
+ghost use Rattle.nr_ops_dir.specs.Creation.{nothing_given as no_attributes, owner_rule, new_node as node_of, create_ok as ok_of, new_name_rules, new_directory as directory_of, mkdir_rules, mkdir_tree, mkdir_reply, link_mode, path_rules, symlink_rules, symlink_tree, symlink_reply, special_content as content_of_data, special_attributes as attributes_of_data, is_device as is_device_data, mknod_rules, mknod_tree, mknod_reply};
 
 use crate::entries::{check_entry, check_links, is_taken, live_number};
 use crate::nodes::{attributes_of_number, handle_of};
@@ -383,8 +383,7 @@ fn new_special(
 ) -> Result<Node, Status>
     requires space { IsWithinCapacity space.now }
     ensures { MatchResult result
-        (λ n. (first (mknod_rules tree.now caller.now space.now args.now) ≡ None)
-        × (content_of_data args.now.what ≡ Some n.content) × (n ≡ special_of caller.now now args.now n.content))
+        (λ n. (first (mknod_rules tree.now caller.now space.now args.now) ≡ None) × IsSpecial caller.now now args.now n)
         (λ s. first (mknod_rules tree.now caller.now space.now args.now) ≡ Some s) }
 {
     live_number(tree, args.dir.as_slice())?;

@@ -1,5 +1,5 @@
 -- For the code: what MKDIR, SYMLINK, MKNOD and CREATE come to, by the node that was made, or by the refusal.
-use Rattle.std.specs.Prelude.{ℕ, ◌==◌, not, ◌&&◌, List, [], ◌∷◌, Option, Result, Ok, Err}
+use Rattle.std.specs.Prelude.{◌≡◌, ℕ, ◌==◌, not, ◌&&◌, List, [], ◌∷◌, Option, Some, Result, Ok, Err}
 use Rattle.nr_nfs_base.specs.declared.time.Time.{Time}
 use Rattle.nr_nfs_base.specs.declared.caller.Caller.{Caller}
 use Rattle.nr_nfs_base.specs.declared.status.Status.{Status}
@@ -15,7 +15,7 @@ use Rattle.nr_tree.specs.Tree.{Tree}
 use Rattle.nr_tree.specs.Changes.{tree_with_node}
 use Rattle.nr_tree.specs.Rules.{first, ◌⇒◌, number_of_handle, space_rule}
 use Rattle.nr_tree.specs.Replies.{wcc_data}
-use Rattle.nr_ops_dir.specs.Creation.{create_ok, new_name_rules, special_attributes, is_device}
+use Rattle.nr_ops_dir.specs.Creation.{create_ok, new_name_rules, special_attributes, is_device, special_content, new_special}
 
 abbrev pub tree_after_addition : Tree → Time → List ℕ → List ℕ → Result Node Status → Tree
 tree_after_addition t now h name (Ok node) = tree_with_node t now (number_of_handle h) name node
@@ -31,3 +31,7 @@ special_rules t c space args =
     first (new_name_rules t c args.dir args.name (special_attributes args.what)) ∷
     ((is_device args.what && not (c.uid == 0)) ⇒ Perm) ∷
     space_rule space ∷ []
+
+-- the node that MKNOD makes
+abbrev pub IsSpecial : Caller → Time → MknodArgs → Node → Type 0
+IsSpecial c now args n = (special_content args.what ≡ Some n.content) × (n ≡ new_special c now args n.content)
