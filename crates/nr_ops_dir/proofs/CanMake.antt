@@ -1,5 +1,5 @@
 -- What a MKDIR, SYMLINK or MKNOD that no rule refuses is known to be.
-use Rattle.std.proofs.Common.{◌≡◌, ℕ, ◌≤◌, true, false, eqb, ltb, List, length, Option, None, Some, unwrap_or, refl, ap, sym, subst, arith}
+use Rattle.std.proofs.Common.{◌≡◌, ℕ, ◌≤◌, true, false, eqb, ltb, List, length, Option, None, Some, unwrap_or, refl, ap, sym, arith}
 use Rattle.std.proofs.lemmas.Bool.{both_ways, eqb-false, ltb-false}
 use Rattle.nr_nfs_base.specs.declared.caller.Caller.{Caller}
 use Rattle.nr_nfs_base.specs.declared.set_attributes.SetAttributes.{SetAttributes}
@@ -11,7 +11,6 @@ use Rattle.nr_nfs_args.specs.declared.special.MknodData.{MknodData}
 use Rattle.nr_tree.specs.declared.node.Content.{Content}
 use Rattle.nr_tree.specs.declared.node.Content.TheVariants.{Block, Character, Socket, Fifo}
 use Rattle.nr_nfs_base.specs.declared.status.Status.TheVariants.{Exist, Inval, Nametoolong}
-use Rattle.nr_tree.specs.declared.node.Node.{Node}
 use Rattle.nr_tree.specs.declared.rules.Space.{Space}
 use Rattle.nr_tree.specs.Tree.{Tree, is_directory}
 use Rattle.nr_tree.specs.Sane.{skeleton}

@@ -12,3 +12,4 @@ pub mod Counting
 pub mod Rooms
 pub mod ListingLimits
 pub mod Live
+pub mod Written

@@ -15,8 +15,8 @@ use crate::entries::{check_entry, check_links, is_taken, live_number};
 use crate::nodes::{attributes_of_number, handle_of};
 use nr_nfs_args::{MkdirArgs, MknodArgs, MknodData, SymlinkArgs};
 use nr_nfs_base::{
-    Caller, Handle, LINK_TARGET_MAX, Name, Path, SetAttributes, SetTime, Status, StatusUnion,
-    Time, WccAttributes, WccData,
+    Caller, Handle, LINK_TARGET_MAX, Name, Path, SetAttributes, SetTime, Status, StatusUnion, Time,
+    WccAttributes, WccData,
 };
 use nr_nfs_res::{CreateOk, MkdirRes, MknodRes, SymlinkRes};
 use nr_tree::{
@@ -222,7 +222,14 @@ fn new_directory(
     check_links(tree, directory)?;
     check_space(space)?;
     let content = Content::Directory(Directory::new(alloc));
-    Ok(new_node(caller, now, directory, DIRECTORY_MODE, &args.attributes, content))
+    Ok(new_node(
+        caller,
+        now,
+        directory,
+        DIRECTORY_MODE,
+        &args.attributes,
+        content,
+    ))
 }
 
 /// Makes a directory (RFC 1813 section 3.3.9). After an `Err` the tree is as before.

@@ -8,9 +8,7 @@ use crate::nodes::{attributes_of_number, handle_of};
 use nr_nfs_args::LookupArgs;
 use nr_nfs_base::{Caller, Status, StatusUnion};
 use nr_nfs_res::{LookupOk, LookupRes};
-use nr_tree::{
-    Node, Right, Tree, attributes_at, check_name, is_dot, is_dot_dot, live_node, may,
-};
+use nr_tree::{Node, Right, Tree, attributes_at, check_name, is_dot, is_dot_dot, live_node, may};
 use nr_xdr::Memory;
 use std::alloc::Global;
 

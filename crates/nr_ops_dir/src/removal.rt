@@ -11,7 +11,9 @@ use crate::entries::{check_entry, has_entries, is_dir_at, number_of_entry};
 use nr_nfs_args::{RemoveArgs, RmdirArgs};
 use nr_nfs_base::{Caller, Status, StatusUnion, Time, WccData};
 use nr_nfs_res::{RemoveRes, RmdirRes};
-use nr_tree::{Space, Tree, check_space, is_dot, is_dot_dot, is_dot_name, wcc_attributes_at, wcc_data};
+use nr_tree::{
+    Space, Tree, check_space, is_dot, is_dot_dot, is_dot_name, wcc_attributes_at, wcc_data,
+};
 
 /// What a call takes out.
 #[derive(Clone, Copy)]
