@@ -1,12 +1,12 @@
 //! MKDIR, SYMLINK and MKNOD, and what CREATE shares with them: a new node, its entry and the reply.
 
 ghost use Rattle.std.specs.Prelude.{◌≡◌, ◌∷◌, [], None, Some, Ok, Err, MatchResult, IfOk, OnOk, OnErr};
-ghost use Rattle.nr_nfs_base.specs.declared.status_union.StatusUnion.TheVariants.{Done, Failed};
+ghost use Rattle.nr_nfs_base.specs.declared.status_union.StatusUnion.TheVariants.{Done};
 ghost use Rattle.nr_tree.specs.declared.node.Content.TheVariants.{Link};
 ghost use Rattle.nr_tree.specs.Steps.{IsBounded, CanAddNode};
 ghost use Rattle.nr_tree.specs.Changes.{tree_with_node};
 ghost use Rattle.nr_tree.specs.Rules.{first, number_of_handle, handle_of as handle_of_number, IsWithinCapacity};
-ghost use Rattle.nr_tree.specs.Replies.{wcc_data as wcc_of, attributes_at as attributes_of_handle};
+ghost use Rattle.nr_tree.specs.Replies.{attributes_at as attributes_of_handle};
 ghost use Rattle.nr_ops_dir.specs.Nodes.{attributes_of_number as attributes_by_number};
 ghost use Rattle.nr_ops_dir.specs.private.Added.{tree_after_addition, results_of_addition, special_rules, IsSpecial};
 ghost use Rattle.nr_ops_dir.specs.Creation.{nothing_given as no_attributes, owner_rule, new_node as node_of, create_ok as ok_of, new_name_rules, new_directory as directory_of, mkdir_rules, mkdir_tree, mkdir_reply, link_mode, path_rules, symlink_rules, symlink_tree, symlink_reply, special_content as content_of_data, special_attributes as attributes_of_data, is_device as is_device_data, mknod_rules, mknod_tree, mknod_reply};
@@ -21,7 +21,7 @@ use nr_nfs_base::{
 use nr_nfs_res::{CreateOk, MkdirRes, MknodRes, SymlinkRes};
 use nr_tree::{
     Content, Directory, MODE_COUNT, Metadata, Node, Space, Tree, check_space, check_times,
-    differs_if_given, time_after, wcc_attributes_at, wcc_data,
+    differs_if_given, refused, time_after, wcc_attributes_at, wcc_data,
 };
 use nr_xdr::Memory;
 use std::alloc::Global;
@@ -134,21 +134,6 @@ pub(crate) fn create_ok(
     }
 }
 
-/// The results of a call that is refused. Takes no memory.
-pub(crate) fn create_failure(
-    status: Status,
-    tree: &Tree,
-    dir: &[u8],
-) -> StatusUnion<CreateOk, WccData>
-    ensures { result ≡ Failed status (wcc_of tree.now tree.now dir.now) }
-{
-    let before = wcc_attributes_at(tree, dir);
-    StatusUnion::Failed {
-        status,
-        part: wcc_data(before, tree, dir),
-    }
-}
-
 /// Puts a new node and its entry into the directory that is its parent, and gives what the reply says. The handle is that of
 /// the node. After an `Err` the tree is as before.
 #[tactic(auto, using(crate::proofs::NamesAfter::create_ok_is, crate::proofs::NamesAfter::named_after_addition))]
@@ -195,7 +180,7 @@ pub(crate) fn add_made(
             Ok(object) => add_with_handle(tree, now, dir, name, node, object),
             Err(e) => Err(e),
         },
-        Err(status) => Ok(create_failure(status, tree, dir)),
+        Err(status) => Ok(refused(status, tree, dir)),
     }
 }
 

@@ -11,9 +11,7 @@ ghost use Rattle.nr_ops_dir.specs.Entries.{number_of_entry as number_under};
 ghost use Rattle.nr_ops_dir.specs.Nodes.{attributes_of_number};
 ghost use Rattle.nr_ops_dir.specs.Create.{given_attributes as attributes_given, given_verifier as verifier_given, new_file_rules, new_file as file_of, is_made_by as is_made_with, existing_file_rules, size_to_set as size_given, tree_with_existing_file, file_rules, create_rules, create_tree, create_reply};
 
-use crate::creation::{
-    FILE_MODE, add_made, check_owner, create_failure, create_ok, new_node, nothing_given,
-};
+use crate::creation::{FILE_MODE, add_made, check_owner, create_ok, new_node, nothing_given};
 use crate::entries::{check_entry, number_of_entry};
 use crate::nodes::handle_of;
 use nr_nfs_args::{CreateArgs, CreateHow};
@@ -21,7 +19,7 @@ use nr_nfs_base::{Caller, SetAttributes, Status, StatusUnion, Time, Verifier};
 use nr_nfs_res::CreateRes;
 use nr_tree::{
     Content, File, Node, Right, Space, Tree, check_size, check_space, check_times, is_dot_name,
-    may, wcc_attributes_at,
+    may, refused, wcc_attributes_at,
 };
 use nr_xdr::Memory;
 use std::alloc::Global;
@@ -227,6 +225,6 @@ pub fn create(
         Ok((_, Some(number))) => {
             use_existing_file(alloc, tree, now, args.dir.as_slice(), number, args.how)
         }
-        Err(status) => Ok(create_failure(status, tree, args.dir.as_slice())),
+        Err(status) => Ok(refused(status, tree, args.dir.as_slice())),
     }
 }

@@ -12,7 +12,7 @@ use nr_nfs_args::{RemoveArgs, RmdirArgs};
 use nr_nfs_base::{Caller, Status, StatusUnion, Time, WccData};
 use nr_nfs_res::{RemoveRes, RmdirRes};
 use nr_tree::{
-    Space, Tree, check_space, is_dot, is_dot_dot, is_dot_name, wcc_attributes_at, wcc_data,
+    Space, Tree, check_space, is_dot, is_dot_dot, is_dot_name, refused, wcc_attributes_at, wcc_data,
 };
 
 /// What a call takes out.
@@ -86,16 +86,13 @@ fn remove_found(
     ensures tree { tree.new ≡ tree_after_removal tree.old now name.now found }
     ensures result { result ≡ results_of_removal tree.old (tree_after_removal tree.old now name.now found) dir.now found }
 {
-    let before = wcc_attributes_at(tree, dir);
     match found {
         Ok((directory, number)) => {
+            let before = wcc_attributes_at(tree, dir);
             tree.remove_entry(directory, name, number, now);
             StatusUnion::Done(wcc_data(before, tree, dir))
         }
-        Err(status) => StatusUnion::Failed {
-            status,
-            part: wcc_data(before, tree, dir),
-        },
+        Err(status) => refused(status, tree, dir),
     }
 }
 
