@@ -2,6 +2,7 @@
 use Rattle.std.proofs.Common.{◌≡◌, ◌≢◌, ℕ, ◌≤◌, ◌<◌, List, length, drop, Option, Some, None, Result, Ok, Err, refl, sym, subst, ◌∙◌, arith, inl, inr, ◌↔◌, All}
 use Rattle.std.proofs.lemmas.Bool.{lt-ltb, le-ltb, ne_eqb}
 use Rattle.std.proofs.lemmas.Bool.Decides.{eqb_tells}
+use Rattle.nr_header.specs.Constants.{FIXED_LEN}
 use Rattle.nr_xdr.specs.Fields.{word_at}
 use Rattle.nr_header.specs.declared.fault.HeaderFault.{HeaderFault}
 use Rattle.nr_header.specs.declared.fault.HeaderFault.TheVariants as faults
@@ -19,11 +20,11 @@ bad_by bytes read is bad = subst IsBad (sym is) bad
 fine_by : (bytes : List ℕ) (read : Result Header HeaderFault) → header_of bytes ≡ read → (IsBad read → ⊥) → HeaderBad bytes → ⊥
 fine_by bytes read is fine bad = fine (subst IsBad is bad)
 
-short_read : (bytes : List ℕ) → length bytes < 16 → header_of bytes ≡ Err faults.Short
+short_read : (bytes : List ℕ) → length bytes < FIXED_LEN → header_of bytes ≡ Err faults.Short
 unfolding header_of
-short_read bytes lt = rw (lt-ltb (length bytes) 16 lt) refl
+short_read bytes lt = rw (lt-ltb (length bytes) FIXED_LEN lt) refl
 
-pub short_is : (bytes : List ℕ) → length bytes < 16 → (header_of bytes ≡ Err faults.Short) × (HeaderBad bytes → ⊥)
+pub short_is : (bytes : List ℕ) → length bytes < FIXED_LEN → (header_of bytes ≡ Err faults.Short) × (HeaderBad bytes → ⊥)
 short_is bytes lt = let is = short_read bytes lt in (is, fine_by bytes (Err faults.Short) is (λ bad. bad))
 
 -- a message that is no complete error message isn't read as one

@@ -18,6 +18,10 @@ name_length_max = 255
 abbrev pub link_target_max : ℕ
 link_target_max = 1024
 
+-- the maximum length of a file handle in bytes (RFC 1813 section 2.4, NFS3_FHSIZE; section 5.1.4, FHSIZE3)
+abbrev pub handle_max : ℕ
+handle_max = 64
+
 -- the maximum length of a path to mount in bytes (RFC 1813 section 5.1.4, MNTPATHLEN)
 abbrev pub mount_path_max : ℕ
 mount_path_max = 1024

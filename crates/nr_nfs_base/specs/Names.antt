@@ -1,16 +1,15 @@
--- Handles, names, paths and data. The limits are written as numbers here, and the prover compares the constants of the
--- code with them.
+-- Handles, names, paths and data.
 use Rattle.std.specs.Prelude.{ℕ, List}
 use Rattle.nr_nfs_base.specs.Codec.{Codec, Lawful, opaque}
 use Rattle.nr_nfs_base.specs.Laws.{opaque_lawful}
-use Rattle.nr_nfs_base.specs.Limits.{mount_path_max}
+use Rattle.nr_nfs_base.specs.Limits.{handle_max, mount_path_max}
 
--- a file handle, of at most 64 bytes (RFC 1813 section 2.4, NFS3_FHSIZE; section 2.5, nfs_fh3)
+-- a file handle (RFC 1813 section 2.5, nfs_fh3; section 5.1.5, fhandle3)
 abbrev pub handle_codec : Codec (List ℕ)
-handle_codec = opaque 64
+handle_codec = opaque handle_max
 
 pub handle_lawful : Lawful handle_codec
-handle_lawful = opaque_lawful 64
+handle_lawful = opaque_lawful handle_max
 
 -- a name, a path or the data of a file, as long as a count word can say (RFC 1813 section 2.5, filename3 and nfspath3;
 -- RFC 4506 section 4.10)

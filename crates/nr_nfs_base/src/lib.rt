@@ -56,10 +56,12 @@ pub use fronts::{
     skip_to_readdirplus_maxcount, skip_to_readlink_path, skip_to_symlink_path, skip_to_write_data,
 };
 pub use laws::{one_value, opaque_limits};
-pub use limits::{LINK_TARGET_MAX, LISTING_MAX, NAME_LENGTH_MAX, TRANSFER_MAX};
+pub use limits::{
+    HANDLE_MAX, LINK_TARGET_MAX, LISTING_MAX, MOUNT_PATH_MAX, NAME_LENGTH_MAX, TRANSFER_MAX,
+};
 pub use linked_list::LinkedList;
 pub use mount_status::MountStatus;
-pub use names::{Data, HANDLE_MAX, Handle, MOUNT_PATH_MAX, MountPath, Name, Path, UNLIMITED};
+pub use names::{Data, Handle, MountPath, Name, Path, UNLIMITED};
 pub use numbered::{Failure, Numbered, read_numbered, write_numbered};
 pub use opaque::{Opaque, write_opaque};
 pub use pair::{write_four, write_three, write_two};

@@ -1,12 +1,7 @@
 //! Handles, names, paths and data: opaque data, each with its limit.
 
+use crate::limits::{HANDLE_MAX, MOUNT_PATH_MAX};
 use crate::opaque::Opaque;
-
-/// The maximum length of a file handle in bytes (RFC 1813 section 2.4, `NFS3_FHSIZE`; section 5.1.4, `FHSIZE3`).
-pub const HANDLE_MAX: u32 = 64;
-
-/// The maximum length of a path to mount in bytes (RFC 1813 section 5.1.4, `MNTPATHLEN`).
-pub const MOUNT_PATH_MAX: u32 = 1024;
 
 /// The maximum length of any opaque data in bytes, since its length is a word (RFC 4506 section 4.10). Names, paths and
 /// data have no other limit.

@@ -41,7 +41,8 @@ use Rattle.nr_nfs_res.specs.declared.remove.LinkWcc.{LinkWcc}
 use Rattle.nr_nfs_res.specs.declared.remove.RenameWcc.{RenameWcc}
 use Rattle.nr_tree.specs.Rules.{answer, handle_of}
 use Rattle.nr_ops_dir.proofs.Sizes.{items_size, items_size_append, length_encodings, attributes_size}
-use Rattle.nr_plain.specs.ReplySizes.{longest_handle, HandleFits}
+use Rattle.nr_nfs_base.specs.Limits.{handle_max}
+use Rattle.nr_plain.specs.ReplySizes.{HandleFits}
 
 -- ===== attributes and handles
 
@@ -78,12 +79,12 @@ opaque_size : (max : ℕ) (bytes : List ℕ) → items_size ((opaque max).items 
 unfolding opaque
 opaque_size max bytes = omega arith
 
-short_handle : (n : ℕ) → n ≤ longest_handle → n + pad_len n ≤ longest_handle
+short_handle : (n : ℕ) → n ≤ handle_max → n + pad_len n ≤ handle_max
 unfolding pad_len
 short_handle n le = omega (arith, le)
 
-handle_size : (h : List ℕ) → length h ≤ longest_handle → items_size (handle_codec.items h) ≤ 68
-handle_size h le = omega (arith, opaque_size longest_handle h, short_handle (length h) le)
+handle_size : (h : List ℕ) → length h ≤ handle_max → items_size (handle_codec.items h) ≤ 68
+handle_size h le = omega (arith, opaque_size handle_max h, short_handle (length h) le)
 
 some_handle : (o : Option (List ℕ)) → HandleFits o → items_size ((optional handle_codec).items o) ≤ 72
 unfolding optional boolean
@@ -96,7 +97,7 @@ length_handle n = length_hyper n
 
 -- ===== parts of results on success
 
-pub lookup_size : (d : LookupOk) → length d.object ≤ longest_handle → items_size (lookup_ok_codec.items d) ≤ 244
+pub lookup_size : (d : LookupOk) → length d.object ≤ handle_max → items_size (lookup_ok_codec.items d) ≤ 244
 unfolding lookup_ok_codec
 lookup_size d le =
     omega (
@@ -185,7 +186,7 @@ unfolding mount_ok_codec array word_codec
 mount_items h = items_size_append (handle_codec.items h) _
 
 -- with the two flavors of this server
-pub mount_size : (h : List ℕ) → length h ≤ longest_handle → items_size (mount_ok_codec.items (record { handle = h; flavors = 1 ∷ 0 ∷ [] })) ≤ 80
+pub mount_size : (h : List ℕ) → length h ≤ handle_max → items_size (mount_ok_codec.items (record { handle = h; flavors = 1 ∷ 0 ∷ [] })) ≤ 80
 mount_size h le = omega (arith, mount_items h, handle_size h le)
 
 -- ===== results: a status, and one part

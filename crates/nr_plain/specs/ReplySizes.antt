@@ -1,5 +1,6 @@
 -- How many bytes the replies have of the procedures that change files.
 use Rattle.std.specs.Prelude.{ℕ, ◌+◌, ◌≤◌, List, length, Option, Some, None}
+use Rattle.nr_nfs_base.specs.Limits.{handle_max}
 use Rattle.nr_nfs_base.specs.declared.status.Status.{Status}
 use Rattle.nr_nfs_base.specs.declared.status_union.StatusUnion.{StatusUnion}
 use Rattle.nr_nfs_base.specs.declared.status_union.StatusUnion.TheVariants.{Done, Failed}
@@ -20,14 +21,10 @@ results_max = 280
 abbrev pub reply_max : ℕ
 reply_max = head_size + results_max
 
--- the maximum length of a handle in bytes (RFC 1813 section 2.4, NFS3_FHSIZE)
-abbrev pub longest_handle : ℕ
-longest_handle = 64
-
--- a handle, if there is one, is no longer than that
+-- a handle, if there is one, is no longer than a handle may be
 abbrev pub HandleFits : Option (List ℕ) → Type 0
 HandleFits None = Unit {0}
-HandleFits (Some handle) = length handle ≤ longest_handle
+HandleFits (Some handle) = length handle ≤ handle_max
 
 -- so is the handle in the results of a procedure that creates a file
 abbrev pub ObjectFits : StatusUnion CreateOk WccData Status → Type 0

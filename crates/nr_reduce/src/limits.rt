@@ -2,6 +2,9 @@
 
 use nr_nfs_base::{MountProcedure, NfsProcedure};
 
+/// The maximum of credits that a side asks for or grants, and that a credit word counts for (RFC 8166 section 3.3).
+pub const CREDITS_MAX: u32 = 64;
+
 /// The maximum of an offer that is given, all its chunks together, in bytes.
 pub const GIVEN_MAX: u32 = 65536;
 

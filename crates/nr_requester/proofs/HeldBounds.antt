@@ -2,6 +2,7 @@
 use Rattle.std.proofs.Common.{◌≡◌, ℕ, zero, suc, ◌+◌, ◌*◌, ◌<◌, ◌≤◌, max, Bool, true, false, List, [], ◌∷◌, length, map, drop, get_or, sym, ap, subst, ◌∙◌, arith}
 use Rattle.std.specs.List.{AllByRecursion}
 use Rattle.std.proofs.lemmas.List.{length-map, drop_more}
+use Rattle.nr_reduce.specs.Limits.{credits_max}
 use Rattle.nr_wire.specs.Constants.{FPDU_MAX}
 use Rattle.nr_link.specs.Limits.{send_max}
 use Rattle.nr_regions.specs.RegisteredMemory.{RegisteredMemory, bytes_held, outside_held}
@@ -37,7 +38,7 @@ no_outside : (e : EndpointState) → NothingOutside e → outside_held e.outside
 unfolding outside_held
 no_outside e s = sym s.bytes_are
 
-pub link_bytes : (s : LinkState) (total : ℕ) → LinkFits s → RegionsHave s.memory total → receives_kept s.receive_queue ≤ 1 → length s.send_queue.send_ends ≤ 64 → FPDU_MAX + bytes_of s ≤ link_max + total
+pub link_bytes : (s : LinkState) (total : ℕ) → LinkFits s → RegionsHave s.memory total → receives_kept s.receive_queue ≤ 1 → length s.send_queue.send_ends ≤ credits_max → FPDU_MAX + bytes_of s ≤ link_max + total
 link_bytes s total l have kept few =
     let regions : total ≡ bytes_held s.memory = all_bytes s.memory total have in
     let receives = receives_small s.receive_queue l.receive_length kept in

@@ -3,6 +3,7 @@ use Rattle.std.proofs.Common.{◌≡◌, ◌≢◌, ℕ, suc, ◌+◌, ◌-◌, 
 use Rattle.std.specs.Prelude.{is_some, remove}
 use Rattle.std.specs.Result.{result_err}
 use Rattle.std.proofs.lemmas.List.{length-drop, take-append-drop}
+use Rattle.nr_reduce.specs.Limits.{credits_max}
 use Rattle.nr_link.specs.declared.end.End.{End}
 use Rattle.nr_link.specs.declared.end.End.TheVariants as ends
 use Rattle.nr_endpoint.specs.LinkState.{LinkSide}
@@ -92,7 +93,7 @@ pub ok_ready : (link link1 : LinkSide) (next grant room n : ℕ) (items : List O
 ok_ready link link1 next grant room n items answers piece f lives s = (let o = ok_state link link1 piece n f in ready_lem link link1 piece next grant room items answers s lives o.0 o.1)
 
 pub ok_sound : (link link1 link2 : LinkSide) (next grant grant2 room room2 n : ℕ) (items items2 : List OutstandingCall) (answers answers2 : List AnsweredCall) (piece : List ℕ) → FedOne link link1 piece (Ok n) → link.state.ended ≡ None → RequesterInvariant link next grant items answers room →
-    (CallsSound link1.state.memory next items answers room → CallsSound link2.state.memory next items2 answers2 room2) → ((1 ≤ grant) × (grant ≤ 64) → (1 ≤ grant2) × (grant2 ≤ 64)) → length items2 ≤ length items → IsQuiet link2 → RequesterInvariant link2 next grant2 items2 answers2 room2
+    (CallsSound link1.state.memory next items answers room → CallsSound link2.state.memory next items2 answers2 room2) → ((1 ≤ grant) × (grant ≤ credits_max) → (1 ≤ grant2) × (grant2 ≤ credits_max)) → length items2 ≤ length items → IsQuiet link2 → RequesterInvariant link2 next grant2 items2 answers2 room2
 ok_sound link link1 link2 next grant grant2 room room2 n items items2 answers answers2 piece f lives s sound granted fewer quiet =
     let o = ok_state link link1 piece n f in
     let w : StepLeaves link piece (after_call link (FeedOne piece)) = step_leaves link piece lives s.none_waits s.no_reads in

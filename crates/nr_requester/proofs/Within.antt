@@ -5,6 +5,7 @@ use Rattle.std.specs.List.{AllByRecursion}
 use Rattle.std.proofs.lemmas.List.{length-drop}
 use Rattle.std.specs.Ordering.{nat_cmp}
 use Rattle.std.specs.FinMap.{empty, get-empty}
+use Rattle.nr_rpc.specs.Constants.{MACHINE_MAX}
 use Rattle.nr_endpoint.specs.declared.offering.Claims.{Claims}
 use Rattle.nr_wire.specs.Fields.{half_word}
 use Rattle.nr_rpc.specs.declared.cred.Cred.{Cred}
@@ -163,7 +164,7 @@ sent_within e e2 first next xid credit calls calls2 answers answers2 o plan w ri
     subst (λ (cs : List OutstandingCall). RequesterBounds e2 first (next + 1) cs answers2) (sym more) (subst (λ (ys : List AnsweredCall). RequesterBounds e2 first (next + 1) (calls ++ o ∷ []) ys) (sym kept) all)
 
 -- a call that has a plan is short
-cred_small : (cred : Cred) → CanWriteCred cred → cred_bytes cred ≤ 255
+cred_small : (cred : Cred) → CanWriteCred cred → cred_bytes cred ≤ MACHINE_MAX
 cred_small creds.None h = omega arith
 cred_small (creds.Sys stamp machine uid gid gids) h = (let m = h.0 in omega (arith, m))
 cred_small (creds.Other flavor) h = omega arith

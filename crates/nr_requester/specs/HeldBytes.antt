@@ -16,6 +16,7 @@ use Rattle.nr_reduce.specs.declared.call.Call.{Call}
 use Rattle.nr_reduce.specs.declared.call.Outcome.{Outcome}
 use Rattle.nr_reduce.specs.declared.call.Outcome.TheVariants as outcomes
 use Rattle.nr_reduce.specs.declared.outline.Plan.{Plan}
+use Rattle.nr_reduce.specs.Limits.{given_max}
 use Rattle.nr_reduce.specs.Plans.{total}
 use Rattle.nr_requester.specs.declared.outstanding.OutstandingCall.{OutstandingCall}
 use Rattle.nr_requester.specs.declared.answer.AnsweredCall.{AnsweredCall}
@@ -70,9 +71,9 @@ bytes_held_by r = FPDU_MAX + bytes_of r.side + calls_bytes r.outstanding + answe
 abbrev pub held_unit : ℕ
 held_unit = 262144
 
--- the maximum of a region, and of the bytes of a segment's frame
+-- the maximum of a region, which is that of an offer, and of the bytes of a segment's frame
 abbrev pub region_max : ℕ
-region_max = 65536
+region_max = given_max
 
 abbrev pub frame_max : ℕ
 frame_max = 4136

@@ -2,6 +2,7 @@
 
 ghost use Rattle.std.specs.Prelude.{◌≡◌, ℕ, ◌+◌, ◌*◌, ◌^◌, ◌≤◌, length, map, max};
 ghost use Rattle.std.specs.List.{AllByRecursion};
+ghost use Rattle.nr_reduce.specs.Limits.{credits_max};
 ghost use Rattle.nr_requester.specs.HeldBytes.{cred_bytes, call_bytes, stored_bytes, calls_bytes, rooms_bytes, reply_max, outcome_bytes, buffer_len, answer_bytes, answers_bytes, AnswerFits, bytes_held_by, held_unit};
 ghost use Rattle.nr_requester.specs.Views.{stored_view};
 
@@ -40,7 +41,7 @@ fn stored_bytes(stored: &OutstandingCall) -> u128
 }
 
 fn calls_bytes(calls: &[OutstandingCall]) -> u128
-    requires { length calls.now ≤ 64 }
+    requires { length calls.now ≤ credits_max }
     ensures { result ≡ calls_bytes (map stored_view calls.now) }
 {
     let mut sum: u128 = 0;
@@ -51,7 +52,7 @@ fn calls_bytes(calls: &[OutstandingCall]) -> u128
 }
 
 fn rooms_bytes(calls: &[OutstandingCall]) -> u128
-    requires { length calls.now ≤ 64 }
+    requires { length calls.now ≤ credits_max }
     ensures { result ≡ rooms_bytes calls.now }
 {
     let mut sum: u128 = 0;

@@ -10,6 +10,7 @@ ghost use Rattle.nr_link.specs.declared.end.End.TheVariants as ends;
 ghost use Rattle.nr_endpoint.specs.Calls.{after_call, IsStopReason};
 ghost use Rattle.nr_endpoint.specs.Calls.Call.{Stop, OutOfMemory};
 ghost use Rattle.nr_reduce.specs.Client.{credits_of_word};
+ghost use Rattle.nr_reduce.specs.Limits.{credits_max};
 ghost use Rattle.nr_reduce.specs.KeptCalls.{kept_verdict};
 ghost use Rattle.nr_reduce.specs.KeptClient.{released_all, bytes_under};
 ghost use Rattle.nr_reduce.specs.declared.mark.LinkParameters.{LinkParameters};
@@ -35,17 +36,14 @@ use crate::requester::{Requester, marks_if};
 use nr_endpoint::{Endpoint, Event};
 use nr_header::credit_of;
 use nr_link::End;
-use nr_reduce::{Call, Outcome, first_bytes};
+use nr_reduce::{CREDITS_MAX, Call, Outcome, first_bytes};
 use nr_xdr::Octets;
-
-/// No more credits count (RFC 8166 section 3.3), so no more calls are outstanding.
-const CREDITS_MAX: u32 = 64;
 
 /// The credits that a credit word grants.
 fn credits_of(word: u32) -> u32
     ensures granted { result ≡ credits_of_word word }
     ensures some { 1 ≤ result }
-    ensures most { result ≤ 64 }
+    ensures most { result ≤ credits_max }
 {
     if word == 0 {
         return 1;
@@ -176,7 +174,7 @@ fn take_message(
         outstanding.old.items outstanding.new.items answered.old.items answered.new.items grant.old grant.new }
     ensures sound { (next : ℕ) → CallsSound endpoint.old.link.state.memory next outstanding.old.items answered.old.items (vec_capacity answered.old) →
         CallsSound endpoint.new.link.state.memory next outstanding.new.items answered.new.items (vec_capacity answered.new) }
-    ensures granted { (1 ≤ grant.old) × (grant.old ≤ 64) → (1 ≤ grant.new) × (grant.new ≤ 64) }
+    ensures granted { (1 ≤ grant.old) × (grant.old ≤ credits_max) → (1 ≤ grant.new) × (grant.new ≤ credits_max) }
     ensures fewer { length outstanding.new.items ≤ length outstanding.old.items }
     ensures bounded { (next : ℕ) → IsBounded sent first_xid next endpoint.old outstanding.old.items answered.old.items → IsBounded sent first_xid next endpoint.new outstanding.new.items answered.new.items }
     ensures staging { endpoint.new.staging ≡ endpoint.old.staging }
@@ -207,7 +205,7 @@ fn take_event(
     ensures told { (wished next : ℕ) → Told (requester_view endpoint.old.link sent wished first_xid next grant.old outstanding.old.items answered.old.items) (requester_view endpoint.new.link sent wished first_xid next grant.new outstanding.new.items answered.new.items) }
     ensures sound { (next : ℕ) → CallsSound endpoint.old.link.state.memory next outstanding.old.items answered.old.items (vec_capacity answered.old) →
         CallsSound endpoint.new.link.state.memory next outstanding.new.items answered.new.items (vec_capacity answered.new) }
-    ensures granted { (1 ≤ grant.old) × (grant.old ≤ 64) → (1 ≤ grant.new) × (grant.new ≤ 64) }
+    ensures granted { (1 ≤ grant.old) × (grant.old ≤ credits_max) → (1 ≤ grant.new) × (grant.new ≤ credits_max) }
     ensures fewer { length outstanding.new.items ≤ length outstanding.old.items }
     ensures bounded { (next : ℕ) → IsBounded sent first_xid next endpoint.old outstanding.old.items answered.old.items → IsBounded sent first_xid next endpoint.new outstanding.new.items answered.new.items }
     ensures quiet { (endpoint.new.link.state.receive_queue.deliveries ≡ []) × ((endpoint.new.link.state.receive_queue.lent ≡ 0) × (endpoint.new.link.state.reads ≡ [])) }

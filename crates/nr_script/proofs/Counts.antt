@@ -6,6 +6,7 @@ use Rattle.std.proofs.lemmas.List.{get_or-set_same, get_or-set_other, get_or_pas
 use Rattle.std.proofs.lemmas.List.Sums.{sum_by-append, count_by-le-length}
 use Rattle.nr_script.specs.declared.script.Line.{Line}
 use Rattle.nr_script.specs.declared.script.Line.TheVariants as lines
+use Rattle.nr_script.specs.Limits.{clients_max}
 use Rattle.nr_script.specs.private.Counts.{caller, CountsAre, counted}
 use Rattle.nr_script.specs.Script.{is_call_of, calls_of, seconds_in, seconds_after}
 
@@ -50,13 +51,13 @@ caller_is i (lines.Drop client) = nothing i
 caller_is i (lines.Raw client side bytes) = nothing i
 caller_is i lines.Drain = nothing i
 
-counted_at : (c i : ℕ) (counts : List ℕ) (n : ℕ) → length counts ≡ 16 → i < 16 → slice_index counts i ≡ n → slice_index (counted counts c) i ≡ n + cond (eqb c (i + 1)) 1 0
-counted_at c i counts n all lt e = by (leb 1 c) refl (leb c 16) refl (eqb c (i + 1)) refl
+counted_at : (c i : ℕ) (counts : List ℕ) (n : ℕ) → length counts ≡ clients_max → i < clients_max → slice_index counts i ≡ n → slice_index (counted counts c) i ≡ n + cond (eqb c (i + 1)) 1 0
+counted_at c i counts n all lt e = by (leb 1 c) refl (leb c clients_max) refl (eqb c (i + 1)) refl
   where
     still : slice_index counts i ≡ n + 0
     still = e ∙ (let z : n ≡ n + 0 = omega arith in z)
 
-    by : (low : Bool) → leb 1 c ≡ low → (high : Bool) → leb c 16 ≡ high → (same : Bool) → eqb c (i + 1) ≡ same →
+    by : (low : Bool) → leb 1 c ≡ low → (high : Bool) → leb c clients_max ≡ high → (same : Bool) → eqb c (i + 1) ≡ same →
         slice_index (cond (low && high) (slice_set counts (c - 1) (slice_index counts (c - 1) + 1)) counts) i ≡ n + cond same 1 0
     by true l true h true s =
         let is : c ≡ i + 1 = eqb-true c (i + 1) s in
@@ -65,7 +66,7 @@ counted_at c i counts n all lt e = by (leb 1 c) refl (leb c 16) refl (eqb c (i +
     by true l true h false s =
         let apart : i ≢ c - 1 = λ (q : i ≡ c - 1). (let low = leb-true 1 c l in eqb-false c (i + 1) s (omega (arith, q, low))) in
         get_or-set_other counts (c - 1) i (slice_index counts (c - 1) + 1) 0 apart ∙ still
-    by true l false h true s = absurd (let is = eqb-true c (i + 1) s in let high = leb-false c 16 h in omega (arith, is, high, lt))
+    by true l false h true s = absurd (let is = eqb-true c (i + 1) s in let high = leb-false c clients_max h in omega (arith, is, high, lt))
     by true l false h false s = still
     by false l true h true s = absurd (let is = eqb-true c (i + 1) s in let low = leb-false 1 c l in omega (arith, is, low))
     by false l true h false s = still
@@ -73,7 +74,7 @@ counted_at c i counts n all lt e = by (leb 1 c) refl (leb c 16) refl (eqb c (i +
     by false l false h false s = still
 
 counted_length : (c : ℕ) (counts : List ℕ) → length (counted counts c) ≡ length counts
-counted_length c counts = by (leb 1 c && leb c 16)
+counted_length c counts = by (leb 1 c && leb c clients_max)
   where
     by : (b : Bool) → length (cond b (slice_set counts (c - 1) (slice_index counts (c - 1) + 1)) counts) ≡ length counts
     by true = length-set counts (c - 1) (slice_index counts (c - 1) + 1)
@@ -92,12 +93,12 @@ zeros_at zero i = refl
 zeros_at (suc n) zero = refl
 zeros_at (suc n) (suc i) = zeros_at n i
 
-pub none_counted : CountsAre (replicate 16 0) []
-none_counted = record { all = refl; each = λ i lt. zeros_at 16 i ∙ sym (no_calls_lem (i + 1)) }
+pub none_counted : CountsAre (replicate clients_max 0) []
+none_counted = record { all = refl; each = λ i lt. zeros_at clients_max i ∙ sym (no_calls_lem (i + 1)) }
 
 pub room : (counts : List ℕ) (before : List Line) → CountsAre counts before → length before < 2 ^ 63 → (i : ℕ) → slice_index counts i < 2 ^ 63
-room counts before h short i = by (leb 16 i) refl
+room counts before h short i = by (leb clients_max i) refl
   where
-    by : (b : Bool) → leb 16 i ≡ b → slice_index counts i < 2 ^ 63
-    by true e = (let past = leb-true 16 i e in let none : slice_index counts i ≡ 0 = get_or_past counts i 0 (omega (arith, past, h.all)) in omega (arith, none))
-    by false e = (let lt = leb-false 16 i e in let is = h.each i (omega (arith, lt)) in let few = few_calls_lem (i + 1) before in omega (arith, is, few, short))
+    by : (b : Bool) → leb clients_max i ≡ b → slice_index counts i < 2 ^ 63
+    by true e = (let past = leb-true clients_max i e in let none : slice_index counts i ≡ 0 = get_or_past counts i 0 (omega (arith, past, h.all)) in omega (arith, none))
+    by false e = (let lt = leb-false clients_max i e in let is = h.each i (omega (arith, lt)) in let few = few_calls_lem (i + 1) before in omega (arith, is, few, short))

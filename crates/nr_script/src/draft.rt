@@ -5,6 +5,7 @@ ghost use Rattle.nr_script.specs.Limits.{clients_max, number_max};
 ghost use Rattle.nr_script.specs.private.Counts.{caller, CountsAre, counted};
 ghost use Rattle.nr_script.specs.Script.{IsScript, is_call_line, is_client, may_follow, seconds_after, seconds_in};
 
+use crate::lines::CLIENTS_MAX;
 use crate::script::{Line, Opening, Script};
 use crate::words::NUMBER_MAX;
 use nr_xdr::Memory;
@@ -54,11 +55,11 @@ fn seconds_in(line: &Line) -> u32
 }
 
 fn count_call(calls: &mut [u64], client: u32)
-    requires all { length calls.old ≡ 16 }
+    requires all { length calls.old ≡ clients_max }
     requires room { (i : ℕ) → slice_index calls.old i < 2 ^ 63 }
     ensures { calls.new ≡ counted calls.old client }
 {
-    if client >= 1 && client <= 16 {
+    if client >= 1 && client <= CLIENTS_MAX {
         let at = client as usize - 1;
         calls[at] += 1;
     }

@@ -7,6 +7,7 @@ ghost use Rattle.nr_script.specs.Words.{parts};
 
 use crate::program::Program;
 use crate::words::{cut, is, number_in, two_parts};
+use nr_nfs_base::{MOUNT_PROGRAM, NFS_PROGRAM};
 use nr_reduce::{Form, Lengths, Offer, Sequence};
 use nr_xdr::Memory;
 use std::alloc::Global;
@@ -217,12 +218,12 @@ pub(crate) fn program_in(word: &[u8]) -> Option<Program>
 {
     if is(word, b"nfs") {
         Some(Program {
-            prog: 100_003,
+            prog: NFS_PROGRAM,
             vers: 3,
         })
     } else if is(word, b"mnt") {
         Some(Program {
-            prog: 100_005,
+            prog: MOUNT_PROGRAM,
             vers: 3,
         })
     } else {

@@ -8,6 +8,7 @@ ghost use Rattle.nr_script.specs.Generator.{after_args, after_drawn_turn, after_
 
 use crate::lines::DEFAULT_CAPACITY;
 use crate::script::{Line, Opening, Script};
+use nr_nfs_base::NFS_PROGRAM;
 use nr_reduce::Form;
 use nr_xdr::{Memory, Octets, Writer};
 use std::alloc::Global;
@@ -202,7 +203,7 @@ fn push_turn(
     lines.push(Line::Call {
         client,
         form: Form::Auto,
-        prog: 100_003,
+        prog: NFS_PROGRAM,
         vers: 3,
         proc: proc_drawn(kind),
         args,

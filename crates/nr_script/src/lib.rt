@@ -11,7 +11,7 @@ mod script;
 mod words;
 
 pub use generator::{CALLS_MAX, make_script};
-pub use lines::{CAPACITY_MAX, CLIENTS_MAX, CREDITS_MAX, DEFAULT_CAPACITY};
+pub use lines::{CAPACITY_MAX, CLIENTS_MAX, DEFAULT_CAPACITY};
 pub use reading::read_script;
 pub use script::{Line, Opening, Script, ScriptFault};
 pub use words::{NUMBER_MAX, number_within};

@@ -10,7 +10,7 @@ use crate::forms::{form_in, program_in};
 use crate::program::Program;
 use crate::script::{Line, Opening};
 use crate::words::{arguments_in, bytes_in, is, number_in, number_within};
-use nr_reduce::Form;
+use nr_reduce::{CREDITS_MAX, Form};
 use nr_rpc::{Cred, Gids};
 use nr_wire::Side;
 use nr_xdr::{Memory, Octets};
@@ -24,9 +24,6 @@ pub const CAPACITY_MAX: u64 = 9_223_372_036_854_775_807;
 
 /// The maximum number of clients of a script.
 pub const CLIENTS_MAX: u32 = 16;
-
-/// The maximum number of credits of a script.
-pub const CREDITS_MAX: u32 = 64;
 
 fn capacity_in(words: &[&[u8]]) -> Option<u64>
     ensures { result ≡ capacity_in (texts words.now) }

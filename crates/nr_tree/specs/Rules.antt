@@ -141,13 +141,13 @@ abbrev pub mode_count : ℕ
 mode_count = 4096
 
 -- a client's time has fewer than 10^9 nanoseconds
-abbrev pub nanoseconds_of_a_second : ℕ
-nanoseconds_of_a_second = 1000000000
+abbrev pub nanos_per_sec : ℕ
+nanos_per_sec = 1000000000
 
 abbrev pub is_invalid_time : SetTime → Bool
 is_invalid_time Leave = false
 is_invalid_time ServerTime = false
-is_invalid_time (ClientTime time) = nat_le nanoseconds_of_a_second time.nanoseconds
+is_invalid_time (ClientTime time) = nat_le nanos_per_sec time.nanoseconds
 
 abbrev pub time_rule : SetAttributes → Option Status
 time_rule a = (is_invalid_time a.atime || is_invalid_time a.mtime) ⇒ Inval
