@@ -1,9 +1,9 @@
 //! A benchmark, run by hand: calls of the plain server alone. The arguments are what is called, a size, and how often:
 //! `readdir` and `readdirplus` list the last 100 files of a directory of that size. `churn` removes its oldest file and
 //! makes a new one, `rename` gives its oldest file a new name, `create` makes a new one; `directories` removes the
-//! oldest directory of a root of that many entries, half of them directories, and makes a new one. `read` and `write` move 32 KiB at offsets of a file of that many bytes, and
-//! `copy` copies 32 KiB at the same offsets from one buffer to another. `sparse` writes a byte at 1 MiB into each of
-//! that many files. It prints how many bytes the replies have.
+//! oldest directory of a root of that many entries, half of them directories, and makes a new one. `read` and `write`
+//! move 32 KiB at offsets of a file of that many bytes, and `copy` copies 32 KiB at the same offsets from one buffer to
+//! another. `sparse` writes a byte at 1 MiB into each of that many files. It prints how many bytes the replies have.
 #![tactic(auto)]
 
 mod calls;
