@@ -1,9 +1,9 @@
 #!/bin/sh
-# Calls of the plain server alone, in microseconds: listings of the last 100 of a directory's files, the removal of its oldest file and a new
-# one, READs and WRITEs of 32 KiB at places of a file. Run by hand, at the top of the repository, once
-# `(cd crates/tree_bench && rt run -- churn 200 100)` has built the program; or with the program's path as $1.
+# Calls of the plain server alone, in microseconds: listings of the last 100 of a directory's files; changes of a directory of few and of
+# many entries; READs and WRITEs of 32 KiB at offsets of a file, and copies at the same offsets; and the memory of files. Run by hand, at
+# the top of the repository, after `(cd crates/tree_bench && rt run -- churn 200 100)` has built the program; or with the program's path as $1.
 exec python3 - "${1:-crates/tree_bench/out/tree_bench}" <<'END'
-import resource, subprocess, sys
+import os, resource, subprocess, sys
 
 def seconds(what, size, rounds):
     """The processor time of a run."""
@@ -11,6 +11,13 @@ def seconds(what, size, rounds):
     subprocess.run([sys.argv[1], what, str(size), str(rounds)], stdout=subprocess.DEVNULL, check=True)
     after = resource.getrusage(resource.RUSAGE_CHILDREN)
     return after.ru_utime + after.ru_stime - before.ru_utime - before.ru_stime
+
+def memory(what, size):
+    """The most bytes of memory that a run has."""
+    child = subprocess.Popen([sys.argv[1], what, str(size), '0'], stdout=subprocess.DEVNULL)
+    _, status, usage = os.wait4(child.pid, 0)
+    assert status == 0
+    return usage.ru_maxrss * 1024
 
 def each(what, size, rounds, times=5):
     """The microseconds of one round, beyond what comes before the first: the least of several runs, which take turns."""
@@ -20,10 +27,17 @@ def each(what, size, rounds, times=5):
         some = min(some, seconds(what, size, rounds))
     return (some - none) / rounds * 1e6
 
-for what, rounds, of_few in (('readdir', 20_000, 20_000), ('readdirplus', 5_000, 5_000), ('churn', 100_000, 100_000)):
-    few, many = each(what, 100, of_few), each(what, 100_000, rounds)
+print('load', os.getloadavg()[0])
+for what, rounds in (('readdir', 20_000), ('readdirplus', 10_000), ('churn', 100_000), ('rename', 100_000), ('create', 100_000), ('directories', 50_000)):
+    few, many = each(what, 100, rounds), each(what, 100_000, rounds)
     print(f'{what} at 100: {few:.2f} microseconds, at 100,000: {many:.2f}, {many / few:.2f} times')
-for what in ('read', 'write'):
-    few, many = each(what, 65_536, 10_000), each(what, 16_777_216, 10_000)
-    print(f'{what} of 32 KiB in 64 KiB: {few:.2f} microseconds, in 16 MiB: {many:.2f}')
+for size in (65_536, 16_777_216):
+    copy = each('copy', size, 100_000)
+    for what in ('read', 'write'):
+        took = each(what, size, 20_000)
+        print(f'{what} of 32 KiB in {size:,} bytes: {took:.2f} microseconds, a copy {copy:.2f}, {took / copy:.2f} copies')
+none = memory('churn', 0)
+print(f'memory of an empty file: {(memory("churn", 200_000) - memory("churn", 100_000)) / 100_000:.0f} bytes')
+print(f'memory of 10,000 files with a byte at 1 MiB: {(memory("sparse", 10_000) - none) / 1e6:.1f} MB')
+print('load', os.getloadavg()[0])
 END

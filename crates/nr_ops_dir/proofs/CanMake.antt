@@ -1,5 +1,5 @@
 -- What a MKDIR, SYMLINK or MKNOD that no rule refuses is known to be.
-use Rattle.std.proofs.Common.{◌≡◌, ℕ, ◌≤◌, true, false, eqb, ltb, List, length, Option, None, Some, unwrap_or, refl, ap, sym, subst, arith}
+use Rattle.std.proofs.Common.{◌≡◌, ℕ, ◌≤◌, true, false, eqb, ltb, List, length, Option, None, Some, unwrap_or, refl, ap, sym, arith}
 use Rattle.std.proofs.lemmas.Bool.{both_ways, eqb-false, ltb-false}
 use Rattle.nr_nfs_base.specs.declared.caller.Caller.{Caller}
 use Rattle.nr_nfs_base.specs.declared.set_attributes.SetAttributes.{SetAttributes}
@@ -11,7 +11,6 @@ use Rattle.nr_nfs_args.specs.declared.special.MknodData.{MknodData}
 use Rattle.nr_tree.specs.declared.node.Content.{Content}
 use Rattle.nr_tree.specs.declared.node.Content.TheVariants.{Block, Character, Socket, Fifo}
 use Rattle.nr_nfs_base.specs.declared.status.Status.TheVariants.{Exist, Inval, Nametoolong}
-use Rattle.nr_tree.specs.declared.node.Node.{Node}
 use Rattle.nr_tree.specs.declared.rules.Space.{Space}
 use Rattle.nr_tree.specs.Tree.{Tree, is_directory}
 use Rattle.nr_tree.specs.Sane.{skeleton}
@@ -36,9 +35,6 @@ place_passed t c h name a none =
       directory = directory_passed t c h entry.0 entry.1.1.0;
       free = free_name t (number_of_handle h) name entry.1.0 (clear (is_taken t (number_of_handle h) name) Exist all.1.0);
     }
-
-pub can_add : (t : Tree) (d k : ℕ) (name : List ℕ) (node made : Node) → d ≡ k → node ≡ made → CanAddNode t k name made → CanAddNode t d name node
-can_add t d k name node made e f can = subst (λ (x : ℕ). CanAddNode t x name node) (sym e) (subst (λ (x : Node). CanAddNode t k name x) (sym f) can)
 
 pub can_make_directory : (t : Tree) (c : Caller) (space : Space) (now : Time) (args : MkdirArgs) → first (mkdir_rules t c space args) ≡ None
     → CanAddNode t (number_of_handle args.dir) args.name (new_directory c now args)

@@ -2,6 +2,7 @@ pub mod Passed
 pub mod CanRename
 pub mod Removed
 pub mod CanMake
+pub mod Made
 pub mod CanCreate
 pub mod NamesAfter
 pub mod Laws
@@ -11,3 +12,4 @@ pub mod Counting
 pub mod Rooms
 pub mod ListingLimits
 pub mod Live
+pub mod Written

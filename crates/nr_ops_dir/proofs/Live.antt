@@ -1,5 +1,5 @@
 -- Entries that lead to live nodes, and those that are left of a directory's.
-use Rattle.std.proofs.Common.{◌≡◌, ℕ, zero, suc, ◌+◌, ◌<◌, true, false, List, [], ◌∷◌, length, drop, Option, None, Some, refl, ap, sym, ◌∙◌, subst, arith}
+use Rattle.std.proofs.Common.{◌≡◌, ℕ, zero, suc, ◌+◌, ◌<◌, ◌≤◌, true, false, List, [], ◌∷◌, length, drop, Option, None, Some, refl, ap, sym, ◌∙◌, subst, arith}
 use Rattle.std.proofs.lemmas.List.{length-drop}
 use Rattle.std.specs.Prelude.{slice_get}
 use Rattle.std.specs.Option.{option_map_or}
@@ -56,12 +56,19 @@ from_begins t list left place live is =
     let same : place ≡ place + 0 = omega arith in
     subst (λ (n : ℕ). AreFrom t list n left) same (record { here = sym is; live = subst (AreLive t) (sym is) (each_drop _ list place live) })
 
-pub some_left : (t : Tree) (list left : List Entry) (place : ℕ) → AreFrom t list place left → place < length list → 0 < length left
-some_left t list left place h lt = omega (arith, lt, length-drop place list, ap (λ (l : List Entry). length l) h.here)
+pub none_left : (t : Tree) (list left : List Entry) (place : ℕ) → AreFrom t list place left → left ≡ [] → length list ≤ place
+none_left t list left place h none = omega (arith, length-drop place list, ap (λ (l : List Entry). length l) (h.here ∙ none))
+
+pub some_size : (d : Detail) (name : List ℕ) → 0 < size_of_name_in d name
+some_size Names name = omega arith
+some_size Nodes name = omega arith
 
 module _ (t : Tree) (list left new : List Entry) (place : ℕ) (e : Entry) (h : AreFrom t list place left) (is : left ≡ e ∷ new) where
   pub entry_here : slice_get list place ≡ Some e
   entry_here = (next_of list place e new (h.here ∙ is)).0
+
+  pub is_within : place < length list
+  is_within = omega (arith, length-drop place list, ap (λ (l : List Entry). length l) (h.here ∙ is))
 
   all_live : AreLive t (e ∷ new)
   all_live = subst (AreLive t) is h.live

@@ -1,11 +1,16 @@
 -- The rules of listings: what is asked of room, by the sizes that the code counts.
-use Rattle.std.proofs.Common.{◌≡◌, ℕ, ◌+◌, ◌-◌, ◌<◌, ◌≤◌, Bool, true, false, not, leb, eqb, ◌&&◌, List, [], ◌∷◌, length, drop, Option, None, Some, Result, Ok, Err, MatchResult, refl, ap, sym, ◌∙◌, subst, arith, inl, inr, ◌⊎◌}
-use Rattle.std.specs.Prelude.{min}
+use Rattle.std.proofs.Common.{◌≡◌, ℕ, ◌+◌, ◌-◌, ◌<◌, ◌≤◌, Bool, true, false, not, leb, eqb, ◌&&◌, List, [], ◌∷◌, length, take, drop, Option, None, Some, Result, Ok, Err, MatchResult, refl, ap, sym, ◌∙◌, subst, arith, inl, inr, ◌⊎◌}
+use Rattle.std.specs.Prelude.{min, SomeIff}
 use Rattle.std.specs.Option.{option_map_or}
 use Rattle.std.proofs.lemmas.Bool.{le-leb, lt-leb, eq-eqb, ne_eqb, cases_eq}
 use Rattle.std.proofs.lemmas.List.{length-take, length-drop}
 use Rattle.std.proofs.lemmas.Bool.Decides.{leb_tells}
+use Rattle.nr_nfs_base.specs.declared.attributes.Attributes.{Attributes}
 use Rattle.nr_nfs_base.specs.declared.caller.Caller.{Caller}
+use Rattle.nr_nfs_base.specs.declared.verifier.Verifier.{Verifier}
+use Rattle.nr_nfs_base.specs.declared.status_union.StatusUnion.{StatusUnion}
+use Rattle.nr_nfs_base.specs.declared.status_union.StatusUnion.TheVariants.{Done, Failed}
+use Rattle.nr_nfs_res.specs.declared.readdir.Listing.{Listing}
 use Rattle.nr_nfs_base.specs.declared.status.Status.{Status}
 use Rattle.nr_nfs_base.specs.declared.status.Status.TheVariants.{Toosmall}
 use Rattle.nr_nfs_args.specs.declared.readdir.ReaddirArgs.{ReaddirArgs}
@@ -14,14 +19,15 @@ use Rattle.nr_tree.specs.Entries.{Entry, Entries, NamesAreValid}
 use Rattle.nr_tree.specs.Listing.{entries_after}
 use Rattle.nr_tree.specs.Tree.{Tree, entries_in, entries_of}
 use Rattle.nr_tree.specs.Sane.{IsSane, IsValidContent}
-use Rattle.nr_tree.specs.Rules.{first, or_else, on, ◌⇒◌, handle_rule, node_of_handle, number_of_handle}
+use Rattle.nr_tree.specs.Rules.{first, or_else, on, ◌⇒◌, answer, handle_rule, node_of_handle, number_of_handle}
+use Rattle.nr_tree.specs.Replies.{attributes_at}
 use Rattle.nr_tree.specs.declared.node.Node.{Node}
 use Rattle.nr_tree.specs.declared.node.Content.{Content}
 use Rattle.nr_tree.specs.declared.node.Content.TheVariants.{Directory}
 use Rattle.nr_tree.proofs.PassedRules.{got}
-use Rattle.nr_ops_dir.specs.Readdir.{longest, goes_on, total, name_size, listing_rules, room_rules, readdir_fits, readdir_left, readdir_taken, readdir_in, readdir_rules, readdirplus_fits, readdirplus_left, readdirplus_taken, readdirplus_in, readdirplus_rules}
+use Rattle.nr_ops_dir.specs.Readdir.{longest, goes_on, total, name_size, entries_behind, listing_rules, room_rules, listed, readdir_fits, readdir_reply, listed_plus, readdirplus_fits, readdirplus_reply}
 use Rattle.nr_nfs_base.specs.Limits.{listing_max}
-use Rattle.nr_ops_dir.specs.private.Sizes.{entry_size, size_in, empty_size, within, IsRange}
+use Rattle.nr_ops_dir.specs.private.Sizes.{entry_size, size_in, empty_size, within, are_within, IsRange, rules_by, listing_of, reply_by}
 use Rattle.nr_ops_dir.specs.declared.listings.Limits.{Limits}
 use Rattle.nr_ops_dir.specs.declared.listings.Range.{Range}
 use Rattle.nr_ops_dir.specs.declared.listings.Detail.TheVariants.{Names, Nodes}
@@ -85,21 +91,9 @@ module _ (t : Tree) (args : ReaddirArgs) (v : Node) (named : node_of_handle t ar
       size_is es ∙ part (min args.count listing_max) (total entry_size es) le
       ∙ and_true (min args.count listing_max - empty_size) (total entry_size es) (total name_size es) 4294967295 (names_within t es) (omega (arith, min_within args.count)) (leb_tells (total entry_size es) (min args.count listing_max - empty_size))
 
-  pub readdir_left_lem : (d : Entries) → v.content ≡ Directory d → readdir_left t args ≡ entries_after args.cookie d.list
-  readdir_left_lem d is = ap (λ (o : Option Node). option_map_or (λ dir. entries_after args.cookie (entries_in dir)) o []) named ∙ ap (λ (k : Content). entries_after args.cookie (entries_of k)) is
-
-  pub readdir_taken_lem : empty_size ≤ min args.count listing_max → readdir_taken t args ≡ longest (within t limits) [] (readdir_left t args)
-  readdir_taken_lem le = longest_same (readdir_fits t args) (within t limits) (same_test le) [] (readdir_left t args)
-
-  module _ (c : Caller) (handled : handle_rule t args.dir ≡ None) (passed : first (listing_rules c args.cookie args.verifier v) ≡ None) where
-    room : first (readdir_rules t c args) ≡ first (room_rules (readdir_fits t args) (readdir_left t args))
-    room = rules_of_room t args.dir v (readdir_in t c args) (first (listing_rules c args.cookie args.verifier v)) (room_rules (readdir_fits t args) (readdir_left t args)) handled named refl passed
-
-    pub readdir_wanting : min args.count listing_max < empty_size → first (readdir_rules t c args) ≡ Some Toosmall
-    readdir_wanting lt = room ∙ room_wanting (readdir_fits t args) (readdir_left t args) (size_is [] ∙ lt-leb (empty_size + 0) (min args.count listing_max) (omega (arith, lt)))
-
-    pub readdir_room : empty_size ≤ min args.count listing_max → (b : Bool) → goes_on (longest (within t limits) [] (readdir_left t args)) (readdir_left t args) ≡ b → first (readdir_rules t c args) ≡ (not b ⇒ Toosmall)
-    readdir_room le b goes = room ∙ room_by (readdir_fits t args) (readdir_left t args) (within t limits) b (same_test le) (size_is [] ∙ le-leb (empty_size + 0) (min args.count listing_max) (omega (arith, le))) goes
+  pub readdir_within : (o : Option Limits) → SomeIff o (empty_size ≤ min args.count listing_max) limits → (es : List Entry) → are_within t o es ≡ readdir_fits t args es
+  readdir_within None above es = sym (size_is es ∙ lt-leb (empty_size + total entry_size es) (min args.count listing_max) (omega (arith, above)))
+  readdir_within (Some l) is es = ap (λ (k : Limits). within t k es) is.1 ∙ sym (same_test is.0 es)
 
 -- ===== READDIRPLUS
 
@@ -113,25 +107,9 @@ module _ (t : Tree) (args : ReaddirplusArgs) (v : Node) (named : node_of_handle 
   same_test_plus : empty_size ≤ min args.maxcount listing_max → (es : List Entry) → readdirplus_fits t args es ≡ within t limits_plus es
   same_test_plus le es = size_plus es ∙ ap (λ (b : Bool). b && leb (total name_size es) args.dircount) (part (min args.maxcount listing_max) (total (size_in t Nodes) es) le)
 
-  pub readdirplus_left_lem : (d : Entries) → v.content ≡ Directory d → readdirplus_left t args ≡ entries_after args.cookie d.list
-  readdirplus_left_lem d is = ap (λ (o : Option Node). option_map_or (λ dir. entries_after args.cookie (entries_in dir)) o []) named ∙ ap (λ (k : Content). entries_after args.cookie (entries_of k)) is
-
-  pub readdirplus_taken_lem : empty_size ≤ min args.maxcount listing_max → readdirplus_taken t args ≡ longest (within t limits_plus) [] (readdirplus_left t args)
-  readdirplus_taken_lem le = longest_same (readdirplus_fits t args) (within t limits_plus) (same_test_plus le) [] (readdirplus_left t args)
-
-  module _ (c : Caller) (handled : handle_rule t args.dir ≡ None) (passed : first (listing_rules c args.cookie args.verifier v) ≡ None) where
-    room_plus : first (readdirplus_rules t c args) ≡ first (room_rules (readdirplus_fits t args) (readdirplus_left t args))
-    room_plus = rules_of_room t args.dir v (readdirplus_in t c args) (first (listing_rules c args.cookie args.verifier v)) (room_rules (readdirplus_fits t args) (readdirplus_left t args)) handled named refl passed
-
-    pub readdirplus_wanting : min args.maxcount listing_max < empty_size → first (readdirplus_rules t c args) ≡ Some Toosmall
-    readdirplus_wanting lt =
-        room_plus ∙ room_wanting (readdirplus_fits t args) (readdirplus_left t args)
-        (size_plus [] ∙ ap (λ (b : Bool). b && leb 0 args.dircount) (lt-leb (empty_size + 0) (min args.maxcount listing_max) (omega (arith, lt))))
-
-    pub readdirplus_room : empty_size ≤ min args.maxcount listing_max → (b : Bool) → goes_on (longest (within t limits_plus) [] (readdirplus_left t args)) (readdirplus_left t args) ≡ b → first (readdirplus_rules t c args) ≡ (not b ⇒ Toosmall)
-    readdirplus_room le b goes =
-        room_plus ∙ room_by (readdirplus_fits t args) (readdirplus_left t args) (within t limits_plus) b (same_test_plus le)
-        (size_plus [] ∙ (λ i. le-leb (empty_size + 0) (min args.maxcount listing_max) (omega (arith, le)) i && le-leb 0 args.dircount (omega arith) i)) goes
+  pub readdirplus_within : (o : Option Limits) → SomeIff o (empty_size ≤ min args.maxcount listing_max) limits_plus → (es : List Entry) → are_within t o es ≡ readdirplus_fits t args es
+  readdirplus_within None above es = sym (size_plus es ∙ ap (λ (b : Bool). b && leb (total name_size es) args.dircount) (lt-leb (empty_size + total (size_in t Nodes) es) (min args.maxcount listing_max) (omega (arith, above))))
+  readdirplus_within (Some l) is es = ap (λ (k : Limits). within t k es) is.1 ∙ sym (same_test_plus is.0 es)
 
 -- ===== what is listed
 
@@ -146,81 +124,54 @@ pub matched : {A E : Type 0} (P R : A → Type 0) (Q S : E → Type 0) (r : Resu
 matched P R Q S (Ok x) ok err m = ok x m
 matched P R Q S (Err e) ok err m = err e m
 
--- what the code found is what READDIR lists or refuses
-module _ (t : Tree) (c : Caller) (args : ReaddirArgs) (v : Node) (d : Entries) (sane : IsSane t) (handled : handle_rule t args.dir ≡ None) (named : node_of_handle t args.dir ≡ Some v)
-    (passed : first (listing_rules c args.cookie args.verifier v) ≡ None) (is : v.content ≡ Directory d) (le : empty_size ≤ min args.count listing_max) where
-  abbrev limits_of_readdir : Limits
-  limits_of_readdir = record { detail = Names; entries = min args.count listing_max - empty_size; names = 4294967295 }
+-- what the code found: the entries to list, or the first refusal
+abbrev pub Answered : Tree → Caller → List ℕ → ℕ → Verifier → (List Entry → Bool) → Result Range Status → Type 0
+Answered t c h cookie verifier fits r =
+    MatchResult r
+    (λ x. (first (rules_by t c h cookie verifier fits) ≡ None) × NamesAreValid x.dir.now.list × IsRange x.dir.now.list x.start x.end (longest fits [] (entries_behind t h cookie)) (entries_behind t h cookie))
+    (λ s. first (rules_by t c h cookie verifier fits) ≡ Some s)
 
-  left_of_readdir : readdir_left t args ≡ entries_after args.cookie d.list
-  left_of_readdir = readdir_left_lem t args v named d is
+module _ (t : Tree) (c : Caller) (h : List ℕ) (cookie : ℕ) (verifier : Verifier) (v : Node) (handled : handle_rule t h ≡ None) (named : node_of_handle t h ≡ Some v)
+    (passed : first (listing_rules c cookie verifier v) ≡ None) where
+  rules_are : (fits : List Entry → Bool) → first (rules_by t c h cookie verifier fits) ≡ first (room_rules fits (entries_behind t h cookie))
+  rules_are fits =
+      rules_of_room t h v (λ dir. first (listing_rules c cookie verifier dir) ∷ first (room_rules fits (entries_behind t h cookie)) ∷ [])
+      (first (listing_rules c cookie verifier v)) (room_rules fits (entries_behind t h cookie)) handled named refl passed
 
-  taken_of_readdir : readdir_taken t args ≡ longest (within t limits_of_readdir) [] (entries_after args.cookie d.list)
-  taken_of_readdir = readdir_taken_lem t args v named le ∙ ap (longest (within t limits_of_readdir) []) left_of_readdir
+  pub refused_without_limits : first (rules_by t c h cookie verifier (are_within t None)) ≡ Some Toosmall
+  refused_without_limits = rules_are (are_within t None) ∙ room_wanting (are_within t None) (entries_behind t h cookie) refl
 
-  answer_of_readdir : (b : Bool) → goes_on (longest (within t limits_of_readdir) [] (entries_after args.cookie d.list)) (entries_after args.cookie d.list) ≡ b → first (readdir_rules t c args) ≡ (not b ⇒ Toosmall)
-  answer_of_readdir b goes = readdir_room t args v named c handled passed le b (ap (λ (l : List Entry). goes_on (longest (within t limits_of_readdir) [] l) l) left_of_readdir ∙ goes)
+  module _ (d : Entries) (sane : IsSane t) (is : v.content ≡ Directory d) (l : Limits) where
+    left_is : entries_behind t h cookie ≡ entries_after cookie d.list
+    left_is = ap (λ (o : Option Node). option_map_or (λ dir. entries_after cookie (entries_in dir)) o []) named ∙ ap (λ (k : Content). entries_after cookie (entries_of k)) is
 
-  pub readdir_lists : (x : Range) → (x.dir.now ≡ d) × IsRange d.list x.start x.end (longest (within t limits_of_readdir) [] (entries_after args.cookie d.list)) (entries_after args.cookie d.list)
-      → (first (readdir_rules t c args) ≡ None) × NamesAreValid x.dir.now.list × IsRange x.dir.now.list x.start x.end (readdir_taken t args) (readdir_left t args)
-  readdir_lists x k =
-      let same : x.dir.now.list ≡ d.list = ap (λ (e : Entries). e.list) k.0 in (
-        answer_of_readdir true k.1.goes,
-        subst NamesAreValid (sym same) (names_valid t args.dir v d sane named is),
-        range_is d.list x.dir.now.list (longest (within t limits_of_readdir) [] (entries_after args.cookie d.list)) (readdir_taken t args) (entries_after args.cookie d.list) (readdir_left t args) x.start x.end (sym same) (sym taken_of_readdir) (sym left_of_readdir) k.1,
-      )
+    taken_is : longest (within t l) [] (entries_behind t h cookie) ≡ longest (within t l) [] (entries_after cookie d.list)
+    taken_is = ap (longest (within t l) []) left_is
 
-  pub readdir_refuses : (s : Status) → (s ≡ Toosmall) × (goes_on (longest (within t limits_of_readdir) [] (entries_after args.cookie d.list)) (entries_after args.cookie d.list) ≡ false) → first (readdir_rules t c args) ≡ Some s
-  readdir_refuses s k = answer_of_readdir false k.1 ∙ ap (λ (x : Status). Some x) (sym k.0)
+    answer_is : (b : Bool) → goes_on (longest (within t l) [] (entries_after cookie d.list)) (entries_after cookie d.list) ≡ b → first (rules_by t c h cookie verifier (within t l)) ≡ (not b ⇒ Toosmall)
+    answer_is b goes =
+        rules_are (within t l)
+        ∙ room_by (within t l) (entries_behind t h cookie) (within t l) b (λ es. refl) (λ i. le-leb 0 l.entries (omega arith) i && le-leb 0 l.names (omega arith) i)
+        (ap (λ (k : List Entry). goes_on (longest (within t l) [] k) k) left_is ∙ goes)
 
-  pub readdir_answers : (l : Limits) → l ≡ limits_of_readdir → (r : Result Range Status)
-      → MatchResult r
-      (λ x. (x.dir.now ≡ d) × IsRange d.list x.start x.end (longest (within t l) [] (entries_after args.cookie d.list)) (entries_after args.cookie d.list))
-      (λ s. (s ≡ Toosmall) × (goes_on (longest (within t l) [] (entries_after args.cookie d.list)) (entries_after args.cookie d.list) ≡ false))
-      → MatchResult r
-      (λ x. (first (readdir_rules t c args) ≡ None) × NamesAreValid x.dir.now.list × IsRange x.dir.now.list x.start x.end (readdir_taken t args) (readdir_left t args))
-      (λ s. first (readdir_rules t c args) ≡ Some s)
-  readdir_answers l same r m = matched _ _ _ _ r readdir_lists readdir_refuses (subst (λ (k : Limits). MatchResult r
-      (λ x. (x.dir.now ≡ d) × IsRange d.list x.start x.end (longest (within t k) [] (entries_after args.cookie d.list)) (entries_after args.cookie d.list))
-      (λ s. (s ≡ Toosmall) × (goes_on (longest (within t k) [] (entries_after args.cookie d.list)) (entries_after args.cookie d.list) ≡ false))) same m)
+    lists : (x : Range) → (x.dir.now ≡ d) × IsRange d.list x.start x.end (longest (within t l) [] (entries_after cookie d.list)) (entries_after cookie d.list)
+        → (first (rules_by t c h cookie verifier (within t l)) ≡ None) × NamesAreValid x.dir.now.list × IsRange x.dir.now.list x.start x.end (longest (within t l) [] (entries_behind t h cookie)) (entries_behind t h cookie)
+    lists x k =
+        let same : x.dir.now.list ≡ d.list = ap (λ (e : Entries). e.list) k.0 in (
+          answer_is true k.1.goes,
+          subst NamesAreValid (sym same) (names_valid t h v d sane named is),
+          range_is d.list x.dir.now.list (longest (within t l) [] (entries_after cookie d.list)) (longest (within t l) [] (entries_behind t h cookie)) (entries_after cookie d.list) (entries_behind t h cookie) x.start x.end (sym same) (sym taken_is) (sym left_is) k.1,
+        )
 
--- what the code found is what READDIRPLUS lists or refuses
-module _ (t : Tree) (c : Caller) (args : ReaddirplusArgs) (v : Node) (d : Entries) (sane : IsSane t) (handled : handle_rule t args.dir ≡ None) (named : node_of_handle t args.dir ≡ Some v)
-    (passed : first (listing_rules c args.cookie args.verifier v) ≡ None) (is : v.content ≡ Directory d) (le : empty_size ≤ min args.maxcount listing_max) where
-  abbrev limits_of_readdirplus : Limits
-  limits_of_readdirplus = record { detail = Nodes; entries = min args.maxcount listing_max - empty_size; names = args.dircount }
+    refuses : (s : Status) → (s ≡ Toosmall) × (goes_on (longest (within t l) [] (entries_after cookie d.list)) (entries_after cookie d.list) ≡ false) → first (rules_by t c h cookie verifier (within t l)) ≡ Some s
+    refuses s k = answer_is false k.1 ∙ ap (λ (x : Status). Some x) (sym k.0)
 
-  left_of_readdirplus : readdirplus_left t args ≡ entries_after args.cookie d.list
-  left_of_readdirplus = readdirplus_left_lem t args v named d is
-
-  taken_of_readdirplus : readdirplus_taken t args ≡ longest (within t limits_of_readdirplus) [] (entries_after args.cookie d.list)
-  taken_of_readdirplus = readdirplus_taken_lem t args v named le ∙ ap (longest (within t limits_of_readdirplus) []) left_of_readdirplus
-
-  answer_of_readdirplus : (b : Bool) → goes_on (longest (within t limits_of_readdirplus) [] (entries_after args.cookie d.list)) (entries_after args.cookie d.list) ≡ b → first (readdirplus_rules t c args) ≡ (not b ⇒ Toosmall)
-  answer_of_readdirplus b goes = readdirplus_room t args v named c handled passed le b (ap (λ (l : List Entry). goes_on (longest (within t limits_of_readdirplus) [] l) l) left_of_readdirplus ∙ goes)
-
-  pub readdirplus_lists : (x : Range) → (x.dir.now ≡ d) × IsRange d.list x.start x.end (longest (within t limits_of_readdirplus) [] (entries_after args.cookie d.list)) (entries_after args.cookie d.list)
-      → (first (readdirplus_rules t c args) ≡ None) × NamesAreValid x.dir.now.list × IsRange x.dir.now.list x.start x.end (readdirplus_taken t args) (readdirplus_left t args)
-  readdirplus_lists x k =
-      let same : x.dir.now.list ≡ d.list = ap (λ (e : Entries). e.list) k.0 in (
-        answer_of_readdirplus true k.1.goes,
-        subst NamesAreValid (sym same) (names_valid t args.dir v d sane named is),
-        range_is d.list x.dir.now.list (longest (within t limits_of_readdirplus) [] (entries_after args.cookie d.list)) (readdirplus_taken t args) (entries_after args.cookie d.list) (readdirplus_left t args) x.start x.end (sym same) (sym taken_of_readdirplus) (sym left_of_readdirplus) k.1,
-      )
-
-  pub readdirplus_refuses : (s : Status) → (s ≡ Toosmall) × (goes_on (longest (within t limits_of_readdirplus) [] (entries_after args.cookie d.list)) (entries_after args.cookie d.list) ≡ false) → first (readdirplus_rules t c args) ≡ Some s
-  readdirplus_refuses s k = answer_of_readdirplus false k.1 ∙ ap (λ (x : Status). Some x) (sym k.0)
-
-  pub readdirplus_answers : (l : Limits) → l ≡ limits_of_readdirplus → (r : Result Range Status)
-      → MatchResult r
-      (λ x. (x.dir.now ≡ d) × IsRange d.list x.start x.end (longest (within t l) [] (entries_after args.cookie d.list)) (entries_after args.cookie d.list))
-      (λ s. (s ≡ Toosmall) × (goes_on (longest (within t l) [] (entries_after args.cookie d.list)) (entries_after args.cookie d.list) ≡ false))
-      → MatchResult r
-      (λ x. (first (readdirplus_rules t c args) ≡ None) × NamesAreValid x.dir.now.list × IsRange x.dir.now.list x.start x.end (readdirplus_taken t args) (readdirplus_left t args))
-      (λ s. first (readdirplus_rules t c args) ≡ Some s)
-  readdirplus_answers l same r m = matched _ _ _ _ r readdirplus_lists readdirplus_refuses (subst (λ (k : Limits). MatchResult r
-      (λ x. (x.dir.now ≡ d) × IsRange d.list x.start x.end (longest (within t k) [] (entries_after args.cookie d.list)) (entries_after args.cookie d.list))
-      (λ s. (s ≡ Toosmall) × (goes_on (longest (within t k) [] (entries_after args.cookie d.list)) (entries_after args.cookie d.list) ≡ false))) same m)
+    pub answers_within : (r : Result Range Status)
+        → MatchResult r
+        (λ x. (x.dir.now ≡ d) × IsRange d.list x.start x.end (longest (within t l) [] (entries_after cookie d.list)) (entries_after cookie d.list))
+        (λ s. (s ≡ Toosmall) × (goes_on (longest (within t l) [] (entries_after cookie d.list)) (entries_after cookie d.list) ≡ false))
+        → Answered t c h cookie verifier (within t l) r
+    answers_within r m = matched _ _ _ _ r lists refuses m
 
 -- ===== the end of a listing
 
@@ -233,3 +184,52 @@ range_ends list start end taken left is =
     let some : length taken ≡ end - start = ap length (sym is.taken_are) ∙ length-take (end - start) (drop start list) ∙ (let rest : length (drop start list) ≡ length list - start = length-drop start list in omega (arith, rest, is.rises, is.bounded)) in
     let all : length left ≡ length list - start = ap length (sym is.left_are) ∙ length-drop start list in
     eqb_by end (length list) (length taken) (length left) (λ e. omega (arith, some, all, e)) (λ e. omega (arith, some, all, e, is.rises, is.bounded)) (cases_eq end (length list))
+
+-- ===== the results
+
+-- what is said of the range that was found
+pub listing_reply : {E : Type 0} (t : Tree) (c : Caller) (h : List ℕ) (cookie : ℕ) (verifier : Verifier) (fits : List Entry → Bool) (said : Entry → E) (attributes : Option Attributes) (list : List Entry) (start end : ℕ)
+    → attributes ≡ attributes_at t h → first (rules_by t c h cookie verifier fits) ≡ None → IsRange list start end (longest fits [] (entries_behind t h cookie)) (entries_behind t h cookie)
+    → reply_by t c h cookie verifier fits said ≡ Done (listing_of attributes said (take (end - start) (drop start list)) (eqb end (length list)))
+listing_reply t c h cookie verifier fits said attributes list start end there none is =
+    let taken : List Entry = longest fits [] (entries_behind t h cookie) in
+    let left : List Entry = entries_behind t h cookie in
+    let ends : eqb end (length list) ≡ eqb (length taken) (length left) = range_ends list start end taken left is in
+    ap (λ (o : Option Status). answer o (λ (s : Status). Failed s (attributes_at t h)) (Done (listing_of (attributes_at t h) said taken (eqb (length taken) (length left))))) none
+    ∙ (λ i. Done (listing_of (sym there i) said (sym is.taken_are i) (sym ends i)))
+
+pub refused_reply : {E : Type 0} (t : Tree) (c : Caller) (h : List ℕ) (cookie : ℕ) (verifier : Verifier) (fits : List Entry → Bool) (said : Entry → E) (attributes : Option Attributes) (s : Status)
+    → attributes ≡ attributes_at t h → first (rules_by t c h cookie verifier fits) ≡ Some s → reply_by t c h cookie verifier fits said ≡ Failed s attributes
+refused_reply t c h cookie verifier fits said attributes s there refused =
+    let taken : List Entry = longest fits [] (entries_behind t h cookie) in
+    let left : List Entry = entries_behind t h cookie in
+    ap (λ (o : Option Status). answer o (λ (s : Status). Failed s (attributes_at t h)) (Done (listing_of (attributes_at t h) said taken (eqb (length taken) (length left))))) refused
+    ∙ ap (λ (a : Option Attributes). Failed s a) (sym there)
+
+-- the results by the node that the handle names
+abbrev reply_in : {E : Type 0} → Option Node → Option Status → Option Attributes → Caller → ℕ → Verifier → (Entry → E) → (List Entry → Bool) → StatusUnion (Listing E) (Option Attributes) Status
+reply_in o handled attributes c cookie verifier said fits =
+    let left : List Entry = option_map_or (λ dir. entries_after cookie (entries_in dir)) o [] in
+    let taken : List Entry = longest fits [] left in
+    answer (first (handled ∷ on o (λ dir. first (listing_rules c cookie verifier dir) ∷ first (room_rules fits left) ∷ []))) (λ (s : Status). Failed s attributes)
+    (Done (listing_of attributes said taken (eqb (length taken) (length left))))
+
+reply_same : {E : Type 0} (o : Option Node) (handled : Option Status) (attributes : Option Attributes) (c : Caller) (cookie : ℕ) (verifier : Verifier) (said : Entry → E) (fits other : List Entry → Bool)
+    → ((v : Node) → o ≡ Some v → (es : List Entry) → fits es ≡ other es) → reply_in o handled attributes c cookie verifier said fits ≡ reply_in o handled attributes c cookie verifier said other
+reply_same None handled attributes c cookie verifier said fits other same = refl
+reply_same (Some v) handled attributes c cookie verifier said fits other same =
+    ap (reply_in (Some v) handled attributes c cookie verifier said) (λ i. λ (es : List Entry). same v refl es i)
+
+pub readdir_reply_is : (t : Tree) (c : Caller) (args : ReaddirArgs) (o : Option Limits) (h : List ℕ) → h ≡ args.dir
+    → SomeIff o (empty_size ≤ min args.count listing_max) (record { detail = Names; entries = min args.count listing_max - empty_size; names = 4294967295 })
+    → reply_by t c h args.cookie args.verifier (are_within t o) listed ≡ readdir_reply t c args
+readdir_reply_is t c args o h same is =
+    ap (λ (k : List ℕ). reply_by t c k args.cookie args.verifier (are_within t o) listed) same
+    ∙ reply_same (node_of_handle t args.dir) (handle_rule t args.dir) (attributes_at t args.dir) c args.cookie args.verifier listed (are_within t o) (readdir_fits t args) (λ v named. readdir_within t args v named o is)
+
+pub readdirplus_reply_is : (t : Tree) (c : Caller) (args : ReaddirplusArgs) (o : Option Limits) (h : List ℕ) → h ≡ args.dir
+    → SomeIff o (empty_size ≤ min args.maxcount listing_max) (record { detail = Nodes; entries = min args.maxcount listing_max - empty_size; names = args.dircount })
+    → reply_by t c h args.cookie args.verifier (are_within t o) (listed_plus t) ≡ readdirplus_reply t c args
+readdirplus_reply_is t c args o h same is =
+    ap (λ (k : List ℕ). reply_by t c k args.cookie args.verifier (are_within t o) (listed_plus t)) same
+    ∙ reply_same (node_of_handle t args.dir) (handle_rule t args.dir) (attributes_at t args.dir) c args.cookie args.verifier (listed_plus t) (are_within t o) (readdirplus_fits t args) (λ v named. readdirplus_within t args v named o is)

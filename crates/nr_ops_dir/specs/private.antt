@@ -1,3 +1,4 @@
 -- Definitions that only private code cites.
 pub mod Removed
 pub mod Sizes
+pub mod Added

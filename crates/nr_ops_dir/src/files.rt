@@ -4,18 +4,14 @@ ghost use Rattle.std.specs.Prelude.{◌≡◌, ℕ, ◌≤◌, true, None, Some,
 ghost use Rattle.nr_nfs_base.specs.declared.status_union.StatusUnion.TheVariants.{Done};
 ghost use Rattle.nr_nfs_args.specs.declared.create.CreateHow.TheVariants.{Unchecked};
 ghost use Rattle.nr_tree.specs.Sane.{file_size_max};
-ghost use Rattle.nr_tree.specs.Steps.{IsBounded, CanAddNode, is_regular_at};
+ghost use Rattle.nr_tree.specs.Steps.{IsBounded, is_regular_at};
 ghost use Rattle.nr_tree.specs.Rules.{first, number_of_handle, handle_of as handle_of_number, IsWithinCapacity};
-ghost use Rattle.nr_tree.specs.Changes.{tree_with_node};
 ghost use Rattle.nr_tree.specs.Replies.{wcc_data as wcc_of};
 ghost use Rattle.nr_ops_dir.specs.Entries.{number_of_entry as number_under};
-ghost use Rattle.nr_ops_dir.specs.Creation.{create_ok as ok_of};
 ghost use Rattle.nr_ops_dir.specs.Nodes.{attributes_of_number};
 ghost use Rattle.nr_ops_dir.specs.Create.{given_attributes as attributes_given, given_verifier as verifier_given, new_file_rules, new_file as file_of, is_made_by as is_made_with, existing_file_rules, size_to_set as size_given, tree_with_existing_file, file_rules, create_rules, create_tree, create_reply};
 
-use crate::creation::{
-    FILE_MODE, add_node, check_owner, create_failure, create_ok, new_node, nothing_given,
-};
+use crate::creation::{FILE_MODE, add_made, check_owner, create_ok, new_node, nothing_given};
 use crate::entries::{check_entry, number_of_entry};
 use crate::nodes::handle_of;
 use nr_nfs_args::{CreateArgs, CreateHow};
@@ -23,7 +19,7 @@ use nr_nfs_base::{Caller, SetAttributes, Status, StatusUnion, Time, Verifier};
 use nr_nfs_res::CreateRes;
 use nr_tree::{
     Content, File, Node, Right, Space, Tree, check_size, check_space, check_times, is_dot_name,
-    may, wcc_attributes_at,
+    may, refused, wcc_attributes_at,
 };
 use nr_xdr::Memory;
 use std::alloc::Global;
@@ -166,27 +162,6 @@ fn new_file(alloc: Global, caller: &Caller, now: Time, directory: u64, how: Crea
     node
 }
 
-/// Makes the file and its entry. After an `Err` the tree is as before.
-fn add_file(
-    alloc: Global,
-    tree: &mut Tree,
-    now: Time,
-    caller: &Caller,
-    args: CreateArgs,
-    directory: u64,
-) -> Result<CreateRes, Memory>
-    requires bounded { IsBounded tree.old }
-    requires directory { directory ≡ number_of_handle args.dir }
-    requires allowed { CanAddNode tree.old directory args.name (file_of caller.now now directory args.how) }
-    ensures result { IfOk result (λ r. r ≡ Done (ok_of tree.old (tree_with_node tree.old now directory args.name (file_of caller.now now directory args.how)) args.dir args.name)) }
-    ensures tree { OnOk result (tree.new ≡ tree_with_node tree.old now directory args.name (file_of caller.now now directory args.how)) }
-    ensures err { OnErr result (tree.new ≡ tree.old) }
-{
-    let node = new_file(alloc, caller, now, directory, args.how);
-    let name = args.name;
-    add_node(alloc, tree, now, args.dir.as_slice(), name, directory, node)
-}
-
 /// Gives a file that is there the size that is given, if any. Takes no memory.
 fn set_given_size(tree: &mut Tree, now: Time, number: u64, how: CreateHow)
     requires regular { (size : ℕ) → size_given how ≡ Some size → is_regular_at tree.old number ≡ true }
@@ -242,10 +217,14 @@ pub fn create(
 {
     tree.facts();
     match place_of_file(tree, caller, space, &args) {
-        Ok((directory, None)) => add_file(alloc, tree, now, caller, args, directory),
+        Ok((directory, None)) => {
+            let node = new_file(alloc, caller, now, directory, args.how);
+            let name = args.name;
+            add_made(alloc, tree, now, args.dir.as_slice(), name, Ok(node))
+        }
         Ok((_, Some(number))) => {
             use_existing_file(alloc, tree, now, args.dir.as_slice(), number, args.how)
         }
-        Err(status) => Ok(create_failure(status, tree, args.dir.as_slice())),
+        Err(status) => Ok(refused(status, tree, args.dir.as_slice())),
     }
 }

@@ -4,12 +4,11 @@ ghost use Rattle.std.specs.Prelude.{◌≡◌, None, Some, IfOk, MatchResult};
 ghost use Rattle.nr_tree.specs.Rules.{first};
 ghost use Rattle.nr_ops_dir.specs.Lookup.{number_of_name as number_by_name, lookup_rules, found_by, lookup_reply};
 
-use crate::names::{is_dot, is_dot_dot};
 use crate::nodes::{attributes_of_number, handle_of};
 use nr_nfs_args::LookupArgs;
 use nr_nfs_base::{Caller, Status, StatusUnion};
 use nr_nfs_res::{LookupOk, LookupRes};
-use nr_tree::{Node, Right, Tree, attributes_at, check_name, live_node, may};
+use nr_tree::{Node, Right, Tree, attributes_at, check_name, is_dot, is_dot_dot, live_node, may};
 use nr_xdr::Memory;
 use std::alloc::Global;
 

@@ -15,28 +15,22 @@
 
 mod counts;
 mod creation;
-mod directories;
 mod entries;
 mod files;
 mod find;
 mod links;
 mod listed;
 mod listings;
-mod names;
 mod nodes;
 mod readdirs;
 mod removal;
 mod renaming;
-mod special_files;
-mod symbolic_links;
 
 pub use counts::listing_limit;
-pub use directories::mkdir;
+pub use creation::{mkdir, mknod, symlink};
 pub use files::create;
 pub use find::lookup;
 pub use links::link;
 pub use readdirs::{readdir, readdirplus};
 pub use removal::{remove, rmdir};
 pub use renaming::rename;
-pub use special_files::mknod;
-pub use symbolic_links::symlink;

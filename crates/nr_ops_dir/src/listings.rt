@@ -75,13 +75,11 @@ pub(crate) fn count_within(tree: &Tree, dir: &Directory, place: usize, limits: &
     ensures bounded { place + result ≤ length dir.now.list }
     ensures entries { take result (drop place dir.now.list) ≡ longest (within tree.now limits.now) [] (drop place dir.now.list) }
 {
-    let len = dir.len();
     let mut left = dir.entries_from(place);
     let mut entries = 0;
     let mut names = 0;
     let mut count = 0;
-    while place + count < len {
-        let (name, _) = next_entry(&mut left);
+    'counting: while let Some((name, _)) = left.advance() {
         entries += entry_size(limits.detail, name);
         names += 16 + padded_size(name);
         if entries > limits.entries as u64 || names > limits.names as u64 {

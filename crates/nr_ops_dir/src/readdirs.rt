@@ -1,122 +1,114 @@
 //! READDIR and READDIRPLUS.
 
-ghost use Rattle.std.specs.Prelude.{◌≡◌, ◌+◌, ◌≤◌, None, Some, length, IfOk, MatchResult};
+ghost use Rattle.std.specs.Prelude.{◌≡◌, ◌++◌, [], None, Some, IfOk, MatchResult};
+ghost use Rattle.nr_xdr.specs.Items.{encodings};
+ghost use Rattle.nr_nfs_base.specs.Attributes.{attributes_codec};
+ghost use Rattle.nr_nfs_base.specs.Codec.{optional};
+ghost use Rattle.nr_nfs_res.specs.Readdir.{listing_codec};
+ghost use Rattle.nr_nfs_res.specs.Results.{nfs_result, readdir_res_codec, readdirplus_res_codec};
 ghost use Rattle.nr_tree.specs.Rules.{first};
 ghost use Rattle.nr_tree.specs.Entries.{NamesAreValid};
-ghost use Rattle.nr_ops_dir.specs.Readdir.{readdir_rules, readdir_taken, readdir_left, readdir_reply, readdirplus_rules, readdirplus_taken, readdirplus_left, readdirplus_reply};
-ghost use Rattle.nr_ops_dir.specs.private.Sizes.{IsRange};
+ghost use Rattle.nr_ops_dir.specs.Readdir.{entries_behind, longest, readdir_reply, readdirplus_reply};
+ghost use Rattle.nr_ops_dir.specs.private.Sizes.{IsRange, are_within, rules_by, reply_by};
 
-use crate::listed::list;
-use crate::listings::{Detail, Range, directory_to_list, limits_of, range_within};
+use crate::listed::{Listed, write_listing};
+use crate::listings::{Detail, Limits, Range, directory_to_list, limits_of, range_within};
 use nr_nfs_args::{ReaddirArgs, ReaddirplusArgs};
-use nr_nfs_base::{Caller, LinkedList, Status, StatusUnion, Verifier};
-use nr_nfs_res::{ReaddirOk, ReaddirRes, ReaddirplusOk, ReaddirplusRes};
+use nr_nfs_base::{Caller, Status, Verifier, Xdr, write_numbered};
+use nr_nfs_res::{Entry, EntryPlus};
 use nr_tree::{Tree, attributes_at, live_node};
-use nr_xdr::Memory;
-use std::alloc::Global;
+use nr_xdr::{Memory, RoomWriter};
 
-/// The verifier of every cookie: entries keep their cookies.
-const COOKIE_VERIFIER: Verifier = Verifier { number: 0 };
+/// What a call asks for.
+#[derive(Clone, Copy)]
+struct Request<'a> {
+    /// The handle of the directory.
+    dir: &'a [u8],
+    /// The cookie after which the listing begins.
+    cookie: u64,
+    verifier: Verifier,
+    /// None if the results without entries are too large.
+    limits: Option<Limits>,
+}
 
-/// Lists the entries of a directory after a cookie, as many as fit (RFC 1813 section 3.3.16). `Err` is out of memory.
+/// Lists the entries of a directory after a cookie, as many as fit (RFC 1813 section 3.3.16): appends the items that encode
+/// the results, entry by entry. `Err` is out of memory.
 pub fn readdir(
-    alloc: Global,
     tree: &Tree,
     caller: &Caller,
     args: &ReaddirArgs,
-) -> Result<ReaddirRes, Memory>
-    ensures { IfOk result (λ r. r ≡ readdir_reply tree.now caller.now args.now) }
+    writer: RoomWriter,
+) -> Result<RoomWriter, Memory>
+    ensures { IfOk result (λ w. w.bytes ≡ writer.bytes ++ encodings (readdir_res_codec.items (readdir_reply tree.now caller.now args.now))) }
 {
-    let dir_attributes = attributes_at(tree, args.dir.as_slice());
-    match readdir_range(tree, caller, args) {
-        Err(status) => {
-            Ok(StatusUnion::Failed {
-                status,
-                part: dir_attributes,
-            })
-        }
-        Ok(range) => {
-            let eof = range.is_last();
-            let entries = list(alloc, tree, &range)?;
-            Ok(StatusUnion::Done(ReaddirOk {
-                dir_attributes,
-                verifier: COOKIE_VERIFIER,
-                entries: LinkedList::from_vec(entries),
-                eof,
-            }))
-        }
-    }
+    let request = Request {
+        dir: args.dir.as_slice(),
+        cookie: args.cookie,
+        verifier: args.verifier,
+        limits: limits_of(Detail::Names, args.count, u32::MAX),
+    };
+    write_results::<Entry>(tree, caller, &request, writer)
 }
 
-/// The entries that READDIR lists, or the first refusal.
-fn readdir_range<'a>(
-    tree: &'a Tree,
-    caller: &Caller,
-    args: &ReaddirArgs,
-) -> Result<Range<'a>, Status>
-    ensures { MatchResult result
-        (λ r. (first (readdir_rules tree.now caller.now args.now) ≡ None)
-        × NamesAreValid r.dir.now.list
-        × IsRange r.dir.now.list r.start r.end (readdir_taken tree.now args.now) (readdir_left tree.now args.now))
-        (λ s. first (readdir_rules tree.now caller.now args.now) ≡ Some s) }
-{
-    tree.facts();
-    let (_, node) = live_node(tree, args.dir.as_slice())?;
-    let dir = directory_to_list(caller, args.cookie, args.verifier, node)?;
-    match limits_of(Detail::Names, args.count, u32::MAX) {
-        Some(limits) => range_within(tree, dir, args.cookie, &limits),
-        None => Err(Status::Toosmall),
-    }
-}
-
-/// Lists the entries of a directory after a cookie with their attributes and handles, as many as fit (RFC 1813
-/// section 3.3.17). `Err` is out of memory.
+/// Lists the entries of a directory after a cookie with their attributes and handles, as many as fit (RFC 1813 section
+/// 3.3.17): appends the items that encode the results, entry by entry. `Err` is out of memory.
 pub fn readdirplus(
-    alloc: Global,
     tree: &Tree,
     caller: &Caller,
     args: &ReaddirplusArgs,
-) -> Result<ReaddirplusRes, Memory>
-    ensures { IfOk result (λ r. r ≡ readdirplus_reply tree.now caller.now args.now) }
+    writer: RoomWriter,
+) -> Result<RoomWriter, Memory>
+    ensures { IfOk result (λ w. w.bytes ≡ writer.bytes ++ encodings (readdirplus_res_codec.items (readdirplus_reply tree.now caller.now args.now))) }
 {
-    let dir_attributes = attributes_at(tree, args.dir.as_slice());
-    match readdirplus_range(tree, caller, args) {
-        Err(status) => {
-            Ok(StatusUnion::Failed {
-                status,
-                part: dir_attributes,
-            })
-        }
+    let request = Request {
+        dir: args.dir.as_slice(),
+        cookie: args.cookie,
+        verifier: args.verifier,
+        limits: limits_of(Detail::Nodes, args.maxcount, args.dircount),
+    };
+    write_results::<EntryPlus>(tree, caller, &request, writer)
+}
+
+/// Appends the items that encode the results of a call.
+fn write_results<E: Listed>(
+    tree: &Tree,
+    caller: &Caller,
+    request: &Request<'_>,
+    writer: RoomWriter,
+) -> Result<RoomWriter, Memory>
+    ensures { IfOk result (λ w. w.bytes ≡ writer.bytes ++ encodings ((nfs_result (listing_codec E.codec) (optional attributes_codec)).items
+        (reply_by tree.now caller.now request.now.dir.now request.now.cookie request.now.verifier (are_within tree.now request.now.limits) (E.said tree.now)))) }
+{
+    let dir_attributes = attributes_at(tree, request.dir);
+    match entries_to_list(tree, caller, request) {
         Ok(range) => {
-            let eof = range.is_last();
-            let entries = list(alloc, tree, &range)?;
-            Ok(StatusUnion::Done(ReaddirplusOk {
-                dir_attributes,
-                verifier: COOKIE_VERIFIER,
-                entries: LinkedList::from_vec(entries),
-                eof,
-            }))
+            let writer = write_numbered(None::<Status>, writer)?;
+            write_listing::<E>(dir_attributes, tree, &range, writer)
+        }
+        Err(status) => {
+            let writer = write_numbered(Some(status), writer)?;
+            dir_attributes.write_to(writer)
         }
     }
 }
 
-/// The entries that READDIRPLUS lists, or the first refusal.
-fn readdirplus_range<'a>(
+/// The entries that a call lists, or the first refusal.
+fn entries_to_list<'a>(
     tree: &'a Tree,
     caller: &Caller,
-    args: &ReaddirplusArgs,
+    request: &Request<'_>,
 ) -> Result<Range<'a>, Status>
     ensures { MatchResult result
-        (λ r. (first (readdirplus_rules tree.now caller.now args.now) ≡ None)
+        (λ r. (first (rules_by tree.now caller.now request.now.dir.now request.now.cookie request.now.verifier (are_within tree.now request.now.limits)) ≡ None)
         × NamesAreValid r.dir.now.list
-        × IsRange r.dir.now.list r.start r.end (readdirplus_taken tree.now args.now) (readdirplus_left tree.now args.now))
-        (λ s. first (readdirplus_rules tree.now caller.now args.now) ≡ Some s) }
+        × IsRange r.dir.now.list r.start r.end (longest (are_within tree.now request.now.limits) [] (entries_behind tree.now request.now.dir.now request.now.cookie)) (entries_behind tree.now request.now.dir.now request.now.cookie))
+        (λ s. first (rules_by tree.now caller.now request.now.dir.now request.now.cookie request.now.verifier (are_within tree.now request.now.limits)) ≡ Some s) }
 {
     tree.facts();
-    let (_, node) = live_node(tree, args.dir.as_slice())?;
-    let dir = directory_to_list(caller, args.cookie, args.verifier, node)?;
-    match limits_of(Detail::Nodes, args.maxcount, args.dircount) {
-        Some(limits) => range_within(tree, dir, args.cookie, &limits),
+    let (_, node) = live_node(tree, request.dir)?;
+    let dir = directory_to_list(caller, request.cookie, request.verifier, node)?;
+    match &request.limits {
+        Some(limits) => range_within(tree, dir, request.cookie, limits),
         None => Err(Status::Toosmall),
     }
 }

@@ -1,11 +1,10 @@
 -- Parts of a list of bytes: how many there are, and one after another.
-use Rattle.std.proofs.Common.{◌≡◌, ℕ, ◌+◌, ◌-◌, ◌<◌, ◌≤◌, List, [], ◌++◌, length, take, drop, get_or, min, refl, ap, sym, ◌∙◌, arith, length-append, append-nil, append_assoc, Bool, leb, Option}
+use Rattle.std.proofs.Common.{◌≡◌, ℕ, ◌+◌, ◌-◌, ◌<◌, ◌≤◌, List, ◌++◌, length, take, drop, min, ap, sym, ◌∙◌, arith, append-nil, append_assoc, Bool, leb, Option}
 use Rattle.nr_nfs_base.specs.Limits.{transfer_max}
 use Rattle.nr_nfs_base.specs.declared.attributes.Attributes.{Attributes}
 use Rattle.nr_nfs_res.specs.declared.bytes.ReadOk.{ReadOk}
 use Rattle.nr_ops_file.specs.Bytes.{piece_read, read_ok}
 use Rattle.std.proofs.lemmas.List.{places, same_lists}
-use Rattle.std.proofs.lemmas.Bool.{cases_lt}
 
 pub taken_length : (bs : List ℕ) (o c n : ℕ) → n ≡ min c (length bs - o) → length (take c (drop o bs)) ≡ n
 taken_length bs o c n is = grind (arith, places)

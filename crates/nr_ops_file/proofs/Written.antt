@@ -1,6 +1,6 @@
 -- Bytes of a reply that are written one part after another.
 use Rattle.std.proofs.Common.{◌≡◌, ℕ, List, [], ◌∷◌, ◌++◌, length, replicate, Result, Ok, Err, IfOk, ap, sym, ◌∙◌, append_assoc, append-nil}
-use Rattle.nr_xdr.specs.Item.{Item, encoding, word, pad_len}
+use Rattle.nr_xdr.specs.Item.{Item, word, pad_len}
 use Rattle.nr_xdr.specs.Item.Item.{Opaque}
 use Rattle.nr_xdr.specs.Items.{encodings}
 use Rattle.nr_xdr.specs.Room.{Room, Appended}

@@ -15,7 +15,8 @@ use nr_nfs_base::{Caller, SetAttributes, SetTime, Status, StatusUnion, Time};
 use nr_nfs_res::{AccessOk, AccessRes, GetattrRes, SetattrRes};
 use nr_tree::{
     MODE_COUNT, Metadata, Node, Right, Space, Tree, attributes_at, check_size, check_space,
-    check_times, differs_if_given, live_node, may, time_after, wcc_attributes_at, wcc_data,
+    check_times, differs_if_given, live_node, may, refused, time_after, wcc_attributes_at,
+    wcc_data,
 };
 
 /// The attributes of the node that the handle names (RFC 1813 section 3.3.1). Takes no memory.
@@ -96,16 +97,13 @@ pub fn setattr(
     ensures tree { tree.new ≡ setattr_tree tree.old caller.now space.now now args.now }
 {
     let handle = args.object.as_slice();
-    let before = wcc_attributes_at(tree, handle);
     match node_to_set(tree, caller, space, args) {
         Ok((number, metadata)) => {
+            let before = wcc_attributes_at(tree, handle);
             set_attributes(tree, now, number, args.attributes, metadata);
             StatusUnion::Done(wcc_data(before, tree, handle))
         }
-        Err(status) => StatusUnion::Failed {
-            status,
-            part: wcc_data(before, tree, handle),
-        },
+        Err(status) => refused(status, tree, handle),
     }
 }
 

@@ -17,7 +17,7 @@ use nr_nfs_base::{
 use nr_nfs_res::{CommitOk, CommitRes, WriteOk, WriteRes};
 use nr_tree::{
     Content, FILE_SIZE_MAX, Node, Right, Space, Tree, attributes_at, check_space, live_node, may,
-    wcc_attributes_at, wcc_data,
+    refused, wcc_attributes_at, wcc_data,
 };
 use nr_xdr::Memory;
 
@@ -87,18 +87,15 @@ pub fn write(
     ensures err { OnErr result (tree.new ≡ tree.old) }
 {
     let handle = args.file();
-    let before = wcc_attributes_at(tree, handle);
     match file_to_write(tree, caller, space, args) {
         Ok(number) => {
+            let before = wcc_attributes_at(tree, handle);
             let piece = piece_of(args.bytes());
             tree.write(number, args.offset(), piece, now)?;
             let wcc = wcc_data(before, tree, handle);
             Ok(StatusUnion::Done(write_results(wcc, piece.len() as u32, space)))
         }
-        Err(status) => Ok(StatusUnion::Failed {
-            status,
-            part: wcc_data(before, tree, handle),
-        }),
+        Err(status) => Ok(refused(status, tree, handle)),
     }
 }
 
@@ -164,13 +161,12 @@ pub fn commit(tree: &Tree, space: &Space, args: &CommitArgs) -> CommitRes
     ensures { result ≡ commit_reply tree.now space.now args.now }
 {
     let handle = args.file.as_slice();
-    let wcc = wcc_data(wcc_attributes_at(tree, handle), tree, handle);
     match check_commit(tree, args) {
         Ok(()) => StatusUnion::Done(CommitOk {
-            wcc,
+            wcc: wcc_data(wcc_attributes_at(tree, handle), tree, handle),
             verifier: space.verifier,
         }),
-        Err(status) => StatusUnion::Failed { status, part: wcc },
+        Err(status) => refused(status, tree, handle),
     }
 }
 

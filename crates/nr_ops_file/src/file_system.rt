@@ -1,6 +1,8 @@
 //! FSSTAT, FSINFO and PATHCONF.
 
-ghost use Rattle.std.specs.Prelude.{◌≡◌};
+ghost use Rattle.std.specs.Prelude.{◌≡◌, ◌∷◌, []};
+ghost use Rattle.nr_nfs_base.specs.declared.status_union.StatusUnion.TheVariants.{Done, Failed};
+ghost use Rattle.nr_tree.specs.Rules.{first, answer, handle_rule};
 ghost use Rattle.nr_ops_file.specs.FileSystem.{fsstat_ok, fsstat_reply, fsinfo_ok, fsinfo_reply, pathconf_ok, pathconf_reply};
 
 use nr_nfs_args::{FsinfoArgs, FsstatArgs, PathconfArgs};
@@ -20,6 +22,24 @@ const TIME_STEP: Time = Time {
 /// Hard links, symbolic links, PATHCONF the same everywhere, times that can be set (RFC 1813 section 3.3.19).
 const PROPERTIES: u32 = 0x01 + 0x02 + 0x08 + 0x10;
 
+/// The results of a call that tests its handle alone.
+fn results_if_live<D: Copy>(
+    tree: &Tree,
+    handle: &[u8],
+    attributes: Option<Attributes>,
+    done: D,
+) -> StatusUnion<D, Option<Attributes>>
+    ensures { result ≡ answer (first (handle_rule tree.now handle.now ∷ [])) (λ s. Failed s attributes) (Done done) }
+{
+    match live_node(tree, handle) {
+        Ok(_) => StatusUnion::Done(done),
+        Err(status) => StatusUnion::Failed {
+            status,
+            part: attributes,
+        },
+    }
+}
+
 /// How much of the journal's capacity there is and is left, in bytes and in files (RFC 1813 section 3.3.18). Takes no
 /// memory.
 pub fn fsstat(tree: &Tree, space: &Space, args: &FsstatArgs) -> FsstatRes
@@ -27,13 +47,7 @@ pub fn fsstat(tree: &Tree, space: &Space, args: &FsstatArgs) -> FsstatRes
 {
     let handle = args.fsroot.as_slice();
     let attributes = attributes_at(tree, handle);
-    match live_node(tree, handle) {
-        Ok(_) => StatusUnion::Done(fsstat_results(space, attributes)),
-        Err(status) => StatusUnion::Failed {
-            status,
-            part: attributes,
-        },
-    }
+    results_if_live(tree, handle, attributes, fsstat_results(space, attributes))
 }
 
 fn fsstat_results(space: &Space, attributes: Option<Attributes>) -> FsstatOk
@@ -58,13 +72,7 @@ pub fn fsinfo(tree: &Tree, args: &FsinfoArgs) -> FsinfoRes
 {
     let handle = args.fsroot.as_slice();
     let attributes = attributes_at(tree, handle);
-    match live_node(tree, handle) {
-        Ok(_) => StatusUnion::Done(fsinfo_results(attributes)),
-        Err(status) => StatusUnion::Failed {
-            status,
-            part: attributes,
-        },
-    }
+    results_if_live(tree, handle, attributes, fsinfo_results(attributes))
 }
 
 fn fsinfo_results(attributes: Option<Attributes>) -> FsinfoOk
@@ -91,13 +99,7 @@ pub fn pathconf(tree: &Tree, args: &PathconfArgs) -> PathconfRes
 {
     let handle = args.object.as_slice();
     let attributes = attributes_at(tree, handle);
-    match live_node(tree, handle) {
-        Ok(_) => StatusUnion::Done(pathconf_results(attributes)),
-        Err(status) => StatusUnion::Failed {
-            status,
-            part: attributes,
-        },
-    }
+    results_if_live(tree, handle, attributes, pathconf_results(attributes))
 }
 
 fn pathconf_results(attributes: Option<Attributes>) -> PathconfOk

@@ -9,7 +9,7 @@ ghost use Rattle.nr_plain.specs.Programs.{only_reads as is_read_only};
 use crate::call::{Call, Change};
 use crate::changing::{change, write_file};
 use crate::encoding::constant_reply;
-use crate::reading::{read, read_file};
+use crate::reading::{read, read_directory, read_file};
 use nr_nfs_args::{
     AccessArgs, CommitArgs, CreateArgs, FsinfoArgs, FsstatArgs, GetattrArgs, LinkArgs, LookupArgs,
     MkdirArgs, MknodArgs, NullArgs, PathconfArgs, ReaddirArgs, ReaddirplusArgs, ReadlinkArgs,
@@ -56,8 +56,8 @@ fn reading(alloc: Global, tree: &Tree, p: NfsProcedure, call: &Call) -> Result<O
         NfsProcedure::Access => read::<AccessArgs>(alloc, tree, call),
         NfsProcedure::Readlink => read::<ReadlinkArgs>(alloc, tree, call),
         NfsProcedure::Read => read_file(alloc, tree, call),
-        NfsProcedure::Readdir => read::<ReaddirArgs>(alloc, tree, call),
-        NfsProcedure::Readdirplus => read::<ReaddirplusArgs>(alloc, tree, call),
+        NfsProcedure::Readdir => read_directory::<ReaddirArgs>(alloc, tree, call),
+        NfsProcedure::Readdirplus => read_directory::<ReaddirplusArgs>(alloc, tree, call),
         NfsProcedure::Fsstat => read::<FsstatArgs>(alloc, tree, call),
         NfsProcedure::Fsinfo => read::<FsinfoArgs>(alloc, tree, call),
         NfsProcedure::Pathconf => read::<PathconfArgs>(alloc, tree, call),

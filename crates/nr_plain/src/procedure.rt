@@ -1,9 +1,9 @@
 //! Procedures of NFS, by the types of their arguments.
 
 use crate::call::Call;
-use nr_nfs_base::{StatusUnion, Xdr};
+use nr_nfs_base::{Caller, StatusUnion, Xdr};
 use nr_tree::Tree;
-use nr_xdr::Memory;
+use nr_xdr::{Memory, RoomWriter};
 use std::alloc::Global;
 
 /// The arguments of a procedure that only reads the tree.
@@ -22,6 +22,32 @@ pub(crate) trait Reading: Xdr {
     /// Gives the results.
     fn execute(&self, alloc: Global, tree: &Tree, call: &Call) -> Result<Self::Results, Memory>
         ensures { IfOk result (λ r. r ≡ results tree.now call.now.caller.now call.now.space self.now) };
+}
+
+/// The arguments of a procedure that lists a directory.
+pub(crate) trait Listing: Xdr {
+    ghost use Rattle.std.specs.Prelude.{◌≡◌, ◌++◌, IfOk};
+    ghost use Rattle.nr_xdr.specs.Items.{encodings};
+    ghost use Rattle.nr_nfs_base.specs.declared.caller.Caller.{Caller};
+    ghost use Rattle.nr_tree.specs.Tree.{Tree};
+
+    /// What the procedure answers.
+    type Results: Xdr;
+
+    /// The results over a tree.
+    ghost results: { Tree → Caller → Self → Self.Results };
+
+    /// How many bytes the results may have on success.
+    fn count(&self) -> u32;
+
+    /// Appends the items that encode the results.
+    fn write_results(
+        &self,
+        tree: &Tree,
+        caller: &Caller,
+        writer: RoomWriter,
+    ) -> Result<RoomWriter, Memory>
+        ensures { IfOk result (λ w. w.bytes ≡ writer.bytes ++ encodings (Self.Results.codec.items (results tree.now caller.now self.now))) };
 }
 
 /// The arguments of a procedure that may change the tree.

@@ -15,12 +15,12 @@ ghost use Rattle.nr_plain.specs.Replies.{results_reply};
 
 use crate::call::Call;
 use crate::encoding::{HEAD_SIZE, SUCCESS, accepted, accepted_head, garbage, read_arguments};
-use crate::procedure::Reading;
+use crate::procedure::{Listing, Reading};
 use nr_nfs_args::{
     AccessArgs, CommitArgs, FsinfoArgs, FsstatArgs, GetattrArgs, LookupArgs, PathconfArgs,
     ReadArgs, ReaddirArgs, ReaddirplusArgs, ReadlinkArgs,
 };
-use nr_nfs_base::StatusUnion;
+use nr_nfs_base::{Caller, LISTING_MAX, StatusUnion};
 use nr_nfs_res::{
     AccessRes, CommitRes, FsinfoRes, FsstatRes, GetattrRes, LookupRes, PathconfRes, ReaddirRes,
     ReaddirplusRes, ReadlinkRes,
@@ -79,6 +79,39 @@ fn read_reply_of(alloc: Global, xid: u32, results: &ReadResPart<'_>) -> Result<O
     nr_ops_file::finish_read(results, writer)
 }
 
+/// The bytes of a reply to a listing beside what its caller counts: the head and the status.
+const LISTING_FRONT: usize = HEAD_SIZE + 4;
+
+/// The reply to a call that lists a directory. Its entries are written into the room of the reply.
+pub(crate) fn read_directory<A: Listing>(
+    alloc: Global,
+    tree: &Tree,
+    call: &Call,
+) -> Result<Octets, Memory>
+    ensures { IfOk result (λ o. o ≡ reply_with call.now.xid A.Results.codec (A.results tree.now call.now.caller.now) (read_all A.codec call.now.arguments.now)) }
+{
+    match read_arguments::<A>(alloc, call.arguments)? {
+        Some(arguments) => listing_reply(alloc, tree, call, &arguments),
+        None => garbage(alloc, call.xid),
+    }
+}
+
+/// The reply with the results of a listing.
+fn listing_reply<A: Listing>(
+    alloc: Global,
+    tree: &Tree,
+    call: &Call,
+    arguments: &A,
+) -> Result<Octets, Memory>
+    ensures { IfOk result (λ o. o ≡ results_reply call.now.xid A.Results.codec (A.results tree.now call.now.caller.now arguments.now)) }
+{
+    let count = arguments.count().min(LISTING_MAX);
+    let writer = RoomWriter::with_room(alloc, LISTING_FRONT + count as usize)?;
+    let writer = write_reply_head(writer, &accepted_head(call.xid, SUCCESS))?;
+    let writer = arguments.write_results(tree, call.caller, writer)?;
+    Ok(writer.finish())
+}
+
 impl Reading for GetattrArgs {
     type Results = GetattrRes;
 
@@ -119,23 +152,41 @@ impl Reading for ReadlinkArgs {
     }
 }
 
-impl Reading for ReaddirArgs {
+impl Listing for ReaddirArgs {
     type Results = ReaddirRes;
 
-    ghost results = { λ t c space a. readdir_reply t c a };
+    ghost results = { readdir_reply };
 
-    fn execute(&self, alloc: Global, tree: &Tree, call: &Call) -> Result<ReaddirRes, Memory> {
-        nr_ops_dir::readdir(alloc, tree, call.caller, self)
+    fn count(&self) -> u32 {
+        self.count
+    }
+
+    fn write_results(
+        &self,
+        tree: &Tree,
+        caller: &Caller,
+        writer: RoomWriter,
+    ) -> Result<RoomWriter, Memory> {
+        nr_ops_dir::readdir(tree, caller, self, writer)
     }
 }
 
-impl Reading for ReaddirplusArgs {
+impl Listing for ReaddirplusArgs {
     type Results = ReaddirplusRes;
 
-    ghost results = { λ t c space a. readdirplus_reply t c a };
+    ghost results = { readdirplus_reply };
 
-    fn execute(&self, alloc: Global, tree: &Tree, call: &Call) -> Result<ReaddirplusRes, Memory> {
-        nr_ops_dir::readdirplus(alloc, tree, call.caller, self)
+    fn count(&self) -> u32 {
+        self.maxcount
+    }
+
+    fn write_results(
+        &self,
+        tree: &Tree,
+        caller: &Caller,
+        writer: RoomWriter,
+    ) -> Result<RoomWriter, Memory> {
+        nr_ops_dir::readdirplus(tree, caller, self, writer)
     }
 }
 

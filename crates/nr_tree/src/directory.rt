@@ -328,9 +328,10 @@ impl<'a> Model for EntryCursor<'a> {
 }
 
 impl<'a> EntryCursor<'a> {
-    /// Gives the name, the node and the cookie of the first entry, and goes past it; none if there is none.
+    /// Gives the name, the node and the cookie of the first entry, and goes past it. None if no entry is left: the cursor
+    /// then stays at the end, and gives none again.
     pub fn advance(&mut self) -> Option<(&'a [u8], Slot)>
-        ensures { MatchOption result (self.old ≡ []) (λ e. self.old ≡ record { cookie = e.1.cookie; name = e.0.now; number = e.1.number } ∷ self.new) }
+        ensures { MatchOption result ((self.old ≡ []) × (self.new ≡ [])) (λ e. self.old ≡ record { cookie = e.1.cookie; name = e.0.now; number = e.1.number } ∷ self.new) }
     {
         match self.indexes.advance() {
             Some(index) => Some(slot_at(self.slots, index)),

@@ -1,12 +1,13 @@
 //! What replies say of nodes (RFC 1813 section 2.5, `post_op_attr` and `wcc_data`). Nothing here takes memory.
 
 ghost use Rattle.std.specs.Prelude.{◌≡◌};
-ghost use Rattle.nr_tree.specs.Replies.{attributes_at as attributes_of_handle, wcc_attributes_of, wcc_attributes_at as wcc_attributes_of_handle};
+ghost use Rattle.nr_nfs_base.specs.declared.status_union.StatusUnion.TheVariants.{Failed};
+ghost use Rattle.nr_tree.specs.Replies.{attributes_at as attributes_of_handle, wcc_attributes_of, wcc_attributes_at as wcc_attributes_of_handle, wcc_data as wcc_of};
 
 use crate::node::Node;
 use crate::rules::handle_number;
 use crate::tree::Tree;
-use nr_nfs_base::{Attributes, WccAttributes, WccData};
+use nr_nfs_base::{Attributes, Status, StatusUnion, WccAttributes, WccData};
 
 /// The attributes of the node that a handle names, if it is live.
 pub fn attributes_at(tree: &Tree, handle: &[u8]) -> Option<Attributes>
@@ -51,5 +52,16 @@ pub fn wcc_data(before: Option<WccAttributes>, tree: &Tree, handle: &[u8]) -> Wc
     WccData {
         before,
         after: attributes_at(tree, handle),
+    }
+}
+
+/// The results of a call that was refused, and that would have changed the node that the handle names.
+pub fn refused<D>(status: Status, tree: &Tree, handle: &[u8]) -> StatusUnion<D, WccData>
+    ensures { result ≡ Failed status (wcc_of tree.now tree.now handle.now) }
+{
+    let before = wcc_attributes_at(tree, handle);
+    StatusUnion::Failed {
+        status,
+        part: wcc_data(before, tree, handle),
     }
 }

@@ -2,7 +2,7 @@
 
 ghost use Rattle.std.specs.Prelude.{◌≡◌, ◌==◌, ◌<◌, ◌≤◌, ◌^◌, None, Some, SomeIff, length, MatchResult};
 ghost use Rattle.std.specs.List.{list_any};
-ghost use Rattle.nr_tree.specs.Rules.{first, name_rules, bit_of, may as has_right, has_byte, is_in_group, class_of, change_rules, handle_rule, node_of_handle, number_of_handle, is_dot_name as is_dot_or_dot_dot, differs_if_given as is_another, same_name, space_rule, IsWithinCapacity, is_invalid_time, time_rule, is_too_large, size_rule, time_after as time_set};
+ghost use Rattle.nr_tree.specs.Rules.{first, name_rules, bit_of, may as has_right, has_byte, is_in_group, class_of, change_rules, handle_rule, node_of_handle, number_of_handle, is_dot as is_one_dot, is_dot_dot as is_two_dots, is_dot_name as is_dot_or_dot_dot, differs_if_given as is_another, same_name, space_rule, IsWithinCapacity, is_invalid_time, time_rule, is_too_large, size_rule, time_after as time_set};
 
 use crate::node::Node;
 use crate::tree::Tree;
@@ -150,11 +150,25 @@ fn same(a: &[u8], b: &[u8]) -> bool
     a == b
 }
 
+/// `.`, the directory itself.
+pub fn is_dot(name: &[u8]) -> bool
+    ensures { result ≡ is_one_dot name.now }
+{
+    same(name, b".")
+}
+
+/// `..`, the directory that names it.
+pub fn is_dot_dot(name: &[u8]) -> bool
+    ensures { result ≡ is_two_dots name.now }
+{
+    same(name, b"..")
+}
+
 /// `.` or `..`.
 pub fn is_dot_name(name: &[u8]) -> bool
     ensures { result ≡ is_dot_or_dot_dot name.now }
 {
-    same(name, b".") || same(name, b"..")
+    is_dot(name) || is_dot_dot(name)
 }
 
 /// What a call finds of the server beside its tree.

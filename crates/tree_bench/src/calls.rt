@@ -20,7 +20,13 @@ const WRITE: u32 = 7;
 
 const CREATE: u32 = 8;
 
+const MKDIR: u32 = 9;
+
 const REMOVE: u32 = 12;
+
+const RMDIR: u32 = 13;
+
+const RENAME: u32 = 14;
 
 const READDIR: u32 = 16;
 
@@ -68,20 +74,45 @@ fn call(alloc: Global, server: &mut Server, payload: &Octets) -> Option<u64> {
     }
 }
 
-/// Makes a file in the root.
-pub(crate) fn create(alloc: Global, server: &mut Server, count: u32) -> Option<u64> {
-    let mut payload = head(alloc, CREATE)?;
+/// A call whose arguments begin with the root and a name.
+fn named(alloc: Global, proc: u32, count: u32) -> Option<Octets> {
+    let mut payload = head(alloc, proc)?;
     put_handle(&mut payload, ROOT)?;
     put_name(&mut payload, count)?;
+    Some(payload)
+}
+
+/// Makes a file in the root.
+pub(crate) fn create(alloc: Global, server: &mut Server, count: u32) -> Option<u64> {
+    let mut payload = named(alloc, CREATE, count)?;
     payload.extend_from_slice(&[0; 28]).ok()?;
+    call(alloc, server, &payload)
+}
+
+/// Makes a directory in the root.
+pub(crate) fn mkdir(alloc: Global, server: &mut Server, count: u32) -> Option<u64> {
+    let mut payload = named(alloc, MKDIR, count)?;
+    payload.extend_from_slice(&[0; 24]).ok()?;
     call(alloc, server, &payload)
 }
 
 /// Removes a file of the root.
 pub(crate) fn remove(alloc: Global, server: &mut Server, count: u32) -> Option<u64> {
-    let mut payload = head(alloc, REMOVE)?;
+    let payload = named(alloc, REMOVE, count)?;
+    call(alloc, server, &payload)
+}
+
+/// Removes a directory of the root.
+pub(crate) fn rmdir(alloc: Global, server: &mut Server, count: u32) -> Option<u64> {
+    let payload = named(alloc, RMDIR, count)?;
+    call(alloc, server, &payload)
+}
+
+/// Gives a file of the root another name in the root.
+pub(crate) fn rename(alloc: Global, server: &mut Server, from: u32, to: u32) -> Option<u64> {
+    let mut payload = named(alloc, RENAME, from)?;
     put_handle(&mut payload, ROOT)?;
-    put_name(&mut payload, count)?;
+    put_name(&mut payload, to)?;
     call(alloc, server, &payload)
 }
 
@@ -108,7 +139,7 @@ pub(crate) fn read(alloc: Global, server: &mut Server, number: u64, offset: u64)
     call(alloc, server, &payload)
 }
 
-/// Writes these bytes over a file.
+/// Writes these bytes, whose number is a multiple of four, over a file.
 pub(crate) fn write(
     alloc: Global,
     server: &mut Server,
@@ -119,9 +150,10 @@ pub(crate) fn write(
     let mut payload = head(alloc, WRITE)?;
     put_handle(&mut payload, number)?;
     put_long(&mut payload, offset)?;
-    put(&mut payload, 32_768)?;
+    let count = u32::try_from(data.len()).ok()?;
+    put(&mut payload, count)?;
     put(&mut payload, 2)?;
-    put(&mut payload, 32_768)?;
+    put(&mut payload, count)?;
     payload.extend_from_slice(data).ok()?;
     call(alloc, server, &payload)
 }

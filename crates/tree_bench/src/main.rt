@@ -1,12 +1,14 @@
 //! A benchmark, run by hand: calls of the plain server alone. The arguments are what is called, a size, and how often:
-//! `readdir` and `readdirplus` list the last 100 files of a directory of that size; `churn` removes its oldest file and
-//! makes a new one; `read` and `write` move 32 KiB at places of a file of that many bytes. It prints how many bytes the
-//! replies have.
+//! `readdir` and `readdirplus` list the last 100 files of a directory of that size. `churn` removes its oldest file and
+//! makes a new one, `rename` gives its oldest file a new name, `create` makes a new one; `directories` removes the
+//! oldest directory of a root of that many entries, half of them directories, and makes a new one. `read` and `write`
+//! move 32 KiB at offsets of a file of that many bytes, and `copy` copies 32 KiB at the same offsets from one buffer to
+//! another. `sparse` writes a byte at 1 MiB into each of that many files. It prints how many bytes the replies have.
 #![tactic(auto)]
 
 mod calls;
 
-use calls::{create, list, read, remove, write};
+use calls::{create, list, mkdir, read, remove, rename, rmdir, write};
 use nr_nfs_base::{Time, Verifier};
 use nr_plain::Server;
 use nr_tree::Tree;
@@ -48,13 +50,93 @@ fn listed(alloc: Global, server: &mut Server, size: u32, rounds: u32, plus: bool
     Some(total)
 }
 
-fn churned(alloc: Global, server: &mut Server, size: u32, rounds: u32) -> Option<u64> {
-    fill(alloc, server, size)?;
+/// What a round changes in the root.
+#[derive(Clone, Copy)]
+enum Change {
+    /// The oldest file is removed, and a new one is made.
+    Churn,
+    /// The oldest file gets a new name.
+    Rename,
+    /// A new file is made.
+    Create,
+    /// The oldest directory is removed, and a new one is made.
+    Directories,
+}
+
+/// Changes the root: `old` is the oldest name in it, `new` one that it does not have.
+fn changed(alloc: Global, server: &mut Server, change: Change, old: u32, new: u32) -> Option<u64> {
+    match change {
+        Change::Churn => {
+            remove(alloc, server, old)?;
+            create(alloc, server, new)
+        }
+        Change::Rename => rename(alloc, server, old, new),
+        Change::Create => create(alloc, server, new),
+        Change::Directories => {
+            rmdir(alloc, server, old)?;
+            mkdir(alloc, server, new)
+        }
+    }
+}
+
+/// Fills the root with this many entries: files, or as many directories as files, since a directory has less than 65,536
+/// links. Gives how many of them the rounds may change.
+fn prepare(alloc: Global, server: &mut Server, change: Change, size: u32) -> Option<u32> {
+    match change {
+        Change::Directories => {
+            for count in 0..size / 2 {
+                mkdir(alloc, server, count)?;
+                create(alloc, server, u32::MAX - count)?;
+            }
+            Some(size / 2)
+        }
+        _ => {
+            fill(alloc, server, size)?;
+            Some(size)
+        }
+    }
+}
+
+fn changes(
+    alloc: Global,
+    server: &mut Server,
+    change: Change,
+    size: u32,
+    rounds: u32,
+) -> Option<u64> {
+    let names = prepare(alloc, server, change, size)?;
     let mut total: u64 = 0;
     for count in 0..rounds {
-        let bytes = remove(alloc, server, count)?;
-        create(alloc, server, size.saturating_add(count))?;
+        let bytes = changed(alloc, server, change, count, names.saturating_add(count))?;
         total = total.saturating_add(bytes);
+    }
+    Some(total)
+}
+
+/// Files with a byte at 1 MiB.
+fn sparse(alloc: Global, server: &mut Server, size: u32) -> Option<u64> {
+    let mut total: u64 = 0;
+    for count in 0..size {
+        create(alloc, server, count)?;
+        let bytes = write(alloc, server, u64::from(count) + 2, 1 << 20, &[1, 0, 0, 0])?;
+        total = total.saturating_add(bytes);
+    }
+    Some(total)
+}
+
+/// Copies 32 KiB of a buffer at the offsets of the moves.
+fn copied(alloc: Global, size: u32, rounds: u32) -> Option<u64> {
+    let from = vec![in alloc; 7u8; size as usize].ok()?;
+    let mut to = vec![in alloc; 0u8; PIECE].ok()?;
+    let mut total: u64 = 0;
+    for round in 0..rounds {
+        let (_, part) = from
+            .as_slice()
+            .split_at_checked(offset(round, size) as usize)?;
+        let (part, _) = part.split_at_checked(PIECE)?;
+        to.clear();
+        to.extend_from_slice(part).ok()?;
+        total = total.saturating_add(to.len() as u64);
     }
     Some(total)
 }
@@ -68,8 +150,8 @@ fn write_all(alloc: Global, server: &mut Server, size: u32, data: &[u8]) -> Opti
     Some(())
 }
 
-/// The place of one of the moves: any that leaves 32 KiB.
-fn place(round: u32, size: u32) -> u64 {
+/// The offset of one of the moves: any that leaves 32 KiB.
+fn offset(round: u32, size: u32) -> u64 {
     let room = u64::from(size.saturating_sub(32_768)) + 1;
     u64::from(round) * 1_000_003 % room
 }
@@ -85,7 +167,7 @@ fn moved(
     write_all(alloc, server, size, data)?;
     let mut total: u64 = 0;
     for round in 0..rounds {
-        let offset = place(round, size);
+        let offset = offset(round, size);
         let bytes = if reads {
             read(alloc, server, 2, offset)?
         } else {
@@ -96,15 +178,41 @@ fn moved(
     Some(total)
 }
 
+/// The change that a word names.
+fn change_named(word: &str) -> Option<Change> {
+    match word {
+        "churn" => Some(Change::Churn),
+        "rename" => Some(Change::Rename),
+        "create" => Some(Change::Create),
+        "directories" => Some(Change::Directories),
+        _ => None,
+    }
+}
+
 fn measured(alloc: Global, server: &mut Server, what: &str, size: u32, rounds: u32) -> Option<u64> {
-    if what == "churn" {
-        return churned(alloc, server, size, rounds);
+    match change_named(what) {
+        Some(change) => changes(alloc, server, change, size, rounds),
+        None => listed_or_moved(alloc, server, what, size, rounds),
     }
-    if what == "readdir" || what == "readdirplus" {
-        return listed(alloc, server, size, rounds, what == "readdirplus");
+}
+
+fn listed_or_moved(
+    alloc: Global,
+    server: &mut Server,
+    what: &str,
+    size: u32,
+    rounds: u32,
+) -> Option<u64> {
+    match what {
+        "readdir" => listed(alloc, server, size, rounds, false),
+        "readdirplus" => listed(alloc, server, size, rounds, true),
+        "sparse" => sparse(alloc, server, size),
+        "copy" => copied(alloc, size, rounds),
+        _ => {
+            let data = vec![in alloc; 7u8; PIECE].ok()?;
+            moved(alloc, server, size, rounds, data.as_slice(), what == "read")
+        }
     }
-    let data = vec![in alloc; 7u8; PIECE].ok()?;
-    moved(alloc, server, size, rounds, data.as_slice(), what == "read")
 }
 
 fn total(alloc: Global, what: &str, size: u32, rounds: u32) -> Option<u64> {

@@ -1,11 +1,20 @@
--- For the code: the bytes of an entry in a listing, and the entries within limits.
-use Rattle.std.specs.Prelude.{◌≡◌, ℕ, ◌+◌, ◌-◌, ◌≤◌, nat_le, Bool, true, false, ◌&&◌, List, length, take, drop}
+-- For the code: the bytes of an entry in a listing, the entries within limits, and what READDIR and READDIRPLUS share.
+use Rattle.std.specs.Prelude.{◌≡◌, ℕ, ◌+◌, ◌-◌, ◌≤◌, nat_le, ◌==◌, Bool, true, false, ◌&&◌, List, [], ◌∷◌, length, take, drop, map, Option, None, Some}
 use Rattle.std.specs.Option.{option_map_or}
+use Rattle.nr_nfs_base.specs.declared.attributes.Attributes.{Attributes}
+use Rattle.nr_nfs_base.specs.declared.caller.Caller.{Caller}
+use Rattle.nr_nfs_base.specs.declared.verifier.Verifier.{Verifier}
+use Rattle.nr_nfs_base.specs.declared.status.Status.{Status}
+use Rattle.nr_nfs_base.specs.declared.status_union.StatusUnion.{StatusUnion}
+use Rattle.nr_nfs_base.specs.declared.status_union.StatusUnion.TheVariants.{Done, Failed}
+use Rattle.nr_nfs_res.specs.declared.readdir.Listing.{Listing}
+use Rattle.nr_tree.specs.Rules.{first, on, answer, node_of_handle, handle_rule}
+use Rattle.nr_tree.specs.Replies.{attributes_at}
 use Rattle.std.specs.FinMap.{get}
 use Rattle.nr_xdr.specs.Item.{pad_len}
 use Rattle.nr_tree.specs.Entries.{Entry, Each}
 use Rattle.nr_tree.specs.Tree.{Tree, value_at}
-use Rattle.nr_ops_dir.specs.Readdir.{total, name_size, goes_on}
+use Rattle.nr_ops_dir.specs.Readdir.{total, name_size, goes_on, longest, cookie_verifier, entries_behind, listing_rules, room_rules}
 use Rattle.nr_ops_dir.specs.declared.listings.Detail.{Detail}
 use Rattle.nr_ops_dir.specs.declared.listings.Detail.TheVariants.{Names, Nodes}
 use Rattle.nr_ops_dir.specs.declared.listings.Limits.{Limits}
@@ -45,3 +54,22 @@ pub record IsRange (list : List Entry) (start end : ℕ) (taken left : List Entr
   pub taken_are : take (end - start) (drop start list) ≡ taken
   pub left_are : drop start list ≡ left
   pub goes : goes_on taken left ≡ true
+
+-- the same if there may be no limits: then the results without entries are too large
+abbrev pub are_within : Tree → Option Limits → List Entry → Bool
+are_within t None taken = false
+are_within t (Some limits) taken = within t limits taken
+
+-- ===== what READDIR and READDIRPLUS share, by which entries fit and by what is said of each
+
+abbrev pub rules_by : Tree → Caller → List ℕ → ℕ → Verifier → (List Entry → Bool) → List (Option Status)
+rules_by t c h cookie verifier fits =
+    handle_rule t h ∷ on (node_of_handle t h) (λ dir. first (listing_rules c cookie verifier dir) ∷ first (room_rules fits (entries_behind t h cookie)) ∷ [])
+
+abbrev pub listing_of : {E : Type 0} → Option Attributes → (Entry → E) → List Entry → Bool → Listing E
+listing_of attributes said taken eof = record { dir_attributes = attributes; verifier = cookie_verifier; entries = map said taken; eof = eof }
+
+abbrev pub reply_by : {E : Type 0} → Tree → Caller → List ℕ → ℕ → Verifier → (List Entry → Bool) → (Entry → E) → StatusUnion (Listing E) (Option Attributes) Status
+reply_by t c h cookie verifier fits said =
+    answer (first (rules_by t c h cookie verifier fits)) (λ s. Failed s (attributes_at t h))
+    (Done (listing_of (attributes_at t h) said (longest fits [] (entries_behind t h cookie)) (length (longest fits [] (entries_behind t h cookie)) == length (entries_behind t h cookie))))

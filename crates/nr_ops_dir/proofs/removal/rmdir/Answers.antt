@@ -1,26 +1,11 @@
-use Rattle.std.proofs.Common.{ℕ, List, subst, sym, ◌∙◌}
-use Rattle.std.specs.Prelude.{IfOk}
-use Rattle.nr_tree.specs.Steps.{CanRemoveEntry}
-use Rattle.nr_tree.specs.Rules.{first}
-use Rattle.nr_ops_dir.specs.Removal.{rmdir_rules}
-use Rattle.nr_ops_dir.specs.private.Removed.{tree_after_removal, results_of_removal}
-use Rattle.nr_ops_dir.proofs.Removed.{bare_directory, removal_allowed, removal_tree, removal_results}
+use Rattle.std.proofs.Common.{◌∙◌}
+use Rattle.nr_ops_dir.proofs.Removed.{rmdir_tree_is, rmdir_reply_is}
 use Rattle.nr_ops_dir.proofs.removal.rmdir.Goals as goal
-
-pub remove_found-requires : goal.remove_found-requires
-remove_found-requires c =
-    subst (λ (name : List ℕ). IfOk c.directory_to_remove-found.result (λ n. CanRemoveEntry c.args.tree.now n.0 name n.1)) (sym c.as_slice-2.ensures.value)
-    (removal_allowed c.args.tree.now (first (rmdir_rules c.args.tree.now c.args.caller.now c.args.space.now c.args.args.now)) c.args.args.now.dir c.args.args.now.name c.directory_to_remove-found.result
-    (λ n none is. bare_directory c.args.tree.now c.args.caller.now c.args.space.now c.args.args.now n none is) c.directory_to_remove-found.ensures)
 
 pub returns-clause-result : goal.returns-clause-result
 returns-clause-result c =
-    c.remove_found.ensures.result
-    ∙ (λ i. results_of_removal c.args.tree.now (tree_after_removal c.args.tree.now c.args.now (c.as_slice-2.ensures.value i) c.directory_to_remove-found.result) (c.as_slice.ensures.value i) c.directory_to_remove-found.result)
-    ∙ removal_results c.args.tree.now c.args.now (first (rmdir_rules c.args.tree.now c.args.caller.now c.args.space.now c.args.args.now)) c.args.args.now.dir c.args.args.now.name c.directory_to_remove-found.result c.directory_to_remove-found.ensures
+    c.remove_target.ensures.result ∙ rmdir_reply_is c.args.tree.now c.args.caller.now c.args.space.now c.args.args.now c.args.now c.as_slice-dir.result.now c.as_slice-name.result.now c.as_slice-dir.ensures.value c.as_slice-name.ensures.value
 
 pub returns-clause-tree : goal.returns-clause-tree
 returns-clause-tree c =
-    c.remove_found.ensures.tree
-    ∙ (λ i. tree_after_removal c.args.tree.now c.args.now (c.as_slice-2.ensures.value i) c.directory_to_remove-found.result)
-    ∙ removal_tree c.args.tree.now c.args.now (first (rmdir_rules c.args.tree.now c.args.caller.now c.args.space.now c.args.args.now)) c.args.args.now.dir c.args.args.now.name c.directory_to_remove-found.result c.directory_to_remove-found.ensures
+    c.remove_target.ensures.tree ∙ rmdir_tree_is c.args.tree.now c.args.caller.now c.args.space.now c.args.args.now c.args.now c.as_slice-dir.result.now c.as_slice-name.result.now c.as_slice-dir.ensures.value c.as_slice-name.ensures.value

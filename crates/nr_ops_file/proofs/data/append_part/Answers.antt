@@ -1,4 +1,4 @@
-use Rattle.std.proofs.Common.{◌≡◌, ◌+◌, ◌-◌, ◌%◌, ◌<◌, ◌≤◌, ◌++◌, ℕ, length, take, drop, refl, arith}
+use Rattle.std.proofs.Common.{◌+◌, ◌-◌, ◌%◌, ◌<◌, ◌≤◌, length, take, drop, refl, arith}
 use Rattle.nr_tree.specs.Pages.{page_size}
 use Rattle.nr_ops_file.proofs.Parts.{left_after, none_left, some_piece}
 use Rattle.nr_ops_file.proofs.data.append_part.Goals as goal

@@ -22,10 +22,10 @@ pub returns-in-Read : goal.returns-in-Read
 returns-in-Read c = subst (λ (p : NfsProcedure). IfOk c.read_file.result (λ o. o ≡ reply_of c.args.tree.now c.args.call.now p)) (sym c.in-Read.is) c.read_file.ensures
 
 pub returns-in-Readdir : goal.returns-in-Readdir
-returns-in-Readdir c = subst (λ (p : NfsProcedure). IfOk c.read-in-Readdir.result (λ o. o ≡ reply_of c.args.tree.now c.args.call.now p)) (sym c.in-Readdir.is) c.read-in-Readdir.ensures
+returns-in-Readdir c = subst (λ (p : NfsProcedure). IfOk c.read_directory.result (λ o. o ≡ reply_of c.args.tree.now c.args.call.now p)) (sym c.in-Readdir.is) c.read_directory.ensures
 
 pub returns-in-Readdirplus : goal.returns-in-Readdirplus
-returns-in-Readdirplus c = subst (λ (p : NfsProcedure). IfOk c.read-in-Readdirplus.result (λ o. o ≡ reply_of c.args.tree.now c.args.call.now p)) (sym c.in-Readdirplus.is) c.read-in-Readdirplus.ensures
+returns-in-Readdirplus c = subst (λ (p : NfsProcedure). IfOk c.read_directory-in-Readdirplus.result (λ o. o ≡ reply_of c.args.tree.now c.args.call.now p)) (sym c.in-Readdirplus.is) c.read_directory-in-Readdirplus.ensures
 
 pub returns-in-Fsstat : goal.returns-in-Fsstat
 returns-in-Fsstat c = subst (λ (p : NfsProcedure). IfOk c.read-in-Fsstat.result (λ o. o ≡ reply_of c.args.tree.now c.args.call.now p)) (sym c.in-Fsstat.is) c.read-in-Fsstat.ensures

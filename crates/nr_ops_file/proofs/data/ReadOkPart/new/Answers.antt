@@ -1,5 +1,5 @@
 use Rattle.std.proofs.Common.{refl}
-use Rattle.nr_ops_file.proofs.Parts.{part_is, part_holds}
+use Rattle.nr_ops_file.proofs.Parts.{part_is}
 use Rattle.nr_ops_file.proofs.data.ReadOkPart.new.Goals as goal
 
 pub returns : goal.returns
