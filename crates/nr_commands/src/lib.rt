@@ -1,5 +1,5 @@
-//! The commands of a client: each opens a session, makes its requests one after another, prints their result, and closes the
-//! session.
+//! The commands of a client: each opens a session, makes its requests one after another, closes the session, and prints their
+//! result.
 //!
 //! [`run_command`] runs a command, and [`end_text`] is the text for a reason that one was not done.
 #![tactic(auto)]

@@ -28,7 +28,7 @@ use Rattle.nr_requester.specs.CountedMarks.{has_bytes, marks_if}
 use Rattle.nr_requester.specs.Standing.{RequesterRepresents, AnswersAfter, LinkKeeps}
 use Rattle.nr_requester.proofs.Queues.{written_writable}
 use Rattle.nr_responder.specs.ResponderState.{ResponderSide, queue, queued_bytes, may_write, end_of, after_drain as after_server_drain}
-use Rattle.nr_responder.specs.Standing.{RepresentsServer, Stands}
+use Rattle.nr_responder.specs.Standing.{RepresentsServer, ResponderRepresents}
 use Rattle.nr_responder.proofs.Drained.{split_queue}
 use Rattle.nr_drill.proofs.Carried.{same_received}
 
@@ -96,7 +96,7 @@ server_quiet o link run =
     ∙ server_written o (server o link run).state (server o link run).ended
 
 -- one that didn't run out of memory
-pub represents_of : (o : LinkParameters) (link : ℕ) (run : List Mark) (v : ResponderSide) → end_of v ≢ Some ends.Memory → Stands o link run v → RepresentsServer o link run v
+pub represents_of : (o : LinkParameters) (link : ℕ) (run : List Mark) (v : ResponderSide) → end_of v ≢ Some ends.Memory → ResponderRepresents o link run v → RepresentsServer o link run v
 represents_of o link run v some (inl h) = h
 represents_of o link run v some (inr out) = absurd (some out.output.0)
 

@@ -18,7 +18,7 @@ use Rattle.nr_requester.proofs.AllMarks.{others_leave_it}
 use Rattle.nr_responder.specs.declared.call.Sent.{Sent}
 use Rattle.nr_responder.specs.Answering.{Answers, answer_to, message_for}
 use Rattle.nr_responder.specs.ResponderState.{ResponderSide, end_of}
-use Rattle.nr_responder.specs.Standing.{Stands}
+use Rattle.nr_responder.specs.Standing.{ResponderRepresents}
 use Rattle.nr_responder.proofs.Answered.{answer_link}
 use Rattle.nr_plain.specs.Setup.{Setup}
 use Rattle.nr_plain.specs.Replies.{plain_reply}
@@ -59,11 +59,11 @@ plain_execute link xid moment payload place reply bytes = record { drops = refl;
 
 -- what the responder says of the payload of its next call, and of the answer
 abbrev pub HasPayload : ResponderSide → ℕ → List ℕ → Type 0
-HasPayload v xid payload = (opened : LinkParameters) (link : ℕ) (run : List Mark) → Stands opened link run v → IsExecuted opened link run xid payload
+HasPayload v xid payload = (opened : LinkParameters) (link : ℕ) (run : List Mark) → ResponderRepresents opened link run v → IsExecuted opened link run xid payload
 
 abbrev pub TakesAnswer : ResponderSide → ℕ → List ℕ → ResponderSide → Type 0
-TakesAnswer v xid reply v2 = (opened : LinkParameters) (link : ℕ) (run : List Mark) (moment : Moment) (payload : List ℕ) (place : ℕ) → Stands opened link run v → IsExecuted opened link run xid payload →
-    Stands opened link (run ++ marks.Execute link xid moment payload place reply ∷ []) v2
+TakesAnswer v xid reply v2 = (opened : LinkParameters) (link : ℕ) (run : List Mark) (moment : Moment) (payload : List ℕ) (place : ℕ) → ResponderRepresents opened link run v → IsExecuted opened link run xid payload →
+    ResponderRepresents opened link (run ++ marks.Execute link xid moment payload place reply ∷ []) v2
 
 -- what the plain server says of the call
 abbrev pub IsServed : PlainServerState → Moment → (payload reply : List ℕ) → ℕ → PlainServerState → Type 0
@@ -139,7 +139,7 @@ if_none : (b : Bool) → if_standing {A = ReadyCall} b None ≡ None
 if_none true = refl
 if_none false = refl
 
-pub none_ready : (v : DrillLinkState) → (end_of v.server ≢ Some ends.Memory → (o : LinkParameters) (link : ℕ) (run : List Mark) → Stands o link run v.server → next_call o link run ≡ None) →
+pub none_ready : (v : DrillLinkState) → (end_of v.server ≢ Some ends.Memory → (o : LinkParameters) (link : ℕ) (run : List Mark) → ResponderRepresents o link run v.server → next_call o link run ≡ None) →
     (s : Setting) (link : ℕ) (d : Drill) → LinkStands s link d v → waiting_call s link d.marks ≡ None
 unfolding waiting_call
 none_ready v none s link d h =
@@ -167,9 +167,9 @@ works_view v h seconds run kept is works = subst (λ (x : DrillLinkState). Works
 
 -- what the responder's answer None says
 pub none_waits : (side : ResponderSide) (answer : Option ℕ) → answer ≡ None →
-    (end_of side ≢ Some ends.Memory → (o : LinkParameters) (link : ℕ) (run : List Mark) → Stands o link run side →
+    (end_of side ≢ Some ends.Memory → (o : LinkParameters) (link : ℕ) (run : List Mark) → ResponderRepresents o link run side →
     MatchOption answer (next_call o link run ≡ None) (λ xid. IfSome (next_call o link run) (λ r. xid ≡ r.xid) × (is_some (next_call o link run) ≡ true))) →
-    end_of side ≢ Some ends.Memory → (o : LinkParameters) (link : ℕ) (run : List Mark) → Stands o link run side → next_call o link run ≡ None
+    end_of side ≢ Some ends.Memory → (o : LinkParameters) (link : ℕ) (run : List Mark) → ResponderRepresents o link run side → next_call o link run ≡ None
 none_waits side answer is exact live o link run stands =
     subst (λ (x : Option ℕ). MatchOption x (next_call o link run ≡ None) (λ xid. IfSome (next_call o link run) (λ r. xid ≡ r.xid) × (is_some (next_call o link run) ≡ true))) is (exact live o link run stands)
 
@@ -189,7 +189,7 @@ pub works_gone : (seconds : ℕ) (v h : DrillLinkState) (run : List Mark) (kept 
 works_gone seconds v h run kept is gone = works_view v h seconds run kept is (works_none seconds v run kept (none_dropped v gone))
 
 pub works_idle : (seconds : ℕ) (v h : DrillLinkState) (run : List Mark) (kept : PlainServerState) (answer : Option ℕ) → v ≡ h → answer ≡ None →
-    (end_of v.server ≢ Some ends.Memory → (o : LinkParameters) (link : ℕ) (run : List Mark) → Stands o link run v.server →
+    (end_of v.server ≢ Some ends.Memory → (o : LinkParameters) (link : ℕ) (run : List Mark) → ResponderRepresents o link run v.server →
     MatchOption answer (next_call o link run ≡ None) (λ xid. IfSome (next_call o link run) (λ r. xid ≡ r.xid) × (is_some (next_call o link run) ≡ true))) →
     Works after_work seconds h h run run kept kept
 works_idle seconds v h run kept answer is none exact = works_view v h seconds run kept is (works_none seconds v run kept (none_ready v (none_waits v.server answer none exact)))

@@ -9,7 +9,7 @@ use Rattle.nr_reduce.specs.declared.mark.Mark.TheVariants as marks
 use Rattle.nr_reduce.proofs.Standing.{itself}
 use Rattle.nr_requester.proofs.AllMarks.{others_leave_it}
 use Rattle.nr_responder.specs.ResponderState.{ResponderSide, end_of}
-use Rattle.nr_responder.specs.Standing.{Stands}
+use Rattle.nr_responder.specs.Standing.{ResponderRepresents}
 use Rattle.nr_drill.specs.Drill.{Setting, Drill, Pipes, pipes_of, with_pipes, with_mark, after_feeding, after_feeding_up, after_up, settled}
 use Rattle.nr_drill.specs.InBytes.{RepliedInBytes}
 use Rattle.nr_drill_link.specs.DrillLinkState.{DrillLinkState}
@@ -34,7 +34,7 @@ not_fed link bytes = ap (λ (b : Bool). if (b && false) then bytes else []) (its
 
 -- a responder was fed this piece
 abbrev pub TakesPiece : ResponderSide → List ℕ → ResponderSide → Type 0
-TakesPiece v piece v2 = (opened : LinkParameters) (link : ℕ) (run : List Mark) → Stands opened link run v → Stands opened link (run ++ marks.Fed link Responder piece ∷ []) v2
+TakesPiece v piece v2 = (opened : LinkParameters) (link : ℕ) (run : List Mark) → ResponderRepresents opened link run v → ResponderRepresents opened link (run ++ marks.Fed link Responder piece ∷ []) v2
 
 pub up_fed : (v : DrillLinkState) (server : ResponderSide) (n : ℕ) (piece : List ℕ) (pipes : Pipes) (run run2 : List Mark) → piece ≡ take n v.pipes.up → piece ≢ [] → TakesPiece v.server piece server → end_of server ≢ Some ends.Memory →
     pipes ≡ record { up = drop n v.pipes.up; down = v.pipes.down } → run2 ≡ run ++ marks.Fed v.number Responder piece ∷ [] → Goes (λ s link. after_feeding_up link n) v (with_ends v v.client server pipes) run run2

@@ -14,7 +14,7 @@ use Rattle.nr_requester.specs.Standing.{RequesterRepresents}
 use Rattle.nr_requester.specs.AfterCalls.{opened_as}
 use Rattle.nr_responder.specs.ResponderState.{ResponderSide, may_write, end_of}
 use Rattle.nr_responder.specs.Draining.{Drains}
-use Rattle.nr_responder.specs.Standing.{Stands}
+use Rattle.nr_responder.specs.Standing.{ResponderRepresents}
 use Rattle.nr_drill.specs.Drill.{Pipes, appended, after_all_output, after_drop, after_raw}
 use Rattle.nr_drill_link.specs.DrillLinkState.{DrillLinkState}
 use Rattle.nr_endpoint.specs.LinkState.{LinkSide}
@@ -59,7 +59,7 @@ server_writes before after first out bytes n d all none is =
       within = d.within;
       state = d.state;
       all = taken ∙ ap (λ (k : ℕ). take k (may_write before)) all ∙ take-length (may_write before);
-      stands = λ opened link run h. subst (λ (xs : List ℕ). Stands opened link (run ++ marks.Wrote link Responder xs ∷ []) after) (sym taken) (d.stands opened link run h);
+      stands = λ opened link run h. subst (λ (xs : List ℕ). ResponderRepresents opened link (run ++ marks.Wrote link Responder xs ∷ []) after) (sym taken) (d.stands opened link run h);
     }
 
 pub wrote_no_bytes_up : (v v0 : DrillLinkState) (client : RequesterSide) (bytes : List ℕ) (run : List Mark) → v ≡ v0 → ClientWrites v.client client bytes → bytes ≡ [] →
@@ -124,7 +124,7 @@ empty_pipe = record { log = []; place = 0; faults = 0 }
 
 pub fresh_link : (number credits : ℕ) (client : RequesterSide) (server : ResponderSide) (up down : PipeState) (calls : List AwaitedCall) → client ≡ opened_as 1 1 credits client.staging → up ≡ empty_pipe → down ≡ empty_pipe → calls ≡ [] →
     ((opened : LinkParameters) (l : ℕ) → opened.first_xid ≡ 1 → opened.first_stag ≡ 1 → opened.wished ≡ credits → RequesterRepresents opened l client []) → end_of server ≡ None →
-    ((opened : LinkParameters) (l : ℕ) → opened.granted ≡ credits → Stands opened l [] server) → IsFresh number credits (link_view number client server up down false 0 calls)
+    ((opened : LinkParameters) (l : ℕ) → opened.granted ≡ credits → ResponderRepresents opened l [] server) → IsFresh number credits (link_view number client server up down false 0 calls)
 fresh_link number credits client server up down calls opened no_up no_down none asks live serves = record {
   number = refl;
   pipes = (λ i. record { up = waiting_bytes (no_up i); down = waiting_bytes (no_down i) });

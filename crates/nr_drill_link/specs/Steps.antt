@@ -10,7 +10,7 @@ use Rattle.nr_requester.specs.RequesterState.{RequesterSide, queue_of}
 use Rattle.nr_requester.specs.AfterCalls.{after_drain}
 use Rattle.nr_requester.specs.Standing.{RequesterRepresents, StandsOn}
 use Rattle.nr_responder.specs.ResponderState.{ResponderSide, end_of, may_write, after_drain as after_server_drain}
-use Rattle.nr_responder.specs.Standing.{Stands}
+use Rattle.nr_responder.specs.Standing.{ResponderRepresents}
 use Rattle.nr_plain.specs.Setup.{Setup}
 use Rattle.nr_plain.specs.Stands.{PlainServerState, RepresentsJournal}
 use Rattle.nr_drill.specs.Drill.{link_of, Setting, Drill, plain_of, pipes_of, empty_pipes, settled, after_work, after_opening}
@@ -70,7 +70,7 @@ pub record IsFresh (link credits : ℕ) (v : DrillLinkState) : Type 0 where
   pub client_live : v.client.state.side.ended ≡ None
   pub server_live : end_of v.server ≡ None
   pub client : (opened : LinkParameters) (l : ℕ) → opened.first_xid ≡ 1 → opened.first_stag ≡ 1 → opened.wished ≡ credits → RequesterRepresents opened l v.client []
-  pub server : (opened : LinkParameters) (l : ℕ) → opened.granted ≡ credits → Stands opened l [] v.server
+  pub server : (opened : LinkParameters) (l : ℕ) → opened.granted ≡ credits → ResponderRepresents opened l [] v.server
 
 -- a client was drained: these are all bytes that it had to write
 pub record ClientWrites (before after : RequesterSide) (bytes : List ℕ) : Type 0 where
@@ -85,7 +85,7 @@ pub record ServerWrites (before after : ResponderSide) (bytes : List ℕ) : Type
   pub within : n ≤ length (may_write before)
   pub state : after ≡ after_server_drain before n
   pub all : bytes ≡ may_write before
-  pub stands : (opened : LinkParameters) (link : ℕ) (run : List Mark) → Stands opened link run before → Stands opened link (run ++ marks.Wrote link Responder bytes ∷ []) after
+  pub stands : (opened : LinkParameters) (link : ℕ) (run : List Mark) → ResponderRepresents opened link run before → ResponderRepresents opened link (run ++ marks.Wrote link Responder bytes ∷ []) after
 
 -- The next call was executed at this second: the drill with its mark is what is left to settle of the step `after_work`.
 pub record ExecutedAt (setup : Setup) (s : Setting) (link : ℕ) (d : Drill) (after : DrillLinkState) (run : List Mark) (kept : PlainServerState) : Type 0 where

@@ -14,7 +14,7 @@ use Rattle.nr_reduce.specs.declared.mark.LinkParameters.{LinkParameters}
 use Rattle.nr_reduce.specs.History.{bytes_received, bytes_sent}
 use Rattle.nr_reduce.specs.PlainJournal.{journal}
 use Rattle.nr_responder.specs.ResponderState.{ResponderSide, end_of, opened_side, queue}
-use Rattle.nr_responder.specs.Standing.{Stands}
+use Rattle.nr_responder.specs.Standing.{ResponderRepresents}
 use Rattle.nr_plain.specs.Stands.{PlainServerState, RepresentsJournal}
 use Rattle.nr_host.specs.declared.conn_end.ConnEnd.{ConnEnd}
 use Rattle.nr_host.specs.declared.conn_end.ConnEnd.TheVariants as ends
@@ -57,7 +57,7 @@ module _ (credits : ℕ) (before : Outside) (left given left' given' : Option (L
 -- nothing more is read, and the connection ends
 pub carried : (credits : ℕ) (before now : Outside) (v : ResponderSide) (read : ℕ) (end : ConnEnd) → CarriesTo credits before now v read → AheadAt end [] → MoreAt end []
     → ReadAt end read → FailedAt end now.sink.failed
-    → ((opened : LinkParameters) (link : ℕ) (run : List Mark) → Stands opened link run v → AllQuiet (record { credits = credits; read = read }) link run → opened.granted ≡ credits
+    → ((opened : LinkParameters) (link : ℕ) (run : List Mark) → ResponderRepresents opened link run v → AllQuiet (record { credits = credits; read = read }) link run → opened.granted ≡ credits
     → length (bytes_received link Responder run) ≡ read → IsCause opened link run now.left end)
     → IsServed credits before now end
 carried credits before now v read end carries ahead more most failed cause link =
@@ -158,7 +158,7 @@ module _ (left given taken : Option (List ℕ)) (faults : ℕ) (gave : Option (L
   }
 
   pub opened : (credits : ℕ) (v : ResponderSide) → v ≡ opened_side credits → end_of v ≡ None
-      → ((opened : LinkParameters) (link : ℕ) → opened.granted ≡ credits → Stands opened link [] v) → CarriesTo credits first first v 0
+      → ((opened : LinkParameters) (link : ℕ) → opened.granted ≡ credits → ResponderRepresents opened link [] v) → CarriesTo credits first first v 0
   unfolding initial_link
   opened credits v is live stands link = (
     [],

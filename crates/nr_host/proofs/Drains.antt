@@ -10,7 +10,7 @@ use Rattle.nr_reduce.specs.declared.mark.LinkParameters.{LinkParameters}
 use Rattle.nr_reduce.specs.Run.{server}
 use Rattle.nr_responder.specs.Draining.{Drains}
 use Rattle.nr_responder.specs.ResponderState.{ResponderSide, end_of, may_write, queue}
-use Rattle.nr_responder.specs.Standing.{Stands}
+use Rattle.nr_responder.specs.Standing.{ResponderRepresents}
 use Rattle.nr_responder.proofs.Marks.{ended_stands}
 use Rattle.nr_plain.specs.Stands.{PlainServerState}
 use Rattle.nr_link.specs.declared.end.End.{End}
@@ -130,7 +130,7 @@ stopped sink sink' v v' end writes why same other terms link before left given g
     let not_out : end_of v ≡ Some link_ends.Memory → ⊥ = λ e. other (same_Some end link_ends.Memory (sym why ∙ e)) in
     let some : is_some (end_of v') ≡ true = ap (λ (o : Option End). is_some o) over in
     let last : List Mark = run' ++ marks.Fed link Responder ahead ∷ [] in
-    let stands : (opened : LinkParameters) → opened.granted ≡ terms.credits → Stands opened link last v' =
+    let stands : (opened : LinkParameters) → opened.granted ≡ terms.credits → ResponderRepresents opened link last v' =
     λ opened granted. ended_stands opened link run' v' ahead some (live'.stands opened granted) in
     record {
       run = last;

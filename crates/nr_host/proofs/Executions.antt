@@ -11,7 +11,7 @@ use Rattle.nr_reduce.specs.Served.{IsExecuted}
 use Rattle.nr_responder.specs.declared.call.Sent.{Sent}
 use Rattle.nr_responder.specs.Answering.{Answers, answer_to, message_for}
 use Rattle.nr_responder.specs.ResponderState.{ResponderSide, end_of}
-use Rattle.nr_responder.specs.Standing.{Stands}
+use Rattle.nr_responder.specs.Standing.{ResponderRepresents}
 use Rattle.nr_responder.proofs.Answered.{answer_link}
 use Rattle.nr_plain.specs.Setup.{Setup}
 use Rattle.nr_plain.specs.Stands.{PlainServerState, RepresentsJournal, ExecutesCall}
@@ -30,7 +30,7 @@ live_answered v v' xid reply sent a live =
 pub runs_on : (terms : Terms) (link : ℕ) (before : Outside) (left given : Option (List ℕ)) (sink : SinkState) (gave gave' : Option (List Moment)) (kept kept' : PlainServerState)
     (ahead : List ℕ) (run : List Mark) (v : ResponderSide) (xid place : ℕ) (moment : Moment) (payload reply sent : List ℕ) → sent ≡ reply
     → IsLive terms link before (outside left given sink gave kept) ahead run v
-    → ((opened : LinkParameters) (l : ℕ) (r : List Mark) → Stands opened l r v → IsExecuted opened l r xid payload)
+    → ((opened : LinkParameters) (l : ℕ) (r : List Mark) → ResponderRepresents opened l r v → IsExecuted opened l r xid payload)
     → Gives gave gave' moment
     → ((s : Setup) (J : List Entry) → RepresentsJournal s J kept → ExecutesCall s J moment payload reply place kept')
     → Runs terms link before (outside left given sink gave' kept') ahead [] (run ++ marks.Execute link xid moment payload place sent ∷ [])

@@ -7,7 +7,7 @@ use Rattle.nr_reduce.specs.declared.mark.Mark.TheVariants as marks
 use Rattle.nr_reduce.specs.declared.mark.LinkParameters.{LinkParameters}
 use Rattle.nr_wire.specs.Feeding.{bytes_taken}
 use Rattle.nr_responder.specs.ResponderState.{ResponderSide, end_of}
-use Rattle.nr_responder.specs.Standing.{Stands}
+use Rattle.nr_responder.specs.Standing.{ResponderRepresents}
 use Rattle.nr_responder.specs.Steps.{Fed}
 use Rattle.nr_responder.proofs.Marks.{fed_stands_lem}
 use Rattle.nr_plain.specs.Stands.{PlainServerState}
@@ -19,7 +19,7 @@ use Rattle.nr_host.proofs.OneFrame.{one_frame}
 
 -- a responder stands for one piece more
 abbrev pub TakesIn : List ℕ → ResponderSide → ResponderSide → Type 0
-TakesIn piece v v' = (opened : LinkParameters) (link : ℕ) (run : List Mark) → Stands opened link run v → Stands opened link (run ++ marks.Fed link Responder piece ∷ []) v'
+TakesIn piece v v' = (opened : LinkParameters) (link : ℕ) (run : List Mark) → ResponderRepresents opened link run v → ResponderRepresents opened link (run ++ marks.Fed link Responder piece ∷ []) v'
 
 pub live_fed : (terms : Terms) (link : ℕ) (before now : Outside) (piece ahead : List ℕ) (run : List Mark) (v v' : ResponderSide) → TakesIn piece v v'
     → IsLive terms link before now (piece ++ ahead) run v → AllQuiet terms link run

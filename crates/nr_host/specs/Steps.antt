@@ -9,7 +9,7 @@ use Rattle.nr_reduce.specs.declared.mark.Mark.{Mark}
 use Rattle.nr_reduce.specs.declared.mark.LinkParameters.{LinkParameters}
 use Rattle.nr_link.specs.declared.end.End.TheVariants as link_ends
 use Rattle.nr_responder.specs.ResponderState.{ResponderSide, end_of, queue}
-use Rattle.nr_responder.specs.Standing.{Stands}
+use Rattle.nr_responder.specs.Standing.{ResponderRepresents}
 use Rattle.nr_plain.specs.Stands.{PlainServerState}
 use Rattle.nr_host.specs.Connections.{Terms, Outside, Runs, SinkState, IsQuiet}
 use Rattle.nr_links.specs.Limits.{read_max}
@@ -19,7 +19,7 @@ use Rattle.nr_host.specs.declared.conn_end.ConnEnd.{ConnEnd}
 -- it made these marks, and its responder stands for them
 pub record IsLive (terms : Terms) (link : ℕ) (before now : Outside) (ahead : List ℕ) (run : List Mark) (v : ResponderSide) : Type 0 where
   pub runs : Runs terms link before now ahead [] run
-  pub stands : (opened : LinkParameters) → opened.granted ≡ terms.credits → Stands opened link run v
+  pub stands : (opened : LinkParameters) → opened.granted ≡ terms.credits → ResponderRepresents opened link run v
 
 abbrev pub AllQuiet : Terms → ℕ → List Mark → Type 0
 AllQuiet terms link run = (opened : LinkParameters) → opened.granted ≡ terms.credits → IsQuiet opened link run
@@ -105,7 +105,7 @@ CarriesTo credits before now v read =
 -- The client ended its stream.
 abbrev pub EndsIdle : ConnEnd → ℕ → ResponderSide → Type 0
 EndsIdle end read v =
-    (opened : LinkParameters) (link : ℕ) (run : List Mark) (left : Option (List ℕ)) → Stands opened link run v → IsQuiet opened link run → IsAtEnd left →
+    (opened : LinkParameters) (link : ℕ) (run : List Mark) (left : Option (List ℕ)) → ResponderRepresents opened link run v → IsQuiet opened link run → IsAtEnd left →
     length (bytes_received link Responder run) ≡ read → IsCause opened link run left end
 
 abbrev pub with_failed : Bool → Outside → Outside

@@ -32,7 +32,7 @@ use Rattle.nr_responder.specs.declared.call.Ready.{Ready}
 use Rattle.nr_responder.specs.Fetching.{payload_taken}
 use Rattle.nr_responder.specs.Keeping.{IsReadyOf, HasPayload, ArePayloads, Begins, Keeps, KeepsEnd}
 use Rattle.nr_responder.specs.Keeping.Begins.{BeforeHello, AfterHello}
-use Rattle.nr_responder.specs.Standing.{RepresentsServer, Stands}
+use Rattle.nr_responder.specs.Standing.{RepresentsServer, ResponderRepresents}
 use Rattle.nr_responder.specs.declared.call.Sent.{Sent}
 use Rattle.nr_responder.specs.Steps.{GoesOn}
 use Rattle.nr_responder.specs.declared.call.Pending.{Pending}
@@ -226,8 +226,8 @@ answered_goes opened end so_far v after e r sent is h next xid payload a =
           ∙ ap (λ (bytes : List ℕ). queue v ++ bytes) (sym due ∙ sym (executed_due opened k e end.ended is) ∙ sym (append-nil (output_for_in (server_rules opened) k (CallExecuted e) end.ended)));
     }
 
-pub answered_stands : (opened : LinkParameters) (link : ℕ) (run : List Mark) (v after : ResponderSide) (xid : ℕ) (moment : Moment) (payload : List ℕ) (place : ℕ) (reply : List ℕ) (sent : Sent) → Stands opened link run v → end_of v ≡ None →
-    IsExecuted opened link run xid payload → Answers v after xid reply sent → Stands opened link (run ++ marks.Execute link xid moment payload place reply ∷ []) after
+pub answered_stands : (opened : LinkParameters) (link : ℕ) (run : List Mark) (v after : ResponderSide) (xid : ℕ) (moment : Moment) (payload : List ℕ) (place : ℕ) (reply : List ℕ) (sent : Sent) → ResponderRepresents opened link run v → end_of v ≡ None →
+    IsExecuted opened link run xid payload → Answers v after xid reply sent → ResponderRepresents opened link (run ++ marks.Execute link xid moment payload place reply ∷ []) after
 answered_stands opened link run v after xid moment payload place reply sent stands live_now x a =
     let h : RepresentsServer opened link run v = represents opened link run v live_now stands in
     let e : ExecutedCall = record { xid = xid; moment = moment; payload = payload; place = place; reply = reply } in
@@ -254,7 +254,7 @@ xid_of_first : (ready : List ReadyCall) (xid : ℕ) → slice_get (map (λ q. q.
 xid_of_first [] xid is = absurd cc
 xid_of_first (r ∷ ready) xid is = (r, (refl, (let h : r.xid ≡ xid = cc in sym h)))
 
-pub next_kept : (opened : LinkParameters) (link : ℕ) (run : List Mark) (v : ResponderSide) (xid : ℕ) → Stands opened link run v → end_of v ≡ None → slice_get v.ready 0 ≡ Some xid → NextKept opened link run v xid
+pub next_kept : (opened : LinkParameters) (link : ℕ) (run : List Mark) (v : ResponderSide) (xid : ℕ) → ResponderRepresents opened link run v → end_of v ≡ None → slice_get v.ready 0 ≡ Some xid → NextKept opened link run v xid
 next_kept opened link run v xid stands live_now first =
     let h : RepresentsServer opened link run v = represents opened link run v live_now stands in
     let both : (h.end.ended ≡ None) × Keeps opened h.end.state h.input v = not_ended_lem opened h.end h.input v live_now h.keeps in
@@ -272,7 +272,7 @@ next_kept opened link run v xid stands live_now first =
       payload = first_payload h.end.state.calls f.0 (drop 1 h.end.state.ready) v.fetching.payloads (subst (λ (rs : List ReadyCall). ArePayloads h.end.state.calls rs v.fetching.payloads) ready both.1.payloads);
     }
 
-pub payload_is_lem : (opened : LinkParameters) (link : ℕ) (run : List Mark) (v : ResponderSide) (xid : ℕ) → Stands opened link run v → end_of v ≡ None → slice_get v.ready 0 ≡ Some xid →
+pub payload_is_lem : (opened : LinkParameters) (link : ℕ) (run : List Mark) (v : ResponderSide) (xid : ℕ) → ResponderRepresents opened link run v → end_of v ≡ None → slice_get v.ready 0 ≡ Some xid →
     (at : ℕ) (call : PendingCall) (payload : Option (List ℕ)) (stream : List ℕ) → slice_get v.calls at ≡ Some call → call.xid ≡ xid → slice_get v.fetching.payloads 0 ≡ Some payload → IsPayload call payload stream → IsExecuted opened link run xid stream
 payload_is_lem opened link run v xid h live_now first at call payload stream place own first_is conveyed =
     let n : NextKept opened link run v xid = next_kept opened link run v xid h live_now first in
@@ -286,7 +286,7 @@ payload_is_lem opened link run v xid h live_now first at call payload stream pla
       conveyed = stream_is n.call p call stream (subst (HasStream n.call p) f.same f.holds) (subst (λ (q : Option (List ℕ)). IsPayload call q stream) same_first conveyed);
     }
 
-pub payload_there_lem : (opened : LinkParameters) (link : ℕ) (run : List Mark) (v : ResponderSide) (xid : ℕ) → Stands opened link run v → end_of v ≡ None → slice_get v.ready 0 ≡ Some xid → list_any (has xid) v.calls ≡ true
+pub payload_there_lem : (opened : LinkParameters) (link : ℕ) (run : List Mark) (v : ResponderSide) (xid : ℕ) → ResponderRepresents opened link run v → end_of v ≡ None → slice_get v.ready 0 ≡ Some xid → list_any (has xid) v.calls ≡ true
 payload_there_lem opened link run v xid h live_now first =
     let n : NextKept opened link run v xid = next_kept opened link run v xid h live_now first in
     ap (λ (cs : List PendingCall). list_any (has xid) cs) n.calls ∙ ap (λ (x : ℕ). list_any (has x) n.server.calls) n.own ∙ n.ready.pending
@@ -301,7 +301,7 @@ payloads_dropped [] = refl
 payloads_dropped (q ∷ ready) = refl
 
 -- a call whose payload isn't read has its stream in its message
-pub inline_is_lem : (opened : LinkParameters) (link : ℕ) (run : List Mark) (v : ResponderSide) (xid : ℕ) → Stands opened link run v → end_of v ≡ None → slice_get v.ready 0 ≡ Some xid →
+pub inline_is_lem : (opened : LinkParameters) (link : ℕ) (run : List Mark) (v : ResponderSide) (xid : ℕ) → ResponderRepresents opened link run v → end_of v ≡ None → slice_get v.ready 0 ≡ Some xid →
     (at : ℕ) (call : PendingCall) → slice_get v.calls at ≡ Some call → call.xid ≡ xid → slice_get v.fetching.payloads 0 ≡ Some None → is_some call.inline ≡ true
 inline_is_lem opened link run v xid h live_now first at call place own first_is =
     let n : NextKept opened link run v xid = next_kept opened link run v xid h live_now first in
@@ -330,7 +330,7 @@ get_view (d ∷ calls) zero c lt is = ap (λ (x : Pending). Some (call_view x)) 
 get_view (d ∷ calls) (suc at) c lt is = get_view calls at c (omega (arith, lt)) is
 
 -- the payload that was read with the chunks of the call that is next
-pub payload_read_lem : (opened : LinkParameters) (link : ℕ) (run : List Mark) (v : ResponderSide) (xid : ℕ) (payload : List ℕ) → Stands opened link run v → end_of v ≡ None → slice_get v.ready 0 ≡ Some xid → slice_get v.fetching.payloads 0 ≡ Some (Some payload) →
+pub payload_read_lem : (opened : LinkParameters) (link : ℕ) (run : List Mark) (v : ResponderSide) (xid : ℕ) (payload : List ℕ) → ResponderRepresents opened link run v → end_of v ≡ None → slice_get v.ready 0 ≡ Some xid → slice_get v.fetching.payloads 0 ≡ Some (Some payload) →
     IsExecuted opened link run xid payload
 payload_read_lem opened link run v xid payload h live_now first first_is =
     let n : NextKept opened link run v xid = next_kept opened link run v xid h live_now first in

@@ -16,14 +16,14 @@ use Rattle.nr_responder.specs.declared.call.Sent.{Sent}
 use Rattle.nr_responder.specs.Answering.{Answers}
 use Rattle.nr_responder.specs.ResponderState.{ResponderSide, end_of, unsent}
 use Rattle.nr_responder.specs.Keeping.{Keeps, KeepsEnd}
-use Rattle.nr_responder.specs.Standing.{RepresentsServer, Stands}
+use Rattle.nr_responder.specs.Standing.{RepresentsServer, ResponderRepresents}
 use Rattle.nr_responder.proofs.Answered.{answered_stands}
 use Rattle.nr_responder.proofs.Fed.{not_ended_lem}
 use Rattle.nr_responder.proofs.FrameEnds.{in_use, waiting_is}
 use Rattle.nr_responder.proofs.Marks.{represents}
 use Rattle.nr_responder.proofs.SendFrames.{begun_fine}
 
-pub calls_of_run : (opened : LinkParameters) (link : ℕ) (run : List Mark) (v : ResponderSide) → end_of v ≢ Some ends.Memory → Stands opened link run v → length v.calls ≡ length (server opened link run).state.calls
+pub calls_of_run : (opened : LinkParameters) (link : ℕ) (run : List Mark) (v : ResponderSide) → end_of v ≢ Some ends.Memory → ResponderRepresents opened link run v → length v.calls ≡ length (server opened link run).state.calls
 calls_of_run opened link run v other (inr out) = absurd (other out.output.0)
 calls_of_run opened link run v other (inl h) =
     ap (λ (cs : List PendingCall). length cs) (kept h.keeps) ∙ ap (λ (e : EndState ServerState). length e.state.calls) h.stands.keeps
@@ -32,7 +32,7 @@ calls_of_run opened link run v other (inl h) =
     kept (inl live) = live.1.calls
     kept (inr ended) = ended.calls
 
-pub in_use_of_run : (opened : LinkParameters) (link : ℕ) (run : List Mark) (v : ResponderSide) → end_of v ≡ None → Stands opened link run v →
+pub in_use_of_run : (opened : LinkParameters) (link : ℕ) (run : List Mark) (v : ResponderSide) → end_of v ≡ None → ResponderRepresents opened link run v →
     length v.calls + (unsent v.link.state + one_if (is_begun v.link.state.receive_queue.received.begun)) ≡ receives_in_use (server opened link run).state
 in_use_of_run opened link run v live stands =
     let h : RepresentsServer opened link run v = represents opened link run v live stands in
@@ -46,7 +46,7 @@ in_use_of_run opened link run v live stands =
 
 -- an answer stands on by the execution of its call
 pub answered_all : {E : Type 0} (r : Result Sent E) (v after : ResponderSide) (xid : ℕ) (reply : List ℕ) → end_of v ≡ None → IfOk r (λ (sent : Sent). Answers v after xid reply sent) →
-    OnOk r ((opened : LinkParameters) (link : ℕ) (run : List Mark) (moment : Moment) (payload : List ℕ) (place : ℕ) → Stands opened link run v → IsExecuted opened link run xid payload →
-    Stands opened link (run ++ marks.Execute link xid moment payload place reply ∷ []) after)
+    OnOk r ((opened : LinkParameters) (link : ℕ) (run : List Mark) (moment : Moment) (payload : List ℕ) (place : ℕ) → ResponderRepresents opened link run v → IsExecuted opened link run xid payload →
+    ResponderRepresents opened link (run ++ marks.Execute link xid moment payload place reply ∷ []) after)
 answered_all (Ok sent) v after xid reply live a = λ opened link run moment payload place h x. answered_stands opened link run v after xid moment payload place reply sent h live x a
 answered_all (Err e) v after xid reply live a = tt

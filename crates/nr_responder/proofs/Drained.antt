@@ -18,7 +18,7 @@ use Rattle.nr_reduce.specs.Server.{server_rules, server_end, server_output, serv
 use Rattle.nr_responder.specs.ResponderState.{ResponderSide, queue, queued_bytes, may_write, posted_times, drained_posted, left_by, after_drain}
 use Rattle.nr_responder.specs.Keeping.{Begins, Keeps, KeepsEnd}
 use Rattle.nr_responder.specs.Keeping.Begins.{BeforeHello, AfterHello}
-use Rattle.nr_responder.specs.Standing.{Stands}
+use Rattle.nr_responder.specs.Standing.{ResponderRepresents}
 use Rattle.nr_responder.proofs.Executed.{drained, drained_keeps, drained_server}
 use Rattle.nr_responder.proofs.Queues.{sendable_drained}
 use Rattle.nr_responder.proofs.Marks.{wrote_represents, own_bytes, stays_out}
@@ -99,8 +99,8 @@ keeps_drained opened end so_far v n within (inr ended) =
     subst (λ (e : EndState ServerState). KeepsEnd opened e so_far (after_drain v n)) (sym (ended_next opened end.state n end.ended ended.over))
     (inr (record { over = ended.over; why = ended.why; calls = ended.calls; ready = ended.ready; credits = ended.credits; sendable = sendable_drained v.link.state.has_hello n v.link.state.send_queue ended.sendable }))
 
-pub drained_stands : (opened : LinkParameters) (link : ℕ) (run : List Mark) (v : ResponderSide) (n : ℕ) → n ≤ length (may_write v) → Stands opened link run v →
-    Stands opened link (run ++ marks.Wrote link Responder (take n (may_write v)) ∷ []) (after_drain v n)
+pub drained_stands : (opened : LinkParameters) (link : ℕ) (run : List Mark) (v : ResponderSide) (n : ℕ) → n ≤ length (may_write v) → ResponderRepresents opened link run v →
+    ResponderRepresents opened link (run ++ marks.Wrote link Responder (take n (may_write v)) ∷ []) (after_drain v n)
 drained_stands opened link run v n within (inl h) =
     let count : n ≡ length (take n (may_write v)) = omega (arith, length-take n (may_write v), within) in
     let most : n ≤ output_len v.link.state.send_queue = omega (arith, within, may_within v.link.state.has_hello v.link.state.send_queue) in

@@ -22,8 +22,8 @@ use Rattle.nr_link.specs.declared.end.End.{End}
 use Rattle.nr_link.specs.declared.end.End.TheVariants as ends
 use Rattle.nr_responder.specs.ResponderState.{ResponderSide, queue, queued_bytes, end_of}
 use Rattle.nr_responder.specs.Keeping.{Keeps, KeepsEnd}
-use Rattle.nr_responder.specs.Standing.{RepresentsServer, ResponderRunsOut, Stands}
-use Rattle.nr_responder.specs.Steps.{received_events, GoesOn, FedOn, SameCalls, RanOutAt, Fed}
+use Rattle.nr_responder.specs.Standing.{RepresentsServer, ResponderRunsOut, ResponderRepresents}
+use Rattle.nr_responder.specs.Steps.{received_events, GoesOn, FedOn, SameCalls, ResponderRanOutAt, Fed}
 use Rattle.nr_responder.specs.Steps.Fed.{WentOn, RanOut}
 use Rattle.nr_responder.proofs.Pieces.{events_parts}
 use Rattle.nr_responder.proofs.Fed.{ended_fed_lem, not_ended_lem}
@@ -132,17 +132,17 @@ stays_out opened link run v after mark h end same left = record {
 }
 
 -- what is fed to a side that has ended changes nothing
-pub ended_stands : (opened : LinkParameters) (link : ℕ) (run : List Mark) (v : ResponderSide) (piece : List ℕ) → is_some (end_of v) ≡ true → Stands opened link run v → Stands opened link (run ++ marks.Fed link Responder piece ∷ []) v
+pub ended_stands : (opened : LinkParameters) (link : ℕ) (run : List Mark) (v : ResponderSide) (piece : List ℕ) → is_some (end_of v) ≡ true → ResponderRepresents opened link run v → ResponderRepresents opened link (run ++ marks.Fed link Responder piece ∷ []) v
 ended_stands opened link run v piece over (inl h) = inl (fed_represents opened link run v v piece (ended_fed_lem v piece over) h)
 ended_stands opened link run v piece over (inr out) = inr (stays_out opened link run v v (marks.Fed link Responder piece) out refl (record { calls = refl; ready = refl; credits = refl }) refl)
 
 -- one that hasn't ended didn't run out of memory
-pub represents : (opened : LinkParameters) (link : ℕ) (run : List Mark) (v : ResponderSide) → end_of v ≡ None → Stands opened link run v → RepresentsServer opened link run v
+pub represents : (opened : LinkParameters) (link : ℕ) (run : List Mark) (v : ResponderSide) → end_of v ≡ None → ResponderRepresents opened link run v → RepresentsServer opened link run v
 represents opened link run v live (inl h) = h
 represents opened link run v live (inr out) = absurd (let two : None ≡ Some ends.Memory = sym live ∙ out.output.0 in cc)
 
 -- one that ran out of memory at a frame kept the server before that frame
-ran_out : (opened : LinkParameters) (link : ℕ) (run : List Mark) (v after : ResponderSide) (piece : List ℕ) (n : ℕ) → RanOutAt v piece n after → RepresentsServer opened link run v →
+ran_out : (opened : LinkParameters) (link : ℕ) (run : List Mark) (v after : ResponderSide) (piece : List ℕ) (n : ℕ) → ResponderRanOutAt v piece n after → RepresentsServer opened link run v →
     ServerRunsOut opened link (end_of after) (queue after) (run ++ marks.Fed link Responder piece ∷ []) → ResponderRunsOut opened link (run ++ marks.Fed link Responder piece ∷ []) after
 ran_out opened link run v after piece n out r output =
     let part : Mark = marks.Fed link Responder (take n piece) in
@@ -170,7 +170,7 @@ ran_out opened link run v after piece n out r output =
       credits = out.same.credits ∙ both.1.credits ∙ ap (λ (e : EndState ServerState). e.state.credit) s.stands.keeps;
     }
 
-pub fed_stands_lem : (opened : LinkParameters) (link : ℕ) (run : List Mark) (v after : ResponderSide) (piece : List ℕ) → Fed v piece after → end_of v ≡ None → Stands opened link run v → Stands opened link (run ++ marks.Fed link Responder piece ∷ []) after
+pub fed_stands_lem : (opened : LinkParameters) (link : ℕ) (run : List Mark) (v after : ResponderSide) (piece : List ℕ) → Fed v piece after → end_of v ≡ None → ResponderRepresents opened link run v → ResponderRepresents opened link (run ++ marks.Fed link Responder piece ∷ []) after
 fed_stands_lem opened link run v after piece (WentOn fed) live h = inl (fed_represents opened link run v after piece fed (represents opened link run v live h))
 fed_stands_lem opened link run v after piece (RanOut n out) live h =
     let r : RepresentsServer opened link run v = represents opened link run v live h in

@@ -12,7 +12,7 @@ use Rattle.nr_responder.specs.declared.call.Ready.{Ready}
 use Rattle.nr_responder.specs.Sound.{xids_of}
 use Rattle.nr_responder.specs.ResponderState.{ResponderSide, end_of}
 use Rattle.nr_responder.specs.Keeping.{KeepsEnd}
-use Rattle.nr_responder.specs.Standing.{RepresentsServer, Stands}
+use Rattle.nr_responder.specs.Standing.{RepresentsServer, ResponderRepresents}
 use Rattle.nr_responder.proofs.Marks.{represents}
 
 abbrev pub next_of : EndState ServerState → Option ReadyCall
@@ -61,7 +61,7 @@ next_live opened link run v h is = subst (λ (o : Option ReadyCall). IsFirst o (
     by (inr ended) = absurd (none h.end.ended (sym ended.why ∙ is) ended.over)
 
 -- one that has ended, other than for memory, has no next call
-pub next_over : (opened : LinkParameters) (link : ℕ) (run : List Mark) (v : ResponderSide) → Stands opened link run v → end_of v ≢ Some ends.Memory → is_some (end_of v) ≡ true → next_call opened link run ≡ None
+pub next_over : (opened : LinkParameters) (link : ℕ) (run : List Mark) (v : ResponderSide) → ResponderRepresents opened link run v → end_of v ≢ Some ends.Memory → is_some (end_of v) ≡ true → next_call opened link run ≡ None
 next_over opened link run v (inr out) other is = absurd (other out.output.0)
 next_over opened link run v (inl h) other is = by (end_of v) refl is
   where
@@ -74,13 +74,13 @@ not_over None e = refl
 not_over (Some end) e = absurd cc
 
 -- the xid of the first call is that of the server's
-pub first_xid_lem : (opened : LinkParameters) (link : ℕ) (run : List Mark) (v : ResponderSide) (x : ℕ) → Stands opened link run v → end_of v ≡ None → slice_get v.ready 0 ≡ Some x →
+pub first_xid_lem : (opened : LinkParameters) (link : ℕ) (run : List Mark) (v : ResponderSide) (x : ℕ) → ResponderRepresents opened link run v → end_of v ≡ None → slice_get v.ready 0 ≡ Some x →
     IfSome (next_call opened link run) (λ (r : ReadyCall). x ≡ r.xid) × (is_some (next_call opened link run) ≡ true)
 first_xid_lem opened link run v x h live first =
     let found : (r : ReadyCall) × ((next_call opened link run ≡ Some r) × (r.xid ≡ x)) = (next_live opened link run v (represents opened link run v live h) live).some x first in
     subst (λ (o : Option ReadyCall). IfSome o (λ (r : ReadyCall). x ≡ r.xid) × (is_some o ≡ true)) (sym found.1.0) (sym found.1.1, refl)
 
-pub first_none_lem : (opened : LinkParameters) (link : ℕ) (run : List Mark) (v : ResponderSide) → Stands opened link run v → end_of v ≡ None → slice_get v.ready 0 ≡ None → next_call opened link run ≡ None
+pub first_none_lem : (opened : LinkParameters) (link : ℕ) (run : List Mark) (v : ResponderSide) → ResponderRepresents opened link run v → end_of v ≡ None → slice_get v.ready 0 ≡ None → next_call opened link run ≡ None
 first_none_lem opened link run v h live none = (next_live opened link run v (represents opened link run v live h) live).none none
 
 pub first_get : (xs : List Ready) (q : Ready) → 0 < length xs → q ≡ get_or xs 0 q → slice_get (xids_of xs) 0 ≡ Some q.xid

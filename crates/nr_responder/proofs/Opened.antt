@@ -16,7 +16,7 @@ use Rattle.nr_responder.specs.Fetching.{nothing_fetched}
 use Rattle.nr_responder.specs.ResponderState.{ResponderSide, queue}
 use Rattle.nr_responder.specs.Keeping.{IsServer, LinkKeeps, Keeps}
 use Rattle.nr_responder.specs.Keeping.Begins.{BeforeHello}
-use Rattle.nr_responder.specs.Standing.{RepresentsServer, Stands}
+use Rattle.nr_responder.specs.Standing.{RepresentsServer, ResponderRepresents}
 use Rattle.nr_responder.proofs.Ends.{ends_none}
 
 abbrev pub opened_state : ℕ → LinkSide → ResponderSide
@@ -85,7 +85,7 @@ queue_first : (opened : LinkParameters) → queue (opened_state opened.granted (
 unfolding initial_link
 queue_first opened = refl
 
-pub opened_stands_lem : (opened : LinkParameters) (link : ℕ) (credits : ℕ) (l : LinkSide) → opened.granted ≡ credits → l ≡ initial_link Responder credits 1 → Stands opened link [] (opened_state credits l)
+pub opened_stands_lem : (opened : LinkParameters) (link : ℕ) (credits : ℕ) (l : LinkSide) → opened.granted ≡ credits → l ≡ initial_link Responder credits 1 → ResponderRepresents opened link [] (opened_state credits l)
 opened_stands_lem opened link credits l same is =
     let first : RepresentsServer opened link [] (opened_state opened.granted (initial_link Responder opened.granted 1)) = record {
       end = initial_server opened;
@@ -93,8 +93,8 @@ opened_stands_lem opened link credits l same is =
       stands = subst (λ (bytes : List ℕ). ServerRepresents opened link (initial_server opened) (initial_input Initiator) bytes []) (sym (queue_first opened)) (server_begins_lem opened link);
       keeps = inl (refl, keeps_first opened);
     } in
-    subst (λ (x : LinkSide). Stands opened link [] (opened_state credits x)) (sym is)
-    (subst (λ (n : ℕ). Stands opened link [] (opened_state n (initial_link Responder n 1))) same (inl first))
+    subst (λ (x : LinkSide). ResponderRepresents opened link [] (opened_state credits x)) (sym is)
+    (subst (λ (n : ℕ). ResponderRepresents opened link [] (opened_state n (initial_link Responder n 1))) same (inl first))
 
 pub opened_lives : (l : LinkSide) (credits : ℕ) → l ≡ initial_link Responder credits 1 → l.state.ended ≡ None
 unfolding initial_link

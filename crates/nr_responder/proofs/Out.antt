@@ -35,7 +35,7 @@ use Rattle.nr_reduce.specs.Server.{server_rules}
 use Rattle.nr_responder.specs.ResponderState.{ResponderSide, queue, queued_bytes, end_of}
 use Rattle.nr_responder.specs.Keeping.{Begins, Keeps, KeepsEnd}
 use Rattle.nr_responder.specs.Keeping.Begins.{BeforeHello, AfterHello}
-use Rattle.nr_responder.specs.Steps.{TakesMemory, RanOutAt, Fed, frame_by}
+use Rattle.nr_responder.specs.Steps.{TakesMemory, ResponderRanOutAt, Fed, frame_by}
 use Rattle.nr_responder.specs.Steps.Fed.{RanOut}
 use Rattle.nr_responder.specs.private.Handling.{IsServerOf, MessageTakes, refused_effect, on_link}
 use Rattle.nr_responder.specs.private.Handling.MessageTakes.{EndsFor, ErrorFor, ReadsFor}
@@ -169,7 +169,7 @@ told_same m = refl
 
 -- it ran out of memory for a message
 pub out_by_message : (v after : ResponderSide) (piece : List ℕ) (m : LinkSide) (number : ℕ) (invalidated : Option ℕ) (message : List ℕ) (rest : List DeliveredEvent) → end_of v ≡ None → IsPartial v.link.awaited v.link.rest → StepOf v.link piece m → m.state.ended ≡ None →
-    m.state.receive_queue.deliveries ≡ MessageReceived number invalidated message ∷ rest → RanOutOf (on_link v m) number message after → RanOutAt v piece 0 after
+    m.state.receive_queue.deliveries ≡ MessageReceived number invalidated message ∷ rest → RanOutOf (on_link v m) number message after → ResponderRanOutAt v piece 0 after
 out_by_message v after piece m number invalidated message rest live_now p step lives one ran =
     let t = told_link_lem m (after_call m NextEvent) refl in
     let ended = memory_ends (after_call m NextEvent) (after_call (after_call m NextEvent) OutOfMemory) (t.live ∙ lives) refl in
@@ -270,7 +270,7 @@ read_needs opened k so_far v frame x rest h some lives one reads takes = by h.be
         subst (λ (a : Awaited). ((with_frame s a frame).send_queue ≡ s.send_queue) × TakesMemory opened k (next_frame s frame)) (sym awaited) (either place lives_on told_on memory (frame_is opened k s frame h.link h.server lives_on))
 
 pub out_by_read : (v after : ResponderSide) (piece : List ℕ) (m : LinkSide) (x : PendingRead) (rest : List PendingRead) → end_of v ≡ None → IsPartial v.link.awaited v.link.rest → StepOf v.link piece m → m.state.ended ≡ None →
-    m.state.receive_queue.deliveries ≡ ReadDone ∷ [] → v.fetching.reads ≡ x ∷ rest → ReadRanOut (on_link v (after_call m NextEvent)) x rest after → RanOutAt v piece 0 after
+    m.state.receive_queue.deliveries ≡ ReadDone ∷ [] → v.fetching.reads ≡ x ∷ rest → ReadRanOut (on_link v (after_call m NextEvent)) x rest after → ResponderRanOutAt v piece 0 after
 out_by_read v after piece m x rest live_now p step lives one reads ran =
     let t = told_link_lem m (after_call m NextEvent) refl in
     let ended = memory_ends (after_call m NextEvent) (after_call (after_call m NextEvent) OutOfMemory) (t.live ∙ lives) refl in

@@ -21,7 +21,7 @@ use Rattle.nr_endpoint.specs.LinkState.{LinkSide}
 use Rattle.nr_responder.specs.ResponderState.{queue, queued_bytes, end_of, may_write}
 use Rattle.nr_responder.specs.Keeping.{Begins, KeepsEnd}
 use Rattle.nr_responder.specs.Keeping.Begins.{BeforeHello, AfterHello}
-use Rattle.nr_responder.specs.Standing.{Stands}
+use Rattle.nr_responder.specs.Standing.{ResponderRepresents}
 use Rattle.nr_responder.specs.Laws.{IsOfOthers, OthersLeaveIt, LawBegins, OthersKeepLaw, PieceKeepsLaw, ExecuteKeepsLaw, DrainKeepsLaw, FullBegins, OthersKeepFull, PieceKeepsFull, ExecuteKeepsFull, QueueIsAllDue, AllMayBeWritten, DrainKeepsFull}
 use Rattle.nr_responder.proofs.Drained.{split_queue}
 use Rattle.nr_responder.proofs.Marks.{no_event_represents, stays_out}
@@ -117,7 +117,7 @@ drain_keeps_law opened link v run n within h served =
     parts : taken ++ left ≡ queue v
     parts = split_queue v.link.state.has_hello n q within
 
-    by : Stands opened link run v → IsPrefixOf (bytes_sent link Responder run ++ taken) (output_due opened link Responder run)
+    by : ResponderRepresents opened link run v → IsPrefixOf (bytes_sent link Responder run ++ taken) (output_due opened link Responder run)
     by (inl s) =
         let represents_parts : ServerRepresents opened link s.end s.input (taken ++ left) run = subst (λ (bytes : List ℕ). ServerRepresents opened link s.end s.input bytes run) (sym parts) s.stands in
         ((server_queue_lem opened link s.end None s.input taken left run).0 represents_parts).0

@@ -12,7 +12,7 @@ use Rattle.nr_reduce.specs.declared.mark.LinkParameters.{LinkParameters}
 use Rattle.nr_reduce.specs.declared.mark.Mark.{Mark}
 use Rattle.nr_responder.specs.ResponderState.{ResponderSide, ResponderState, end_of, KeepsStaging}
 use Rattle.nr_responder.specs.private.Handling.{IsTaken, on_link}
-use Rattle.nr_responder.specs.Standing.{RepresentsServer, Stands}
+use Rattle.nr_responder.specs.Standing.{RepresentsServer, ResponderRepresents}
 use Rattle.nr_responder.proofs.Fed.{StepOf, not_ended_lem}
 use Rattle.nr_responder.proofs.Fed.StepOf.{Part, WholeFrame}
 use Rattle.nr_responder.proofs.Marks.{represents}
@@ -22,7 +22,7 @@ pub unchanged : (v : ResponderState) (piece : List ℕ) → KeepsStaging v v pie
 unchanged v piece = record { others = refl; len = refl }
 
 -- nothing is left to be delivered of a side that stands for some marks and hasn't ended
-pub nothing_told : (opened : LinkParameters) (link : ℕ) (run : List Mark) (v : ResponderSide) → end_of v ≡ None → Stands opened link run v → v.link.state.receive_queue.deliveries ≡ []
+pub nothing_told : (opened : LinkParameters) (link : ℕ) (run : List Mark) (v : ResponderSide) → end_of v ≡ None → ResponderRepresents opened link run v → v.link.state.receive_queue.deliveries ≡ []
 nothing_told opened link run v live stands =
     let h : RepresentsServer opened link run v = represents opened link run v live stands in
     (not_ended_lem opened h.end h.input v live h.keeps).1.link.told

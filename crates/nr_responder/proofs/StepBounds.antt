@@ -28,7 +28,7 @@ use Rattle.nr_responder.specs.Answering.{Answers, answer_to, answered_by, messag
 use Rattle.nr_responder.specs.HeldBytes.{sinks_total, IsOfPending, IsBounded, KeptFits, RegionsHave, SameReceives, SharesFit, SinksFit, held_unit}
 use Rattle.nr_responder.specs.Keeping.{Keeps}
 use Rattle.nr_responder.specs.ResponderState.{ResponderSide, ResponderState, after_drain, bytes_held_by, end_of, opened_side, unsent}
-use Rattle.nr_responder.specs.Standing.{RepresentsServer, Stands, StandsForSome}
+use Rattle.nr_responder.specs.Standing.{RepresentsServer, ResponderRepresents, RepresentsSome}
 use Rattle.nr_responder.specs.Sound.{AreHeldFrom}
 use Rattle.nr_responder.specs.Rooms.{payload_room}
 use Rattle.nr_responder.specs.private.Handling.{IsServerOf, IsTaken, on_link, out}
@@ -48,7 +48,7 @@ use Rattle.nr_responder.proofs.SinkTotals.{claim_of_sink, fed_one_have, opened_h
 use Rattle.nr_responder.proofs.Stepped.{FewDeliveries, few_deliveries}
 
 -- one that lives and stands for some marks keeps a server's state
-pub lives_on_lem : (opened : LinkParameters) (link : ℕ) (run : List Mark) (v : ResponderSide) → Stands opened link run v → LivesOn v
+pub lives_on_lem : (opened : LinkParameters) (link : ℕ) (run : List Mark) (v : ResponderSide) → ResponderRepresents opened link run v → LivesOn v
 lives_on_lem opened link run v stands live =
     let h : RepresentsServer opened link run v = represents opened link run v live stands in
     (opened, (h.end.state, (h.input, (not_ended_lem opened h.end h.input v live h.keeps).1)))
@@ -167,7 +167,7 @@ own_number [] at c x n there own all = absurd cc
 own_number (d ∷ calls) zero c x n there own all = (let same : d ≡ c = cc in ap (λ (y : PendingCall). y.number) (sym same) ∙ all.0 (ap (λ (y : PendingCall). y.xid) same ∙ own))
 own_number (d ∷ calls) (suc at) c x n there own all = own_number calls at c x n there own all.1
 
-pub answered_fits : (opened : LinkParameters) (link : ℕ) (run : List Mark) (v after : ResponderSide) (xid : ℕ) (reply : List ℕ) (sent : Sent) → Stands opened link run v → end_of v ≡ None → slice_get v.ready 0 ≡ Some xid → LivesOn after → SinksFit v → Answers v after xid reply sent → SinksFit after
+pub answered_fits : (opened : LinkParameters) (link : ℕ) (run : List Mark) (v after : ResponderSide) (xid : ℕ) (reply : List ℕ) (sent : Sent) → ResponderRepresents opened link run v → end_of v ≡ None → slice_get v.ready 0 ≡ Some xid → LivesOn after → SinksFit v → Answers v after xid reply sent → SinksFit after
 answered_fits opened link run v after xid reply sent stands live first on fit a = subst SinksFit (sym a.state) (live_fits w (subst LivesOn a.state on) live_now (receives_on _ _ _ fit.receives (receives_same _ _ (ap (λ (l : LinkSide). l.state.receive_queue) link_is))) have (record { shares = f.shares; waiting = waiting }))
   where
     message : List ℕ
@@ -226,15 +226,15 @@ some_moment : Moment
 some_moment = record { seconds = 0; nanos = 0 }
 
 pub answer_fits : {E : Type 0} (r : Result Sent E) (s t : ResponderState) (xid : ℕ) (reply : List ℕ) → end_of s.side ≡ None → slice_get s.side.ready 0 ≡ Some xid → IfOk r (λ (sent : Sent). Answers s.side t.side xid reply sent) → OnErr r (t ≡ s) →
-    (opened : LinkParameters) (link : ℕ) (run : List Mark) → Stands opened link run s.side → KeptFits s.side → KeptFits t.side × StandsForSome t.side
+    (opened : LinkParameters) (link : ℕ) (run : List Mark) → ResponderRepresents opened link run s.side → KeptFits s.side → KeptFits t.side × RepresentsSome t.side
 answer_fits (Ok sent) s t xid reply live first a err opened link run stands fit =
     let x : IsExecuted opened link run xid a.stream = payload_is_lem opened link run s.side xid stands live first a.at a.call a.payload a.stream a.place a.own a.first a.conveyed in
     let more : List Mark = run ++ marks.Execute link xid some_moment a.stream 0 reply ∷ [] in
-    let on : Stands opened link more t.side = answered_stands opened link run s.side t.side xid some_moment a.stream 0 reply sent stands live x a in
+    let on : ResponderRepresents opened link more t.side = answered_stands opened link run s.side t.side xid some_moment a.stream 0 reply sent stands live x a in
     let sinks : SinksFit t.side = answered_fits opened link run s.side t.side xid reply sent stands live first (lives_on_lem opened link more t.side on) fit.sinks a in
     (record { sinks = sinks; output = answered_out s.side t.side xid reply sent live fit.output sinks.each a }, (opened, (link, (more, on))))
 answer_fits (Err e) s t xid reply live first a err opened link run stands fit =
-    (subst (λ (x : ResponderState). KeptFits x.side) (sym err) fit, subst (λ (x : ResponderState). StandsForSome x.side) (sym err) (opened, (link, (run, stands))))
+    (subst (λ (x : ResponderState). KeptFits x.side) (sym err) fit, subst (λ (x : ResponderState). RepresentsSome x.side) (sym err) (opened, (link, (run, stands))))
 
 -- ---- What is held
 

@@ -12,8 +12,8 @@ not_not : (b : Bool) → not b ≡ false → b ≡ true
 not_not true is = refl
 not_not false is = absurd cc
 
-flawless : (size : ℕ) (tagged : Bool) (ddp rdmap opcode queue : ℕ) → flaw_by size tagged ddp rdmap opcode queue ≡ None → (is_supported opcode ≡ true) × (is_of_other_form tagged opcode ≡ false)
-flawless size tagged ddp rdmap opcode queue is =
+no_reason : (size : ℕ) (tagged : Bool) (ddp rdmap opcode queue : ℕ) → flaw_by size tagged ddp rdmap opcode queue ≡ None → (is_supported opcode ≡ true) × (is_of_other_form tagged opcode ≡ false)
+no_reason size tagged ddp rdmap opcode queue is =
     let a = if_none_lem (ltb size (ddp_header_len tagged)) 5 _ is in
     let b = if_none_lem (not (eqb ddp 1)) 6 _ a.1 in
     let c = if_none_lem (not (eqb rdmap 1)) 7 _ b.1 in
@@ -46,5 +46,5 @@ unfolding segment_of frame_reason
 supported frame segment is =
     let v : (flaw_by (ulpdu_len frame) (is_tagged frame) (ddp_version frame) (rdmap_version frame) (opcode_of frame) (queue_of frame) ≡ None) × (segment_by_form (is_tagged frame) frame ≡ segment) =
     value_is_lem (flaw_by (ulpdu_len frame) (is_tagged frame) (ddp_version frame) (rdmap_version frame) (opcode_of frame) (queue_of frame)) (segment_by_form (is_tagged frame) frame) segment is in
-    let fine : (is_supported (opcode_of frame) ≡ true) × (is_of_other_form (is_tagged frame) (opcode_of frame) ≡ false) = flawless (ulpdu_len frame) (is_tagged frame) (ddp_version frame) (rdmap_version frame) (opcode_of frame) (queue_of frame) v.0 in
+    let fine : (is_supported (opcode_of frame) ≡ true) × (is_of_other_form (is_tagged frame) (opcode_of frame) ≡ false) = no_reason (ulpdu_len frame) (is_tagged frame) (ddp_version frame) (rdmap_version frame) (opcode_of frame) (queue_of frame) v.0 in
     subst IsSupportedBy v.1 (by_form (is_tagged frame) frame fine.0 fine.1)

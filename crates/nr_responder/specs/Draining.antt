@@ -6,7 +6,7 @@ use Rattle.nr_reduce.specs.declared.mark.LinkParameters.{LinkParameters}
 use Rattle.nr_reduce.specs.declared.mark.Mark.{Mark}
 use Rattle.nr_reduce.specs.declared.mark.Mark.TheVariants as marks
 use Rattle.nr_responder.specs.ResponderState.{ResponderSide, may_write, after_drain}
-use Rattle.nr_responder.specs.Standing.{Stands}
+use Rattle.nr_responder.specs.Standing.{ResponderRepresents}
 
 -- A sink took n bytes of what may be written, from the front; the receive of each message whose answer left is posted again; and it stands
 -- on by a Wrote of these bytes.
@@ -14,4 +14,4 @@ pub record Drains (before after : ResponderSide) (sink sink_after : Option (List
   pub within : n ≤ length (may_write before)
   pub taken : Appends sink sink_after (take n (may_write before))
   pub state : after ≡ after_drain before n
-  pub stands : (opened : LinkParameters) (link : ℕ) (run : List Mark) → Stands opened link run before → Stands opened link (run ++ marks.Wrote link Responder (take n (may_write before)) ∷ []) after
+  pub stands : (opened : LinkParameters) (link : ℕ) (run : List Mark) → ResponderRepresents opened link run before → ResponderRepresents opened link (run ++ marks.Wrote link Responder (take n (may_write before)) ∷ []) after

@@ -11,7 +11,7 @@ use Rattle.nr_reduce.specs.Asked.{IsAll}
 use Rattle.nr_reduce.specs.AtEachMark.{AtEachMark}
 use Rattle.nr_reduce.specs.Served.{ServedMark, ServedSoFar, IsExecuted}
 use Rattle.nr_responder.specs.ResponderState.{ResponderSide, queue, may_write}
-use Rattle.nr_responder.specs.Standing.{RepresentsServer, Stands}
+use Rattle.nr_responder.specs.Standing.{RepresentsServer, ResponderRepresents}
 
 -- A mark that is no event of a link's server, and of which its law asks nothing: of another link, of the client's side, what a caller does,
 -- or a drop.
@@ -30,7 +30,7 @@ IsOfOthers link (marks.Drop l) = Unit {0}
 
 -- It leaves a responder as it is.
 abbrev pub OthersLeaveIt : Type 0
-OthersLeaveIt = (opened : LinkParameters) (link : ℕ) (v : ResponderSide) (run : List Mark) (mark : Mark) → IsOfOthers link mark → Stands opened link run v → Stands opened link (run ++ mark ∷ []) v
+OthersLeaveIt = (opened : LinkParameters) (link : ℕ) (v : ResponderSide) (run : List Mark) (mark : Mark) → IsOfOthers link mark → ResponderRepresents opened link run v → ResponderRepresents opened link (run ++ mark ∷ []) v
 
 -- ---- The law so far: what is written is a prefix of the output due
 
@@ -53,7 +53,7 @@ ExecuteKeepsLaw = (opened : LinkParameters) (link : ℕ) (run : List Mark) (xid 
 
 -- and by a drain of which a sink took n bytes, also if it ran out of memory.
 abbrev pub DrainKeepsLaw : Type 0
-DrainKeepsLaw = (opened : LinkParameters) (link : ℕ) (v : ResponderSide) (run : List Mark) (n : ℕ) → n ≤ length (may_write v) → Stands opened link run v →
+DrainKeepsLaw = (opened : LinkParameters) (link : ℕ) (v : ResponderSide) (run : List Mark) (n : ℕ) → n ≤ length (may_write v) → ResponderRepresents opened link run v →
     ServedSoFar opened link run → ServedSoFar opened link (run ++ marks.Wrote link Responder (take n (may_write v)) ∷ [])
 
 -- ---- The law of each mark in full: each Wrote writes all output due

@@ -34,13 +34,13 @@ pub record ResponderRunsOut (opened : LinkParameters) (link : ℕ) (run : List M
   pub ready : v.ready ≡ map (λ r. r.xid) (server opened link stopped).state.ready
   pub credits : v.credits ≡ (server opened link stopped).state.credit
 
-abbrev pub Stands : (opened : LinkParameters) (link : ℕ) (run : List Mark) (v : ResponderSide) → Type 0
-Stands opened link run v = RepresentsServer opened link run v ⊎ ResponderRunsOut opened link run v
+abbrev pub ResponderRepresents : (opened : LinkParameters) (link : ℕ) (run : List Mark) (v : ResponderSide) → Type 0
+ResponderRepresents opened link run v = RepresentsServer opened link run v ⊎ ResponderRunsOut opened link run v
 
 -- It stands for some marks.
-abbrev pub StandsForSome : ResponderSide → Type 0
-StandsForSome v = (opened : LinkParameters) × ((link : ℕ) × ((run : List Mark) × Stands opened link run v))
+abbrev pub RepresentsSome : ResponderSide → Type 0
+RepresentsSome v = (opened : LinkParameters) × ((link : ℕ) × ((run : List Mark) × ResponderRepresents opened link run v))
 
 -- If it stood for some marks and was within bounds, so it is after an answer.
 pub record StaysBounded (before after : ResponderSide) : Type 0 where
-  pub goes : (opened : LinkParameters) (link : ℕ) (run : List Mark) → Stands opened link run before → KeptFits before → KeptFits after × StandsForSome after
+  pub goes : (opened : LinkParameters) (link : ℕ) (run : List Mark) → ResponderRepresents opened link run before → KeptFits before → KeptFits after × RepresentsSome after

@@ -63,7 +63,7 @@ pub record SameCalls (before after : ResponderSide) : Type 0 where
 
 -- It ran out of memory within a piece: at a frame that takes memory, which the bytes after the first n complete. Until then it went
 -- on, and its calls and its queue are as they were before that frame.
-pub record RanOutAt (before : ResponderSide) (piece : List ℕ) (n : ℕ) (after : ResponderSide) : Type 0 where
+pub record ResponderRanOutAt (before : ResponderSide) (piece : List ℕ) (n : ℕ) (after : ResponderSide) : Type 0 where
   pub stopped : ResponderSide
   pub fed : FedOn before (take n piece) stopped
   pub live : end_of stopped ≡ None
@@ -74,7 +74,7 @@ pub record RanOutAt (before : ResponderSide) (piece : List ℕ) (n : ℕ) (after
 
 pub data Fed (before : ResponderSide) (piece : List ℕ) (after : ResponderSide) : Type 0 where
   WentOn : FedOn before piece after → Fed before piece after
-  RanOut : (n : ℕ) → RanOutAt before piece n after → Fed before piece after
+  RanOut : (n : ℕ) → ResponderRanOutAt before piece n after → Fed before piece after
 
 -- what a step took of a piece: all of it if the side has ended
 abbrev pub taken_of : {E : Type 0} → Result ℕ E → List ℕ → List ℕ

@@ -12,7 +12,7 @@ ghost use Rattle.nr_responder.specs.HeldBytes.{held_unit, IsBounded};
 ghost use Rattle.nr_responder.specs.ResponderState.{bytes_held_by, end_of, unsent};
 ghost use Rattle.nr_responder.specs.Rooms.{payload_room};
 ghost use Rattle.nr_responder.specs.Sound.{room_len, state_of, with_staging, ServerEndInvariant};
-ghost use Rattle.nr_responder.specs.Standing.{Stands};
+ghost use Rattle.nr_responder.specs.Standing.{ResponderRepresents};
 
 use crate::call::{Pending, Ready};
 use crate::room::Room;
@@ -84,7 +84,7 @@ impl ServerEnd {
     /// How many calls are pending.
     pub fn unanswered(&self) -> usize
         ensures exact { result ≡ length self.now.calls.items }
-        ensures of_run { end_of (state_of self.now) ≢ Some ends.Memory → (opened : LinkParameters) (link : ℕ) (run : List Mark) → Stands opened link run (state_of self.now) → result ≡ length (server opened link run).state.calls }
+        ensures of_run { end_of (state_of self.now) ≢ Some ends.Memory → (opened : LinkParameters) (link : ℕ) (run : List Mark) → ResponderRepresents opened link run (state_of self.now) → result ≡ length (server opened link run).state.calls }
     {
         self.calls.len()
     }
@@ -92,7 +92,7 @@ impl ServerEnd {
     /// How many receives are in use.
     pub fn in_use(&self) -> usize
         requires sound { ServerEndInvariant self.now }
-        ensures of_run { end_of (state_of self.now) ≡ None → (opened : LinkParameters) (link : ℕ) (run : List Mark) → Stands opened link run (state_of self.now) → result ≡ receives_in_use (server opened link run).state }
+        ensures of_run { end_of (state_of self.now) ≡ None → (opened : LinkParameters) (link : ℕ) (run : List Mark) → ResponderRepresents opened link run (state_of self.now) → result ≡ receives_in_use (server opened link run).state }
         ensures exact { result ≡ length self.now.calls.items + (unsent self.now.endpoint.link.state + one_if (is_begun self.now.endpoint.link.state.receive_queue.received.begun)) }
     {
         self.in_use_inner()

@@ -8,12 +8,9 @@ ghost use Rattle.nr_responder.specs.Views.{read_view};
 
 use crate::answering::SENDABLE;
 use crate::call::ReadEntry;
-use nr_endpoint::{Endpoint, RemoteRead};
+use nr_endpoint::{Endpoint, OPEN_READS_MAX, RemoteRead};
 use nr_xdr::{Memory, Octets};
 use std::alloc::Global;
-
-/// How many Read Requests may be open.
-const OPEN_READS_MAX: usize = 8;
 
 /// How many of these many reads are open.
 pub(crate) fn open_count(reads: usize) -> usize

@@ -28,7 +28,7 @@ ghost use Rattle.nr_responder.specs.HeldBytes.{held_unit};
 ghost use Rattle.nr_responder.specs.ResponderState.{bytes_held_by, end_of, may_write, opened_side, unsent, KeepsStaging};
 ghost use Rattle.nr_responder.specs.Rooms.{payload_room};
 ghost use Rattle.nr_responder.specs.Sound.{IsNext};
-ghost use Rattle.nr_responder.specs.Standing.{Stands};
+ghost use Rattle.nr_responder.specs.Standing.{ResponderRepresents};
 ghost use Rattle.nr_responder.specs.Steps.{Fed, taken_of};
 
 use crate::call::{CallId, Sent};
@@ -55,13 +55,13 @@ impl Model for Responder {
     ghost coded = { responder_code };
 
     ghost use Rattle.nr_responder.specs.Sound.{rooms_of, state_of, with_staging, ServerEndInvariant};
-    ghost use Rattle.nr_responder.specs.Standing.{StandsForSome};
+    ghost use Rattle.nr_responder.specs.Standing.{RepresentsSome};
     ghost use Rattle.nr_responder.specs.HeldBytes.{IsBounded};
 
     ghost view = { λ r. record { side = state_of r.end; staging = r.end.endpoint.staging; rooms = rooms_of r.end.calls.items r.end.ready.items } };
 
     // It stands for some marks, and what it keeps is within bounds.
-    ghost invariant = { λ r. ServerEndInvariant r.end × (StandsForSome (state_of r.end) × IsBounded (with_staging r.end)) };
+    ghost invariant = { λ r. ServerEndInvariant r.end × (RepresentsSome (state_of r.end) × IsBounded (with_staging r.end)) };
 }
 
 impl Responder {
@@ -72,7 +72,7 @@ impl Responder {
         ensures live { IfOk result (λ r. end_of r.side ≡ None) }
         ensures fed { IfOk result (λ r. fed_bytes r.side.link ≡ 0) }
         ensures staging { IfOk result (λ r. length r.staging ≡ FPDU_MAX) }
-        ensures stands { IfOk result (λ r. (opened : LinkParameters) (link : ℕ) → opened.granted ≡ credits → Stands opened link [] r.side) }
+        ensures stands { IfOk result (λ r. (opened : LinkParameters) (link : ℕ) → opened.granted ≡ credits → ResponderRepresents opened link [] r.side) }
     {
         Ok(Responder {
             end: ServerEnd::open(alloc, credits)?,
@@ -87,8 +87,8 @@ impl Responder {
         requires { fed_bytes self.old.side.link + length piece.now ≤ 2 ^ 62 }
         ensures ended { result_err result ≡ end_of self.new.side }
         ensures goes { Fed self.old.side piece.now self.new.side }
-        ensures stands { (opened : LinkParameters) (link : ℕ) (run : List Mark) → Stands opened link run self.old.side →
-            Stands opened link (run ++ marks.Fed link ResponderSide piece.now ∷ []) self.new.side }
+        ensures stands { (opened : LinkParameters) (link : ℕ) (run : List Mark) → ResponderRepresents opened link run self.old.side →
+            ResponderRepresents opened link (run ++ marks.Fed link ResponderSide piece.now ∷ []) self.new.side }
         ensures kept { is_some (end_of self.old.side) ≡ true → self.new ≡ self.old }
         ensures within { fed_bytes self.new.side.link ≤ fed_bytes self.old.side.link + length piece.now }
         ensures staging { KeepsStaging self.old self.new piece.now }
@@ -104,8 +104,8 @@ impl Responder {
         ensures goes { Fed self.old.side (taken_of result piece.now) self.new.side }
         // If the side ends, it does so in the first frame.
         ensures first { Fed self.old.side (take (bytes_taken self.old.side.link.awaited self.old.side.link.rest piece.now) piece.now) self.new.side }
-        ensures stands { (opened : LinkParameters) (link : ℕ) (run : List Mark) → Stands opened link run self.old.side →
-            Stands opened link (run ++ marks.Fed link ResponderSide (taken_of result piece.now) ∷ []) self.new.side }
+        ensures stands { (opened : LinkParameters) (link : ℕ) (run : List Mark) → ResponderRepresents opened link run self.old.side →
+            ResponderRepresents opened link (run ++ marks.Fed link ResponderSide (taken_of result piece.now) ∷ []) self.new.side }
         ensures kept { is_some (end_of self.old.side) ≡ true → self.new ≡ self.old }
         ensures within { fed_bytes self.new.side.link ≤ fed_bytes self.old.side.link + length piece.now }
         ensures staging { KeepsStaging self.old self.new piece.now }
@@ -126,7 +126,7 @@ impl Responder {
         ensures live { is_some result ≡ true → end_of self.now.side ≡ None }
         ensures none { result ≡ None → (is_some (end_of self.now.side) ≡ true) ⊎ (self.now.side.ready ≡ []) }
         // It is the next call of the server of a run, unless memory ran out: then nothing more is executed.
-        ensures exact { end_of self.now.side ≢ Some ends.Memory → (opened : LinkParameters) (link : ℕ) (run : List Mark) → Stands opened link run self.now.side →
+        ensures exact { end_of self.now.side ≢ Some ends.Memory → (opened : LinkParameters) (link : ℕ) (run : List Mark) → ResponderRepresents opened link run self.now.side →
             MatchOption result (next_call opened link run ≡ None) (λ xid. IfSome (next_call opened link run) (λ r. xid ≡ r.xid) × (is_some (next_call opened link run) ≡ true)) }
     {
         match self.end.next_ready() {
@@ -139,7 +139,7 @@ impl Responder {
     pub fn payload(&self, call: &CallId) -> &[u8]
         requires live { end_of self.now.side ≡ None }
         requires next { IsNext self.now.side call.now }
-        ensures exact { (opened : LinkParameters) (link : ℕ) (run : List Mark) → Stands opened link run self.now.side → IsExecuted opened link run call.now result.now }
+        ensures exact { (opened : LinkParameters) (link : ℕ) (run : List Mark) → ResponderRepresents opened link run self.now.side → IsExecuted opened link run call.now result.now }
     {
         self.end.payload(call.xid())
     }
@@ -151,8 +151,8 @@ impl Responder {
         requires live { end_of self.old.side ≡ None }
         requires next { IsNext self.old.side call }
         ensures answers { IfOk result (λ sent. Answers self.old.side self.new.side call reply.now sent) }
-        ensures stands { OnOk result ((opened : LinkParameters) (link : ℕ) (run : List Mark) (moment : Moment) (payload : List ℕ) (place : ℕ) → Stands opened link run self.old.side →
-            IsExecuted opened link run call payload → Stands opened link (run ++ marks.Execute link call moment payload place reply.now ∷ []) self.new.side) }
+        ensures stands { OnOk result ((opened : LinkParameters) (link : ℕ) (run : List Mark) (moment : Moment) (payload : List ℕ) (place : ℕ) → ResponderRepresents opened link run self.old.side →
+            IsExecuted opened link run call payload → ResponderRepresents opened link (run ++ marks.Execute link call moment payload place reply.now ∷ []) self.new.side) }
         ensures err { OnErr result (self.new ≡ self.old) }
         ensures fed { fed_bytes self.new.side.link ≡ fed_bytes self.old.side.link }
         ensures staging { self.new.staging ≡ self.old.staging }
@@ -195,7 +195,7 @@ impl Responder {
     /// Takes no memory.
     pub fn unanswered(&self) -> usize
         ensures exact { result ≡ length self.now.side.calls }
-        ensures of_run { end_of self.now.side ≢ Some ends.Memory → (opened : LinkParameters) (link : ℕ) (run : List Mark) → Stands opened link run self.now.side → result ≡ length (server opened link run).state.calls }
+        ensures of_run { end_of self.now.side ≢ Some ends.Memory → (opened : LinkParameters) (link : ℕ) (run : List Mark) → ResponderRepresents opened link run self.now.side → result ≡ length (server opened link run).state.calls }
     {
         self.end.unanswered()
     }
@@ -203,7 +203,7 @@ impl Responder {
     /// How many receives are in use: one for each Send that is begun, until its answer has completely left. Takes no memory.
     pub fn in_use(&self) -> usize
         ensures exact { result ≡ length self.now.side.calls + (unsent self.now.side.link.state + one_if (is_begun self.now.side.link.state.receive_queue.received.begun)) }
-        ensures of_run { end_of self.now.side ≡ None → (opened : LinkParameters) (link : ℕ) (run : List Mark) → Stands opened link run self.now.side → result ≡ receives_in_use (server opened link run).state }
+        ensures of_run { end_of self.now.side ≡ None → (opened : LinkParameters) (link : ℕ) (run : List Mark) → ResponderRepresents opened link run self.now.side → result ≡ receives_in_use (server opened link run).state }
     {
         self.end.in_use()
     }

@@ -27,7 +27,7 @@ ghost use Rattle.nr_responder.specs.private.Handling.{out, IsTaken, ReadsXid};
 ghost use Rattle.nr_responder.specs.ResponderState.{end_of, opened_side, posted_times, may_write, KeepsStaging};
 ghost use Rattle.nr_responder.specs.Sound.{state_of, with_staging, payloads_of, IsNext, ServerEndInvariant};
 ghost use Rattle.nr_responder.specs.HeldBytes.{KeptFits};
-ghost use Rattle.nr_responder.specs.Standing.{Stands, StaysBounded};
+ghost use Rattle.nr_responder.specs.Standing.{ResponderRepresents, StaysBounded};
 ghost use Rattle.nr_responder.specs.Steps.{Fed, taken_of};
 
 use crate::answering::{SENDABLE, queue_answer};
@@ -164,7 +164,7 @@ impl ServerEnd {
         ensures live { IfOk result (λ r. end_of (state_of r) ≡ None) }
         ensures fed { IfOk result (λ r. fed_bytes r.endpoint.link ≡ 0) }
         ensures staging { IfOk result (λ r. length r.endpoint.staging ≡ FPDU_MAX) }
-        ensures stands { IfOk result (λ r. (opened : LinkParameters) (link : ℕ) → opened.granted ≡ credits → Stands opened link [] (state_of r)) }
+        ensures stands { IfOk result (λ r. (opened : LinkParameters) (link : ℕ) → opened.granted ≡ credits → ResponderRepresents opened link [] (state_of r)) }
         ensures bounded { IfOk result (λ r. KeptFits (state_of r)) }
     {
         let ready = VecDeque::with_capacity(alloc, credits as usize)?;
@@ -189,13 +189,13 @@ impl ServerEnd {
         requires within { fed_bytes self.old.endpoint.link + length piece.now ≤ 2 ^ 62 }
         ensures ended { result_err result ≡ end_of (state_of self.new) }
         ensures goes { Fed (state_of self.old) piece.now (state_of self.new) }
-        ensures stands { (opened : LinkParameters) (link : ℕ) (run : List Mark) → Stands opened link run (state_of self.old) →
-            Stands opened link (run ++ marks.Fed link ResponderSide piece.now ∷ []) (state_of self.new) }
+        ensures stands { (opened : LinkParameters) (link : ℕ) (run : List Mark) → ResponderRepresents opened link run (state_of self.old) →
+            ResponderRepresents opened link (run ++ marks.Fed link ResponderSide piece.now ∷ []) (state_of self.new) }
         ensures kept { is_some (end_of (state_of self.old)) ≡ true → with_staging self.new ≡ with_staging self.old }
         ensures within { fed_bytes self.new.endpoint.link ≤ fed_bytes self.old.endpoint.link + length piece.now }
-        ensures staging { (opened : LinkParameters) (link : ℕ) (run : List Mark) → Stands opened link run (state_of self.old) → KeepsStaging (with_staging self.old) (with_staging self.new) piece.now }
+        ensures staging { (opened : LinkParameters) (link : ℕ) (run : List Mark) → ResponderRepresents opened link run (state_of self.old) → KeepsStaging (with_staging self.old) (with_staging self.new) piece.now }
         ensures sound { ServerEndInvariant self.new }
-        ensures bounded { (opened : LinkParameters) (link : ℕ) (run : List Mark) → Stands opened link run (state_of self.old) → KeptFits (state_of self.old) → KeptFits (state_of self.new) }
+        ensures bounded { (opened : LinkParameters) (link : ℕ) (run : List Mark) → ResponderRepresents opened link run (state_of self.old) → KeptFits (state_of self.old) → KeptFits (state_of self.new) }
     {
         if let Some(end) = self.endpoint.end() {
             return Err(end);
@@ -220,13 +220,13 @@ impl ServerEnd {
         ensures goes { Fed (state_of self.old) (taken_of result piece.now) (state_of self.new) }
         // If the side ends, it does so in the first frame.
         ensures first { Fed (state_of self.old) (take (bytes_taken self.old.endpoint.link.awaited self.old.endpoint.link.rest piece.now) piece.now) (state_of self.new) }
-        ensures stands { (opened : LinkParameters) (link : ℕ) (run : List Mark) → Stands opened link run (state_of self.old) →
-            Stands opened link (run ++ marks.Fed link ResponderSide (taken_of result piece.now) ∷ []) (state_of self.new) }
+        ensures stands { (opened : LinkParameters) (link : ℕ) (run : List Mark) → ResponderRepresents opened link run (state_of self.old) →
+            ResponderRepresents opened link (run ++ marks.Fed link ResponderSide (taken_of result piece.now) ∷ []) (state_of self.new) }
         ensures kept { is_some (end_of (state_of self.old)) ≡ true → with_staging self.new ≡ with_staging self.old }
         ensures within { fed_bytes self.new.endpoint.link ≤ fed_bytes self.old.endpoint.link + length piece.now }
-        ensures staging { (opened : LinkParameters) (link : ℕ) (run : List Mark) → Stands opened link run (state_of self.old) → KeepsStaging (with_staging self.old) (with_staging self.new) piece.now }
+        ensures staging { (opened : LinkParameters) (link : ℕ) (run : List Mark) → ResponderRepresents opened link run (state_of self.old) → KeepsStaging (with_staging self.old) (with_staging self.new) piece.now }
         ensures sound { ServerEndInvariant self.new }
-        ensures bounded { (opened : LinkParameters) (link : ℕ) (run : List Mark) → Stands opened link run (state_of self.old) → KeptFits (state_of self.old) → KeptFits (state_of self.new) }
+        ensures bounded { (opened : LinkParameters) (link : ℕ) (run : List Mark) → ResponderRepresents opened link run (state_of self.old) → KeptFits (state_of self.old) → KeptFits (state_of self.new) }
     {
         if let Some(end) = self.endpoint.end() {
             return Err(end);
@@ -243,7 +243,7 @@ impl ServerEnd {
         ensures next { IfSome result (IsNext (state_of self.now)) }
         ensures live { is_some result ≡ true → end_of (state_of self.now) ≡ None }
         ensures none { result ≡ None → (is_some (end_of (state_of self.now)) ≡ true) ⊎ ((state_of self.now).ready ≡ []) }
-        ensures exact { end_of (state_of self.now) ≢ Some ends.Memory → (opened : LinkParameters) (link : ℕ) (run : List Mark) → Stands opened link run (state_of self.now) →
+        ensures exact { end_of (state_of self.now) ≢ Some ends.Memory → (opened : LinkParameters) (link : ℕ) (run : List Mark) → ResponderRepresents opened link run (state_of self.now) →
             MatchOption result (next_call opened link run ≡ None) (λ xid. IfSome (next_call opened link run) (λ r. xid ≡ r.xid) × (is_some (next_call opened link run) ≡ true)) }
     {
         if self.endpoint.end().is_some() {
@@ -260,7 +260,7 @@ impl ServerEnd {
         requires sound { ServerEndInvariant self.now }
         requires live { end_of (state_of self.now) ≡ None }
         requires next { IsNext (state_of self.now) xid }
-        ensures exact { (opened : LinkParameters) (link : ℕ) (run : List Mark) → Stands opened link run (state_of self.now) → IsExecuted opened link run xid result.now }
+        ensures exact { (opened : LinkParameters) (link : ℕ) (run : List Mark) → ResponderRepresents opened link run (state_of self.now) → IsExecuted opened link run xid result.now }
     {
         match first_payload(&self.ready) {
             Some(payload) => payload.as_slice(),
@@ -274,7 +274,7 @@ impl ServerEnd {
         requires live { end_of (state_of self.now) ≡ None }
         requires next { IsNext (state_of self.now) xid }
         requires inline { slice_get (payloads_of self.now.ready.items) 0 ≡ Some None }
-        ensures exact { (opened : LinkParameters) (link : ℕ) (run : List Mark) → Stands opened link run (state_of self.now) → IsExecuted opened link run xid result.now }
+        ensures exact { (opened : LinkParameters) (link : ℕ) (run : List Mark) → ResponderRepresents opened link run (state_of self.now) → IsExecuted opened link run xid result.now }
     {
         match place_of(self.calls.as_slice(), xid) {
             Some(at) => {
@@ -299,7 +299,7 @@ impl ServerEnd {
         ensures rest { (self.new.endpoint.link.rest ≡ []) ⊎ (result ≡ length piece.now) }
         ensures sound { ServerEndInvariant self.new }
         ensures within { fed_bytes self.new.endpoint.link ≤ fed_bytes self.old.endpoint.link + result }
-        ensures bounded { (opened : LinkParameters) (link : ℕ) (run : List Mark) → Stands opened link run (state_of self.old) → KeptFits (state_of self.old) → KeptFits (state_of self.new) }
+        ensures bounded { (opened : LinkParameters) (link : ℕ) (run : List Mark) → ResponderRepresents opened link run (state_of self.old) → KeptFits (state_of self.old) → KeptFits (state_of self.new) }
     {
         self.endpoint.facts();
         let all = piece.len();
@@ -375,8 +375,8 @@ impl ServerEnd {
         requires live { self.old.endpoint.link.state.ended ≡ None }
         requires next { IsNext (state_of self.old) xid }
         ensures answers { IfOk result (λ sent. Answers (state_of self.old) (state_of self.new) xid reply.now sent) }
-        ensures stands { OnOk result ((opened : LinkParameters) (link : ℕ) (run : List Mark) (moment : Moment) (payload : List ℕ) (place : ℕ) → Stands opened link run (state_of self.old) →
-            IsExecuted opened link run xid payload → Stands opened link (run ++ marks.Execute link xid moment payload place reply.now ∷ []) (state_of self.new)) }
+        ensures stands { OnOk result ((opened : LinkParameters) (link : ℕ) (run : List Mark) (moment : Moment) (payload : List ℕ) (place : ℕ) → ResponderRepresents opened link run (state_of self.old) →
+            IsExecuted opened link run xid payload → ResponderRepresents opened link (run ++ marks.Execute link xid moment payload place reply.now ∷ []) (state_of self.new)) }
         ensures err { OnErr result (with_staging self.new ≡ with_staging self.old) }
         ensures bounded { StaysBounded (state_of self.old) (state_of self.new) }
         ensures fed { fed_bytes self.new.endpoint.link ≡ fed_bytes self.old.endpoint.link }

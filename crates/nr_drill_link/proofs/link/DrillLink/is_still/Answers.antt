@@ -1,6 +1,6 @@
 use Rattle.std.proofs.Common.{◌≡◌, ◌∙◌, sym, ap, subst, inl}
 use Rattle.nr_responder.specs.ResponderState.{ResponderSide, end_of}
-use Rattle.nr_responder.specs.Standing.{Stands}
+use Rattle.nr_responder.specs.Standing.{ResponderRepresents}
 use Rattle.nr_drill_link.specs.DrillLinkState.{DrillLinkState}
 use Rattle.nr_drill_link.proofs.Reading.{moves_up, moves_down, none_wait, still_dropped, still_by_call, none_by}
 use Rattle.nr_drill_link.proofs.link.DrillLink.is_still.Goals as goal
@@ -30,4 +30,4 @@ returns c s link d h =
     (ap (λ (v : DrillLinkState). v.pipes.up) (sym c.self.view_is) ∙ none_wait c.self.inside.up.log c.self.inside.up.place c.waiting.result c.waiting.ensures c.if-waiting-gt0.false)
     (ap (λ (v : DrillLinkState). v.pipes.down) (sym c.self.view_is) ∙ none_wait c.self.inside.down.log c.self.inside.down.place c.waiting-2.result c.waiting-2.ensures c.if-waiting-gt0-2.false)
     (ap (λ (v : DrillLinkState). v.is_dropped) (sym c.self.view_is) ∙ c.if-self.false) c.next_ready.result
-    (c.next_ready.ensures.exact (λ e. h.server_memory (ap end_of (sym is) ∙ e)) (s.opened link) link d.marks (subst (λ (v : ResponderSide). Stands (s.opened link) link d.marks v) (sym is) (inl h.server)))
+    (c.next_ready.ensures.exact (λ e. h.server_memory (ap end_of (sym is) ∙ e)) (s.opened link) link d.marks (subst (λ (v : ResponderSide). ResponderRepresents (s.opened link) link d.marks v) (sym is) (inl h.server)))

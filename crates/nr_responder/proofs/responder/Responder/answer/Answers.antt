@@ -7,7 +7,7 @@ use Rattle.nr_reduce.specs.declared.mark.Mark.TheVariants as marks
 use Rattle.nr_reduce.specs.Served.{IsExecuted}
 use Rattle.nr_responder.specs.ResponderState.{ResponderSide, ResponderState}
 use Rattle.nr_responder.specs.Sound.{state_of}
-use Rattle.nr_responder.specs.Standing.{Stands}
+use Rattle.nr_responder.specs.Standing.{ResponderRepresents}
 use Rattle.nr_responder.proofs.responder.Responder.answer.Goals.{in-Ok, in-Err}
 use Rattle.nr_responder.proofs.responder.Responder.answer.Goals as goal
 
@@ -20,8 +20,8 @@ invariant_of-self c =
 -- the result of the inner call, with the call that is given back
 abbrev AnswerStands : (before after : ResponderSide) (xid : ℕ) (reply : List ℕ) → Type 0
 AnswerStands before after xid reply =
-    (opened : LinkParameters) (link : ℕ) (run : List Mark) (moment : Moment) (payload : List ℕ) (place : ℕ) → Stands opened link run before → IsExecuted opened link run xid payload →
-    Stands opened link (run ++ marks.Execute link xid moment payload place reply ∷ []) after
+    (opened : LinkParameters) (link : ℕ) (run : List Mark) (moment : Moment) (payload : List ℕ) (place : ℕ) → ResponderRepresents opened link run before → IsExecuted opened link run xid payload →
+    ResponderRepresents opened link (run ++ marks.Execute link xid moment payload place reply ∷ []) after
 
 ok_as : {A E F : Type 0} (q : Result A E) (r : Result A F) (a b : A) (P Q : Type 0) → q ≡ Ok a → r ≡ Ok b → (P → Q) → OnOk q P → OnOk r Q
 ok_as q r a b P Q is made f h = subst (λ (x : Result _ _). OnOk x Q) (sym made) (f (subst (λ (x : Result _ _). OnOk x P) is h))

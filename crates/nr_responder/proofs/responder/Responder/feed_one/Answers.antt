@@ -5,7 +5,7 @@ use Rattle.nr_reduce.specs.declared.mark.Mark.{Mark}
 use Rattle.nr_reduce.specs.declared.mark.Mark.TheVariants as marks
 use Rattle.nr_responder.specs.ResponderState.{ResponderState, KeepsStaging}
 use Rattle.nr_responder.specs.Sound.{state_of, with_staging}
-use Rattle.nr_responder.specs.Standing.{Stands}
+use Rattle.nr_responder.specs.Standing.{ResponderRepresents}
 use Rattle.nr_responder.specs.Steps.{taken_of}
 use Rattle.nr_responder.proofs.responder.Responder.feed_one.Goals as goal
 
@@ -22,5 +22,5 @@ returns-clause-staging c =
 pub returns-clause-stands : goal.returns-clause-stands
 returns-clause-stands c =
     subst
-    (λ (v : ResponderState). (opened : LinkParameters) (link : ℕ) (run : List Mark) → Stands opened link run v.side →
-    Stands opened link (run ++ marks.Fed link Responder (taken_of c.feed_one.result c.args.piece.now) ∷ []) (state_of c.feed_one.new.self)) c.self.view_is c.feed_one.ensures.stands
+    (λ (v : ResponderState). (opened : LinkParameters) (link : ℕ) (run : List Mark) → ResponderRepresents opened link run v.side →
+    ResponderRepresents opened link (run ++ marks.Fed link Responder (taken_of c.feed_one.result c.args.piece.now) ∷ []) (state_of c.feed_one.new.self)) c.self.view_is c.feed_one.ensures.stands

@@ -5,7 +5,7 @@ use Rattle.nr_endpoint.proofs.FedBytes.{drain_fed}
 use Rattle.nr_endpoint.specs.ReceiveQueue.{ReceiveQueue}
 use Rattle.nr_endpoint.specs.SendQueue.{SendQueue}
 use Rattle.nr_responder.specs.ResponderState.{ResponderSide, drained_posted, left_by, after_drain, may_write}
-use Rattle.nr_responder.specs.Standing.{Stands}
+use Rattle.nr_responder.specs.Standing.{ResponderRepresents}
 use Rattle.nr_wire.specs.declared.hello.Side.TheVariants.{Responder}
 use Rattle.nr_reduce.specs.declared.mark.Mark.TheVariants as marks
 use Rattle.nr_responder.specs.Sound.{state_of}
@@ -46,7 +46,7 @@ returns-clause-taken g c =
           within = t.1;
           taken = t.2;
           state = state;
-          stands = λ opened l run h. subst (λ (w : ResponderSide). Stands opened l (run ++ marks.Wrote l Responder (take t.0 (may_write v)) ∷ []) w) (sym state) (drained_stands opened l run v t.0 t.1 h);
+          stands = λ opened l run h. subst (λ (w : ResponderSide). ResponderRepresents opened l (run ++ marks.Wrote l Responder (take t.0 (may_write v)) ∷ []) w) (sym state) (drained_stands opened l run v t.0 t.1 h);
         },
         t.5,
       ),

@@ -5,7 +5,7 @@ use Rattle.nr_reduce.specs.declared.mark.LinkParameters.{LinkParameters}
 use Rattle.nr_reduce.specs.declared.mark.Mark.{Mark}
 use Rattle.nr_responder.specs.HeldBytes.{KeptFits}
 use Rattle.nr_responder.specs.ResponderState.{KeepsStaging}
-use Rattle.nr_responder.specs.Standing.{Stands}
+use Rattle.nr_responder.specs.Standing.{ResponderRepresents}
 use Rattle.nr_responder.specs.Steps.{Fed}
 use Rattle.nr_responder.specs.Sound.{state_of, with_staging, ServerEndInvariant}
 use Rattle.nr_responder.proofs.Staging.{IsFirst}
@@ -18,8 +18,8 @@ invariant-pieces l = record {
   goes : Fed (state_of l.fn.self) (take l.at l.fn.piece) (state_of l.self);
   sound : ServerEndInvariant l.self;
   within : fed_bytes l.self.endpoint.link ≤ fed_bytes l.fn.self.endpoint.link + l.at;
-  staging : (opened : LinkParameters) (link : ℕ) (run : List Mark) → Stands opened link run (state_of l.fn.self) → KeepsStaging (with_staging l.fn.self) (with_staging l.self) l.fn.piece;
-  bounded : (opened : LinkParameters) (link : ℕ) (run : List Mark) → Stands opened link run (state_of l.fn.self) → KeptFits (state_of l.fn.self) → KeptFits (state_of l.self);
+  staging : (opened : LinkParameters) (link : ℕ) (run : List Mark) → ResponderRepresents opened link run (state_of l.fn.self) → KeepsStaging (with_staging l.fn.self) (with_staging l.self) l.fn.piece;
+  bounded : (opened : LinkParameters) (link : ℕ) (run : List Mark) → ResponderRepresents opened link run (state_of l.fn.self) → KeptFits (state_of l.fn.self) → KeptFits (state_of l.self);
   first : IsFirst (with_staging l.fn.self) (with_staging l.self) l.at l.fn.piece;
 }
 

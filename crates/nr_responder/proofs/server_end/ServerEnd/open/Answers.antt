@@ -1,7 +1,7 @@
 use Rattle.std.proofs.Common.{ℕ, List, [], length, map, sym, ap, subst, ◌∙◌, arith}
 use Rattle.std.proofs.lemmas.List.Elements.{All-nil}
 use Rattle.nr_responder.specs.ResponderState.{ResponderSide}
-use Rattle.nr_responder.specs.Standing.{Stands}
+use Rattle.nr_responder.specs.Standing.{ResponderRepresents}
 use Rattle.nr_responder.specs.declared.call.Pending.{Pending}
 use Rattle.nr_responder.specs.declared.call.Ready.{Ready}
 use Rattle.nr_responder.specs.Views.{call_view}
@@ -35,7 +35,7 @@ returns-clause-sound c =
 
 pub returns-clause-stands : goal.returns-clause-stands
 returns-clause-stands c = λ opened link same.
-    subst (λ (v : ResponderSide). Stands opened link [] v)
+    subst (λ (v : ResponderSide). ResponderRepresents opened link [] v)
     (λ i. record {
       link = c.in_ok-endpoint.endpoint.link;
       calls = map call_view (sym c.in_ok-calls.ensures.items i);
