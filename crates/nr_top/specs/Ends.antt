@@ -1,6 +1,6 @@
 -- How a drill ends, and what its status says. Clauses about bytes apply only if the bytes are known;
 -- fault counts are always known.
-use Rattle.std.specs.Prelude.{◌≡◌, ◌≢◌, ℕ, ◌<◌, ◌≤◌, ◌⊎◌, List, ◌++◌, length, take, codes, Option, None, Some, IfSome, Ok, Err}
+use Rattle.std.specs.Prelude.{◌≡◌, ◌≢◌, ℕ, ◌<◌, ◌⊎◌, List, ◌++◌, length, codes, Some, IfSome, Ok, Err}
 use Rattle.std.specs.Fmt.{decimal}
 use Rattle.nr_outside.specs.Faults.{Rises}
 use Rattle.nr_outside.specs.Streams.{SourceAt, SinkAt, ReadsAll, ReadsWithin, ReadsBeyond, Writes, WritesNone, WritesSome}

@@ -30,7 +30,7 @@ fn dispatch<
     C: Clock,
 >(
     alloc: Global,
-    command: Command<&str>,
+    command: &Command<&str>,
     input: &mut I,
     out: &mut O,
     err: &mut E,
@@ -38,15 +38,15 @@ fn dispatch<
     accept: &mut A,
     clock: &mut C,
 ) -> u8
-    requires { is_command (plain_command command) ≡ true }
-    ensures { CommandEnds (plain_command command) result
+    requires { is_command (plain_command command.now) ≡ true }
+    ensures { CommandEnds (plain_command command.now) result
         (outside (source_at (I.left input.old) (I.given input.old) (I.faults input.old)) (sink_at (O.taken out.old) (O.faults out.old)) (sink_at (E.taken err.old) (E.faults err.old))
         (dialer_at (D.asked dial.old) (D.ended dial.old) (D.lost dial.old) (D.faults dial.old)) (acceptor_at (A.asked accept.old) (A.ended accept.old) (A.lost accept.old) (A.faults accept.old)) (C.gave clock.old))
         (outside (source_at (I.left input.new) (I.given input.new) (I.faults input.new)) (sink_at (O.taken out.new) (O.faults out.new)) (sink_at (E.taken err.new) (E.faults err.new))
         (dialer_at (D.asked dial.new) (D.ended dial.new) (D.lost dial.new) (D.faults dial.new)) (acceptor_at (A.asked accept.new) (A.ended accept.new) (A.lost accept.new) (A.faults accept.new)) (C.gave clock.new)) }
 {
     match command {
-        Command::Client { client } => run_client(alloc, &client, dial, input, out, err),
+        Command::Client { client } => run_client(alloc, client, dial, input, out, err),
         Command::Serve { config: _config } => run_server(alloc, input, out, err, accept, clock),
         Command::Drill => run_drill(alloc, ScriptSource::Input, input, out, err),
         Command::GeneratedDrill {
@@ -54,12 +54,12 @@ fn dispatch<
             clients,
             calls,
         } => {
-            let calls = u64::from(calls);
+            let calls = *calls as u64;
             run_drill(
                 alloc,
                 ScriptSource::Seed {
-                    seed,
-                    clients,
+                    seed: *seed,
+                    clients: *clients,
                     calls,
                 },
                 input,
@@ -107,7 +107,7 @@ pub fn run<
         (dialer_at (D.asked dial.new) (D.ended dial.new) (D.lost dial.new) (D.faults dial.new)) (acceptor_at (A.asked accept.new) (A.ended accept.new) (A.lost accept.new) (A.faults accept.new)) (C.gave clock.new)) }
 {
     match read_words(alloc, words) {
-        Ok(command) => dispatch(alloc, command, input, out, err, dial, accept, clock),
+        Ok(command) => dispatch(alloc, &command, input, out, err, dial, accept, clock),
         Err(fault) => answer_words(fault, out, err),
     }
 }

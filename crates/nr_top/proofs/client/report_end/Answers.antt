@@ -1,4 +1,4 @@
-use Rattle.std.proofs.Common.{ℕ, List, inl, inr, subst, ◌∙◌}
+use Rattle.std.proofs.Common.{ℕ, List, inl, subst, ◌∙◌}
 use Rattle.nr_outside.specs.Streams.{sink_at}
 use Rattle.nr_commands.specs.Endings.{end_text}
 use Rattle.nr_top.specs.Ends.{Reported}

@@ -1,4 +1,4 @@
-use Rattle.std.proofs.Common.{ℕ, Result, refl, subst}
+use Rattle.std.proofs.Common.{Result, refl, subst}
 use Rattle.nr_outside.specs.Streams.{sink_at, source_at}
 use Rattle.nr_words.specs.Lines.{plain_client}
 use Rattle.nr_client.specs.declared.client_end.ClientEnd.{ClientEnd}

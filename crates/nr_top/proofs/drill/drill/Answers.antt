@@ -1,9 +1,6 @@
 use Rattle.std.proofs.Common.{◌≡◌, ℕ, ◌<◌, List, length, take, subst, ◌∙◌}
 use Rattle.std.specs.Io.KnownBytes.{Appends}
-use Rattle.nr_outside.specs.Streams.{sink_at, source_at}
-use Rattle.nr_top.specs.Causes.{cause_of}
 use Rattle.nr_top.specs.Ends.{printed}
-use Rattle.nr_top.proofs.Endings.{stopped_drill}
 use Rattle.nr_top.proofs.drill.drill.Goals as goal
 
 pub returns-in-Ok : goal.returns-in-Ok
