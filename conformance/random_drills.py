@@ -23,7 +23,7 @@ CAPACITY = 1 << 40
 # SETATTR, WRITE, CREATE, MKDIR, SYMLINK, MKNOD, REMOVE, RMDIR, RENAME, LINK: with status 0 each is an entry of the journal
 CHANGING = (2, 7, 8, 9, 10, 11, 12, 13, 14, 15)
 READING = (0, 1, 3, 4, 5, 6, 16, 17, 18, 19, 20, 21)
-NAMES = (b'hello', b'link', b'many', b'f00', b'f99', b'.', b'..', b'', b'a/b', b'n' * 255, b'n' * 256) + tuple(b'new%d' % n for n in range(12))
+NAMES = (b'hello', b'link', b'many', b'f00', b'f99', b'.', b'..', b'', b'a/b', b'n' * 255, b'n' * 256) + tuple(b'new%d' % n for n in range(24))
 PRINTED = re.compile(r'(\d+) (\d+) (place (\d+) reply ([0-9a-f]+)|place \d+ chunk|chunk|lost|open|refused (?:credit|large|ended).*)')
 ENDED = re.compile(r'link \d+ (?:client|server) (?:bad|denied|nobuffer|terminated) .*')
 
@@ -63,7 +63,7 @@ class Maker:
 
     def __init__(self, seed: int, lines: int, hostile: bool) -> None:
         self.rng = random.Random(seed)
-        self.clients, self.credits = self.rng.randint(1, 6), self.rng.choice((1, 2, 8, 64))
+        self.clients, self.credits = self.rng.randint(1, 16), self.rng.choice((1, 4, 16, 64))
         self.hostile = [c for c in range(1, self.clients + 1) if hostile and (c == 1 or self.rng.random() < 0.4)]
         self.creds = {c: words(0, 0, 0, 0) for c in range(1, self.clients + 1)}
         self.calls: list[Call] = []
@@ -82,13 +82,24 @@ class Maker:
 
     def line(self) -> str:
         c = self.rng.randint(1, self.clients)
-        if c in self.hostile and self.rng.random() < 0.002:
-            octets = self.rng.randbytes(self.rng.randint(1, 60))
-            return 'raw %d %s %s' % (c, self.rng.choice(('up', 'down')), octets.hex())
+        if c in self.hostile and self.rng.random() < 0.003:
+            return 'raw %d %s %s' % (c, self.rng.choice(('up', 'down')), self.raw().hex())
         kind = self.rng.choice(('call', 'up', 'up', 'work', 'down', 'down'))
         if kind == 'call':
             return self.call(c)
         return 'work %d' % c if kind == 'work' else '%s %d %d' % (kind, c, self.rng.choice((1, 19, 92, 200, 1000, 4096, 4294967295)))
+
+    def raw(self) -> bytes:
+        """Random bytes; a frame with a random ULPDU; or a Terminate, an RDMA Write, a Read Request or a Send with a random message."""
+        r = self.rng
+        octets = r.randbytes(r.randint(1, 60))
+        if r.random() < 0.4:
+            return octets
+        heads = (b'', b'\x41\x47' + words(0, 2, 1, 0), b'\xc1\x40' + words(r.randint(1, 9), 0, r.randint(0, 9)),
+                 b'\x41\x41' + words(0, 1, r.randint(1, 3), 0), b'\x41\x43' + words(0, 0, r.randint(1, 9), 0))
+        ulpdu = r.choice(heads) + octets
+        framed = struct.pack('>H', len(ulpdu)) + ulpdu
+        return framed + bytes(-len(framed) % 4 + 4)
 
     def call(self, c: int) -> str:
         if self.rng.random() < 0.03:

@@ -15,3 +15,5 @@ mod pieces;
 mod runs;
 #[cfg(test)]
 mod servers;
+#[cfg(test)]
+mod sessions;
