@@ -1,6 +1,6 @@
 //! Each way in which a command is not done.
 
-use crate::runs::{same_cases, same_faults};
+use crate::runs::same_cases;
 
 /// A link that ends, and a reply that is not one to the call: an item fails, bytes are left over, or it gives no progress.
 static ENDS: &str = "\
@@ -112,6 +112,59 @@ server-hello mounted \
 006a414300000000000000000000000200000000000000020000000100000010000000000000000000000000000000000000000200000001\
 0000000000000000000000000000000000000000000000000000000000000000000000010000000000000002000000096162636400000000|\
 client-hello mnt readdir-root|5|protocol bad 52 24;\n\
+# The other replies: a flag, a kind of stability or a status that is none, an item that is not there, and 4 bytes \
+left over.\n\
+stat here / /|\
+server-hello mounted \
+004a414300000000000000000000000200000000000000020000000100000010000000000000000000000000000000000000000200000001\
+000000000000000000000000000000000000000300000000|\
+client-hello mnt getattr-root|5|protocol bad 24 24;\n\
+readlink here / /a|\
+server-hello mounted found-link \
+0066414300000000000000000000000300000000000000030000000100000010000000000000000000000001000000010000000100000000\
+00000000000000000000000000000000000000030000000100000000000000000000000000000000000000000000000200000000|\
+client-hello mnt lookup-a readlink|5|protocol bad 28 24;\n\
+get here / /a|\
+server-hello mounted found-a attributes-a \
+0062414300000000000000000000000400000000000000040000000100000010000000000000000000000000000000000000000400000001\
+00000000000000000000000000000000000000000000000000000005000000020000000568656c6c6f00000000000000|\
+client-hello mnt lookup-a getattr-a read-a|5|protocol bad 36 24;\n\
+put here / /a|\
+server-hello mounted created-a \
+0062414300000000000000000000000300000000000000030000000100000010000000000000000000000000000000000000000300000001\
+000000000000000000000000000000000000000000000000000000000000000500000003000000000000000100000000|\
+client-hello mnt create-a write-a|5|protocol bad 40 24;\n\
+put here / /a|\
+server-hello mounted \
+005e414300000000000000000000000200000000000000020000000100000010000000000000000000000000000000000000000200000001\
+0000000000000000000000000000000000000000000000010000000800000000000000020000000200000000|\
+client-hello mnt create-a|5|protocol bad 44 24;\n\
+mkdir here / /d|\
+server-hello mounted \
+005e414300000000000000000000000200000000000000020000000100000010000000000000000000000000000000000000000200000001\
+0000000000000000000000000000000000000000000000000000000000000000000000000000000000000000|\
+client-hello mnt \
+00a2414300000000000000000000000200000000000000020000000100000010000000000000000000000000000000000000000200000000\
+00000002000186a30000000300000009000000010000001c00000000000000076e667372646d610000000000000000000000000000000000\
+00000000000000080000000000000001000000016400000000000001000001ed000000000000000000000000000000000000000000000000|5|\
+protocol bad 44 24;\n\
+ln here / /l ../a|\
+server-hello mounted \
+0056414300000000000000000000000200000000000000020000000100000010000000000000000000000000000000000000000200000001\
+000000000000000000000000000000000000000000000000000000000000000000000000|\
+client-hello mnt \
+00a6414300000000000000000000000200000000000000020000000100000010000000000000000000000000000000000000000200000000\
+00000002000186a3000000030000000a000000010000001c00000000000000076e667372646d610000000000000000000000000000000000\
+00000000000000080000000000000001000000016c000000000000000000000000000000000000000000000000000000000000042e2e2f61\
+00000000|5|protocol bad 40 24;\n\
+rm here / /a|\
+server-hello mounted \
+004e414300000000000000000000000200000000000000020000000100000010000000000000000000000000000000000000000200000001\
+00000000000000000000000000000000000000000000000200000000|\
+client-hello mnt \
+0086414300000000000000000000000200000000000000020000000100000010000000000000000000000000000000000000000200000000\
+00000002000186a3000000030000000c000000010000001c00000000000000076e667372646d610000000000000000000000000000000000\
+00000000000000080000000000000001000000016100000000000000|5|protocol bad 28 24;\n\
 # A READ without data and without eof, with the attributes of the file and without, and one with more than was \
 asked.\n\
 get here / /a|\
@@ -388,36 +441,45 @@ fn refused_calls(rt: HostRuntime) {
     same_cases(&rt, rt.alloc(), REFUSALS);
 }
 
-/// Calls that fail, each with what is printed before: of the link (`!`), of the dialer, the input, `out` or `err` (by number from 0).
+/// Calls that fail: of the dialer, of the link, of the input, of `out` and of `err`.
 static FAULTS: &str = "\
 # No link can be made.\n\
-dial 0||stat here / /|server-hello mounted root||3|link fault;\n\
+stat here / /|server-hello mounted root||3|link fault;|dial 0\n\
 # Each read of the link fails, and then a read that is not made.\n\
-||stat here / /|!|client-hello|3|link fault;\n\
-||stat here / /|server-hello !|client-hello mnt|3|link fault;\n\
-||stat here / /|server-hello mounted !|client-hello mnt getattr-root|3|link fault;\n\
-||stat here / /|server-hello mounted root !|client-hello mnt getattr-root|0|dir 0777 2 0 0 0 1;\n\
+stat here / /|server-hello mounted root|client-hello|3|link fault;|read 0\n\
+stat here / /|server-hello mounted root|client-hello mnt|3|link fault;|read 1\n\
+stat here / /|server-hello mounted root|client-hello mnt getattr-root|3|link fault;|read 2\n\
+stat here / /|server-hello mounted root|client-hello mnt getattr-root|0|dir 0777 2 0 0 0 1;|read 3\n\
 # Each write of the link fails, and then a write that is not made.\n\
-||stat here / /|server-hello mounted root|!|3|link fault;\n\
-||stat here / /|server-hello mounted root|client-hello !|3|link fault;\n\
-||stat here / /|server-hello mounted root|client-hello mnt !|3|link fault;\n\
-||stat here / /|server-hello mounted root|client-hello mnt getattr-root !|0|dir 0777 2 0 0 0 1;\n\
+stat here / /|server-hello mounted root||3|link fault;|write 0\n\
+stat here / /|server-hello mounted root|client-hello|3|link fault;|write 1\n\
+stat here / /|server-hello mounted root|client-hello mnt|3|link fault;|write 2\n\
+stat here / /|server-hello mounted root|client-hello mnt getattr-root|0|dir 0777 2 0 0 0 1;|write 3\n\
 # A write to standard output fails: at once, and after the data of one READ.\n\
-out 0||stat here / /|server-hello mounted root|client-hello mnt getattr-root|9|output fault;\n\
-out 0||get here / /a|\
+stat here / /|server-hello mounted root|client-hello mnt getattr-root|9|output fault;|out 0\n\
+get here / /a|\
 server-hello mounted found-a attributes-a read-2 read-3|\
-client-hello mnt lookup-a getattr-a read-a|9|output fault;\n\
-out 1|he|get here / /a|\
+client-hello mnt lookup-a getattr-a read-a|9|output fault;|out 0\n\
+get here / /a|\
 server-hello mounted found-a attributes-a read-2 read-3|\
-client-hello mnt lookup-a getattr-a read-a read-rest|9|output fault;\n\
+client-hello mnt lookup-a getattr-a read-a read-rest|9|output fault;|out 1|he\n\
+# The second READ fails, and the server ends its stream before it: what came before is printed.\n\
+get here / /a|\
+server-hello mounted found-a attributes-a read-2 \
+004e414300000000000000000000000500000000000000050000000100000010000000000000000000000000000000000000000500000001\
+00000000000000000000000000000000000000050000000000000000|\
+client-hello mnt lookup-a getattr-a read-a read-rest|7|nfs 5;||he\n\
+get here / /a|\
+server-hello mounted found-a attributes-a read-2|\
+client-hello mnt lookup-a getattr-a read-a read-rest|4|link closed;||he\n\
 # A read of standard input fails: at once, and after 5 bytes. No file is made.\n\
-input 0||put here / /a|server-hello mounted created-a|client-hello mnt|9|input fault;\n\
-input 1||put here / /a|server-hello mounted created-a|client-hello mnt|9|input fault;\n\
+put here / /a|server-hello mounted created-a|client-hello mnt|9|input fault;|input 0\n\
+put here / /a|server-hello mounted created-a|client-hello mnt|9|input fault;|input 1\n\
 # The reason can't be written to standard error.\n\
-err 0||stat here / /|server-hello mounted !|client-hello mnt getattr-root|9|\n\
+stat here / /|server-hello mounted|client-hello mnt getattr-root|9||err 0\n\
 ";
 
 #[test]
 fn failing_calls(rt: HostRuntime) {
-    same_faults(&rt, rt.alloc(), FAULTS);
+    same_cases(&rt, rt.alloc(), FAULTS);
 }

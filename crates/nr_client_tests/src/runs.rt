@@ -2,7 +2,8 @@
 //!
 //! A row is `LINE|RECEIVED|SENT|STATUS|TEXT`: the words after the name of the program; what the server sends, a piece for each read; what the
 //! client writes; the status; and what it prints if the status is 0, else what it reports, `;` standing for the end of a line. A piece is a
-//! name or hexadecimal digits (see [`piece`]), or `!`: this read, or this write, fails. A row that begins with `#` is a comment.
+//! name or hexadecimal digits ([`piece`]). Two more fields, `|FAULT|PRINTED`, are the call that fails, by its number from 0 (`dial`, `read` or
+//! `write` of the link, `input`, `out` or `err`), and what is printed though the status is not 0. A row that begins with `#` is a comment.
 
 use crate::compare::same;
 use crate::pieces::piece;
@@ -24,30 +25,39 @@ const INPUT: &[u8] = b"hello";
 /// A row of a text.
 #[derive(Clone, Copy)]
 pub(crate) struct Case<'a> {
-    pub(crate) line: &'a str,
+    line: &'a str,
     pub(crate) received: &'a str,
     pub(crate) sent: &'a str,
     status: u32,
     text: &'a str,
+    fault: &'a str,
+    printed: &'a str,
 }
 
-/// The first field of a row, and the others.
-fn field<'a>(rt: &impl Abort, text: &'a str) -> (&'a str, &'a str) {
-    text.split_once('|').expect(rt, "a field")
+/// The first field of a row, and the others; no others if there are none.
+fn field(text: &str) -> (&str, &str) {
+    match text.split_once('|') {
+        Some(fields) => fields,
+        None => (text, ""),
+    }
 }
 
-/// A row of a text.
+/// Reads a row of a text.
 pub(crate) fn read_case<'a>(rt: &impl Abort, text: &'a str) -> Case<'a> {
-    let (line, rest) = field(rt, text);
-    let (received, rest) = field(rt, rest);
-    let (sent, rest) = field(rt, rest);
-    let (status, text) = field(rt, rest);
+    let (line, rest) = field(text);
+    let (received, rest) = field(rest);
+    let (sent, rest) = field(rest);
+    let (status, rest) = field(rest);
+    let (text, rest) = field(rest);
+    let (fault, printed) = field(rest);
     Case {
         line,
         received,
         sent,
-        status: status.parse::<u32>().expect(rt, "a number"),
+        status: status.parse::<u32>().expect(rt, "a status"),
         text,
+        fault,
+        printed,
     }
 }
 
@@ -61,26 +71,13 @@ fn push_piece(rt: &impl Abort, alloc: Global, bytes: &mut Vec<u8>, word: &str) {
         .expect(rt, "memory");
 }
 
-/// The bytes of pieces, without those that fail.
+/// The bytes of pieces.
 fn bytes_of(rt: &impl Abort, alloc: Global, words: &str) -> Vec<u8> {
     let mut bytes = Vec::new(alloc);
     for word in words.split_whitespace() {
-        if word != "!" {
-            push_piece(rt, alloc, &mut bytes, word);
-        }
+        push_piece(rt, alloc, &mut bytes, word);
     }
     bytes
-}
-
-/// Which of these pieces fail.
-fn failing(rt: &impl Abort, alloc: Global, words: &str) -> Vec<usize> {
-    let mut failing = Vec::new(alloc);
-    for (at, word) in words.split_whitespace().enumerate() {
-        if word == "!" {
-            failing.push(at).expect(rt, "memory");
-        }
-    }
-    failing
 }
 
 /// How many bytes each piece has.
@@ -92,14 +89,33 @@ fn sizes(rt: &impl Abort, alloc: Global, words: &str) -> Vec<usize> {
     sizes
 }
 
-/// A link over which these pieces come, and over which those are written.
-pub(crate) fn plan(rt: &impl Abort, alloc: Global, received: &str, sent: &str) -> LinkPlan {
+/// The number of the call that fails, if it is one of those with this name.
+fn faults(rt: &impl Abort, alloc: Global, fault: &str, name: &str) -> Vec<usize> {
+    let mut faults = Vec::new(alloc);
+    if let Some(number) = fault.strip_prefix(name) {
+        let number = number.trim().parse::<usize>().expect(rt, "a number");
+        faults.push(number).expect(rt, "memory");
+    }
+    faults
+}
+
+/// A link over which these pieces come.
+pub(crate) fn plan(rt: &impl Abort, alloc: Global, received: &str, fault: &str) -> LinkPlan {
     LinkPlan {
         bytes: bytes_of(rt, alloc, received),
         sizes: sizes(rt, alloc, received),
-        failing_reads: failing(rt, alloc, received),
-        failing_writes: failing(rt, alloc, sent),
+        failing_reads: faults(rt, alloc, fault, "read"),
+        failing_writes: faults(rt, alloc, fault, "write"),
     }
+}
+
+/// A dialer of one link, over which these pieces come.
+pub(crate) fn dialer(rt: &impl Abort, alloc: Global, received: &str, fault: &str) -> MemDialer {
+    let mut plans = Vec::new(alloc);
+    plans
+        .push(plan(rt, alloc, received, fault))
+        .expect(rt, "memory");
+    MemDialer::new(alloc, plans, faults(rt, alloc, fault, "dial"))
 }
 
 /// The words of a line, after the name of the program.
@@ -115,25 +131,6 @@ pub(crate) fn words(rt: &impl Abort, alloc: Global, line: &str) -> Vec<String> {
 fn push_word(rt: &impl Abort, alloc: Global, words: &mut Vec<String>, word: &str) {
     let word = format!(in alloc; "{word}").expect(rt, "memory");
     words.push(word).expect(rt, "memory");
-}
-
-/// The number of the call that fails, of the calls with this name.
-fn faults(rt: &impl Abort, alloc: Global, fault: &str, name: &str) -> Vec<usize> {
-    let mut faults = Vec::new(alloc);
-    if let Some(number) = fault.strip_prefix(name) {
-        let number = number.trim().parse::<usize>().expect(rt, "a number");
-        faults.push(number).expect(rt, "memory");
-    }
-    faults
-}
-
-/// A dialer of one link.
-fn dialer(rt: &impl Abort, alloc: Global, case: Case, fault: &str) -> MemDialer {
-    let mut plans = Vec::new(alloc);
-    plans
-        .push(plan(rt, alloc, case.received, case.sent))
-        .expect(rt, "memory");
-    MemDialer::new(alloc, plans, faults(rt, alloc, fault, "dial"))
 }
 
 pub(crate) fn source(
@@ -189,20 +186,23 @@ pub(crate) fn same_sent(
     same(rt, row, got, want.as_slice());
 }
 
+/// Compares what a client printed and reported.
+fn same_texts(rt: &impl Abort, alloc: Global, row: usize, case: Case, out: &[u8], err: &[u8]) {
+    let (printed, reported) = if case.status == 0 {
+        (case.text, "")
+    } else {
+        (case.printed, case.text)
+    };
+    same_text(rt, alloc, row, out, printed);
+    same_text(rt, alloc, row, err, reported);
+}
+
 /// Runs a client, and compares its status and what it prints and reports.
-fn same_run(
-    rt: &impl Abort,
-    alloc: Global,
-    row: usize,
-    case: Case,
-    fault: &str,
-    printed: &str,
-    dial: &mut MemDialer,
-) {
+fn same_run(rt: &impl Abort, alloc: Global, row: usize, case: Case, dial: &mut MemDialer) {
     let words = words(rt, alloc, case.line);
-    let mut input = source(rt, alloc, INPUT, faults(rt, alloc, fault, "input"));
-    let mut out = MemSink::new(alloc, faults(rt, alloc, fault, "out"));
-    let mut err = MemSink::new(alloc, faults(rt, alloc, fault, "err"));
+    let mut input = source(rt, alloc, INPUT, faults(rt, alloc, case.fault, "input"));
+    let mut out = MemSink::new(alloc, faults(rt, alloc, case.fault, "out"));
+    let mut err = MemSink::new(alloc, faults(rt, alloc, case.fault, "err"));
     let status = run_client(
         alloc,
         words.as_slice(),
@@ -214,19 +214,13 @@ fn same_run(
     drop(input);
     drop(words);
     same(rt, row, u32::from(status), case.status);
-    if case.status == 0 {
-        same_text(rt, alloc, row, out.bytes(), case.text);
-        same_text(rt, alloc, row, err.bytes(), "");
-    } else {
-        same_text(rt, alloc, row, out.bytes(), printed);
-        same_text(rt, alloc, row, err.bytes(), case.text);
-    }
+    same_texts(rt, alloc, row, case, out.bytes(), err.bytes());
 }
 
-/// Runs a client with a call that fails, and compares what it sends, prints and reports.
-fn same_case(rt: &impl Abort, alloc: Global, row: usize, case: Case, fault: &str, printed: &str) {
-    let mut dial = dialer(rt, alloc, case, fault);
-    same_run(rt, alloc, row, case, fault, printed, &mut dial);
+/// Runs a client, and compares its status and what it prints, reports and sends.
+fn same_case(rt: &impl Abort, alloc: Global, row: usize, case: Case) {
+    let mut dial = dialer(rt, alloc, case.received, case.fault);
+    same_run(rt, alloc, row, case, &mut dial);
     same_sent(rt, alloc, row, dial.ended().last(), case.sent);
 }
 
@@ -234,18 +228,7 @@ fn same_case(rt: &impl Abort, alloc: Global, row: usize, case: Case, fault: &str
 pub(crate) fn same_cases(rt: &impl Abort, alloc: Global, text: &str) {
     for (row, text) in text.lines().enumerate() {
         if !text.starts_with('#') {
-            same_case(rt, alloc, row, read_case(rt, text), "", "");
-        }
-    }
-}
-
-/// Runs the clients of a text whose rows begin with `FAULT|PRINTED|`: the call that fails, and what is printed if the status is not 0.
-pub(crate) fn same_faults(rt: &impl Abort, alloc: Global, text: &str) {
-    for (row, text) in text.lines().enumerate() {
-        if !text.starts_with('#') {
-            let (fault, rest) = field(rt, text);
-            let (printed, rest) = field(rt, rest);
-            same_case(rt, alloc, row, read_case(rt, rest), fault, printed);
+            same_case(rt, alloc, row, read_case(rt, text));
         }
     }
 }
