@@ -1,0 +1,234 @@
+//! Runs of a client over a link in memory, by the rows of a text.
+//!
+//! A row is `LINE|RECEIVED|SENT|STATUS|TEXT`: the words after the name of the program; what the server sends, a piece for each read; what the
+//! client writes; the status; and what it prints if the status is 0, else what it reports, `;` standing for the end of a line. A piece is a
+//! name or hexadecimal digits ([`piece`]). Two more fields, `|FAULT|PRINTED`, are the call that fails, by its number from 0 (`dial`, `read` or
+//! `write` of the link, `input`, `out` or `err`), and what is printed though the status is not 0. A row that begins with `#` is a comment.
+
+use crate::compare::same;
+use crate::pieces::piece;
+use nr_links::{LinkPlan, MemAcceptor, MemClock, MemDialer, MemLink};
+use nr_outside::{MemSink, MemSource, Moment};
+use nr_top::run;
+use std::alloc::Global;
+use std::process::Abort;
+
+/// The moment that the clock gives, again and again.
+pub(crate) static MOMENTS: [Moment; 1] = [Moment {
+    seconds: 1,
+    nanos: 2,
+}];
+
+/// The input of each command; only `put` reads it.
+const INPUT: &[u8] = b"hello";
+
+/// A row of a text.
+#[derive(Clone, Copy)]
+pub(crate) struct Case<'a> {
+    line: &'a str,
+    pub(crate) received: &'a str,
+    pub(crate) sent: &'a str,
+    status: u32,
+    text: &'a str,
+    fault: &'a str,
+    printed: &'a str,
+}
+
+/// The first field of a row, and the others; no others if there are none.
+fn field(text: &str) -> (&str, &str) {
+    match text.split_once('|') {
+        Some(fields) => fields,
+        None => (text, ""),
+    }
+}
+
+/// Reads a row of a text.
+pub(crate) fn read_case<'a>(rt: &impl Abort, text: &'a str) -> Case<'a> {
+    let (line, rest) = field(text);
+    let (received, rest) = field(rest);
+    let (sent, rest) = field(rest);
+    let (status, rest) = field(rest);
+    let (text, rest) = field(rest);
+    let (fault, printed) = field(rest);
+    Case {
+        line,
+        received,
+        sent,
+        status: status.parse::<u32>().expect(rt, "a status"),
+        text,
+        fault,
+        printed,
+    }
+}
+
+/// Appends a piece.
+fn push_piece(rt: &impl Abort, alloc: Global, bytes: &mut Vec<u8>, word: &str) {
+    let Ok(part) = hex::decode(alloc, piece(word)) else {
+        panic!(rt; "no digits: {word}")
+    };
+    bytes
+        .extend_from_slice(part.as_slice())
+        .expect(rt, "memory");
+}
+
+/// The bytes of pieces.
+fn bytes_of(rt: &impl Abort, alloc: Global, words: &str) -> Vec<u8> {
+    let mut bytes = Vec::new(alloc);
+    for word in words.split_whitespace() {
+        push_piece(rt, alloc, &mut bytes, word);
+    }
+    bytes
+}
+
+/// How many bytes each piece has.
+fn sizes(rt: &impl Abort, alloc: Global, words: &str) -> Vec<usize> {
+    let mut sizes = Vec::new(alloc);
+    for word in words.split_whitespace() {
+        sizes.push(piece(word).len() / 2).expect(rt, "memory");
+    }
+    sizes
+}
+
+/// The number of the call that fails, if it is one of those with this name.
+fn faults(rt: &impl Abort, alloc: Global, fault: &str, name: &str) -> Vec<usize> {
+    let mut faults = Vec::new(alloc);
+    if let Some(number) = fault.strip_prefix(name) {
+        let number = number.trim().parse::<usize>().expect(rt, "a number");
+        faults.push(number).expect(rt, "memory");
+    }
+    faults
+}
+
+/// A link over which these pieces come.
+pub(crate) fn plan(rt: &impl Abort, alloc: Global, received: &str, fault: &str) -> LinkPlan {
+    LinkPlan {
+        bytes: bytes_of(rt, alloc, received),
+        sizes: sizes(rt, alloc, received),
+        failing_reads: faults(rt, alloc, fault, "read"),
+        failing_writes: faults(rt, alloc, fault, "write"),
+    }
+}
+
+/// A dialer of one link, over which these pieces come.
+pub(crate) fn dialer(rt: &impl Abort, alloc: Global, received: &str, fault: &str) -> MemDialer {
+    let mut plans = Vec::new(alloc);
+    plans
+        .push(plan(rt, alloc, received, fault))
+        .expect(rt, "memory");
+    MemDialer::new(alloc, plans, faults(rt, alloc, fault, "dial"))
+}
+
+/// The words of a line, after the name of the program.
+pub(crate) fn words(rt: &impl Abort, alloc: Global, line: &str) -> Vec<String> {
+    let mut words = Vec::new(alloc);
+    push_word(rt, alloc, &mut words, "nfsrdma");
+    for word in line.split_whitespace() {
+        push_word(rt, alloc, &mut words, word);
+    }
+    words
+}
+
+fn push_word(rt: &impl Abort, alloc: Global, words: &mut Vec<String>, word: &str) {
+    let word = format!(in alloc; "{word}").expect(rt, "memory");
+    words.push(word).expect(rt, "memory");
+}
+
+pub(crate) fn source(
+    rt: &impl Abort,
+    alloc: Global,
+    input: &[u8],
+    failing: Vec<usize>,
+) -> MemSource {
+    MemSource::new(
+        input.to_vec(alloc).expect(rt, "memory"),
+        Vec::new(alloc),
+        failing,
+    )
+}
+
+/// Runs a client, and gives its status.
+fn run_client(
+    alloc: Global,
+    words: &[String],
+    input: &mut MemSource,
+    out: &mut MemSink,
+    err: &mut MemSink,
+    dial: &mut MemDialer,
+) -> u8 {
+    let mut accept = MemAcceptor::new(alloc, Vec::new(alloc), Vec::new(alloc));
+    let mut clock = MemClock::new(&MOMENTS);
+    run(alloc, words, input, out, err, dial, &mut accept, &mut clock)
+}
+
+/// Compares bytes with a text, in which `;` stands for the end of a line.
+pub(crate) fn same_text(rt: &impl Abort, alloc: Global, row: usize, got: &[u8], text: &str) {
+    let mut want = Vec::new(alloc);
+    for byte in text.bytes() {
+        let byte = if byte == b';' { b'\n' } else { byte };
+        want.push(byte).expect(rt, "memory");
+    }
+    same(rt, row, got, want.as_slice());
+}
+
+/// Compares what was sent over the last of the links, or nothing if there is none.
+pub(crate) fn same_sent(
+    rt: &impl Abort,
+    alloc: Global,
+    row: usize,
+    link: Option<&MemLink>,
+    sent: &str,
+) {
+    let want = bytes_of(rt, alloc, sent);
+    let got = match link {
+        Some(link) => link.sink.inner().bytes(),
+        None => b"".as_slice(),
+    };
+    same(rt, row, got, want.as_slice());
+}
+
+/// Compares what a client printed and reported.
+fn same_texts(rt: &impl Abort, alloc: Global, row: usize, case: Case, out: &[u8], err: &[u8]) {
+    let (printed, reported) = if case.status == 0 {
+        (case.text, "")
+    } else {
+        (case.printed, case.text)
+    };
+    same_text(rt, alloc, row, out, printed);
+    same_text(rt, alloc, row, err, reported);
+}
+
+/// Runs a client, and compares its status and what it prints and reports.
+fn same_run(rt: &impl Abort, alloc: Global, row: usize, case: Case, dial: &mut MemDialer) {
+    let words = words(rt, alloc, case.line);
+    let mut input = source(rt, alloc, INPUT, faults(rt, alloc, case.fault, "input"));
+    let mut out = MemSink::new(alloc, faults(rt, alloc, case.fault, "out"));
+    let mut err = MemSink::new(alloc, faults(rt, alloc, case.fault, "err"));
+    let status = run_client(
+        alloc,
+        words.as_slice(),
+        &mut input,
+        &mut out,
+        &mut err,
+        dial,
+    );
+    drop(input);
+    drop(words);
+    same(rt, row, u32::from(status), case.status);
+    same_texts(rt, alloc, row, case, out.bytes(), err.bytes());
+}
+
+/// Runs a client, and compares its status and what it prints, reports and sends.
+fn same_case(rt: &impl Abort, alloc: Global, row: usize, case: Case) {
+    let mut dial = dialer(rt, alloc, case.received, case.fault);
+    same_run(rt, alloc, row, case, &mut dial);
+    same_sent(rt, alloc, row, dial.ended().last(), case.sent);
+}
+
+/// Runs the clients of a text.
+pub(crate) fn same_cases(rt: &impl Abort, alloc: Global, text: &str) {
+    for (row, text) in text.lines().enumerate() {
+        if !text.starts_with('#') {
+            same_case(rt, alloc, row, read_case(rt, text));
+        }
+    }
+}

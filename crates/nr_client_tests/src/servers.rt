@@ -1,0 +1,88 @@
+//! Runs of a server over what clients send.
+
+use crate::compare::same;
+use crate::runs::{MOMENTS, plan, read_case, same_sent, same_text, source, words};
+use nr_links::{MemAcceptor, MemClock, MemDialer, MemLink};
+use nr_outside::{MemSink, MemSource};
+use nr_top::run;
+use std::alloc::Global;
+use std::process::Abort;
+
+/// Runs a server, and gives its status.
+fn run_server(
+    alloc: Global,
+    words: &[String],
+    input: &mut MemSource,
+    out: &mut MemSink,
+    err: &mut MemSink,
+    accept: &mut MemAcceptor,
+) -> u8 {
+    let mut dial = MemDialer::new(alloc, Vec::new(alloc), Vec::new(alloc));
+    let mut clock = MemClock::new(&MOMENTS);
+    run(alloc, words, input, out, err, &mut dial, accept, &mut clock)
+}
+
+/// Runs a server, and compares what it prints.
+fn same_report(
+    rt: &impl Abort,
+    alloc: Global,
+    config: &str,
+    accept: &mut MemAcceptor,
+    printed: &str,
+) {
+    let words = words(rt, alloc, "serve config");
+    let mut input = source(rt, alloc, config.as_bytes(), Vec::new(alloc));
+    let mut out = MemSink::new(alloc, Vec::new(alloc));
+    let mut err = MemSink::new(alloc, Vec::new(alloc));
+    let status = run_server(
+        alloc,
+        words.as_slice(),
+        &mut input,
+        &mut out,
+        &mut err,
+        accept,
+    );
+    drop(input);
+    drop(words);
+    same(rt, 0, u32::from(status), 0);
+    same_text(rt, alloc, 0, out.bytes(), printed);
+    same_text(rt, alloc, 0, err.bytes(), "");
+}
+
+/// The links of the first clients of a text.
+fn acceptor(rt: &impl Abort, alloc: Global, text: &str, count: usize) -> MemAcceptor {
+    let mut plans = Vec::new(alloc);
+    for text in text.lines() {
+        if !text.starts_with('#') && plans.len() < count {
+            let sent = read_case(rt, text).sent;
+            plans.push(plan(rt, alloc, sent, "")).expect(rt, "memory");
+        }
+    }
+    MemAcceptor::new(alloc, plans, Vec::new(alloc))
+}
+
+/// Compares what a server sent over each link with what the clients of a text receive.
+fn same_links(rt: &impl Abort, alloc: Global, text: &str, links: &[MemLink]) {
+    let mut at = 0;
+    for text in text.lines() {
+        if !text.starts_with('#') && at < links.len() {
+            same_sent(rt, alloc, at, links.get(at), read_case(rt, text).received);
+            at += 1;
+        }
+    }
+}
+
+fn config(rt: &impl Abort, alloc: Global, connections: usize) -> String {
+    format!(in alloc;
+        "listen = \"here\"\nexport = \"/\"\ncredits = 16\ncapacity = 1000000\nwrite_verifier = \"0000000000000001\"\nconnections = {connections}\n"
+    ).expect(rt, "memory")
+}
+
+/// Runs a server over what the first clients of a text send, and compares what it sends to each, and what it prints.
+pub(crate) fn same_server(rt: &impl Abort, alloc: Global, text: &str, count: usize, printed: &str) {
+    let config = config(rt, alloc, count);
+    let mut accept = acceptor(rt, alloc, text, count);
+    same_report(rt, alloc, config.as_str(), &mut accept, printed);
+    same(rt, count, accept.ended().len(), count);
+    same_links(rt, alloc, text, accept.ended());
+}
