@@ -105,8 +105,8 @@ def differing(program: str, order: list[int]) -> tuple[int, int]:
     """How many answers differ, of how many."""
     calls = calls_in(order)
     done = subprocess.run([program], input='\n'.join(calls.lines) + '\n', stdout=subprocess.PIPE, text=True, check=True)
-    lines = done.stdout.splitlines()
-    wrong = abs(len(lines) - len(calls.wanted))
+    *lines, last = done.stdout.splitlines()
+    wrong = abs(len(lines) - len(calls.wanted)) + (not last.startswith('journal '))
     for line, wanted in zip(lines, calls.wanted):
         reply = bytes.fromhex(line.split()[1])
         right = reply[24:28] == bytes(4) and (wanted is None or entries_of(reply) == wanted)
