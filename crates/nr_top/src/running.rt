@@ -71,10 +71,10 @@ fn dispatch<
 }
 
 /// Runs the program, and gives the status. The words are the name under which it was started, and a command with its
-/// options; `--help` and `--version` are answered on `out`. A command of a client dials its address by `dial`, and `put` reads the bytes of its file from `input`; `serve`
-/// reads its configuration from `input`, listens by `accept` and takes the time from `clock`; a drill reads its script from
-/// `input`. What is printed goes to `out`; `err` takes
-/// the reason if the command isn't done.
+/// options; `--help` and `--version` are answered on `out`. A command of a client dials its address by `dial`, and `put` reads
+/// the bytes of its file from `input`; `serve` reads its configuration from `input`, listens by `accept` and takes the time
+/// from `clock`; a drill reads its script from `input`. What is printed goes to `out`; `err` takes the reason if the command
+/// isn't done.
 ///
 /// `RunEnds` of the specs says what each status means. 0: the command was done. 1: the words are refused.
 /// 2: memory ran out. 3: a fault count of `dial` or `accept` rose, or the count of lost links. 4: the server ended its
