@@ -26,6 +26,7 @@ mod mark;
 mod memory_laws;
 mod outline;
 mod parts;
+mod payload_buffer;
 mod planning;
 mod reading;
 mod replying;
@@ -37,8 +38,7 @@ mod two_slices;
 pub use call::{Call, Form, Lengths, Offer, Outcome, Refused, Submission};
 pub use comparing::answers_offer;
 pub use cutting::{
-    cut, first_bytes, rebuild, rebuild_in_place, rebuild_into, rebuild_item, rebuild_item_into,
-    reducible_item,
+    cut, rebuild, rebuild_in_place, rebuild_into, rebuild_item, rebuild_item_into, reducible_item,
 };
 pub use fault::{Mismatch, PayloadFault, TooLarge};
 pub use holding::{Answer, answer_for, holds};
@@ -52,6 +52,7 @@ pub use mark::{Entry, LinkParameters, Mark, Marks};
 pub use memory_laws::{memory_follows_regions, regions_go_on};
 pub use outline::{ChunkLengths, Outline, Plan, ReadOutline};
 pub use parts::{CallParts, call_item_of, call_parts, largest_reply_of, written_parts};
+pub use payload_buffer::PayloadBuffer;
 pub use planning::{outline_of, plan};
 pub use reading::{is_read_chunk_of, is_read_chunk_of_item, item_position, total_at};
 pub use replying::{answer_header, answer_lists, answer_message};
