@@ -13,6 +13,7 @@
 //! [`ends_stand_for_marks`], [`memory_follows_regions`], [`laws_so_far`] and those beside them.
 #![tactic(auto)]
 
+mod boxed;
 mod call;
 mod comparing;
 mod cutting;
@@ -35,6 +36,7 @@ mod sequence;
 mod standing_laws;
 mod two_slices;
 
+pub use boxed::Boxed;
 pub use call::{Call, Form, Lengths, Offer, Outcome, Refused, Submission};
 pub use comparing::answers_offer;
 pub use cutting::{

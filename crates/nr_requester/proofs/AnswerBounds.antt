@@ -50,7 +50,7 @@ same_fit (x ∷ xs) (y ∷ ys) h a = (
   record {
     call = (let own = ap (λ (c : OutstandingCall). stored_bytes c.call) h.0.0 in let le = a.0.call in omega (arith, own, le));
     offer = (let own = ap (λ (c : OutstandingCall). claims_len c.claims) h.0.0 in let le = a.0.offer in omega (arith, own, le));
-    written = h.0.1.1;
+    written = h.0.1.1 a.0.written;
     room = h.0.1.0 ∙ (a.0.room ∙ ap (λ (c : OutstandingCall). reply_room c.offered) (sym h.0.0));
     short = (let own = h.0.1.0 in let le = a.0.short in omega (arith, own, le));
   },

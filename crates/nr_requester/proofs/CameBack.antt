@@ -42,11 +42,11 @@ one_back o b os bs e =
       rest = and_second f r e3;
     }
 
-pub total_cons : (b : RdmaSegment) (bs : List RdmaSegment) → chunk_total (b ∷ bs) ≡ b.length + chunk_total bs
+total_cons : (b : RdmaSegment) (bs : List RdmaSegment) → chunk_total (b ∷ bs) ≡ b.length + chunk_total bs
 unfolding chunk_total
 total_cons b bs = sum_by-cons (λ (s : RdmaSegment). s.length) b bs
 
-pub total_none : chunk_total [] ≡ 0
+total_none : chunk_total [] ≡ 0
 unfolding chunk_total
 total_none = refl
 

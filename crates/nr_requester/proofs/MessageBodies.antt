@@ -181,12 +181,12 @@ one_held m cs at d lt h = call_held (take at cs) (get_or cs at d) (drop (suc at)
 
 pub same_all : (cs : List OutstandingCall) → SameCalls cs cs
 same_all [] = tt
-same_all (c ∷ cs) = ((refl, refl), same_all cs)
+same_all (c ∷ cs) = ((refl, (refl, λ h. h)), same_all cs)
 
 pub same_set : (cs : List OutstandingCall) (at : ℕ) (x d : OutstandingCall) → at < length cs → SameCall (get_or cs at d) x → SameCalls cs (slice_set cs at x)
 same_set [] at x d lt h = absurd (omega (arith, lt))
 same_set (c ∷ cs) zero x d lt h = (h, same_all cs)
-same_set (c ∷ cs) (suc n) x d lt h = ((refl, refl), same_set cs n x d (omega (arith, lt)) h)
+same_set (c ∷ cs) (suc n) x d lt h = ((refl, (refl, λ within. within)), same_set cs n x d (omega (arith, lt)) h)
 
 set_length : (cs : List OutstandingCall) (at : ℕ) (x : OutstandingCall) → length (slice_set cs at x) ≡ length cs
 set_length [] at x = refl

@@ -1,15 +1,15 @@
 -- The room of a reply, by the lists of a plan.
-use Rattle.std.proofs.Common.{◌≡◌, ℕ, ◌+◌, List, [], ◌∷◌, sum, Option, None, Some, refl, arith}
+use Rattle.std.specs.Prelude.{sum}
+use Rattle.std.proofs.Common.{◌≡◌, ◌∙◌, ℕ, ◌+◌, List, Option, None, Some, refl, sym, arith}
 use Rattle.nr_link.specs.Limits.{send_max}
 use Rattle.nr_reduce.specs.Chunks.{chunk_total}
 use Rattle.nr_reduce.specs.declared.outline.Plan.{Plan}
 use Rattle.nr_reduce.specs.Plans.{total, segments_from, write_list, reply_chunk, write_stag, reply_stag, lists_of}
-use Rattle.nr_requester.proofs.CameBack.{total_cons, total_none}
+use Rattle.nr_reduce.proofs.WrittenChunks.{chunk_added, sum_added}
 use Rattle.nr_requester.specs.HeldBytes.{chunks_total, chunk_if, reply_room}
 
 segments_added : (stag at : ℕ) (lengths : List ℕ) → chunk_total (segments_from stag at lengths) ≡ sum lengths
-segments_added stag at [] = total_none
-segments_added stag at (n ∷ lengths) = (let one = total_cons (record { handle = stag; length = n; offset = at }) (segments_from stag (at + n) lengths) in omega (arith, one, segments_added stag (at + n) lengths))
+segments_added stag at lengths = chunk_added stag at lengths ∙ sym (sum_added lengths)
 
 written_total : (stag : ℕ) (lengths : Option (List ℕ)) → chunks_total (write_list stag lengths) ≡ total lengths
 written_total stag None = refl

@@ -67,7 +67,7 @@ with_room c room = record { xid = c.xid; call = c.call; is_forgotten = c.is_forg
 
 -- only the bytes in its room change
 abbrev pub SameCall : (before after : OutstandingCall) → Type 0
-SameCall before after = (after ≡ with_room before after.room) × ((after.room.len ≡ before.room.len) × (length after.room.bytes ≤ after.room.len))
+SameCall before after = (after ≡ with_room before after.room) × ((after.room.len ≡ before.room.len) × (length before.room.bytes ≤ before.room.len → length after.room.bytes ≤ after.room.len))
 
 -- a call as a client keeps it
 abbrev pub kept_view : (first sent : ℕ) → OutstandingCall → KeptCall

@@ -116,7 +116,10 @@ fn payload_in(room: &mut PayloadBuffer, of: &Of, stream: &[u8], moved: &[u8]) ->
         return None;
     };
     match rebuild_item_into(room, of, Some(item), stream, item.pos as u32, moved) {
-        Ok(len) => Some(len),
+        Ok(len) => {
+            let _room = room.len();
+            Some(len)
+        }
         Err(_) => None,
     }
 }
