@@ -9,7 +9,7 @@ ghost use Rattle.nr_requester.specs.OpenCalls.{KeepsTickets};
 ghost use Rattle.nr_drill_link.specs.Steps.{ClientWrites, ServerWrites};
 
 use nr_outside::{MemSink, Pipe, Sink};
-use nr_reduce::{Mark, Outcome};
+use nr_reduce::{Boxed, Call, Form, Mark, Outcome, Submission};
 use nr_requester::Requester;
 use nr_responder::Responder;
 use nr_wire::Side;
@@ -72,6 +72,38 @@ pub(crate) fn add_mark(marks: &mut Vec<Mark>, mark: Mark) -> Result<(), Memory>
         Err(failed) => {
             drop(failed);
             Err(Memory)
+        }
+    }
+}
+
+/// Adds the mark of a call line: its call, how it was to be sent, and the client's answer.
+pub(crate) fn add_submit(
+    alloc: Global,
+    marks: &mut Vec<Mark>,
+    link: u32,
+    call: Call,
+    form: Form,
+    answer: Submission,
+) -> Result<(), Memory>
+    ensures { OnOk result (marks.new.items ≡ marks.old.items ++ mark_kinds.Submit link call form answer ∷ []) }
+{
+    let Ok(call) = Boxed::new(alloc, call) else {
+        drop(form);
+        return Err(Memory);
+    };
+    match Boxed::new(alloc, form) {
+        Ok(form) => add_mark(
+            marks,
+            Mark::Submit {
+                link,
+                call,
+                form,
+                answer,
+            },
+        ),
+        Err(memory) => {
+            drop(call);
+            Err(memory)
         }
     }
 }

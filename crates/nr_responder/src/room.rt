@@ -57,7 +57,8 @@ impl Room {
     }
 }
 
-/// A payload that was put together. Contracts see its bytes, of which there are at most `payload_room`.
+/// A payload that was put together. It keeps all of the room that was taken for it. Contracts see its bytes, of which there are at most
+/// `payload_room`.
 #[derive(Drop)]
 pub struct Payload {
     bytes: Octets,

@@ -6,7 +6,7 @@ use Rattle.nr_regions.specs.RegisteredMemory.{outside_held}
 use Rattle.nr_endpoint.specs.EndpointState.{bytes_of}
 use Rattle.nr_responder.specs.ResponderState.{unsent}
 use Rattle.nr_responder.specs.declared.call.Pending.{Pending}
-use Rattle.nr_responder.specs.Sound.{payload_len, room_len, rooms_of, with_staging}
+use Rattle.nr_responder.specs.Sound.{room_len, rooms_of, with_staging}
 use Rattle.nr_responder.proofs.StepBounds.{held_bound}
 use Rattle.nr_responder.specs.Views.{call_view}
 use Rattle.nr_responder.proofs.Held.{held_sum, rooms_most}
