@@ -18,7 +18,7 @@ ghost use Rattle.nr_drill_link.specs.Steps.{Goes};
 
 use crate::awaited::AwaitedCall;
 use crate::copying::{copy_call, copy_form};
-use crate::draining::add_mark;
+use crate::draining::{add_mark, add_submit};
 use crate::link::DrillLink;
 use nr_reduce::{Call, Form, Mark, Refused, Submission};
 use nr_requester::{Buffers, Requester, Ticket};
@@ -197,13 +197,7 @@ impl DrillLink {
             Ok(answer) => answer,
             Err(memory) => return Err(memory),
         };
-        let submitted = Mark::Submit {
-            link: self.number,
-            call,
-            form,
-            answer,
-        };
-        match add_mark(marks, submitted) {
+        match add_submit(self.alloc, marks, self.number, call, form, answer) {
             Ok(()) => self.settle(marks),
             Err(memory) => Err(memory),
         }

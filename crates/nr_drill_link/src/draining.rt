@@ -9,7 +9,7 @@ ghost use Rattle.nr_requester.specs.OpenCalls.{KeepsTickets};
 ghost use Rattle.nr_drill_link.specs.Steps.{ClientWrites, ServerWrites};
 
 use nr_outside::{MemSink, Pipe, Sink};
-use nr_reduce::Mark;
+use nr_reduce::{Boxed, Call, Form, Mark, Outcome, Submission};
 use nr_requester::Requester;
 use nr_responder::Responder;
 use nr_wire::Side;
@@ -73,6 +73,97 @@ pub(crate) fn add_mark(marks: &mut Vec<Mark>, mark: Mark) -> Result<(), Memory>
             drop(failed);
             Err(Memory)
         }
+    }
+}
+
+/// Adds the mark of a call line: its call, how it was to be sent, and the client's answer.
+pub(crate) fn add_submit(
+    alloc: Global,
+    marks: &mut Vec<Mark>,
+    link: u32,
+    call: Call,
+    form: Form,
+    answer: Submission,
+) -> Result<(), Memory>
+    ensures { OnOk result (marks.new.items ≡ marks.old.items ++ mark_kinds.Submit link call form answer ∷ []) }
+{
+    let Ok(call) = Boxed::new(alloc, call) else {
+        drop(form);
+        return Err(Memory);
+    };
+    match Boxed::new(alloc, form) {
+        Ok(form) => add_mark(
+            marks,
+            Mark::Submit {
+                link,
+                call,
+                form,
+                answer,
+            },
+        ),
+        Err(memory) => {
+            drop(call);
+            Err(memory)
+        }
+    }
+}
+
+/// These bytes, without the room that they were made in.
+fn without_room(alloc: Global, bytes: Octets) -> Result<Octets, Memory>
+    ensures { IfOk result (λ exact. exact ≡ bytes) }
+{
+    Octets::from_slice(alloc, bytes.as_slice())
+}
+
+/// This mark, whose reply keeps no room after it: a reply is made in a room for the longest one.
+fn trimmed(alloc: Global, mark: Mark) -> Result<Mark, Memory>
+    ensures { IfOk result (λ trimmed. trimmed ≡ mark) }
+{
+    match mark {
+        Mark::Execute {
+            link,
+            xid,
+            moment,
+            payload,
+            place,
+            reply,
+        } => match without_room(alloc, reply) {
+            Ok(reply) => Ok(Mark::Execute {
+                link,
+                xid,
+                moment,
+                payload,
+                place,
+                reply,
+            }),
+            Err(memory) => {
+                drop(payload);
+                Err(memory)
+            }
+        },
+        Mark::Done {
+            link,
+            xid,
+            outcome: Outcome::Reply(reply),
+        } => match without_room(alloc, reply) {
+            Ok(reply) => Ok(Mark::Done {
+                link,
+                xid,
+                outcome: Outcome::Reply(reply),
+            }),
+            Err(memory) => Err(memory),
+        },
+        mark => Ok(mark),
+    }
+}
+
+/// Adds a mark with a reply to those of the drill.
+pub(crate) fn add_reply(alloc: Global, marks: &mut Vec<Mark>, mark: Mark) -> Result<(), Memory>
+    ensures { OnOk result (marks.new.items ≡ marks.old.items ++ mark ∷ []) }
+{
+    match trimmed(alloc, mark) {
+        Ok(mark) => add_mark(marks, mark),
+        Err(memory) => Err(memory),
     }
 }
 

@@ -9,7 +9,7 @@ ghost use Rattle.nr_drill_link.specs.private.HandsOver.{TakesOutcome, HandsAt};
 ghost use Rattle.nr_drill_link.specs.Steps.{Goes};
 
 use crate::awaited::AwaitedCall;
-use crate::draining::add_mark;
+use crate::draining::add_reply;
 use crate::link::DrillLink;
 use nr_reduce::{Mark, Outcome};
 use nr_requester::{Done, Requester, Take, Ticket};
@@ -55,7 +55,7 @@ impl DrillLink {
             xid,
             outcome,
         };
-        add_mark(marks, done)
+        add_reply(self.alloc, marks, done)
     }
 
     /// Hands over the outcomes that are due, in the order in which their calls were made.

@@ -7,7 +7,7 @@ ghost use Rattle.nr_responder.specs.Sound.{IsNext};
 ghost use Rattle.nr_drill.specs.Drill.{after_work, after_all_work, after_moves};
 ghost use Rattle.nr_drill_link.specs.Steps.{Executes, Works};
 
-use crate::draining::add_mark;
+use crate::draining::add_reply;
 use crate::link::DrillLink;
 use nr_outside::Moment;
 use nr_plain::{Reply, Server};
@@ -61,7 +61,7 @@ impl DrillLink {
             place,
             reply,
         };
-        add_mark(marks, executed)
+        add_reply(self.alloc, marks, executed)
     }
 
     /// Executes the next complete call at this second, if there is one and the link isn't dropped, and writes the answer.

@@ -8,6 +8,7 @@ pub mod CodeViews
 pub mod PlanSizes
 pub mod CallOutlines
 pub mod Cuts
+pub mod PayloadRoom
 pub mod ReplyParts
 pub mod History
 pub mod PlainJournal

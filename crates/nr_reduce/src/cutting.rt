@@ -9,6 +9,7 @@ ghost use Rattle.nr_reduce.specs.Cuts.{cut_of, rebuilt_of, Rebuilds, RebuildsInt
 
 use crate::fault::{Mismatch, PayloadFault};
 use crate::item::{Cut, Item, Of, item_of};
+use crate::payload_buffer::PayloadBuffer;
 use nr_xdr::{Memory, Octets, pad_len};
 use std::alloc::Global;
 
@@ -168,52 +169,52 @@ pub fn rebuild_item(
     Ok(restored(alloc, stream, &item, moved)?)
 }
 
-/// Writes some bytes over those of a room from `at` on, and gives the offset at which they end.
-fn put_at(room: &mut Octets, at: usize, bytes: &[u8]) -> usize
-    requires { at + length bytes.now ≤ length room.old }
+/// Writes some bytes into a room at the offset `at`, and gives the offset at which they end.
+fn put_after(room: &mut PayloadBuffer, at: usize, bytes: &[u8]) -> usize
+    requires at { at ≤ length room.old.bytes }
+    requires room { at + length bytes.now ≤ room.old.len }
     ensures end { result ≡ at + length bytes.now }
-    ensures front { take result room.new ≡ take at room.old ++ bytes.now }
-    ensures length { length room.new ≡ length room.old }
+    ensures room { room.new ≡ record { bytes = take at room.old.bytes ++ bytes.now; len = room.old.len } }
 {
     let _len = room.len();
     let end = at + bytes.len();
-    room.overwrite(at, bytes);
+    room.put(at, bytes);
     end
 }
 
-/// Writes the payload of a stream and an item's bytes over the first bytes of a room, and gives its length.
+/// Writes the payload of a stream and an item's bytes into the front of a room, and gives its length.
 #[tactic(auto, unfolding(crate::specs::Items::restored_payload))]
-fn restore_into(room: &mut Octets, stream: &[u8], item: &Item, moved: &[u8]) -> usize
+fn restore_into(room: &mut PayloadBuffer, stream: &[u8], item: &Item, moved: &[u8]) -> usize
     requires place { item.now.pos ≤ length stream.now }
     requires content { item.now.len ≤ length moved.now }
-    requires room { length stream.now + length moved.now + 3 ≤ length room.old }
-    ensures payload { take result room.new ≡ restored_payload item.now stream.now moved.now }
-    ensures within { result ≤ length room.new }
-    ensures length { length room.new ≡ length room.old }
+    requires room { length stream.now + length moved.now + 3 ≤ room.old.len }
+    ensures payload { take result room.new.bytes ≡ restored_payload item.now stream.now moved.now }
+    ensures within { result ≤ length room.new.bytes }
+    ensures length { room.new.len ≡ room.old.len }
 {
     let len = item.len as usize;
     let (front, behind) = stream.split_at(item.pos);
     let (content, _) = moved.split_at(len);
-    let content_at = put_at(room, 0, front);
-    let pad_at = put_at(room, content_at, content);
-    let behind_at = put_at(room, pad_at, zeros(pad_len(len)));
-    put_at(room, behind_at, behind)
+    let content_at = put_after(room, 0, front);
+    let pad_at = put_after(room, content_at, content);
+    let behind_at = put_after(room, pad_at, zeros(pad_len(len)));
+    put_after(room, behind_at, behind)
 }
 
 /// Puts the payload that [`rebuild`] gives into the first bytes of a room that was taken before, and gives its length; or why
 /// there is none, and then the room is as before. The room keeps its length. Takes no memory.
 pub fn rebuild_into(
-    room: &mut Octets,
+    room: &mut PayloadBuffer,
     of: &Of,
     stream: &[u8],
     pos: u32,
     moved: &[u8],
 ) -> Result<usize, Mismatch>
-    requires { length stream.now + length moved.now + 3 ≤ length room.old }
-    ensures whole { IfOk result (λ len. IsWhole of.now (take len room.new) stream.now (Some moved.now)) }
-    ensures exact { RebuildsInto result room.new (rebuilt_of of.now stream.now pos moved.now) }
+    requires { length stream.now + length moved.now + 3 ≤ room.old.len }
+    ensures whole { IfOk result (λ len. IsWhole of.now (take len room.new.bytes) stream.now (Some moved.now)) }
+    ensures exact { RebuildsInto result room.new.bytes (rebuilt_of of.now stream.now pos moved.now) }
     ensures refused { OnErr result (room.new ≡ room.old) }
-    ensures length { length room.new ≡ length room.old }
+    ensures length { room.new.len ≡ room.old.len }
 {
     rebuild_item_into(room, of, item_of(of, stream), stream, pos, moved)
 }
@@ -221,7 +222,7 @@ pub fn rebuild_into(
 /// The same as [`rebuild_into`], if the stream's item is known: no head is read.
 #[tactic(auto, unfolding(crate::specs::Cuts::rebuilt_of))]
 pub fn rebuild_item_into(
-    room: &mut Octets,
+    room: &mut PayloadBuffer,
     of: &Of,
     item: Option<Item>,
     stream: &[u8],
@@ -229,11 +230,11 @@ pub fn rebuild_item_into(
     moved: &[u8],
 ) -> Result<usize, Mismatch>
     requires item { item ≡ item_of of.now stream.now }
-    requires room { length stream.now + length moved.now + 3 ≤ length room.old }
-    ensures whole { IfOk result (λ len. IsWhole of.now (take len room.new) stream.now (Some moved.now)) }
-    ensures exact { RebuildsInto result room.new (rebuilt_of of.now stream.now pos moved.now) }
+    requires room { length stream.now + length moved.now + 3 ≤ room.old.len }
+    ensures whole { IfOk result (λ len. IsWhole of.now (take len room.new.bytes) stream.now (Some moved.now)) }
+    ensures exact { RebuildsInto result room.new.bytes (rebuilt_of of.now stream.now pos moved.now) }
     ensures refused { OnErr result (room.new ≡ room.old) }
-    ensures length { length room.new ≡ length room.old }
+    ensures length { room.new.len ≡ room.old.len }
 {
     let Some(item) = item else {
         return Err(Mismatch::NoItem);
@@ -245,6 +246,19 @@ pub fn rebuild_item_into(
         return Err(Mismatch::Length);
     }
     Ok(restore_into(room, stream, &item, moved))
+}
+
+/// Writes some bytes over those of a buffer from `at` on, and gives the offset at which they end.
+fn put_at(buffer: &mut Octets, at: usize, bytes: &[u8]) -> usize
+    requires { at + length bytes.now ≤ length buffer.old }
+    ensures end { result ≡ at + length bytes.now }
+    ensures front { take result buffer.new ≡ take at buffer.old ++ bytes.now }
+    ensures length { length buffer.new ≡ length buffer.old }
+{
+    let _len = buffer.len();
+    let end = at + bytes.len();
+    buffer.overwrite(at, bytes);
+    end
 }
 
 /// Completes a payload in the buffer that holds its item's bytes at the item's position, and gives its length.
@@ -312,14 +326,4 @@ pub fn rebuild_in_place(
         return Err(Mismatch::Length);
     }
     Ok(complete(room, stream, &item))
-}
-
-/// The first bytes of a room, as a byte string of their own. Takes no memory.
-pub fn first_bytes(room: Octets, len: usize) -> Octets
-    requires { len ≤ length room }
-    ensures { result ≡ take len room }
-{
-    let mut bytes = room.into_vec();
-    bytes.truncate(len);
-    Octets::from_vec(bytes)
 }

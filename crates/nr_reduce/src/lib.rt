@@ -13,6 +13,7 @@
 //! [`ends_stand_for_marks`], [`memory_follows_regions`], [`laws_so_far`] and those beside them.
 #![tactic(auto)]
 
+mod boxed;
 mod call;
 mod comparing;
 mod cutting;
@@ -26,6 +27,7 @@ mod mark;
 mod memory_laws;
 mod outline;
 mod parts;
+mod payload_buffer;
 mod planning;
 mod reading;
 mod replying;
@@ -34,11 +36,11 @@ mod sequence;
 mod standing_laws;
 mod two_slices;
 
+pub use boxed::Boxed;
 pub use call::{Call, Form, Lengths, Offer, Outcome, Refused, Submission};
 pub use comparing::answers_offer;
 pub use cutting::{
-    cut, first_bytes, rebuild, rebuild_in_place, rebuild_into, rebuild_item, rebuild_item_into,
-    reducible_item,
+    cut, rebuild, rebuild_in_place, rebuild_into, rebuild_item, rebuild_item_into, reducible_item,
 };
 pub use fault::{Mismatch, PayloadFault, TooLarge};
 pub use holding::{Answer, answer_for, holds};
@@ -52,6 +54,7 @@ pub use mark::{Entry, LinkParameters, Mark, Marks};
 pub use memory_laws::{memory_follows_regions, regions_go_on};
 pub use outline::{ChunkLengths, Outline, Plan, ReadOutline};
 pub use parts::{CallParts, call_item_of, call_parts, largest_reply_of, written_parts};
+pub use payload_buffer::PayloadBuffer;
 pub use planning::{outline_of, plan};
 pub use reading::{is_read_chunk_of, is_read_chunk_of_item, item_position, total_at};
 pub use replying::{answer_header, answer_lists, answer_message};

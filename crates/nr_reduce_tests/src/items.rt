@@ -3,7 +3,7 @@
 use crate::compare::same;
 use crate::given::{MOUNT, NFS, Payload, call_of, payload_of, put_text, put_words};
 use nr_reduce::{
-    Item, Mismatch, Of, PayloadFault, call_item, cut, first_bytes, largest_reply, rebuild,
+    Item, Mismatch, Of, PayloadBuffer, PayloadFault, call_item, cut, largest_reply, rebuild,
     rebuild_in_place, rebuild_into, rebuild_undoes_cut, reducible_item, reply_item_of, reply_parts,
 };
 use nr_xdr::Octets;
@@ -185,12 +185,12 @@ fn is_hello_in_room(
     moved: &[u8],
 ) -> Result<bool, PayloadFault> {
     let whole = hello(rt, alloc, b"HELLO\0\0\0");
-    let mut room = Octets::from_vec(vec![in alloc; 0xff; 100].expect(rt, "memory"));
+    let mut room = PayloadBuffer::new(alloc, 100).expect(rt, "memory");
     if stream.len() > 80 || moved.len() > 10 {
         return Ok(false);
     }
     match rebuild_into(&mut room, &Of::Call, stream, pos, moved) {
-        Ok(len) => Ok(first_bytes(room, len).as_slice() == whole.as_slice()),
+        Ok(len) => Ok(room.into_first(len).as_slice() == whole.as_slice()),
         Err(why) => Err(PayloadFault::BadChunks { why }),
     }
 }
@@ -214,7 +214,7 @@ fn is_hello_in_place(rt: &impl Abort, alloc: Global, stream: &[u8]) -> Result<bo
     room.overwrite(72, b"HELLO");
     let item = call_item(stream);
     match rebuild_in_place(&mut room, &Of::Call, item, stream, 72, 5) {
-        Ok(len) => Ok(first_bytes(room, len).as_slice() == whole.as_slice()),
+        Ok(len) => Ok(room.as_slice().get(..len) == Some(whole.as_slice())),
         Err(why) => Err(why),
     }
 }

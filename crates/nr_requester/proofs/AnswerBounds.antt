@@ -22,7 +22,7 @@ use Rattle.nr_requester.specs.Buffers.{with_memory}
 use Rattle.nr_requester.specs.Judged.{SameCalls, outcome_by}
 use Rattle.nr_requester.specs.Fed.{CallsSound}
 use Rattle.nr_requester.specs.Views.{IsAnswered, stored_view}
-use Rattle.nr_requester.specs.HeldBytes.{NothingOutside, call_bytes, stored_bytes, outcome_bytes, buffer_len, buffers_len, LinkFits, RegionsHave, AreFrom, CountsFit, unsent, claims_len, claims_total, CallFits, AnswerFits, AreDistinct, RequesterBounds, IsBounded}
+use Rattle.nr_requester.specs.HeldBytes.{NothingOutside, call_bytes, stored_bytes, outcome_bytes, buffer_len, buffers_len, LinkFits, RegionsHave, AreFrom, CountsFit, unsent, claims_len, claims_total, CallFits, AnswerFits, AreDistinct, RequesterBounds, IsBounded, reply_room}
 use Rattle.nr_requester.proofs.ChangedCalls.{nth_of, not_found}
 use Rattle.nr_requester.proofs.RegionBounds.{released_both}
 use Rattle.nr_requester.proofs.AnswerSteps.{all_append}
@@ -50,7 +50,9 @@ same_fit (x ∷ xs) (y ∷ ys) h a = (
   record {
     call = (let own = ap (λ (c : OutstandingCall). stored_bytes c.call) h.0.0 in let le = a.0.call in omega (arith, own, le));
     offer = (let own = ap (λ (c : OutstandingCall). claims_len c.claims) h.0.0 in let le = a.0.offer in omega (arith, own, le));
-    room = (let own = h.0.1 in let le = a.0.room in omega (arith, own, le));
+    written = h.0.1.1 a.0.written;
+    room = h.0.1.0 ∙ (a.0.room ∙ ap (λ (c : OutstandingCall). reply_room c.offered) (sym h.0.0));
+    short = (let own = h.0.1.0 in let le = a.0.short in omega (arith, own, le));
   },
   same_fit xs ys h.1 a.1,
 )
@@ -143,14 +145,14 @@ call_small true stored call is = absurd cc
 call_small false None call is = absurd cc
 call_small false (Some x) call is = (let same : call_bytes x ≡ call_bytes call = ap (λ (o : Option Call). stored_bytes o) is in omega (arith, same))
 
-answer_fits : (m : RegisteredMemory) (c : OutstandingCall) (f : Found) (p : Option Call) (o : Option Outcome) → p ≡ awaited_call (stored_view c) → o ≡ outcome_by f c.room → CallFits c → AreHeldFrom m 0 (call_claims c.claims) → AllByRecursion AnswerFits (answered_as m (stored_view c) p o)
+answer_fits : (m : RegisteredMemory) (c : OutstandingCall) (f : Found) (p : Option Call) (o : Option Outcome) → p ≡ awaited_call (stored_view c) → o ≡ outcome_by f c.room.bytes → CallFits c → AreHeldFrom m 0 (call_claims c.claims) → AllByRecursion AnswerFits (answered_as m (stored_view c) p o)
 answer_fits m c f None o asked is fits held = tt
 answer_fits m c f (Some call) None asked is fits held = tt
 answer_fits m c f (Some call) (Some o) asked is fits held = (
   record {
     call = (let le = fits.call in omega (arith, le, call_small c.is_forgotten c.call call (sym asked)));
     offer = (let le = fits.offer in omega (arith, le, buffers_small m c.claims.read c.claims.write c.claims.reply held));
-    reply = (let le = fits.room in omega (arith, le, outcome_small f c.room o (sym is)));
+    reply = (let le = fits.short in let written = fits.written in omega (arith, le, written, outcome_small f c.room.bytes o (sym is)));
   },
   tt,
 )
@@ -171,13 +173,13 @@ distinct_answer next n calls d answers m (Some call) (Some o) lt apart h = disti
 
 pub completed_bounded : (sent first next n room : ℕ) (number : ℕ) (e e2 : EndpointState) (calls calls2 : List OutstandingCall) (answers answers2 : List AnsweredCall) (d : OutstandingCall) (f : Found) → n < length calls → (get_or calls n d).xid - first < sent →
     CallsSound e.link.state.memory number calls answers room → e2.staging ≡ e.staging → (NothingOutside e → NothingOutside e2) → e2.link ≡ with_memory (released_all e.link.state.memory (stags_of (get_or calls n d).claims)) e.link → calls2 ≡ remove calls n →
-    answers2 ≡ answers ++ answered_as e.link.state.memory (stored_view (get_or calls n d)) (awaited_call (stored_view (get_or calls n d))) (outcome_by f (get_or calls n d).room) → IsBounded sent first next e calls answers → IsBounded sent first next e2 calls2 answers2
+    answers2 ≡ answers ++ answered_as e.link.state.memory (stored_view (get_or calls n d)) (awaited_call (stored_view (get_or calls n d))) (outcome_by f (get_or calls n d).room.bytes) → IsBounded sent first next e calls answers → IsBounded sent first next e2 calls2 answers2
 completed_bounded sent first next n room number e e2 calls calls2 answers answers2 d f lt gone sound same none link_is calls_are answers_are b =
     let w = b.0 in
     let s : LinkState = e.link.state in
     let c : OutstandingCall = get_or calls n d in
     let left : List OutstandingCall = remove calls n in
-    let more : List AnsweredCall = answers ++ answered_as s.memory (stored_view c) (awaited_call (stored_view c)) (outcome_by f c.room) in
+    let more : List AnsweredCall = answers ++ answered_as s.memory (stored_view c) (awaited_call (stored_view c)) (outcome_by f c.room.bytes) in
     let memory : RegisteredMemory = released_all s.memory (stags_of c.claims) in
     let held = one_held s.memory calls n d lt sound.held in
     let state : e2.link.state ≡ record s { memory = memory } = ap (λ (l : LinkSide). l.state) link_is in
@@ -203,9 +205,9 @@ completed_bounded sent first next n room number e e2 calls calls2 answers answer
       counts = subst (λ (x : LinkState). CountsFit first next x.send_queue left) (sym state)
           (record { waiting = omega (arith, waiting, unsent_removed first s.send_queue.sends_left n calls d lt (omega (arith, gone, le))); numbered = w.counts.numbered });
       each = all_removed CallFits n calls w.each;
-      kept = all_append AnswerFits answers (answered_as s.memory (stored_view c) (awaited_call (stored_view c)) (outcome_by f c.room)) w.kept
-          (answer_fits s.memory c f (awaited_call (stored_view c)) (outcome_by f c.room) refl refl (nth_of CallFits n calls d lt w.each) held);
-      distinct = distinct_answer number n calls d answers s.memory (awaited_call (stored_view c)) (outcome_by f c.room) lt sound.apart w.distinct;
+      kept = all_append AnswerFits answers (answered_as s.memory (stored_view c) (awaited_call (stored_view c)) (outcome_by f c.room.bytes)) w.kept
+          (answer_fits s.memory c f (awaited_call (stored_view c)) (outcome_by f c.room.bytes) refl refl (nth_of CallFits n calls d lt w.each) held);
+      distinct = distinct_answer number n calls d answers s.memory (awaited_call (stored_view c)) (outcome_by f c.room.bytes) lt sound.apart w.distinct;
     } in (
       subst (λ (cs : List OutstandingCall). RequesterBounds e2 first next cs answers2) (sym calls_are) (subst (λ (ys : List AnsweredCall). RequesterBounds e2 first next left ys) (sym answers_are) all),
       subst (λ (x : LinkState). sent ≤ x.send_queue.sends_left) (sym state) le,

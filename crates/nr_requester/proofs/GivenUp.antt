@@ -36,7 +36,7 @@ forget_leaves c = refl
 
 -- any call: these have one
 pub given : (calls : List OutstandingCall) (at : ℕ) → OutstandingCall
-given calls at = get_or calls at (record { xid = 0; call = None; is_forgotten = false; offered = record { read = []; write = []; reply = None }; claims = no_claims; room = [] })
+given calls at = get_or calls at (record { xid = 0; call = None; is_forgotten = false; offered = record { read = []; write = []; reply = None }; claims = no_claims; room = record { bytes = []; len = 0 } })
 
 -- ---- The regions of a call are released
 
@@ -104,7 +104,7 @@ given_up_within e e2 first next n calls calls2 answers d w held lt same none lin
       regions = subst (λ (x : LinkState). RegionsHave x.memory (claims_total left)) (sym state) (subst (λ (k : ℕ). RegionsHave memory k) sum both.1);
       counts = subst (λ (x : LinkState). CountsFit first next x.send_queue left) (sym state)
           (record { waiting = omega (arith, w.counts.waiting, waiting_stays first s.send_queue.sends_left n calls y d refl lt); numbered = w.counts.numbered });
-      each = each_stays CallFits n calls y (record { call = omega arith; offer = omega arith; room = (nth_of CallFits n calls d lt w.each).room }) w.each;
+      each = each_stays CallFits n calls y (record { call = omega arith; offer = omega arith; written = (nth_of CallFits n calls d lt w.each).written; room = (nth_of CallFits n calls d lt w.each).room; short = (nth_of CallFits n calls d lt w.each).short }) w.each;
       kept = w.kept;
       distinct = w.distinct;
     } in
@@ -153,7 +153,7 @@ forgot_within e first next n calls calls2 answers d w lt are =
       link = w.link;
       regions = subst (λ (k : ℕ). RegionsHave e.link.state.memory k) sum w.regions;
       counts = record { waiting = omega (arith, w.counts.waiting, waiting_stays first e.link.state.send_queue.sends_left n calls y d refl lt); numbered = w.counts.numbered };
-      each = each_stays CallFits n calls y (record { call = fits.call; offer = fits.offer; room = fits.room }) w.each;
+      each = each_stays CallFits n calls y (record { call = fits.call; offer = fits.offer; written = fits.written; room = fits.room; short = fits.short }) w.each;
       kept = w.kept;
       distinct = w.distinct;
     } in

@@ -13,8 +13,9 @@ use Rattle.nr_requester.specs.declared.outstanding.OutstandingCall.{OutstandingC
 use Rattle.nr_requester.specs.declared.answer.AnsweredCall.{AnsweredCall}
 use Rattle.nr_requester.specs.RequesterState.{StoredCall, RequesterState, RequesterSide}
 use Rattle.nr_requester.specs.Views.{RequesterInvariant, stored_view, requester_view}
-use Rattle.nr_requester.specs.HeldBytes.{NothingOutside, stored_bytes, calls_bytes, rooms_bytes, held_reply_max, bytes_held_by, held_unit, last_max, frame_max, LinkFits, RegionsHave, claims_total, CallFits, answer_bytes, answers_bytes, AnswerFits, RequesterBounds}
+use Rattle.nr_requester.specs.HeldBytes.{NothingOutside, stored_bytes, calls_bytes, rooms_bytes, bytes_held_by, held_unit, last_max, frame_max, LinkFits, RegionsHave, claims_total, CallFits, answer_bytes, answers_bytes, AnswerFits, RequesterBounds, reply_room}
 use Rattle.nr_requester.proofs.OutputBounds.{count_fewer}
+use Rattle.nr_requester.proofs.ChangedCalls.{nth_of}
 use Rattle.nr_requester.proofs.Unsent.{few_wait}
 
 -- ---- The link
@@ -47,9 +48,9 @@ link_bytes s total l have kept few =
 
 -- ---- The calls
 
-pub each_small : (calls : List OutstandingCall) → AllByRecursion CallFits calls → claims_total calls + calls_bytes (map stored_view calls) + rooms_bytes calls ≤ held_unit * length calls
+pub each_small : (calls : List OutstandingCall) → AllByRecursion CallFits calls → claims_total calls + calls_bytes (map stored_view calls) + rooms_bytes (map stored_view calls) ≤ held_unit * length calls
 each_small [] h = omega arith
-each_small (c ∷ calls) h = (let one = h.0 in omega (arith, one.call, one.offer, one.room, each_small calls h.1))
+each_small (c ∷ calls) h = (let one = h.0 in omega (arith, one.call, one.offer, one.room, one.short, each_small calls h.1))
 
 -- one more of them is counted
 pub one_counted : (calls : List OutstandingCall) (i sum n all : ℕ) (c : OutstandingCall) → i < length calls → c ≡ get_or calls i c → n ≡ stored_bytes c.call → sum + calls_bytes (map stored_view (drop i calls)) ≡ all →
@@ -59,15 +60,13 @@ one_counted calls i sum n all c lt is of so_far =
     let step : calls_bytes (map stored_view (drop i calls)) ≡ stored_bytes c.call + calls_bytes (map stored_view (drop (i + 1) calls)) = ap (λ (cs : List OutstandingCall). calls_bytes (map stored_view cs)) first in
     omega (arith, of, so_far, step)
 
-pub one_room : (calls : List OutstandingCall) (i sum n all : ℕ) (c : OutstandingCall) → i < length calls → c ≡ get_or calls i c → n ≡ length c.room → sum + rooms_bytes (drop i calls) ≡ all → sum + n + rooms_bytes (drop (i + 1) calls) ≡ all
-one_room calls i sum n all c lt is of so_far =
+pub one_room : (calls : List OutstandingCall) (i sum n all : ℕ) (c : OutstandingCall) → i < length calls → c ≡ get_or calls i c → n ≡ c.room.len → AllByRecursion CallFits calls →
+    sum + rooms_bytes (map stored_view (drop i calls)) ≡ all → sum + n + rooms_bytes (map stored_view (drop (i + 1) calls)) ≡ all
+one_room calls i sum n all c lt is of fit so_far =
     let first : drop i calls ≡ c ∷ drop (i + 1) calls = drop_more calls i c lt ∙ ap (λ (x : OutstandingCall). x ∷ drop (i + 1) calls) (sym is) in
-    let step : rooms_bytes (drop i calls) ≡ length c.room + rooms_bytes (drop (i + 1) calls) = ap (λ (cs : List OutstandingCall). rooms_bytes cs) first in
-    omega (arith, of, so_far, step)
-
-pub rooms_small : (calls : List OutstandingCall) → AllByRecursion CallFits calls → rooms_bytes calls ≤ held_reply_max * length calls
-rooms_small [] h = omega arith
-rooms_small (c ∷ calls) h = (let one = h.0 in omega (arith, one.room, rooms_small calls h.1))
+    let step : rooms_bytes (map stored_view (drop i calls)) ≡ reply_room c.offered + rooms_bytes (map stored_view (drop (i + 1) calls)) = ap (λ (cs : List OutstandingCall). rooms_bytes (map stored_view cs)) first in
+    let own : c.room.len ≡ reply_room c.offered = (subst (λ (x : OutstandingCall). CallFits x) (sym is) (nth_of CallFits i calls c lt fit)).room in
+    omega (arith, of, so_far, step, own)
 
 -- ---- The answers
 
@@ -91,14 +90,14 @@ one_answer answers i sum n all a lt is of so_far =
 -- ---- Both
 
 pub held_is : (e : EndpointState) (first next sent wished first_xid next_xid grant kept more rooms : ℕ) (calls : List OutstandingCall) (answers : List AnsweredCall) (rest : ℕ) (r : RequesterState) → (requester_view e.link sent wished first_xid next_xid grant calls answers).state ≡ r → RequesterBounds e first next calls answers →
-    kept ≡ bytes_kept e → more ≡ calls_bytes (map stored_view calls) → rest ≡ answers_bytes answers → kept + more + rooms + rest ≡ bytes_held_by r + rooms
+    kept ≡ bytes_kept e → more ≡ calls_bytes (map stored_view calls) → rooms ≡ rooms_bytes (map stored_view calls) → rest ≡ answers_bytes answers → kept + more + rooms + rest ≡ bytes_held_by r
 unfolding bytes_held_by
-held_is e first next sent wished first_xid next_xid grant kept more rooms calls answers rest r is w kept_is more_is rest_is =
-    let here : FPDU_MAX + bytes_of e.link.state + calls_bytes (map stored_view calls) + answers_bytes answers ≡ bytes_held_by r = ap bytes_held_by is in
-    omega (arith, here, w.staging, no_outside e w.outside, kept_is, more_is, rest_is)
+held_is e first next sent wished first_xid next_xid grant kept more rooms calls answers rest r is w kept_is more_is rooms_is rest_is =
+    let here : FPDU_MAX + bytes_of e.link.state + calls_bytes (map stored_view calls) + rooms_bytes (map stored_view calls) + answers_bytes answers ≡ bytes_held_by r = ap bytes_held_by is in
+    omega (arith, here, w.staging, no_outside e w.outside, kept_is, more_is, rooms_is, rest_is)
 
 pub held_bound : (e : EndpointState) (first next grant kept more rooms : ℕ) (calls : List OutstandingCall) (answers : List AnsweredCall) (room : ℕ) → RequesterBounds e first next calls answers → RequesterInvariant e.link next grant calls answers room → receives_kept e.link.state.receive_queue + e.link.state.receive_queue.lent ≡ e.link.state.receive_queue.receives →
-    kept ≡ bytes_kept e → more ≡ calls_bytes (map stored_view calls) → rooms ≡ rooms_bytes calls → kept + more + rooms ≤ held_unit * (length calls + 4)
+    kept ≡ bytes_kept e → more ≡ calls_bytes (map stored_view calls) → rooms ≡ rooms_bytes (map stored_view calls) → kept + more + rooms ≤ held_unit * (length calls + 4)
 held_bound e first next grant kept more rooms calls answers room w s receives kept_is more_is rooms_is =
     let s1 : LinkState = e.link.state in
     let link = link_bytes s1 (claims_total calls) w.link w.regions (omega (arith, receives, w.link.receives)) (omega (arith, w.counts.waiting, few_wait first s1.send_queue.sends_left calls, s.few)) in

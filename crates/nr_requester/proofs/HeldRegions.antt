@@ -94,7 +94,7 @@ rooms_append [] o h one = (one, tt)
 rooms_append (x ∷ xs) o h one = (h.0, rooms_append xs o h.1 one)
 
 -- the room of a call that is sent by its plan
-pub own_room : (m : RegisteredMemory) (p : Plan) (o : OutstandingCall) → o.claims ≡ claims_of m (offered_of p) → (length o.room ≡ send_max + (total p.write + (total p.reply + 3))) × (length o.room < 2 ^ 32) → HasRoom o
+pub own_room : (m : RegisteredMemory) (p : Plan) (o : OutstandingCall) → o.claims ≡ claims_of m (offered_of p) → (o.room.len ≡ send_max + (total p.write + (total p.reply + 3))) × (o.room.len < 2 ^ 32) → HasRoom o
 own_room m p o is has =
     let w : claim_len o.claims.write ≤ total p.write = subst (λ (c : Claims). claim_len c.write ≤ total p.write) (sym is) (within (with_read m (offered_of p)) (has_segment p.write) (total p.write)) in
     let r : claim_len o.claims.reply ≤ total p.reply = subst (λ (c : Claims). claim_len c.reply ≤ total p.reply) (sym is) (within (with_write_buffer m (offered_of p)) (has_segment p.reply) (total p.reply)) in

@@ -49,6 +49,7 @@ pub mod Tickets
 pub mod FirstDue
 pub mod HandedBack
 pub mod CameBack
+pub mod OfferedRooms
 pub mod ReplyParts
 pub mod Completing
 pub mod Taken

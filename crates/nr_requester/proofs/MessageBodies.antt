@@ -181,12 +181,12 @@ one_held m cs at d lt h = call_held (take at cs) (get_or cs at d) (drop (suc at)
 
 pub same_all : (cs : List OutstandingCall) → SameCalls cs cs
 same_all [] = tt
-same_all (c ∷ cs) = ((refl, refl), same_all cs)
+same_all (c ∷ cs) = ((refl, (refl, λ h. h)), same_all cs)
 
 pub same_set : (cs : List OutstandingCall) (at : ℕ) (x d : OutstandingCall) → at < length cs → SameCall (get_or cs at d) x → SameCalls cs (slice_set cs at x)
 same_set [] at x d lt h = absurd (omega (arith, lt))
 same_set (c ∷ cs) zero x d lt h = (h, same_all cs)
-same_set (c ∷ cs) (suc n) x d lt h = ((refl, refl), same_set cs n x d (omega (arith, lt)) h)
+same_set (c ∷ cs) (suc n) x d lt h = ((refl, (refl, λ within. within)), same_set cs n x d (omega (arith, lt)) h)
 
 set_length : (cs : List OutstandingCall) (at : ℕ) (x : OutstandingCall) → length (slice_set cs at x) ≡ length cs
 set_length [] at x = refl
@@ -219,12 +219,12 @@ found_sent (c ∷ cs) xid y is = by (eqb c.xid xid && c.is_sent) refl (λ e. fou
 
 -- a call was judged by the body of its message
 pub brings_lem : (first sent : ℕ) (cs : List OutstandingCall) (memory : Bytes) (message : List ℕ) (h : Header) (at : ℕ) (x d0 : OutstandingCall) (f : Found) → at < length cs → header_of message ≡ Ok h → kept_by (kept_views first sent cs) h.xid ≡ Some (kept_view first sent (get_or cs at d0)) →
-    kept_body (kept_view first sent (get_or cs at d0)) memory message h.body ≡ GivesOutcome (get_or cs at d0).xid (outcome_by f x.room) → LiesWithin f x.room → Brings first sent cs (slice_set cs at x) memory message at f
+    kept_body (kept_view first sent (get_or cs at d0)) memory message h.body ≡ GivesOutcome (get_or cs at d0).xid (outcome_by f x.room.bytes) → LiesWithin f x.room.bytes → Brings first sent cs (slice_set cs at x) memory message at f
 brings_lem first sent cs memory message h at x d0 f lt is one body fits = record {
   within = (let len = set_length cs at x in omega (arith, len, lt));
   verdict = λ d. by_call (kept_views first sent cs) memory message h (kept_view first sent (get_or cs at d0)) is one ∙ body
-      ∙ (λ i. GivesOutcome (same_get cs at d0 d lt i).xid (outcome_by f (sym (set_here cs at x d lt) i).room));
-  fits = λ d. subst (λ (y : OutstandingCall). LiesWithin f y.room) (sym (set_here cs at x d lt)) fits;
+      ∙ (λ i. GivesOutcome (same_get cs at d0 d lt i).xid (outcome_by f (sym (set_here cs at x d lt) i).room.bytes));
+  fits = λ d. subst (λ (y : OutstandingCall). LiesWithin f y.room.bytes) (sym (set_here cs at x d lt)) fits;
   sent = λ d. subst (λ (y : OutstandingCall). y.xid - first < sent) (same_get cs at d0 d lt) (ltb-true ((get_or cs at d0).xid - first) sent (found_sent (kept_views first sent cs) h.xid (kept_view first sent (get_or cs at d0)) one));
 }
 

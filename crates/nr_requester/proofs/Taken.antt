@@ -55,7 +55,7 @@ same_rooms [] [] h o = tt
 same_rooms [] (y ∷ ys) h o = absurd h
 same_rooms (x ∷ xs) [] h o = absurd h
 same_rooms (x ∷ xs) (y ∷ ys) h o = (
-  subst HasRoom (sym h.0.0) ((let le = o.0.0 in let lt = o.0.1 in let len = h.0.1 in (omega (arith, le, len), omega (arith, lt, len)))),
+  subst HasRoom (sym h.0.0) ((let le = o.0.0 in let lt = o.0.1 in let len = h.0.1.0 in (omega (arith, le, len), omega (arith, lt, len)))),
   same_rooms xs ys h.1 o.1,
 )
 

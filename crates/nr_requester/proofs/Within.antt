@@ -40,7 +40,7 @@ use Rattle.nr_requester.specs.declared.outstanding.OutstandingCall.{OutstandingC
 use Rattle.nr_requester.specs.AfterCalls.{submitted, sent_unless}
 use Rattle.nr_requester.specs.Sending.{IsPlan, offered_of}
 use Rattle.nr_requester.specs.Views.{AreRising}
-use Rattle.nr_requester.specs.HeldBytes.{NothingOutside, cred_bytes, call_bytes, stored_bytes, call_max, QueueFits, LinkFits, RegionsHave, CountsFit, claims_len, claims_total, CallFits, PlanFits, RequesterBounds}
+use Rattle.nr_requester.specs.HeldBytes.{NothingOutside, cred_bytes, call_bytes, stored_bytes, call_max, QueueFits, LinkFits, RegionsHave, CountsFit, claims_len, claims_total, CallFits, PlanFits, RequesterBounds, reply_room}
 use Rattle.nr_requester.proofs.OutputBounds.{send_fits, written_fits, count_fewer}
 use Rattle.nr_requester.proofs.PlanBounds.{plan_bounds, payload_small}
 use Rattle.nr_requester.proofs.OutsideBounds.{opened_outside, same_outside}
@@ -138,8 +138,8 @@ sent_state s plan xid credit total i lives stags l have =
 
 pub sent_within : (e e2 : EndpointState) (first next xid credit : ℕ) (calls calls2 : List OutstandingCall) (answers answers2 : List AnsweredCall) (o : OutstandingCall) (plan : Plan) → RequesterBounds e first next calls answers → AreRising calls next → e2.staging ≡ e.staging → (NothingOutside e → NothingOutside e2) →
     e2.link ≡ with_state (submitted e.link.state (call_message xid credit e.link.state.memory.next plan) (buffers e.link.state.memory.next plan)) e.link → IsPlan plan → e.link.state.ended ≡ None →
-    e.link.state.memory.next + regions_needed plan ≤ 2 ^ 32 → o.claims ≡ claims_of e.link.state.memory (offered_of plan) → stored_bytes o.call ≤ call_max → length o.room ≤ send_max + (total plan.write + (total plan.reply + 3)) → o.xid ≡ next → calls2 ≡ calls ++ o ∷ [] → answers2 ≡ answers → RequesterBounds e2 first (next + 1) calls2 answers2
-sent_within e e2 first next xid credit calls calls2 answers answers2 o plan w rising same none link_is i lives stags claims small room number more kept =
+    e.link.state.memory.next + regions_needed plan ≤ 2 ^ 32 → o.claims ≡ claims_of e.link.state.memory (offered_of plan) → stored_bytes o.call ≤ call_max → o.room.bytes ≡ [] → o.room.len ≡ reply_room o.offered → o.room.len ≤ send_max + (total plan.write + (total plan.reply + 3)) → o.xid ≡ next → calls2 ≡ calls ++ o ∷ [] → answers2 ≡ answers → RequesterBounds e2 first (next + 1) calls2 answers2
+sent_within e e2 first next xid credit calls calls2 answers answers2 o plan w rising same none link_is i lives stags claims small empty offered room number more kept =
     let s : LinkState = e.link.state in
     let after : LinkState = submitted s (call_message xid credit s.memory.next plan) (buffers s.memory.next plan) in
     let state : e2.link.state ≡ after = ap (λ (l : LinkSide). l.state) link_is in
@@ -157,7 +157,7 @@ sent_within e e2 first next xid credit calls calls2 answers answers2 o plan w ri
       regions = subst (λ (x : LinkState). RegionsHave x.memory (claims_total (calls ++ o ∷ []))) (sym state) (subst (λ (n : ℕ). RegionsHave after.memory n) sum l.1);
       counts = subst (λ (x : LinkState). CountsFit first (next + 1) x.send_queue (calls ++ o ∷ [])) (sym state)
           (counts_sent first next _ s.send_queue after.send_queue calls o refl refl number w.order w.counts);
-      each = all_append CallFits calls o w.each (record { call = small; offer = omega (arith, len, short); room = (let back = fits.back in omega (arith, room, back)) });
+      each = all_append CallFits calls o w.each (record { call = small; offer = omega (arith, len, short); written = (let none : length o.room.bytes ≡ 0 = ap (λ (xs : List ℕ). length xs) empty in omega (arith, none)); room = offered; short = (let back = fits.back in omega (arith, room, back)) });
       kept = w.kept;
       distinct = w.distinct;
     } in

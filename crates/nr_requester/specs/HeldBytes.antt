@@ -1,6 +1,8 @@
 -- The bytes of the vectors that a requester keeps, and their bounds. The bounds are own.
 use Rattle.std.specs.Prelude.{◌≡◌, ◌≢◌, ℕ, ◌+◌, ◌-◌, ◌*◌, ◌≤◌, nat_lt, Bool, true, false, not, List, [], ◌∷◌, length, Option, None, Some}
 use Rattle.std.specs.List.{AllByRecursion, filter}
+use Rattle.nr_header.specs.declared.header.ChunkLists.{ChunkLists}
+use Rattle.nr_header.specs.declared.header.RdmaSegment.{RdmaSegment}
 use Rattle.nr_rpc.specs.declared.cred.Cred.{Cred}
 use Rattle.nr_rpc.specs.declared.cred.Cred.TheVariants as creds
 use Rattle.nr_regions.specs.RegisteredMemory.{Region, RegisteredMemory, Claim, held_region, outside_len}
@@ -18,6 +20,7 @@ use Rattle.nr_reduce.specs.declared.call.Outcome.TheVariants as outcomes
 use Rattle.nr_reduce.specs.declared.outline.Plan.{Plan}
 use Rattle.nr_reduce.specs.Limits.{given_max}
 use Rattle.nr_reduce.specs.Plans.{total}
+use Rattle.nr_reduce.specs.Chunks.{chunk_total}
 use Rattle.nr_requester.specs.declared.outstanding.OutstandingCall.{OutstandingCall}
 use Rattle.nr_requester.specs.declared.answer.AnsweredCall.{AnsweredCall}
 use Rattle.nr_requester.specs.declared.answer.Buffers.{Buffers}
@@ -61,9 +64,26 @@ abbrev pub answers_bytes : List AnsweredCall → ℕ
 answers_bytes [] = 0
 answers_bytes (a ∷ answers) = answer_bytes a + answers_bytes answers
 
--- The bytes of the staging buffer, the receives, the regions and the output, and those of the calls and the answers.
+-- The room in which the payload of a reply is put together: that of a Send, of the chunks that were offered for it, and of an item's pad.
+abbrev pub chunks_total : List (List RdmaSegment) → ℕ
+chunks_total [] = 0
+chunks_total (chunk ∷ chunks) = chunk_total chunk + chunks_total chunks
+
+abbrev pub chunk_if : Option (List RdmaSegment) → ℕ
+chunk_if None = 0
+chunk_if (Some chunk) = chunk_total chunk
+
+abbrev pub reply_room : ChunkLists → ℕ
+reply_room offered = send_max + (chunks_total offered.write + (chunk_if offered.reply + 3))
+
+abbrev pub rooms_bytes : List StoredCall → ℕ
+rooms_bytes [] = 0
+rooms_bytes (c ∷ calls) = reply_room c.offered + rooms_bytes calls
+
+-- The bytes of the staging buffer, the receives, the regions and the output, and those of the calls, of the rooms of their replies, and of
+-- the answers.
 unfoldable pub bytes_held_by : RequesterState → ℕ
-bytes_held_by r = FPDU_MAX + bytes_of r.side + calls_bytes r.outstanding + answers_bytes r.answered
+bytes_held_by r = FPDU_MAX + bytes_of r.side + calls_bytes r.outstanding + rooms_bytes r.outstanding + answers_bytes r.answered
 
 -- ---- Bounds
 
@@ -161,16 +181,13 @@ abbrev pub claims_total : List OutstandingCall → ℕ
 claims_total [] = 0
 claims_total (c ∷ calls) = claims_len c.claims + claims_total calls
 
--- The bytes of the rooms in which replies are put together.
-abbrev pub rooms_bytes : List OutstandingCall → ℕ
-rooms_bytes [] = 0
-rooms_bytes (c ∷ calls) = length c.room + rooms_bytes calls
-
--- a call, its regions and the room of its reply are within these
+-- a call, its regions and the room of its reply are within these, and that room is as long as its offer says
 pub record CallFits (c : OutstandingCall) : Type 0 where
   pub call : stored_bytes c.call ≤ call_max
   pub offer : claims_len c.claims ≤ offer_max
-  pub room : length c.room ≤ held_reply_max
+  pub written : length c.room.bytes ≤ c.room.len
+  pub room : c.room.len ≡ reply_room c.offered
+  pub short : c.room.len ≤ held_reply_max
 
 -- so are an answered call, its buffers and its reply
 pub record AnswerFits (a : AnsweredCall) : Type 0 where

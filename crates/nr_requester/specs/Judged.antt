@@ -10,6 +10,7 @@ use Rattle.nr_reduce.specs.declared.call.Call.{Call}
 use Rattle.nr_reduce.specs.declared.call.Outcome.{Outcome}
 use Rattle.nr_reduce.specs.declared.call.Outcome.TheVariants as outcomes
 use Rattle.nr_reduce.specs.declared.item.Of.TheVariants.{Reply as OfReply}
+use Rattle.nr_reduce.specs.PayloadRoom.{PayloadRoom}
 use Rattle.nr_reduce.specs.Plans.{segments_from}
 use Rattle.nr_reduce.specs.Chunks.{returns, whole}
 use Rattle.nr_reduce.specs.ClientMessages.{ReplyVerdict, reply_by_payload}
@@ -50,7 +51,7 @@ outcome_by (founds.Reply len) room = Some (outcomes.Reply (take len room))
 outcome_by founds.Chunk room = Some outcomes.Chunk
 outcome_by (founds.Version low high) room = Some (outcomes.Version low high)
 
--- the payload lies within the room
+-- the payload lies within what was written into the room
 abbrev pub LiesWithin : Found → List ℕ → Type 0
 LiesWithin founds.Nothing room = Unit {0}
 LiesWithin (founds.Reply len) room = len ≤ length room
@@ -61,12 +62,12 @@ LiesWithin (founds.Version low high) room = Unit {0}
 abbrev pub by_stream : ℕ → Call → List ℕ → Option (List ℕ) → ReplyVerdict
 by_stream xid call stream moved = reply_by_payload xid (whole (OfReply call.prog call.vers call.proc) stream moved)
 
-abbrev pub with_room : OutstandingCall → List ℕ → OutstandingCall
+abbrev pub with_room : OutstandingCall → PayloadRoom → OutstandingCall
 with_room c room = record { xid = c.xid; call = c.call; is_forgotten = c.is_forgotten; offered = c.offered; claims = c.claims; room = room }
 
 -- only the bytes in its room change
 abbrev pub SameCall : (before after : OutstandingCall) → Type 0
-SameCall before after = (after ≡ with_room before after.room) × (length after.room ≡ length before.room)
+SameCall before after = (after ≡ with_room before after.room) × ((after.room.len ≡ before.room.len) × (length before.room.bytes ≤ before.room.len → length after.room.bytes ≤ after.room.len))
 
 -- a call as a client keeps it
 abbrev pub kept_view : (first sent : ℕ) → OutstandingCall → KeptCall
@@ -88,6 +89,6 @@ SameCalls (b ∷ before) (a ∷ after) = SameCall b a × SameCalls before after
 -- A message answers the call at this place, and brings this for it.
 pub record Brings (first many : ℕ) (before after : List OutstandingCall) (memory : ℕ → List ℕ) (message : List ℕ) (at : ℕ) (f : Found) : Type 0 where
   pub within : at < length after
-  pub verdict : (d : OutstandingCall) → kept_verdict (kept_views first many before) memory message ≡ GivesOutcome (get_or before at d).xid (outcome_by f (get_or after at d).room)
-  pub fits : (d : OutstandingCall) → LiesWithin f (get_or after at d).room
+  pub verdict : (d : OutstandingCall) → kept_verdict (kept_views first many before) memory message ≡ GivesOutcome (get_or before at d).xid (outcome_by f (get_or after at d).room.bytes)
+  pub fits : (d : OutstandingCall) → LiesWithin f (get_or after at d).room.bytes
   pub sent : (d : OutstandingCall) → (get_or before at d).xid - first < many

@@ -20,7 +20,7 @@ claim_len (Some claim) = claim.len
 
 -- the room in which the payload of the largest reply through a call's chunks is put together
 abbrev pub HasRoom : OutstandingCall → Type 0
-HasRoom c = (send_max + (claim_len c.claims.write + (claim_len c.claims.reply + 3)) ≤ length c.room) × (length c.room < 2 ^ 32)
+HasRoom c = (send_max + (claim_len c.claims.write + (claim_len c.claims.reply + 3)) ≤ c.room.len) × (c.room.len < 2 ^ 32)
 
 -- the calls come in the order of their xids, all of which are below this
 abbrev pub AreRising : List OutstandingCall → ℕ → Type 0

@@ -3,7 +3,7 @@
 ghost use Rattle.std.specs.Prelude.{◌≡◌, ℕ, ◌+◌, ◌*◌, ◌^◌, ◌≤◌, length, map, max};
 ghost use Rattle.std.specs.List.{AllByRecursion};
 ghost use Rattle.nr_reduce.specs.Limits.{credits_max};
-ghost use Rattle.nr_requester.specs.HeldBytes.{cred_bytes, call_bytes, stored_bytes, calls_bytes, rooms_bytes, held_reply_max, outcome_bytes, buffer_len, answer_bytes, answers_bytes, AnswerFits, bytes_held_by, held_unit};
+ghost use Rattle.nr_requester.specs.HeldBytes.{cred_bytes, call_bytes, stored_bytes, calls_bytes, rooms_bytes, outcome_bytes, buffer_len, answer_bytes, answers_bytes, AnswerFits, CallFits, bytes_held_by, held_unit};
 ghost use Rattle.nr_requester.specs.Views.{stored_view};
 
 use crate::answer::AnsweredCall;
@@ -52,8 +52,9 @@ fn calls_bytes(calls: &[OutstandingCall]) -> u128
 }
 
 fn rooms_bytes(calls: &[OutstandingCall]) -> u128
-    requires { length calls.now ≤ credits_max }
-    ensures { result ≡ rooms_bytes calls.now }
+    requires few { length calls.now ≤ credits_max }
+    requires fit { AllByRecursion CallFits calls.now }
+    ensures { result ≡ rooms_bytes (map stored_view calls.now) }
 {
     let mut sum: u128 = 0;
     for call in calls {
@@ -108,7 +109,7 @@ impl Requester {
     /// of their machines, the rooms of their replies, and the answers with their buffers. At most 262144 for each call that is outstanding or each credit that was
     /// wished for, whichever are more, for each answer that wasn't taken, and four times that. Takes no memory.
     pub fn held(&self) -> u128
-        ensures is { (rooms : ℕ) × ((result ≡ bytes_held_by self.now.state + rooms) × (rooms ≤ held_reply_max * length self.now.state.outstanding)) }
+        ensures is { result ≡ bytes_held_by self.now.state }
         ensures bound { result ≤ held_unit * (max self.now.state.wished (length self.now.state.outstanding) + length self.now.state.answered + 4) }
     {
         self.endpoint.facts();

@@ -69,8 +69,8 @@ fn found(
     requires room { HasRoom call.old }
     requires stream { StreamWithin body.now (length message.now) }
     requires message { length message.now ≤ send_max }
-    ensures ok { IfOk result (λ f. (first sent : ℕ) → kept_body (kept_view first sent call.old) (bytes_under regions.now.memory) message.now body.now ≡ GivesOutcome call.old.xid (outcome_by f call.new.room)) }
-    ensures within { IfOk result (λ f. LiesWithin f call.new.room) }
+    ensures ok { IfOk result (λ f. (first sent : ℕ) → kept_body (kept_view first sent call.old) (bytes_under regions.now.memory) message.now body.now ≡ GivesOutcome call.old.xid (outcome_by f call.new.room.bytes)) }
+    ensures within { IfOk result (λ f. LiesWithin f call.new.room.bytes) }
     ensures err { IfErr result (λ reason. (first sent : ℕ) → Ends (kept_body (kept_view first sent call.old) (bytes_under regions.now.memory) message.now body.now) reason) }
     ensures same { SameCall call.old call.new }
 {

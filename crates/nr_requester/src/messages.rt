@@ -12,7 +12,7 @@ use nr_endpoint::Offered;
 use nr_header::{
     Chunk, ChunkLists, RdmaSegment, ReadList, ReadSegment, WriteList, write_with_lists,
 };
-use nr_reduce::{ChunkLengths, Outline};
+use nr_reduce::{ChunkLengths, Outline, PayloadBuffer};
 use nr_xdr::{Memory, Octets};
 use std::alloc::Global;
 
@@ -339,9 +339,10 @@ fn total_of(lengths: Option<ChunkLengths<'_>>) -> u64
 
 /// The room in which the payload of a reply is put together: that of a Send, of both chunks of the plan, and of an item's pad. No
 /// chunk of a plan has 2^30 bytes; of one that had, it would be out of memory.
-pub fn reply_room(alloc: Global, plan: PlannedCall<'_>) -> Result<Octets, Memory>
+pub fn reply_room(alloc: Global, plan: PlannedCall<'_>) -> Result<PayloadBuffer, Memory>
     requires few { AreFew (call_plan plan) }
-    ensures { IfOk result (λ room. (length room ≡ send_max + (total (call_plan plan.entry).write + (total (call_plan plan.entry).reply + 3))) × (length room < 2 ^ 32)) }
+    ensures len { IfOk result (λ room. (room.len ≡ send_max + (total (call_plan plan.entry).write + (total (call_plan plan.entry).reply + 3))) × (room.len < 2 ^ 32)) }
+    ensures empty { IfOk result (λ room. room.bytes ≡ []) }
 {
     let write = total_of(plan.outline.write);
     let reply = total_of(plan.outline.reply);
@@ -352,5 +353,5 @@ pub fn reply_room(alloc: Global, plan: PlannedCall<'_>) -> Result<Octets, Memory
         return Err(Memory);
     }
     let len = SEND_MAX + (write + (reply + PAD_MAX));
-    Ok(Octets::from_vec(vec![in alloc; 0u8; len as usize]?))
+    PayloadBuffer::new(alloc, len as usize)
 }

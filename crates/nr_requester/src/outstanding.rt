@@ -2,8 +2,7 @@
 
 use nr_endpoint::Claims;
 use nr_header::ChunkLists;
-use nr_reduce::Call;
-use nr_xdr::Octets;
+use nr_reduce::{Call, PayloadBuffer};
 
 /// A call that is outstanding: accepted, and no message of its xid was received. The call, until its memory is revoked; whether its
 /// owner gave up the answer; the lists that its reply has to repeat; its regions; the room in which its reply is put together.
@@ -20,5 +19,5 @@ pub struct OutstandingCall {
     /// Its regions.
     pub claims: Claims,
     /// The room in which its reply is put together.
-    pub room: Octets,
+    pub room: PayloadBuffer,
 }

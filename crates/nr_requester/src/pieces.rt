@@ -36,7 +36,7 @@ use crate::requester::{Requester, marks_if};
 use nr_endpoint::{Endpoint, Event};
 use nr_header::credit_of;
 use nr_link::End;
-use nr_reduce::{CREDITS_MAX, Call, Outcome, first_bytes};
+use nr_reduce::{CREDITS_MAX, Call, Outcome, PayloadBuffer};
 use nr_xdr::Octets;
 
 /// The credits that a credit word grants.
@@ -91,13 +91,13 @@ fn awaited(call: Option<Call>, is_forgotten: bool) -> Option<Call>
 }
 
 /// What a message brings, with the room in which its payload is.
-fn outcome_in(found: Found, room: Octets) -> Option<Outcome>
-    requires { LiesWithin found room }
-    ensures { result ≡ outcome_by found room }
+fn outcome_in(found: Found, room: PayloadBuffer) -> Option<Outcome>
+    requires { LiesWithin found room.bytes }
+    ensures { result ≡ outcome_by found room.bytes }
 {
     match found {
         Found::Nothing => None,
-        Found::Reply { len } => Some(Outcome::Reply(first_bytes(room, len))),
+        Found::Reply { len } => Some(Outcome::Reply(room.into_first(len))),
         Found::Chunk => Some(Outcome::Chunk),
         Found::Version { low, high } => Some(Outcome::Version { low, high }),
     }
@@ -114,12 +114,12 @@ fn complete(
 )
     requires at { at < length outstanding.old.items }
     requires held { (d : OutstandingCall) → AreHeldFrom endpoint.old.link.state.memory 0 (call_claims (get_or outstanding.old.items at d).claims) }
-    requires within { (d : OutstandingCall) → LiesWithin found (get_or outstanding.old.items at d).room }
+    requires within { (d : OutstandingCall) → LiesWithin found (get_or outstanding.old.items at d).room.bytes }
     requires room { vec_len answered.old < vec_capacity answered.old }
     ensures link { (d : OutstandingCall) → endpoint.new.link ≡ with_memory (released_all endpoint.old.link.state.memory (stags_of (get_or outstanding.old.items at d).claims)) endpoint.old.link }
     ensures outstanding { outstanding.new.items ≡ remove outstanding.old.items at }
     ensures answered { (d : OutstandingCall) → answered.new.items ≡ answered.old.items
-        ++ answered_as endpoint.old.link.state.memory (stored_view (get_or outstanding.old.items at d)) (awaited_call (stored_view (get_or outstanding.old.items at d))) (outcome_by found (get_or outstanding.old.items at d).room) }
+        ++ answered_as endpoint.old.link.state.memory (stored_view (get_or outstanding.old.items at d)) (awaited_call (stored_view (get_or outstanding.old.items at d))) (outcome_by found (get_or outstanding.old.items at d).room.bytes) }
     ensures capacity { vec_capacity answered.new ≡ vec_capacity answered.old }
     ensures staging { endpoint.new.staging ≡ endpoint.old.staging }
     ensures outside { NothingOutside endpoint.old → NothingOutside endpoint.new }

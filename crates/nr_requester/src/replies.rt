@@ -14,10 +14,9 @@ ghost use Rattle.nr_requester.specs.Judged.{ComesBack, WriteComesBack, ReplyCome
 use crate::outstanding::OutstandingCall;
 use nr_header::{Chunk, RdmaSegment};
 use nr_link::constants::{REASON_CHUNKS, REASON_HEAD, REASON_XID};
-use nr_reduce::{Of, item_of, rebuild_item_into};
+use nr_reduce::{Of, PayloadBuffer, item_of, rebuild_item_into};
 use nr_regions::{Regions, Registration};
 use nr_rpc::{ReplyHead, read_reply};
-use nr_xdr::Octets;
 
 /// What a message brings for its call: nothing, if the call's memory was revoked; a reply, whose payload is the first bytes of the
 /// call's room; or an error message (RFC 8166 section 4.5).
@@ -98,25 +97,29 @@ pub fn long_stream<'a>(
     }
 }
 
-/// Puts the payload of a stream, and of what moved beside it, into the first bytes of a room, and gives its length; `None` if and only
+/// Puts the payload of a stream, and of what moved beside it, into the front of a room, and gives its length; `None` if and only
 /// if they don't belong together. Takes no memory.
-fn payload_in(room: &mut Octets, of: &Of, stream: &[u8], moved: &[u8]) -> Option<usize>
+fn payload_in(room: &mut PayloadBuffer, of: &Of, stream: &[u8], moved: &[u8]) -> Option<usize>
     requires reply { (prog : ℕ) × ((vers : ℕ) × ((proc : ℕ) × (of.now ≡ OfReply prog vers proc))) }
-    requires room { length stream.now + length moved.now + 3 ≤ length room.old }
-    requires few { length room.old < 2 ^ 32 }
-    ensures payload { MatchOption result (whole of.now stream.now (some_bytes moved.now) ≡ None) (λ len. (whole of.now stream.now (some_bytes moved.now) ≡ Some (take len room.new)) × (len ≤ length room.new)) }
-    ensures length { length room.new ≡ length room.old }
+    requires room { length stream.now + length moved.now + 3 ≤ room.old.len }
+    requires few { room.old.len < 2 ^ 32 }
+    ensures payload { MatchOption result (whole of.now stream.now (some_bytes moved.now) ≡ None) (λ len. (whole of.now stream.now (some_bytes moved.now) ≡ Some (take len room.new.bytes)) × (len ≤ length room.new.bytes)) }
+    ensures len { room.new.len ≡ room.old.len }
+    ensures within { length room.new.bytes ≤ room.new.len }
 {
     let _len = room.len();
     if moved.is_empty() {
-        room.overwrite(0, stream);
+        room.put(0, stream);
         return Some(stream.len());
     }
     let Some(item) = item_of(of, stream) else {
         return None;
     };
     match rebuild_item_into(room, of, Some(item), stream, item.pos as u32, moved) {
-        Ok(len) => Some(len),
+        Ok(len) => {
+            let _room = room.len();
+            Some(len)
+        }
         Err(_) => None,
     }
 }
@@ -172,10 +175,10 @@ pub fn reply_found(
 ) -> Result<Found, u32>
     requires own { (c : Call) × ((call.old.call ≡ Some c) × (of.now ≡ OfReply c.prog c.vers c.proc)) }
     requires written { WriteComesBack regions.now.memory call.old.claims.write written.now }
-    requires room { length stream.now + (claim_len call.old.claims.write + 3) ≤ length call.old.room }
-    requires few { length call.old.room < 2 ^ 32 }
-    ensures ok { IfOk result (λ f. (c : Call) → call.old.call ≡ Some c → by_stream call.old.xid c stream.now (reply_moved (bytes_under regions.now.memory) written.now) ≡ GivesOutcome call.old.xid (outcome_by f call.new.room)) }
-    ensures within { IfOk result (λ f. LiesWithin f call.new.room) }
+    requires room { length stream.now + (claim_len call.old.claims.write + 3) ≤ call.old.room.len }
+    requires few { call.old.room.len < 2 ^ 32 }
+    ensures ok { IfOk result (λ f. (c : Call) → call.old.call ≡ Some c → by_stream call.old.xid c stream.now (reply_moved (bytes_under regions.now.memory) written.now) ≡ GivesOutcome call.old.xid (outcome_by f call.new.room.bytes)) }
+    ensures within { IfOk result (λ f. LiesWithin f call.new.room.bytes) }
     ensures err { IfErr result (λ reason. (c : Call) → call.old.call ≡ Some c → Ends (by_stream call.old.xid c stream.now (reply_moved (bytes_under regions.now.memory) written.now)) reason) }
     ensures same { SameCall call.old call.new }
 {

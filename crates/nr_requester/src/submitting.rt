@@ -1,6 +1,6 @@
 //! A call is submitted.
 
-ghost use Rattle.std.specs.Prelude.{◌≡◌, ◌≢◌, ℕ, ◌+◌, ◌^◌, ◌<◌, ◌≤◌, map, length, ◌++◌, None, Ok, IfOk, IfErr, OnOk, OnErr, MatchOption, vec_len, vec_capacity};
+ghost use Rattle.std.specs.Prelude.{◌≡◌, ◌≢◌, ℕ, ◌+◌, ◌^◌, ◌<◌, ◌≤◌, [], map, length, ◌++◌, None, Ok, IfOk, IfErr, OnOk, OnErr, MatchOption, vec_len, vec_capacity};
 ghost use Rattle.nr_rpc.specs.Credential.{CanWriteCred};
 ghost use Rattle.nr_endpoint.specs.Calls.{with_state};
 ghost use Rattle.nr_endpoint.specs.Offering.{claims_of};
@@ -28,7 +28,7 @@ use crate::ticket::Ticket;
 use nr_endpoint::{Claims, Endpoint};
 use nr_header::ChunkLists;
 use nr_link::constants::SEND_MAX;
-use nr_reduce::{Call, Form, Outline, Refused, TooLarge, outline_of, written_parts};
+use nr_reduce::{Call, Form, Outline, PayloadBuffer, Refused, TooLarge, outline_of, written_parts};
 use nr_rpc::{CallTarget, write_call_head};
 use nr_xdr::{Memory, Octets};
 use std::alloc::Global;
@@ -51,7 +51,7 @@ pub struct SentCall {
     /// What is kept of it.
     pub sent: Sent,
     /// The room in which its reply is put together.
-    pub room: Octets,
+    pub room: PayloadBuffer,
 }
 
 /// Queues the message of a plan with these lists and registers its regions; or nothing, if memory runs out.
@@ -134,7 +134,8 @@ fn send_with_room(
     ensures claims { IfOk result (λ s. s.sent.claims ≡ claims_of endpoint.old.link.state.memory (offered_of (call_plan plan.entry))) }
     ensures held { IfOk result (λ s. SentHeld endpoint.old.link.state.memory endpoint.new.link.state.memory s.sent.claims) }
     ensures offer { IfOk result (λ s. IsOfferOf s.sent.claims s.sent.lists) }
-    ensures room { IfOk result (λ s. (length s.room ≡ send_max + (total (call_plan plan.entry).write + (total (call_plan plan.entry).reply + 3))) × (length s.room < 2 ^ 32)) }
+    ensures room { IfOk result (λ s. (s.room.len ≡ send_max + (total (call_plan plan.entry).write + (total (call_plan plan.entry).reply + 3))) × (s.room.len < 2 ^ 32)) }
+    ensures empty { IfOk result (λ s. s.room.bytes ≡ []) }
     ensures staging { endpoint.new.staging ≡ endpoint.old.staging }
     ensures outside { OnOk result (NothingOutside endpoint.old → NothingOutside endpoint.new) }
     ensures outside_err { OnErr result (endpoint.new.outside ≡ endpoint.old.outside) }

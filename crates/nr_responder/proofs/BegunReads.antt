@@ -116,9 +116,9 @@ rooms_more old new number next read chunks calls none is h = λ k d lt left.
 
 -- ---- What is kept
 
-pub started_fetched : (f : EndpointState) (old new : List ReadEntry) (number next : ℕ) (read : List ReadSegment) (chunks : List ℕ) (calls later : List Pending) (call : Pending) (room : List ℕ) (sinks : List OpenSink) →
+pub started_fetched : (f : EndpointState) (old new : List ReadEntry) (number next : ℕ) (read : List ReadSegment) (chunks : List ℕ) (calls later : List Pending) (call : Pending) (room : ℕ) (sinks : List OpenSink) →
     AreHeldFrom f.link.state.memory 0 (claims_of sinks) → All (λ (s : OpenSink). s.registration.len ≤ PAYLOAD_MAX) sinks → NothingOutside f → list_any (λ (c : Pending). eqb c.number number) calls ≡ false → map read_view new ≡ reads_more old number next read chunks →
-    payload_room ≤ length room → later ≡ calls ++ with_room call room ∷ [] → All (HasRoom old) calls → AreFetched f later new sinks
+    payload_room ≤ room → later ≡ calls ++ with_room call room ∷ [] → All (HasRoom old) calls → AreFetched f later new sinks
 started_fetched f old new number next read chunks calls later call room sinks held short nothing none is long later_is h = record {
   held = held;
   short = short;
@@ -135,7 +135,7 @@ kept_fetched f old new calls sinks held short nothing is h = record {
   outside = nothing;
 }
 
-in_buffer : (c : Pending) (room : List ℕ) → InBuffer c → InBuffer (with_room c room)
+in_buffer : (c : Pending) (room : ℕ) → InBuffer c → InBuffer (with_room c room)
 in_buffer c room h = record { buf = h.buf; len = h.len; at = h.at; lists = h.lists; target = h.target }
 
 started_link : (number : ℕ) (read : List ReadSegment) (chunks : List ℕ) (old new : List ReadEntry) (sinks later : List OpenSink) (before after : LinkSide) → BeginsReads number read chunks old new sinks later before after →
@@ -153,7 +153,7 @@ started_input number read chunks old new sinks later before after b = record {
   rest = inl (ap (λ (l : LinkSide). l.rest) b.link);
 }
 
-pub started_sound : (number : ℕ) (read : List ReadSegment) (chunks : List ℕ) (old new : List ReadEntry) (sinks after_sinks : List OpenSink) (before after : LinkSide) (calls later : List Pending) (call : Pending) (room : List ℕ) (ready : List Ready) (used : List (List ℕ)) (a b c a2 : ℕ) →
+pub started_sound : (number : ℕ) (read : List ReadSegment) (chunks : List ℕ) (old new : List ReadEntry) (sinks after_sinks : List OpenSink) (before after : LinkSide) (calls later : List Pending) (call : Pending) (room : ℕ) (ready : List Ready) (used : List (List ℕ)) (a b c a2 : ℕ) →
     BeginsReads number read chunks old new sinks after_sinks before after → InBuffer call → later ≡ calls ++ with_room call room ∷ [] → a2 ≡ a → QueuesInvariant 1 before.state calls ready used a b c → QueuesInvariant 0 after.state later ready used a2 b c
 started_sound number read chunks old new sinks after_sinks before after calls later call room ready used a b c a2 begins whole later_is cap h =
     let same : (after.state.receive_queue ≡ before.state.receive_queue) × (after.state.send_queue.send_ends ≡ before.state.send_queue.send_ends) = started_link number read chunks old new sinks after_sinks before after begins in
@@ -180,7 +180,7 @@ call_fits s calls ready used a b c le h = omega (arith, le, h.lent, h.calls_fit)
 counted : (reads : List ReadEntry) → min (length reads) open_reads_max ≡ length (take open_reads_max (map read_view reads))
 counted reads = (let e = length-take open_reads_max (map read_view reads) in let m = length-map reads read_view in omega (arith, e, m))
 
-pub started_is : (r s : ServerEnd) (call : Pending) (room : List ℕ) (chunks : List ℕ) → chunks ≡ chunk_positions call.lists.read → BeginsReads call.number call.lists.read chunks r.reads.items s.reads.items r.sinks.items s.sinks.items r.endpoint.link s.endpoint.link →
+pub started_is : (r s : ServerEnd) (call : Pending) (room : ℕ) (chunks : List ℕ) → chunks ≡ chunk_positions call.lists.read → BeginsReads call.number call.lists.read chunks r.reads.items s.reads.items r.sinks.items s.sinks.items r.endpoint.link s.endpoint.link →
     s.calls.items ≡ r.calls.items ++ with_room call room ∷ [] → s.ready.items ≡ r.ready.items → s.credits ≡ r.credits → state_of s ≡ reading_call (state_of r) (call_view call)
 started_is r s call room chunks are b calls ready credits =
     λ i. record {

@@ -30,7 +30,7 @@ use Rattle.nr_reduce.specs.declared.item.Of.TheVariants.{Reply}
 use Rattle.nr_reduce.specs.Items.{moved_of, stream_of, reducible_item}
 use Rattle.nr_reduce.specs.Chunks.{chunk_total}
 use Rattle.nr_reduce.specs.Holds.{Answer, Parts, answer_for, answer_size, answer_with, answer_writes, first_chunk, fits_reply, no_segments, parts_by, parts_in, writes_into}
-use Rattle.nr_responder.specs.HeldBytes.{frame_max, reply_max, request_max, writes_max}
+use Rattle.nr_responder.specs.HeldBytes.{frame_max, sent_reply_max, request_max, writes_max}
 
 -- ---- A frame
 
@@ -224,7 +224,7 @@ reply_few None h = omega arith
 reply_few (Some chunk) h = h
 
 -- the RDMA Writes of an answer
-pub writes_len : (offer : ChunkLists) (a : Answer) (n : ℕ) → ListsWithin offer → length a.stream + length a.moved ≤ n → n ≤ reply_max → length (answer_writes offer a) ≤ writes_max
+pub writes_len : (offer : ChunkLists) (a : Answer) (n : ℕ) → ListsWithin offer → length a.stream + length a.moved ≤ n → n ≤ sent_reply_max → length (answer_writes offer a) ≤ writes_max
 unfolding answer_writes
 writes_len offer a n lists fits most = by a.long
   where

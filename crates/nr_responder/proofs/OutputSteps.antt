@@ -21,7 +21,7 @@ use Rattle.nr_header.specs.WithinLimits.{ListsWithin}
 use Rattle.nr_rpc.specs.Reading.{call_of, target_of}
 use Rattle.nr_reduce.specs.Holds.{Answer}
 use Rattle.nr_responder.proofs.OutputLengths.{AnswerFits, target_fits, writes_len}
-use Rattle.nr_responder.specs.HeldBytes.{reply_max, writes_max, OutputFits, OutputLives, QueueFits, SharesFit}
+use Rattle.nr_responder.specs.HeldBytes.{sent_reply_max, writes_max, OutputFits, OutputLives, QueueFits, SharesFit}
 use Rattle.nr_responder.specs.Keeping.{Keeps, OwnNumbers}
 use Rattle.nr_responder.specs.ResponderState.{ResponderSide, end_of}
 use Rattle.nr_responder.specs.private.Handling.{IsServerOf, IsTaken, on_link}
@@ -101,11 +101,11 @@ place_within [] at c there = absurd cc
 place_within (d ∷ calls) zero c there = omega arith
 place_within (d ∷ calls) (suc at) c there = (let rest = place_within calls at c there in omega (arith, rest))
 
-answer_few : (lists : ChunkLists) (reply : List ℕ) (o : Option Answer) → ListsWithin lists → AnswerFits reply o → length reply ≤ reply_max → length (writes_for lists o) ≤ writes_max
+answer_few : (lists : ChunkLists) (reply : List ℕ) (o : Option Answer) → ListsWithin lists → AnswerFits reply o → length reply ≤ sent_reply_max → length (writes_for lists o) ≤ writes_max
 answer_few lists reply None within fits most = omega arith
 answer_few lists reply (Some a) within fits most = writes_len lists a (length reply) within fits most
 
-pub writes_few : (lists : ChunkLists) (c : PendingCall) (stream reply : List ℕ) → c.lists ≡ lists → ListsWithin lists → length reply ≤ reply_max → length (writes_for lists (answer_to c stream reply)) ≤ writes_max
+pub writes_few : (lists : ChunkLists) (c : PendingCall) (stream reply : List ℕ) → c.lists ≡ lists → ListsWithin lists → length reply ≤ sent_reply_max → length (writes_for lists (answer_to c stream reply)) ≤ writes_max
 writes_few lists c stream reply is within most = answer_few lists reply (answer_to c stream reply) within (target_fits c.lists reply (target_of (call_of stream))) most
 
 pub answered_out : (v after : ResponderSide) (xid : ℕ) (reply : List ℕ) (sent : Sent) → end_of v ≡ None → OutputFits v → (end_of after ≡ None → SharesFit after) → Answers v after xid reply sent → OutputFits after

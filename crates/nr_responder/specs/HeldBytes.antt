@@ -61,8 +61,8 @@ pub record SinksFit (v : ResponderSide) : Type 0 where
 -- ---- Output
 
 -- the maximum of a reply, of the frame of a segment, and of that of a Read Request, in bytes
-abbrev pub reply_max : ℕ
-reply_max = 65536
+abbrev pub sent_reply_max : ℕ
+sent_reply_max = 65536
 
 abbrev pub frame_max : ℕ
 frame_max = 4136

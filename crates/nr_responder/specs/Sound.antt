@@ -41,12 +41,16 @@ state_of r = record {
 }
 
 -- the bytes of the buffers of payloads: of calls that are read, and of those that are ready
-abbrev pub room_len : Option (List ℕ) → ℕ
+abbrev pub room_len : Option ℕ → ℕ
 room_len None = 0
-room_len (Some room) = length room
+room_len (Some room) = room
+
+abbrev pub payload_len : Option (List ℕ) → ℕ
+payload_len None = 0
+payload_len (Some payload) = length payload
 
 abbrev pub rooms_of : List Pending → List Ready → ℕ
-rooms_of calls ready = sum_by (λ c. room_len c.room) calls + sum_by (λ q. room_len q.payload) ready
+rooms_of calls ready = sum_by (λ c. room_len c.room) calls + sum_by (λ q. payload_len q.payload) ready
 
 abbrev pub with_staging : ServerEnd → ResponderState
 with_staging r = record { side = state_of r; staging = r.endpoint.staging; rooms = rooms_of r.calls.items r.ready.items }
@@ -78,9 +82,9 @@ pub record QueuesInvariant (n : ℕ) (s : LinkState) (calls : List Pending) (rea
   pub ready_fit : s.receive_queue.receives ≤ ready_room
   pub used_fit : s.receive_queue.receives ≤ used_room
 
-abbrev pub IsRoom : Option (List ℕ) → Type 0
+abbrev pub IsRoom : Option ℕ → Type 0
 IsRoom None = ⊥
-IsRoom (Some room) = payload_room ≤ length room
+IsRoom (Some room) = payload_room ≤ room
 
 -- a call of which something is left to be read has the room of its payload
 abbrev pub HasRoom : List ReadEntry → Pending → Type 0

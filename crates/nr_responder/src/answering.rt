@@ -10,7 +10,7 @@ ghost use Rattle.nr_reduce.specs.Server.{answer_of_target};
 ghost use Rattle.nr_reduce.specs.Holds.{chunk_error, version_error, writes_into, first_chunk, no_segments};
 ghost use Rattle.nr_reduce.specs.CodeViews.{answer_view};
 ghost use Rattle.nr_responder.specs.Answering.{answer_to, message_for, writes_for, sent_as, Queues};
-ghost use Rattle.nr_responder.specs.HeldBytes.{reply_max};
+ghost use Rattle.nr_responder.specs.HeldBytes.{sent_reply_max};
 ghost use Rattle.nr_responder.specs.Views.{call_view};
 ghost use Rattle.nr_responder.specs.Sound.{InBuffer};
 
@@ -24,7 +24,7 @@ use nr_xdr::{Memory, Octets};
 use std::alloc::Global;
 
 /// The most bytes of a reply.
-const REPLY_MAX: usize = 65536;
+const SENT_REPLY_MAX: usize = 65536;
 
 /// The most bytes of a message that an endpoint sends.
 pub(crate) const SENDABLE: usize = 4294967295;
@@ -238,13 +238,13 @@ pub(crate) fn queue_answer(
     requires call { InBuffer call.now }
     requires target { IfSome target (λ t. t ≡ target_of (call_of stream.now)) }
     ensures short { IfOk result (λ _. length (message_for call.now.xid credits call.now.lists (answer_to (call_view call.now) stream.now reply.now)) ≤ send_max) }
-    ensures reply { IfOk result (λ _. length reply.now ≤ reply_max) }
+    ensures reply { IfOk result (λ _. length reply.now ≤ sent_reply_max) }
     ensures queued { IfOk result (Queues (call_view call.now) stream.now reply.now credits endpoint.old.link endpoint.new.link) }
     ensures err { OnErr result (endpoint.new.link ≡ endpoint.old.link) }
     ensures staging { endpoint.new.staging ≡ endpoint.old.staging }
     ensures outside { endpoint.new.outside ≡ endpoint.old.outside }
 {
-    if reply.len() > REPLY_MAX {
+    if reply.len() > SENT_REPLY_MAX {
         return Err(Memory);
     }
     let answer = answer_to(call, target_of(stream, target), reply);

@@ -5,7 +5,7 @@ ghost use Rattle.std.specs.List.{list_any};
 ghost use Rattle.nr_reduce.specs.ServerReads.{is_read};
 ghost use Rattle.nr_responder.specs.Views.{read_view};
 
-use crate::room::Room;
+use crate::room::{Payload, Room};
 use nr_header::ChunkLists;
 use nr_regions::Registration;
 use nr_rpc::CallTarget;
@@ -43,7 +43,7 @@ pub struct Ready {
     /// Its transaction ID (XID).
     pub xid: u32,
     /// Its payload, if that was put together of its chunks.
-    pub payload: Option<Room>,
+    pub payload: Option<Payload>,
 }
 
 /// A Read Request that is open, or waits until fewer are: `size` bytes of the client's region `stag`, from offset `to` on, into the region

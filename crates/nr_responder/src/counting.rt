@@ -11,11 +11,11 @@ ghost use Rattle.nr_reduce.specs.ServerState.{receives_in_use};
 ghost use Rattle.nr_responder.specs.HeldBytes.{held_unit, IsBounded};
 ghost use Rattle.nr_responder.specs.ResponderState.{bytes_held_by, end_of, unsent};
 ghost use Rattle.nr_responder.specs.Rooms.{payload_room};
-ghost use Rattle.nr_responder.specs.Sound.{room_len, state_of, with_staging, ServerEndInvariant};
+ghost use Rattle.nr_responder.specs.Sound.{payload_len, room_len, state_of, with_staging, ServerEndInvariant};
 ghost use Rattle.nr_responder.specs.Standing.{ResponderRepresents};
 
 use crate::call::{Pending, Ready};
-use crate::room::Room;
+use crate::room::{Payload, Room};
 use crate::server_end::ServerEnd;
 use std::collections::VecDeque;
 
@@ -29,6 +29,17 @@ fn room_len(room: &Option<Room>) -> usize
 {
     match room {
         Some(room) => room.len(),
+        None => 0,
+    }
+}
+
+/// The bytes of a payload, if there is one.
+fn payload_len(payload: &Option<Payload>) -> usize
+    ensures is { result ≡ payload_len payload.now }
+    ensures most { result ≤ payload_room }
+{
+    match payload {
+        Some(payload) => payload.len(),
         None => 0,
     }
 }
@@ -58,14 +69,14 @@ fn rooms_len(calls: &[Pending]) -> u128
 
 /// The bytes of the payloads of calls that are ready, if they were read.
 fn payloads_len(ready: &VecDeque<Ready>) -> u128
-    ensures sum { result ≡ sum_by (λ q. room_len q.payload) ready.now.items }
+    ensures sum { result ≡ sum_by (λ q. payload_len q.payload) ready.now.items }
     ensures most { result ≤ payload_room * length ready.now.items }
 {
     let mut total: u128 = 0;
     'ready: for i in 0..ready.len() {
         match ready.get(i) {
             Some(first) => {
-                let room = room_len(&first.payload);
+                let room = payload_len(&first.payload);
                 total = add_room(total, room, i);
             }
             None => unreachable!(),

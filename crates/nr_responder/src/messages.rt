@@ -15,7 +15,7 @@ ghost use Rattle.nr_responder.specs.Views.{read_view};
 use crate::answering::{chunk_error, version_error};
 use crate::call::{Pending, Ready, is_read, stream_of};
 use crate::judging::{Judged, judge};
-use crate::room::Room;
+use crate::room::Payload;
 use crate::server_end::{ServerEnd, own_xid, send_error, stop};
 use nr_header::ChunkLists;
 use nr_link::constants::{REASON_CALL, REASON_KIND};
@@ -151,7 +151,7 @@ impl ServerEnd {
     }
 
     /// A call that is ready, with its payload if that was read. There is room for it.
-    pub(crate) fn push(&mut self, call: Pending, payload: Option<Room>)
+    pub(crate) fn push(&mut self, call: Pending, payload: Option<Payload>)
         requires sound { ServerEndInvariantWith 1 self.old }
         requires call { InBuffer call }
         requires room { HasRoom self.old.reads.items call }

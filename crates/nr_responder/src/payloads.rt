@@ -15,7 +15,7 @@ ghost use Rattle.nr_responder.specs.Answering.{IsPayload};
 ghost use Rattle.nr_responder.specs.Views.{call_view};
 
 use crate::call::{Pending, Ready, stream_of};
-use crate::room::Room;
+use crate::room::{Payload, Room};
 use nr_header::ReadSegment;
 use nr_link::constants::{REASON_HEAD, REASON_XID};
 use nr_reduce::{Of, call_item, item_position, rebuild_item_into};
@@ -24,32 +24,32 @@ use nr_xdr::Memory;
 use std::collections::VecDeque;
 
 /// A payload that is a stream alone.
-pub(crate) fn stream_alone(room: Room, stream: &[u8]) -> Room
-    requires { length stream.now ≤ length room }
+pub(crate) fn stream_alone(room: Room, stream: &[u8]) -> Payload
+    requires { length stream.now ≤ room }
     ensures { result ≡ stream.now }
 {
-    let mut bytes = room.into_bytes();
-    bytes.overwrite(0, stream);
-    Room::of(bytes, stream.len())
+    let mut buffer = room.into_buffer();
+    buffer.put(0, stream);
+    Payload::of(buffer, stream.len())
 }
 
 /// The payload of a stream and of the content of its item; `None` if it has no item of that length.
-pub(crate) fn with_item(room: Room, stream: &[u8], moved: &[u8]) -> Option<Room>
-    requires room { length stream.now + length moved.now + 3 ≤ length room }
+pub(crate) fn with_item(room: Room, stream: &[u8], moved: &[u8]) -> Option<Payload>
+    requires room { length stream.now + length moved.now + 3 ≤ room }
     requires small { length stream.now < 2 ^ 32 }
     ensures { result ≡ whole of.Call stream.now (Some moved.now) }
 {
     let item = call_item(stream)?;
-    let mut bytes = room.into_bytes();
+    let mut buffer = room.into_buffer();
     match rebuild_item_into(
-        &mut bytes,
+        &mut buffer,
         &Of::Call,
         Some(item),
         stream,
         item.pos as u32,
         moved,
     ) {
-        Ok(len) => Some(Room::of(bytes, len)),
+        Ok(len) => Some(Payload::of(buffer, len)),
         Err(_) => None,
     }
 }
@@ -71,7 +71,7 @@ fn judge_bytes(payload: &[u8], xid: u32) -> Option<u32>
 }
 
 /// The payload of a call, or why the link ends: it is no RPC call with this xid.
-pub(crate) fn judge_payload(payload: Option<Room>, xid: u32) -> Result<Room, u32>
+pub(crate) fn judge_payload(payload: Option<Payload>, xid: u32) -> Result<Payload, u32>
     ensures verdict { (c : PendingCall) → c.xid ≡ xid → by_payload c payload ≡ verdict_of c result }
     ensures reason { IfErr result (λ reason. IsStopReason reason × (5 ≤ reason)) }
 {
@@ -127,7 +127,7 @@ pub(crate) fn judge_at_once(call: &Pending) -> Option<u32>
 }
 
 /// The payload of the first call that is ready, if it was read with its chunks.
-pub(crate) fn first_payload(ready: &VecDeque<Ready>) -> Option<&Room>
+pub(crate) fn first_payload(ready: &VecDeque<Ready>) -> Option<&Payload>
     requires { 0 < length ready.now.items }
     ensures { slice_get (payloads_of ready.now.items) 0 ≡ Some (option_map (λ p. p.now) result) }
 {

@@ -19,7 +19,7 @@ use crate::answering::chunk_error;
 use crate::call::{OpenSink, Pending, ReadEntry, Ready, is_read};
 use crate::opening::{open_count, open_reads, send_and_open};
 use crate::payloads::{inline_stream, judge_payload, stream_alone, with_item};
-use crate::room::Room;
+use crate::room::{Payload, Room};
 use crate::server_end::ServerEnd;
 use crate::sink_regions::{close_over, is_read_at, sink_bytes};
 use nr_endpoint::Endpoint;
@@ -56,8 +56,13 @@ fn stream_read<'a>(call: &'a Pending, endpoint: &'a Endpoint, sinks: &'a [OpenSi
 }
 
 /// The payload of a call of which all chunks are read, if they convey one.
-fn payload_read(room: Room, call: &Pending, endpoint: &Endpoint, sinks: &[OpenSink]) -> Option<Room>
-    requires room { payload_room ≤ length room }
+fn payload_read(
+    room: Room,
+    call: &Pending,
+    endpoint: &Endpoint,
+    sinks: &[OpenSink],
+) -> Option<Payload>
+    requires room { payload_room ≤ room }
     requires call { InBuffer call.now }
     requires held { AreHeldFrom endpoint.now.link.state.memory 0 (claims_of sinks.now) }
     requires short { All (λ s. s.registration.len ≤ PAYLOAD_MAX) sinks.now }
@@ -168,7 +173,7 @@ impl ServerEnd {
     }
 
     /// A call is ready with this payload.
-    fn make_ready(&mut self, xid: u32, payload: Room, kept: usize)
+    fn make_ready(&mut self, xid: u32, payload: Payload, kept: usize)
         requires sound { ServerEndInvariant self.old }
         requires live { self.old.endpoint.link.state.ended ≡ None }
         requires few { length self.old.ready.items < length self.old.calls.items }
@@ -193,7 +198,7 @@ impl ServerEnd {
         requires at { at < length self.old.calls.items }
         requires read { (d : Pending) → is_read (map read_view self.old.reads.items) (get_or self.old.calls.items at d).number ≡ true }
         requires room { (d : Pending) → IsRoom (get_or self.old.calls.items at d).room }
-        ensures room { payload_room ≤ length result }
+        ensures room { payload_room ≤ result }
         ensures call { (d : Pending) → call_view (get_or self.new.calls.items at d) ≡ call_view (get_or self.old.calls.items at d) }
         ensures whole { (d : Pending) → InBuffer (get_or self.new.calls.items at d) }
         ensures count { length self.new.calls.items ≡ length self.old.calls.items }

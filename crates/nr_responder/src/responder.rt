@@ -24,7 +24,7 @@ ghost use Rattle.nr_regions.specs.RegisteredMemory.{bytes_held};
 ghost use Rattle.nr_reduce.specs.Plans.{one_if};
 ghost use Rattle.nr_reduce.specs.Run.{server};
 ghost use Rattle.nr_reduce.specs.ServerState.{receives_in_use};
-ghost use Rattle.nr_responder.specs.HeldBytes.{held_unit};
+ghost use Rattle.nr_responder.specs.HeldBytes.{held_unit, sent_reply_max};
 ghost use Rattle.nr_responder.specs.ResponderState.{bytes_held_by, end_of, may_write, opened_side, unsent, KeepsStaging};
 ghost use Rattle.nr_responder.specs.Rooms.{payload_room};
 ghost use Rattle.nr_responder.specs.Sound.{IsNext};
@@ -151,6 +151,8 @@ impl Responder {
         requires live { end_of self.old.side ≡ None }
         requires next { IsNext self.old.side call }
         ensures answers { IfOk result (λ sent. Answers self.old.side self.new.side call reply.now sent) }
+        // A longer reply is refused.
+        ensures short { IfOk result (λ _. length reply.now ≤ sent_reply_max) }
         ensures stands { OnOk result ((opened : LinkParameters) (link : ℕ) (run : List Mark) (moment : Moment) (payload : List ℕ) (place : ℕ) → ResponderRepresents opened link run self.old.side →
             IsExecuted opened link run call payload → ResponderRepresents opened link (run ++ marks.Execute link call moment payload place reply.now ∷ []) self.new.side) }
         ensures err { OnErr result (self.new ≡ self.old) }

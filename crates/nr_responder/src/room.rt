@@ -1,11 +1,11 @@
-//! The room in which a payload is put together.
+//! The room in which a payload is put together, and the payload.
 
 ghost use Rattle.std.specs.Prelude.{◌≡◌, ◌≤◌, length, take, IfOk};
 ghost use Rattle.nr_responder.specs.Rooms.{payload_room};
 
 use nr_header::PAYLOAD_MAX;
 use nr_link::constants::SEND_MAX;
-use nr_reduce::first_bytes;
+use nr_reduce::PayloadBuffer;
 use nr_xdr::{Memory, Octets};
 use std::alloc::Global;
 use std::marker::Model;
@@ -13,51 +13,79 @@ use std::marker::Model;
 /// The room of a payload: for a stream and a chunk, and for a pad.
 const PAYLOAD_ROOM: usize = SEND_MAX as usize + 2 * PAYLOAD_MAX + 3;
 
-/// The room in which the payload of a call is put together, or the payload that was put together in it. Contracts see its bytes, of which
-/// there are at most `payload_room`.
+/// The room in which the payload of a call is put together. Contracts see how many bytes it is for, at most `payload_room`.
 #[derive(Drop)]
 pub struct Room {
-    bytes: Octets,
+    buffer: PayloadBuffer,
 }
 
 impl Model for Room {
-    ghost use Rattle.std.specs.Prelude.{List, ℕ, ◌≤◌, length};
+    ghost use Rattle.std.specs.Prelude.{ℕ, ◌≤◌};
     ghost use Rattle.nr_responder.specs.Rooms.{payload_room};
 
-    ghost Value = { List ℕ };
+    ghost Value = { ℕ };
 
-    ghost view = { λ r. r.bytes };
+    ghost view = { λ r. r.buffer.len };
 
-    ghost invariant = { λ r. length r.bytes ≤ payload_room };
+    ghost invariant = { λ r. r.buffer.len ≤ payload_room };
 }
 
 impl Room {
     /// Takes the room of a payload.
     pub fn new(alloc: Global) -> Result<Room, Memory>
-        ensures { IfOk result (λ room. length room ≡ payload_room) }
+        ensures { IfOk result (λ room. room ≡ payload_room) }
     {
         Ok(Room {
-            bytes: Octets::from_vec(vec![in alloc; 0u8; PAYLOAD_ROOM]?),
+            buffer: PayloadBuffer::new(alloc, PAYLOAD_ROOM)?,
         })
     }
 
-    /// The payload that is the first `len` bytes of a room.
-    pub fn of(bytes: Octets, len: usize) -> Room
-        requires room { length bytes ≤ payload_room }
-        requires len { len ≤ length bytes }
-        ensures { result ≡ take len bytes }
+    /// The buffer in which the payload is put together.
+    pub fn into_buffer(self) -> PayloadBuffer
+        ensures same { result.len ≡ self }
+        ensures most { result.len ≤ payload_room }
     {
-        Room {
-            bytes: first_bytes(bytes, len),
-        }
+        self.buffer
     }
 
-    /// The bytes of the room.
-    pub fn into_bytes(self) -> Octets
-        ensures same { result ≡ self }
-        ensures most { length result ≤ payload_room }
+    /// How many bytes it is for.
+    pub fn len(&self) -> usize
+        ensures is { result ≡ self.now }
+        ensures most { result ≤ payload_room }
     {
-        self.bytes
+        self.buffer.len()
+    }
+}
+
+/// A payload that was put together. It keeps all of the room that was taken for it. Contracts see its bytes, of which there are at most
+/// `payload_room`.
+#[derive(Drop)]
+pub struct Payload {
+    bytes: Octets,
+}
+
+impl Model for Payload {
+    ghost use Rattle.std.specs.Prelude.{List, ℕ, ◌≤◌, length};
+    ghost use Rattle.nr_responder.specs.Rooms.{payload_room};
+
+    ghost Value = { List ℕ };
+
+    ghost view = { λ p. p.bytes };
+
+    ghost invariant = { λ p. length p.bytes ≤ payload_room };
+}
+
+impl Payload {
+    /// The payload that is the first `len` bytes written into a buffer.
+    pub fn of(buffer: PayloadBuffer, len: usize) -> Payload
+        requires room { buffer.len ≤ payload_room }
+        requires len { len ≤ length buffer.bytes }
+        ensures { result ≡ take len buffer.bytes }
+    {
+        let _room = buffer.len();
+        Payload {
+            bytes: buffer.into_first(len),
+        }
     }
 
     /// The bytes of the payload.

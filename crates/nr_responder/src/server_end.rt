@@ -26,7 +26,7 @@ ghost use Rattle.nr_responder.specs.Draining.{Drains};
 ghost use Rattle.nr_responder.specs.private.Handling.{out, IsTaken, ReadsXid};
 ghost use Rattle.nr_responder.specs.ResponderState.{end_of, opened_side, posted_times, may_write, KeepsStaging};
 ghost use Rattle.nr_responder.specs.Sound.{state_of, with_staging, payloads_of, IsNext, ServerEndInvariant};
-ghost use Rattle.nr_responder.specs.HeldBytes.{KeptFits};
+ghost use Rattle.nr_responder.specs.HeldBytes.{KeptFits, sent_reply_max};
 ghost use Rattle.nr_responder.specs.Standing.{ResponderRepresents, StaysBounded};
 ghost use Rattle.nr_responder.specs.Steps.{Fed, taken_of};
 
@@ -347,6 +347,7 @@ impl ServerEnd {
         requires own { (d : Pending) → (get_or self.old.calls.items at d).xid ≡ xid }
         requires next { 0 < length self.old.ready.items }
         ensures answers { IfOk result (λ sent. Answers (state_of self.old) (state_of self.new) xid reply.now sent) }
+        ensures short { IfOk result (λ _. length reply.now ≤ sent_reply_max) }
         ensures err { OnErr result (with_staging self.new ≡ with_staging self.old) }
         ensures fed { fed_bytes self.new.endpoint.link ≡ fed_bytes self.old.endpoint.link }
         ensures staging { self.new.endpoint.staging ≡ self.old.endpoint.staging }
@@ -375,6 +376,7 @@ impl ServerEnd {
         requires live { self.old.endpoint.link.state.ended ≡ None }
         requires next { IsNext (state_of self.old) xid }
         ensures answers { IfOk result (λ sent. Answers (state_of self.old) (state_of self.new) xid reply.now sent) }
+        ensures short { IfOk result (λ _. length reply.now ≤ sent_reply_max) }
         ensures stands { OnOk result ((opened : LinkParameters) (link : ℕ) (run : List Mark) (moment : Moment) (payload : List ℕ) (place : ℕ) → ResponderRepresents opened link run (state_of self.old) →
             IsExecuted opened link run xid payload → ResponderRepresents opened link (run ++ marks.Execute link xid moment payload place reply.now ∷ []) (state_of self.new)) }
         ensures err { OnErr result (with_staging self.new ≡ with_staging self.old) }

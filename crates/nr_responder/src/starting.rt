@@ -84,7 +84,7 @@ fn take_memory(
     read: &[ReadSegment],
 ) -> Result<(Room, Vec<Octets>), Memory>
     requires total { read_total read.now ≤ PAYLOAD_MAX }
-    ensures payload { IfOk result (λ taken. payload_room ≤ length taken.0) }
+    ensures payload { IfOk result (λ taken. payload_room ≤ taken.0) }
     ensures buffers { IfOk result (λ taken. taken.1.items ≡ map (sink_buffer read.now) chunks.now) }
     ensures capacity { OnOk result (length sinks.old.items + length chunks.now ≤ vec_capacity sinks.new) }
     ensures room { OnOk result (length chunks.now ≤ endpoint.new.room) }
@@ -117,7 +117,7 @@ pub(crate) fn begin_reads(
     requires nothing { NothingOutside endpoint.old }
     requires stags { endpoint.old.link.state.memory.next + length chunks.now ≤ 2 ^ 32 }
     requires total { read_total read.now ≤ PAYLOAD_MAX }
-    ensures room { IfOk result (λ room. payload_room ≤ length room) }
+    ensures room { IfOk result (λ room. payload_room ≤ room) }
     ensures ok { OnOk result (BeginsReads number read.now chunks.now reads.old.items reads.new.items sinks.old.items sinks.new.items endpoint.old.link endpoint.new.link) }
     ensures err { OnErr result ((endpoint.new.link ≡ endpoint.old.link) × ((reads.new.items ≡ reads.old.items) × (sinks.new.items ≡ sinks.old.items))) }
     ensures held { AreHeldFrom endpoint.new.link.state.memory 0 (claims_of sinks.new.items) }

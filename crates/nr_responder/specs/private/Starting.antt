@@ -29,5 +29,5 @@ pub record BeginsReads (number : ℕ) (read : List ReadSegment) (chunks : List �
   pub link : after ≡ with_registered (sinks_from number before.state.memory.next read chunks) (with_opened (opening (min (length old) open_reads_max) (map read_view new)) before)
 
 -- a call with the room of its payload
-abbrev pub with_room : Pending → List ℕ → Pending
+abbrev pub with_room : Pending → ℕ → Pending
 with_room c room = record c { room = Some room }

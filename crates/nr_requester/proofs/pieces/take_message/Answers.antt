@@ -46,11 +46,11 @@ returns-in-Ok-clause-judged c =
     let memory : c.post.new.self.link.state.memory ≡ c.args.endpoint.now.link.state.memory = ap (λ (l : LinkSide). l.state.memory) c.post.ensures.state ∙ post_memory c.args.endpoint.now.link in
     subst (λ (cs : List OutstandingCall). JudgesTo (kept_verdict (kept_views c.args.first_xid c.args.sent c.args.outstanding.now.items) (bytes_under c.args.endpoint.now.link.state.memory) (take c.args.len c.args.buf)) (take c.args.len c.args.buf) c.args.endpoint.now.link c.complete.new.endpoint.link c.args.outstanding.now.items cs c.args.answered.now.items c.complete.new.answered.items c.args.grant.now c.credits_of-credits.result) (sym c.complete.ensures.outstanding)
     (judged_gives c.args.first_xid c.args.sent c.requires.calls.0 (vec_capacity c.args.answered.now) c.in-Ok.at c.args.endpoint.now.link c.complete.new.endpoint.link c.args.outstanding.now.items c.verdict-found.new.calls.items
-    c.args.answered.now.items c.complete.new.answered.items c.args.grant.now c.credits_of-credits.result (take c.args.len c.args.buf) d (outcome_by c.in-Ok.found (get_or c.verdict-found.new.calls.items c.in-Ok.at d).room) (bytes_under c.args.endpoint.now.link.state.memory)
+    c.args.answered.now.items c.complete.new.answered.items c.args.grant.now c.credits_of-credits.result (take c.args.len c.args.buf) d (outcome_by c.in-Ok.found (get_or c.verdict-found.new.calls.items c.in-Ok.at d).room.bytes) (bytes_under c.args.endpoint.now.link.state.memory)
     ((λ i. kept_verdict (kept_views c.args.first_xid c.args.sent c.args.outstanding.now.items) (bytes_under (sym c.regions.ensures i)) (sym front i)) ∙ b.verdict d)
     b.within same c.requires.calls.1 (same_xid c.args.outstanding.now.items c.verdict-found.new.calls.items c.in-Ok.at d same)
     (c.complete.ensures.link d ∙ (λ i. with_memory (released_all (memory i) (stags_of (get_or c.verdict-found.new.calls.items c.in-Ok.at d).claims)) (c.post.ensures.state i)))
-    (c.complete.ensures.answered d ∙ ap (λ (m : RegisteredMemory). c.args.answered.now.items ++ answered_as m (stored_view (get_or c.verdict-found.new.calls.items c.in-Ok.at d)) (awaited_call (stored_view (get_or c.verdict-found.new.calls.items c.in-Ok.at d))) (outcome_by c.in-Ok.found (get_or c.verdict-found.new.calls.items c.in-Ok.at d).room)) memory)
+    (c.complete.ensures.answered d ∙ ap (λ (m : RegisteredMemory). c.args.answered.now.items ++ answered_as m (stored_view (get_or c.verdict-found.new.calls.items c.in-Ok.at d)) (awaited_call (stored_view (get_or c.verdict-found.new.calls.items c.in-Ok.at d))) (outcome_by c.in-Ok.found (get_or c.verdict-found.new.calls.items c.in-Ok.at d).room.bytes)) memory)
     (c.credits_of-credits.ensures.granted ∙ ap credits_of_word (c.credit_of.ensures ∙ ap (λ (xs : List ℕ). word_at 8 xs) front)))
 
 pub returns-in-Ok-clause-sound : goal.returns-in-Ok-clause-sound
@@ -62,9 +62,9 @@ returns-in-Ok-clause-sound c = λ next s.
     sound_as _ c.complete.new.endpoint.link.state.memory next (vec_capacity c.args.answered.now) (vec_capacity c.complete.new.answered) (remove c.verdict-found.new.calls.items c.in-Ok.at) c.complete.new.outstanding.items _ c.complete.new.answered.items
     (ap (λ (l : LinkSide). l.state.memory) (c.complete.ensures.link d) ∙ ap (λ (m : RegisteredMemory). released_all m (stags_of (get_or c.verdict-found.new.calls.items c.in-Ok.at d).claims)) memory)
     c.complete.ensures.outstanding
-    (c.complete.ensures.answered d ∙ ap (λ (m : RegisteredMemory). c.args.answered.now.items ++ answered_as m (stored_view (get_or c.verdict-found.new.calls.items c.in-Ok.at d)) (awaited_call (stored_view (get_or c.verdict-found.new.calls.items c.in-Ok.at d))) (outcome_by c.in-Ok.found (get_or c.verdict-found.new.calls.items c.in-Ok.at d).room)) memory)
+    (c.complete.ensures.answered d ∙ ap (λ (m : RegisteredMemory). c.args.answered.now.items ++ answered_as m (stored_view (get_or c.verdict-found.new.calls.items c.in-Ok.at d)) (awaited_call (stored_view (get_or c.verdict-found.new.calls.items c.in-Ok.at d))) (outcome_by c.in-Ok.found (get_or c.verdict-found.new.calls.items c.in-Ok.at d).room.bytes)) memory)
     c.complete.ensures.capacity
-    (completed_sound c.args.endpoint.now.link.state.memory next (vec_capacity c.args.answered.now) c.in-Ok.at c.verdict-found.new.calls.items c.args.answered.now.items d (awaited_call (stored_view (get_or c.verdict-found.new.calls.items c.in-Ok.at d))) (outcome_by c.in-Ok.found (get_or c.verdict-found.new.calls.items c.in-Ok.at d).room) b.within t)
+    (completed_sound c.args.endpoint.now.link.state.memory next (vec_capacity c.args.answered.now) c.in-Ok.at c.verdict-found.new.calls.items c.args.answered.now.items d (awaited_call (stored_view (get_or c.verdict-found.new.calls.items c.in-Ok.at d))) (outcome_by c.in-Ok.found (get_or c.verdict-found.new.calls.items c.in-Ok.at d).room.bytes) b.within t)
 
 pub returns-in-Err-clause-judged : goal.returns-in-Err-clause-judged
 returns-in-Err-clause-judged c =

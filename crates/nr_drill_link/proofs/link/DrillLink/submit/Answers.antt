@@ -11,12 +11,12 @@ answer-requires c = c.requires
 pub same-self : goal.same-self
 same-self c = refl
 
-pub same-self-in-Err-add_mark : goal.same-self-in-Err-add_mark
-same-self-in-Err-add_mark c = refl
+pub same-self-in-Err-add_submit : goal.same-self-in-Err-add_submit
+same-self-in-Err-add_submit c = refl
 
-pub returns-in-Ok-add_mark : goal.returns-in-Ok-add_mark
-returns-in-Ok-add_mark c =
+pub returns-in-Ok-add_submit : goal.returns-in-Ok-add_submit
+returns-in-Ok-add_submit c =
     on_ok c.settle.result _ _
-    (λ settles. submits c.args.self.now c.answer.new.self c.settle.new.self c.args.call c.args.form c.in-Ok.answer c.args.marks.now.items c.add_mark.new.marks.items c.settle.new.marks.items c.in-Ok.ensures
-    (c.in-Ok-add_mark.ensures ∙ ap (λ (v : DrillLinkState). c.args.marks.now.items ++ marks.Submit v.number c.args.call c.args.form c.in-Ok.answer ∷ []) c.self.view_is) settles)
+    (λ settles. submits c.args.self.now c.answer.new.self c.settle.new.self c.args.call c.args.form c.in-Ok.answer c.args.marks.now.items c.add_submit.new.marks.items c.settle.new.marks.items c.in-Ok.ensures
+    (c.in-Ok-add_submit.ensures ∙ ap (λ (v : DrillLinkState). c.args.marks.now.items ++ marks.Submit v.number c.args.call c.args.form c.in-Ok.answer ∷ []) c.self.view_is) settles)
     c.settle.ensures

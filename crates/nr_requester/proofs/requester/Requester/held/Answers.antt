@@ -1,18 +1,17 @@
 use Rattle.std.proofs.Common.{◌≡◌, ◌*◌, ◌≤◌, List, length, map, refl, ap, sym, ◌∙◌, arith}
-use Rattle.std.proofs.lemmas.List.{length-map}
 use Rattle.nr_requester.specs.declared.answer.AnsweredCall.{AnsweredCall}
 use Rattle.nr_requester.specs.declared.outstanding.OutstandingCall.{OutstandingCall}
 use Rattle.nr_requester.specs.RequesterState.{RequesterSide}
 use Rattle.nr_requester.specs.Views.{stored_view}
 use Rattle.nr_requester.specs.HeldBytes.{calls_bytes, rooms_bytes, answers_bytes, held_unit}
-use Rattle.nr_requester.proofs.HeldBounds.{held_is, held_bound, held_most, rooms_small}
+use Rattle.nr_requester.proofs.HeldBounds.{held_is, held_bound, held_most}
 use Rattle.nr_requester.proofs.requester.Requester.held.Goals as goal
 
 pub overflow_add-result : goal.overflow_add-result
 overflow_add-result c =
     let i = c.self.inside in
     let more : c.calls_bytes.result ≡ calls_bytes (map stored_view i.outstanding.items) = c.calls_bytes.ensures ∙ ap (λ (cs : List OutstandingCall). calls_bytes (map stored_view cs)) c.as_slice.ensures.value in
-    let bound = held_bound i.endpoint i.first_xid i.next_xid i.grant c.held.result c.calls_bytes.result (rooms_bytes i.outstanding.items) i.outstanding.items i.answered.items _ c.self.invariant.1.0 c.self.invariant.0 c.facts.ensures.receives c.held.ensures.is more refl in
+    let bound = held_bound i.endpoint i.first_xid i.next_xid i.grant c.held.result c.calls_bytes.result (rooms_bytes (map stored_view i.outstanding.items)) i.outstanding.items i.answered.items _ c.self.invariant.1.0 c.self.invariant.0 c.facts.ensures.receives c.held.ensures.is more refl in
     let few = c.self.invariant.0.few in
     omega (arith, bound, few)
 
@@ -20,7 +19,7 @@ pub overflow_add-result-2 : goal.overflow_add-result-2
 overflow_add-result-2 c =
     let i = c.self.inside in
     let more : c.calls_bytes.result ≡ calls_bytes (map stored_view i.outstanding.items) = c.calls_bytes.ensures ∙ ap (λ (cs : List OutstandingCall). calls_bytes (map stored_view cs)) c.as_slice.ensures.value in
-    let rooms : c.rooms_bytes.result ≡ rooms_bytes i.outstanding.items = c.rooms_bytes.ensures ∙ ap (λ (cs : List OutstandingCall). rooms_bytes cs) c.as_slice-2.ensures.value in
+    let rooms : c.rooms_bytes.result ≡ rooms_bytes (map stored_view i.outstanding.items) = c.rooms_bytes.ensures ∙ ap (λ (cs : List OutstandingCall). rooms_bytes (map stored_view cs)) c.as_slice-2.ensures.value in
     let bound = held_bound i.endpoint i.first_xid i.next_xid i.grant c.held.result c.calls_bytes.result c.rooms_bytes.result i.outstanding.items i.answered.items _ c.self.invariant.1.0 c.self.invariant.0 c.facts.ensures.receives c.held.ensures.is more rooms in
     let few = c.self.invariant.0.few in
     omega (arith, bound, few)
@@ -29,7 +28,7 @@ pub overflow_add-result-3 : goal.overflow_add-result-3
 overflow_add-result-3 c =
     let i = c.self.inside in
     let more : c.calls_bytes.result ≡ calls_bytes (map stored_view i.outstanding.items) = c.calls_bytes.ensures ∙ ap (λ (cs : List OutstandingCall). calls_bytes (map stored_view cs)) c.as_slice.ensures.value in
-    let rooms : c.rooms_bytes.result ≡ rooms_bytes i.outstanding.items = c.rooms_bytes.ensures ∙ ap (λ (cs : List OutstandingCall). rooms_bytes cs) c.as_slice-2.ensures.value in
+    let rooms : c.rooms_bytes.result ≡ rooms_bytes (map stored_view i.outstanding.items) = c.rooms_bytes.ensures ∙ ap (λ (cs : List OutstandingCall). rooms_bytes (map stored_view cs)) c.as_slice-2.ensures.value in
     let bound = held_bound i.endpoint i.first_xid i.next_xid i.grant c.held.result c.calls_bytes.result c.rooms_bytes.result i.outstanding.items i.answered.items _ c.self.invariant.1.0 c.self.invariant.0 c.facts.ensures.receives c.held.ensures.is more rooms in
     let few = c.self.invariant.0.few in
     omega (arith, bound, few, c.answers_bytes.ensures.most)
@@ -38,21 +37,15 @@ pub returns-clause-is : goal.returns-clause-is
 returns-clause-is c =
     let i = c.self.inside in
     let more : c.calls_bytes.result ≡ calls_bytes (map stored_view i.outstanding.items) = c.calls_bytes.ensures ∙ ap (λ (cs : List OutstandingCall). calls_bytes (map stored_view cs)) c.as_slice.ensures.value in
-    let rooms : c.rooms_bytes.result ≡ rooms_bytes i.outstanding.items = c.rooms_bytes.ensures ∙ ap (λ (cs : List OutstandingCall). rooms_bytes cs) c.as_slice-2.ensures.value in
-    let count : length c.args.self.now.state.outstanding ≡ length i.outstanding.items = ap (λ (h : RequesterSide). length h.state.outstanding) (sym c.self.view_is) ∙ length-map i.outstanding.items stored_view in (
-      c.rooms_bytes.result,
-      (
-        held_is i.endpoint i.first_xid i.next_xid i.sent i.wished i.first_xid i.next_xid i.grant c.held.result c.calls_bytes.result c.rooms_bytes.result i.outstanding.items i.answered.items c.answers_bytes.result c.args.self.now.state (ap (λ (h : RequesterSide). h.state) c.self.view_is) c.self.invariant.1.0 c.held.ensures.is more
-            (c.answers_bytes.ensures.is ∙ ap (λ (xs : List AnsweredCall). answers_bytes xs) c.as_slice-3.ensures.value),
-        omega (arith, rooms, count, rooms_small i.outstanding.items c.self.invariant.1.0.each),
-      ),
-    )
+    let rooms : c.rooms_bytes.result ≡ rooms_bytes (map stored_view i.outstanding.items) = c.rooms_bytes.ensures ∙ ap (λ (cs : List OutstandingCall). rooms_bytes (map stored_view cs)) c.as_slice-2.ensures.value in
+    held_is i.endpoint i.first_xid i.next_xid i.sent i.wished i.first_xid i.next_xid i.grant c.held.result c.calls_bytes.result c.rooms_bytes.result i.outstanding.items i.answered.items c.answers_bytes.result c.args.self.now.state (ap (λ (h : RequesterSide). h.state) c.self.view_is) c.self.invariant.1.0 c.held.ensures.is more rooms
+    (c.answers_bytes.ensures.is ∙ ap (λ (xs : List AnsweredCall). answers_bytes xs) c.as_slice-3.ensures.value)
 
 pub returns-clause-bound : goal.returns-clause-bound
 returns-clause-bound c =
     let i = c.self.inside in
     let more : c.calls_bytes.result ≡ calls_bytes (map stored_view i.outstanding.items) = c.calls_bytes.ensures ∙ ap (λ (cs : List OutstandingCall). calls_bytes (map stored_view cs)) c.as_slice.ensures.value in
-    let rooms : c.rooms_bytes.result ≡ rooms_bytes i.outstanding.items = c.rooms_bytes.ensures ∙ ap (λ (cs : List OutstandingCall). rooms_bytes cs) c.as_slice-2.ensures.value in
+    let rooms : c.rooms_bytes.result ≡ rooms_bytes (map stored_view i.outstanding.items) = c.rooms_bytes.ensures ∙ ap (λ (cs : List OutstandingCall). rooms_bytes (map stored_view cs)) c.as_slice-2.ensures.value in
     let bound = held_bound i.endpoint i.first_xid i.next_xid i.grant c.held.result c.calls_bytes.result c.rooms_bytes.result i.outstanding.items i.answered.items _ c.self.invariant.1.0 c.self.invariant.0 c.facts.ensures.receives c.held.ensures.is more rooms in
     let small : c.answers_bytes.result ≤ held_unit * length i.answered.items = omega (arith, c.answers_bytes.ensures.small, ap (λ (xs : List AnsweredCall). length xs) c.as_slice-3.ensures.value) in
     held_most i.wished _ c.answers_bytes.result i.outstanding.items i.answered.items c.args.self.now (ap (λ (h : RequesterSide). h.state.wished) (sym c.self.view_is)) (ap (λ (h : RequesterSide). h.state.outstanding) (sym c.self.view_is))

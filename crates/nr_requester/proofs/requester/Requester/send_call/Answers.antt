@@ -5,7 +5,7 @@ use Rattle.nr_endpoint.specs.LinkState.{LinkSide}
 use Rattle.nr_endpoint.specs.Calls.{with_state}
 use Rattle.nr_endpoint.specs.Offering.{claims_of}
 use Rattle.nr_reduce.specs.declared.outline.Plan.{Plan}
-use Rattle.nr_reduce.specs.Plans.{regions_needed, call_message, buffers, total}
+use Rattle.nr_reduce.specs.Plans.{regions_needed, call_message, buffers, total, lists_of}
 use Rattle.nr_requester.specs.AfterCalls.{submitted}
 use Rattle.nr_requester.specs.Sending.{IsPlan, offered_of}
 use Rattle.nr_reduce.specs.CallOutlines.{outline_plan}
@@ -14,6 +14,9 @@ use Rattle.nr_requester.specs.RequesterState.{RequesterSide}
 use Rattle.nr_requester.specs.Views.{stored_view}
 use Rattle.nr_requester.proofs.HeldRegions.{own_room, sent_sound}
 use Rattle.nr_requester.proofs.Within.{sent_within}
+use Rattle.nr_requester.proofs.OfferedRooms.{room_offered}
+use Rattle.nr_requester.specs.HeldBytes.{reply_room}
+use Rattle.nr_header.specs.declared.header.ChunkLists.{ChunkLists}
 use Rattle.nr_requester.specs.AfterCalls.{after_submit}
 use Rattle.nr_requester.proofs.Views.{sent_view}
 use Rattle.nr_requester.proofs.requester.Requester.send_call.Goals as goal
@@ -46,13 +49,15 @@ invariant_of-self-2 c =
     let link_is : c.send_with_room.new.endpoint.link ≡ with_state (submitted s (call_message c.self.inside.next_xid c.self.inside.wished s.memory.next plan) (buffers s.memory.next plan)) c.self.inside.endpoint.link =
     c.in-Ok.ensures.link ∙ ap (λ (p : Plan). with_state (submitted s (call_message c.self.inside.next_xid c.self.inside.wished s.memory.next p) (buffers s.memory.next p)) c.self.inside.endpoint.link) same in
     let claims_are : c.in-Ok.sent.sent.claims ≡ claims_of s.memory (offered_of plan) = c.in-Ok.ensures.claims ∙ ap (λ (p : Plan). claims_of s.memory (offered_of p)) same in
-    let room_is = subst (λ (p : Plan). (length c.in-Ok.sent.room ≡ send_max + (total p.write + (total p.reply + 3))) × (length c.in-Ok.sent.room < 2 ^ 32)) same c.in-Ok.ensures.room in (
+    let room_is = subst (λ (p : Plan). (c.in-Ok.sent.room.len ≡ send_max + (total p.write + (total p.reply + 3))) × (c.in-Ok.sent.room.len < 2 ^ 32)) same c.in-Ok.ensures.room in
+    let lists_are : c.in-Ok.sent.sent.lists ≡ lists_of s.memory.next plan = c.in-Ok.ensures.lists ∙ ap (λ (p : Plan). lists_of s.memory.next p) same in
+    let offered : c.in-Ok.sent.room.len ≡ reply_room c.in-Ok.sent.sent.lists = room_is.0 ∙ (sym (room_offered s.memory.next plan) ∙ ap (λ (l : ChunkLists). reply_room l) (sym lists_are)) in (
       sent_sound c.self.inside.endpoint.link c.send_with_room.new.endpoint.link c.self.inside.next_xid c.self.inside.grant _ _ c.self.inside.outstanding.items c.push_reserved.new.self.items c.self.inside.answered.items c.make_room.new.answered.items o
           c.self.invariant.0 c.in-Ok.ensures.held queue c.in-Ok.ensures.offer (own_room s.memory plan o claims_are room_is) (ap (λ (l : LinkSide). l.state.reads) c.in-Ok.ensures.link) (omega (arith, xid, number)) (omega (arith, count, credit, grant, len))
           (c.push_reserved.ensures.items ∙ ap (λ (xs : List OutstandingCall). xs ++ o ∷ []) c.make_room.ensures.outstanding) c.make_room.ensures.answered refl c.in_default.ensures.answer,
       (
         sent_within c.self.inside.endpoint c.send_with_room.new.endpoint c.self.inside.first_xid c.self.inside.next_xid c.self.inside.next_xid c.self.inside.wished c.self.inside.outstanding.items c.push_reserved.new.self.items c.self.inside.answered.items c.make_room.new.answered.items o plan c.self.invariant.1.0 c.self.invariant.0.rising
-            c.send_with_room.ensures.staging c.in-Ok.ensures.outside link_is planned lives stags claims_are c.requires.small (let len = room_is.0 in omega (arith, len)) refl
+            c.send_with_room.ensures.staging c.in-Ok.ensures.outside link_is planned lives stags claims_are c.requires.small c.in-Ok.ensures.empty offered (let len = room_is.0 in omega (arith, len)) refl
             (c.push_reserved.ensures.items ∙ ap (λ (xs : List OutstandingCall). xs ++ o ∷ []) c.make_room.ensures.outstanding) c.make_room.ensures.answered,
         subst (λ (l : LinkSide). c.self.inside.sent ≤ l.state.send_queue.sends_left) (sym link_is) c.self.invariant.1.1,
       ),
