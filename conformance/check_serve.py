@@ -40,9 +40,9 @@ def free_port() -> int:
         return int(s.getsockname()[1])
 
 
-def connect(port: int) -> socket.socket:
+def connect(port: int, tries: int = 100) -> socket.socket:
     """A connection, once the server listens."""
-    for _ in range(100):
+    for _ in range(tries):
         try:
             return socket.create_connection(('127.0.0.1', port), timeout=10)
         except ConnectionRefusedError:
@@ -82,7 +82,7 @@ def serve(program: str, folder: str, config: str) -> 'subprocess.Popen[str]':
 def main(argv: list[str]) -> int:
     p = argparse.ArgumentParser(description='Runs the built nfsrdma serve over TCP.')
     p.add_argument('--program', default=os.path.join(ROOT, 'crates/nfsrdma/out/nfsrdma'))
-    p.add_argument('--peers', type=int, default=200, help='how many wrong peers come before the last client')
+    p.add_argument('--peers', type=int, default=2000, help='how many wrong peers come before the last client')
     a = p.parse_args(argv)
     if not os.access(a.program, os.X_OK):
         print('no program at %s' % a.program)

@@ -1,16 +1,20 @@
-"""Refuses each request for memory of the built `nfsrdma drill`, one at a time, and looks at what it then does.
+"""Refuses each request for memory of the built `nfsrdma`, one at a time, and looks at what it then does.
 
     python3 conformance/refuse_memory.py [--program PROGRAM]
 
-For each script the N-th call of malloc, calloc and realloc is answered with nothing, for N from 1 on, until a run makes fewer: each run
-has to end with status 2, print nothing and write `memory`. It needs a C compiler (`cc`) for the library that it preloads. Exit status:
-0 all did, 1 some run did otherwise, 2 nothing could be run."""
+The N-th call of malloc and realloc is answered with nothing, for N from 1 on, until a run makes fewer. Each drill, of several scripts, has
+to end with status 2, print nothing and write `memory`. So has `stat` over TCP; or it can't make a link, and ends with status 3. A server of
+one connection ends so, or serves it: then its client has received the answer, or a part of it before the link ended. It needs a C compiler
+(`cc`) for the library that it preloads. Exit status: 0 all did, 1 some run did otherwise, 2 nothing could be run."""
 import argparse
 import os
 import subprocess
 import sys
 import tempfile
+from collections.abc import Callable
 from concurrent.futures import ThreadPoolExecutor
+
+from check_serve import ANSWERED, CALL, CONFIG, HELLO, connect, free_port
 
 ROOT = os.path.dirname(os.path.dirname(os.path.abspath(__file__)))
 REFUSES = r'''
@@ -41,8 +45,68 @@ def run(program: str, library: str, script: str, at: int) -> tuple[int, bytes, b
     return done.returncode, done.stdout, done.stderr
 
 
+def stat(program: str, library: str, address: str, at: int) -> tuple[int, bytes, bytes]:
+    env = dict(os.environ, LD_PRELOAD=library, REFUSE_AT=str(at))
+    done = subprocess.run([program, 'stat', address, '/', '/'], capture_output=True, env=env, check=False)
+    return done.returncode, done.stdout, done.stderr
+
+
+def serve_one(program: str, library: str, folder: str, at: int) -> tuple[int, bytes, bytes, bytes]:
+    """What a server of one connection came to, and what its client received after a NULL call."""
+    port, path = free_port(), os.path.join(folder, 'config%d.toml' % at)
+    with open(path, 'w', encoding='utf-8') as f:
+        f.write(CONFIG % (port, 1))
+    env = dict(os.environ, LD_PRELOAD=library, REFUSE_AT=str(at))
+    server = subprocess.Popen([program, 'serve', path], stdout=subprocess.PIPE, stderr=subprocess.PIPE, env=env)
+    got = b''
+    while server.poll() is None:
+        try:
+            with connect(port, tries=1) as s:
+                s.sendall(HELLO + CALL)
+                s.shutdown(1)
+                while more := s.recv(65536):
+                    got += more
+                break
+        except (OSError, TimeoutError):
+            continue
+    out, err = server.communicate(timeout=30)
+    return server.returncode, out, err, got
+
+
+def refuse_over_links(program: str, library: str, folder: str) -> int:
+    """Refuses the requests of `stat` and of a server of one connection. Gives how many runs did otherwise than they may."""
+    wrong = 0
+    port, path = free_port(), os.path.join(folder, 'config.toml')
+    with open(path, 'w', encoding='utf-8') as f:
+        f.write(CONFIG % (port, 1000000))
+    server = subprocess.Popen([program, 'serve', path])
+    connect(port).close()
+    ends: dict[str, tuple[Callable[[int], tuple[object, ...]], Callable[[tuple[object, ...]], bool]]] = {
+        'stat': (lambda at: stat(program, library, '127.0.0.1:%d' % port, at),
+                 lambda g: g in ((2, b'', b'memory\n'), (3, b'', b'link fault\n'))),
+        'serve, one connection': (lambda at: serve_one(program, library, folder, at),
+                                  lambda g: g[:3] in ((2, b'', b'memory\n'), (3, b'', b'link fault\n'))
+                                  or g[:3] == (0, b'served 1 journal 0\n', b'') and ANSWERED.startswith(g[3])),
+    }
+    for name, (run_at, may_be) in ends.items():
+        good, at, seen = run_at(0), 0, {}
+        while True:
+            at += 1
+            g = run_at(at)
+            if g[0] == 77:
+                break
+            seen[str(g[0])] = seen.get(str(g[0]), 0) + 1
+            if not may_be(g):
+                wrong += 1
+                print('%s, request %d: %r' % (name, at, g))
+        print('%s: status %d without refusals; %d requests refused, statuses %s' % (name, good[0], at - 1, seen))
+    server.kill()
+    server.wait()
+    return wrong
+
+
 def main(argv: list[str]) -> int:
-    p = argparse.ArgumentParser(description='Refuses each request for memory of the built nfsrdma drill, one at a time.')
+    p = argparse.ArgumentParser(description='Refuses each request for memory of the built nfsrdma, one at a time.')
     p.add_argument('--program', default=os.path.join(ROOT, 'crates/nfsrdma/out/nfsrdma'))
     a = p.parse_args(argv)
     if not os.access(a.program, os.X_OK):
@@ -70,7 +134,8 @@ def main(argv: list[str]) -> int:
                 if refused < step:
                     break
             print('%s: status %d without refusals; %d requests refused' % (name, good[0], count))
-    print('some run did otherwise' if wrong else 'each ended with status 2')
+        wrong += refuse_over_links(a.program, library, folder)
+    print('some run did otherwise' if wrong else 'each ended as it may')
     return 1 if wrong else 0
 
 

@@ -1,0 +1,124 @@
+#!/bin/sh
+# Real links over loopback: GETATTRs of `nfsrdma serve` beside raw round trips of the same bytes; READs and WRITEs of 32 KiB, one at a time
+# and with 16 outstanding, and `get` and `put` of 16 MiB, beside raw bytes one way; the server's processor time a GETATTR; the memory of a
+# server with a file of 16 MiB. Run by hand, at the top of the repository, once `rt run` has built nfsrdma and links_bench; or with the paths
+# of both programs. It needs a C compiler, for bench/echo.c. The least of several runs counts, of the two sides in turn.
+exec python3 - "${1:-crates/nfsrdma/out/nfsrdma}" "${2:-crates/links_bench/out/links_bench}" <<'PYTHON'
+import contextlib, os, re, socket, subprocess, sys, tempfile, time
+
+NFSRDMA, LINKS = map(os.path.abspath, sys.argv[1:3])
+TIMES = 5
+SIZE = 32_768
+FILE = 16 << 20
+# The frames of a GETATTR without a credential and of its reply, in bytes: length 2, DDP and RDMAP header 18, transport header 28, RPC message
+# 52 and 112, CRC field 4.
+CALL, REPLY = 104, 164
+TURNS, CALLS = 20_000, 2_000
+
+
+def port():
+    with socket.socket() as it:
+        it.bind(("127.0.0.1", 0))
+        return it.getsockname()[1]
+
+
+def used(child):
+    """Waits for a child, and gives its processor seconds and its greatest resident memory in bytes."""
+    _, status, usage = os.wait4(child.pid, 0)
+    child.returncode = status
+    if status:
+        sys.exit(f"{child.args} ended with status {status}")
+    return usage.ru_utime + usage.ru_stime, usage.ru_maxrss * 1024
+
+
+@contextlib.contextmanager
+def server(folder, connections):
+    """A server of as many connections; it has a file 2 of 16 MiB after the first. Gives its address, and a list that gets what it used."""
+    at = port()
+    config = f"{folder}/config{at}.toml"
+    with open(config, "w") as it:
+        it.write(f'listen = "127.0.0.1:{at}"\nexport = "/"\ncredits = 64\ncapacity = 1000000000000\nconnections = {connections + 1}\nwrite_verifier = "0000000000000001"\n')
+    child = subprocess.Popen([NFSRDMA, "serve", config], stdout=subprocess.DEVNULL)
+    result = []
+    for _ in range(500):
+        with open(f"{folder}/file") as data:
+            if subprocess.run([NFSRDMA, "put", f"127.0.0.1:{at}", "/", "/a"], stdin=data, stderr=subprocess.DEVNULL).returncode == 0:
+                break
+        time.sleep(0.01)
+    else:
+        sys.exit("no server")
+    yield f"127.0.0.1:{at}", result
+    result += used(child)
+
+
+def raw(program, request, reply, *words):
+    """The microseconds of a raw client, and the processor seconds of its server."""
+    at = port()
+    child = subprocess.Popen([program, "serve", str(at), str(request), str(reply)])
+    micros = float(subprocess.run([program, words[0], str(at), *words[1:]], check=True, capture_output=True, text=True).stdout)
+    return micros, used(child)[0]
+
+
+def calls(address, what, count, outstanding):
+    """The microseconds of these calls."""
+    done = subprocess.run([LINKS, address, what, str(count), str(outstanding)], check=True, capture_output=True, text=True).stdout
+    total, micros = map(int, re.fullmatch(r"(\d+) (\d+)\n", done).groups())
+    if total != count * (1 if what == "getattr" else SIZE):
+        sys.exit(f"{what}: {total} confirmed")
+    return micros
+
+
+def command(words, **streams):
+    begun = time.perf_counter()
+    subprocess.run(words, check=True, **streams)
+    return (time.perf_counter() - begun) * 1e6
+
+
+def main(folder):
+    echo = f"{folder}/echo"
+    subprocess.run([os.environ.get("CC", "cc"), "-O2", "-o", echo, "bench/echo.c"], check=True)
+    with open(f"{folder}/file", "wb") as it:
+        it.write(os.urandom(FILE))
+    least = {}
+
+    def note(name, value):
+        least[name] = min(value, least.get(name, value))
+
+    for _ in range(TIMES):
+        micros, seconds = raw(echo, CALL, REPLY, "turns", str(CALL), str(REPLY), str(TURNS))
+        note("turn", micros / TURNS)
+        note("echo server", seconds / TURNS * 1e6)
+        with server(folder, 1) as (address, result):
+            note("getattr", calls(address, "getattr", TURNS, 1) / TURNS)
+        with_calls = result[0]
+        note("memory", result[1])
+        with server(folder, 1) as (address, result):
+            calls(address, "getattr", 1, 1)
+        note("server", (with_calls - result[0]) / TURNS * 1e6)
+        note("raw 32 KiB", raw(echo, 1, 0, "send", str(CALLS * SIZE), str(SIZE))[0] / CALLS)
+        note("raw 16 MiB", raw(echo, 1, 0, "send", str(FILE), str(SIZE))[0])
+        with server(folder, 6) as (address, result):
+            for what in ("read", "write"):
+                for outstanding in (1, 16):
+                    note((what, outstanding), calls(address, what, CALLS, outstanding) / CALLS)
+            with open(f"{folder}/back", "wb") as out:
+                note("get", command([NFSRDMA, "get", address, "/", "/a"], stdout=out))
+            with open(f"{folder}/file", "rb") as data:
+                note("put", command([NFSRDMA, "put", address, "/", "/b"], stdin=data))
+    print(f"a raw round trip of {CALL} and {REPLY} bytes: {least['turn']:.1f} microseconds; a GETATTR: {least['getattr']:.1f};"
+          f" share {least['turn'] / least['getattr']:.2f} (goal 0.7)")
+    print(f"the server's processor time: {least['echo server']:.1f} microseconds a raw round trip, {least['server']:.1f} a GETATTR:"
+          f" {least['server'] / least['echo server']:.2f} times (goal 2.5)")
+    for what in ("read", "write"):
+        for outstanding, goal in ((1, 0.25), (16, 0.4)):
+            took = least[what, outstanding]
+            print(f"{what.upper()} of 32 KiB, {outstanding} outstanding: {took:.1f} microseconds; raw bytes one way {least['raw 32 KiB']:.1f};"
+                  f" share {least['raw 32 KiB'] / took:.2f} (goal {goal})")
+    for what in ("get", "put"):
+        print(f"{what} of 16 MiB: {least[what] / 1000:.1f} ms; raw bytes {least['raw 16 MiB'] / 1000:.1f}: {least[what] / least['raw 16 MiB']:.1f} times (goal 4)")
+    print(f"the greatest resident memory of a server with a file of 16 MiB: {least['memory'] / (1 << 20):.0f} MiB (goal 40)")
+
+
+with tempfile.TemporaryDirectory() as folder:
+    main(folder)
+PYTHON

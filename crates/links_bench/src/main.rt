@@ -1,0 +1,146 @@
+//! A benchmark, run by hand against `nfsrdma serve`: GETATTRs of the root, or READs or WRITEs of 32 KiB of file 2, over TCP, with at most
+//! so many outstanding. It prints how many calls, or how many bytes, the replies confirm, and the microseconds that they took. The
+//! arguments are the address; `getattr`, `read` or `write`; the number of calls; and how many may be outstanding.
+#![tactic(auto)]
+
+mod client;
+mod work;
+
+use client::Client;
+use nr_links::{Dialer, READ_MAX, TcpDialer};
+use nr_outside::{Sink, Source};
+use nr_reduce::Outcome;
+use nr_xdr::Octets;
+use std::alloc::Global;
+use std::process::ExitCode;
+use std::time::Instant;
+use std::{env, io};
+use work::Work;
+
+/// How many credits the client wishes for.
+const CREDITS: u32 = 64;
+
+/// What is done: calls of a kind, their number, and how many may be outstanding.
+#[derive(Clone, Copy)]
+struct Plan {
+    work: Work,
+    rounds: u32,
+    outstanding: u32,
+}
+
+/// Submits calls while one may be sent, with arguments that came back or that are made. Gives how many were submitted.
+fn submit_all(alloc: Global, client: &mut Client, spare: &mut Option<Octets>, plan: Plan, left: u32) -> Option<u32> {
+    let mut count: u32 = 0;
+    for _ in 0..left {
+        if !client.can_submit(plan.outstanding) {
+            break;
+        }
+        let args = match spare.take() {
+            Some(args) => args,
+            None => plan.work.args(alloc).ok()?,
+        };
+        client.submit(plan.work.procedure(), args)?;
+        count = count.saturating_add(1);
+    }
+    Some(count)
+}
+
+/// What a reply confirms; none if it is no success.
+fn confirmed(work: Work, outcome: &Outcome) -> Option<u64> {
+    match outcome {
+        Outcome::Reply(reply) => work.confirmed(reply.as_slice()),
+        Outcome::Chunk => None,
+        Outcome::Version { .. } => None,
+    }
+}
+
+/// Makes all calls over a link. Gives how many calls or bytes are confirmed.
+fn call_all<I: Source, O: Sink>(
+    alloc: Global,
+    client: &mut Client,
+    source: &mut I,
+    sink: &mut O,
+    piece: &mut [u8],
+    plan: Plan,
+) -> Option<u64> {
+    let mut left = plan.rounds;
+    let mut done: u32 = 0;
+    let mut total: u64 = 0;
+    let mut spare = None;
+    for _ in 0..u64::MAX {
+        if done >= plan.rounds {
+            break;
+        }
+        match client.take() {
+            Some((args, outcome)) => {
+                total = total.saturating_add(confirmed(plan.work, &outcome)?);
+                drop(outcome);
+                spare = Some(args);
+                done = done.saturating_add(1);
+            }
+            None => client.exchange(source, sink, piece)?,
+        }
+        left = left.saturating_sub(submit_all(alloc, client, &mut spare, plan, left)?);
+    }
+    Some(total)
+}
+
+/// Makes all calls over a link to an address.
+fn linked<D: Dialer>(alloc: Global, dialer: &mut D, addr: &str, plan: Plan) -> Option<u64> {
+    let Ok(mut client) = Client::open(alloc, CREDITS) else {
+        return None;
+    };
+    let Ok(mut piece) = vec![in alloc; 0u8; READ_MAX as usize] else {
+        return None;
+    };
+    let Ok((mut source, mut sink)) = dialer.dial(addr) else {
+        return None;
+    };
+    let total = call_all(alloc, &mut client, &mut source, &mut sink, &mut piece, plan);
+    dialer.hang_up(source, sink);
+    total
+}
+
+fn number(word: Option<String>) -> Option<u32> {
+    word?.as_str().parse::<u32>().ok()
+}
+
+/// The address and the plan of the arguments.
+fn plan_of(rt: &HostRuntime) -> Option<(String, Plan)> {
+    let mut words = env::args(rt).ok()?;
+    let _ = words.next();
+    let addr = words.next()?;
+    let work = Work::of(words.next()?.as_str())?;
+    let rounds = number(words.next())?;
+    let outstanding = number(words.next())?;
+    Some((
+        addr,
+        Plan {
+            work,
+            rounds,
+            outstanding,
+        },
+    ))
+}
+
+/// Runs the plan, and gives what is confirmed and the microseconds.
+fn measured(rt: HostRuntime, addr: &str, plan: Plan) -> io::Result<Option<(u64, u64)>> {
+    let mut dialer = TcpDialer::new(rt);
+    let start = Instant::now(&rt)?;
+    let total = linked(rt.alloc(), &mut dialer, addr, plan);
+    let micros = start.elapsed(&rt)?.as_micros() as u64;
+    Ok(total.map(|total| (total, micros)))
+}
+
+fn main(rt: HostRuntime) -> ExitCode {
+    let Some((addr, plan)) = plan_of(&rt) else {
+        return ExitCode::FAILURE;
+    };
+    let Ok(Some((total, micros))) = measured(rt, addr.as_str(), plan) else {
+        return ExitCode::FAILURE;
+    };
+    match println!(rt; "{total} {micros}") {
+        Ok(()) => ExitCode::SUCCESS,
+        Err(_) => ExitCode::FAILURE,
+    }
+}
