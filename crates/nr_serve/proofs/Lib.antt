@@ -1,3 +1,4 @@
+pub mod Completing
 pub mod Configs
 pub mod Journals
 pub mod Readings
