@@ -6,7 +6,7 @@
 use nr_links::{SystemClock, TcpAcceptor, TcpDialer};
 use nr_outside::{StdSink, StdSource};
 use nr_top::{refuse, run};
-use nr_words::{Command, read_words};
+use nr_words::{Command, WordsFault, read_words};
 use std::fs::File;
 use std::io::{ErrorKind, Read};
 use std::process::ExitCode;
@@ -46,6 +46,8 @@ fn run_with(rt: HostRuntime, arguments: &[String]) -> u8 {
             Ok(file) => Input::File(file),
             Err(_) => Input::Missing,
         },
+        // Out of memory: the command may be one that reads a file, so nothing is read.
+        Err(WordsFault::Memory) => Input::Missing,
         _ => Input::Stream(rt.stdin()),
     };
     let mut input = StdSource::new(input);
