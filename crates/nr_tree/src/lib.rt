@@ -29,7 +29,9 @@ pub use ancestry::walks_find_ancestors;
 pub use directory::{Directory, EntryCursor, Slot};
 pub use file::File;
 pub use node::{Content, Metadata, Node};
-pub use replies::{attributes_at, refused, wcc_attributes_at, wcc_data};
+pub use replies::{
+    attributes_at, attributes_of_number, handle_of, refused, wcc_attributes_at, wcc_data,
+};
 pub use rules::{
     ENTRY_COST, FILE_SIZE_MAX, LINKS_MAX, MODE_COUNT, Right, Space, check_changeable, check_name,
     check_size, check_space, check_times, differs_if_given, handle_number, is_dot, is_dot_dot,
