@@ -5,7 +5,7 @@ use Rattle.std.specs.Map.{lookup}
 use Rattle.std.specs.Cmp.Lexicographic.{pointwise}
 use Rattle.std.specs.declared.vec.Vec.{Vec}
 use Rattle.std.specs.declared.alloc.Global.{Global}
-use Rattle.nr_tree.specs.declared.directory.Slot.{Slot}
+use Rattle.nr_tree.specs.declared.entry_table.Slot.{Slot}
 use Rattle.nr_tree.specs.Entries.{Entry, entry_of_name}
 use Rattle.nr_tree.specs.Slots.{slot_entries, entry_of}
 

@@ -2,7 +2,7 @@
 use Rattle.std.specs.Prelude.{ℕ, ◌≡◌, ◌<◌, List, [], map, length, slice_index, slice_index_or}
 use Rattle.std.specs.declared.vec.Vec.{Vec}
 use Rattle.std.specs.declared.alloc.Global.{Global}
-use Rattle.nr_tree.specs.declared.directory.Slot.{Slot}
+use Rattle.nr_tree.specs.declared.entry_table.Slot.{Slot}
 use Rattle.nr_tree.specs.Entries.{Entry, CookiesAscend}
 
 abbrev pub entry_of : Vec ℕ Global × Slot → Entry

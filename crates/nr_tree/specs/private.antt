@@ -2,3 +2,4 @@
 pub mod Blocks
 pub mod Indexes
 pub mod Room
+pub mod Empty

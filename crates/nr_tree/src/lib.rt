@@ -14,7 +14,9 @@
 mod ancestry;
 mod directory;
 mod drill;
+mod entry_table;
 mod file;
+mod kept_node;
 mod node;
 mod nodes;
 mod order;
@@ -26,7 +28,8 @@ mod table;
 mod tree;
 
 pub use ancestry::walks_find_ancestors;
-pub use directory::{Directory, EntryCursor, Slot};
+pub use directory::{Directory, EntryCursor};
+pub use entry_table::Slot;
 pub use file::File;
 pub use node::{Content, Metadata, Node};
 pub use replies::{
