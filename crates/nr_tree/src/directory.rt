@@ -20,8 +20,7 @@ pub struct Directory {
 
 impl Model for Directory {
     ghost use Rattle.std.specs.Option.{option_map_or};
-    ghost use Rattle.nr_tree.specs.Entries.{Entries, entries_code};
-    ghost use Rattle.nr_tree.specs.private.Empty.{no_entries};
+    ghost use Rattle.nr_tree.specs.Entries.{Entries, entries_code, no_entries};
 
     ghost Value = { Entries };
 
@@ -30,7 +29,7 @@ impl Model for Directory {
     ghost view = { λ d. option_map_or (λ b. b.value) d.table no_entries };
 }
 
-ghost use Rattle.nr_tree.specs.private.Empty.{no_entries};
+ghost use Rattle.nr_tree.specs.Entries.{entries_with, no_entries};
 
 /// The table of one entry, the first of a directory.
 fn first_entry(alloc: Global, name: Vec<u8>, number: u64) -> Result<Box<EntryTable>, Memory>
@@ -40,8 +39,6 @@ fn first_entry(alloc: Global, name: Vec<u8>, number: u64) -> Result<Box<EntryTab
     table.add(name, number)?;
     Ok(Box::new(alloc, table)?)
 }
-
-ghost use Rattle.nr_tree.specs.Entries.{entries_with};
 
 impl Directory {
     ghost use Rattle.nr_tree.specs.Entries.{Entries, entry_of_name, entries_with, entries_without};

@@ -32,7 +32,7 @@ pub(crate) struct EntryTable {
 
 impl Model for EntryTable {
     ghost use Rattle.nr_tree.specs.Entries.{Entries, entries_code};
-    ghost use Rattle.nr_tree.specs.Slots.{slot_entries, ordered, IsOrdered};
+    ghost use Rattle.nr_tree.specs.private.Slots.{slot_entries, ordered, IsOrdered};
 
     ghost Value = { Entries };
 
@@ -151,7 +151,7 @@ impl EntryTable {
 ghost use Rattle.std.specs.Prelude.{drop, MatchOption, slice_index, slice_index_or, slice_set, nat_le, ◌≤◌, ◌-◌, ◌*◌};
 ghost use Rattle.nr_tree.specs.Entries.{entry_of_name};
 ghost use Rattle.nr_tree.specs.Listing.{entries_after, count_until};
-ghost use Rattle.nr_tree.specs.Slots.{slot_entries, ordered, no_entry, IsOrdered};
+ghost use Rattle.nr_tree.specs.private.Slots.{slot_entries, ordered, no_entry, IsOrdered};
 ghost use Rattle.nr_tree.specs.private.Indexes.{IsIndexOf, IsTakenOut, IsMovedLast};
 
 type Slots = IndexMap<Vec<u8>, Slot>;
@@ -318,7 +318,7 @@ pub(crate) struct TableCursor<'a> {
 impl<'a> Model for TableCursor<'a> {
     ghost use Rattle.std.specs.Prelude.{ℕ, List, ◌<◌, length, slice_index};
     ghost use Rattle.nr_tree.specs.Entries.{Entry};
-    ghost use Rattle.nr_tree.specs.Slots.{slot_entries, ordered};
+    ghost use Rattle.nr_tree.specs.private.Slots.{slot_entries, ordered};
 
     ghost Value = { List Entry };
 

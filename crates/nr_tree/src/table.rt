@@ -8,9 +8,9 @@ ghost use Rattle.std.specs.FinMap as map;
 use crate::directory::Directory;
 use crate::node::{Content, Metadata, Node};
 use crate::nodes::{
-    Nodes, Renaming, add_entry_to, add_link_to, drop_name_of, find, insert, insert_with_entry, is_dir_at,
-    number_in, remove_entry_from, rename_over, rename_to_free, set_metadata_of, size_node,
-    write_node,
+    Nodes, Renaming, add_entry_to, add_link_to, drop_name_of, find, insert, insert_with_entry,
+    is_dir_at, number_in, remove_entry_from, rename_over, rename_to_free, set_metadata_of,
+    size_node, write_node,
 };
 use nr_nfs_base::Time;
 use nr_xdr::Memory;
@@ -90,15 +90,7 @@ impl NodeTable {
         ensures err { OnErr result (self.new ≡ self.old) }
     {
         let number = self.next;
-        insert_with_entry(
-            self.alloc,
-            &mut self.nodes,
-            number,
-            node,
-            dir,
-            name,
-            now,
-        )?;
+        insert_with_entry(self.alloc, &mut self.nodes, number, node, dir, name, now)?;
         self.next += 1;
         Ok(number)
     }

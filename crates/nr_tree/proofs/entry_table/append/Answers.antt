@@ -2,7 +2,7 @@ use Rattle.std.proofs.Common.{ap, ◌∙◌}
 use Rattle.std.specs.Prelude.{nat_eq}
 use Rattle.std.specs.Cmp.Lexicographic.{pointwise}
 use Rattle.indexmap.proofs.CallerLemmas.{insert_entry-new}
-use Rattle.nr_tree.specs.Slots.{slot_entries}
+use Rattle.nr_tree.specs.private.Slots.{slot_entries}
 use Rattle.nr_tree.proofs.Slots.{free_slot, slot_entries_append}
 use Rattle.nr_tree.proofs.Ordered.{slots_unnamed}
 use Rattle.nr_tree.proofs.entry_table.append.Goals as goal

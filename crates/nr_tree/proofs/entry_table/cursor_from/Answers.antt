@@ -1,5 +1,5 @@
 use Rattle.std.proofs.Common.{◌∙◌, ap}
-use Rattle.nr_tree.specs.Slots.{slot_entries, ordered}
+use Rattle.nr_tree.specs.private.Slots.{slot_entries, ordered}
 use Rattle.nr_tree.proofs.Ordered.{ordered_drop}
 use Rattle.nr_tree.proofs.entry_table.cursor_from.Goals as goal
 

@@ -1,5 +1,5 @@
 use Rattle.std.proofs.Common.{◌+◌, ◌-◌, ◌/◌, arith}
-use Rattle.nr_tree.specs.Slots.{slot_entries, ordered}
+use Rattle.nr_tree.specs.private.Slots.{slot_entries, ordered}
 use Rattle.nr_tree.proofs.Ordered.{length_ordered}
 use Rattle.nr_tree.proofs.ListingLemmas.{until_middle, from_middle, listed, middle_low, middle_high, same_place, fewer_low, fewer_high, one_left, half_low, half_high, halving_goes_on, halving_ends, place_by}
 use Rattle.nr_tree.proofs.entry_table.place_above.Goals as goal

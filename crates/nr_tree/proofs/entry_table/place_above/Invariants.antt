@@ -1,5 +1,5 @@
 use Rattle.std.proofs.Common.{◌≡◌, ◌-◌, ◌≤◌, [], length, take, drop}
-use Rattle.nr_tree.specs.Slots.{slot_entries, ordered}
+use Rattle.nr_tree.specs.private.Slots.{slot_entries, ordered}
 use Rattle.nr_tree.specs.Listing.{entries_after}
 use Rattle.nr_tree.proofs.ListingLemmas.{IsHalved}
 use Rattle.nr_tree.proofs.entry_table.place_above.Given as goal

@@ -3,7 +3,7 @@ use Rattle.std.specs.Prelude.{slice_index}
 use Rattle.std.specs.List.{swap_remove}
 use Rattle.std.proofs.lemmas.List.{length-map}
 use Rattle.nr_tree.specs.Entries.{Entry}
-use Rattle.nr_tree.specs.Slots.{slot_entries, entry_of, ordered, IsOrdered}
+use Rattle.nr_tree.specs.private.Slots.{slot_entries, entry_of, ordered, IsOrdered}
 use Rattle.nr_tree.proofs.Indexes.{slot_entries_swap}
 use Rattle.nr_tree.proofs.Ordered.{taken_entries, taken_ordered, one_place}
 use Rattle.nr_tree.proofs.entry_table.take_out.Goals as goal

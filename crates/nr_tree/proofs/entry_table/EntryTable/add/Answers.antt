@@ -1,6 +1,6 @@
 use Rattle.std.proofs.Common.{◌+◌, ◌++◌, ◌∷◌, [], ℕ, List, refl, subst, sym, ap, ◌∙◌, length}
 use Rattle.nr_tree.specs.Entries.{Entry, Entries, entries_with}
-use Rattle.nr_tree.specs.Slots.{slot_entries, ordered, IsOrdered}
+use Rattle.nr_tree.specs.private.Slots.{slot_entries, ordered, IsOrdered}
 use Rattle.nr_tree.proofs.Ordered.{added_entries, added_ordered}
 use Rattle.nr_tree.proofs.entry_table.EntryTable.add.Goals as goal
 

@@ -2,7 +2,7 @@ use Rattle.std.proofs.Common.{◌≡◌, ◌<◌, ℕ, Some, length, ap, sym, �
 use Rattle.std.specs.Prelude.{slice_index}
 use Rattle.std.specs.Option.{option_map}
 use Rattle.nr_tree.specs.Entries.{Entry, Entries, entry_of_name}
-use Rattle.nr_tree.specs.Slots.{slot_entries}
+use Rattle.nr_tree.specs.private.Slots.{slot_entries}
 use Rattle.nr_tree.proofs.Ordered.{ordered_named, ordered_unnamed}
 use Rattle.nr_tree.proofs.entry_table.EntryTable.number_of.Goals as goal
 

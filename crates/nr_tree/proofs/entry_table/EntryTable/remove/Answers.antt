@@ -1,7 +1,7 @@
 use Rattle.std.proofs.Common.{◌≡◌, ◌<◌, ℕ, List, length, sym, ap, ◌∙◌}
 use Rattle.std.specs.Prelude.{slice_index}
 use Rattle.nr_tree.specs.Entries.{Entry, Entries, entries_without}
-use Rattle.nr_tree.specs.Slots.{slot_entries}
+use Rattle.nr_tree.specs.private.Slots.{slot_entries}
 use Rattle.nr_tree.proofs.Ordered.{ordered_named, ordered_unnamed}
 use Rattle.nr_tree.proofs.entry_table.EntryTable.remove.Goals as goal
 

@@ -1,7 +1,7 @@
 use Rattle.std.proofs.Common.{◌≡◌, ◌<◌, ◌+◌, ◌++◌, ◌∷◌, [], ℕ, List, None, Some, length, get_or, remove, refl, subst, sym, ap, ◌∙◌, true≢false}
 use Rattle.std.specs.Prelude.{slice_index, is_some}
 use Rattle.nr_tree.specs.Entries.{Entry, Entries, entry_of_name, entries_with, entries_without}
-use Rattle.nr_tree.specs.Slots.{slot_entries, ordered, no_entry, IsOrdered}
+use Rattle.nr_tree.specs.private.Slots.{slot_entries, ordered, no_entry, IsOrdered}
 use Rattle.nr_tree.specs.private.Indexes.{IsIndexOf}
 use Rattle.nr_tree.proofs.Indexes.{same_list}
 use Rattle.nr_tree.proofs.Ordered.{ordered_named, ordered_unnamed, replaced_entries, replaced_ordered}

@@ -1,4 +1,4 @@
-use Rattle.nr_tree.specs.Slots.{slot_entries}
+use Rattle.nr_tree.specs.private.Slots.{slot_entries}
 use Rattle.nr_tree.proofs.Ordered.{within_after}
 use Rattle.nr_tree.proofs.entry_table.TableCursor.advance.Goals as goal
 
