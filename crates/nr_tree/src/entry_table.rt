@@ -1,6 +1,6 @@
 //! The entries of a directory that has had one: by name, and in the order in which they were made.
 
-ghost use Rattle.std.specs.Prelude.{◌≡◌, ◌+◌, ◌<◌, ◌^◌, [], ◌∷◌, ◌++◌, None, Some, slice_get, length, map, OnOk, OnErr, IsOk, is_some, true};
+ghost use Rattle.std.specs.Prelude.{◌≡◌, ◌+◌, ◌<◌, ◌^◌, [], ◌∷◌, ◌++◌, None, Some, slice_get, length, map, OnOk, OnErr, IsOk, is_some, true, IfSome};
 ghost use Rattle.std.specs.Option.{option_map, option_copied};
 
 use crate::order::{IndexCursor, Order};
@@ -28,6 +28,8 @@ pub(crate) struct EntryTable {
     slots: IndexMap<Vec<u8>, Slot>,
     /// The indexes of the slots, in the order in which the entries were made.
     order: Order,
+    /// The place of the entry that was taken out last: the next one is often near.
+    last_place: usize,
 }
 
 impl Model for EntryTable {
@@ -55,6 +57,7 @@ impl EntryTable {
             next_cookie: 1,
             slots: IndexMap::new(alloc),
             order: Order::new(alloc),
+            last_place: 0,
         }
     }
 
@@ -90,9 +93,10 @@ impl EntryTable {
         ensures { self.new ≡ entries_with (entries_without self.old name.items) name.items number }
     {
         let cookie = self.next_cookie;
+        let near = self.last_place;
         match index_of(&self.slots, name.as_slice()) {
             Some(index) => {
-                move_last(&self.slots, &mut self.order, cookie, index);
+                move_last(&self.slots, &mut self.order, cookie, near, index);
                 overwrite(&mut self.slots, index, Slot { cookie, number });
             }
             None => unreachable!(),
@@ -104,8 +108,13 @@ impl EntryTable {
     pub(crate) fn remove(&mut self, name: &[u8])
         ensures { self.new ≡ entries_without self.old name.now }
     {
+        let near = self.last_place;
         match index_of(&self.slots, name) {
-            Some(index) => take_out(&mut self.slots, &mut self.order, self.next_cookie, index),
+            Some(index) => {
+                let (slots, order) = (&mut self.slots, &mut self.order);
+                let place = take_out(slots, order, self.next_cookie, near, index);
+                self.last_place = place;
+            }
             None => {}
         }
     }
@@ -194,8 +203,46 @@ fn append(slots: &mut Slots, order: &mut Order, name: Vec<u8>, slot: Slot) -> Re
     }
 }
 
-/// The place in the order of the slot at an index.
-fn place_of(slots: &Slots, order: &Order, next_cookie: u64, index: usize) -> usize
+/// Whether the slot at an index has a place in the order.
+fn is_at(order: &Order, len: usize, place: usize, index: usize) -> bool
+    requires { len ≡ length order.now }
+    ensures { result ≡ true → (place < length order.now) × (slice_index order.now place ≡ index) }
+{
+    place < len && order.get(place) == index
+}
+
+/// The place in the order of the slot at an index, if it is a given place or one beside it.
+fn place_near(order: &Order, len: usize, near: usize, index: usize) -> Option<usize>
+    requires { len ≡ length order.now }
+    ensures { IfSome result (λ place. (place < length order.now) × (slice_index order.now place ≡ index)) }
+{
+    let (before, after) = (near.saturating_sub(1), near.saturating_add(1));
+    if is_at(order, len, near, index) {
+        Some(near)
+    } else if is_at(order, len, after, index) {
+        Some(after)
+    } else if is_at(order, len, before, index) {
+        Some(before)
+    } else {
+        None
+    }
+}
+
+/// The place in the order of the slot at an index, which may be near a given place.
+fn place_of(slots: &Slots, order: &Order, next_cookie: u64, near: usize, index: usize) -> usize
+    requires ordered { IsOrdered (slot_entries slots.now.entries) order.now next_cookie }
+    requires within { index < length (slot_entries slots.now.entries) }
+    ensures within { result < length order.now }
+    ensures place { slice_index order.now result ≡ index }
+{
+    match place_near(order, slots.len(), near, index) {
+        Some(place) => place,
+        None => place_by_cookie(slots, order, next_cookie, index),
+    }
+}
+
+/// The place in the order of the slot at an index, found by its cookie.
+fn place_by_cookie(slots: &Slots, order: &Order, next_cookie: u64, index: usize) -> usize
     requires ordered { IsOrdered (slot_entries slots.now.entries) order.now next_cookie }
     requires within { index < length (slot_entries slots.now.entries) }
     ensures within { result < length order.now }
@@ -205,28 +252,36 @@ fn place_of(slots: &Slots, order: &Order, next_cookie: u64, index: usize) -> usi
     place_uncounted::<Brand>(slots, order, next_cookie, slot.cookie, Blank::new(1)) - 1
 }
 
-/// Takes the slot at an index out, and its entry. The last slot gets the index.
-fn take_out(slots: &mut Slots, order: &mut Order, next_cookie: u64, index: usize)
+/// Takes the slot at an index out, and its entry, which may be near a given place. The last slot gets the index. Gives the
+/// place that the entry had.
+fn take_out(
+    slots: &mut Slots,
+    order: &mut Order,
+    next_cookie: u64,
+    near: usize,
+    index: usize,
+) -> usize
     requires ordered { IsOrdered (slot_entries slots.old.entries) order.old next_cookie }
     requires within { index < length (slot_entries slots.old.entries) }
     ensures ordered { IsOrdered (slot_entries slots.new.entries) order.new next_cookie }
     ensures entries { IsTakenOut (slot_entries slots.old.entries) order.old index (ordered (slot_entries slots.new.entries) order.new) }
 {
     let last = slots.len() - 1;
-    let place = place_of(slots, order, next_cookie, index);
-    let place_of_last = place_of(slots, order, next_cookie, last);
+    let place = place_of(slots, order, next_cookie, near, index);
+    let place_of_last = place_of(slots, order, next_cookie, last, last);
     order.set(place_of_last, index);
     order.remove(place);
     slots.swap_remove_index(index);
+    place
 }
 
 /// Puts the index of a slot last in the order. It cannot fail: out of memory it takes longer.
-fn move_last(slots: &Slots, order: &mut Order, next_cookie: u64, index: usize)
+fn move_last(slots: &Slots, order: &mut Order, next_cookie: u64, near: usize, index: usize)
     requires ordered { IsOrdered (slot_entries slots.now.entries) order.old next_cookie }
     requires within { index < length (slot_entries slots.now.entries) }
     ensures { IsMovedLast order.old index order.new }
 {
-    let place = place_of(slots, order, next_cookie, index);
+    let place = place_of(slots, order, next_cookie, near, index);
     order.move_last(place, slots.len() - 1);
 }
 

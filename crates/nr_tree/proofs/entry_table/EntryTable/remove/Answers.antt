@@ -10,7 +10,7 @@ returns-in-Some c =
     let es : List Entry = slot_entries c.self.inside.slots.entries in
     let k : (place : ℕ) × (place < length c.self.inside.order) × (slice_index c.self.inside.order place ≡ c.in-Some.index) = c.self.invariant.found c.in-Some.index c.in-Some.ensures.0 in
     ap (λ (l : List Entry). record { next_cookie = c.self.inside.next_cookie; list = l })
-    (c.take_out.ensures.entries k.0 k.1 k.2 ∙ sym (ordered_named es c.self.inside.order c.self.inside.next_cookie c.in-Some.index k.0 c.args.name.now c.self.invariant c.in-Some.ensures k.1 k.2).1)
+    (c.take_out-place.ensures.entries k.0 k.1 k.2 ∙ sym (ordered_named es c.self.inside.order c.self.inside.next_cookie c.in-Some.index k.0 c.args.name.now c.self.invariant c.in-Some.ensures k.1 k.2).1)
     ∙ ap (λ (d : Entries). entries_without d c.args.name.now) c.self.view_is
 
 pub returns-in-None : goal.returns-in-None

@@ -2,7 +2,7 @@ use Rattle.std.proofs.Common.{ap}
 use Rattle.nr_tree.specs.Entries.{Entry}
 use Rattle.nr_tree.specs.private.Slots.{slot_entries}
 use Rattle.nr_tree.proofs.Ordered.{place_found}
-use Rattle.nr_tree.proofs.entry_table.place_of.Goals as goal
+use Rattle.nr_tree.proofs.entry_table.place_by_cookie.Goals as goal
 
 pub overflow_sub-result : goal.overflow_sub-result
 overflow_sub-result c =
