@@ -58,14 +58,7 @@ fn call_named(
 }
 
 fn make(rt: &impl Abort, alloc: Global, server: &mut Server, kept: &mut Vec<Entry>, entry: Entry) {
-    drop(call_named(
-        rt,
-        alloc,
-        server,
-        "0 CREATE 8 0 1 4",
-        entry.0,
-        "0*7",
-    ));
+    drop(call_named(rt, alloc, server, "0 CREATE 8 0 1 4", entry.0, "0*7"));
     kept.push(entry).expect(rt, "memory");
 }
 
@@ -100,7 +93,11 @@ fn wanted(rt: &impl Abort, alloc: Global, kept: &[Entry], place: usize) -> Vec<u
     put_entry(rt, &mut bytes, kept.get(place));
     put_entry(rt, &mut bytes, kept.get(after));
     put_number(rt, &mut bytes, 0);
-    put_number(rt, &mut bytes, u32::from(after.wrapping_add(1) >= kept.len()));
+    put_number(
+        rt,
+        &mut bytes,
+        u32::from(after.wrapping_add(1) >= kept.len()),
+    );
     bytes
 }
 
