@@ -8,8 +8,8 @@ use nr_nfs_args::LookupArgs;
 use nr_nfs_base::{Caller, Status, StatusUnion};
 use nr_nfs_res::{LookupOk, LookupRes};
 use nr_tree::{
-    Node, Right, Tree, attributes_at, attributes_of_number, check_name, handle_of, is_dot, is_dot_dot,
-    live_node, may,
+    Node, Right, Tree, attributes_at, attributes_of_number, check_name, handle_of, is_dot,
+    is_dot_dot, live_node, may,
 };
 use nr_xdr::Memory;
 use std::alloc::Global;
