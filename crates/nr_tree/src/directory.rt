@@ -29,15 +29,18 @@ impl Model for Directory {
     ghost view = { λ d. option_map_or (λ b. b.value) d.table no_entries };
 }
 
-ghost use Rattle.nr_tree.specs.Entries.{entries_with, no_entries};
+ghost use Rattle.std.specs.Option.{option_map_or};
+ghost use Rattle.nr_tree.specs.Entries.{no_entries};
 
-/// The table of one entry, the first of a directory.
-fn first_entry(alloc: Global, name: Vec<u8>, number: u64) -> Result<Box<EntryTable>, Memory>
-    ensures { IfOk result (λ b. b.value ≡ entries_with no_entries name.items number) }
+/// Makes the table if there is none. After an `Err` there is none.
+fn make_table(alloc: Global, table: &mut Option<Box<EntryTable>>) -> Result<(), Memory>
+    ensures kept { option_map_or (λ b. b.value) table.new no_entries ≡ option_map_or (λ b. b.value) table.old no_entries }
+    ensures made { OnOk result (is_some table.new ≡ true) }
 {
-    let mut table = EntryTable::new(alloc);
-    table.add(name, number)?;
-    Ok(Box::new(alloc, table)?)
+    if table.is_none() {
+        *table = Some(Box::new(alloc, EntryTable::new(alloc))?);
+    }
+    Ok(())
 }
 
 impl Directory {
@@ -68,12 +71,10 @@ impl Directory {
         ensures ok { OnOk result (self.new ≡ entries_with self.old name.items number) }
         ensures err { OnErr result (self.new ≡ self.old) }
     {
+        make_table(self.alloc, &mut self.table)?;
         match &mut self.table {
             Some(table) => table.add(name, number),
-            None => {
-                self.table = Some(first_entry(self.alloc, name, number)?);
-                Ok(())
-            }
+            None => unreachable!(),
         }
     }
 
