@@ -1,6 +1,6 @@
 //! The entries of a directory, in the order in which they were made. A directory that never had one takes no memory for them.
 
-ghost use Rattle.std.specs.Prelude.{◌≡◌, ◌+◌, ◌*◌, ◌-◌, ◌<◌, ◌≤◌, ◌^◌, [], ◌∷◌, None, drop, length, is_some, true, IfOk, MatchOption, OnOk, OnErr};
+ghost use Rattle.std.specs.Prelude.{◌≡◌, ◌+◌, ◌*◌, ◌-◌, ◌<◌, ◌≤◌, ◌^◌, [], ◌∷◌, None, drop, length, is_some, true, MatchOption, OnOk, OnErr};
 ghost use Rattle.std.specs.Option.{option_map};
 
 use crate::entry_table::{EntryTable, Slot, TableCursor};

@@ -4,7 +4,7 @@ use crate::directory::Directory;
 use crate::file::File;
 use crate::steps::Steps;
 use nr_nfs_base::{Attributes, FileType, SpecialData, Time, Verifier};
-use nr_xdr::{Memory, Octets};
+use nr_xdr::Octets;
 use std::sync::ledger::Ledger;
 
 /// What is kept of each node, whatever it is.
@@ -58,16 +58,12 @@ pub struct Node {
     pub content: Content,
 }
 
-ghost use Rattle.std.specs.Prelude.{◌≡◌, ◌+◌, ◌-◌, ◌*◌, ◌<◌, ◌≤◌, ◌^◌, IsTrue, IfSome, is_some, length, OnOk, OnErr};
-ghost use Rattle.std.specs.Prelude.{if◌then◌else◌, Some, None};
+ghost use Rattle.std.specs.Prelude.{◌≡◌, ◌+◌, ◌-◌, ◌*◌, ◌≤◌, ◌^◌, if◌then◌else◌, None, Some, IfSome, is_some, length};
 ghost use Rattle.nr_tree.specs.Listing.{count_until};
 ghost use Rattle.nr_tree.specs.Pages.{pages_of};
 ghost use Rattle.std.specs.Option.{option_map};
 ghost use Rattle.nr_tree.specs.Entries.{entry_of_name};
-ghost use Rattle.nr_tree.specs.DirectoryGraph.{one_if};
 ghost use Rattle.nr_tree.specs.Tree.{is_dir as is_directory_node, is_regular as is_regular_node, entries_in, type_of, bytes_of, device_of, attributes_of};
-ghost use Rattle.nr_tree.specs.Changes.{node_with_entry, node_without_entry, node_with_link, node_without_link, node_with_bytes, node_with_size, node_with_metadata, node_with_new_name};
-ghost use Rattle.nr_tree.specs.private.Room.{HasRoomFor, HasEntryFor};
 ghost use Rattle.nr_tree.specs.Replies.{size_of};
 
 impl Node {
