@@ -7,9 +7,3 @@ pub mod CanCreate
 pub mod NamesAfter
 pub mod Laws
 pub mod SaneAfter
-pub mod Sizes
-pub mod Counting
-pub mod Rooms
-pub mod ListingLimits
-pub mod Live
-pub mod Written

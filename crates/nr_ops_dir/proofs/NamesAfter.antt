@@ -23,7 +23,7 @@ use Rattle.nr_tree.specs.Sane.{IsSane}
 use Rattle.nr_tree.specs.Steps.{CanAddNode, entries_at}
 use Rattle.nr_tree.specs.Changes.{on_bytes, node_with_size, tree_with_node, tree_with_size}
 use Rattle.nr_tree.specs.Rules.{number_of_handle, handle_of, first, after, answer}
-use Rattle.nr_tree.specs.Replies.{wcc_data}
+use Rattle.nr_tree.specs.Replies.{wcc_data, attributes_of_number}
 use Rattle.nr_tree.proofs.Lists.{set_here_lem, set_other}
 use Rattle.nr_tree.proofs.SkeletonChanges.{value_at_insert, value_at_metadata, with_change_at, new_entry, skeleton_of_node_with_entry}
 use Rattle.nr_tree.proofs.Contents.{directory_at, found_none}
@@ -31,7 +31,6 @@ use Rattle.nr_tree.proofs.StepLemmas.{not_next}
 use Rattle.nr_tree.specs.declared.rules.Space.{Space}
 use Rattle.nr_ops_dir.specs.Entries.{number_of_entry}
 use Rattle.nr_ops_dir.specs.Creation.{create_ok}
-use Rattle.nr_ops_dir.specs.Nodes.{attributes_of_number}
 use Rattle.nr_ops_dir.specs.Create.{size_to_set, tree_with_existing_file, tree_with_file, create_rules, create_reply}
 
 -- what a reply says if the name has a node

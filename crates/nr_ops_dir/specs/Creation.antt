@@ -25,8 +25,7 @@ use Rattle.nr_tree.specs.Tree.{Tree, is_directory}
 use Rattle.nr_nfs_base.specs.Limits.{link_target_max}
 use Rattle.nr_tree.specs.Changes.{tree_with_node}
 use Rattle.nr_tree.specs.Rules.{first, ◌⇒◌, after, answer, number_of_handle, handle_of, handle_rule, space_rule, time_rule, differs_if_given, mode_count, time_after}
-use Rattle.nr_tree.specs.Replies.{wcc_data}
-use Rattle.nr_ops_dir.specs.Nodes.{attributes_of_number}
+use Rattle.nr_tree.specs.Replies.{wcc_data, attributes_of_number}
 use Rattle.nr_ops_dir.specs.Entries.{number_of_entry, is_taken, entry_rules, links_rule}
 
 -- ===== a new node

@@ -1,10 +1,7 @@
-pub mod Nodes
 pub mod Entries
-pub mod Lookup
 pub mod Removal
 pub mod Links
 pub mod Renaming
 pub mod Creation
 pub mod Create
-pub mod Readdir
 pub mod private

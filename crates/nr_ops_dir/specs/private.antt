@@ -1,4 +1,3 @@
 -- Definitions that only private code cites.
 pub mod Removed
-pub mod Sizes
 pub mod Added

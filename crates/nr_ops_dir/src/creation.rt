@@ -6,13 +6,11 @@ ghost use Rattle.nr_tree.specs.declared.node.Content.TheVariants.{Link};
 ghost use Rattle.nr_tree.specs.Steps.{IsBounded, CanAddNode};
 ghost use Rattle.nr_tree.specs.Changes.{tree_with_node};
 ghost use Rattle.nr_tree.specs.Rules.{first, number_of_handle, handle_of as handle_of_number, IsWithinCapacity};
-ghost use Rattle.nr_tree.specs.Replies.{attributes_at as attributes_of_handle};
-ghost use Rattle.nr_ops_dir.specs.Nodes.{attributes_of_number as attributes_by_number};
+ghost use Rattle.nr_tree.specs.Replies.{attributes_at as attributes_of_handle, attributes_of_number as attributes_by_number};
 ghost use Rattle.nr_ops_dir.specs.private.Added.{tree_after_addition, results_of_addition, special_rules, IsSpecial};
 ghost use Rattle.nr_ops_dir.specs.Creation.{nothing_given as no_attributes, owner_rule, new_node as node_of, create_ok as ok_of, new_name_rules, new_directory as directory_of, mkdir_rules, mkdir_tree, mkdir_reply, link_mode, path_rules, symlink_rules, symlink_tree, symlink_reply, special_content as content_of_data, special_attributes as attributes_of_data, is_device as is_device_data, mknod_rules, mknod_tree, mknod_reply};
 
 use crate::entries::{check_entry, check_links, is_taken, live_number};
-use crate::nodes::{attributes_of_number, handle_of};
 use nr_nfs_args::{MkdirArgs, MknodArgs, MknodData, SymlinkArgs};
 use nr_nfs_base::{
     Caller, Handle, LINK_TARGET_MAX, Name, Path, SetAttributes, SetTime, Status, StatusUnion, Time,
@@ -20,8 +18,8 @@ use nr_nfs_base::{
 };
 use nr_nfs_res::{CreateOk, MkdirRes, MknodRes, SymlinkRes};
 use nr_tree::{
-    Content, Directory, MODE_COUNT, Metadata, Node, Space, Tree, check_space, check_times,
-    differs_if_given, refused, time_after, wcc_attributes_at, wcc_data,
+    Content, Directory, MODE_COUNT, Metadata, Node, Space, Tree, attributes_of_number, check_space,
+    check_times, differs_if_given, handle_of, refused, time_after, wcc_attributes_at, wcc_data,
 };
 use nr_xdr::Memory;
 use std::alloc::Global;

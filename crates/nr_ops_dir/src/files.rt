@@ -6,20 +6,18 @@ ghost use Rattle.nr_nfs_args.specs.declared.create.CreateHow.TheVariants.{Unchec
 ghost use Rattle.nr_tree.specs.Sane.{file_size_max};
 ghost use Rattle.nr_tree.specs.Steps.{IsBounded, is_regular_at};
 ghost use Rattle.nr_tree.specs.Rules.{first, number_of_handle, handle_of as handle_of_number, IsWithinCapacity};
-ghost use Rattle.nr_tree.specs.Replies.{wcc_data as wcc_of};
+ghost use Rattle.nr_tree.specs.Replies.{wcc_data as wcc_of, attributes_of_number};
 ghost use Rattle.nr_ops_dir.specs.Entries.{number_of_entry as number_under};
-ghost use Rattle.nr_ops_dir.specs.Nodes.{attributes_of_number};
 ghost use Rattle.nr_ops_dir.specs.Create.{given_attributes as attributes_given, given_verifier as verifier_given, new_file_rules, new_file as file_of, is_made_by as is_made_with, existing_file_rules, size_to_set as size_given, tree_with_existing_file, file_rules, create_rules, create_tree, create_reply};
 
 use crate::creation::{FILE_MODE, add_made, check_owner, create_ok, new_node, nothing_given};
 use crate::entries::{check_entry, number_of_entry};
-use crate::nodes::handle_of;
 use nr_nfs_args::{CreateArgs, CreateHow};
 use nr_nfs_base::{Caller, SetAttributes, Status, StatusUnion, Time, Verifier};
 use nr_nfs_res::CreateRes;
 use nr_tree::{
-    Content, File, Node, Right, Space, Tree, check_size, check_space, check_times, is_dot_name,
-    may, refused, wcc_attributes_at,
+    Content, File, Node, Right, Space, Tree, check_size, check_space, check_times, handle_of,
+    is_dot_name, may, refused, wcc_attributes_at,
 };
 use nr_xdr::Memory;
 use std::alloc::Global;

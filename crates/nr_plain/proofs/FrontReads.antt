@@ -22,7 +22,7 @@ use Rattle.nr_nfs_base.specs.declared.file_type.FileType.{FileType}
 use Rattle.nr_nfs_base.specs.declared.file_type.FileType.TheVariants.{Reg, Dir, Blk, Chr, Lnk, Sock, Fifo}
 use Rattle.nr_nfs_base.specs.declared.fronts.Success.{Success}
 use Rattle.nr_nfs_base.specs.declared.time.Time.{Time}
-use Rattle.nr_ops_dir.proofs.Sizes.{items_size, length_encodings, items_size_append}
+use Rattle.nr_ops_list.proofs.Sizes.{items_size, length_encodings, items_size_append}
 
 pub encodings_append : (xs ys : List Item) → encodings (xs ++ ys) ≡ encodings xs ++ encodings ys
 encodings_append [] ys = refl

@@ -40,7 +40,7 @@ use Rattle.nr_nfs_res.specs.declared.mount.MountOk.{MountOk}
 use Rattle.nr_nfs_res.specs.declared.remove.LinkWcc.{LinkWcc}
 use Rattle.nr_nfs_res.specs.declared.remove.RenameWcc.{RenameWcc}
 use Rattle.nr_tree.specs.Rules.{answer, handle_of}
-use Rattle.nr_ops_dir.proofs.Sizes.{items_size, items_size_append, length_encodings, attributes_size}
+use Rattle.nr_ops_list.proofs.Sizes.{items_size, items_size_append, length_encodings, attributes_size}
 use Rattle.nr_nfs_base.specs.Limits.{handle_max}
 use Rattle.nr_plain.specs.ReplySizes.{HandleFits}
 

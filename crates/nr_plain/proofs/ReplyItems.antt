@@ -35,7 +35,7 @@ use Rattle.nr_nfs_res.specs.declared.lookup.ReadlinkOk.{ReadlinkOk}
 use Rattle.nr_reduce.specs.Items.{item_by, item_at, before_read, before_target, result_item, results_item, results_of, reply_item, reducible_item, from_place, if_ends, ends_with_item}
 use Rattle.nr_reduce.specs.declared.item.Item.{Item}
 use Rattle.nr_reduce.specs.declared.item.Of.TheVariants.{Reply}
-use Rattle.nr_ops_dir.proofs.Sizes.{items_size, items_size_append, length_encodings}
+use Rattle.nr_ops_list.proofs.Sizes.{items_size, items_size_append, length_encodings}
 use Rattle.nr_plain.specs.Replies.{refusal, accepted}
 use Rattle.nr_plain.proofs.FrontReads.{Readable, encodings_append, read_front_readable, readlink_front_readable, failure_unread}
 use Rattle.nr_plain.proofs.Lengths.{some_attributes, failed_size}

@@ -57,11 +57,11 @@ use Rattle.nr_ops_dir.specs.Creation.{create_ok, mkdir_rules, mkdir_tree, symlin
 use Rattle.nr_ops_dir.specs.Create.{create_rules, create_tree}
 use Rattle.nr_ops_dir.specs.Entries.{number_of_entry}
 use Rattle.nr_ops_dir.specs.Links.{link_reply}
-use Rattle.nr_ops_dir.specs.Lookup.{lookup_rules, lookup_ok, found_by}
-use Rattle.nr_ops_dir.specs.Readdir.{longest, room_rules, readdir_ok, readdir_fits, readdir_left, readdir_taken, readdir_in, readdir_rules, readdirplus_ok, readdirplus_fits, readdirplus_left, readdirplus_taken, readdirplus_in, readdirplus_rules}
+use Rattle.nr_ops_list.specs.Lookup.{lookup_rules, lookup_ok, found_by}
+use Rattle.nr_ops_list.specs.Readdir.{longest, room_rules, readdir_ok, readdir_fits, readdir_left, readdir_taken, readdir_in, readdir_rules, readdirplus_ok, readdirplus_fits, readdirplus_left, readdirplus_taken, readdirplus_in, readdirplus_rules}
 use Rattle.nr_ops_dir.specs.Removal.{remove_reply, rmdir_reply}
 use Rattle.nr_ops_dir.specs.Renaming.{rename_reply}
-use Rattle.nr_ops_dir.proofs.Sizes.{items_size, length_encodings, attributes_size, readdir_size, readdirplus_size}
+use Rattle.nr_ops_list.proofs.Sizes.{items_size, length_encodings, attributes_size, readdir_size, readdirplus_size}
 use Rattle.nr_plain.specs.ReplySizes.{HandleFits, results_max}
 use Rattle.nr_plain.specs.Programs.{nfs_results}
 use Rattle.nr_plain.proofs.Lengths.{some_attributes, wcc_size, padded_rises, length_handle, lookup_size, access_size, readlink_size, read_size, write_size, commit_size, create_size, rename_size, link_size, fsstat_size, fsinfo_size, pathconf_size, mount_size, answer_fits, union_fits, done_size, failed_size, mounted_size, not_mounted_size}

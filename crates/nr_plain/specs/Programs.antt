@@ -20,13 +20,13 @@ use Rattle.nr_ops_file.specs.Attributes.{getattr_reply, setattr_tree, setattr_re
 use Rattle.nr_ops_file.specs.Links.{readlink_reply}
 use Rattle.nr_ops_file.specs.Bytes.{read_reply, write_tree, write_reply, commit_reply}
 use Rattle.nr_ops_file.specs.FileSystem.{fsstat_reply, fsinfo_reply, pathconf_reply}
-use Rattle.nr_ops_dir.specs.Lookup.{lookup_reply}
+use Rattle.nr_ops_list.specs.Lookup.{lookup_reply}
 use Rattle.nr_ops_dir.specs.Create.{create_tree, create_reply}
 use Rattle.nr_ops_dir.specs.Creation.{mkdir_tree, mkdir_reply, symlink_tree, symlink_reply, mknod_tree, mknod_reply}
 use Rattle.nr_ops_dir.specs.Removal.{remove_tree, remove_reply, rmdir_tree, rmdir_reply}
 use Rattle.nr_ops_dir.specs.Renaming.{rename_tree, rename_reply}
 use Rattle.nr_ops_dir.specs.Links.{link_tree, link_reply}
-use Rattle.nr_ops_dir.specs.Readdir.{readdir_reply, readdirplus_reply}
+use Rattle.nr_ops_list.specs.Readdir.{readdir_reply, readdirplus_reply}
 
 -- ===== NFS (RFC 1813 section 3.3)
 

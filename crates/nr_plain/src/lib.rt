@@ -12,7 +12,7 @@
 //! ([`replies_begin_with_the_xid`]), how long it may be ([`replies_are_within_their_limit`]), and that it can be sent
 //! ([`changes_fit_every_offer`], [`auto_offers_hold_their_replies`]).
 //!
-//! Below stand the procedures (`nr_ops_file`, `nr_ops_dir`), the heads (`nr_rpc`) and the entries of a journal (`nr_reduce`). Above, the
+//! Below stand the procedures (`nr_ops_file`, `nr_ops_dir`, `nr_ops_list`), the heads (`nr_rpc`) and the entries of a journal (`nr_reduce`). Above, the
 //! server's connections and the drill hand calls in and send replies.
 #![tactic(auto)]
 

@@ -6,8 +6,8 @@ ghost use Rattle.nr_ops_file.specs.Attributes.{getattr_reply, access_reply};
 ghost use Rattle.nr_ops_file.specs.Links.{readlink_reply};
 ghost use Rattle.nr_ops_file.specs.Bytes.{read_reply, commit_reply};
 ghost use Rattle.nr_ops_file.specs.FileSystem.{fsstat_reply, fsinfo_reply, pathconf_reply};
-ghost use Rattle.nr_ops_dir.specs.Lookup.{lookup_reply};
-ghost use Rattle.nr_ops_dir.specs.Readdir.{readdir_reply, readdirplus_reply};
+ghost use Rattle.nr_ops_list.specs.Lookup.{lookup_reply};
+ghost use Rattle.nr_ops_list.specs.Readdir.{readdir_reply, readdirplus_reply};
 ghost use Rattle.nr_nfs_args.specs.Bytes.{read_args_codec};
 ghost use Rattle.nr_nfs_res.specs.Results.{read_res_codec};
 ghost use Rattle.nr_plain.specs.private.Code.{reply_with};
@@ -128,7 +128,7 @@ impl Reading for LookupArgs {
     ghost results = { λ t c space a. lookup_reply t c a };
 
     fn execute(&self, alloc: Global, tree: &Tree, call: &Call) -> Result<LookupRes, Memory> {
-        nr_ops_dir::lookup(alloc, tree, call.caller, self)
+        nr_ops_list::lookup(alloc, tree, call.caller, self)
     }
 }
 
@@ -167,7 +167,7 @@ impl Listing for ReaddirArgs {
         caller: &Caller,
         writer: RoomWriter,
     ) -> Result<RoomWriter, Memory> {
-        nr_ops_dir::readdir(tree, caller, self, writer)
+        nr_ops_list::readdir(tree, caller, self, writer)
     }
 }
 
@@ -186,7 +186,7 @@ impl Listing for ReaddirplusArgs {
         caller: &Caller,
         writer: RoomWriter,
     ) -> Result<RoomWriter, Memory> {
-        nr_ops_dir::readdirplus(tree, caller, self, writer)
+        nr_ops_list::readdirplus(tree, caller, self, writer)
     }
 }
 

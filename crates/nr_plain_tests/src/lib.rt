@@ -13,6 +13,8 @@ mod compare;
 #[cfg(test)]
 mod create_calls;
 #[cfg(test)]
+mod directory_orders;
+#[cfg(test)]
 mod entry_calls;
 #[cfg(test)]
 mod file_calls;

@@ -50,7 +50,7 @@ static DIRECTORY: [Row; 3] = [
 ];
 
 /// A name of four bytes from 40 to 7f, another one for each number below 2^18.
-fn name(number: u32) -> u32 {
+pub fn name(number: u32) -> u32 {
     0x4040_4040 | (number & 0x3f) | ((number << 2) & 0x3f00) | ((number << 4) & 0x3f_0000)
 }
 

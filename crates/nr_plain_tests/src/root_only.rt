@@ -40,7 +40,7 @@ static ROWS: [Row; 5] = [
 ];
 
 /// A server of that tree, with the export `/`.
-fn opened(rt: &impl Abort, alloc: Global) -> Server {
+pub fn opened(rt: &impl Abort, alloc: Global) -> Server {
     let tree = Tree::root_only(alloc, MADE).expect(rt, "memory");
     let export = Octets::from_slice(alloc, b"/").expect(rt, "memory");
     Server::open(tree, 1 << 40, Verifier { number: 1 }, export)

@@ -13,9 +13,9 @@ use Rattle.std.specs.declared.alloc.Global.{Global}
 use Rattle.indexmap.specs.Layout.{set_value_at}
 use Rattle.indexmap.proofs.MapLemmas.{Found-position, Missing-position}
 use Rattle.indexmap.proofs.SetLemmas.{map-swap_remove}
-use Rattle.nr_tree.specs.declared.directory.Slot.{Slot}
+use Rattle.nr_tree.specs.declared.entry_table.Slot.{Slot}
 use Rattle.nr_tree.specs.Entries.{Entry, is_name}
-use Rattle.nr_tree.specs.Slots.{slot_entries, entry_of, no_entry}
+use Rattle.nr_tree.specs.private.Slots.{slot_entries, entry_of, no_entry}
 use Rattle.nr_tree.specs.private.Indexes.{IsIndexOf}
 
 abbrev Key : Type 0

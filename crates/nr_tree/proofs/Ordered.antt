@@ -12,7 +12,7 @@ use Rattle.std.specs.Option.{option_map}
 use Rattle.indexmap.proofs.SetLemmas.{map-remove}
 use Rattle.nr_tree.specs.Entries.{Entry, CookiesAscend, is_name, entry_of_name, list_without}
 use Rattle.nr_tree.specs.Listing.{entries_after, count_until}
-use Rattle.nr_tree.specs.Slots.{no_entry, ordered, IsOrdered}
+use Rattle.nr_tree.specs.private.Slots.{no_entry, ordered, IsOrdered}
 use Rattle.nr_tree.specs.private.Indexes.{IsIndexOf}
 use Rattle.nr_tree.proofs.Contents.{rise_from, found_none, CookiesAscend_append}
 use Rattle.nr_tree.proofs.ListingLemmas.{all_above, cookie_from, listed_or_counted}

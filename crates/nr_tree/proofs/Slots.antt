@@ -5,9 +5,9 @@ use Rattle.std.specs.Map.{lookup}
 use Rattle.std.specs.Cmp.Lexicographic.{pointwise}
 use Rattle.std.specs.declared.vec.Vec.{Vec}
 use Rattle.std.specs.declared.alloc.Global.{Global}
-use Rattle.nr_tree.specs.declared.directory.Slot.{Slot}
+use Rattle.nr_tree.specs.declared.entry_table.Slot.{Slot}
 use Rattle.nr_tree.specs.Entries.{Entry, entry_of_name}
-use Rattle.nr_tree.specs.Slots.{slot_entries, entry_of}
+use Rattle.nr_tree.specs.private.Slots.{slot_entries, entry_of}
 
 either : (b : Bool) (e : Entry) (s : Slot) (x : Option Entry) (y : Option Slot) → e.number ≡ s.number → option_map (λ (i : Entry). i.number) x ≡ option_map (λ (i : Slot). i.number) y
     → option_map (λ (i : Entry). i.number) (cond b (Some e) x) ≡ option_map (λ (i : Slot). i.number) (cond b (Some s) y)

@@ -15,6 +15,10 @@ pub record Entries : Type 0 where
   pub next_cookie : ℕ
   pub list : List Entry
 
+-- those of a directory that never had one
+abbrev pub no_entries : Entries
+no_entries = record { next_cookie = 1; list = [] }
+
 abbrev pub entry_code : Coded Entry
 entry_code =
     code_by (ℕ × (List ℕ × ℕ)) (coded× coded_ℕ (coded× (coded_list coded_ℕ) coded_ℕ)) (λ e. (e.cookie, (e.name, e.number)))

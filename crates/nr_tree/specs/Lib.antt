@@ -1,6 +1,5 @@
 pub mod Bytes
 pub mod Entries
-pub mod Slots
 pub mod DirectoryGraph
 pub mod Tree
 pub mod Code

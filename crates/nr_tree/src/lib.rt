@@ -14,7 +14,9 @@
 mod ancestry;
 mod directory;
 mod drill;
+mod entry_table;
 mod file;
+mod kept_node;
 mod node;
 mod nodes;
 mod order;
@@ -26,10 +28,13 @@ mod table;
 mod tree;
 
 pub use ancestry::walks_find_ancestors;
-pub use directory::{Directory, EntryCursor, Slot};
+pub use directory::{Directory, EntryCursor};
+pub use entry_table::Slot;
 pub use file::File;
 pub use node::{Content, Metadata, Node};
-pub use replies::{attributes_at, refused, wcc_attributes_at, wcc_data};
+pub use replies::{
+    attributes_at, attributes_of_number, handle_of, refused, wcc_attributes_at, wcc_data,
+};
 pub use rules::{
     ENTRY_COST, FILE_SIZE_MAX, LINKS_MAX, MODE_COUNT, Right, Space, check_changeable, check_name,
     check_size, check_space, check_times, differs_if_given, handle_number, is_dot, is_dot_dot,

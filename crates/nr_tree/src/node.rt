@@ -4,7 +4,7 @@ use crate::directory::Directory;
 use crate::file::File;
 use crate::steps::Steps;
 use nr_nfs_base::{Attributes, FileType, SpecialData, Time, Verifier};
-use nr_xdr::{Memory, Octets};
+use nr_xdr::Octets;
 use std::sync::ledger::Ledger;
 
 /// What is kept of each node, whatever it is.
@@ -58,16 +58,12 @@ pub struct Node {
     pub content: Content,
 }
 
-ghost use Rattle.std.specs.Prelude.{◌≡◌, ◌+◌, ◌-◌, ◌*◌, ◌<◌, ◌≤◌, ◌^◌, IsTrue, IfSome, is_some, length, OnOk, OnErr};
-ghost use Rattle.std.specs.Prelude.{if◌then◌else◌, Some, None};
+ghost use Rattle.std.specs.Prelude.{◌≡◌, ◌+◌, ◌-◌, ◌*◌, ◌≤◌, ◌^◌, if◌then◌else◌, None, Some, IfSome, is_some, length};
 ghost use Rattle.nr_tree.specs.Listing.{count_until};
 ghost use Rattle.nr_tree.specs.Pages.{pages_of};
 ghost use Rattle.std.specs.Option.{option_map};
 ghost use Rattle.nr_tree.specs.Entries.{entry_of_name};
-ghost use Rattle.nr_tree.specs.DirectoryGraph.{one_if};
 ghost use Rattle.nr_tree.specs.Tree.{is_dir as is_directory_node, is_regular as is_regular_node, entries_in, type_of, bytes_of, device_of, attributes_of};
-ghost use Rattle.nr_tree.specs.Changes.{node_with_entry, node_without_entry, node_with_link, node_without_link, node_with_bytes, node_with_size, node_with_metadata, node_with_new_name};
-ghost use Rattle.nr_tree.specs.private.Room.{HasRoomFor, HasEntryFor};
 ghost use Rattle.nr_tree.specs.Replies.{size_of};
 
 impl Node {
@@ -83,129 +79,6 @@ impl Node {
         ensures { result ≡ is_regular_node self.now }
     {
         matches!(self.content, Content::Regular(_))
-    }
-
-    /// One more entry, put last, in a directory that is changed now. After an `Err` the node is as before.
-    pub(crate) fn add_entry(
-        &mut self,
-        name: Vec<u8>,
-        number: u64,
-        is_subdirectory: bool,
-        now: Time,
-    ) -> Result<(), Memory>
-        requires { HasRoomFor name.items self.old }
-        ensures ok { OnOk result (self.new ≡ node_with_entry now name.items number is_subdirectory self.old) }
-        ensures err { OnErr result (self.new ≡ self.old) }
-    {
-        match &mut self.content {
-            Content::Directory(entries) => entries.add(name, number)?,
-            _ => unreachable!(),
-        }
-        self.metadata.links += is_subdirectory as u32;
-        self.metadata.mtime = now;
-        self.metadata.ctime = now;
-        Ok(())
-    }
-
-    /// One entry less in a directory that is changed now. Takes no memory.
-    pub(crate) fn remove_entry(&mut self, name: &[u8], is_subdirectory: bool, now: Time)
-        requires is { IsTrue (is_directory_node self.old) }
-        requires counted { one_if is_subdirectory ≤ self.old.metadata.links }
-        ensures { self.new ≡ node_without_entry now name.now is_subdirectory self.old }
-    {
-        match &mut self.content {
-            Content::Directory(entries) => entries.remove(name),
-            _ => unreachable!(),
-        }
-        self.metadata.links -= is_subdirectory as u32;
-        self.metadata.mtime = now;
-        self.metadata.ctime = now;
-    }
-
-    /// The entry of a name taken out and one for another node put last, in a directory that is changed now. It cannot fail.
-    pub(crate) fn replace_entry(
-        &mut self,
-        name: Vec<u8>,
-        number: u64,
-        was_subdirectory: bool,
-        is_subdirectory: bool,
-        now: Time,
-    )
-        requires { HasEntryFor name.items was_subdirectory self.old }
-        ensures { self.new ≡ node_with_entry now name.items number is_subdirectory (node_without_entry now name.items was_subdirectory self.old) }
-    {
-        match &mut self.content {
-            Content::Directory(entries) => entries.replace(name, number),
-            _ => unreachable!(),
-        }
-        self.metadata.links = self.metadata.links - was_subdirectory as u32
-            + is_subdirectory as u32;
-        self.metadata.mtime = now;
-        self.metadata.ctime = now;
-    }
-
-    /// A node under another name, in this directory. Takes no memory.
-    pub(crate) fn set_parent(&mut self, dir: u64, now: Time)
-        ensures { self.new ≡ node_with_new_name now dir self.old }
-    {
-        self.parent = dir;
-        self.metadata.ctime = now;
-    }
-
-    /// A file with one link less. Takes no memory.
-    pub(crate) fn remove_link(&mut self, now: Time)
-        requires { 0 < self.old.metadata.links }
-        ensures { self.new ≡ node_without_link now self.old }
-    {
-        self.metadata.links -= 1;
-        self.metadata.ctime = now;
-    }
-
-    /// A file with one link more, from this directory.
-    pub(crate) fn add_link(&mut self, dir: u64, now: Time)
-        requires { self.old.metadata.links < 2 ^ 31 }
-        ensures { self.new ≡ node_with_link now dir self.old }
-    {
-        self.parent = dir;
-        self.metadata.links += 1;
-        self.metadata.ctime = now;
-    }
-
-    /// The same node with other attributes. Takes no memory.
-    pub(crate) fn set_metadata(&mut self, metadata: Metadata)
-        ensures { self.new ≡ node_with_metadata metadata self.old }
-    {
-        self.metadata = metadata;
-    }
-
-    /// Writes over the bytes of a regular file from an offset on. After an `Err` the node is as before.
-    pub(crate) fn write(&mut self, offset: u64, bytes: &[u8], now: Time) -> Result<(), Memory>
-        requires regular { IsTrue (is_regular_node self.old) }
-        requires room { offset + length bytes.now < 2 ^ 62 }
-        ensures ok { OnOk result (self.new ≡ node_with_bytes now offset bytes.now self.old) }
-        ensures err { OnErr result (self.new ≡ self.old) }
-    {
-        match &mut self.content {
-            Content::Regular(file) => file.write(offset, bytes)?,
-            _ => unreachable!(),
-        }
-        self.metadata.mtime = now;
-        self.metadata.ctime = now;
-        Ok(())
-    }
-
-    /// Cuts a regular file, or adds zeros. Takes no memory.
-    pub(crate) fn set_size(&mut self, size: u64, now: Time)
-        requires regular { IsTrue (is_regular_node self.old) }
-        requires room { size < 2 ^ 62 }
-        ensures { self.new ≡ node_with_size now size self.old }
-    {
-        match &mut self.content {
-            Content::Regular(file) => file.set_len(size),
-            _ => unreachable!(),
-        }
-        self.metadata.mtime = now;
-        self.metadata.ctime = now;
     }
 
     /// The number that a directory has under a name.

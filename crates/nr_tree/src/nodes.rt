@@ -13,39 +13,48 @@ ghost use Rattle.nr_tree.specs.Tree.{entries_in};
 ghost use Rattle.std.specs.Prelude.{[]};
 ghost use Rattle.std.specs.Option.{option_map};
 
+use crate::kept_node::KeptNode;
 use crate::node::{Metadata, Node};
 use nr_nfs_base::Time;
 use nr_xdr::Memory;
-use std::alloc::AllocError;
+use std::alloc::{AllocError, Global};
 use std::collections::BTreeMap;
 
+/// The nodes by number.
+pub(crate) type Nodes = BTreeMap<u64, KeptNode>;
+
 #[tactic(auto, using(crate::proofs::NodeMaps::get_node))]
-pub(crate) fn find(nodes: &BTreeMap<u64, Node>, number: u64) -> Option<&Node>
+pub(crate) fn find(nodes: &Nodes, number: u64) -> Option<&Node>
     ensures { option_copied result ≡ map.get (nodes_of nodes.now.entries) number }
 {
-    nodes.get(&number)
+    match nodes.get(&number) {
+        Some(kept) => Some(kept.get()),
+        None => None,
+    }
 }
 
 pub(crate) fn insert(
-    nodes: &mut BTreeMap<u64, Node>,
+    alloc: Global,
+    nodes: &mut Nodes,
     number: u64,
     node: Node,
 ) -> Result<(), AllocError>
     ensures ok { OnOk result (nodes_of nodes.new.entries ≡ map.insert (nodes_of nodes.old.entries) number node) }
     ensures err { OnErr result (nodes_of nodes.new.entries ≡ nodes_of nodes.old.entries) }
 {
-    nodes.insert(number, node)?;
+    let kept = KeptNode::new(alloc, node)?;
+    nodes.insert(number, kept)?;
     Ok(())
 }
 
-pub(crate) fn remove(nodes: &mut BTreeMap<u64, Node>, number: u64)
+pub(crate) fn remove(nodes: &mut Nodes, number: u64)
     ensures { nodes_of nodes.new.entries ≡ map.remove (nodes_of nodes.old.entries) number }
 {
     nodes.remove(&number);
 }
 
 pub(crate) fn add_entry_to(
-    nodes: &mut BTreeMap<u64, Node>,
+    nodes: &mut Nodes,
     dir: u64,
     name: Vec<u8>,
     number: u64,
@@ -64,7 +73,8 @@ pub(crate) fn add_entry_to(
 
 /// The node and its entry, or neither.
 pub(crate) fn insert_with_entry(
-    nodes: &mut BTreeMap<u64, Node>,
+    alloc: Global,
+    nodes: &mut Nodes,
     number: u64,
     node: Node,
     dir: u64,
@@ -78,7 +88,7 @@ pub(crate) fn insert_with_entry(
     ensures err { OnErr result (nodes_of nodes.new.entries ≡ nodes_of nodes.old.entries) }
 {
     let is_subdirectory = node.is_dir();
-    insert(nodes, number, node)?;
+    insert(alloc, nodes, number, node)?;
     match add_entry_to(nodes, dir, name, number, is_subdirectory, now) {
         Ok(()) => Ok(()),
         Err(e) => {
@@ -89,7 +99,7 @@ pub(crate) fn insert_with_entry(
 }
 
 #[tactic(auto, using(crate::proofs::NodeMaps::get_node))]
-pub(crate) fn is_dir_at(nodes: &BTreeMap<u64, Node>, number: u64) -> bool
+pub(crate) fn is_dir_at(nodes: &Nodes, number: u64) -> bool
     ensures { result ≡ value_at is_directory_node false (nodes_of nodes.now.entries) number }
 {
     match find(nodes, number) {
@@ -99,7 +109,7 @@ pub(crate) fn is_dir_at(nodes: &BTreeMap<u64, Node>, number: u64) -> bool
 }
 
 pub(crate) fn remove_entry_from(
-    nodes: &mut BTreeMap<u64, Node>,
+    nodes: &mut Nodes,
     dir: u64,
     name: &[u8],
     is_subdirectory: bool,
@@ -115,7 +125,7 @@ pub(crate) fn remove_entry_from(
 }
 
 /// A file with one link less.
-pub(crate) fn drop_link_of(nodes: &mut BTreeMap<u64, Node>, number: u64, now: Time)
+pub(crate) fn drop_link_of(nodes: &mut Nodes, number: u64, now: Time)
     requires { IfSome (map.get (nodes_of nodes.old.entries) number) (λ n. 0 < n.metadata.links) }
     ensures { nodes_of nodes.new.entries ≡ nodes_with_change (nodes_of nodes.old.entries) number (node_without_link now) }
 {
@@ -126,7 +136,7 @@ pub(crate) fn drop_link_of(nodes: &mut BTreeMap<u64, Node>, number: u64, now: Ti
 }
 
 /// A node whose entry is gone: a directory goes, a file with its last link.
-pub(crate) fn drop_name_of(nodes: &mut BTreeMap<u64, Node>, number: u64, now: Time)
+pub(crate) fn drop_name_of(nodes: &mut Nodes, number: u64, now: Time)
     requires { IfSome (map.get (nodes_of nodes.old.entries) number) (λ n. 0 < n.metadata.links) }
     ensures { nodes_of nodes.new.entries ≡ nodes_with_name_dropped (nodes_of nodes.old.entries) now number }
 {
@@ -142,7 +152,7 @@ pub(crate) fn drop_name_of(nodes: &mut BTreeMap<u64, Node>, number: u64, now: Ti
 }
 
 pub(crate) fn write_node(
-    nodes: &mut BTreeMap<u64, Node>,
+    nodes: &mut Nodes,
     number: u64,
     offset: u64,
     bytes: &[u8],
@@ -159,7 +169,7 @@ pub(crate) fn write_node(
     }
 }
 
-pub(crate) fn size_node(nodes: &mut BTreeMap<u64, Node>, number: u64, size: u64, now: Time)
+pub(crate) fn size_node(nodes: &mut Nodes, number: u64, size: u64, now: Time)
     requires regular { IfSome (map.get (nodes_of nodes.old.entries) number) (λ n. IsTrue (is_regular_node n)) }
     requires room { size < 2 ^ 62 }
     ensures { nodes_of nodes.new.entries ≡ nodes_with_change (nodes_of nodes.old.entries) number (node_with_size now size) }
@@ -171,7 +181,7 @@ pub(crate) fn size_node(nodes: &mut BTreeMap<u64, Node>, number: u64, size: u64,
 }
 
 /// A file with one link more, from this directory.
-pub(crate) fn add_link_to(nodes: &mut BTreeMap<u64, Node>, number: u64, dir: u64, now: Time)
+pub(crate) fn add_link_to(nodes: &mut Nodes, number: u64, dir: u64, now: Time)
     requires { IfSome (map.get (nodes_of nodes.old.entries) number) (λ n. n.metadata.links < 2 ^ 31) }
     ensures { nodes_of nodes.new.entries ≡ nodes_with_change (nodes_of nodes.old.entries) number (node_with_link now dir) }
 {
@@ -181,7 +191,7 @@ pub(crate) fn add_link_to(nodes: &mut BTreeMap<u64, Node>, number: u64, dir: u64
     }
 }
 
-pub(crate) fn set_metadata_of(nodes: &mut BTreeMap<u64, Node>, number: u64, metadata: Metadata)
+pub(crate) fn set_metadata_of(nodes: &mut Nodes, number: u64, metadata: Metadata)
     ensures { nodes_of nodes.new.entries ≡ nodes_with_change (nodes_of nodes.old.entries) number (node_with_metadata metadata) }
 {
     match nodes.get_mut(&number) {
@@ -191,7 +201,7 @@ pub(crate) fn set_metadata_of(nodes: &mut BTreeMap<u64, Node>, number: u64, meta
 }
 
 pub(crate) fn replace_entry_in(
-    nodes: &mut BTreeMap<u64, Node>,
+    nodes: &mut Nodes,
     dir: u64,
     name: Vec<u8>,
     number: u64,
@@ -208,7 +218,7 @@ pub(crate) fn replace_entry_in(
     }
 }
 
-pub(crate) fn set_parent_of(nodes: &mut BTreeMap<u64, Node>, number: u64, dir: u64, now: Time)
+pub(crate) fn set_parent_of(nodes: &mut Nodes, number: u64, dir: u64, now: Time)
     ensures { nodes_of nodes.new.entries ≡ nodes_with_change (nodes_of nodes.old.entries) number (node_with_new_name now dir) }
 {
     match nodes.get_mut(&number) {
@@ -219,7 +229,7 @@ pub(crate) fn set_parent_of(nodes: &mut BTreeMap<u64, Node>, number: u64, dir: u
 
 /// The number that a directory has under a name.
 #[tactic(auto, using(crate::proofs::NodeMaps::get_node))]
-pub(crate) fn number_in(nodes: &BTreeMap<u64, Node>, dir: u64, name: &[u8]) -> Option<u64>
+pub(crate) fn number_in(nodes: &Nodes, dir: u64, name: &[u8]) -> Option<u64>
     ensures { result ≡ option_map (λ e. e.number) (entry_of_name name.now (value_at entries_in [] (nodes_of nodes.now.entries) dir)) }
 {
     match find(nodes, dir) {
@@ -240,7 +250,7 @@ pub(crate) struct Renaming {
 
 /// A new name that is free. The new entry is put first, since only that takes memory.
 pub(crate) fn rename_to_free(
-    nodes: &mut BTreeMap<u64, Node>,
+    nodes: &mut Nodes,
     step: Renaming,
     name: &[u8],
     name_to: Vec<u8>,
@@ -265,7 +275,7 @@ pub(crate) fn rename_to_free(
 
 /// A new name that another node has: its entry goes, and its link or itself. It cannot fail.
 pub(crate) fn rename_over(
-    nodes: &mut BTreeMap<u64, Node>,
+    nodes: &mut Nodes,
     step: Renaming,
     name: &[u8],
     name_to: Vec<u8>,

@@ -10,7 +10,7 @@ use std::marker::Model;
 use std::mem::replace;
 
 /// The maximum number of indexes in a block.
-const BLOCK_MAX: usize = 4096;
+const BLOCK_MAX: usize = 2048;
 
 /// Indexes that follow each other.
 #[derive(Drop)]

@@ -1,23 +1,40 @@
-//! What replies say of nodes (RFC 1813 section 2.5, `post_op_attr` and `wcc_data`). Nothing here takes memory.
+//! What replies say of nodes (RFC 1813 section 2.5, `post_op_attr`, `post_op_fh3` and `wcc_data`). A handle alone takes memory.
 
-ghost use Rattle.std.specs.Prelude.{◌≡◌};
+ghost use Rattle.std.specs.Prelude.{◌≡◌, IfOk};
 ghost use Rattle.nr_nfs_base.specs.declared.status_union.StatusUnion.TheVariants.{Failed};
-ghost use Rattle.nr_tree.specs.Replies.{attributes_at as attributes_of_handle, wcc_attributes_of, wcc_attributes_at as wcc_attributes_of_handle, wcc_data as wcc_of};
+ghost use Rattle.nr_tree.specs.Rules.{handle_of as handle_of_number};
+ghost use Rattle.nr_tree.specs.Replies.{attributes_of_number as attributes_by_number, attributes_at as attributes_of_handle, wcc_attributes_of, wcc_attributes_at as wcc_attributes_of_handle, wcc_data as wcc_of};
 
 use crate::node::Node;
 use crate::rules::handle_number;
 use crate::tree::Tree;
-use nr_nfs_base::{Attributes, Status, StatusUnion, WccAttributes, WccData};
+use nr_nfs_base::{Attributes, Handle, Status, StatusUnion, WccAttributes, WccData};
+use nr_xdr::Memory;
+use std::alloc::Global;
+
+/// The handle of a number: its eight bytes, the highest first.
+pub fn handle_of(alloc: Global, number: u64) -> Result<Handle, Memory>
+    ensures { IfOk result (λ h. h ≡ handle_of_number number) }
+{
+    Handle::from_slice(alloc, &number.to_be_bytes())
+}
+
+/// The attributes of the node under a number, if it is live.
+pub fn attributes_of_number(tree: &Tree, number: u64) -> Option<Attributes>
+    ensures { result ≡ attributes_by_number tree.now number }
+{
+    match tree.get(number) {
+        Some(node) => Some(node.attributes(number)),
+        None => None,
+    }
+}
 
 /// The attributes of the node that a handle names, if it is live.
 pub fn attributes_at(tree: &Tree, handle: &[u8]) -> Option<Attributes>
     ensures { result ≡ attributes_of_handle tree.now handle.now }
 {
     match handle_number(handle) {
-        Some(number) => match tree.get(number) {
-            Some(node) => Some(node.attributes(number)),
-            None => None,
-        },
+        Some(number) => attributes_of_number(tree, number),
         None => None,
     }
 }

@@ -8,9 +8,9 @@ ghost use Rattle.std.specs.FinMap as map;
 use crate::directory::Directory;
 use crate::node::{Content, Metadata, Node};
 use crate::nodes::{
-    Renaming, add_entry_to, add_link_to, drop_name_of, find, insert, insert_with_entry, is_dir_at,
-    number_in, remove_entry_from, rename_over, rename_to_free, set_metadata_of, size_node,
-    write_node,
+    Nodes, Renaming, add_entry_to, add_link_to, drop_name_of, find, insert, insert_with_entry,
+    is_dir_at, number_in, remove_entry_from, rename_over, rename_to_free, set_metadata_of,
+    size_node, write_node,
 };
 use nr_nfs_base::Time;
 use nr_xdr::Memory;
@@ -21,8 +21,9 @@ use std::marker::Model;
 /// The nodes by number, and the next number.
 #[derive(Drop)]
 pub(crate) struct NodeTable {
+    alloc: Global,
     next: u64,
-    nodes: BTreeMap<u64, Node>,
+    nodes: Nodes,
 }
 
 impl Model for NodeTable {
@@ -50,8 +51,12 @@ impl NodeTable {
         ensures { IfOk result (λ t. t ≡ root_alone now) }
     {
         let mut nodes = BTreeMap::new(alloc);
-        insert(&mut nodes, 1, root_node(alloc, now))?;
-        Ok(NodeTable { next: 2, nodes })
+        insert(alloc, &mut nodes, 1, root_node(alloc, now))?;
+        Ok(NodeTable {
+            alloc,
+            next: 2,
+            nodes,
+        })
     }
 
     /// The node under a number.
@@ -85,7 +90,7 @@ impl NodeTable {
         ensures err { OnErr result (self.new ≡ self.old) }
     {
         let number = self.next;
-        insert_with_entry(&mut self.nodes, number, node, dir, name, now)?;
+        insert_with_entry(self.alloc, &mut self.nodes, number, node, dir, name, now)?;
         self.next += 1;
         Ok(number)
     }

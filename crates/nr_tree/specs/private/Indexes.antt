@@ -1,7 +1,7 @@
 -- Indexes of slots, and changes of their order.
 use Rattle.std.specs.Prelude.{ℕ, ◌≡◌, ◌<◌, ◌++◌, true, false, List, [], ◌∷◌, Option, None, Some, length, remove, slice_index, slice_index_or}
 use Rattle.nr_tree.specs.Entries.{Entry, is_name}
-use Rattle.nr_tree.specs.Slots.{no_entry, ordered}
+use Rattle.nr_tree.specs.private.Slots.{no_entry, ordered}
 
 -- the one slot under the name has the index; or none is under it
 abbrev pub IsIndexOf : List Entry → List ℕ → Option ℕ → Type 0

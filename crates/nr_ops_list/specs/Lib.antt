@@ -1,0 +1,3 @@
+pub mod Lookup
+pub mod Readdir
+pub mod private
