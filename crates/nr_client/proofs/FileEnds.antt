@@ -7,6 +7,7 @@ use Rattle.std.proofs.KnownBytes.{Appends-nil, Appends-trans}
 use Rattle.std.specs.Io.KnownBytes.{Appends}
 use Rattle.nr_nfs_base.specs.declared.attributes.Attributes.{Attributes}
 use Rattle.nr_nfs_res.specs.declared.bytes.ReadOk.{ReadOk}
+use Rattle.nr_reduce.specs.declared.call.Call.{Call}
 use Rattle.nr_reduce.specs.declared.call.Outcome.{Outcome}
 use Rattle.nr_requester.specs.RequesterState.{RequesterSide}
 use Rattle.nr_client.specs.declared.client_end.ClientEnd.{ClientEnd}
@@ -199,6 +200,37 @@ alone_fails uid gid file size at end count from xids outcome why first t u v b c
       same = xids_from uid gid file size from xids;
       ends = ends_data uid gid file size at count so_far.bytes so_far.outcomes outcome waiting why t u v c i same so_far.state so_far.appends gives;
     }
+
+pub forgotten_from : (uid gid : ℕ) (file : List ℕ) (size at next : ℕ) (xid : ℕ) (xs xids : List ℕ) (end : CallEnd) (first : ReadingAt) (t u : Option (List ℕ)) (b c : LinkBytes) (h i : RequesterSide)
+    → xs ≡ xid ∷ xids → at < size → ReadsAhead h size at next xs → IsFull size next xs h → Forgets xid end b c h i → LinkCause end c.left c.read i
+    → ReadSoFar uid gid file size first t at at xs b h u → HasEnded uid gid file first t xids c i u (Err (client.Link end))
+forgotten_from uid gid file size at next xid xs xids end first t u b c h i is below ahead full forgets cause so_far =
+    oldest_forgotten uid gid file size at next xid xids end first t u b c h i below
+    (subst (λ (l : List ℕ). ReadsAhead h size at next l) is ahead) (subst (λ (l : List ℕ). IsFull size next l h) is full) forgets cause
+    (subst (λ (l : List ℕ). ReadSoFar uid gid file size first t at at l b h u) is so_far)
+
+pub fails_from : (uid gid : ℕ) (file : List ℕ) (size at next count : ℕ) (xid : ℕ) (xs xids : List ℕ) (outcome : Outcome) (why : ClientEnd) (first : ReadingAt) (t u v : Option (List ℕ)) (b c : LinkBytes) (h i : RequesterSide)
+    → xs ≡ xid ∷ xids → at < size → ReadsAhead h size at next xs → IsFull size next xs h → count ≡ piece_left size at → Completes xid outcome b c h i → GivesNone count outcome why u v
+    → ReadSoFar uid gid file size first t at at xs b h u → HasEnded uid gid file first t xids c i v (Err why)
+fails_from uid gid file size at next count xid xs xids outcome why first t u v b c h i is below ahead full same completes gives so_far =
+    oldest_fails uid gid file size at next count xid xids outcome why first t u v b c h i below
+    (subst (λ (l : List ℕ). ReadsAhead h size at next l) is ahead) (subst (λ (l : List ℕ). IsFull size next l h) is full) same completes gives
+    (subst (λ (l : List ℕ). ReadSoFar uid gid file size first t at at l b h u) is so_far)
+
+pub not_submitted_from : (uid gid : ℕ) (file : List ℕ) (size at next count : ℕ) (xids ys : List ℕ) (call : Call) (end : CallEnd) (first : ReadingAt) (t u : Option (List ℕ)) (b c : LinkBytes) (h i : RequesterSide)
+    → ys ≡ xids → call ≡ read_call uid gid file next count → count ≡ piece_left size next → at < size → ReadsAhead h size at next xids → MayAsk size next xids h
+    → RefusesToSubmit b c h i call end → IsCause end c.left c.read i call
+    → ReadSoFar uid gid file size first t at at xids b h u → HasEnded uid gid file first t ys c i u (Err (client.Link end))
+not_submitted_from uid gid file size at next count xids ys call end first t u b c h i all is same below ahead may refuses cause so_far =
+    let asked : call ≡ read_call uid gid file next (piece_left size next) = is ∙ ap (read_call uid gid file next) same in
+    subst (λ (l : List ℕ). HasEnded uid gid file first t l c i u (Err (client.Link end))) (sym all)
+    (not_submitted uid gid file size at next xids end first t u b c h i below ahead may
+    (subst (λ (a : Call). RefusesToSubmit b c h i a end) asked refuses) (subst (λ (a : Call). IsCause end c.left c.read i a) asked cause) so_far)
+
+pub out_before_from : (uid gid : ℕ) (file : List ℕ) (size at from : ℕ) (xids ys : List ℕ) (first : ReadingAt) (t u : Option (List ℕ)) (b : LinkBytes) (h : RequesterSide)
+    → ys ≡ xids → ReadSoFar uid gid file size first t at from xids b h u → HasEnded uid gid file first t ys b h u (Err client.Memory)
+out_before_from uid gid file size at from xids ys first t u b h all so_far =
+    subst (λ (l : List ℕ). HasEnded uid gid file first t l b h u (Err client.Memory)) (sym all) (out_before uid gid file size at from xids first t u b h so_far)
 
 -- ---- All of it
 

@@ -7,7 +7,7 @@ use Rattle.nr_reduce.specs.declared.call.Call.{Call}
 use Rattle.nr_requester.specs.RequesterState.{RequesterSide}
 use Rattle.nr_client.specs.Reading.{FileRead, OpenRead, is_at_piece, offset_ahead, piece_left, read_ahead, read_call, xids_of}
 use Rattle.nr_client.specs.Reading.FileRead.{SizeKnown}
-use Rattle.nr_client.specs.private.OpenReads.{IsAtPiece, IsFull, IsInPiece, ReadsAhead, next_offset, reads_from}
+use Rattle.nr_client.specs.private.OpenReads.{AreOpen, IsAtPiece, IsFull, IsInPiece, ReadsAhead, next_offset, reads_from}
 
 -- ---- Offsets within a piece
 
@@ -118,3 +118,14 @@ pub some_ahead : (h i : RequesterSide) (size at next : ℕ) (xids : List ℕ) �
 some_ahead h i size at next [] below ahead (inl above) = absurd (let is = ahead.next_is in omega (arith, below, above, is))
 some_ahead h i size at next (xid ∷ xids) below ahead (inl above) = omega arith
 some_ahead h i size at next xids below ahead (inr (some, rest)) = some
+
+-- after a piece READs of the later ones are outstanding
+pub piece_done : (h i : RequesterSide) (size at at' count next : ℕ) (xids ys : List ℕ) → at < size → at' ≡ at + count → count ≡ piece_left size at
+    → next_offset size (at + piece_left size at) ys ≡ next_offset size at xids → ReadsAhead h size at next xids → AreOpen i.state ys → ReadsAhead i size at' next ys
+piece_done h i size at at' count next xids ys below goes same moves ahead are =
+    let ends : at + piece_left size at ≡ at' = ap (λ (n : ℕ). at + n) (sym same) ∙ sym goes in
+    record {
+      piece = subst (λ (k : ℕ). IsAtPiece size k) ends (at_next_piece size at below ahead.piece);
+      next_is = ahead.next_is ∙ sym moves ∙ ap (λ (k : ℕ). next_offset size k ys) ends;
+      open_all = are;
+    }

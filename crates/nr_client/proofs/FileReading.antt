@@ -8,6 +8,7 @@ use Rattle.nr_nfs_base.specs.declared.attributes.Attributes.{Attributes}
 use Rattle.nr_nfs_res.specs.declared.bytes.ReadOk.{ReadOk}
 use Rattle.nr_reduce.specs.declared.call.Call.{Call}
 use Rattle.nr_reduce.specs.declared.call.Outcome.{Outcome}
+use Rattle.nr_requester.specs.OpenCalls.{OpensTicket}
 use Rattle.nr_requester.specs.RequesterState.{RequesterSide}
 use Rattle.nr_client.specs.declared.client_end.ClientEnd.{ClientEnd}
 use Rattle.nr_client.specs.declared.client_end.ClientEnd.TheVariants as client
@@ -21,7 +22,8 @@ use Rattle.nr_client.specs.Requests.{Asks, getattr_call, getattr_result}
 use Rattle.nr_client.specs.Steps.{HasCreditLeft}
 use Rattle.nr_client.specs.Transfers.{LinkBytes}
 use Rattle.nr_client.specs.private.OpenReads.{GivesData, IsAtPiece, IsFull, IsInPiece, MayAsk, ReadSoFar, ReadsAhead, next_offset, reads_from}
-use Rattle.nr_client.proofs.FilePieces.{asks_next, asks_none, not_at_piece, now_at_piece, reads_with_last}
+use Rattle.nr_client.proofs.FilePieces.{asks_next, asks_none, next_after_last, not_at_piece, now_at_piece, reads_with_last}
+use Rattle.nr_client.proofs.Tickets.{open_with_last}
 
 -- a moment of it
 abbrev pub moment : List Outcome → List OpenRead → LinkBytes → RequesterSide → ReadingAt
@@ -155,3 +157,38 @@ alone_more uid gid file size at at' end count step from xids outcome first t u v
       state = data_came size at at' count step so_far.bytes so_far.outcomes outcome results so_far.state same goes reads is;
       appends = Appends-trans t u v so_far.bytes results.bytes so_far.appends appends;
     }
+
+pub taken_from : (uid gid : ℕ) (file : List ℕ) (size at at' next count step : ℕ) (xid : ℕ) (xs xids : List ℕ) (outcome : Outcome) (first : ReadingAt) (t u v : Option (List ℕ)) (b c : LinkBytes) (h i : RequesterSide)
+    → xs ≡ xid ∷ xids → at < size → ReadsAhead h size at next xs → IsFull size next xs h → count ≡ piece_left size at → at' ≡ at + step
+    → Completes xid outcome b c h i → GivesData count outcome step u v
+    → ReadSoFar uid gid file size first t at at xs b h u → ReadSoFar uid gid file size first t at' (at + piece_left size at) xids c i v
+taken_from uid gid file size at at' next count step xid xs xids outcome first t u v b c h i is below ahead full same goes completes gives so_far =
+    taken_more uid gid file size at at' next count step xid xids outcome first t u v b c h i below
+    (subst (λ (l : List ℕ). ReadsAhead h size at next l) is ahead) (subst (λ (l : List ℕ). IsFull size next l h) is full) same goes completes gives
+    (subst (λ (l : List ℕ). ReadSoFar uid gid file size first t at at l b h u) is so_far)
+
+-- ---- A READ that was submitted, by the call and the tickets
+
+call_is : (uid gid : ℕ) (file : List ℕ) (size next count : ℕ) (call : Call) → call ≡ read_call uid gid file next count → count ≡ piece_left size next
+    → call ≡ read_call uid gid file next (piece_left size next)
+call_is uid gid file size next count call is same = is ∙ ap (read_call uid gid file next) same
+
+pub asked_from : (uid gid : ℕ) (file : List ℕ) (size at next count : ℕ) (xids ys : List ℕ) (xid : ℕ) (call : Call) (first : ReadingAt) (t u : Option (List ℕ)) (b c : LinkBytes) (h i : RequesterSide)
+    → ys ≡ xids ++ xid ∷ [] → call ≡ read_call uid gid file next count → count ≡ piece_left size next
+    → at < size → ReadsAhead h size at next xids → MayAsk size next xids h → Submits b c h i call xid
+    → ReadSoFar uid gid file size first t at at xids b h u → ReadSoFar uid gid file size first t at at ys c i u
+asked_from uid gid file size at next count xids ys xid call first t u b c h i all is same below ahead may submits so_far =
+    subst (λ (l : List ℕ). ReadSoFar uid gid file size first t at at l c i u) (sym all)
+    (asked_more uid gid file size at next xids xid first t u b c h i below ahead may
+    (subst (λ (a : Call). Submits b c h i a xid) (call_is uid gid file size next count call is same) submits) so_far)
+
+pub ahead_from : (size at next count : ℕ) (xids ys : List ℕ) (xid : ℕ) (call : Call) (h i : RequesterSide)
+    → ys ≡ xids ++ xid ∷ [] → count ≡ piece_left size next → OpensTicket xid call h.state i.state → ReadsAhead h size at next xids → ReadsAhead i size at (next + count) ys
+ahead_from size at next count xids ys xid call h i all same opens ahead =
+    subst (λ (l : List ℕ). ReadsAhead i size at (next + count) l) (sym all)
+    (record {
+      piece = ahead.piece;
+      next_is =
+      ap (λ (n : ℕ). next + n) same ∙ ap (λ (n : ℕ). n + piece_left size n) ahead.next_is ∙ sym (next_after_last size at xids xid);
+      open_all = open_with_last xid call h.state i.state xids opens ahead.open_all;
+    })

@@ -1,10 +1,11 @@
 -- Which tickets are open after calls of a link.
-use Rattle.std.proofs.Common.{◌≡◌, ◌≢◌, ℕ, Bool, true, false, eqb, List, [], ◌∷◌, ◌++◌, Option, None, Some, is_some, refl, sym, ap, subst, ◌∙◌}
-use Rattle.std.specs.List.{AllByRecursion}
+use Rattle.std.proofs.Common.{◌≡◌, ◌≢◌, ℕ, Bool, true, false, eqb, List, [], ◌∷◌, ◌++◌, Option, None, Some, is_some, length, slice_index_or, ◌<◌, arith, refl, sym, ap, subst, ◌∙◌}
+use Rattle.std.specs.List.{AllByRecursion, remove}
 use Rattle.std.proofs.lemmas.Bool.{eqb-true, eqb-false}
 use Rattle.nr_reduce.specs.declared.call.Call.{Call}
 use Rattle.nr_requester.specs.OpenCalls.{ClosesTicket, KeepsTickets, OpensTicket, open_call}
 use Rattle.nr_requester.specs.RequesterState.{RequesterSide, RequesterState}
+use Rattle.nr_client.specs.Calls.{ForgetsCall, ForgetsCalls}
 use Rattle.nr_client.specs.private.OpenReads.{AreOpen}
 
 pub keeps_itself : (h i : RequesterSide) → i ≡ h → KeepsTickets h.state i.state
@@ -68,3 +69,20 @@ pub open_with_last : (xid : ℕ) (call : Call) (r s : RequesterState) (xids : Li
 open_with_last xid call r s xids opens are =
     let apart = apart_from xid r xids opens.fresh are in
     with_last xid s xids (ap is_some opens.own) apart (open_beside xid r s xids opens.others apart are)
+
+-- ---- The first of them
+
+-- what `remove(0)` took and left
+pub front : (xs ys : List ℕ) (x : ℕ) → 0 < length xs → x ≡ slice_index_or xs 0 x → ys ≡ remove xs 0 → xs ≡ x ∷ ys
+front [] ys x some value items = absurd (omega (arith, some))
+front (y ∷ xs) ys x some value items = ap (λ (k : ℕ). k ∷ xs) (sym value) ∙ ap (λ (l : List ℕ). x ∷ l) (sym items)
+
+pub first_open : (xid : ℕ) (r : RequesterState) (xs xids : List ℕ) → xs ≡ xid ∷ xids → AreOpen r xs → is_some (open_call xid r) ≡ true
+first_open xid r xs xids is are = (subst (λ (l : List ℕ). AreOpen r l) is are).0
+
+pub rest_open : (xid : ℕ) (r s : RequesterState) (xs xids : List ℕ) → xs ≡ xid ∷ xids → ClosesTicket xid r s → AreOpen r xs → AreOpen s xids
+rest_open xid r s xs xids is closes are = open_after_first xid r s xids closes (subst (λ (l : List ℕ). AreOpen r l) is are)
+
+-- one more is forgotten
+pub forgets_first : (xid : ℕ) (xs xids : List ℕ) (h i j : RequesterSide) → xs ≡ xid ∷ xids → ForgetsCall xid h i → ForgetsCalls xids i j → ForgetsCalls xs h j
+forgets_first xid xs xids h i j is forgets rest = subst (λ (l : List ℕ). ForgetsCalls l h j) (sym is) (i, (forgets, rest))

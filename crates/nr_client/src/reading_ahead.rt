@@ -4,9 +4,9 @@ ghost use Rattle.std.specs.Prelude.{◌≡◌, ◌⊎◌, ◌<◌, ◌≤◌, �
 ghost use Rattle.nr_client.specs.Calls.{ForgetsCalls};
 ghost use Rattle.nr_client.specs.Reading.{OutputFaults, piece_left};
 ghost use Rattle.nr_client.specs.Requests.{SinkFaults, SourceFaults};
-ghost use Rattle.nr_client.specs.Steps.{HasCreditLeft};
+ghost use Rattle.nr_client.specs.Results.{IsOfCall};
 ghost use Rattle.nr_client.specs.Transfers.{link_bytes};
-ghost use Rattle.nr_client.specs.private.OpenReads.{AreOpen, EndsSo, IsInPiece, MayAsk, IsFull, ReadsAhead, ReadsOn, next_offset};
+ghost use Rattle.nr_client.specs.private.OpenReads.{AreOpen, EndsSo, IsFull, IsInPiece, MayAsk, ReadsAhead, ReadsOn, next_offset};
 
 use crate::client_end::ClientEnd;
 use crate::file_calls::read_call;
@@ -55,6 +55,7 @@ fn ask<I: Source, O: Sink>(
         (link_bytes (I.left link.old.source) (I.given link.old.source) (O.taken link.old.sink) link.old.read)
         (link_bytes (I.left link.new.source) (I.given link.new.source) (O.taken link.new.sink) link.new.read)
         link.old.requester link.new.requester t t (Err end)) }
+    ensures of_call { IfErr result IsOfCall }
     ensures source_faults { SourceFaults result (I.faults link.old.source) (I.faults link.new.source) }
     ensures sink_faults { SinkFaults result (O.faults link.old.sink) (O.faults link.new.sink) }
 {
@@ -100,6 +101,7 @@ pub(crate) fn fill<I: Source, O: Sink>(
         (link_bytes (I.left link.old.source) (I.given link.old.source) (O.taken link.old.sink) link.old.read)
         (link_bytes (I.left link.new.source) (I.given link.new.source) (O.taken link.new.sink) link.new.read)
         link.old.requester link.new.requester t t (Err end)) }
+    ensures of_call { IfErr result IsOfCall }
     ensures source_faults { SourceFaults result (I.faults link.old.source) (I.faults link.new.source) }
     ensures sink_faults { SinkFaults result (O.faults link.old.sink) (O.faults link.new.sink) }
 {
