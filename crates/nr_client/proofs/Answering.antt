@@ -23,7 +23,7 @@ use Rattle.nr_client.specs.declared.call_end.CallEnd.{CallEnd}
 use Rattle.nr_client.specs.declared.call_end.CallEnd.TheVariants as calls
 use Rattle.nr_client.specs.Ending.{LinkCause}
 use Rattle.nr_client.specs.Calls.{Answers, Completes, Forgets, ForgetsCall, GivesUp, HandsOver, IsSent, IsSubmitted, MovesOfCall, NoneCame, RefusesToSubmit, Submits, run_to_submit}
-use Rattle.nr_client.specs.Steps.{GoesOn, GoesTo, HasCreditLeft, HasMoved, IsLeft, IsLive, LacksAnswer, ReadsNone, WritesFirst}
+use Rattle.nr_client.specs.Steps.{GoesOn, GoesTo, HasCreditLeft, IsLeft, IsLive, LacksAnswer, ReadsNone, WritesFirst}
 use Rattle.nr_client.specs.Transfers.{LinkBytes, Moves}
 use Rattle.nr_client.proofs.Unanswered.{none_came}
 use Rattle.nr_client.proofs.Moves.{moves_both}

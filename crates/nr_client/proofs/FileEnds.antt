@@ -1,5 +1,5 @@
 -- How the reading of a file ends.
-use Rattle.std.proofs.Common.{◌≡◌, ℕ, ◌+◌, ◌<◌, ◌≤◌, if◌then◌else◌, List, [], ◌∷◌, ◌++◌, length, map, take, Option, Some, None, Result, Ok, Err, inl, inr, ◌⊎◌, arith, refl, sym, ap, subst, ◌∙◌, append-nil}
+use Rattle.std.proofs.Common.{◌≡◌, ℕ, ◌+◌, ◌<◌, ◌≤◌, List, [], ◌∷◌, ◌++◌, length, take, Option, Result, Ok, Err, inl, inr, ◌⊎◌, arith, refl, sym, ap, subst, ◌∙◌, append-nil}
 use Rattle.std.proofs.lemmas.Bool.{le-ltb}
 use Rattle.std.proofs.lemmas.List.{length-append}
 use Rattle.std.proofs.Math.Seq.{take-append-add}
@@ -15,16 +15,16 @@ use Rattle.nr_client.specs.declared.client_end.ClientEnd.TheVariants as client
 use Rattle.nr_client.specs.declared.call_end.CallEnd.{CallEnd}
 use Rattle.nr_client.specs.Calls.{Answers, Completes, Forgets, ForgetsCalls, RefusesToSubmit}
 use Rattle.nr_client.specs.Ending.{IsCause, LinkCause}
-use Rattle.nr_client.specs.Following.{Next, Unanswered}
-use Rattle.nr_client.specs.Following.Next.{Calls, Returns}
-use Rattle.nr_client.specs.Reading.{EndsReading, FileRead, LeadsBy, OpenRead, ReadStep, ReadingAt, ReadsFile, bytes_of, bytes_read, file_read, next_read, piece_left, read_call, read_result, reading, starts_at, with_data, with_size, xids_of}
-use Rattle.nr_client.specs.Reading.FileRead.{NothingKnown, SizeKnown, ReadEnds}
-use Rattle.nr_client.specs.Reading.ReadStep.{MakesAlone, AsksAhead, TakesOldest}
+use Rattle.nr_client.specs.Following.{Unanswered}
+use Rattle.nr_client.specs.Following.Next.{Returns}
+use Rattle.nr_client.specs.Reading.{EndsReading, FileRead, OpenRead, ReadingAt, ReadsFile, bytes_of, bytes_read, file_read, next_read, piece_left, read_call, read_result, starts_at, with_size}
+use Rattle.nr_client.specs.Reading.FileRead.{SizeKnown, ReadEnds}
+use Rattle.nr_client.specs.Reading.ReadStep.{MakesAlone, TakesOldest}
 use Rattle.nr_client.specs.Reading.EndsReading.{EndsByReplies, OutputFails, NotAnswered, NotSubmitted, OldestForgotten}
 use Rattle.nr_client.specs.Requests.{Asks, getattr_call, getattr_result}
 use Rattle.nr_client.specs.Results.{Gives}
 use Rattle.nr_client.specs.Transfers.{LinkBytes}
-use Rattle.nr_client.specs.private.OpenReads.{EndsSo, GivesNone, HasEnded, IsFull, IsInPiece, MayAsk, ReadSoFar, ReadsAhead, reads_from}
+use Rattle.nr_client.specs.private.OpenReads.{GivesNone, HasEnded, IsFull, IsInPiece, MayAsk, ReadSoFar, ReadsAhead, reads_from}
 use Rattle.nr_client.proofs.CallsMade.{end_in, end_of_reply}
 use Rattle.nr_client.proofs.FilePieces.{xids_from}
 use Rattle.nr_client.proofs.FileReading.{came_with, follows, is_ahead, is_alone, moment, none_ahead}

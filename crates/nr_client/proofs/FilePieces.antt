@@ -1,11 +1,9 @@
 -- The pieces of a file, and READs of them that are outstanding.
-use Rattle.std.proofs.Common.{◌≡◌, ◌≢◌, ℕ, suc, ◌+◌, ◌-◌, ◌*◌, ◌/◌, ◌%◌, ◌<◌, ◌≤◌, ◌⊎◌, inl, inr, min, Bool, true, false, eqb, ◌==◌, List, [], ◌∷◌, ◌++◌, length, map, Option, Some, None, arith, refl, sym, ap, subst, ◌∙◌}
+use Rattle.std.proofs.Common.{◌≡◌, ℕ, ◌+◌, ◌*◌, ◌/◌, ◌%◌, ◌<◌, ◌≤◌, ◌⊎◌, inl, inr, true, false, List, [], ◌∷◌, ◌++◌, length, Some, None, arith, refl, sym, ap, subst, ◌∙◌}
 use Rattle.std.proofs.lemmas.Bool.{cases_lt, eq-eqb, ne_eqb, lt-ltb, le-ltb}
 use Rattle.std.proofs.lemmas.Nat.{div-add-mod', mod-mul-add, mod_below}
-use Rattle.nr_nfs_base.specs.Limits.{transfer_max}
-use Rattle.nr_reduce.specs.declared.call.Call.{Call}
 use Rattle.nr_requester.specs.RequesterState.{RequesterSide}
-use Rattle.nr_client.specs.Reading.{FileRead, OpenRead, is_at_piece, offset_ahead, piece_left, read_ahead, read_call, xids_of}
+use Rattle.nr_client.specs.Reading.{OpenRead, is_at_piece, offset_ahead, piece_left, read_ahead, read_call, xids_of}
 use Rattle.nr_client.specs.Reading.FileRead.{SizeKnown}
 use Rattle.nr_client.specs.private.OpenReads.{AreOpen, IsAtPiece, IsFull, IsInPiece, ReadsAhead, next_offset, reads_from}
 
@@ -87,7 +85,7 @@ ahead_is uid gid file size at (xid ∷ xids) = ahead_is uid gid file size (at + 
 
 pub reads_with_last : (uid gid : ℕ) (file : List ℕ) (size at : ℕ) (xids : List ℕ) (xid : ℕ)
     → reads_from uid gid file size at (xids ++ xid ∷ [])
-        ≡ reads_from uid gid file size at xids ++ (record { xid = xid; call = read_call uid gid file (next_offset size at xids) (piece_left size (next_offset size at xids)) }) ∷ []
+    ≡ reads_from uid gid file size at xids ++ (record { xid = xid; call = read_call uid gid file (next_offset size at xids) (piece_left size (next_offset size at xids)) }) ∷ []
 reads_with_last uid gid file size at [] xid = refl
 reads_with_last uid gid file size at (x ∷ xids) xid =
     ap (λ (reads : List OpenRead). (record { xid = x; call = read_call uid gid file at (piece_left size at) }) ∷ reads) (reads_with_last uid gid file size (at + piece_left size at) xids xid)

@@ -1,9 +1,8 @@
 -- A file is read: one READ more is submitted, or answered.
-use Rattle.std.proofs.Common.{◌≡◌, ℕ, ◌+◌, ◌<◌, ◌≤◌, if◌then◌else◌, List, [], ◌∷◌, ◌++◌, length, map, take, Bool, true, false, Option, Some, None, Result, Ok, Err, inl, inr, ◌⊎◌, arith, refl, sym, ap, subst, ◌∙◌}
+use Rattle.std.proofs.Common.{◌≡◌, ℕ, ◌+◌, ◌<◌, if◌then◌else◌, List, [], ◌∷◌, ◌++◌, length, Option, Result, Ok, inl, inr, ◌⊎◌, refl, sym, ap, subst, ◌∙◌}
 use Rattle.std.proofs.lemmas.Bool.{lt-ltb}
 use Rattle.std.proofs.lemmas.List.Sums.{fold-append}
 use Rattle.std.proofs.KnownBytes.{Appends-nil, Appends-trans}
-use Rattle.std.specs.Io.KnownBytes.{Appends}
 use Rattle.nr_nfs_base.specs.declared.attributes.Attributes.{Attributes}
 use Rattle.nr_nfs_res.specs.declared.bytes.ReadOk.{ReadOk}
 use Rattle.nr_reduce.specs.declared.call.Call.{Call}
@@ -11,17 +10,15 @@ use Rattle.nr_reduce.specs.declared.call.Outcome.{Outcome}
 use Rattle.nr_requester.specs.OpenCalls.{OpensTicket}
 use Rattle.nr_requester.specs.RequesterState.{RequesterSide}
 use Rattle.nr_client.specs.declared.client_end.ClientEnd.{ClientEnd}
-use Rattle.nr_client.specs.declared.client_end.ClientEnd.TheVariants as client
 use Rattle.nr_client.specs.Calls.{Answers, Completes, Submits}
-use Rattle.nr_client.specs.Following.{Next}
-use Rattle.nr_client.specs.Following.Next.{Calls, Returns}
-use Rattle.nr_client.specs.Reading.{FileRead, IsMadeAhead, IsMadeAlone, LeadsBy, NoneIsMadeAhead, OpenRead, ReadStep, ReadingAt, after_reply, file_read, is_at_piece, next_read, piece_left, read_ahead, read_call, read_result, reading, starts_at, with_data, with_size}
-use Rattle.nr_client.specs.Reading.FileRead.{NothingKnown, SizeKnown, ReadEnds}
+use Rattle.nr_client.specs.Following.Next.{Calls}
+use Rattle.nr_client.specs.Reading.{FileRead, IsMadeAhead, IsMadeAlone, NoneIsMadeAhead, OpenRead, ReadingAt, after_reply, file_read, is_at_piece, next_read, piece_left, read_ahead, read_call, read_result, reading, starts_at, with_data, with_size}
+use Rattle.nr_client.specs.Reading.FileRead.{NothingKnown, SizeKnown}
 use Rattle.nr_client.specs.Reading.ReadStep.{MakesAlone, AsksAhead, TakesOldest}
 use Rattle.nr_client.specs.Requests.{Asks, getattr_call, getattr_result}
 use Rattle.nr_client.specs.Steps.{HasCreditLeft}
 use Rattle.nr_client.specs.Transfers.{LinkBytes}
-use Rattle.nr_client.specs.private.OpenReads.{GivesData, IsAtPiece, IsFull, IsInPiece, MayAsk, ReadSoFar, ReadsAhead, next_offset, reads_from}
+use Rattle.nr_client.specs.private.OpenReads.{GivesData, IsFull, IsInPiece, MayAsk, ReadSoFar, ReadsAhead, reads_from}
 use Rattle.nr_client.proofs.FilePieces.{asks_next, asks_none, next_after_last, not_at_piece, now_at_piece, reads_with_last}
 use Rattle.nr_client.proofs.Tickets.{open_with_last}
 
@@ -189,6 +186,6 @@ ahead_from size at next count xids ys xid call h i all same opens ahead =
     (record {
       piece = ahead.piece;
       next_is =
-      ap (λ (n : ℕ). next + n) same ∙ ap (λ (n : ℕ). n + piece_left size n) ahead.next_is ∙ sym (next_after_last size at xids xid);
+          ap (λ (n : ℕ). next + n) same ∙ ap (λ (n : ℕ). n + piece_left size n) ahead.next_is ∙ sym (next_after_last size at xids xid);
       open_all = open_with_last xid call h.state i.state xids opens ahead.open_all;
     })

@@ -169,7 +169,9 @@ fn read_pieces<I: Source, O: Sink, K: Sink>(
     let mut at = 0;
     let mut next = 0;
     'pieces: while at < size {
-        match read_piece(alloc, link, uid, gid, file, size, &mut at, &mut next, tickets, out) {
+        match read_piece(
+            alloc, link, uid, gid, file, size, &mut at, &mut next, tickets, out,
+        ) {
             Ok(()) => {}
             Err(why) => return Err(why),
         }
@@ -200,7 +202,16 @@ pub(crate) fn read_file_over<I: Source, O: Sink, K: Sink>(
         Err(end) => return Err(end),
     };
     let mut tickets = Vec::new(alloc);
-    let result = read_pieces(alloc, link, uid, gid, file, attributes.size, &mut tickets, out);
+    let result = read_pieces(
+        alloc,
+        link,
+        uid,
+        gid,
+        file,
+        attributes.size,
+        &mut tickets,
+        out,
+    );
     forget_all(link, &mut tickets);
     result
 }

@@ -9,7 +9,7 @@ use Rattle.nr_requester.specs.OpenCalls.{open_call}
 use Rattle.nr_requester.specs.RequesterState.{RequesterSide, RequesterState}
 use Rattle.nr_client.specs.declared.client_end.ClientEnd.{ClientEnd}
 use Rattle.nr_client.specs.declared.client_end.ClientEnd.TheVariants as client
-use Rattle.nr_client.specs.Reading.{EndsReading, FileRead, LeadsBy, OpenRead, ReadingAt, file_read, piece_left, read_call, read_result, xids_of}
+use Rattle.nr_client.specs.Reading.{EndsReading, LeadsBy, OpenRead, ReadingAt, file_read, piece_left, read_call, read_result, xids_of}
 use Rattle.nr_client.specs.Reading.FileRead.{SizeKnown}
 use Rattle.nr_client.specs.Results.{Gives}
 use Rattle.nr_client.specs.Steps.{HasCreditLeft}

@@ -1,7 +1,7 @@
 use Rattle.std.proofs.Common.{◌≡◌}
 use Rattle.nr_nfs_base.specs.Procedures.{nfs_program, nfs_version}
 use Rattle.nr_client.specs.Reading.{starts_at}
-use Rattle.nr_client.specs.Transfers.{LinkBytes, link_bytes}
+use Rattle.nr_client.specs.Transfers.{link_bytes}
 use Rattle.nr_client.proofs.FileEnds.{read_and_forgot, size_failed}
 use Rattle.nr_client.proofs.FileReading.{read_started}
 use Rattle.nr_client.proofs.Outcomes.{writable}
@@ -21,7 +21,7 @@ pub returns-clause-reads : goal.returns-clause-reads
 returns-clause-reads g c =
     let rest = c.forget_all.ensures.rest in
     let same : (link_bytes (g.I.Source.left c.forget_all.new.link.source) (g.I.Source.given c.forget_all.new.link.source) (g.O.Sink.taken c.forget_all.new.link.sink) c.forget_all.new.link.read)
-        ≡ (link_bytes (g.I.Source.left c.read_pieces-result.new.link.source) (g.I.Source.given c.read_pieces-result.new.link.source) (g.O.Sink.taken c.read_pieces-result.new.link.sink) c.read_pieces-result.new.link.read) =
+    ≡ (link_bytes (g.I.Source.left c.read_pieces-result.new.link.source) (g.I.Source.given c.read_pieces-result.new.link.source) (g.O.Sink.taken c.read_pieces-result.new.link.sink) c.read_pieces-result.new.link.read) =
     λ i. link_bytes (g.I.Source.left (rest.0 i)) (g.I.Source.given (rest.0 i)) (g.O.Sink.taken (rest.1.0 i)) (rest.1.1 i) in
     read_and_forgot c.args.uid c.args.gid c.args.file.now c.read_pieces-result.new.tickets.items
     (link_bytes (g.I.Source.left c.args.link.now.source) (g.I.Source.given c.args.link.now.source) (g.O.Sink.taken c.args.link.now.sink) c.args.link.now.read)

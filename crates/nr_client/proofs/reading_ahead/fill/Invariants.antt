@@ -1,7 +1,6 @@
 use Rattle.std.proofs.Common.{◌≡◌, ◌-◌, List, ℕ, Option}
-use Rattle.nr_requester.specs.OpenCalls.{KeepsTickets}
 use Rattle.nr_client.specs.Transfers.{link_bytes}
-use Rattle.nr_client.specs.private.OpenReads.{AreOpen, EndsSo, IsInPiece, ReadsAhead, ReadsOn}
+use Rattle.nr_client.specs.private.OpenReads.{ReadsAhead, ReadsOn}
 use Rattle.nr_client.proofs.reading_ahead.fill.Given as goal
 
 abbrev pub invariant-asked : goal.invariant-asked
