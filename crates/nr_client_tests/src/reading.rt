@@ -149,7 +149,12 @@ fn push_transfer(rt: &impl Abort, alloc: Global, bytes: &mut Vec<u8>, row: &str)
 
 /// A dialer of one link, over which the file comes.
 fn file_dialer(rt: &impl Abort, alloc: Global) -> MemDialer {
-    let mut link = plan(rt, alloc, "server-hello mounted found-a attributes-100000", "");
+    let mut link = plan(
+        rt,
+        alloc,
+        "server-hello mounted found-a attributes-100000",
+        "",
+    );
     for row in TRANSFERS.lines() {
         push_transfer(rt, alloc, &mut link.bytes, row);
     }
