@@ -22,8 +22,8 @@ use Rattle.nr_requester.proofs.OpenTickets.{done_keeps_law, forget_keeps_law, fo
 use Rattle.nr_client.specs.declared.call_end.CallEnd.{CallEnd}
 use Rattle.nr_client.specs.declared.call_end.CallEnd.TheVariants as calls
 use Rattle.nr_client.specs.Ending.{LinkCause}
-use Rattle.nr_client.specs.Calls.{Answers, Completes, Forgets, GivesUp, HandsOver, IsSent, MovesOfCall, NoneCame, run_to_submit}
-use Rattle.nr_client.specs.Steps.{GoesOn, GoesTo, HasCreditLeft, HasMoved, IsLeft, IsLive, LacksAnswer, ReadsNone, WritesFirst}
+use Rattle.nr_client.specs.Calls.{Answers, Completes, Forgets, ForgetsCall, GivesUp, HandsOver, IsSent, IsSubmitted, MovesOfCall, NoneCame, RefusesToSubmit, Submits, run_to_submit}
+use Rattle.nr_client.specs.Steps.{GoesOn, GoesTo, HasCreditLeft, IsLeft, IsLive, LacksAnswer, ReadsNone, WritesFirst}
 use Rattle.nr_client.specs.Transfers.{LinkBytes, Moves}
 use Rattle.nr_client.proofs.Unanswered.{none_came}
 use Rattle.nr_client.proofs.Moves.{moves_both}
@@ -84,47 +84,59 @@ forgets xid end b c h i j goes lacks on out is_open opened link run fine live =
       ),
     )
 
--- what a call moves: nothing is read before its Submit if nothing was then
+-- nothing is read before its Submit if nothing was then
 no_bytes : (link : ℕ) (b c : LinkBytes) (moved : List Mark) → Moves link b c [] moved → ReadsNone b c → bytes_received link Initiator moved ≡ []
 no_bytes link b c moved moves none = nil_from_length (bytes_received link Initiator moved) (let count = moves.count in let same = none.1.1 in let over = length-append (bytes_received link Initiator moved) [] in omega (arith, count, same, over))
 
-of_call : (call : Call) (xid : ℕ) (b c d : LinkBytes) (h i : RequesterSide) (opened : LinkParameters) (link : ℕ) (run : List Mark) (ahead : List ℕ) (moved : List Mark)
-    → (HasCreditLeft h → ReadsNone b c) → (one : HasMoved opened link run b c i) → Moves link c d ahead moved
-    → WritesFirst opened link (run_to_submit run link call xid one.moved) moved → MovesOfCall opened link run b d h call xid ahead one.moved moved
-of_call call xid b c d h i opened link run ahead moved at_once one more written = record {
-  bytes = moves_both link b c d ahead one.moved moved one.bytes more;
-  at_once = λ credit. no_bytes link b c one.moved one.bytes (at_once credit);
-  before = one.written;
-  written = written;
-}
-
--- all of a call
-pub answers : (call : Call) (xid : ℕ) (outcome : Outcome) (b c d : LinkBytes) (h i j k : RequesterSide) → CanWriteCred call.cred → h.state.side.ended ≡ None → (HasCreditLeft h → ReadsNone b c)
-    → GoesOn b c h i → IsSent xid call i j → Completes xid outcome c d j k → Answers b d h k call outcome
-answers call xid outcome b c d h i j k writable started at_once goes sent completed = (
+pub submits : (call : Call) (xid : ℕ) (b c : LinkBytes) (h i j : RequesterSide) → CanWriteCred call.cred → h.state.side.ended ≡ None → (HasCreditLeft h → ReadsNone b c)
+    → GoesOn b c h i → IsSent xid call i j → Submits b c h j call xid
+submits call xid b c h i j writable started at_once goes sent = (
   started,
   λ opened link run fine live.
       (let one = goes opened link run fine live in
-      let sent_on = submitted call xid i j opened link (run ++ one.moved) sent writable fine one.live in
-      let (moved, (moves, (written, done))) = completed opened link (run_to_submit run link call xid one.moved) fine sent_on in
-      record { waits = one.moved; xid = xid; moved = moved; moves = of_call call xid b c d h i opened link run [] moved at_once one moves written; live = done }),
+      record {
+        waits = one.moved;
+        bytes = one.bytes;
+        at_once = λ credit. no_bytes link b c one.moved one.bytes (at_once credit);
+        before = one.written;
+        live = submitted call xid i j opened link (run ++ one.moved) sent writable fine one.live;
+      }),
 )
 
-pub gives_up : (call : Call) (xid : ℕ) (end : CallEnd) (b c d : LinkBytes) (h i j k : RequesterSide) → CanWriteCred call.cred → (HasCreditLeft h → ReadsNone b c)
-    → GoesOn b c h i → IsSent xid call i j → Forgets xid end c d j k → LinkCause end d.left d.read k → GivesUp b d h k call end
-gives_up call xid end b c d h i j k writable at_once goes sent forgotten cause =
+-- all of a call
+of_call : (call : Call) (xid : ℕ) (b c d : LinkBytes) (h i : RequesterSide) (opened : LinkParameters) (link : ℕ) (run : List Mark) (ahead : List ℕ) (moved : List Mark)
+    → (one : IsSubmitted opened link run b c h i call xid) → Moves link c d ahead moved
+    → WritesFirst opened link (run_to_submit run link call xid one.waits) moved → MovesOfCall opened link run b d h call xid ahead one.waits moved
+of_call call xid b c d h i opened link run ahead moved one more written = record {
+  bytes = moves_both link b c d ahead one.waits moved one.bytes more;
+  at_once = one.at_once;
+  before = one.before;
+  written = written;
+}
+
+pub answers : (call : Call) (xid : ℕ) (outcome : Outcome) (b c d : LinkBytes) (h i j : RequesterSide) → Submits b c h i call xid → Completes xid outcome c d i j → Answers b d h j call outcome
+answers call xid outcome b c d h i j sent completed = (
+  sent.0,
+  λ opened link run fine live.
+      (let one = sent.1 opened link run fine live in
+      let (moved, (moves, (written, done))) = completed opened link (run_to_submit run link call xid one.waits) fine one.live in
+      record { waits = one.waits; xid = xid; moved = moved; moves = of_call call xid b c d h i opened link run [] moved one moves written; live = done }),
+)
+
+pub gives_up : (call : Call) (xid : ℕ) (end : CallEnd) (b c d : LinkBytes) (h i j : RequesterSide) → Submits b c h i call xid → Forgets xid end c d i j → LinkCause end d.left d.read j
+    → GivesUp b d h j call end
+gives_up call xid end b c d h i j sent forgotten cause =
     inr (
       cause,
       λ opened link run fine live.
-          (let one = goes opened link run fine live in
-          let sent_on = submitted call xid i j opened link (run ++ one.moved) sent writable fine one.live in
-          let (moved, ahead, (moves, (written, (all, (none, left))))) = forgotten opened link (run_to_submit run link call xid one.moved) fine sent_on in
+          (let one = sent.1 opened link run fine live in
+          let (moved, ahead, (moves, (written, (all, (none, left))))) = forgotten opened link (run_to_submit run link call xid one.waits) fine one.live in
           record {
-            waits = one.moved;
+            waits = one.waits;
             xid = xid;
             moved = moved;
             ahead = ahead;
-            moves = of_call call xid b c d h i opened link run ahead moved at_once one moves written;
+            moves = of_call call xid b c d h i opened link run ahead moved one moves written;
             all = all;
             unanswered = none;
             left = left;
@@ -132,12 +144,24 @@ gives_up call xid end b c d h i j k writable at_once goes sent forgotten cause =
     )
 
 -- it was not submitted
-pub refused : (call : Call) (end : CallEnd) (b c : LinkBytes) (h i j : RequesterSide) → j ≡ i → queue_of i.state ≡ [] → (HasCreditLeft h → ReadsNone b c) → GoesOn b c h i → GivesUp b c h j call end
+pub refused : (call : Call) (end : CallEnd) (b c : LinkBytes) (h i j : RequesterSide) → j ≡ i → queue_of i.state ≡ [] → (HasCreditLeft h → ReadsNone b c) → GoesOn b c h i
+    → RefusesToSubmit b c h j call end
 refused call end b c h i j same none at_once goes =
-    inl (ends_there end b c h j (inr (ap (λ (x : RequesterSide). queue_of x.state) same ∙ none)) (subst (GoesOn b c h) (sym same) goes), at_once)
+    (ends_there end b c h j (inr (ap (λ (x : RequesterSide). queue_of x.state) same ∙ none)) (subst (GoesOn b c h) (sym same) goes), at_once)
 
-pub not_sent : (call : Call) (end : CallEnd) (b c : LinkBytes) (h i : RequesterSide) → GoesTo end b c h i → (HasCreditLeft h → ReadsNone b c) → GivesUp b c h i call end
-not_sent call end b c h i goes at_once = inl (goes, at_once)
+pub not_sent : (call : Call) (end : CallEnd) (b c : LinkBytes) (h i : RequesterSide) → RefusesToSubmit b c h i call end → GivesUp b c h i call end
+not_sent call end b c h i refuses = inl refuses
+
+-- a call is forgotten, whether or not its answer has come
+pub forgets_call : (xid : ℕ) (h i : RequesterSide) → StandsOn h (λ link. marks.Forget link xid) i → StaysOut h (λ link. marks.Forget link xid) i → is_some (open_call xid h.state) ≡ true → ForgetsCall xid h i
+forgets_call xid h i on out is_open = (
+  λ opened link run live.
+      (let kept = forget_keeps_law opened link h run xid live.stands is_open live.asked live.granted in
+      record { stands = on opened link run live.stands; asked = kept.0; granted = kept.1 }),
+  λ opened link run stopped.
+      (let kept = forget_out_keeps_law opened link h stopped.stopped run xid stopped.stands is_open stopped.asked stopped.granted in
+      record { stopped = stopped.stopped; stands = out opened link stopped.stopped run stopped.stands; asked = kept.0; granted = kept.1 }),
+)
 
 -- it has an answer, so it doesn't lack one
 pub lacks_answer : (xid : ℕ) (r : RequesterState) → is_some (found_answer xid r) ≡ true → found_answer xid r ≡ None → ⊥

@@ -1,306 +1,191 @@
--- A file is read, one READ after another.
-use Rattle.std.proofs.Common.{◌≡◌, ℕ, ◌+◌, ◌<◌, ◌≤◌, if◌then◌else◌, List, [], ◌∷◌, ◌++◌, length, take, Option, Result, Ok, Err, inl, inr, ◌⊎◌, arith, refl, sym, ap, subst, ◌∙◌, append-nil}
-use Rattle.std.proofs.lemmas.Bool.{lt-ltb, le-ltb}
-use Rattle.std.proofs.lemmas.List.{length-append}
+-- A file is read: one READ more is submitted, or answered.
+use Rattle.std.proofs.Common.{◌≡◌, ℕ, ◌+◌, ◌<◌, if◌then◌else◌, List, [], ◌∷◌, ◌++◌, length, Option, Result, Ok, inl, inr, ◌⊎◌, refl, sym, ap, subst, ◌∙◌}
+use Rattle.std.proofs.lemmas.Bool.{lt-ltb}
 use Rattle.std.proofs.lemmas.List.Sums.{fold-append}
-use Rattle.std.proofs.Math.Seq.{take-append-add}
 use Rattle.std.proofs.KnownBytes.{Appends-nil, Appends-trans}
-use Rattle.std.specs.Io.KnownBytes.{Appends}
 use Rattle.nr_nfs_base.specs.declared.attributes.Attributes.{Attributes}
 use Rattle.nr_nfs_res.specs.declared.bytes.ReadOk.{ReadOk}
+use Rattle.nr_reduce.specs.declared.call.Call.{Call}
 use Rattle.nr_reduce.specs.declared.call.Outcome.{Outcome}
+use Rattle.nr_requester.specs.OpenCalls.{OpensTicket}
 use Rattle.nr_requester.specs.RequesterState.{RequesterSide}
 use Rattle.nr_client.specs.declared.client_end.ClientEnd.{ClientEnd}
-use Rattle.nr_client.specs.declared.client_end.ClientEnd.TheVariants as client
-use Rattle.nr_client.specs.Calls.{Answers}
-use Rattle.nr_client.specs.Following.{EndsWith, MakesCalls, Next, Unanswered}
-use Rattle.nr_client.specs.Following.Next.{Calls, Returns}
-use Rattle.nr_client.specs.Reading.{FileRead, ReadsFile, TakesRead, after_reply, bytes_of, bytes_read, file_read, next_read, piece_left, read_call, read_result, reading, with_data, with_size}
-use Rattle.nr_client.specs.Reading.FileRead.{NothingKnown, SizeKnown, ReadEnds}
+use Rattle.nr_client.specs.Calls.{Answers, Completes, Submits}
+use Rattle.nr_client.specs.Following.Next.{Calls}
+use Rattle.nr_client.specs.Reading.{FileRead, IsMadeAhead, IsMadeAlone, NoneIsMadeAhead, OpenRead, ReadingAt, after_reply, file_read, is_at_piece, next_read, piece_left, read_ahead, read_call, read_result, reading, starts_at, with_data, with_size}
+use Rattle.nr_client.specs.Reading.FileRead.{NothingKnown, SizeKnown}
+use Rattle.nr_client.specs.Reading.ReadStep.{MakesAlone, AsksAhead, TakesOldest}
 use Rattle.nr_client.specs.Requests.{Asks, getattr_call, getattr_result}
-use Rattle.nr_client.specs.Results.{Gives}
+use Rattle.nr_client.specs.Steps.{HasCreditLeft}
 use Rattle.nr_client.specs.Transfers.{LinkBytes}
-use Rattle.nr_client.specs.private.FileSteps.{FailsToRead, ReadsOn}
-use Rattle.nr_client.proofs.CallsMade.{calls_more, end_in, end_of_reply, memory_ends}
+use Rattle.nr_client.specs.private.OpenReads.{GivesData, IsFull, IsInPiece, MayAsk, ReadSoFar, ReadsAhead, reads_from}
+use Rattle.nr_client.proofs.FilePieces.{asks_next, asks_none, next_after_last, not_at_piece, now_at_piece, reads_with_last}
+use Rattle.nr_client.proofs.Tickets.{open_with_last}
 
--- the size is known, and these bytes came and were written
-pub record ReadSoFar (uid gid : ℕ) (file : List ℕ) (b c : LinkBytes) (h i : RequesterSide) (taken taken' : Option (List ℕ)) (size at : ℕ) : Type 0 where
-  pub outcomes : List Outcome
-  pub bytes : List ℕ
-  pub made : MakesCalls (reading uid gid file) outcomes b c h i
-  pub state : file_read outcomes ≡ SizeKnown size at bytes
-  pub appends : Appends taken taken' bytes
+-- a moment of it
+abbrev pub moment : List Outcome → List OpenRead → LinkBytes → RequesterSide → ReadingAt
+moment outcomes waiting b h = record { outcomes = outcomes; waiting = waiting; bytes = b; side = h }
 
 -- what comes next: a READ before the size, and nothing from there on
-next_is : (uid gid : ℕ) (file : List ℕ) (size at : ℕ) (bytes : List ℕ) → at < size
+pub next_is : (uid gid : ℕ) (file : List ℕ) (size at : ℕ) (bytes : List ℕ) → at < size
     → next_read uid gid file (SizeKnown size at bytes) ≡ Calls (read_call uid gid file at (piece_left size at))
 next_is uid gid file size at bytes below = rw (lt-ltb at size below) refl
 
-none_is_next : (uid gid : ℕ) (file : List ℕ) (size at : ℕ) (bytes : List ℕ) → size ≤ at → next_read uid gid file (SizeKnown size at bytes) ≡ Returns (Ok tt)
-none_is_next uid gid file size at bytes above = rw (le-ltb at size above) refl
+pub follows : (uid gid : ℕ) (file : List ℕ) (size at : ℕ) (bytes : List ℕ) (outcomes : List Outcome) → at < size → file_read outcomes ≡ SizeKnown size at bytes
+    → reading uid gid file outcomes ≡ Calls (read_call uid gid file at (piece_left size at))
+follows uid gid file size at bytes outcomes below state = ap (next_read uid gid file) state ∙ next_is uid gid file size at bytes below
 
 -- one outcome more
-state_after : (outcomes : List Outcome) (outcome : Outcome) (state : FileRead) → file_read outcomes ≡ state → file_read (outcomes ++ outcome ∷ []) ≡ after_reply state outcome
+pub state_after : (outcomes : List Outcome) (outcome : Outcome) (state : FileRead) → file_read outcomes ≡ state → file_read (outcomes ++ outcome ∷ []) ≡ after_reply state outcome
 state_after outcomes outcome state is = fold-append after_reply NothingKnown outcomes (outcome ∷ []) ∙ ap (λ (s : FileRead). after_reply s outcome) is
 
+pub came_with : (outcomes : List Outcome) (outcome : Outcome) (size at : ℕ) (bytes : List ℕ) (read : Result ReadOk ClientEnd) → file_read outcomes ≡ SizeKnown size at bytes
+    → read_result (piece_left size at) outcome ≡ read → file_read (outcomes ++ outcome ∷ []) ≡ with_data size at bytes read
+came_with outcomes outcome size at bytes read state reads = state_after outcomes outcome (SizeKnown size at bytes) state ∙ ap (with_data size at bytes) reads
+
+-- ---- Each step
+
 pub read_started : (uid gid : ℕ) (file : List ℕ) (b c : LinkBytes) (h i : RequesterSide) (taken : Option (List ℕ)) (attributes : Attributes)
-    → Asks getattr_result (getattr_call uid gid file) b c h i (Ok attributes) → ReadSoFar uid gid file b c h i taken taken attributes.size 0
+    → Asks getattr_result (getattr_call uid gid file) b c h i (Ok attributes) → ReadSoFar uid gid file attributes.size (starts_at b h) taken 0 0 [] c i taken
 read_started uid gid file b c h i taken attributes (inl (outcome, (answered, reads))) =
     record {
+      between = starts_at b h ∷ [];
       outcomes = outcome ∷ [];
       bytes = [];
-      made = (getattr_call uid gid file, c, i, (refl, (answered, (refl, refl))));
+      made = (MakesAlone (getattr_call uid gid file) outcome (refl, refl) answered refl refl, refl);
       state = ap with_size reads;
       appends = Appends-nil taken;
     }
 read_started uid gid file b c h i taken attributes (inr (inl (end, (is, rest)))) = absurd (cc)
 read_started uid gid file b c h i taken attributes (inr (inr (is, rest))) = absurd (cc)
 
-pub read_stepped : (uid gid : ℕ) (file : List ℕ) (b c d : LinkBytes) (h i j : RequesterSide) (t u v : Option (List ℕ)) (size at at' : ℕ)
-    → at < size → ReadSoFar uid gid file b c h i t u size at → ReadsOn uid gid file size at at' c d i j u v → ReadSoFar uid gid file b d h j t v size at'
-read_stepped uid gid file b c d h i j t u v size at at' below so_far on =
-    let asks : reading uid gid file so_far.outcomes ≡ Calls (read_call uid gid file at (piece_left size at)) =
-    ap (next_read uid gid file) so_far.state ∙ next_is uid gid file size at so_far.bytes below in
-    let came : file_read (so_far.outcomes ++ on.outcome ∷ []) ≡ with_data size at so_far.bytes (Ok on.results) =
-    state_after so_far.outcomes on.outcome (SizeKnown size at so_far.bytes) so_far.state ∙ ap (with_data size at so_far.bytes) on.reads in
+-- a READ is submitted ahead
+pub is_ahead : (uid gid : ℕ) (file : List ℕ) (size at next : ℕ) (xids : List ℕ) (bytes : List ℕ) (outcomes : List Outcome) (b : LinkBytes) (h : RequesterSide)
+    → at < size → file_read outcomes ≡ SizeKnown size at bytes → ReadsAhead h size at next xids → MayAsk size next xids h
+    → IsMadeAhead uid gid file (moment outcomes (reads_from uid gid file size at xids) b h) (read_call uid gid file next (piece_left size next))
+is_ahead uid gid file size at next xids bytes outcomes b h below state ahead may = (
+  ap is_at_piece state ∙ now_at_piece size at below ahead.piece bytes,
+  (
+    ap (λ (s : FileRead). read_ahead uid gid file s (reads_from uid gid file size at xids)) state ∙ asks_next uid gid file size at next xids bytes may.0 ahead.next_is,
+    by may.1,
+  ),
+)
+  where
+    by : (xids ≡ []) ⊎ HasCreditLeft h → (reads_from uid gid file size at xids ≡ []) ⊎ HasCreditLeft h
+    by (inl none) = inl (ap (reads_from uid gid file size at) none)
+    by (inr credit) = inr credit
+
+pub asked_more : (uid gid : ℕ) (file : List ℕ) (size at next : ℕ) (xids : List ℕ) (xid : ℕ) (first : ReadingAt) (t u : Option (List ℕ)) (b c : LinkBytes) (h i : RequesterSide)
+    → at < size → ReadsAhead h size at next xids → MayAsk size next xids h → Submits b c h i (read_call uid gid file next (piece_left size next)) xid
+    → ReadSoFar uid gid file size first t at at xids b h u → ReadSoFar uid gid file size first t at at (xids ++ xid ∷ []) c i u
+asked_more uid gid file size at next xids xid first t u b c h i below ahead may submits so_far =
+    let read : OpenRead = record { xid = xid; call = read_call uid gid file next (piece_left size next) } in
+    let waiting = reads_from uid gid file size at xids in
+    let last : reads_from uid gid file size at (xids ++ xid ∷ []) ≡ waiting ++ read ∷ [] =
+    reads_with_last uid gid file size at xids xid
+    ∙ ap (λ (n : ℕ). waiting ++ (record { xid = xid; call = read_call uid gid file n (piece_left size n) }) ∷ []) (sym ahead.next_is) in
     record {
-      outcomes = so_far.outcomes ++ on.outcome ∷ [];
-      bytes = so_far.bytes ++ on.results.bytes;
-      made = calls_more (reading uid gid file) so_far.outcomes b c d h i j (read_call uid gid file at (piece_left size at)) on.outcome so_far.made asks on.answered;
-      state = came ∙ ap (λ (k : ℕ). SizeKnown size k (so_far.bytes ++ on.results.bytes)) (sym on.offset);
-      appends = Appends-trans t u v so_far.bytes on.results.bytes so_far.appends on.appends;
-    }
-
--- the bytes of the replies, by their state
-takes_bytes : (outcomes : List Outcome) (state : FileRead) (t u : Option (List ℕ)) → file_read outcomes ≡ state → Appends t u (bytes_of state) → Appends t u (bytes_read outcomes)
-takes_bytes outcomes state t u is appends = subst (λ (s : FileRead). Appends t u (bytes_of s)) (sym is) appends
-
-ends_by : (uid gid : ℕ) (file : List ℕ) (outcomes : List Outcome) (state : FileRead) (b c : LinkBytes) (h i : RequesterSide) (given : Result (Unit {0}) ClientEnd)
-    → file_read outcomes ≡ state → EndsWith (next_read uid gid file state) b c h i given → EndsWith (reading uid gid file outcomes) b c h i given
-ends_by uid gid file outcomes state b c h i given is ends =
-    subst (λ (s : FileRead). EndsWith (next_read uid gid file s) b c h i given) (sym is) ends
-
-pub read_completed : (uid gid : ℕ) (file : List ℕ) (b c : LinkBytes) (h i : RequesterSide) (t u : Option (List ℕ)) (size at : ℕ)
-    → size ≤ at → ReadSoFar uid gid file b c h i t u size at → ReadsFile uid gid file b c h i t u (Ok tt)
-read_completed uid gid file b c h i t u size at above so_far =
-    let done : EndsWith (next_read uid gid file (SizeKnown size at so_far.bytes)) c c i i (Ok tt) =
-    subst (λ (next : Next (Unit {0})). EndsWith next c c i i (Ok tt)) (sym (none_is_next uid gid file size at so_far.bytes above)) (refl, (refl, refl)) in
-    record {
+      between = moment so_far.outcomes waiting b h ∷ so_far.between;
       outcomes = so_far.outcomes;
-      between = c;
-      side = i;
-      made = so_far.made;
-      ends = inl (
-        ends_by uid gid file so_far.outcomes (SizeKnown size at so_far.bytes) c c i i (Ok tt) so_far.state done,
-        inl (takes_bytes so_far.outcomes (SizeKnown size at so_far.bytes) t u so_far.state so_far.appends),
-      );
+      bytes = so_far.bytes;
+      made = (AsksAhead read (is_ahead uid gid file size at next xids so_far.bytes so_far.outcomes b h below so_far.state ahead may) submits refl last, so_far.made);
+      state = so_far.state;
+      appends = so_far.appends;
     }
 
--- the calls with one READ more, by what is read of its outcome
-made_more : (uid gid : ℕ) (file : List ℕ) (b c d : LinkBytes) (h i j : RequesterSide) (t u : Option (List ℕ)) (size at : ℕ) (outcome : Outcome)
-    → at < size → (so_far : ReadSoFar uid gid file b c h i t u size at) → Answers c d i j (read_call uid gid file at (piece_left size at)) outcome
-    → MakesCalls (reading uid gid file) (so_far.outcomes ++ outcome ∷ []) b d h j
-made_more uid gid file b c d h i j t u size at outcome below so_far answered =
-    calls_more (reading uid gid file) so_far.outcomes b c d h i j (read_call uid gid file at (piece_left size at)) outcome so_far.made
-    (ap (next_read uid gid file) so_far.state ∙ next_is uid gid file size at so_far.bytes below) answered
+-- no other is
+pub none_ahead : (uid gid : ℕ) (file : List ℕ) (size at next : ℕ) (xids : List ℕ) (bytes : List ℕ) (outcomes : List Outcome) (b : LinkBytes) (h : RequesterSide)
+    → file_read outcomes ≡ SizeKnown size at bytes → ReadsAhead h size at next xids → IsFull size next xids h
+    → NoneIsMadeAhead uid gid file (moment outcomes (reads_from uid gid file size at xids) b h)
+none_ahead uid gid file size at next xids bytes outcomes b h state ahead (inl above) =
+    inl (ap (λ (s : FileRead). read_ahead uid gid file s (reads_from uid gid file size at xids)) state ∙ asks_none uid gid file size at next xids bytes above ahead.next_is)
+none_ahead uid gid file size at next xids bytes outcomes b h state ahead (inr (some, full)) = inr full
 
-came_with : (uid gid : ℕ) (file : List ℕ) (b c : LinkBytes) (h i : RequesterSide) (t u : Option (List ℕ)) (size at : ℕ) (outcome : Outcome) (read : Result ReadOk ClientEnd)
-    → (so_far : ReadSoFar uid gid file b c h i t u size at) → read_result (piece_left size at) outcome ≡ read
-    → file_read (so_far.outcomes ++ outcome ∷ []) ≡ with_data size at so_far.bytes read
-came_with uid gid file b c h i t u size at outcome read so_far reads =
-    state_after so_far.outcomes outcome (SizeKnown size at so_far.bytes) so_far.state ∙ ap (with_data size at so_far.bytes) reads
+-- the state after the data of a READ were written
+pub data_came : (size at at' count step : ℕ) (bytes : List ℕ) (outcomes : List Outcome) (outcome : Outcome) (results : ReadOk) → file_read outcomes ≡ SizeKnown size at bytes
+    → count ≡ piece_left size at → at' ≡ at + step → read_result count outcome ≡ Ok results → step ≡ (if results.eof then count else length results.bytes)
+    → file_read (outcomes ++ outcome ∷ []) ≡ SizeKnown size at' (bytes ++ results.bytes)
+data_came size at at' count step bytes outcomes outcome results state same goes reads is =
+    came_with outcomes outcome size at bytes (Ok results) state (subst (λ (n : ℕ). read_result n outcome ≡ Ok results) same reads)
+    ∙ ap (λ (k : ℕ). SizeKnown size k (bytes ++ results.bytes)) (ap (λ (n : ℕ). at + (if results.eof then n else length results.bytes)) (sym same) ∙ ap (λ (n : ℕ). at + n) (sym is) ∙ sym goes)
 
--- nothing more was written
-took_nothing : (t u v : Option (List ℕ)) (bytes : List ℕ) → Appends t u bytes → Appends u v [] → Appends t v bytes
-took_nothing t u v bytes first none = subst (λ (l : List ℕ). Appends t v l) (append-nil bytes) (Appends-trans t u v bytes [] first none)
-
--- the READ has no answer
-fails_unanswered : (uid gid : ℕ) (file : List ℕ) (b c d : LinkBytes) (h i j : RequesterSide) (t u v : Option (List ℕ)) (size at : ℕ) (end : ClientEnd)
-    → at < size → ReadSoFar uid gid file b c h i t u size at → Unanswered (read_call uid gid file at (piece_left size at)) c d i j end → Appends u v []
-    → ReadsFile uid gid file b d h j t v (Err end)
-fails_unanswered uid gid file b c d h i j t u v size at end below so_far unanswered none =
-    let state = SizeKnown size at so_far.bytes in
-    let ends : EndsWith (next_read uid gid file state) c d i j (Err end) =
-    subst (λ (next : Next (Unit {0})). EndsWith next c d i j (Err end)) (sym (next_is uid gid file size at so_far.bytes below)) (end, (refl, unanswered)) in
+-- the oldest READ was answered
+pub taken_more : (uid gid : ℕ) (file : List ℕ) (size at at' next count step : ℕ) (xid : ℕ) (xids : List ℕ) (outcome : Outcome) (first : ReadingAt) (t u v : Option (List ℕ)) (b c : LinkBytes) (h i : RequesterSide)
+    → at < size → ReadsAhead h size at next (xid ∷ xids) → IsFull size next (xid ∷ xids) h → count ≡ piece_left size at → at' ≡ at + step
+    → Completes xid outcome b c h i → GivesData count outcome step u v
+    → ReadSoFar uid gid file size first t at at (xid ∷ xids) b h u → ReadSoFar uid gid file size first t at' (at + piece_left size at) xids c i v
+taken_more uid gid file size at at' next count step xid xids outcome first t u v b c h i below ahead full same goes completes (results, (reads, (is, appends))) so_far =
     record {
-      outcomes = so_far.outcomes;
-      between = c;
-      side = i;
-      made = so_far.made;
-      ends = inl (
-        ends_by uid gid file so_far.outcomes state c d i j (Err end) so_far.state ends,
-        inl (takes_bytes so_far.outcomes state t v so_far.state (took_nothing t u v so_far.bytes so_far.appends none)),
-      );
-    }
-
--- the reply has no data
-fails_answered : (uid gid : ℕ) (file : List ℕ) (b c d : LinkBytes) (h i j : RequesterSide) (t u v : Option (List ℕ)) (size at : ℕ) (end : ClientEnd) (outcome : Outcome)
-    → at < size → ReadSoFar uid gid file b c h i t u size at → Answers c d i j (read_call uid gid file at (piece_left size at)) outcome
-    → Gives {A = ReadOk} (Err end) (read_result (piece_left size at) outcome) → Appends u v [] → ReadsFile uid gid file b d h j t v (Err end)
-fails_answered uid gid file b c d h i j t u v size at end outcome below so_far answered gives none =
-    record {
+      between = moment so_far.outcomes (reads_from uid gid file size at (xid ∷ xids)) b h ∷ so_far.between;
       outcomes = so_far.outcomes ++ outcome ∷ [];
-      between = d;
-      side = j;
-      made = made_more uid gid file b c d h i j t u size at outcome below so_far answered;
-      ends = inl (by (end_of_reply {A = ReadOk} (Unit {0}) end (read_result (piece_left size at) outcome) gives));
-    }
-  where
-    all : Appends t v so_far.bytes
-    all = took_nothing t u v so_far.bytes so_far.appends none
-
-    by : (end ≡ client.Memory) ⊎ ((read_result (piece_left size at) outcome ≡ Err end) × Gives {A = Unit {0}} (Err end) (Err end))
-        → EndsWith (reading uid gid file (so_far.outcomes ++ outcome ∷ [])) d d j j (Err end) × TakesRead (Err end) (so_far.outcomes ++ outcome ∷ []) t v
-    by (inl memory) = (
-      subst (λ (e : ClientEnd). EndsWith (reading uid gid file (so_far.outcomes ++ outcome ∷ [])) d d j j (Err e)) (sym memory)
-          (memory_ends (reading uid gid file (so_far.outcomes ++ outcome ∷ [])) d j),
-      inr (ap (λ (e : ClientEnd). Err e) memory, (so_far.outcomes, outcome, (refl, takes_bytes so_far.outcomes (SizeKnown size at so_far.bytes) t v so_far.state all))),
-    )
-    by (inr (reads, same)) =
-        let came = came_with uid gid file b c h i t u size at outcome (Err end) so_far reads in (
-          ends_by uid gid file (so_far.outcomes ++ outcome ∷ []) (ReadEnds end so_far.bytes) d d j j (Err end) came (same, (refl, refl)),
-          inl (takes_bytes (so_far.outcomes ++ outcome ∷ []) (ReadEnds end so_far.bytes) t v came all),
-        )
-
--- the output failed
-fails_outside : (uid gid : ℕ) (file : List ℕ) (b c d : LinkBytes) (h i j : RequesterSide) (t u v : Option (List ℕ)) (size at : ℕ) (outcome : Outcome) (results : ReadOk) (n : ℕ)
-    → at < size → ReadSoFar uid gid file b c h i t u size at → Answers c d i j (read_call uid gid file at (piece_left size at)) outcome
-    → read_result (piece_left size at) outcome ≡ Ok results → n < length results.bytes → Appends u v (take n results.bytes)
-    → ReadsFile uid gid file b d h j t v (Err client.OutputFault)
-fails_outside uid gid file b c d h i j t u v size at outcome results n below so_far answered reads short part =
-    let before = so_far.bytes in
-    let more = so_far.outcomes ++ outcome ∷ [] in
-    let all : bytes_read more ≡ before ++ results.bytes =
-    ap (λ (s : FileRead). bytes_of s) (came_with uid gid file b c h i t u size at outcome (Ok results) so_far reads) in
-    let earlier : bytes_read so_far.outcomes ≡ before = ap (λ (s : FileRead). bytes_of s) so_far.state in
-    let cut : take (length before + n) (bytes_read more) ≡ before ++ take n results.bytes =
-    ap (λ (l : List ℕ). take (length before + n) l) all ∙ take-append-add before results.bytes n in
-    let from : length (bytes_read so_far.outcomes) ≤ length before + n =
-    subst (λ (l : List ℕ). length l ≤ length before + n) (sym earlier) (omega arith) in
-    let within : length before + n < length (bytes_read more) =
-    subst (λ (l : List ℕ). length before + n < length l) (sym all) (omega (arith, short, length-append before results.bytes)) in
-    record {
-      outcomes = more;
-      between = d;
-      side = j;
-      made = made_more uid gid file b c d h i j t u size at outcome below so_far answered;
-      ends = inr (
-        refl,
-        (
-          (refl, refl),
-          (
-            so_far.outcomes,
-            outcome,
-            length before + n,
-            (
-              refl,
-              (
-                from,
-                (
-                  within,
-                  subst (λ (l : List ℕ). Appends t v l) (sym cut) (Appends-trans t u v before (take n results.bytes) so_far.appends part),
-                ),
-              ),
-            ),
-          ),
-        ),
+      bytes = so_far.bytes ++ results.bytes;
+      made = (
+        TakesOldest (record { xid = xid; call = read_call uid gid file at (piece_left size at) }) outcome
+            (none_ahead uid gid file size at next (xid ∷ xids) so_far.bytes so_far.outcomes b h so_far.state ahead full)
+            (follows uid gid file size at so_far.bytes so_far.outcomes below so_far.state) completes refl refl,
+        so_far.made,
       );
+      state = data_came size at at' count step so_far.bytes so_far.outcomes outcome results so_far.state same goes reads is;
+      appends = Appends-trans t u v so_far.bytes results.bytes so_far.appends appends;
     }
 
-pub read_failed : (uid gid : ℕ) (file : List ℕ) (b c d : LinkBytes) (h i j : RequesterSide) (t u v : Option (List ℕ)) (size at : ℕ) (end : ClientEnd)
-    → at < size → ReadSoFar uid gid file b c h i t u size at → FailsToRead uid gid file size at c d i j u v end → ReadsFile uid gid file b d h j t v (Err end)
-read_failed uid gid file b c d h i j t u v size at end below so_far (inl (unanswered, none)) =
-    fails_unanswered uid gid file b c d h i j t u v size at end below so_far unanswered none
-read_failed uid gid file b c d h i j t u v size at end below so_far (inr (inl (outcome, (answered, (gives, none))))) =
-    fails_answered uid gid file b c d h i j t u v size at end outcome below so_far answered gives none
-read_failed uid gid file b c d h i j t u v size at end below so_far (inr (inr (is, (outcome, results, n, (answered, (reads, (short, part))))))) =
-    subst (λ (e : ClientEnd). ReadsFile uid gid file b d h j t v (Err e)) (sym is)
-    (fails_outside uid gid file b c d h i j t u v size at outcome results n below so_far answered reads short part)
+-- a READ of the rest of a piece is made alone
+pub is_alone : (uid gid : ℕ) (file : List ℕ) (size at end : ℕ) (waiting : List OpenRead) (bytes : List ℕ) (outcomes : List Outcome) (b : LinkBytes) (h : RequesterSide)
+    → at < size → at < end → IsInPiece size at end → file_read outcomes ≡ SizeKnown size at bytes
+    → IsMadeAlone uid gid file (moment outcomes waiting b h) (read_call uid gid file at (piece_left size at))
+is_alone uid gid file size at end waiting bytes outcomes b h below within piece state =
+    (follows uid gid file size at bytes outcomes below state, ap is_at_piece state ∙ not_at_piece size at end within piece bytes)
 
--- the size did not come
-pub size_failed : (uid gid : ℕ) (file : List ℕ) (b c : LinkBytes) (h i : RequesterSide) (t : Option (List ℕ)) (end : ClientEnd)
-    → Asks {A = Attributes} getattr_result (getattr_call uid gid file) b c h i (Err end) → ReadsFile uid gid file b c h i t t (Err end)
-size_failed uid gid file b c h i t end (inl (outcome, (answered, gives))) =
+pub alone_more : (uid gid : ℕ) (file : List ℕ) (size at at' end count step from : ℕ) (xids : List ℕ) (outcome : Outcome) (first : ReadingAt) (t u v : Option (List ℕ)) (b c : LinkBytes) (h i : RequesterSide)
+    → at < size → at < end → IsInPiece size at end → count ≡ piece_left size at → at' ≡ at + step
+    → Answers b c h i (read_call uid gid file at count) outcome → GivesData count outcome step u v
+    → ReadSoFar uid gid file size first t at from xids b h u → ReadSoFar uid gid file size first t at' from xids c i v
+alone_more uid gid file size at at' end count step from xids outcome first t u v b c h i below within piece same goes answered (results, (reads, (is, appends))) so_far =
+    let waiting = reads_from uid gid file size from xids in
+    let alone : Answers b c h i (read_call uid gid file at (piece_left size at)) outcome = subst (λ (n : ℕ). Answers b c h i (read_call uid gid file at n) outcome) same answered in
     record {
-      outcomes = outcome ∷ [];
-      between = c;
-      side = i;
-      made = (getattr_call uid gid file, c, i, (refl, (answered, (refl, refl))));
-      ends = inl (by (end_of_reply {A = Attributes} (Unit {0}) end (getattr_result outcome) gives));
-    }
-  where
-    by : (end ≡ client.Memory) ⊎ ((getattr_result outcome ≡ Err end) × Gives {A = Unit {0}} (Err end) (Err end))
-        → EndsWith (reading uid gid file (outcome ∷ [])) c c i i (Err end) × TakesRead (Err end) (outcome ∷ []) t t
-    by (inl memory) = (
-      subst (λ (e : ClientEnd). EndsWith (reading uid gid file (outcome ∷ [])) c c i i (Err e)) (sym memory) (memory_ends (reading uid gid file (outcome ∷ [])) c i),
-      inr (ap (λ (e : ClientEnd). Err e) memory, ([], outcome, (refl, Appends-nil t))),
-    )
-    by (inr (reads, same)) = (
-      ends_by uid gid file (outcome ∷ []) (ReadEnds end []) c c i i (Err end) (ap with_size reads) (same, (refl, refl)),
-      inl (takes_bytes (outcome ∷ []) (ReadEnds end []) t t (ap with_size reads) (Appends-nil t)),
-    )
-size_failed uid gid file b c h i t end (inr (inl (cause, (is, rest)))) =
-    record {
-      outcomes = [];
-      between = b;
-      side = h;
-      made = (refl, refl);
-      ends = inl ((client.Link cause, (ap (λ (e : ClientEnd). Err e) (ap (end_in {A = Attributes}) is), inl (cause, (refl, rest)))), inl (Appends-nil t));
-    }
-size_failed uid gid file b c h i t end (inr (inr (is, rest))) =
-    record {
-      outcomes = [];
-      between = b;
-      side = h;
-      made = (refl, refl);
-      ends = inl ((client.Memory, (ap (λ (e : ClientEnd). Err e) (ap (end_in {A = Attributes}) is), inr (refl, rest))), inl (Appends-nil t));
+      between = moment so_far.outcomes waiting b h ∷ so_far.between;
+      outcomes = so_far.outcomes ++ outcome ∷ [];
+      bytes = so_far.bytes ++ results.bytes;
+      made = (
+        MakesAlone (read_call uid gid file at (piece_left size at)) outcome (is_alone uid gid file size at end waiting so_far.bytes so_far.outcomes b h below within piece so_far.state) alone refl refl,
+        so_far.made,
+      );
+      state = data_came size at at' count step so_far.bytes so_far.outcomes outcome results so_far.state same goes reads is;
+      appends = Appends-trans t u v so_far.bytes results.bytes so_far.appends appends;
     }
 
--- ---- One READ, by the count that it asks for
+pub taken_from : (uid gid : ℕ) (file : List ℕ) (size at at' next count step : ℕ) (xid : ℕ) (xs xids : List ℕ) (outcome : Outcome) (first : ReadingAt) (t u v : Option (List ℕ)) (b c : LinkBytes) (h i : RequesterSide)
+    → xs ≡ xid ∷ xids → at < size → ReadsAhead h size at next xs → IsFull size next xs h → count ≡ piece_left size at → at' ≡ at + step
+    → Completes xid outcome b c h i → GivesData count outcome step u v
+    → ReadSoFar uid gid file size first t at at xs b h u → ReadSoFar uid gid file size first t at' (at + piece_left size at) xids c i v
+taken_from uid gid file size at at' next count step xid xs xids outcome first t u v b c h i is below ahead full same goes completes gives so_far =
+    taken_more uid gid file size at at' next count step xid xids outcome first t u v b c h i below
+    (subst (λ (l : List ℕ). ReadsAhead h size at next l) is ahead) (subst (λ (l : List ℕ). IsFull size next l h) is full) same goes completes gives
+    (subst (λ (l : List ℕ). ReadSoFar uid gid file size first t at at l b h u) is so_far)
 
-pub reads_on : (uid gid : ℕ) (file : List ℕ) (size at at' count step : ℕ) (b c : LinkBytes) (h i : RequesterSide) (t u : Option (List ℕ)) (outcome : Outcome) (results : ReadOk)
-    → count ≡ piece_left size at → Answers b c h i (read_call uid gid file at count) outcome → read_result count outcome ≡ Ok results
-    → step ≡ (if results.eof then count else length results.bytes) → at' ≡ at + step → Appends t u results.bytes → ReadsOn uid gid file size at at' b c h i t u
-reads_on uid gid file size at at' count step b c h i t u outcome results same answered reads is goes appends =
-    record {
-      outcome = outcome;
-      results = results;
-      answered = subst (λ (n : ℕ). Answers b c h i (read_call uid gid file at n) outcome) same answered;
-      reads = subst (λ (n : ℕ). read_result n outcome ≡ Ok results) same reads;
-      offset = goes ∙ ap (λ (n : ℕ). at + n) is ∙ ap (λ (n : ℕ). at + (if results.eof then n else length results.bytes)) same;
-      appends = appends;
-    }
+-- ---- A READ that was submitted, by the call and the tickets
 
-pub read_unanswered : (uid gid : ℕ) (file : List ℕ) (size at count : ℕ) (b c : LinkBytes) (h i : RequesterSide) (t : Option (List ℕ)) (end : ClientEnd)
-    → count ≡ piece_left size at → Unanswered (read_call uid gid file at count) b c h i end → FailsToRead uid gid file size at b c h i t t end
-read_unanswered uid gid file size at count b c h i t end same unanswered =
-    inl (subst (λ (n : ℕ). Unanswered (read_call uid gid file at n) b c h i end) same unanswered, Appends-nil t)
+call_is : (uid gid : ℕ) (file : List ℕ) (size next count : ℕ) (call : Call) → call ≡ read_call uid gid file next count → count ≡ piece_left size next
+    → call ≡ read_call uid gid file next (piece_left size next)
+call_is uid gid file size next count call is same = is ∙ ap (read_call uid gid file next) same
 
-pub read_answered : (uid gid : ℕ) (file : List ℕ) (size at count : ℕ) (b c : LinkBytes) (h i : RequesterSide) (t : Option (List ℕ)) (end : ClientEnd) (outcome : Outcome)
-    → count ≡ piece_left size at → Answers b c h i (read_call uid gid file at count) outcome → Gives {A = ReadOk} (Err end) (read_result count outcome)
-    → FailsToRead uid gid file size at b c h i t t end
-read_answered uid gid file size at count b c h i t end outcome same answered gives =
-    inr (inl (
-      outcome,
-      (
-        subst (λ (n : ℕ). Answers b c h i (read_call uid gid file at n) outcome) same answered,
-        (subst (λ (n : ℕ). Gives {A = ReadOk} (Err end) (read_result n outcome)) same gives, Appends-nil t),
-      ),
-    ))
+pub asked_from : (uid gid : ℕ) (file : List ℕ) (size at next count : ℕ) (xids ys : List ℕ) (xid : ℕ) (call : Call) (first : ReadingAt) (t u : Option (List ℕ)) (b c : LinkBytes) (h i : RequesterSide)
+    → ys ≡ xids ++ xid ∷ [] → call ≡ read_call uid gid file next count → count ≡ piece_left size next
+    → at < size → ReadsAhead h size at next xids → MayAsk size next xids h → Submits b c h i call xid
+    → ReadSoFar uid gid file size first t at at xids b h u → ReadSoFar uid gid file size first t at at ys c i u
+asked_from uid gid file size at next count xids ys xid call first t u b c h i all is same below ahead may submits so_far =
+    subst (λ (l : List ℕ). ReadSoFar uid gid file size first t at at l c i u) (sym all)
+    (asked_more uid gid file size at next xids xid first t u b c h i below ahead may
+    (subst (λ (a : Call). Submits b c h i a xid) (call_is uid gid file size next count call is same) submits) so_far)
 
-pub output_failed : (uid gid : ℕ) (file : List ℕ) (size at count : ℕ) (b c : LinkBytes) (h i : RequesterSide) (t u : Option (List ℕ)) (outcome : Outcome) (results : ReadOk)
-    → count ≡ piece_left size at → Answers b c h i (read_call uid gid file at count) outcome → read_result count outcome ≡ Ok results
-    → ((n : ℕ) × (n < length results.bytes) × Appends t u (take n results.bytes)) → FailsToRead uid gid file size at b c h i t u client.OutputFault
-output_failed uid gid file size at count b c h i t u outcome results same answered reads (n, short, part) =
-    inr (inr (
-      refl,
-      (
-        outcome,
-        results,
-        n,
-        (
-          subst (λ (k : ℕ). Answers b c h i (read_call uid gid file at k) outcome) same answered,
-          (subst (λ (k : ℕ). read_result k outcome ≡ Ok results) same reads, (short, part)),
-        ),
-      ),
-    ))
+pub ahead_from : (size at next count : ℕ) (xids ys : List ℕ) (xid : ℕ) (call : Call) (h i : RequesterSide)
+    → ys ≡ xids ++ xid ∷ [] → count ≡ piece_left size next → OpensTicket xid call h.state i.state → ReadsAhead h size at next xids → ReadsAhead i size at (next + count) ys
+ahead_from size at next count xids ys xid call h i all same opens ahead =
+    subst (λ (l : List ℕ). ReadsAhead i size at (next + count) l) (sym all)
+    (record {
+      piece = ahead.piece;
+      next_is =
+          ap (λ (n : ℕ). next + n) same ∙ ap (λ (n : ℕ). n + piece_left size n) ahead.next_is ∙ sym (next_after_last size at xids xid);
+      open_all = open_with_last xid call h.state i.state xids opens ahead.open_all;
+    })

@@ -1,5 +1,7 @@
 pub mod Answering
 pub mod CallsMade
+pub mod FileEnds
+pub mod FilePieces
 pub mod FileReading
 pub mod FileWriting
 pub mod Listings
@@ -8,6 +10,7 @@ pub mod Outcomes
 pub mod Pieces
 pub mod Refusals
 pub mod Sequences
+pub mod Tickets
 pub mod Turns
 pub mod Unanswered
 pub mod Walks

@@ -17,7 +17,7 @@ use Rattle.nr_requester.specs.RequesterState.{RequesterSide}
 use Rattle.nr_requester.specs.Answers.{answer_of}
 use Rattle.nr_requester.specs.Standing.{StandsOn}
 use Rattle.nr_client.specs.Ending.{LinkCause}
-use Rattle.nr_client.specs.Steps.{GoesTo, HasCreditLeft, HasWrittenAt, IsLeft, IsLive, ReadsNone, WritesFirst}
+use Rattle.nr_client.specs.Steps.{GoesTo, HasCreditLeft, HasWrittenAt, IsLeft, IsLive, IsOut, ReadsNone, WritesFirst}
 use Rattle.nr_client.specs.Transfers.{LinkBytes, Moves}
 use Rattle.nr_client.specs.declared.call_end.CallEnd.{CallEnd}
 
@@ -36,6 +36,14 @@ pub record MovesOfCall (opened : LinkParameters) (link : ℕ) (run : List Mark) 
   pub at_once : HasCreditLeft h → bytes_received link Initiator waits ≡ []
   pub before : WritesFirst opened link run waits
   pub written : WritesFirst opened link (run_to_submit run link call xid waits) moved
+
+-- The call was submitted, and no outcome of it was handed over yet: bytes moved while it waited for a credit, none of them read if one was left.
+pub record IsSubmitted (opened : LinkParameters) (link : ℕ) (run : List Mark) (b b' : LinkBytes) (h h' : RequesterSide) (call : Call) (xid : ℕ) : Type 0 where
+  pub waits : List Mark
+  pub bytes : Moves link b b' [] waits
+  pub at_once : HasCreditLeft h → bytes_received link Initiator waits ≡ []
+  pub before : WritesFirst opened link run waits
+  pub live : IsLive opened link h' (run_to_submit run link call xid waits)
 
 -- The call was submitted and answered with this outcome.
 pub record IsAnswered (opened : LinkParameters) (link : ℕ) (run : List Mark) (b b' : LinkBytes) (h h' : RequesterSide) (call : Call) (outcome : Outcome) : Type 0 where
@@ -60,6 +68,16 @@ pub record IsForgotten (opened : LinkParameters) (link : ℕ) (run : List Mark) 
   pub unanswered : NoneCame end opened link (run_to_submit run link call xid waits ++ moved) xid
   pub left : IsLeft end opened link h' ahead (run_of_call run link call xid waits moved (marks.Forget link xid))
 
+-- It is submitted under this xid: the client's side of the link had not ended.
+abbrev pub Submits : (b b' : LinkBytes) (h h' : RequesterSide) → Call → ℕ → Type 0
+Submits b b' h h' call xid =
+    (h.state.side.ended ≡ None)
+    × ((opened : LinkParameters) (link : ℕ) (run : List Mark) → IsOpened opened → IsLive opened link h run → IsSubmitted opened link run b b' h h' call xid)
+
+-- It is not submitted, for this cause; nothing was read if a credit was left.
+abbrev pub RefusesToSubmit : (b b' : LinkBytes) (h h' : RequesterSide) → Call → CallEnd → Type 0
+RefusesToSubmit b b' h h' call end = GoesTo end b b' h h' × (HasCreditLeft h → ReadsNone b b')
+
 -- It was answered: the client's side of the link had not ended when it was made.
 abbrev pub Answers : (b b' : LinkBytes) (h h' : RequesterSide) → Call → Outcome → Type 0
 Answers b b' h h' call outcome =
@@ -69,7 +87,7 @@ Answers b b' h h' call outcome =
 -- It has no answer: it was not submitted, and nothing was read if a credit was left; or it was forgotten at an end of the link.
 abbrev pub GivesUp : (b b' : LinkBytes) (h h' : RequesterSide) → Call → CallEnd → Type 0
 GivesUp b b' h h' call end =
-    (GoesTo end b b' h h' × (HasCreditLeft h → ReadsNone b b'))
+    RefusesToSubmit b b' h h' call end
     ⊎ (LinkCause end b'.left b'.read h'
     × ((opened : LinkParameters) (link : ℕ) (run : List Mark) → IsOpened opened → IsLive opened link h run → IsForgotten opened link run b b' h h' call end))
 
@@ -96,3 +114,14 @@ Forgets xid end b b' h h' =
     (opened : LinkParameters) (link : ℕ) (run : List Mark) → IsOpened opened → IsLive opened link h run →
     (moved : List Mark) × (ahead : List ℕ) × (Moves link b b' ahead moved × (WritesFirst opened link run moved × (HasWrittenAt end opened link (run ++ moved)
     × (NoneCame end opened link (run ++ moved) xid × IsLeft end opened link h' ahead ((run ++ moved) ++ marks.Forget link xid ∷ [])))))
+
+-- the call of an xid is forgotten, whether or not its answer has come
+abbrev pub ForgetsCall : ℕ → (h h' : RequesterSide) → Type 0
+ForgetsCall xid h h' =
+    ((opened : LinkParameters) (link : ℕ) (run : List Mark) → IsLive opened link h run → IsLive opened link h' (run ++ marks.Forget link xid ∷ []))
+    × ((opened : LinkParameters) (link : ℕ) (run : List Mark) → IsOut opened link h run → IsOut opened link h' (run ++ marks.Forget link xid ∷ []))
+
+-- these calls are forgotten, one after another
+abbrev pub ForgetsCalls : List ℕ → (h h' : RequesterSide) → Type 0
+ForgetsCalls [] h h' = h' ≡ h
+ForgetsCalls (xid ∷ xids) h h' = (i : RequesterSide) × (ForgetsCall xid h i × ForgetsCalls xids i h')

@@ -1,5 +1,5 @@
--- How a file is read: GETATTR gives its size, and READs give its bytes, in order.
-use Rattle.std.specs.Prelude.{◌≡◌, ℕ, ◌+◌, ◌-◌, ◌%◌, ◌<◌, ◌≤◌, Bool, not, ◌&&◌, ◌||◌, ◌==◌, nat_lt, min, if◌then◌else◌, ◌⊎◌, List, [], ◌∷◌, ◌++◌, length, take, fold, Option, Some, None, Result, Ok, Err}
+-- How a file is read: GETATTR gives its size, and READs give its bytes, several at a time.
+use Rattle.std.specs.Prelude.{◌≡◌, ℕ, ◌+◌, ◌-◌, ◌%◌, ◌<◌, ◌≤◌, Bool, not, ◌&&◌, ◌||◌, ◌==◌, nat_lt, min, if◌then◌else◌, ◌⊎◌, List, [], ◌∷◌, ◌++◌, length, map, take, fold, true, false, Option, Some, None, Result, Ok, Err}
 use Rattle.std.specs.Io.KnownBytes.{Appends}
 use Rattle.nr_xdr.specs.Items.{encodings}
 use Rattle.nr_rpc.specs.declared.head.ReplyHead.{ReplyHead}
@@ -21,10 +21,14 @@ use Rattle.nr_reduce.specs.declared.call.Outcome.TheVariants as outcomes
 use Rattle.nr_requester.specs.RequesterState.{RequesterSide}
 use Rattle.nr_client.specs.declared.client_end.ClientEnd.{ClientEnd}
 use Rattle.nr_client.specs.declared.client_end.ClientEnd.TheVariants as client
-use Rattle.nr_client.specs.Following.{EndsWith, MakesCalls, Next}
+use Rattle.nr_client.specs.declared.call_end.CallEnd.{CallEnd}
+use Rattle.nr_client.specs.Calls.{Answers, Completes, Forgets, ForgetsCalls, RefusesToSubmit, Submits}
+use Rattle.nr_client.specs.Ending.{IsCause, LinkCause}
+use Rattle.nr_client.specs.Following.{Next, Unanswered}
 use Rattle.nr_client.specs.Following.Next.{Calls, Returns}
 use Rattle.nr_client.specs.Listing.{no_progress}
 use Rattle.nr_client.specs.Requests.{client_call, getattr_call, getattr_result, nfs_reads}
+use Rattle.nr_client.specs.Steps.{HasCreditLeft}
 use Rattle.nr_client.specs.Transfers.{LinkBytes}
 
 -- ---- READ (RFC 1813 section 3.3.6)
@@ -116,6 +120,74 @@ next_read uid gid file (ReadEnds end bytes) = Returns (Err end)
 abbrev pub reading : (uid gid : ℕ) → (file : List ℕ) → List Outcome → Next (Unit {0})
 reading uid gid file outcomes = next_read uid gid file (file_read outcomes)
 
+-- ---- READs that are outstanding
+
+-- a READ that is outstanding: its xid, and its call
+pub record OpenRead : Type 0 where
+  pub xid : ℕ
+  pub call : Call
+
+abbrev pub xids_of : List OpenRead → List ℕ
+xids_of reads = map (λ (read : OpenRead). read.xid) reads
+
+-- A file that is being read: the replies, in order of offset; the READs that are outstanding, in that order too; and the link.
+pub record ReadingAt : Type 0 where
+  pub outcomes : List Outcome
+  pub waiting : List OpenRead
+  pub bytes : LinkBytes
+  pub side : RequesterSide
+
+abbrev pub starts_at : LinkBytes → RequesterSide → ReadingAt
+starts_at b h = record { outcomes = []; waiting = []; bytes = b; side = h }
+
+-- where the piece begins that comes after these READs, each of what is left of its piece
+abbrev pub offset_ahead : (size at : ℕ) → List OpenRead → ℕ
+offset_ahead size at [] = at
+offset_ahead size at (read ∷ reads) = offset_ahead size (at + piece_left size at) reads
+
+-- the replies reach the begin of a piece
+abbrev pub is_at_piece : FileRead → Bool
+is_at_piece NothingKnown = false
+is_at_piece (SizeKnown size at bytes) = at % transfer_max == 0
+is_at_piece (ReadEnds end bytes) = false
+
+-- the READ of the first piece, before the size, of which none is outstanding
+abbrev pub read_ahead : (uid gid : ℕ) → (file : List ℕ) → FileRead → List OpenRead → Option Call
+read_ahead uid gid file NothingKnown reads = None
+read_ahead uid gid file (SizeKnown size at bytes) reads =
+    let next = offset_ahead size at reads in
+    if nat_lt next size then Some (read_call uid gid file next (piece_left size next)) else None
+read_ahead uid gid file (ReadEnds end bytes) reads = None
+
+-- GETATTR, and a READ of the rest of a piece of which a READ gave less than it asked for, are made alone: no other call is submitted until the
+-- answer has come.
+abbrev pub IsMadeAlone : (uid gid : ℕ) → (file : List ℕ) → ReadingAt → Call → Type 0
+IsMadeAlone uid gid file s call = (reading uid gid file s.outcomes ≡ Calls call) × (is_at_piece (file_read s.outcomes) ≡ false)
+
+-- The READ of a piece is submitted while others are outstanding, if a credit is left.
+abbrev pub IsMadeAhead : (uid gid : ℕ) → (file : List ℕ) → ReadingAt → Call → Type 0
+IsMadeAhead uid gid file s call =
+    (is_at_piece (file_read s.outcomes) ≡ true) × ((read_ahead uid gid file (file_read s.outcomes) s.waiting ≡ Some call) × ((s.waiting ≡ []) ⊎ HasCreditLeft s.side))
+
+-- no credit is left, or a READ of each piece up to the size is outstanding
+abbrev pub NoneIsMadeAhead : (uid gid : ℕ) → (file : List ℕ) → ReadingAt → Type 0
+NoneIsMadeAhead uid gid file s = (read_ahead uid gid file (file_read s.outcomes) s.waiting ≡ None) ⊎ (s.side.state.grant ≤ length s.side.state.outstanding)
+
+-- A step: a call was made alone; or a READ was submitted ahead; or, when none is, the oldest READ was answered, which is the one that follows from
+-- the replies before.
+pub data ReadStep (uid gid : ℕ) (file : List ℕ) (s t : ReadingAt) : Type 0 where
+  MakesAlone : (call : Call) (outcome : Outcome) → IsMadeAlone uid gid file s call → Answers s.bytes t.bytes s.side t.side call outcome
+      → t.outcomes ≡ s.outcomes ++ outcome ∷ [] → t.waiting ≡ s.waiting → ReadStep uid gid file s t
+  AsksAhead : (read : OpenRead) → IsMadeAhead uid gid file s read.call → Submits s.bytes t.bytes s.side t.side read.call read.xid
+      → t.outcomes ≡ s.outcomes → t.waiting ≡ s.waiting ++ read ∷ [] → ReadStep uid gid file s t
+  TakesOldest : (read : OpenRead) (outcome : Outcome) → NoneIsMadeAhead uid gid file s → reading uid gid file s.outcomes ≡ Calls read.call
+      → Completes read.xid outcome s.bytes t.bytes s.side t.side → t.outcomes ≡ s.outcomes ++ outcome ∷ [] → s.waiting ≡ read ∷ t.waiting → ReadStep uid gid file s t
+
+-- Steps lead from one state to another, by these states between, the last one first.
+abbrev pub LeadsBy : (uid gid : ℕ) → (file : List ℕ) → (first : ReadingAt) → List ReadingAt → (last : ReadingAt) → Type 0
+LeadsBy uid gid file first [] last = last ≡ first
+LeadsBy uid gid file first (s ∷ states) last = ReadStep uid gid file s last × LeadsBy uid gid file first states s
+
 -- ---- The output
 
 -- The output took the bytes that came in the replies; or memory ran out for the last reply, and it took those that came before.
@@ -130,19 +202,34 @@ TakesPart outcomes taken taken' =
     (before : List Outcome) × (last : Outcome) × (n : ℕ) ×
     ((outcomes ≡ before ++ last ∷ []) × ((length (bytes_read before) ≤ n) × ((n < length (bytes_read outcomes)) × Appends taken taken' (take n (bytes_read outcomes)))))
 
--- After these outcomes the request ends as its calls say, or because the output failed.
-abbrev pub EndsReading : Next (Unit {0}) → List Outcome → (b b' : LinkBytes) (h h' : RequesterSide) → (taken taken' : Option (List ℕ)) → Result (Unit {0}) ClientEnd → Type 0
-EndsReading next outcomes b b' h h' taken taken' given =
-    (EndsWith next b b' h h' given × TakesRead given outcomes taken taken')
-    ⊎ ((given ≡ Err client.OutputFault) × (((b' ≡ b) × (h' ≡ h)) × TakesPart outcomes taken taken'))
+-- ---- The end
 
--- A file was read into an output: its calls were made in order, and the bytes of their replies were written as they came.
+-- How it ends after these replies, with these READs still outstanding: with its result, or memory ran out; or the output failed; or the next call
+-- has no answer, or could not be submitted; or the oldest READ has no answer, and is forgotten.
+pub data EndsReading (uid gid : ℕ) (file : List ℕ) (s : ReadingAt) (left : List OpenRead) (b : LinkBytes) (h : RequesterSide) (taken taken' : Option (List ℕ)) (given : Result (Unit {0}) ClientEnd) : Type 0 where
+  EndsByReplies : (b ≡ s.bytes) × (h ≡ s.side) → (given ≡ Err client.Memory) ⊎ (reading uid gid file s.outcomes ≡ Returns given)
+      → left ≡ s.waiting → TakesRead given s.outcomes taken taken' → EndsReading uid gid file s left b h taken taken' given
+  OutputFails : given ≡ Err client.OutputFault → (b ≡ s.bytes) × (h ≡ s.side) → left ≡ s.waiting → TakesPart s.outcomes taken taken'
+      → EndsReading uid gid file s left b h taken taken' given
+  NotAnswered : (call : Call) (end : ClientEnd) → IsMadeAlone uid gid file s call → given ≡ Err end → Unanswered call s.bytes b s.side h end → left ≡ s.waiting
+      → TakesRead given s.outcomes taken taken' → EndsReading uid gid file s left b h taken taken' given
+  NotSubmitted : (call : Call) (end : CallEnd) → IsMadeAhead uid gid file s call → given ≡ Err (client.Link end)
+      → RefusesToSubmit s.bytes b s.side h call end × IsCause end b.left b.read h call → left ≡ s.waiting
+      → TakesRead given s.outcomes taken taken' → EndsReading uid gid file s left b h taken taken' given
+  OldestForgotten : (read : OpenRead) (end : CallEnd) → NoneIsMadeAhead uid gid file s → reading uid gid file s.outcomes ≡ Calls read.call → given ≡ Err (client.Link end)
+      → Forgets read.xid end s.bytes b s.side h × LinkCause end b.left b.read h → s.waiting ≡ read ∷ left
+      → TakesRead given s.outcomes taken taken' → EndsReading uid gid file s left b h taken taken' given
+
+-- A file was read into an output: its calls were made, up to the grant at a time, and the bytes of their replies were written in order. At an end
+-- the READs that are still outstanding are forgotten.
 pub record ReadsFile (uid gid : ℕ) (file : List ℕ) (b b' : LinkBytes) (h h' : RequesterSide) (taken taken' : Option (List ℕ)) (given : Result (Unit {0}) ClientEnd) : Type 0 where
-  pub outcomes : List Outcome
-  pub between : LinkBytes
+  pub between : List ReadingAt
+  pub last : ReadingAt
+  pub made : LeadsBy uid gid file (starts_at b h) between last
+  pub left : List OpenRead
   pub side : RequesterSide
-  pub made : MakesCalls (reading uid gid file) outcomes b between h side
-  pub ends : EndsReading (reading uid gid file outcomes) outcomes between b' side h' taken taken' given
+  pub ends : EndsReading uid gid file last left b' side taken taken' given
+  pub forgets : ForgetsCalls (xids_of left) side h'
 
 -- the fault count of the output rises at OutputFault alone, and that of an input at InputFault alone
 abbrev pub OutputFaults : {A : Type 0} → Result A ClientEnd → ℕ → ℕ → Type 0

@@ -2,3 +2,4 @@
 pub mod Becomes
 pub mod Pieces
 pub mod FileSteps
+pub mod OpenReads

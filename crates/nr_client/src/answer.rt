@@ -3,6 +3,7 @@
 ghost use Rattle.std.specs.Prelude.{◌≡◌, IfOk, IfErr};
 ghost use Rattle.nr_reduce.specs.declared.call.Call.{Call};
 ghost use Rattle.nr_rpc.specs.Credential.{CanWriteCred};
+ghost use Rattle.nr_requester.specs.OpenCalls.{KeepsTickets};
 ghost use Rattle.nr_client.specs.Calls.{Answers};
 ghost use Rattle.nr_client.specs.Following.{Unanswered};
 ghost use Rattle.nr_client.specs.Requests.{SinkFaults, SourceFaults};
@@ -30,6 +31,7 @@ pub(crate) fn outcome_of<I: Source, O: Sink>(
         (link_bytes (I.left link.new.source) (I.given link.new.source) (O.taken link.new.sink) link.new.read)
         link.old.requester link.new.requester end) }
     ensures of_call { IfErr result IsOfCall }
+    ensures tickets { KeepsTickets link.old.requester.state link.new.requester.state }
     ensures source_faults { SourceFaults result (I.faults link.old.source) (I.faults link.new.source) }
     ensures sink_faults { SinkFaults result (O.faults link.old.sink) (O.faults link.new.sink) }
 {

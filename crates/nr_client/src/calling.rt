@@ -1,11 +1,11 @@
 //! A call over a link.
 
-ghost use Rattle.std.specs.Prelude.{◌≡◌, ◌<◌, true, is_some, Some, [], length, Option, List, ℕ, IfOk, IfErr, OnOk, OnErr};
+ghost use Rattle.std.specs.Prelude.{◌≡◌, ◌<◌, true, is_some, [], length, Option, List, ℕ, IfOk, IfErr, OnOk, OnErr};
 ghost use Rattle.nr_rpc.specs.Credential.{CanWriteCred};
 ghost use Rattle.nr_requester.specs.Fed.{fed_bytes};
-ghost use Rattle.nr_requester.specs.OpenCalls.{KeepsTickets, found_answer, open_call};
+ghost use Rattle.nr_requester.specs.OpenCalls.{ClosesTicket, KeepsTickets, OpensTicket, found_answer, open_call};
 ghost use Rattle.nr_requester.specs.RequesterState.{queue_of};
-ghost use Rattle.nr_client.specs.Calls.{Answers, Completes, Forgets, GivesUp, HandsOver, IsSent};
+ghost use Rattle.nr_client.specs.Calls.{Answers, Completes, Forgets, GivesUp, HandsOver, IsSent, RefusesToSubmit, Submits};
 ghost use Rattle.nr_client.specs.Ending.{HasCredit, IsCause, IsEndOf, LinkCause, SinkCount, SourceCount};
 ghost use Rattle.nr_client.specs.Steps.{Fits, GoesOn, GoesTo, HasCreditLeft, LacksAnswer, ReadsNone};
 ghost use Rattle.nr_client.specs.Transfers.{link_bytes};
@@ -37,6 +37,7 @@ fn wait_for_credit<I: Source, O: Sink>(
     ensures err { IfErr result (λ end. GoesTo end (link_bytes (I.left source.old) (I.given source.old) (O.taken sink.old) read.old)
         (link_bytes (I.left source.new) (I.given source.new) (O.taken sink.new) read.new) requester.old requester.new) }
     ensures cause { IfErr result (λ end. LinkCause end (I.left source.new) read.new requester.new) }
+    ensures tickets { KeepsTickets requester.old.state requester.new.state }
     ensures source_count { SourceCount result (I.faults source.old) (I.faults source.new) }
     ensures sink_count { SinkCount result (O.faults sink.old) (O.faults sink.new) }
 {
@@ -102,7 +103,7 @@ fn submit(requester: &mut Requester, call: Call) -> Result<Ticket, CallEnd>
     requires writable { CanWriteCred call.cred }
     requires credit { length requester.old.state.outstanding < requester.old.state.grant }
     ensures sent { IfOk result (λ xid. IsSent xid call requester.old requester.new) }
-    ensures open { IfOk result (λ xid. open_call xid requester.new.state ≡ Some call) }
+    ensures tickets { IfOk result (λ xid. OpensTicket xid call requester.old.state requester.new.state) }
     ensures err { OnErr result (requester.new ≡ requester.old) }
     ensures fed { fed_bytes requester.new ≡ fed_bytes requester.old }
     ensures cause { IfErr result (λ end. (left : Option (List ℕ)) (read : ℕ) → IsCause end left read requester.new call) }
@@ -123,6 +124,7 @@ fn take_outcome(requester: &mut Requester, ticket: Ticket) -> Outcome
     requires there { is_some (found_answer ticket requester.old.state) ≡ true }
     requires open { is_some (open_call ticket requester.old.state) ≡ true }
     ensures completes { HandsOver ticket result requester.old requester.new }
+    ensures tickets { ClosesTicket ticket requester.old.state requester.new.state }
     ensures fed { fed_bytes requester.new ≡ fed_bytes requester.old }
 {
     let done = match requester.try_take(ticket) {
@@ -141,7 +143,7 @@ fn take_outcome(requester: &mut Requester, ticket: Ticket) -> Outcome
 }
 
 /// Waits for the answer to a call that was submitted. If there is none, the call is forgotten.
-fn complete<I: Source, O: Sink>(
+pub(crate) fn complete<I: Source, O: Sink>(
     requester: &mut Requester,
     source: &mut I,
     sink: &mut O,
@@ -157,6 +159,7 @@ fn complete<I: Source, O: Sink>(
     ensures err { IfErr result (λ end. Forgets ticket end (link_bytes (I.left source.old) (I.given source.old) (O.taken sink.old) read.old)
         (link_bytes (I.left source.new) (I.given source.new) (O.taken sink.new) read.new) requester.old requester.new) }
     ensures cause { IfErr result (λ end. LinkCause end (I.left source.new) read.new requester.new) }
+    ensures tickets { ClosesTicket ticket requester.old.state requester.new.state }
     ensures source_count { SourceCount result (I.faults source.old) (I.faults source.new) }
     ensures sink_count { SinkCount result (O.faults sink.old) (O.faults sink.new) }
 {
@@ -166,6 +169,41 @@ fn complete<I: Source, O: Sink>(
             requester.forget(ticket);
             Err(end)
         }
+    }
+}
+
+/// Submits a call once a credit is left.
+pub(crate) fn submit_over<I: Source, O: Sink>(
+    requester: &mut Requester,
+    source: &mut I,
+    sink: &mut O,
+    read: &mut u64,
+    buf: &mut [u8],
+    call: Call,
+) -> Result<Ticket, CallEnd>
+    requires writable { CanWriteCred call.cred }
+    requires fits { Fits requester.old read.old (length buf.old) }
+    ensures fits { Fits requester.new read.new (length buf.new) }
+    ensures ok { IfOk result (λ xid. Submits (link_bytes (I.left source.old) (I.given source.old) (O.taken sink.old) read.old)
+        (link_bytes (I.left source.new) (I.given source.new) (O.taken sink.new) read.new) requester.old requester.new call xid) }
+    ensures err { IfErr result (λ end. RefusesToSubmit (link_bytes (I.left source.old) (I.given source.old) (O.taken sink.old) read.old)
+        (link_bytes (I.left source.new) (I.given source.new) (O.taken sink.new) read.new) requester.old requester.new call end) }
+    ensures cause { IfErr result (λ end. IsCause end (I.left source.new) read.new requester.new call) }
+    ensures opens { IfOk result (λ xid. OpensTicket xid call requester.old.state requester.new.state) }
+    ensures keeps { OnErr result (KeepsTickets requester.old.state requester.new.state) }
+    ensures source_count { SourceCount result (I.faults source.old) (I.faults source.new) }
+    ensures sink_count { SinkCount result (O.faults sink.old) (O.faults sink.new) }
+{
+    match wait_for_credit(requester, source, sink, read, buf) {
+        Ok(()) => {}
+        Err(end) => {
+            drop(call);
+            return Err(end);
+        }
+    }
+    match submit(requester, call) {
+        Ok(ticket) => Ok(ticket),
+        Err(end) => Err(end),
     }
 }
 
@@ -186,17 +224,11 @@ pub(crate) fn call_over<I: Source, O: Sink>(
     ensures err { IfErr result (λ end. GivesUp (link_bytes (I.left source.old) (I.given source.old) (O.taken sink.old) read.old)
         (link_bytes (I.left source.new) (I.given source.new) (O.taken sink.new) read.new) requester.old requester.new call end) }
     ensures cause { IfErr result (λ end. IsCause end (I.left source.new) read.new requester.new call) }
+    ensures tickets { KeepsTickets requester.old.state requester.new.state }
     ensures source_count { SourceCount result (I.faults source.old) (I.faults source.new) }
     ensures sink_count { SinkCount result (O.faults sink.old) (O.faults sink.new) }
 {
-    match wait_for_credit(requester, source, sink, read, buf) {
-        Ok(()) => {}
-        Err(end) => {
-            drop(call);
-            return Err(end);
-        }
-    }
-    let ticket = match submit(requester, call) {
+    let ticket = match submit_over(requester, source, sink, read, buf, call) {
         Ok(ticket) => ticket,
         Err(end) => return Err(end),
     };

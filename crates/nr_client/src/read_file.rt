@@ -1,49 +1,24 @@
 //! A file is read into an output.
 
-ghost use Rattle.std.specs.Prelude.{◌≡◌, ◌<◌, ◌≤◌, ◌+◌, false, if◌then◌else◌, length, OnOk, IfErr};
+ghost use Rattle.std.specs.Prelude.{◌≡◌, ◌⊎◌, ◌<◌, ◌≤◌, ◌+◌, ℕ, List, [], length, Option, Ok, IfOk, OnOk, IfErr};
+ghost use Rattle.nr_requester.specs.OpenCalls.{KeepsTickets};
 ghost use Rattle.nr_client.specs.Reading.{OutputFaults, ReadsFile, piece_left};
 ghost use Rattle.nr_client.specs.Requests.{SinkFaults, SourceFaults};
 ghost use Rattle.nr_client.specs.Transfers.{link_bytes};
-ghost use Rattle.nr_client.specs.private.FileSteps.{FailsToRead, ReadsOn};
+ghost use Rattle.nr_client.specs.private.OpenReads.{AreOpen, EndsSo, HasEnded, IsInPiece, ReadSoFar, ReadsAhead, ReadsOn};
 
 use crate::answer::outcome_of;
 use crate::asking::ask_nfs;
 use crate::client_end::ClientEnd;
 use crate::file_calls::read_call;
-use crate::file_results::read_in;
 use crate::link::Link;
+use crate::read_data::{piece_left, write_data};
+use crate::reading_ahead::{fill, forget_all, take_oldest};
 use crate::requests::getattr_call;
-use nr_nfs_base::{Attributes, Handle, TRANSFER_MAX};
-use nr_nfs_res::ReadOk;
-use nr_outside::{Sink, Source, write_whole};
+use nr_nfs_base::{Attributes, Handle};
+use nr_outside::{Sink, Source};
+use nr_requester::Ticket;
 use std::alloc::Global;
-
-/// How many bytes a READ at this offset asks for.
-fn piece_left(size: u64, at: u64) -> u32
-    requires { at < size }
-    ensures is { result ≡ piece_left size at }
-    ensures some { 0 < result }
-    ensures within { at + result ≤ size }
-{
-    let piece = TRANSFER_MAX as u64;
-    (piece - at % piece).min(size - at) as u32
-}
-
-/// How far the next READ is after one of `count` bytes.
-fn advance(results: &ReadOk, count: u32) -> u32
-    requires some { 0 < count }
-    requires within { length results.now.bytes ≤ count }
-    requires sense { results.now.eof ≡ false → 0 < length results.now.bytes }
-    ensures is { result ≡ (if results.now.eof then count else length results.now.bytes) }
-    ensures some { 0 < result }
-    ensures within { result ≤ count }
-{
-    if results.eof {
-        count
-    } else {
-        results.bytes.as_slice().len() as u32
-    }
-}
 
 /// One READ, of what is left of its piece. Its data are written to the output.
 fn read_on<I: Source, O: Sink, K: Sink>(
@@ -53,19 +28,24 @@ fn read_on<I: Source, O: Sink, K: Sink>(
     gid: u32,
     file: &Handle,
     size: u64,
+    end: u64,
     at: &mut u64,
     out: &mut K,
 ) -> Result<(), ClientEnd>
-    requires { at.old < size }
-    ensures ok { OnOk result (ReadsOn uid gid file.now size at.old at.new
+    requires below { at.old < size }
+    requires within { at.old < end }
+    requires piece { IsInPiece size at.old end }
+    ensures piece { OnOk result (IsInPiece size at.new end) }
+    ensures more { OnOk result (at.old < at.new) }
+    ensures ok { OnOk result ((from : ℕ) (xids : List ℕ) → ReadsOn uid gid file.now size at.old from xids at.new from xids
         (link_bytes (I.left link.old.source) (I.given link.old.source) (O.taken link.old.sink) link.old.read)
         (link_bytes (I.left link.new.source) (I.given link.new.source) (O.taken link.new.sink) link.new.read)
         link.old.requester link.new.requester (K.taken out.old) (K.taken out.new)) }
-    ensures more { OnOk result (at.old < at.new) }
-    ensures err { IfErr result (λ end. FailsToRead uid gid file.now size at.old
+    ensures err { IfErr result (λ why. (from : ℕ) (xids : List ℕ) → EndsSo uid gid file.now size at.old from xids xids
         (link_bytes (I.left link.old.source) (I.given link.old.source) (O.taken link.old.sink) link.old.read)
         (link_bytes (I.left link.new.source) (I.given link.new.source) (O.taken link.new.sink) link.new.read)
-        link.old.requester link.new.requester (K.taken out.old) (K.taken out.new) end) }
+        link.old.requester link.new.requester (K.taken out.old) (K.taken out.new) (Err why)) }
+    ensures tickets { KeepsTickets link.old.requester.state link.new.requester.state }
     ensures out_faults { OutputFaults result (K.faults out.old) (K.faults out.new) }
     ensures source_faults { SourceFaults result (I.faults link.old.source) (I.faults link.new.source) }
     ensures sink_faults { SinkFaults result (O.faults link.old.sink) (O.faults link.new.sink) }
@@ -75,25 +55,127 @@ fn read_on<I: Source, O: Sink, K: Sink>(
         Ok(outcome) => outcome,
         Err(end) => return Err(end),
     };
-    let results = match read_in(alloc, &outcome, count) {
-        Ok(results) => results,
-        Err(end) => {
-            drop(outcome);
-            return Err(end);
-        }
+    let step = match write_data(alloc, outcome, count, out) {
+        Ok(step) => step,
+        Err(end) => return Err(end),
     };
-    drop(outcome);
-    let step = advance(&results, count);
-    let bytes = results.bytes.as_slice();
-    match write_whole(out, bytes) {
-        Ok(()) => {}
-        Err(_) => {
-            drop(results);
-            return Err(ClientEnd::OutputFault);
+    *at += step as u64;
+    Ok(())
+}
+
+/// READs of the rest of a piece, one after another.
+fn read_rest<I: Source, O: Sink, K: Sink>(
+    alloc: Global,
+    link: &mut Link<I, O>,
+    uid: u32,
+    gid: u32,
+    file: &Handle,
+    size: u64,
+    end: u64,
+    at: &mut u64,
+    out: &mut K,
+) -> Result<(), ClientEnd>
+    requires within { end ≤ size }
+    requires piece { IsInPiece size at.old end }
+    ensures end { OnOk result (at.new ≡ end) }
+    ensures ok { OnOk result ((from : ℕ) (xids : List ℕ) → ReadsOn uid gid file.now size at.old from xids at.new from xids
+        (link_bytes (I.left link.old.source) (I.given link.old.source) (O.taken link.old.sink) link.old.read)
+        (link_bytes (I.left link.new.source) (I.given link.new.source) (O.taken link.new.sink) link.new.read)
+        link.old.requester link.new.requester (K.taken out.old) (K.taken out.new)) }
+    ensures err { IfErr result (λ why. (from : ℕ) (xids : List ℕ) → EndsSo uid gid file.now size at.old from xids xids
+        (link_bytes (I.left link.old.source) (I.given link.old.source) (O.taken link.old.sink) link.old.read)
+        (link_bytes (I.left link.new.source) (I.given link.new.source) (O.taken link.new.sink) link.new.read)
+        link.old.requester link.new.requester (K.taken out.old) (K.taken out.new) (Err why)) }
+    ensures tickets { KeepsTickets link.old.requester.state link.new.requester.state }
+    ensures out_faults { OutputFaults result (K.faults out.old) (K.faults out.new) }
+    ensures source_faults { SourceFaults result (I.faults link.old.source) (I.faults link.new.source) }
+    ensures sink_faults { SinkFaults result (O.faults link.old.sink) (O.faults link.new.sink) }
+{
+    'rest: while *at < end {
+        match read_on(alloc, link, uid, gid, file, size, end, at, out) {
+            Ok(()) => {}
+            Err(why) => return Err(why),
         }
     }
-    drop(results);
-    *at += step as u64;
+    Ok(())
+}
+
+/// The oldest READ is answered, and the rest of its piece is read, while READs of later pieces are outstanding.
+fn read_piece<I: Source, O: Sink, K: Sink>(
+    alloc: Global,
+    link: &mut Link<I, O>,
+    uid: u32,
+    gid: u32,
+    file: &Handle,
+    size: u64,
+    at: &mut u64,
+    next: &mut u64,
+    tickets: &mut Vec<Ticket>,
+    out: &mut K,
+) -> Result<(), ClientEnd>
+    requires below { at.old < size }
+    requires ahead { ReadsAhead link.old.requester size at.old next.old tickets.old.items }
+    ensures open { AreOpen link.new.requester.state tickets.new.items }
+    ensures more { OnOk result (at.old < at.new) }
+    ensures ahead { OnOk result (ReadsAhead link.new.requester size at.new next.new tickets.new.items) }
+    ensures ok { OnOk result (ReadsOn uid gid file.now size at.old at.old tickets.old.items at.new at.new tickets.new.items
+        (link_bytes (I.left link.old.source) (I.given link.old.source) (O.taken link.old.sink) link.old.read)
+        (link_bytes (I.left link.new.source) (I.given link.new.source) (O.taken link.new.sink) link.new.read)
+        link.old.requester link.new.requester (K.taken out.old) (K.taken out.new)) }
+    ensures err { IfErr result (λ why. EndsSo uid gid file.now size at.old at.old tickets.old.items tickets.new.items
+        (link_bytes (I.left link.old.source) (I.given link.old.source) (O.taken link.old.sink) link.old.read)
+        (link_bytes (I.left link.new.source) (I.given link.new.source) (O.taken link.new.sink) link.new.read)
+        link.old.requester link.new.requester (K.taken out.old) (K.taken out.new) (Err why)) }
+    ensures out_faults { OutputFaults result (K.faults out.old) (K.faults out.new) }
+    ensures source_faults { SourceFaults result (I.faults link.old.source) (I.faults link.new.source) }
+    ensures sink_faults { SinkFaults result (O.faults link.old.sink) (O.faults link.new.sink) }
+{
+    let end = *at + piece_left(size, *at) as u64;
+    match fill(alloc, link, uid, gid, file, size, *at, next, tickets) {
+        Ok(()) => {}
+        Err(why) => return Err(why),
+    }
+    match take_oldest(alloc, link, size, at, tickets, out) {
+        Ok(()) => {}
+        Err(why) => return Err(why),
+    }
+    match read_rest(alloc, link, uid, gid, file, size, end, at, out) {
+        Ok(()) => Ok(()),
+        Err(why) => Err(why),
+    }
+}
+
+/// Reads all pieces of a file of this size.
+fn read_pieces<I: Source, O: Sink, K: Sink>(
+    alloc: Global,
+    link: &mut Link<I, O>,
+    uid: u32,
+    gid: u32,
+    file: &Handle,
+    size: u64,
+    tickets: &mut Vec<Ticket>,
+    out: &mut K,
+) -> Result<(), ClientEnd>
+    requires { tickets.old.items ≡ [] }
+    ensures open { AreOpen link.new.requester.state tickets.new.items }
+    ensures ends { EndsSo uid gid file.now size 0 0 [] tickets.new.items
+        (link_bytes (I.left link.old.source) (I.given link.old.source) (O.taken link.old.sink) link.old.read)
+        (link_bytes (I.left link.new.source) (I.given link.new.source) (O.taken link.new.sink) link.new.read)
+        link.old.requester link.new.requester (K.taken out.old) (K.taken out.new) result }
+    ensures out_faults { OutputFaults result (K.faults out.old) (K.faults out.new) }
+    ensures source_faults { SourceFaults result (I.faults link.old.source) (I.faults link.new.source) }
+    ensures sink_faults { SinkFaults result (O.faults link.old.sink) (O.faults link.new.sink) }
+{
+    let mut at = 0;
+    let mut next = 0;
+    'pieces: while at < size {
+        match read_piece(
+            alloc, link, uid, gid, file, size, &mut at, &mut next, tickets, out,
+        ) {
+            Ok(()) => {}
+            Err(why) => return Err(why),
+        }
+    }
     Ok(())
 }
 
@@ -119,13 +201,17 @@ pub(crate) fn read_file_over<I: Source, O: Sink, K: Sink>(
         Ok(attributes) => attributes,
         Err(end) => return Err(end),
     };
-    let size = attributes.size;
-    let mut at = 0;
-    while at < size {
-        match read_on(alloc, link, uid, gid, file, size, &mut at, out) {
-            Ok(()) => {}
-            Err(end) => return Err(end),
-        }
-    }
-    Ok(())
+    let mut tickets = Vec::new(alloc);
+    let result = read_pieces(
+        alloc,
+        link,
+        uid,
+        gid,
+        file,
+        attributes.size,
+        &mut tickets,
+        out,
+    );
+    forget_all(link, &mut tickets);
+    result
 }

@@ -12,6 +12,8 @@ mod ends;
 #[cfg(test)]
 mod pieces;
 #[cfg(test)]
+mod reading;
+#[cfg(test)]
 mod runs;
 #[cfg(test)]
 mod servers;

@@ -35,7 +35,7 @@ pub(crate) struct Case<'a> {
 }
 
 /// The first field of a row, and the others; no others if there are none.
-fn field(text: &str) -> (&str, &str) {
+pub(crate) fn field(text: &str) -> (&str, &str) {
     match text.split_once('|') {
         Some(fields) => fields,
         None => (text, ""),
@@ -62,7 +62,7 @@ pub(crate) fn read_case<'a>(rt: &impl Abort, text: &'a str) -> Case<'a> {
 }
 
 /// Appends a piece.
-fn push_piece(rt: &impl Abort, alloc: Global, bytes: &mut Vec<u8>, word: &str) {
+pub(crate) fn push_piece(rt: &impl Abort, alloc: Global, bytes: &mut Vec<u8>, word: &str) {
     let Ok(part) = hex::decode(alloc, piece(word)) else {
         panic!(rt; "no digits: {word}")
     };
@@ -147,7 +147,7 @@ pub(crate) fn source(
 }
 
 /// Runs a client, and gives its status.
-fn run_client(
+pub(crate) fn run_client(
     alloc: Global,
     words: &[String],
     input: &mut MemSource,

@@ -5,7 +5,7 @@ use Rattle.nr_client.proofs.calling.wait_for_credit.Goals as goal
 
 pub returns-in-Err-clause-err : goal.returns-in-Err-clause-err
 returns-in-Err-clause-err g c =
-    let (fits, sources, sinks, at_once, started, goes) = c.loop-requester.invariant in
+    let (fits, tickets, sources, sinks, at_once, started, goes) = c.loop-requester.invariant in
     turn_to c.in-Err.end (link_bytes (g.I.Source.left c.args.source.now) (g.I.Source.given c.args.source.now) (g.O.Sink.taken c.args.sink.now) c.args.read.now)
     (link_bytes (g.I.Source.left c.loop-requester.source) (g.I.Source.given c.loop-requester.source) (g.O.Sink.taken c.loop-requester.sink) c.loop-requester.read)
     (link_bytes (g.I.Source.left c.transfer.new.source) (g.I.Source.given c.transfer.new.source) (g.O.Sink.taken c.transfer.new.sink) c.transfer.new.read)
@@ -13,32 +13,33 @@ returns-in-Err-clause-err g c =
 
 pub returns-in-Err-clause-at_once : goal.returns-in-Err-clause-at_once
 returns-in-Err-clause-at_once g c credit =
-    let (fits, sources, sinks, at_once, started, goes) = c.loop-requester.invariant in
+    let (fits, tickets, sources, sinks, at_once, started, goes) = c.loop-requester.invariant in
     let none : c.loop-requester.requester.state.grant ≤ length c.loop-requester.requester.state.outstanding = grind (arith, c.outstanding.ensures, c.grant.ensures, c.loop-requester-test.true) in
     absurd (never_waits c.args.requester.now c.loop-requester.requester (at_once credit).0 credit none)
 
 pub returns-in-Err-clause-source_count : goal.returns-in-Err-clause-source_count
 returns-in-Err-clause-source_count g c =
-    let (fits, sources, sinks, at_once, started, goes) = c.loop-requester.invariant in
+    let (fits, tickets, sources, sinks, at_once, started, goes) = c.loop-requester.invariant in
     same_source c.in-Err.end (g.I.Source.faults c.args.source.now) (g.I.Source.faults c.loop-requester.source) (g.I.Source.faults c.transfer.new.source) sources c.in-Err.ensures.source_count
 
 pub returns-in-Err-clause-sink_count : goal.returns-in-Err-clause-sink_count
 returns-in-Err-clause-sink_count g c =
-    let (fits, sources, sinks, at_once, started, goes) = c.loop-requester.invariant in
+    let (fits, tickets, sources, sinks, at_once, started, goes) = c.loop-requester.invariant in
     same_sink c.in-Err.end (g.O.Sink.faults c.args.sink.now) (g.O.Sink.faults c.loop-requester.sink) (g.O.Sink.faults c.transfer.new.sink) sinks c.in-Err.ensures.sink_count
 
 pub loop-requester-smaller : goal.loop-requester-smaller
 loop-requester-smaller g c =
-    let (fits, sources, sinks, at_once, started, goes) = c.loop-requester.invariant in
+    let (fits, tickets, sources, sinks, at_once, started, goes) = c.loop-requester.invariant in
     let more = c.in-Ok.ensures.more in
     let within = c.in-Ok.ensures.fits.within in
     omega (arith, more, within)
 
 pub loop-requester-preserved : goal.loop-requester-preserved
 loop-requester-preserved g c =
-    let (fits, sources, sinks, at_once, started, goes) = c.loop-requester.invariant in
+    let (fits, tickets, sources, sinks, at_once, started, goes) = c.loop-requester.invariant in
     let none : c.loop-requester.requester.state.grant ≤ length c.loop-requester.requester.state.outstanding = grind (arith, c.outstanding.ensures, c.grant.ensures, c.loop-requester-test.true) in (
       c.in-Ok.ensures.fits,
+      λ xid. c.in-Ok.ensures.tickets xid ∙ tickets xid,
       c.in-Ok.ensures.source_count ∙ sources,
       c.in-Ok.ensures.sink_count ∙ sinks,
       λ credit. absurd (never_waits c.args.requester.now c.loop-requester.requester (at_once credit).0 credit none),
@@ -52,6 +53,7 @@ loop-requester-preserved g c =
 pub loop-requester-init : goal.loop-requester-init
 loop-requester-init g c = (
   c.requires.fits,
+  λ xid. refl,
   refl,
   refl,
   λ credit. (refl, (refl, (refl, refl))),
@@ -61,7 +63,7 @@ loop-requester-init g c = (
 
 pub returns-in-Ok-write_due-clause-ok : goal.returns-in-Ok-write_due-clause-ok
 returns-in-Ok-write_due-clause-ok g c =
-    let (fits, sources, sinks, at_once, started, goes) = c.loop-requester.invariant in
+    let (fits, tickets, sources, sinks, at_once, started, goes) = c.loop-requester.invariant in
     turns_compose (link_bytes (g.I.Source.left c.args.source.now) (g.I.Source.given c.args.source.now) (g.O.Sink.taken c.args.sink.now) c.args.read.now)
     (link_bytes (g.I.Source.left c.loop-requester.source) (g.I.Source.given c.loop-requester.source) (g.O.Sink.taken c.loop-requester.sink) c.loop-requester.read)
     (link_bytes (g.I.Source.left c.loop-requester.source) (g.I.Source.given c.loop-requester.source) (g.O.Sink.taken c.write_due.new.sink) c.loop-requester.read)
@@ -70,7 +72,7 @@ returns-in-Ok-write_due-clause-ok g c =
 
 pub returns-in-Err-write_due-clause-err : goal.returns-in-Err-write_due-clause-err
 returns-in-Err-write_due-clause-err g c =
-    let (fits, sources, sinks, at_once, started, goes) = c.loop-requester.invariant in
+    let (fits, tickets, sources, sinks, at_once, started, goes) = c.loop-requester.invariant in
     turn_to c.in-Err-write_due.end (link_bytes (g.I.Source.left c.args.source.now) (g.I.Source.given c.args.source.now) (g.O.Sink.taken c.args.sink.now) c.args.read.now)
     (link_bytes (g.I.Source.left c.loop-requester.source) (g.I.Source.given c.loop-requester.source) (g.O.Sink.taken c.loop-requester.sink) c.loop-requester.read)
     (link_bytes (g.I.Source.left c.loop-requester.source) (g.I.Source.given c.loop-requester.source) (g.O.Sink.taken c.write_due.new.sink) c.loop-requester.read)

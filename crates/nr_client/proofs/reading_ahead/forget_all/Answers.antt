@@ -1,0 +1,15 @@
+use Rattle.std.proofs.Common.{◌<◌, length, arith, ◌∙◌}
+use Rattle.nr_client.proofs.Tickets.{forgets_first, front, rest_open}
+use Rattle.nr_client.proofs.reading_ahead.forget_all.Goals as goal
+
+pub tickets-preserved : goal.tickets-preserved
+tickets-preserved g c =
+    let (are, sources, sinks, reads, forgets) = c.tickets.invariant in
+    let some : 0 < length c.tickets.tickets.items = grind (arith, c.tickets-test.true, c.len.ensures) in
+    let is = front c.tickets.tickets.items c.remove.new.self.items c.remove.result some c.remove.ensures.value c.remove.ensures.items in (
+      rest_open c.remove.result c.tickets.link.requester.state c.forget.new.self.requester.state c.tickets.tickets.items c.remove.new.self.items is c.forget.ensures.tickets are,
+      c.forget.ensures.rest.0 ∙ sources,
+      c.forget.ensures.rest.1.0 ∙ sinks,
+      c.forget.ensures.rest.1.1 ∙ reads,
+      λ j rest. forgets j (forgets_first c.remove.result c.tickets.tickets.items c.remove.new.self.items c.tickets.link.requester c.forget.new.self.requester j is c.forget.ensures.forgets rest),
+    )

@@ -1,0 +1,169 @@
+//! READs of the next pieces of a file are outstanding while the data of the first are written.
+
+ghost use Rattle.std.specs.Prelude.{◌≡◌, ◌⊎◌, ◌<◌, ◌≤◌, ◌+◌, ℕ, true, false, List, [], length, Option, Err, IfOk, OnOk, IfErr};
+ghost use Rattle.nr_client.specs.Calls.{ForgetsCalls};
+ghost use Rattle.nr_client.specs.Reading.{OutputFaults, piece_left};
+ghost use Rattle.nr_client.specs.Requests.{SinkFaults, SourceFaults};
+ghost use Rattle.nr_client.specs.Results.{IsOfCall};
+ghost use Rattle.nr_client.specs.Transfers.{link_bytes};
+ghost use Rattle.nr_client.specs.private.OpenReads.{AreOpen, EndsSo, IsFull, IsInPiece, MayAsk, ReadsAhead, ReadsOn, next_offset};
+
+use crate::client_end::ClientEnd;
+use crate::file_calls::read_call;
+use crate::link::Link;
+use crate::read_data::{piece_left, write_data};
+use nr_nfs_base::Handle;
+use nr_outside::{Sink, Source};
+use nr_requester::Ticket;
+use std::alloc::Global;
+
+/// Whether the next piece is asked for: none is outstanding, or a credit is left.
+fn may_ask<I: Source, O: Sink>(link: &Link<I, O>, size: u64, next: u64, tickets: &[Ticket]) -> bool
+    ensures yes { result ≡ true → MayAsk size next tickets.now link.now.requester }
+    ensures no { result ≡ false → IsFull size next tickets.now link.now.requester }
+{
+    if next >= size {
+        return false;
+    }
+    tickets.is_empty() || link.has_credit()
+}
+
+/// Submits a READ of the next piece.
+fn ask<I: Source, O: Sink>(
+    alloc: Global,
+    link: &mut Link<I, O>,
+    uid: u32,
+    gid: u32,
+    file: &Handle,
+    size: u64,
+    next: &mut u64,
+    tickets: &mut Vec<Ticket>,
+) -> Result<(), ClientEnd>
+    requires may { MayAsk size next.old tickets.old.items link.old.requester }
+    requires open { AreOpen link.old.requester.state tickets.old.items }
+    ensures open { AreOpen link.new.requester.state tickets.new.items }
+    ensures ahead { OnOk result ((at : ℕ) → ReadsAhead link.old.requester size at next.old tickets.old.items → ReadsAhead link.new.requester size at next.new tickets.new.items) }
+    ensures more { OnOk result (next.old < next.new) }
+    ensures within { OnOk result (next.new ≤ size) }
+    ensures ok { OnOk result ((at : ℕ) (t : Option (List ℕ)) → at < size → ReadsAhead link.old.requester size at next.old tickets.old.items →
+        ReadsOn uid gid file.now size at at tickets.old.items at at tickets.new.items
+        (link_bytes (I.left link.old.source) (I.given link.old.source) (O.taken link.old.sink) link.old.read)
+        (link_bytes (I.left link.new.source) (I.given link.new.source) (O.taken link.new.sink) link.new.read)
+        link.old.requester link.new.requester t t) }
+    ensures err { IfErr result (λ end. (at : ℕ) (t : Option (List ℕ)) → at < size → ReadsAhead link.old.requester size at next.old tickets.old.items →
+        EndsSo uid gid file.now size at at tickets.old.items tickets.new.items
+        (link_bytes (I.left link.old.source) (I.given link.old.source) (O.taken link.old.sink) link.old.read)
+        (link_bytes (I.left link.new.source) (I.given link.new.source) (O.taken link.new.sink) link.new.read)
+        link.old.requester link.new.requester t t (Err end)) }
+    ensures of_call { IfErr result IsOfCall }
+    ensures source_faults { SourceFaults result (I.faults link.old.source) (I.faults link.new.source) }
+    ensures sink_faults { SinkFaults result (O.faults link.old.sink) (O.faults link.new.sink) }
+{
+    let count = piece_left(size, *next);
+    if let Err(_) = tickets.reserve(1) {
+        return Err(ClientEnd::Memory);
+    }
+    let call = match read_call(alloc, uid, gid, file, *next, count) {
+        Ok(call) => call,
+        Err(_) => return Err(ClientEnd::Memory),
+    };
+    let ticket = match link.submit(call) {
+        Ok(ticket) => ticket,
+        Err(end) => return Err(ClientEnd::Link(end)),
+    };
+    tickets.push_reserved(ticket);
+    *next += count as u64;
+    Ok(())
+}
+
+/// Submits READs of the next pieces while a credit is left, and at least one if none is outstanding.
+pub(crate) fn fill<I: Source, O: Sink>(
+    alloc: Global,
+    link: &mut Link<I, O>,
+    uid: u32,
+    gid: u32,
+    file: &Handle,
+    size: u64,
+    at: u64,
+    next: &mut u64,
+    tickets: &mut Vec<Ticket>,
+) -> Result<(), ClientEnd>
+    requires below { at < size }
+    requires ahead { ReadsAhead link.old.requester size at next.old tickets.old.items }
+    ensures open { AreOpen link.new.requester.state tickets.new.items }
+    ensures ahead { OnOk result (ReadsAhead link.new.requester size at next.new tickets.new.items) }
+    ensures full { OnOk result (IsFull size next.new tickets.new.items link.new.requester) }
+    ensures ok { OnOk result ((t : Option (List ℕ)) → ReadsOn uid gid file.now size at at tickets.old.items at at tickets.new.items
+        (link_bytes (I.left link.old.source) (I.given link.old.source) (O.taken link.old.sink) link.old.read)
+        (link_bytes (I.left link.new.source) (I.given link.new.source) (O.taken link.new.sink) link.new.read)
+        link.old.requester link.new.requester t t) }
+    ensures err { IfErr result (λ end. (t : Option (List ℕ)) → EndsSo uid gid file.now size at at tickets.old.items tickets.new.items
+        (link_bytes (I.left link.old.source) (I.given link.old.source) (O.taken link.old.sink) link.old.read)
+        (link_bytes (I.left link.new.source) (I.given link.new.source) (O.taken link.new.sink) link.new.read)
+        link.old.requester link.new.requester t t (Err end)) }
+    ensures of_call { IfErr result IsOfCall }
+    ensures source_faults { SourceFaults result (I.faults link.old.source) (I.faults link.new.source) }
+    ensures sink_faults { SinkFaults result (O.faults link.old.sink) (O.faults link.new.sink) }
+{
+    'asked: while may_ask(link, size, *next, tickets.as_slice()) {
+        match ask(alloc, link, uid, gid, file, size, next, tickets) {
+            Ok(()) => {}
+            Err(end) => return Err(end),
+        }
+    }
+    Ok(())
+}
+
+/// Takes the outcome of the oldest READ, once it has come, and writes its data to the output.
+pub(crate) fn take_oldest<I: Source, O: Sink, K: Sink>(
+    alloc: Global,
+    link: &mut Link<I, O>,
+    size: u64,
+    at: &mut u64,
+    tickets: &mut Vec<Ticket>,
+    out: &mut K,
+) -> Result<(), ClientEnd>
+    requires below { at.old < size }
+    requires some { 0 < length tickets.old.items }
+    requires open { AreOpen link.old.requester.state tickets.old.items }
+    ensures open { AreOpen link.new.requester.state tickets.new.items }
+    ensures next { next_offset size (at.old + piece_left size at.old) tickets.new.items ≡ next_offset size at.old tickets.old.items }
+    ensures piece { OnOk result (IsInPiece size at.new (at.old + piece_left size at.old)) }
+    ensures more { OnOk result (at.old < at.new) }
+    ensures ok { OnOk result ((uid gid next : ℕ) (file : List ℕ) → ReadsAhead link.old.requester size at.old next tickets.old.items → IsFull size next tickets.old.items link.old.requester →
+        ReadsOn uid gid file size at.old at.old tickets.old.items at.new (at.old + piece_left size at.old) tickets.new.items
+        (link_bytes (I.left link.old.source) (I.given link.old.source) (O.taken link.old.sink) link.old.read)
+        (link_bytes (I.left link.new.source) (I.given link.new.source) (O.taken link.new.sink) link.new.read)
+        link.old.requester link.new.requester (K.taken out.old) (K.taken out.new)) }
+    ensures err { IfErr result (λ why. (uid gid next : ℕ) (file : List ℕ) → ReadsAhead link.old.requester size at.old next tickets.old.items → IsFull size next tickets.old.items link.old.requester →
+        EndsSo uid gid file size at.old at.old tickets.old.items tickets.new.items
+        (link_bytes (I.left link.old.source) (I.given link.old.source) (O.taken link.old.sink) link.old.read)
+        (link_bytes (I.left link.new.source) (I.given link.new.source) (O.taken link.new.sink) link.new.read)
+        link.old.requester link.new.requester (K.taken out.old) (K.taken out.new) (Err why)) }
+    ensures out_faults { OutputFaults result (K.faults out.old) (K.faults out.new) }
+    ensures source_faults { SourceFaults result (I.faults link.old.source) (I.faults link.new.source) }
+    ensures sink_faults { SinkFaults result (O.faults link.old.sink) (O.faults link.new.sink) }
+{
+    let count = piece_left(size, *at);
+    let outcome = match link.wait(tickets.remove(0)) {
+        Ok(outcome) => outcome,
+        Err(end) => return Err(ClientEnd::Link(end)),
+    };
+    let step = match write_data(alloc, outcome, count, out) {
+        Ok(step) => step,
+        Err(end) => return Err(end),
+    };
+    *at += step as u64;
+    Ok(())
+}
+
+/// Forgets all READs that are outstanding.
+pub(crate) fn forget_all<I: Source, O: Sink>(link: &mut Link<I, O>, tickets: &mut Vec<Ticket>)
+    requires { AreOpen link.old.requester.state tickets.old.items }
+    ensures forgets { ForgetsCalls tickets.old.items link.old.requester link.new.requester }
+    ensures rest { (link.new.source ≡ link.old.source) × ((link.new.sink ≡ link.old.sink) × (link.new.read ≡ link.old.read)) }
+{
+    'tickets: while tickets.len() > 0 {
+        link.forget(tickets.remove(0));
+    }
+}
