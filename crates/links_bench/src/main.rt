@@ -29,7 +29,13 @@ struct Plan {
 }
 
 /// Submits calls while one may be sent, with arguments that came back or that are made. Gives how many were submitted.
-fn submit_all(alloc: Global, client: &mut Client, spare: &mut Option<Octets>, plan: Plan, left: u32) -> Option<u32> {
+fn submit_all(
+    alloc: Global,
+    client: &mut Client,
+    spare: &mut Option<Octets>,
+    plan: Plan,
+    left: u32,
+) -> Option<u32> {
     let mut count: u32 = 0;
     for _ in 0..left {
         if !client.can_submit(plan.outstanding) {
@@ -124,11 +130,11 @@ fn plan_of(rt: &HostRuntime) -> Option<(String, Plan)> {
 }
 
 /// Runs the plan, and gives what is confirmed and the microseconds.
-fn measured(rt: HostRuntime, addr: &str, plan: Plan) -> io::Result<Option<(u64, u64)>> {
+fn measured(rt: HostRuntime, addr: &str, plan: Plan) -> io::Result<Option<(u64, u128)>> {
     let mut dialer = TcpDialer::new(rt);
     let start = Instant::now(&rt)?;
     let total = linked(rt.alloc(), &mut dialer, addr, plan);
-    let micros = start.elapsed(&rt)?.as_micros() as u64;
+    let micros = start.elapsed(&rt)?.as_micros();
     Ok(total.map(|total| (total, micros)))
 }
 
