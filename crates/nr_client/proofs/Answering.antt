@@ -174,7 +174,7 @@ lacks_answer xid r there none = true_false (sym there ∙ ap is_some none)
 pub still_caused : (xid : ℕ) (end : CallEnd) (left : Option (List ℕ)) (read : ℕ) (h i : RequesterSide) → i ≡ after_forget h xid → LinkCause end left read h → LinkCause end left read i
 unfolding after_forget
 still_caused xid (calls.Ended end) left read h i is cause = ap (λ (x : RequesterSide). x.state.side.ended) is ∙ cause
-still_caused xid calls.LinkRead left read h i is cause = ap (λ (x : RequesterSide). x.state.side.ended) is ∙ cause
+still_caused xid calls.LinkRead left read h i is cause = (ap (λ (x : RequesterSide). x.state.side.ended) is ∙ cause.0, cause.1)
 still_caused xid calls.LinkWrite left read h i is cause = tt
 still_caused xid calls.Closed left read h i is cause = (ap (λ (x : RequesterSide). x.state.side.ended) is ∙ cause.0, cause.1)
 still_caused xid (calls.Spent left_over need) left read h i is cause = absurd cause

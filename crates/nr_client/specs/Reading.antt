@@ -145,7 +145,7 @@ abbrev pub offset_ahead : (size at : ℕ) → List OpenRead → ℕ
 offset_ahead size at [] = at
 offset_ahead size at (read ∷ reads) = offset_ahead size (at + piece_left size at) reads
 
--- the replies reach the begin of a piece
+-- the replies reach the beginning of a piece
 abbrev pub is_at_piece : FileRead → Bool
 is_at_piece NothingKnown = false
 is_at_piece (SizeKnown size at bytes) = at % transfer_max == 0
@@ -164,7 +164,7 @@ read_ahead uid gid file (ReadEnds end bytes) reads = None
 abbrev pub IsMadeAlone : (uid gid : ℕ) → (file : List ℕ) → ReadingAt → Call → Type 0
 IsMadeAlone uid gid file s call = (reading uid gid file s.outcomes ≡ Calls call) × (is_at_piece (file_read s.outcomes) ≡ false)
 
--- The READ of a piece is submitted while others are outstanding, if a credit is left.
+-- The READ of a piece is submitted while others are outstanding, if a credit is left. If none is outstanding, it waits for a credit.
 abbrev pub IsMadeAhead : (uid gid : ℕ) → (file : List ℕ) → ReadingAt → Call → Type 0
 IsMadeAhead uid gid file s call =
     (is_at_piece (file_read s.outcomes) ≡ true) × ((read_ahead uid gid file (file_read s.outcomes) s.waiting ≡ Some call) × ((s.waiting ≡ []) ⊎ HasCreditLeft s.side))

@@ -1,6 +1,6 @@
 //! A link over which calls are made.
 
-ghost use Rattle.std.specs.Prelude.{◌≡◌, ℕ, true, is_some, nat_lt, length, [], IfOk, IfErr, OnErr};
+ghost use Rattle.std.specs.Prelude.{◌≡◌, ◌≤◌, ℕ, true, is_some, nat_lt, length, [], IfOk, IfErr, OnErr};
 ghost use Rattle.nr_rpc.specs.Credential.{CanWriteCred};
 ghost use Rattle.nr_reduce.specs.declared.mark.LinkParameters.{LinkParameters};
 ghost use Rattle.nr_requester.specs.Standing.{RequesterRepresents};
@@ -9,6 +9,7 @@ ghost use Rattle.nr_requester.specs.OpenCalls.{ClosesTicket, KeepsTickets, Opens
 ghost use Rattle.nr_client.specs.Calls.{Answers, Completes, Forgets, ForgetsCall, GivesUp, RefusesToSubmit, Submits};
 ghost use Rattle.nr_client.specs.Ending.{IsCause, LinkCause, SinkCount, SourceCount};
 ghost use Rattle.nr_client.specs.Transfers.{link_bytes};
+ghost use Rattle.nr_links.specs.Limits.{read_max};
 
 use crate::call_end::CallEnd;
 use crate::calling::{call_over, complete, submit_over};
@@ -80,6 +81,7 @@ impl<I: Source, O: Sink> Link<I, O> {
         ensures tickets { KeepsTickets self.old.requester.state self.new.requester.state }
         ensures source_count { SourceCount result (I.faults self.old.source) (I.faults self.new.source) }
         ensures sink_count { SinkCount result (O.faults self.old.sink) (O.faults self.new.sink) }
+        ensures within { self.new.read ≤ read_max }
     {
         call_over(
             &mut self.requester,

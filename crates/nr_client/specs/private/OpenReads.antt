@@ -30,7 +30,7 @@ abbrev pub next_offset : (size from : ℕ) → List ℕ → ℕ
 next_offset size from [] = from
 next_offset size from (xid ∷ xids) = next_offset size (from + piece_left size from) xids
 
--- the replies reach the begin of a piece, or the size
+-- the replies reach the beginning of a piece, or the size
 abbrev pub IsAtPiece : (size at : ℕ) → Type 0
 IsAtPiece size at = (at % transfer_max ≡ 0) ⊎ (size ≤ at)
 
