@@ -7,7 +7,7 @@ mod client;
 mod work;
 
 use client::Client;
-use nr_links::{Dialer, READ_MAX, TcpDialer};
+use nr_links::{Dialer, PIECE_MAX, TcpDialer};
 use nr_outside::{Sink, Source};
 use nr_reduce::Outcome;
 use nr_xdr::Octets;
@@ -96,7 +96,7 @@ fn linked<D: Dialer>(alloc: Global, dialer: &mut D, addr: &str, plan: Plan) -> O
     let Ok(mut client) = Client::open(alloc, CREDITS) else {
         return None;
     };
-    let Ok(mut piece) = vec![in alloc; 0u8; READ_MAX as usize] else {
+    let Ok(mut piece) = vec![in alloc; 0u8; PIECE_MAX] else {
         return None;
     };
     let Ok((mut source, mut sink)) = dialer.dial(addr) else {
