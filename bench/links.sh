@@ -10,9 +10,9 @@ NFSRDMA, LINKS = map(os.path.abspath, sys.argv[1:3])
 TIMES = 5
 SIZE = 32_768
 FILE = 16 << 20
-# The frames of a GETATTR without a credential and of its reply, in bytes: length 2, DDP and RDMAP header 18, transport header 28, RPC message
-# 52 and 112, CRC field 4.
-CALL, REPLY = 104, 164
+# The frames of a GETATTR with an AUTH_SYS credential without a name and of its reply, in bytes: length 2, DDP and RDMAP header 18, transport
+# header 28, RPC message 72 and 112, CRC field 4.
+CALL, REPLY = 124, 164
 TURNS, CALLS = 20_000, 2_000
 
 

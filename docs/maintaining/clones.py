@@ -3,10 +3,13 @@
 
     clones.py build [-j N] [NAME ..]   in a checkout: builds all libraries, or those of these crates and below, N at once (4)
     clones.py take FOLDER              in a checkout: links what FOLDER has built of each crate whose files are the same here
+    clones.py gate FOLDER              in a checkout: links the libraries that a run of `rt ci` in FOLDER has proved so far, of the same crates
 
 `build` proves each library over what earlier checks kept, so that `rt check` of any crate can begin at once. `rt check` alone builds the
 libraries below one after another. `take` makes hard links of `out/rlib` and `out/incremental`: a check adds files there and changes none.
-It takes a crate only if its own files are the same in both; begin both at the same commit.
+It takes a crate only if its own files are the same in both; begin both at the same commit. `gate` stamps the libraries that a run of the
+gate leaves without a stamp, so that checks of the crates above them begin at once; it can be repeated while the gate runs. A check over them
+is one for work in progress: the gate's own verdict comes from `rt ci`.
 """
 from __future__ import annotations
 
@@ -112,6 +115,32 @@ def take(folder: str) -> int:
     return 0
 
 
+def gate(folder: str) -> int:
+    """Links the libraries that a run of the gate has proved, each with a stamp of its own, and returns a status."""
+    kit = load_kit()
+    kit.Crate.cuts_libraries = False
+    taken: set[str] = set()
+    for it in sorted(kit.crates_below(os.getcwd()), key=lambda it: len(it.below())):
+        there = f"{folder}/crates/{it.name}/out/rlib/{it.name}.rlib"
+        if not it.makes_rlib() or not os.path.isfile(f"{there}/format"):
+            continue
+        if any(low.name not in taken for low in it.below()) or not same_files(f"crates/{it.name}", f"{folder}/crates/{it.name}"):
+            continue
+        if it.is_built():
+            if kit.sum_of(f"{it.rlib}/format") == kit.sum_of(f"{there}/format"):
+                taken.add(it.name)
+            continue
+        to = f"crates/{it.name}/out/rlib"
+        shutil.rmtree(to, ignore_errors=True)
+        os.makedirs(to)
+        subprocess.run(["cp", "-al", there, f"{to}/{it.name}.rlib"], check=True)
+        with open(f"{to}/stamp", "w", encoding="utf-8") as stamp:
+            stamp.write(it.stamp())
+        taken.add(it.name)
+        print(f"took {it.name}")
+    return 0
+
+
 def main(words: list[str]) -> int:
     if words[:1] == ["build"]:
         words = words[1:]
@@ -121,6 +150,8 @@ def main(words: list[str]) -> int:
         return build(words, jobs)
     if words[:1] == ["take"] and len(words) == 2:
         return take(words[1])
+    if words[:1] == ["gate"] and len(words) == 2:
+        return gate(words[1])
     print(__doc__)
     return 0 if words in (["-h"], ["--help"]) else 1
 

@@ -5,7 +5,7 @@ ghost use Rattle.std.specs.Prelude.{◌≡◌};
 use nr_outside::{Sink, Source};
 use nr_reduce::{Call, Form, Outcome};
 use nr_requester::{Done, Requester, Take, Ticket};
-use nr_rpc::Cred;
+use nr_rpc::{Cred, Gids};
 use nr_xdr::{Memory, Octets};
 use std::alloc::Global;
 use std::collections::VecDeque;
@@ -60,13 +60,20 @@ impl Client {
         out < u64::from(self.end.grant()) && out < u64::from(most)
     }
 
-    /// Submits a call without a credential in form Auto.
-    pub fn submit(&mut self, procedure: Procedure, args: Octets) -> Option<()> {
+    /// Submits a call of user 0 in form Auto.
+    pub fn submit(&mut self, alloc: Global, procedure: Procedure, args: Octets) -> Option<()> {
+        let cred = Cred::Sys {
+            stamp: 0,
+            machine: Octets::from_vec(Vec::new(alloc)),
+            uid: 0,
+            gid: 0,
+            gids: Gids::new(),
+        };
         let call = Call {
             prog: procedure.prog,
             vers: procedure.vers,
             proc: procedure.proc,
-            cred: Cred::None,
+            cred,
             args,
         };
         match self.end.submit(call, Form::Auto) {

@@ -45,7 +45,7 @@ fn submit_all(
             Some(args) => args,
             None => plan.work.args(alloc).ok()?,
         };
-        client.submit(plan.work.procedure(), args)?;
+        client.submit(alloc, plan.work.procedure(), args)?;
         count = count.saturating_add(1);
     }
     Some(count)
