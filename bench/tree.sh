@@ -35,6 +35,9 @@ for size in (65_536, 16_777_216):
     copy = each('copy', size, 100_000)
     for what in ('read', 'write'):
         took = each(what, size, 20_000)
+        if what == 'write':
+            # the program makes the payload of the call, which a caller has
+            took -= each('payloads', size, 100_000)
         print(f'{what} of 32 KiB in {size:,} bytes: {took:.2f} microseconds, a copy {copy:.2f}, {took / copy:.2f} copies')
 none = memory('churn', 0)
 print(f'memory of an empty file: {(memory("churn", 200_000) - memory("churn", 100_000)) / 100_000:.0f} bytes')

@@ -1,5 +1,5 @@
-//! A benchmark, run by hand against `nfsrdma serve`: GETATTRs of the root, or READs or WRITEs of 32 KiB of file 2, over TCP, with at most
-//! so many outstanding. It prints how many calls, or how many bytes, the replies confirm, and the microseconds that they took. The
+//! A benchmark, run by hand against `nfsrdma serve`: GETATTRs of the root, or READs or WRITEs of 32 KiB of file 2, over TCP, with at most n
+//! outstanding. It prints how many calls, or how many bytes, the replies confirm, and the microseconds that they took. The
 //! arguments are the address; `getattr`, `read` or `write`; the number of calls; and how many may be outstanding.
 #![tactic(auto)]
 

@@ -139,14 +139,13 @@ pub(crate) fn read(alloc: Global, server: &mut Server, number: u64, offset: u64)
     call(alloc, server, &payload)
 }
 
-/// Writes these bytes, whose number is a multiple of four, over a file.
-pub(crate) fn write(
+/// The payload of a WRITE of these bytes, whose number is a multiple of four.
+pub(crate) fn write_payload(
     alloc: Global,
-    server: &mut Server,
     number: u64,
     offset: u64,
     data: &[u8],
-) -> Option<u64> {
+) -> Option<Octets> {
     let mut payload = head(alloc, WRITE)?;
     put_handle(&mut payload, number)?;
     put_long(&mut payload, offset)?;
@@ -155,5 +154,17 @@ pub(crate) fn write(
     put(&mut payload, 2)?;
     put(&mut payload, count)?;
     payload.extend_from_slice(data).ok()?;
+    Some(payload)
+}
+
+/// Writes these bytes, whose number is a multiple of four, over a file.
+pub(crate) fn write(
+    alloc: Global,
+    server: &mut Server,
+    number: u64,
+    offset: u64,
+    data: &[u8],
+) -> Option<u64> {
+    let payload = write_payload(alloc, number, offset, data)?;
     call(alloc, server, &payload)
 }

@@ -2,13 +2,14 @@
 //! `readdir` and `readdirplus` list the last 100 files of a directory of that size. `churn` removes its oldest file and
 //! makes a new one, `rename` gives its oldest file a new name, `create` makes a new one; `directories` removes the
 //! oldest directory of a root of that many entries, half of them directories, and makes a new one. `read` and `write`
-//! move 32 KiB at offsets of a file of that many bytes, and `copy` copies 32 KiB at the same offsets from one buffer to
-//! another. `sparse` writes a byte at 1 MiB into each of that many files. It prints how many bytes the replies have.
+//! move 32 KiB at offsets of a file of that many bytes, `payloads` makes the payloads of such WRITEs alone, and `copy`
+//! copies 32 KiB at the same offsets from one buffer to another. `sparse` writes a byte at 1 MiB into each of that many
+//! files. It prints how many bytes the replies have.
 #![tactic(auto)]
 
 mod calls;
 
-use calls::{create, list, mkdir, read, remove, rename, rmdir, write};
+use calls::{create, list, mkdir, read, remove, rename, rmdir, write, write_payload};
 use nr_nfs_base::{Time, Verifier};
 use nr_plain::Server;
 use nr_tree::Tree;
@@ -178,6 +179,16 @@ fn moved(
     Some(total)
 }
 
+/// Makes the payloads of WRITEs alone, and gives how many bytes they have.
+fn payloads(alloc: Global, size: u32, rounds: u32, data: &[u8]) -> Option<u64> {
+    let mut total: u64 = 0;
+    for round in 0..rounds {
+        let payload = write_payload(alloc, 2, offset(round, size), data)?;
+        total = total.saturating_add(payload.len() as u64);
+    }
+    Some(total)
+}
+
 /// The change that a word names.
 fn change_named(word: &str) -> Option<Change> {
     match word {
@@ -210,6 +221,9 @@ fn listed_or_moved(
         "copy" => copied(alloc, size, rounds),
         _ => {
             let data = vec![in alloc; 7u8; PIECE].ok()?;
+            if what == "payloads" {
+                return payloads(alloc, size, rounds, data.as_slice());
+            }
             moved(alloc, server, size, rounds, data.as_slice(), what == "read")
         }
     }
