@@ -2,6 +2,7 @@
 use Rattle.std.proofs.Common.{◌≡◌, ℕ, ◌+◌, ◌*◌, ◌/◌, ◌%◌, ◌<◌, ◌≤◌, ◌⊎◌, inl, inr, true, false, List, [], ◌∷◌, ◌++◌, length, Some, None, arith, refl, sym, ap, subst, ◌∙◌}
 use Rattle.std.proofs.lemmas.Bool.{cases_lt, eq-eqb, ne_eqb, lt-ltb, le-ltb}
 use Rattle.std.proofs.lemmas.Nat.{div-add-mod', mod-mul-add, mod_below}
+use Rattle.nr_nfs_base.specs.Limits.{transfer_max}
 use Rattle.nr_requester.specs.RequesterState.{RequesterSide}
 use Rattle.nr_client.specs.Reading.{OpenRead, is_at_piece, offset_ahead, piece_left, read_ahead, read_call, xids_of}
 use Rattle.nr_client.specs.Reading.FileRead.{SizeKnown}
@@ -9,40 +10,40 @@ use Rattle.nr_client.specs.private.OpenReads.{AreOpen, IsAtPiece, IsFull, IsInPi
 
 -- ---- Offsets within a piece
 
-mod_further : (at n : ℕ) → at % 32768 + n < 32768 → (at + n) % 32768 ≡ at % 32768 + n
+mod_further : (at n : ℕ) → at % transfer_max + n < transfer_max → (at + n) % transfer_max ≡ at % transfer_max + n
 mod_further at n short =
-    let q : ℕ = at / 32768 in
-    let r : ℕ = at % 32768 in
-    let whole : q * 32768 + r ≡ at = div-add-mod' at 32768 in
-    let turned : at + n ≡ q * 32768 + (r + n) = omega (arith, whole) in
-    ap (λ (k : ℕ). k % 32768) turned ∙ mod-mul-add q 32768 (r + n) short
+    let q : ℕ = at / transfer_max in
+    let r : ℕ = at % transfer_max in
+    let whole : q * transfer_max + r ≡ at = div-add-mod' at transfer_max in
+    let turned : at + n ≡ q * transfer_max + (r + n) = omega (arith, whole) in
+    ap (λ (k : ℕ). k % transfer_max) turned ∙ mod-mul-add q transfer_max (r + n) short
 
-mod_piece : (at : ℕ) → at % 32768 ≡ 0 → (at + 32768) % 32768 ≡ 0
+mod_piece : (at : ℕ) → at % transfer_max ≡ 0 → (at + transfer_max) % transfer_max ≡ 0
 mod_piece at start =
-    let q : ℕ = at / 32768 in
-    let r : ℕ = at % 32768 in
-    let whole : q * 32768 + r ≡ at = div-add-mod' at 32768 in
-    let turned : at + 32768 ≡ (q + 1) * 32768 + 0 = omega (arith, whole, start) in
-    ap (λ (k : ℕ). k % 32768) turned ∙ mod-mul-add (q + 1) 32768 0 (omega arith)
+    let q : ℕ = at / transfer_max in
+    let r : ℕ = at % transfer_max in
+    let whole : q * transfer_max + r ≡ at = div-add-mod' at transfer_max in
+    let turned : at + transfer_max ≡ (q + 1) * transfer_max + 0 = omega (arith, whole, start) in
+    ap (λ (k : ℕ). k % transfer_max) turned ∙ mod-mul-add (q + 1) transfer_max 0 (omega arith)
 
 -- after a piece the next one begins, or the file ends
 pub at_next_piece : (size at : ℕ) → at < size → IsAtPiece size at → IsAtPiece size (at + piece_left size at)
 at_next_piece size at below (inr above) = absurd (omega (arith, below, above))
-at_next_piece size at below (inl start) = by (cases_lt size (at + 32768))
+at_next_piece size at below (inl start) = by (cases_lt size (at + transfer_max))
   where
-    by : (size < at + 32768) ⊎ (at + 32768 ≤ size) → IsAtPiece size (at + piece_left size at)
+    by : (size < at + transfer_max) ⊎ (at + transfer_max ≤ size) → IsAtPiece size (at + piece_left size at)
     by (inr fits) =
-        let is : at + piece_left size at ≡ at + 32768 = omega (arith, start, fits) in
-        inl (ap (λ (k : ℕ). k % 32768) is ∙ mod_piece at start)
+        let is : at + piece_left size at ≡ at + transfer_max = omega (arith, start, fits) in
+        inl (ap (λ (k : ℕ). k % transfer_max) is ∙ mod_piece at start)
     by (inl short) = inr (omega (arith, start, short))
 
 -- after some of what is left of a piece the rest of it is left
-rest_of : (size at n : ℕ) → at < size → n < piece_left size at → at % 32768 + n < 32768
-rest_of size at n below short = omega (arith, below, short, mod_below at 32768 (omega arith))
+rest_of : (size at n : ℕ) → at < size → n < piece_left size at → at % transfer_max + n < transfer_max
+rest_of size at n below short = omega (arith, below, short, mod_below at transfer_max (omega arith))
 
 pub within_piece : (size at end n : ℕ) → at < size → at + piece_left size at ≡ end → 0 < n → n < piece_left size at → IsInPiece size (at + n) end
 within_piece size at end n below ends some short =
-    let further : (at + n) % 32768 ≡ at % 32768 + n = mod_further at n (rest_of size at n below short) in
+    let further : (at + n) % transfer_max ≡ at % transfer_max + n = mod_further at n (rest_of size at n below short) in
     inr (
       omega (arith, ends, short),
       (
@@ -66,10 +67,10 @@ ends_at size at end below (inr (within, (apart, ends))) = ends
 
 pub not_at_piece : (size at end : ℕ) → at < end → IsInPiece size at end → (bytes : List ℕ) → is_at_piece (SizeKnown size at bytes) ≡ false
 not_at_piece size at end below (inl same) bytes = absurd (omega (arith, below, same))
-not_at_piece size at end below (inr (within, (apart, ends))) bytes = ne_eqb (at % 32768) 0 apart
+not_at_piece size at end below (inr (within, (apart, ends))) bytes = ne_eqb (at % transfer_max) 0 apart
 
 pub now_at_piece : (size at : ℕ) → at < size → IsAtPiece size at → (bytes : List ℕ) → is_at_piece (SizeKnown size at bytes) ≡ true
-now_at_piece size at below (inl start) bytes = eq-eqb (at % 32768) 0 start
+now_at_piece size at below (inl start) bytes = eq-eqb (at % transfer_max) 0 start
 now_at_piece size at below (inr above) bytes = absurd (omega (arith, below, above))
 
 -- all of a piece was read
