@@ -17,16 +17,17 @@ use Rattle.nr_client.specs.declared.client_end.ClientEnd.{ClientEnd}
 use Rattle.nr_client.specs.Dialing.{DialerAt}
 use Rattle.nr_client.specs.Listing.{list_next}
 use Rattle.nr_client.specs.Requests.{create_result, getattr_call, getattr_result, mkdir_call, readlink_call, readlink_result, remove_call, remove_result}
-use Rattle.nr_client.specs.Steps.{IsLive}
 use Rattle.nr_client.proofs.CallsMade.{end_in}
 use Rattle.nr_commands.specs.Commands.{Finds, FindsParent, Gets, Lists, MakesDirectory, MakesSymlink, Mounts, MountsAndPrints, Puts, ReadsLink, Removes, Stats, Symlinks}
 use Rattle.nr_commands.specs.Printed.{attributes_text, handle_text, names_text, path_text}
 use Rattle.nr_commands.specs.Running.{Closes, IsPrinted, Opens, text_of}
 use Rattle.nr_commands.specs.Running.Runs.{NotOpened, Opened}
 use Rattle.nr_commands.specs.Sessions.{Request, Requests, SessionAt, Text as Prints, Then}
-use Rattle.nr_service_laws.specs.CommandRuns.{CommandsHaveARun, IsRunOf, StandsAt}
+use Rattle.nr_service_laws.specs.CommandRuns.{CommandsHaveARun, IsRunOf}
+use Rattle.nr_service_laws.specs.ClientMarks.{StandsAt}
 use Rattle.nr_service_laws.specs.Exchanges.{Exchanges, tells_finds, tells_finds_parent, tells_get, tells_list, tells_make_directory, tells_make_symlink, tells_mount, tells_mounts, tells_none, tells_put, tells_read_link, tells_reads_out, tells_remove, tells_request, tells_requests, tells_stat, tells_symlinks, tells_text, tells_then, tells_writes_in}
-use Rattle.nr_service_laws.proofs.Extending.{Does, HasDone, does_as, does_both}
+use Rattle.nr_service_laws.specs.SessionMarks.{SessionsBegin, Does, HasDone}
+use Rattle.nr_service_laws.proofs.Extending.{does_as, does_both}
 use Rattle.nr_service_laws.proofs.Parts.{Has, has_finds, has_finds_parent, has_mounts, has_reads_out, has_request, has_requests, has_symlinks, has_text, has_then, has_writes_in}
 
 has_mount : (uid gid : ℕ) (export : List ℕ) → Has (MountsAndPrints uid gid export) (tells_mount uid gid export)
@@ -96,10 +97,10 @@ has_make_symlink uid gid export path target =
     (has_symlinks uid gid place.0 place.1 target) (λ made. has_text []))
 
 -- a part that ends before the bytes of a file move
-does_err : {A B : Type 0} (end : ClientEnd) (result : Result B ClientEnd) (s s' : SessionAt) (told : Exchanges) → result ≡ Err end
-    → HasDone {A = A} (Err end) s.bytes s'.bytes s.requester s'.requester told → HasDone result s.bytes s'.bytes s.requester s'.requester told
-does_err {A} {B} end result s s' told same does =
-    does_as {A = A} {B = B} (Err end) result s.bytes s'.bytes s.requester s'.requester told (λ e is. same ∙ ap (λ (x : ClientEnd). Err x) (ap (end_in {A = A}) is)) does
+does_err : {A B : Type 0} (end : ClientEnd) (result : Result B ClientEnd) (s s' : SessionAt) (exchanges : Exchanges) → result ≡ Err end
+    → HasDone {A = A} (Err end) s.bytes s'.bytes s.requester s'.requester exchanges → HasDone result s.bytes s'.bytes s.requester s'.requester exchanges
+does_err {A} {B} end result s s' exchanges same does =
+    does_as {A = A} {B = B} (Err end) result s.bytes s'.bytes s.requester s'.requester exchanges (λ e is. same ∙ ap (λ (x : ClientEnd). Err x) (ap (end_in {A = A}) is)) does
 
 has_get : (uid gid : ℕ) (export path : List ℕ) (out out' : SinkAt) → Has (Gets uid gid export path out out') (tells_get uid gid export path out out')
 has_get uid gid export path out out' s s' text (inl (file, (mid, (finds, reads)))) =
@@ -145,10 +146,10 @@ asked_of : {A : Type 0} (result : Result A ClientEnd) (opened : LinkParameters) 
 asked_of result opened link h ahead run (inl (live, fed)) = (live.asked, live.granted)
 asked_of result opened link h ahead run (inr (is, out)) = (out.asked, out.granted)
 
-is_run : (opened : LinkParameters) (link : ℕ) (s s' : SessionAt) (addr : List ℕ) (before dialed after : DialerAt) (result : Result (Unit {0}) ClientEnd) (told : Exchanges)
-    → Opens addr before dialed s → Closes s' dialed after → Does result opened link [] s.bytes s'.bytes s'.requester told
-    → IsRunOf opened link s s' dialed.ended after.ended result told
-is_run opened link s s' addr before dialed after result told opens closes done =
+is_run : (opened : LinkParameters) (link : ℕ) (s s' : SessionAt) (addr : List ℕ) (before dialed after : DialerAt) (result : Result (Unit {0}) ClientEnd) (exchanges : Exchanges)
+    → Opens addr before dialed s → Closes s' dialed after → Does result opened link [] s.bytes s'.bytes s'.requester exchanges
+    → IsRunOf opened link s s' dialed.ended after.ended result exchanges
+is_run opened link s s' addr before dialed after result exchanges opens closes done =
     let laws = asked_of result opened link s'.requester done.ahead done.more done.stands in
     record {
       run = done.more;
@@ -157,7 +158,7 @@ is_run opened link s s' addr before dialed after result told opens closes done =
       granted = laws.1;
       first = done.extends.first;
       written = done.written;
-      exchanges = done.extends.exchanges;
+      marks_are = done.extends.marks_are;
       ahead = done.ahead;
       given = then_are s.bytes.given s'.bytes.given (bytes_received link Initiator done.more ++ done.ahead) opens.fresh.nothing_given done.extends.handed.to_given;
       left = done.extends.handed.from_left;
@@ -167,12 +168,14 @@ is_run opened link s s' addr before dialed after result told opens closes done =
       stands = done.stands;
     }
 
+pub sessions_begin_lem : SessionsBegin
+sessions_begin_lem addr before after s opened link opens xid stag wished = record { stands = opens.stands opened link xid stag wished; asked = tt; granted = tt }
+
 pub commands_have_a_run_lem : CommandsHaveARun
 commands_have_a_run_lem c before after input input' out out' result (NotOpened end is fails same_input same_out) opened link fine xid stag wished = tt
 commands_have_a_run_lem c before after input input' out out' result (Opened dialed s s' opens prints closes) opened link fine xid stag wished =
-    let told = tells_text c.uid c.gid c.export c.action input input' out prints.written s s' prints.text prints.made in
+    let exchanges = tells_text c.uid c.gid c.export c.action input input' out prints.written s s' prints.text prints.made in
     let has = has_text_of c.uid c.gid c.export c.action input input' out prints.written s s' prints.text prints.made in
-    let does = does_as {A = List ℕ} {B = Unit {0}} prints.text result s.bytes s'.bytes s.requester s'.requester told
+    let does = does_as {A = List ℕ} {B = Unit {0}} prints.text result s.bytes s'.bytes s.requester s'.requester exchanges
     (λ end is. printed_end prints.text result prints.written out' end prints.prints is) has in
-    let live : IsLive opened link s.requester [] = record { stands = opens.stands opened link xid stag wished; asked = tt; granted = tt } in
-    is_run opened link s s' c.addr before dialed after result told opens closes (does opened link [] fine live)
+    is_run opened link s s' c.addr before dialed after result exchanges opens closes (does opened link [] fine (sessions_begin_lem c.addr before dialed s opened link opens xid stag wished))

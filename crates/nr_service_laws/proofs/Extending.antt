@@ -1,5 +1,5 @@
 -- Marks that follow others: what was exchanged by them, and one list of them after another.
-use Rattle.std.proofs.Common.{◌≡◌, ℕ, ◌+◌, Bool, true, cond, not, List, [], ◌∷◌, ◌++◌, length, Result, Ok, Err, arith, inl, inr, refl, sym, ap, subst, ◌∙◌, append_assoc, append-nil}
+use Rattle.std.proofs.Common.{◌≡◌, ℕ, Bool, true, cond, not, List, [], ◌∷◌, ◌++◌, length, Result, Ok, Err, arith, inl, inr, refl, sym, ap, subst, ◌∙◌, append_assoc, append-nil}
 use Rattle.std.specs.List.{AllByRecursion}
 use Rattle.std.specs.Io.KnownBytes.{Appends}
 use Rattle.std.proofs.KnownBytes.{Appends-nil, Appends-trans}
@@ -22,29 +22,9 @@ use Rattle.nr_client.specs.declared.client_end.ClientEnd.TheVariants as client
 use Rattle.nr_client.specs.Steps.{IsLive, WritesFirst}
 use Rattle.nr_client.specs.Transfers.{IsTransfer, LinkBytes, Moves}
 use Rattle.nr_client.proofs.Turns.{first_both}
-use Rattle.nr_service_laws.specs.CommandRuns.{AreMarksOf, IsOwn, IsWrittenAt, StandsAt, exchange_marks, moves_bytes, without_bytes}
+use Rattle.nr_service_laws.specs.ClientMarks.{AreMarksOf, IsOwn, IsWrittenAt, StandsAt, exchange_marks, moves_bytes, without_bytes}
+use Rattle.nr_service_laws.specs.SessionMarks.{Does, Extends, HasDone}
 use Rattle.nr_service_laws.specs.Exchanges.{Exchange, Exchanges, and_then, none}
-
--- These marks follow a run. They are marks of the client of the link, have these exchanges, and bring its bytes from one moment to another.
-pub record Extends (opened : LinkParameters) (link : ℕ) (run : List Mark) (b b' : LinkBytes) (ahead : List ℕ) (made : List Exchange) (more : List Mark) : Type 0 where
-  pub own : AllByRecursion (IsOwn link) more
-  pub handed : HandsOut b.left b.given b'.left b'.given (bytes_received link Initiator more ++ ahead)
-  pub taken : Appends b.taken b'.taken (bytes_sent link Initiator more)
-  pub count : b.read + length (bytes_received link Initiator more ++ ahead) ≡ b'.read
-  pub first : WritesFirst opened link run more
-  pub exchanges : AreMarksOf link made (without_bytes more)
-
--- Something was done after a run: these marks more were made, and the requester stands for all.
-pub record Does {A : Type 0} (result : Result A ClientEnd) (opened : LinkParameters) (link : ℕ) (run : List Mark) (b b' : LinkBytes) (h' : RequesterSide) (told : Exchanges) : Type 0 where
-  pub more : List Mark
-  pub ahead : List ℕ
-  pub extends : Extends opened link run b b' ahead told.made more
-  pub stands : StandsAt result opened link h' ahead (run ++ more)
-  pub written : IsWrittenAt told.unanswered opened link (run ++ more)
-
--- so it is for all marks that the requester stood for
-abbrev pub HasDone : {A : Type 0} → Result A ClientEnd → (b b' : LinkBytes) (h h' : RequesterSide) → Exchanges → Type 0
-HasDone result b b' h h' told = (opened : LinkParameters) (link : ℕ) (run : List Mark) → IsOpened opened → IsLive opened link h run → Does result opened link run b b' h' told
 
 -- ---- Lists of marks, one after another
 
@@ -101,7 +81,7 @@ extends_none opened link run b = record {
   taken = Appends-nil b.taken;
   count = omega arith;
   first = tt;
-  exchanges = refl;
+  marks_are = refl;
 }
 
 pub extends_moved : (opened : LinkParameters) (link : ℕ) (run : List Mark) (b c : LinkBytes) (ahead : List ℕ) (moved : List Mark)
@@ -112,7 +92,7 @@ extends_moved opened link run b c ahead moved moves first = record {
   taken = moves.taken;
   count = moves.count;
   first = first;
-  exchanges = transfers_none link moved moves.own;
+  marks_are = transfers_none link moved moves.own;
 }
 
 pub extends_both : (opened : LinkParameters) (link : ℕ) (run : List Mark) (b c d : LinkBytes) (ahead : List ℕ) (made then : List Exchange) (more later : List Mark)
@@ -131,8 +111,8 @@ extends_both opened link run b c d ahead made then more later one two =
           (Appends-trans b.taken c.taken d.taken (bytes_sent link Initiator more) (bytes_sent link Initiator later) one.taken two.taken);
       count = (let a = one.count in let z = two.count in let len = ap length all in let both = length-append (got ++ []) (then_got ++ ahead) in omega (arith, a, z, len, both));
       first = first_both opened link run more later one.first two.first;
-      exchanges = subst (λ (l : List Mark). AreMarksOf link (made ++ then) l) (sym (without_all more later))
-          (exchanges_all link made then (without_bytes more) (without_bytes later) one.exchanges two.exchanges);
+      marks_are = subst (λ (l : List Mark). AreMarksOf link (made ++ then) l) (sym (without_all more later))
+          (exchanges_all link made then (without_bytes more) (without_bytes later) one.marks_are two.marks_are);
     }
 
 -- ---- Doing
@@ -152,9 +132,9 @@ does_none_at result b c h i same =
     subst (λ (x : LinkBytes). HasDone result b x h i none) (sym same.0) (subst (λ (y : RequesterSide). HasDone result b b h y none) (sym same.1) (does_none result b h))
 
 -- with another result: memory ran out for a frame only if it does for the other one
-pub does_as : {A B : Type 0} (result : Result A ClientEnd) (given : Result B ClientEnd) (b c : LinkBytes) (h i : RequesterSide) (told : Exchanges)
-    → ((end : ClientEnd) → result ≡ Err end → given ≡ Err end) → HasDone result b c h i told → HasDone given b c h i told
-does_as result given b c h i told same does opened link run fine live =
+pub does_as : {A B : Type 0} (result : Result A ClientEnd) (given : Result B ClientEnd) (b c : LinkBytes) (h i : RequesterSide) (exchanges : Exchanges)
+    → ((end : ClientEnd) → result ≡ Err end → given ≡ Err end) → HasDone result b c h i exchanges → HasDone given b c h i exchanges
+does_as result given b c h i exchanges same does opened link run fine live =
     let done = does opened link run fine live in
     record {
       more = done.more;
@@ -168,24 +148,24 @@ does_as result given b c h i told same does opened link run fine live =
     by ahead all (inl stands) = inl stands
     by ahead all (inr (is, out)) = inr (same (client.Link (calls.Ended ends.Memory)) is, out)
 
-does_more : {A B : Type 0} (value : A) (result : Result B ClientEnd) (opened : LinkParameters) (link : ℕ) (run : List Mark) (b c d : LinkBytes) (i j : RequesterSide) (told later : Exchanges)
-    → HasDone result c d i j later → IsOpened opened → (more : List Mark) (ahead : List ℕ) → Extends opened link run b c ahead told.made more
-    → StandsAt {A = A} (Ok value) opened link i ahead (run ++ more) → Does result opened link run b d j (and_then told later)
-does_more {A} value result opened link run b c d i j told later does fine more ahead extends (inl (live, fed)) =
+does_more : {A B : Type 0} (value : A) (result : Result B ClientEnd) (opened : LinkParameters) (link : ℕ) (run : List Mark) (b c d : LinkBytes) (i j : RequesterSide) (exchanges later : Exchanges)
+    → HasDone result c d i j later → IsOpened opened → (more : List Mark) (ahead : List ℕ) → Extends opened link run b c ahead exchanges.made more
+    → StandsAt {A = A} (Ok value) opened link i ahead (run ++ more) → Does result opened link run b d j (and_then exchanges later)
+does_more {A} value result opened link run b c d i j exchanges later does fine more ahead extends (inl (live, fed)) =
     let done = does opened link (run ++ more) fine live in
-    let before : Extends opened link run b c [] told.made more = subst (λ (l : List ℕ). Extends opened link run b c l told.made more) fed extends in
+    let before : Extends opened link run b c [] exchanges.made more = subst (λ (l : List ℕ). Extends opened link run b c l exchanges.made more) fed extends in
     record {
       more = more ++ done.more;
       ahead = done.ahead;
-      extends = extends_both opened link run b c d done.ahead told.made later.made more done.more before done.extends;
+      extends = extends_both opened link run b c d done.ahead exchanges.made later.made more done.more before done.extends;
       stands = subst (λ (all : List Mark). StandsAt result opened link j done.ahead all) (append_assoc run more done.more) done.stands;
       written = subst (λ (all : List Mark). IsWrittenAt later.unanswered opened link all) (append_assoc run more done.more) done.written;
     }
-does_more {A} value result opened link run b c d i j told later does fine more ahead extends (inr (is, out)) = absurd (let wrong = is in cc)
+does_more {A} value result opened link run b c d i j exchanges later does fine more ahead extends (inr (is, out)) = absurd (let wrong = is in cc)
 
 -- one thing was done, and then another
-pub does_both : {A B : Type 0} (value : A) (result : Result B ClientEnd) (b c d : LinkBytes) (h i j : RequesterSide) (told later : Exchanges)
-    → HasDone {A = A} (Ok value) b c h i told → HasDone result c d i j later → HasDone result b d h j (and_then told later)
-does_both {A} value result b c d h i j told later one two opened link run fine live =
+pub does_both : {A B : Type 0} (value : A) (result : Result B ClientEnd) (b c d : LinkBytes) (h i j : RequesterSide) (exchanges later : Exchanges)
+    → HasDone {A = A} (Ok value) b c h i exchanges → HasDone result c d i j later → HasDone result b d h j (and_then exchanges later)
+does_both {A} value result b c d h i j exchanges later one two opened link run fine live =
     let done = one opened link run fine live in
-    does_more {A = A} value result opened link run b c d i j told later two fine done.more done.ahead done.extends done.stands
+    does_more {A = A} value result opened link run b c d i j exchanges later two fine done.more done.ahead done.extends done.stands

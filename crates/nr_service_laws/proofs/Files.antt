@@ -11,7 +11,8 @@ use Rattle.nr_client.specs.Transfers.{LinkBytes}
 use Rattle.nr_client.specs.Writing.{WritesFile, writing}
 use Rattle.nr_service_laws.specs.Exchanges.{ended_by, giving_up, read_exchanges, reading_end_exchanges, step_exchanges, steps_exchanges, unanswered_exchanges, write_exchanges, write_exchanges_by}
 use Rattle.nr_service_laws.specs.Exchanges.Exchange.{GivenUp}
-use Rattle.nr_service_laws.proofs.Extending.{HasDone, does_both, does_none_at}
+use Rattle.nr_service_laws.specs.SessionMarks.{HasDone}
+use Rattle.nr_service_laws.proofs.Extending.{does_both, does_none_at}
 use Rattle.nr_service_laws.proofs.OneCall.{does_answers, does_completes, does_forgets, does_giving_up, does_refuses, does_submits}
 use Rattle.nr_service_laws.proofs.SeveralCalls.{does_follows, does_unanswered}
 
@@ -45,10 +46,10 @@ does_reading_end uid gid file s left b h taken taken' given (OldestForgotten rea
 pub does_reads : (uid gid : ℕ) (file : List ℕ) (b c : LinkBytes) (h i : RequesterSide) (taken taken' : Option (List ℕ)) (given : Result (Unit {0}) ClientEnd)
     (f : ReadsFile uid gid file b c h i taken taken' given) → HasDone given b c h i (read_exchanges uid gid file b c h i taken taken' given f)
 does_reads uid gid file b c h i taken taken' given f =
-    let told = reading_end_exchanges uid gid file f.last f.left c f.side taken taken' given f.ends in
-    does_both {A = Unit {0}} {B = Unit {0}} tt given b f.last.bytes c h f.last.side i (steps_exchanges uid gid file (starts_at b h) f.between f.last f.made) (giving_up told (xids_of f.left))
+    let exchanges = reading_end_exchanges uid gid file f.last f.left c f.side taken taken' given f.ends in
+    does_both {A = Unit {0}} {B = Unit {0}} tt given b f.last.bytes c h f.last.side i (steps_exchanges uid gid file (starts_at b h) f.between f.last f.made) (giving_up exchanges (xids_of f.left))
     (does_steps uid gid file (starts_at b h) f.between f.last f.made)
-    (does_giving_up given f.last.bytes c f.last.side f.side i (xids_of f.left) told (does_reading_end uid gid file f.last f.left c f.side taken taken' given f.ends) f.forgets)
+    (does_giving_up given f.last.bytes c f.last.side f.side i (xids_of f.left) exchanges (does_reading_end uid gid file f.last f.left c f.side taken taken' given f.ends) f.forgets)
 
 does_writes_by : (uid gid : ℕ) (dir name input : List ℕ) (b c : LinkBytes) (h i : RequesterSide) (result : Result (Unit {0}) ClientEnd)
     (w : Follows (writing uid gid dir name input) b c h i result ⊎ ((result ≡ Err client.InputFault) × ((c ≡ b) × (i ≡ h)))) → HasDone result b c h i (write_exchanges_by uid gid dir name input b c h i result w)

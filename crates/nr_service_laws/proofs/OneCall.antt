@@ -23,10 +23,11 @@ use Rattle.nr_client.specs.Calls.{Answers, Completes, Forgets, ForgetsCall, Forg
 use Rattle.nr_client.specs.Steps.{HasWrittenAt, IsLeft, IsLive, WritesFirst, WrittenIfFed}
 use Rattle.nr_client.specs.Transfers.{IsTransfer, LinkBytes, Moves}
 use Rattle.nr_client.proofs.Turns.{first_both}
-use Rattle.nr_service_laws.specs.CommandRuns.{AreMarksOf, IsOwn, IsWrittenAt, StandsAt, moves_bytes, without_bytes}
+use Rattle.nr_service_laws.specs.ClientMarks.{AreMarksOf, IsOwn, IsWrittenAt, StandsAt, moves_bytes, without_bytes}
 use Rattle.nr_service_laws.specs.Exchanges.{Exchange, Exchanges, ended_by, given_up_exchanges, giving_up, one}
 use Rattle.nr_service_laws.specs.Exchanges.Exchange.{Answered, Forgotten, GivenUp, HandedOver, Submitted}
-use Rattle.nr_service_laws.proofs.Extending.{Does, Extends, HasDone, exchanges_all, extends_moved, own_all, transfers_none, transfers_own, without_all}
+use Rattle.nr_service_laws.specs.SessionMarks.{Does, Extends, HasDone}
+use Rattle.nr_service_laws.proofs.Extending.{exchanges_all, extends_moved, own_all, transfers_none, transfers_own, without_all}
 
 -- a mark of the client that moves no bytes
 record Still (link : ℕ) (m : Mark) : Type 0 where
@@ -72,9 +73,9 @@ extends_still opened link run b c ahead made then more m one still are = record 
   taken = subst (Appends b.taken c.taken) (sym (sent_still link more m still.wrote)) one.taken;
   count = ap (λ (l : List ℕ). b.read + length (l ++ ahead)) (received_still link more m still.fed) ∙ one.count;
   first = first_both opened link run more (m ∷ []) one.first (still.writes opened (run ++ more), tt);
-  exchanges = subst (λ (l : List Mark). AreMarksOf link (made ++ then) l)
+  marks_are = subst (λ (l : List Mark). AreMarksOf link (made ++ then) l)
       (ap (λ (l : List Mark). without_bytes more ++ l) (sym (without_still m [] still.stays)) ∙ sym (without_all more (m ∷ [])))
-      (exchanges_all link made then (without_bytes more) (m ∷ []) one.exchanges are);
+      (exchanges_all link made then (without_bytes more) (m ∷ []) one.marks_are are);
 }
 
 -- ---- The marks of a call
@@ -121,7 +122,7 @@ extends_call opened link run b c ahead made waits moved s l moves before written
       count = ap (λ (l : List ℕ). b.read + length (l ++ ahead)) (received_around link waits moved s l is_s.fed is_l.fed) ∙ moves.count;
       first = first_both opened link run waits (s ∷ (moved ++ l ∷ [])) before
           (is_s.writes opened (run ++ waits), first_both opened link ((run ++ waits) ++ s ∷ []) moved (l ∷ []) written (is_l.writes opened (((run ++ waits) ++ s ∷ []) ++ moved), tt));
-      exchanges = subst (λ (l : List Mark). AreMarksOf link made l) (sym (without_around link waits moved s l own.0 own.1 is_s.stays is_l.stays)) are;
+      marks_are = subst (λ (l : List Mark). AreMarksOf link made l) (sym (without_around link waits moved s l own.0 own.1 is_s.stays is_l.stays)) are;
     }
 
 all_marks : (run waits moved : List Mark) (s l : Mark) → (((run ++ waits) ++ s ∷ []) ++ moved) ++ l ∷ [] ≡ run ++ (waits ++ s ∷ (moved ++ l ∷ []))
@@ -276,7 +277,7 @@ all_given_up result opened link run b c h i (xid ∷ xids) made unanswered (j, (
     subst (λ (l : List Exchange). Does result opened link run b c i (record { made = l; unanswered = unanswered })) (append_assoc made (GivenUp xid ∷ []) (map GivenUp xids))
     (all_given_up result opened link run b c j i xids (made ++ GivenUp xid ∷ []) unanswered rest (one_more_given_up result opened link run b c h j xid made unanswered forgets done))
 
-pub does_giving_up : {A : Type 0} (result : Result A ClientEnd) (b c : LinkBytes) (h i j : RequesterSide) (xids : List ℕ) (told : Exchanges)
-    → HasDone result b c h i told → ForgetsCalls xids i j → HasDone result b c h j (giving_up told xids)
-does_giving_up result b c h i j xids told does forgets opened link run fine live =
-    all_given_up result opened link run b c i j xids told.made told.unanswered forgets (does opened link run fine live)
+pub does_giving_up : {A : Type 0} (result : Result A ClientEnd) (b c : LinkBytes) (h i j : RequesterSide) (xids : List ℕ) (exchanges : Exchanges)
+    → HasDone result b c h i exchanges → ForgetsCalls xids i j → HasDone result b c h j (giving_up exchanges xids)
+does_giving_up result b c h i j xids exchanges does forgets opened link run fine live =
+    all_given_up result opened link run b c i j xids exchanges.made exchanges.unanswered forgets (does opened link run fine live)

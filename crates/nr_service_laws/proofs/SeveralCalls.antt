@@ -10,7 +10,8 @@ use Rattle.nr_client.specs.Requests.{Asks}
 use Rattle.nr_client.specs.Transfers.{LinkBytes}
 use Rattle.nr_service_laws.specs.Exchanges.{Exchanges, asked_exchanges, end_exchanges, followed_exchanges, made_exchanges, one, unanswered_exchanges}
 use Rattle.nr_service_laws.specs.Exchanges.Exchange.{Answered}
-use Rattle.nr_service_laws.proofs.Extending.{HasDone, does_as, does_both, does_none_at}
+use Rattle.nr_service_laws.specs.SessionMarks.{HasDone}
+use Rattle.nr_service_laws.proofs.Extending.{does_as, does_both, does_none_at}
 use Rattle.nr_service_laws.proofs.OneCall.{does_answers, does_gives_up}
 
 -- a value is no end
@@ -18,8 +19,8 @@ no_end : {B : Type 0} (given : Result B ClientEnd) (end : ClientEnd) → ◌≡�
 no_end given end is = absurd (let wrong = is in cc)
 
 -- what was done without an end, with any result
-pub does_any : {B : Type 0} (given : Result B ClientEnd) (b c : LinkBytes) (h i : RequesterSide) (told : Exchanges) → HasDone {A = Unit {0}} (Ok tt) b c h i told → HasDone given b c h i told
-does_any {B} given b c h i told does = does_as {A = Unit {0}} {B = B} (Ok tt) given b c h i told (λ end is. no_end given end is) does
+pub does_any : {B : Type 0} (given : Result B ClientEnd) (b c : LinkBytes) (h i : RequesterSide) (exchanges : Exchanges) → HasDone {A = Unit {0}} (Ok tt) b c h i exchanges → HasDone given b c h i exchanges
+does_any {B} given b c h i exchanges does = does_as {A = Unit {0}} {B = B} (Ok tt) given b c h i exchanges (λ end is. no_end given end is) does
 
 pub does_unanswered : {A : Type 0} (call : Call) (b c : LinkBytes) (h i : RequesterSide) (end : ClientEnd) (gone : Unanswered call b c h i end)
     → HasDone {A = A} (Err end) b c h i (unanswered_exchanges call b c h i end gone)

@@ -1,84 +1,33 @@
 -- A command that opened a session is one run of its link.
-use Rattle.std.specs.Prelude.{◌≡◌, ⊤, ℕ, Bool, true, false, not, ◌⊎◌, List, [], ◌∷◌, ◌++◌, length, Option, None, Some, IfSome, Result, Err}
-use Rattle.std.specs.List.{AllByRecursion, filter}
+use Rattle.std.specs.Prelude.{◌≡◌, ⊤, ℕ, List, [], ◌++◌, length, Option, Some, IfSome, Result}
+use Rattle.std.specs.List.{AllByRecursion}
 use Rattle.std.specs.Io.KnownBytes.{Consumes}
 use Rattle.nr_outside.specs.Streams.{SinkAt, SourceAt}
 use Rattle.nr_links.specs.Links.{EndsLink, LinkLog, ended_link}
-use Rattle.nr_link.specs.declared.end.End.TheVariants as ends
 use Rattle.nr_wire.specs.declared.hello.Side.TheVariants.{Initiator}
-use Rattle.nr_reduce.specs.declared.call.Form.TheVariants as forms
-use Rattle.nr_reduce.specs.declared.call.Submission.TheVariants as submissions
 use Rattle.nr_reduce.specs.declared.mark.LinkParameters.{LinkParameters}
 use Rattle.nr_reduce.specs.declared.mark.Mark.{Mark}
-use Rattle.nr_reduce.specs.declared.mark.Mark.TheVariants as marks
 use Rattle.nr_reduce.specs.Asked.{AskedSoFar}
 use Rattle.nr_reduce.specs.Credits.{KeepsGrant}
 use Rattle.nr_reduce.specs.History.{bytes_received, bytes_sent}
 use Rattle.nr_reduce.specs.Opening.{IsOpened}
-use Rattle.nr_requester.specs.RequesterState.{RequesterSide}
 use Rattle.nr_words.specs.Lines.{Text}
 use Rattle.nr_words.specs.declared.commands.Client.{Client}
 use Rattle.nr_client.specs.declared.client_end.ClientEnd.{ClientEnd}
-use Rattle.nr_client.specs.declared.client_end.ClientEnd.TheVariants as client
-use Rattle.nr_client.specs.declared.call_end.CallEnd.{CallEnd}
-use Rattle.nr_client.specs.declared.call_end.CallEnd.TheVariants as calls
 use Rattle.nr_client.specs.Dialing.{DialerAt, session_credits}
-use Rattle.nr_client.specs.Steps.{HasWrittenAt, IsLive, IsOut, WritesFirst}
+use Rattle.nr_client.specs.Steps.{WritesFirst}
 use Rattle.nr_commands.specs.Running.{Runs}
 use Rattle.nr_commands.specs.Running.Runs.{NotOpened, Opened}
 use Rattle.nr_commands.specs.Sessions.{SessionAt}
-use Rattle.nr_service_laws.specs.Exchanges.{Exchange, Exchanges, tells_text}
-use Rattle.nr_service_laws.specs.Exchanges.Exchange.{Answered, Forgotten, GivenUp, HandedOver, Submitted}
-
--- A mark of the client of this link: bytes move; a call is accepted in the form that fits it best; its outcome is handed over, or it is forgotten.
-abbrev pub IsOwn : ℕ → Mark → Type 0
-IsOwn link (marks.Wrote l Initiator bytes) = l ≡ link
-IsOwn link (marks.Fed l Initiator bytes) = l ≡ link
-IsOwn link (marks.Submit l call forms.Auto (submissions.Accepted xid)) = l ≡ link
-IsOwn link (marks.Done l xid outcome) = l ≡ link
-IsOwn link (marks.Forget l xid) = l ≡ link
-IsOwn link mark = ⊥
-
--- the marks of an exchange, the call under this xid
-abbrev pub exchange_marks : ℕ → Exchange → ℕ → List Mark
-exchange_marks link (Answered call outcome) xid = marks.Submit link call forms.Auto (submissions.Accepted xid) ∷ marks.Done link xid outcome ∷ []
-exchange_marks link (Forgotten call) xid = marks.Submit link call forms.Auto (submissions.Accepted xid) ∷ marks.Forget link xid ∷ []
-exchange_marks link (Submitted number call) xid = marks.Submit link call forms.Auto (submissions.Accepted number) ∷ []
-exchange_marks link (HandedOver number outcome) xid = marks.Done link number outcome ∷ []
-exchange_marks link (GivenUp number) xid = marks.Forget link number ∷ []
-
--- marks are those of these exchanges, one after another, and no others
-abbrev pub AreMarksOf : ℕ → List Exchange → List Mark → Type 0
-AreMarksOf link [] run = run ≡ []
-AreMarksOf link (exchange ∷ exchanges) run =
-    (xid : ℕ) × (rest : List Mark) × ((run ≡ exchange_marks link exchange xid ++ rest) × AreMarksOf link exchanges rest)
-
--- marks without those of bytes
-abbrev pub moves_bytes : Mark → Bool
-moves_bytes (marks.Wrote l side bytes) = true
-moves_bytes (marks.Fed l side bytes) = true
-moves_bytes mark = false
-
-abbrev pub without_bytes : List Mark → List Mark
-without_bytes run = filter (λ mark. not (moves_bytes mark)) run
-
--- The requester stands for these marks, which keep the law of its side and the last grant, and all bytes that were read are fed in them; or
--- memory ran out for a frame, and it stands for them as one that ran out of memory.
-abbrev pub StandsAt : {A : Type 0} → Result A ClientEnd → LinkParameters → ℕ → RequesterSide → (ahead : List ℕ) → List Mark → Type 0
-StandsAt result opened link h ahead run =
-    (IsLive opened link h run × (ahead ≡ [])) ⊎ ((result ≡ Err (client.Link (calls.Ended ends.Memory))) × IsOut opened link h run)
-
--- all output is written if a call has no answer, unless a write failed or memory ran out for a frame
-abbrev pub IsWrittenAt : Option CallEnd → LinkParameters → ℕ → List Mark → Type 0
-IsWrittenAt (Some end) opened link run = HasWrittenAt end opened link run
-IsWrittenAt None opened link run = ⊤
+use Rattle.nr_service_laws.specs.Exchanges.{Exchanges, tells_text}
+use Rattle.nr_service_laws.specs.ClientMarks.{AreMarksOf, IsOwn, IsWrittenAt, StandsAt, without_bytes}
 
 -- known bytes of a new link are these later
 abbrev pub AreThen : (known known' : Option (List ℕ)) → List ℕ → Type 0
 AreThen known known' bytes = IfSome known (λ nothing. known' ≡ Some bytes)
 
 -- One run of a link has all that a command did over a session, from its opening to the moment at which its link was hung up.
-pub record IsRunOf (opened : LinkParameters) (link : ℕ) (s s' : SessionAt) (log log' : Option LinkLog) (result : Result (Unit {0}) ClientEnd) (told : Exchanges) : Type 0 where
+pub record IsRunOf (opened : LinkParameters) (link : ℕ) (s s' : SessionAt) (log log' : Option LinkLog) (result : Result (Unit {0}) ClientEnd) (exchanges : Exchanges) : Type 0 where
   pub run : List Mark
   -- It is a run of the client's side alone. The client keeps its law and the last grant.
   pub own : AllByRecursion (IsOwn link) run
@@ -86,9 +35,9 @@ pub record IsRunOf (opened : LinkParameters) (link : ℕ) (s s' : SessionAt) (lo
   pub granted : KeepsGrant opened link run
   -- each time that bytes are fed, all output was written before
   pub first : WritesFirst opened link [] run
-  pub written : IsWrittenAt told.unanswered opened link run
+  pub written : IsWrittenAt exchanges.unanswered opened link run
   -- its calls are submitted, handed over and forgotten as the requests say, in their order
-  pub exchanges : AreMarksOf link told.made (without_bytes run)
+  pub marks_are : AreMarksOf link exchanges.made (without_bytes run)
   -- The bytes of its marks are those of the link that was hung up. Bytes that were read are fed in no mark only if memory ran out for a frame.
   pub ahead : List ℕ
   pub given : AreThen s.bytes.given s'.bytes.given (bytes_received link Initiator run ++ ahead)

@@ -59,7 +59,7 @@ and_then first second = record { made = first.made ++ second.made; unanswered = 
 
 -- the calls of these xids are given up in the end
 abbrev pub giving_up : Exchanges → List ℕ → Exchanges
-giving_up told xids = record { made = told.made ++ map GivenUp xids; unanswered = told.unanswered }
+giving_up exchanges xids = record { made = exchanges.made ++ map GivenUp xids; unanswered = exchanges.unanswered }
 
 -- ---- Requests of nr_client
 
@@ -147,13 +147,13 @@ tells_requests request s s' result is = followed_exchanges request s.bytes s'.by
 
 -- one part, and then the part that follows from its value
 abbrev pub tells_then : {A B : Type 0} (first : Part A) (next : A → Part B) → Tells first → ((value : A) → Tells (next value)) → Tells (Then first next)
-tells_then first next told later s s' result (inl (value, (mid, (is, goes)))) = and_then (told s mid (Ok value) is) (later value mid s' result goes)
-tells_then first next told later s s' result (inr (end, (is, same))) = told s s' (Err end) is
+tells_then first next exchanges later s s' result (inl (value, (mid, (is, goes)))) = and_then (exchanges s mid (Ok value) is) (later value mid s' result goes)
+tells_then first next exchanges later s s' result (inr (end, (is, same))) = exchanges s s' (Err end) is
 
 -- nothing if a limit is exceeded, else a request
 abbrev pub within_exchanges : (above : Bool) (Above Within : Type 0) → (Within → Exchanges) → MatchBool above Above Within → Exchanges
-within_exchanges true Above Within told is = none
-within_exchanges false Above Within told is = told is
+within_exchanges true Above Within exchanges is = none
+within_exchanges false Above Within exchanges is = exchanges is
 
 abbrev pub tells_mounts : (uid gid : ℕ) (export : List ℕ) → Tells (Mounts uid gid export)
 tells_mounts uid gid export s s' result is =
