@@ -28,6 +28,7 @@ use Rattle.nr_service_laws.specs.ClientMarks.{StandsAt}
 use Rattle.nr_service_laws.specs.Exchanges.{Exchanges, tells_finds, tells_finds_parent, tells_get, tells_list, tells_make_directory, tells_make_symlink, tells_mount, tells_mounts, tells_none, tells_put, tells_read_link, tells_reads_out, tells_remove, tells_request, tells_requests, tells_stat, tells_symlinks, tells_text, tells_then, tells_writes_in}
 use Rattle.nr_service_laws.specs.SessionMarks.{SessionsBegin, Does, HasDone}
 use Rattle.nr_service_laws.proofs.Extending.{does_as, does_both}
+use Rattle.nr_service_laws.proofs.CallsInOrder.{calls_are, outcomes_are}
 use Rattle.nr_service_laws.proofs.Parts.{Has, has_finds, has_finds_parent, has_mounts, has_reads_out, has_request, has_requests, has_symlinks, has_text, has_then, has_writes_in}
 
 has_mount : (uid gid : ℕ) (export : List ℕ) → Has (MountsAndPrints uid gid export) (tells_mount uid gid export)
@@ -159,6 +160,8 @@ is_run opened link s s' addr before dialed after result exchanges opens closes d
       first = done.extends.first;
       written = done.written;
       marks_are = done.extends.marks_are;
+      calls = calls_are link done.more exchanges.made done.extends.marks_are;
+      outcomes = outcomes_are link done.more exchanges.made done.extends.marks_are;
       ahead = done.ahead;
       given = then_are s.bytes.given s'.bytes.given (bytes_received link Initiator done.more ++ done.ahead) opens.fresh.nothing_given done.extends.handed.to_given;
       left = done.extends.handed.from_left;

@@ -2,5 +2,6 @@ pub mod Extending
 pub mod OneCall
 pub mod SeveralCalls
 pub mod Files
+pub mod CallsInOrder
 pub mod Parts
 pub mod Commands

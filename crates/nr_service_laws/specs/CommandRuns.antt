@@ -1,15 +1,17 @@
 -- A command that opened a session is one run of its link.
-use Rattle.std.specs.Prelude.{◌≡◌, ⊤, ℕ, List, [], ◌++◌, length, Option, Some, IfSome, Result}
-use Rattle.std.specs.List.{AllByRecursion}
+use Rattle.std.specs.Prelude.{◌≡◌, ⊤, ℕ, List, [], ◌++◌, length, map, Option, Some, IfSome, Result}
+use Rattle.std.specs.List.{AllByRecursion, flat_map}
 use Rattle.std.specs.Io.KnownBytes.{Consumes}
 use Rattle.nr_outside.specs.Streams.{SinkAt, SourceAt}
 use Rattle.nr_links.specs.Links.{EndsLink, LinkLog, ended_link}
 use Rattle.nr_wire.specs.declared.hello.Side.TheVariants.{Initiator}
+use Rattle.nr_reduce.specs.declared.call.Call.{Call}
+use Rattle.nr_reduce.specs.declared.call.Outcome.{Outcome}
 use Rattle.nr_reduce.specs.declared.mark.LinkParameters.{LinkParameters}
 use Rattle.nr_reduce.specs.declared.mark.Mark.{Mark}
 use Rattle.nr_reduce.specs.Asked.{AskedSoFar}
 use Rattle.nr_reduce.specs.Credits.{KeepsGrant}
-use Rattle.nr_reduce.specs.History.{bytes_received, bytes_sent}
+use Rattle.nr_reduce.specs.History.{AcceptedCall, CompletedCall, accepted_calls, bytes_received, bytes_sent, completed_calls}
 use Rattle.nr_reduce.specs.Opening.{IsOpened}
 use Rattle.nr_words.specs.Lines.{Text}
 use Rattle.nr_words.specs.declared.commands.Client.{Client}
@@ -19,12 +21,19 @@ use Rattle.nr_client.specs.Steps.{WritesFirst}
 use Rattle.nr_commands.specs.Running.{Runs}
 use Rattle.nr_commands.specs.Running.Runs.{NotOpened, Opened}
 use Rattle.nr_commands.specs.Sessions.{SessionAt}
-use Rattle.nr_service_laws.specs.Exchanges.{Exchanges, tells_text}
+use Rattle.nr_service_laws.specs.Exchanges.{Exchanges, exchange_calls, exchange_outcomes, tells_text}
 use Rattle.nr_service_laws.specs.ClientMarks.{AreMarksOf, IsOwn, IsWrittenAt, StandsAt, without_bytes}
 
 -- known bytes of a new link are these later
 abbrev pub AreThen : (known known' : Option (List ℕ)) → List ℕ → Type 0
 AreThen known known' bytes = IfSome known (λ nothing. known' ≡ Some bytes)
+
+-- the calls that a link's client accepted, and the outcomes that it handed over, each in order
+abbrev pub calls_of : ℕ → List Mark → List Call
+calls_of link run = map (λ (a : AcceptedCall). a.call) (accepted_calls link run)
+
+abbrev pub outcomes_of : ℕ → List Mark → List Outcome
+outcomes_of link run = map (λ (c : CompletedCall). c.outcome) (completed_calls link run)
 
 -- One run of a link has all that a command did over a session, from its opening to the moment at which its link was hung up.
 pub record IsRunOf (opened : LinkParameters) (link : ℕ) (s s' : SessionAt) (log log' : Option LinkLog) (result : Result (Unit {0}) ClientEnd) (exchanges : Exchanges) : Type 0 where
@@ -38,6 +47,8 @@ pub record IsRunOf (opened : LinkParameters) (link : ℕ) (s s' : SessionAt) (lo
   pub written : IsWrittenAt exchanges.unanswered opened link run
   -- its calls are submitted, handed over and forgotten as the requests say, in their order
   pub marks_are : AreMarksOf link exchanges.made (without_bytes run)
+  pub calls : calls_of link run ≡ flat_map exchange_calls exchanges.made
+  pub outcomes : outcomes_of link run ≡ flat_map exchange_outcomes exchanges.made
   -- The bytes of its marks are those of the link that was hung up. Bytes that were read are fed in no mark only if memory ran out for a frame.
   pub ahead : List ℕ
   pub given : AreThen s.bytes.given s'.bytes.given (bytes_received link Initiator run ++ ahead)

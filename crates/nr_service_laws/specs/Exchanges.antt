@@ -38,6 +38,21 @@ pub data Exchange : Type 0 where
   HandedOver : (xid : ℕ) → (outcome : Outcome) → Exchange
   GivenUp : (xid : ℕ) → Exchange
 
+-- the call that is submitted, and the outcome that is handed over
+abbrev pub exchange_calls : Exchange → List Call
+exchange_calls (Answered call outcome) = call ∷ []
+exchange_calls (Forgotten call) = call ∷ []
+exchange_calls (Submitted xid call) = call ∷ []
+exchange_calls (HandedOver xid outcome) = []
+exchange_calls (GivenUp xid) = []
+
+abbrev pub exchange_outcomes : Exchange → List Outcome
+exchange_outcomes (Answered call outcome) = outcome ∷ []
+exchange_outcomes (Forgotten call) = []
+exchange_outcomes (Submitted xid call) = []
+exchange_outcomes (HandedOver xid outcome) = outcome ∷ []
+exchange_outcomes (GivenUp xid) = []
+
 -- these, in order; and why the last call has no answer, if it has none
 pub record Exchanges : Type 0 where
   pub made : List Exchange
