@@ -22,7 +22,7 @@ use Rattle.nr_client.specs.declared.client_end.ClientEnd.TheVariants as client
 use Rattle.nr_client.specs.Steps.{IsLive, WritesFirst}
 use Rattle.nr_client.specs.Transfers.{IsTransfer, LinkBytes, Moves}
 use Rattle.nr_client.proofs.Turns.{first_both}
-use Rattle.nr_service_laws.specs.ClientMarks.{AreMarksOf, IsOwn, IsWrittenAt, StandsAt, exchange_marks, moves_bytes, without_bytes}
+use Rattle.nr_service_laws.specs.ClientMarks.{AreMarksOf, IsOwn, IsWrittenAt, LacksOutcome, StandsAt, exchange_marks, moves_bytes, without_bytes}
 use Rattle.nr_service_laws.specs.SessionMarks.{Does, Extends, HasDone}
 use Rattle.nr_service_laws.specs.Exchanges.{Exchange, Exchanges, and_then, none}
 
@@ -125,6 +125,7 @@ does_none result b h opened link run fine live = record {
   extends = extends_none opened link run b;
   stands = inl (subst (λ (all : List Mark). IsLive opened link h all) (sym (append-nil run)) live, refl);
   written = tt;
+  lacks = tt;
 }
 
 pub does_none_at : {A : Type 0} (result : Result A ClientEnd) (b c : LinkBytes) (h i : RequesterSide) → (c ≡ b) × (i ≡ h) → HasDone result b c h i none
@@ -142,6 +143,7 @@ does_as result given b c h i exchanges same does opened link run fine live =
       extends = done.extends;
       stands = by done.ahead (run ++ done.more) done.stands;
       written = done.written;
+      lacks = done.lacks;
     }
   where
     by : (ahead : List ℕ) (all : List Mark) → StandsAt result opened link i ahead all → StandsAt given opened link i ahead all
@@ -160,6 +162,7 @@ does_more {A} value result opened link run b c d i j exchanges later does fine m
       extends = extends_both opened link run b c d done.ahead exchanges.made later.made more done.more before done.extends;
       stands = subst (λ (all : List Mark). StandsAt result opened link j done.ahead all) (append_assoc run more done.more) done.stands;
       written = subst (λ (all : List Mark). IsWrittenAt later.unanswered opened link all) (append_assoc run more done.more) done.written;
+      lacks = subst (λ (all : List Mark). LacksOutcome later.lost opened link all) (append_assoc run more done.more) done.lacks;
     }
 does_more {A} value result opened link run b c d i j exchanges later does fine more ahead extends (inr (is, out)) = absurd (let wrong = is in cc)
 

@@ -9,7 +9,7 @@ use Rattle.nr_client.specs.Reading.ReadStep.{MakesAlone, AsksAhead, TakesOldest}
 use Rattle.nr_client.specs.Reading.EndsReading.{EndsByReplies, OutputFails, NotAnswered, NotSubmitted, OldestForgotten}
 use Rattle.nr_client.specs.Transfers.{LinkBytes}
 use Rattle.nr_client.specs.Writing.{WritesFile, writing}
-use Rattle.nr_service_laws.specs.Exchanges.{ended_by, giving_up, read_exchanges, reading_end_exchanges, step_exchanges, steps_exchanges, unanswered_exchanges, write_exchanges, write_exchanges_by}
+use Rattle.nr_service_laws.specs.Exchanges.{giving_up, lost_by, read_exchanges, reading_end_exchanges, refused_by, step_exchanges, steps_exchanges, unanswered_exchanges, write_exchanges, write_exchanges_by}
 use Rattle.nr_service_laws.specs.Exchanges.Exchange.{GivenUp}
 use Rattle.nr_service_laws.specs.SessionMarks.{HasDone}
 use Rattle.nr_service_laws.proofs.Extending.{does_both, does_none_at}
@@ -38,9 +38,9 @@ does_reading_end uid gid file s left b h taken taken' given (NotAnswered call en
     subst (λ (r : Result (Unit {0}) ClientEnd). HasDone r s.bytes b s.side h (unanswered_exchanges call s.bytes b s.side h end gone)) (sym is)
     (does_unanswered {A = Unit {0}} call s.bytes b s.side h end gone)
 does_reading_end uid gid file s left b h taken taken' given (NotSubmitted call end ahead is refused waits takes) =
-    subst (λ (r : Result (Unit {0}) ClientEnd). HasDone r s.bytes b s.side h (ended_by [] end)) (sym is) (does_refuses {A = Unit {0}} call end s.bytes b s.side h refused.0)
+    subst (λ (r : Result (Unit {0}) ClientEnd). HasDone r s.bytes b s.side h (refused_by end)) (sym is) (does_refuses {A = Unit {0}} call end s.bytes b s.side h refused.0)
 does_reading_end uid gid file s left b h taken taken' given (OldestForgotten read end full is given_is forgets waits takes) =
-    subst (λ (r : Result (Unit {0}) ClientEnd). HasDone r s.bytes b s.side h (ended_by (GivenUp read.xid ∷ []) end)) (sym given_is)
+    subst (λ (r : Result (Unit {0}) ClientEnd). HasDone r s.bytes b s.side h (lost_by (GivenUp read.xid) end)) (sym given_is)
     (does_forgets {A = Unit {0}} read.xid end s.bytes b s.side h forgets.0)
 
 pub does_reads : (uid gid : ℕ) (file : List ℕ) (b c : LinkBytes) (h i : RequesterSide) (taken taken' : Option (List ℕ)) (given : Result (Unit {0}) ClientEnd)

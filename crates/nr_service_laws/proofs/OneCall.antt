@@ -1,5 +1,6 @@
 -- What a call makes of the marks of a link.
 use Rattle.std.proofs.Common.{◌≡◌, ℕ, ◌+◌, Bool, false, cond, not, List, [], ◌∷◌, ◌++◌, length, map, Option, None, Some, Result, Ok, Err, inl, inr, refl, sym, ap, subst, ◌∙◌, append_assoc, append-nil}
+use Rattle.std.specs.Prelude.{Contains}
 use Rattle.std.specs.List.{AllByRecursion, flat_map}
 use Rattle.std.specs.Io.KnownBytes.{Appends}
 use Rattle.std.proofs.lemmas.Grind.{flat_map-append}
@@ -13,18 +14,20 @@ use Rattle.nr_reduce.specs.declared.mark.LinkParameters.{LinkParameters}
 use Rattle.nr_reduce.specs.declared.mark.Mark.{Mark}
 use Rattle.nr_reduce.specs.declared.mark.Mark.TheVariants as marks
 use Rattle.nr_reduce.specs.History.{bytes_received, bytes_sent, fed_at, written_at}
-use Rattle.nr_reduce.specs.Run.{HasWritten, output_due}
-use Rattle.nr_reduce.proofs.Steps.{output_due_up_one}
+use Rattle.nr_reduce.specs.ClientState.{ClientState}
+use Rattle.nr_reduce.specs.EndRules.{EndState}
+use Rattle.nr_reduce.specs.Run.{client, HasWritten, output_due}
+use Rattle.nr_reduce.proofs.Steps.{client_one, output_due_up_one}
 use Rattle.nr_requester.specs.RequesterState.{RequesterSide}
 use Rattle.nr_client.specs.declared.call_end.CallEnd.{CallEnd}
 use Rattle.nr_client.specs.declared.client_end.ClientEnd.{ClientEnd}
 use Rattle.nr_client.specs.declared.client_end.ClientEnd.TheVariants as client
-use Rattle.nr_client.specs.Calls.{Answers, Completes, Forgets, ForgetsCall, ForgetsCalls, GivesUp, RefusesToSubmit, Submits}
+use Rattle.nr_client.specs.Calls.{Answers, Completes, Forgets, ForgetsCall, ForgetsCalls, GivesUp, NoneCame, RefusesToSubmit, Submits}
 use Rattle.nr_client.specs.Steps.{HasWrittenAt, IsLeft, IsLive, WritesFirst, WrittenIfFed}
 use Rattle.nr_client.specs.Transfers.{IsTransfer, LinkBytes, Moves}
 use Rattle.nr_client.proofs.Turns.{first_both}
-use Rattle.nr_service_laws.specs.ClientMarks.{AreMarksOf, IsOwn, IsWrittenAt, StandsAt, moves_bytes, without_bytes}
-use Rattle.nr_service_laws.specs.Exchanges.{Exchange, Exchanges, ended_by, given_up_exchanges, giving_up, one}
+use Rattle.nr_service_laws.specs.ClientMarks.{AreMarksOf, IsOwn, IsWrittenAt, LacksOutcome, StandsAt, moves_bytes, without_bytes}
+use Rattle.nr_service_laws.specs.Exchanges.{Exchange, Exchanges, lost_by, refused_by, given_up_exchanges, giving_up, one}
 use Rattle.nr_service_laws.specs.Exchanges.Exchange.{Answered, Forgotten, GivenUp, HandedOver, Submitted}
 use Rattle.nr_service_laws.specs.SessionMarks.{Does, Extends, HasDone}
 use Rattle.nr_service_laws.proofs.Extending.{exchanges_all, extends_moved, own_all, transfers_none, transfers_own, without_all}
@@ -146,6 +149,29 @@ pub is_written_still : (unanswered : Option CallEnd) (opened : LinkParameters) (
 is_written_still None opened link xid run written = tt
 is_written_still (Some end) opened link xid run written = written_at_forget end opened link xid run written
 
+-- a mark of a forgotten call is no event: the client is as before
+client_still : (opened : LinkParameters) (link xid : ℕ) (run : List Mark) → client opened link (run ++ marks.Forget link xid ∷ []) ≡ client opened link run
+client_still opened link xid run = client_one opened link run (marks.Forget link xid)
+
+none_still : (end : CallEnd) (opened : LinkParameters) (link x xid : ℕ) (run : List Mark) → NoneCame end opened link run xid → NoneCame end opened link (run ++ marks.Forget link x ∷ []) xid
+none_still end opened link x xid run (inl out) = inl out
+none_still end opened link x xid run (inr none) =
+    inr (λ c there. none c (subst (λ (e : EndState ClientState). Contains e.state.outcomes c) (client_still opened link x run) there))
+
+lacks_at : (end : CallEnd) (opened : LinkParameters) (link xid : ℕ) (run : List Mark) → NoneCame end opened link run xid
+    → LacksOutcome (Some end) opened link (run ++ marks.Forget link xid ∷ [])
+lacks_at end opened link xid run none = (xid, run, [], (refl, none_still end opened link xid xid run none))
+
+lacks_still : (lost : Option CallEnd) (opened : LinkParameters) (link x : ℕ) (run : List Mark) → LacksOutcome lost opened link run
+    → LacksOutcome lost opened link (run ++ marks.Forget link x ∷ [])
+lacks_still None opened link x run lacks = tt
+lacks_still (Some end) opened link x run (xid, before, after, (is, none)) = (
+  xid,
+  before,
+  after ++ marks.Forget link x ∷ [],
+  (ap (λ (l : List Mark). l ++ marks.Forget link x ∷ []) is ∙ append_assoc before (marks.Forget link xid ∷ after) (marks.Forget link x ∷ []), none_still end opened link x xid run none),
+)
+
 stands_left : {A : Type 0} (end : CallEnd) (opened : LinkParameters) (link : ℕ) (h : RequesterSide) (ahead : List ℕ) (run : List Mark)
     → IsLeft end opened link h ahead run → StandsAt {A = A} (Err (client.Link end)) opened link h ahead run
 stands_left end opened link h ahead run (inl live) = inl live
@@ -167,11 +193,12 @@ does_answers value call outcome b c h i answers opened link run fine live =
           (still_submit link call is.xid) (still_done link is.xid outcome) (is.xid, [], (refl, refl));
       stands = inl (subst (λ (all : List Mark). IsLive opened link i all) (all_marks run is.waits is.moved s l) is.live, refl);
       written = tt;
+      lacks = tt;
     }
 
 -- a call that was not submitted
 pub does_refuses : {A : Type 0} (call : Call) (end : CallEnd) (b c : LinkBytes) (h i : RequesterSide) → RefusesToSubmit b c h i call end
-    → HasDone {A = A} (Err (client.Link end)) b c h i (ended_by [] end)
+    → HasDone {A = A} (Err (client.Link end)) b c h i (refused_by end)
 does_refuses {A} call end b c h i refuses opened link run fine live =
     let is = refuses.0 opened link run fine live in
     record {
@@ -180,6 +207,7 @@ does_refuses {A} call end b c h i refuses opened link run fine live =
       extends = extends_moved opened link run b c is.ahead is.moved is.bytes is.written;
       stands = stands_left {A = A} end opened link i is.ahead (run ++ is.moved) is.left;
       written = is.all;
+      lacks = tt;
     }
 
 -- a call that has no answer
@@ -199,6 +227,8 @@ does_gives_up {A} call end b c h i (inr (cause, gone)) opened link run fine live
           (subst (λ (all : List Mark). IsLeft end opened link i is.ahead all) (all_marks run is.waits is.moved s l) is.left);
       written = subst (λ (all : List Mark). HasWrittenAt end opened link all) (all_marks run is.waits is.moved s l)
           (written_at_forget end opened link is.xid (((run ++ is.waits) ++ s ∷ []) ++ is.moved) is.all);
+      lacks = subst (λ (all : List Mark). LacksOutcome (Some end) opened link all) (all_marks run is.waits is.moved s l)
+          (lacks_at end opened link is.xid (((run ++ is.waits) ++ s ∷ []) ++ is.moved) is.unanswered);
     }
 
 -- ---- READs of a file
@@ -215,6 +245,7 @@ does_submits value call xid b c h i submits opened link run fine live =
           (xid, [], (refl, refl));
       stands = inl (subst (λ (all : List Mark). IsLive opened link i all) (append_assoc run is.waits (s ∷ [])) is.live, refl);
       written = tt;
+      lacks = tt;
     }
 
 pub does_completes : {A : Type 0} (value : A) (xid : ℕ) (outcome : Outcome) (b c : LinkBytes) (h i : RequesterSide) → Completes xid outcome b c h i
@@ -229,10 +260,11 @@ does_completes value xid outcome b c h i completes opened link run fine live =
           (xid, [], (refl, refl));
       stands = inl (subst (λ (all : List Mark). IsLive opened link i all) (append_assoc run is.0 (l ∷ [])) is.1.1.1, refl);
       written = tt;
+      lacks = tt;
     }
 
 pub does_forgets : {A : Type 0} (xid : ℕ) (end : CallEnd) (b c : LinkBytes) (h i : RequesterSide) → Forgets xid end b c h i
-    → HasDone {A = A} (Err (client.Link end)) b c h i (ended_by (GivenUp xid ∷ []) end)
+    → HasDone {A = A} (Err (client.Link end)) b c h i (lost_by (GivenUp xid) end)
 does_forgets {A} xid end b c h i forgets opened link run fine live =
     let is = forgets opened link run fine live in
     let l = marks.Forget link xid in
@@ -244,6 +276,7 @@ does_forgets {A} xid end b c h i forgets opened link run fine live =
       stands = stands_left {A = A} end opened link i is.1 (run ++ (is.0 ++ l ∷ []))
           (subst (λ (all : List Mark). IsLeft end opened link i is.1 all) (append_assoc run is.0 (l ∷ [])) is.2.1.1.1.1);
       written = subst (λ (all : List Mark). HasWrittenAt end opened link all) (append_assoc run is.0 (l ∷ [])) (written_at_forget end opened link xid (run ++ is.0) is.2.1.1.0);
+      lacks = subst (λ (all : List Mark). LacksOutcome (Some end) opened link all) (append_assoc run is.0 (l ∷ [])) (lacks_at end opened link xid (run ++ is.0) is.2.1.1.1.0);
     }
 
 -- the calls of these xids are forgotten in the end
@@ -252,10 +285,10 @@ forgets_one : {A : Type 0} (result : Result A ClientEnd) (opened : LinkParameter
 forgets_one result opened link h i xid ahead run forgets (inl (live, fed)) = inl (forgets.0 opened link run live, fed)
 forgets_one result opened link h i xid ahead run forgets (inr (is, out)) = inr (is, forgets.1 opened link run out)
 
-one_more_given_up : {A : Type 0} (result : Result A ClientEnd) (opened : LinkParameters) (link : ℕ) (run : List Mark) (b c : LinkBytes) (h i : RequesterSide) (xid : ℕ) (made : List Exchange) (unanswered : Option CallEnd)
-    → ForgetsCall xid h i → Does result opened link run b c h (record { made = made; unanswered = unanswered })
-    → Does result opened link run b c i (record { made = made ++ GivenUp xid ∷ []; unanswered = unanswered })
-one_more_given_up result opened link run b c h i xid made unanswered forgets done =
+one_more_given_up : {A : Type 0} (result : Result A ClientEnd) (opened : LinkParameters) (link : ℕ) (run : List Mark) (b c : LinkBytes) (h i : RequesterSide) (xid : ℕ) (made : List Exchange) (unanswered lost : Option CallEnd)
+    → ForgetsCall xid h i → Does result opened link run b c h (record { made = made; unanswered = unanswered; lost = lost })
+    → Does result opened link run b c i (record { made = made ++ GivenUp xid ∷ []; unanswered = unanswered; lost = lost })
+one_more_given_up result opened link run b c h i xid made unanswered lost forgets done =
     let l = marks.Forget link xid in
     record {
       more = done.more ++ l ∷ [];
@@ -265,19 +298,20 @@ one_more_given_up result opened link run b c h i xid made unanswered forgets don
           (forgets_one result opened link h i xid done.ahead (run ++ done.more) forgets done.stands);
       written = subst (λ (all : List Mark). IsWrittenAt unanswered opened link all) (append_assoc run done.more (l ∷ []))
           (is_written_still unanswered opened link xid (run ++ done.more) done.written);
+      lacks = subst (λ (all : List Mark). LacksOutcome lost opened link all) (append_assoc run done.more (l ∷ [])) (lacks_still lost opened link xid (run ++ done.more) done.lacks);
     }
 
-all_given_up : {A : Type 0} (result : Result A ClientEnd) (opened : LinkParameters) (link : ℕ) (run : List Mark) (b c : LinkBytes) (h i : RequesterSide) (xids : List ℕ) (made : List Exchange) (unanswered : Option CallEnd)
-    → ForgetsCalls xids h i → Does result opened link run b c h (record { made = made; unanswered = unanswered })
-    → Does result opened link run b c i (record { made = made ++ map GivenUp xids; unanswered = unanswered })
-all_given_up result opened link run b c h i [] made unanswered same done =
-    subst (λ (l : List Exchange). Does result opened link run b c i (record { made = l; unanswered = unanswered })) (sym (append-nil made))
-    (subst (λ (x : RequesterSide). Does result opened link run b c x (record { made = made; unanswered = unanswered })) (sym same) done)
-all_given_up result opened link run b c h i (xid ∷ xids) made unanswered (j, (forgets, rest)) done =
-    subst (λ (l : List Exchange). Does result opened link run b c i (record { made = l; unanswered = unanswered })) (append_assoc made (GivenUp xid ∷ []) (map GivenUp xids))
-    (all_given_up result opened link run b c j i xids (made ++ GivenUp xid ∷ []) unanswered rest (one_more_given_up result opened link run b c h j xid made unanswered forgets done))
+all_given_up : {A : Type 0} (result : Result A ClientEnd) (opened : LinkParameters) (link : ℕ) (run : List Mark) (b c : LinkBytes) (h i : RequesterSide) (xids : List ℕ) (made : List Exchange) (unanswered lost : Option CallEnd)
+    → ForgetsCalls xids h i → Does result opened link run b c h (record { made = made; unanswered = unanswered; lost = lost })
+    → Does result opened link run b c i (record { made = made ++ map GivenUp xids; unanswered = unanswered; lost = lost })
+all_given_up result opened link run b c h i [] made unanswered lost same done =
+    subst (λ (l : List Exchange). Does result opened link run b c i (record { made = l; unanswered = unanswered; lost = lost })) (sym (append-nil made))
+    (subst (λ (x : RequesterSide). Does result opened link run b c x (record { made = made; unanswered = unanswered; lost = lost })) (sym same) done)
+all_given_up result opened link run b c h i (xid ∷ xids) made unanswered lost (j, (forgets, rest)) done =
+    subst (λ (l : List Exchange). Does result opened link run b c i (record { made = l; unanswered = unanswered; lost = lost })) (append_assoc made (GivenUp xid ∷ []) (map GivenUp xids))
+    (all_given_up result opened link run b c j i xids (made ++ GivenUp xid ∷ []) unanswered lost rest (one_more_given_up result opened link run b c h j xid made unanswered lost forgets done))
 
 pub does_giving_up : {A : Type 0} (result : Result A ClientEnd) (b c : LinkBytes) (h i j : RequesterSide) (xids : List ℕ) (exchanges : Exchanges)
     → HasDone result b c h i exchanges → ForgetsCalls xids i j → HasDone result b c h j (giving_up exchanges xids)
 does_giving_up result b c h i j xids exchanges does forgets opened link run fine live =
-    all_given_up result opened link run b c i j xids exchanges.made exchanges.unanswered forgets (does opened link run fine live)
+    all_given_up result opened link run b c i j xids exchanges.made exchanges.unanswered exchanges.lost forgets (does opened link run fine live)

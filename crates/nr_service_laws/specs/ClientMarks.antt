@@ -13,6 +13,7 @@ use Rattle.nr_client.specs.declared.client_end.ClientEnd.{ClientEnd}
 use Rattle.nr_client.specs.declared.client_end.ClientEnd.TheVariants as client
 use Rattle.nr_client.specs.declared.call_end.CallEnd.{CallEnd}
 use Rattle.nr_client.specs.declared.call_end.CallEnd.TheVariants as calls
+use Rattle.nr_client.specs.Calls.{NoneCame}
 use Rattle.nr_client.specs.Steps.{HasWrittenAt, IsLive, IsOut}
 use Rattle.nr_service_laws.specs.Exchanges.{Exchange}
 use Rattle.nr_service_laws.specs.Exchanges.Exchange.{Answered, Forgotten, GivenUp, HandedOver, Submitted}
@@ -59,3 +60,9 @@ StandsAt result opened link h ahead run =
 abbrev pub IsWrittenAt : Option CallEnd → LinkParameters → ℕ → List Mark → Type 0
 IsWrittenAt (Some end) opened link run = HasWrittenAt end opened link run
 IsWrittenAt None opened link run = ⊤
+
+-- a call that is forgotten for an end of the link had no outcome by these marks, unless memory ran out for a frame
+abbrev pub LacksOutcome : Option CallEnd → LinkParameters → ℕ → List Mark → Type 0
+LacksOutcome (Some end) opened link run =
+    (xid : ℕ) × (before : List Mark) × (after : List Mark) × ((run ≡ before ++ marks.Forget link xid ∷ after) × NoneCame end opened link run xid)
+LacksOutcome None opened link run = ⊤

@@ -53,35 +53,39 @@ exchange_outcomes (Submitted xid call) = []
 exchange_outcomes (HandedOver xid outcome) = outcome ∷ []
 exchange_outcomes (GivenUp xid) = []
 
--- these, in order; and why the last call has no answer, if it has none
+-- These, in order; and why the last call has no answer, if it has none, and if it was forgotten for that.
 pub record Exchanges : Type 0 where
   pub made : List Exchange
   pub unanswered : Option CallEnd
+  pub lost : Option CallEnd
 
 abbrev pub none : Exchanges
-none = record { made = []; unanswered = None }
+none = record { made = []; unanswered = None; lost = None }
 
 abbrev pub one : Exchange → Exchanges
-one exchange = record { made = exchange ∷ []; unanswered = None }
+one exchange = record { made = exchange ∷ []; unanswered = None; lost = None }
 
--- nothing more was done than this, for this cause
-abbrev pub ended_by : List Exchange → CallEnd → Exchanges
-ended_by made end = record { made = made; unanswered = Some end }
+-- A call was not submitted for this cause; or it was forgotten by this exchange.
+abbrev pub refused_by : CallEnd → Exchanges
+refused_by end = record { made = []; unanswered = Some end; lost = None }
+
+abbrev pub lost_by : Exchange → CallEnd → Exchanges
+lost_by exchange end = record { made = exchange ∷ []; unanswered = Some end; lost = Some end }
 
 -- these, and then more
 abbrev pub and_then : Exchanges → Exchanges → Exchanges
-and_then first second = record { made = first.made ++ second.made; unanswered = second.unanswered }
+and_then first second = record { made = first.made ++ second.made; unanswered = second.unanswered; lost = second.lost }
 
 -- the calls of these xids are given up in the end
 abbrev pub giving_up : Exchanges → List ℕ → Exchanges
-giving_up exchanges xids = record { made = exchanges.made ++ map GivenUp xids; unanswered = exchanges.unanswered }
+giving_up exchanges xids = record { made = exchanges.made ++ map GivenUp xids; unanswered = exchanges.unanswered; lost = exchanges.lost }
 
 -- ---- Requests of nr_client
 
 -- a call without an answer: it was not submitted, or it was, and was forgotten
 abbrev pub given_up_exchanges : (b b' : LinkBytes) (h h' : RequesterSide) (call : Call) (end : CallEnd) → GivesUp b b' h h' call end → Exchanges
-given_up_exchanges b b' h h' call end (inl refused) = ended_by [] end
-given_up_exchanges b b' h h' call end (inr gone) = ended_by (Forgotten call ∷ []) end
+given_up_exchanges b b' h h' call end (inl refused) = refused_by end
+given_up_exchanges b b' h h' call end (inr gone) = lost_by (Forgotten call) end
 
 abbrev pub unanswered_exchanges : (call : Call) (b b' : LinkBytes) (h h' : RequesterSide) (end : ClientEnd) → Unanswered call b b' h h' end → Exchanges
 unanswered_exchanges call b b' h h' end (inl (cause, (is, (gives_up, why)))) = given_up_exchanges b b' h h' call cause gives_up
@@ -126,8 +130,8 @@ abbrev pub reading_end_exchanges : (uid gid : ℕ) (file : List ℕ) (s : Readin
 reading_end_exchanges uid gid file s left b h taken taken' given (EndsByReplies same is waits takes) = none
 reading_end_exchanges uid gid file s left b h taken taken' given (OutputFails is same waits takes) = none
 reading_end_exchanges uid gid file s left b h taken taken' given (NotAnswered call end alone is unanswered waits takes) = unanswered_exchanges call s.bytes b s.side h end unanswered
-reading_end_exchanges uid gid file s left b h taken taken' given (NotSubmitted call end ahead is refused waits takes) = ended_by [] end
-reading_end_exchanges uid gid file s left b h taken taken' given (OldestForgotten read end full is given_is forgets waits takes) = ended_by (GivenUp read.xid ∷ []) end
+reading_end_exchanges uid gid file s left b h taken taken' given (NotSubmitted call end ahead is refused waits takes) = refused_by end
+reading_end_exchanges uid gid file s left b h taken taken' given (OldestForgotten read end full is given_is forgets waits takes) = lost_by (GivenUp read.xid) end
 
 abbrev pub read_exchanges : (uid gid : ℕ) (file : List ℕ) (b b' : LinkBytes) (h h' : RequesterSide) (taken taken' : Option (List ℕ)) (given : Result (Unit {0}) ClientEnd)
     → ReadsFile uid gid file b b' h h' taken taken' given → Exchanges
