@@ -1,6 +1,6 @@
 -- A command that opened a session is one run of its link.
 use Rattle.std.specs.Prelude.{◌≡◌, ⊤, ℕ, List, [], ◌++◌, length, map, Option, Some, IfSome, Result}
-use Rattle.std.specs.List.{AllByRecursion, flat_map}
+use Rattle.std.specs.List.{AllByRecursion}
 use Rattle.std.specs.Io.KnownBytes.{Consumes}
 use Rattle.nr_outside.specs.Streams.{SinkAt, SourceAt}
 use Rattle.nr_links.specs.Links.{EndsLink, LinkLog, ended_link}
@@ -21,7 +21,7 @@ use Rattle.nr_client.specs.Steps.{WritesFirst}
 use Rattle.nr_commands.specs.Running.{Runs}
 use Rattle.nr_commands.specs.Running.Runs.{NotOpened, Opened}
 use Rattle.nr_commands.specs.Sessions.{SessionAt}
-use Rattle.nr_service_laws.specs.Exchanges.{Exchanges, exchange_calls, exchange_outcomes, tells_text}
+use Rattle.nr_service_laws.specs.Exchanges.{Exchanges, calls_in, outcomes_in, tells_text}
 use Rattle.nr_service_laws.specs.ClientMarks.{AreMarksOf, IsOwn, IsWrittenAt, LacksOutcome, StandsAt, without_bytes}
 
 -- known bytes of a new link are these later
@@ -49,8 +49,8 @@ pub record IsRunOf (opened : LinkParameters) (link : ℕ) (s s' : SessionAt) (lo
   pub lacks : LacksOutcome exchanges.lost opened link run
   -- its calls are submitted, handed over and forgotten as the requests say, in their order
   pub marks_are : AreMarksOf link exchanges.made (without_bytes run)
-  pub calls : calls_of link run ≡ flat_map exchange_calls exchanges.made
-  pub outcomes : outcomes_of link run ≡ flat_map exchange_outcomes exchanges.made
+  pub calls : calls_of link run ≡ calls_in exchanges.made
+  pub outcomes : outcomes_of link run ≡ outcomes_in exchanges.made
   -- The bytes of its marks are those of the link that was hung up. Bytes that were read are fed in no mark only if memory ran out for a frame.
   pub ahead : List ℕ
   pub given : AreThen s.bytes.given s'.bytes.given (bytes_received link Initiator run ++ ahead)

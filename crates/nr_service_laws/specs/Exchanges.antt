@@ -1,5 +1,6 @@
 -- The calls that were submitted, and the outcomes that were handed over, by what the contracts of a session say.
 use Rattle.std.specs.Prelude.{◌≡◌, ℕ, Bool, true, false, ◌⊎◌, List, [], ◌∷◌, ◌++◌, length, map, nat_lt, Option, None, Some, Result, Ok, Err, MatchBool}
+use Rattle.std.specs.List.{flat_map}
 use mathlib.Core.Logic.{inl, inr}
 use Rattle.nr_outside.specs.Streams.{SinkAt, SourceAt}
 use Rattle.nr_nfs_base.specs.Limits.{link_target_max}
@@ -52,6 +53,13 @@ exchange_outcomes (Forgotten call) = []
 exchange_outcomes (Submitted xid call) = []
 exchange_outcomes (HandedOver xid outcome) = outcome ∷ []
 exchange_outcomes (GivenUp xid) = []
+
+-- those of several, in order
+abbrev pub outcomes_in : List Exchange → List Outcome
+outcomes_in made = flat_map exchange_outcomes made
+
+abbrev pub calls_in : List Exchange → List Call
+calls_in made = flat_map exchange_calls made
 
 -- These, in order; and why the last call has no answer, if it has none, and if it was forgotten for that.
 pub record Exchanges : Type 0 where

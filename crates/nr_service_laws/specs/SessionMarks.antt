@@ -22,7 +22,7 @@ use Rattle.nr_client.specs.Dialing.{DialerAt, session_credits}
 use Rattle.nr_commands.specs.Running.{Opens}
 use Rattle.nr_commands.specs.Sessions.{SessionAt}
 use Rattle.nr_service_laws.specs.ClientMarks.{AreMarksOf, IsOwn, IsWrittenAt, LacksOutcome, StandsAt, without_bytes}
-use Rattle.nr_service_laws.specs.Exchanges.{Exchange, Exchanges, and_then, asked_exchanges, followed_exchanges, read_exchanges, write_exchanges}
+use Rattle.nr_service_laws.specs.Exchanges.{Exchange, Exchanges, and_then, asked_exchanges, followed_exchanges, outcomes_in, read_exchanges, write_exchanges}
 
 -- These marks follow a run. They are marks of the client of the link, have these exchanges, and bring its bytes from one moment to another.
 pub record Extends (opened : LinkParameters) (link : ℕ) (run : List Mark) (b b' : LinkBytes) (ahead : List ℕ) (made : List Exchange) (more : List Mark) : Type 0 where
@@ -71,6 +71,18 @@ WritesHaveMarks =
     (uid gid : ℕ) (dir name : List ℕ) (b b' : LinkBytes) (h h' : RequesterSide) (left given left' given' : Option (List ℕ)) (result : Result (Unit {0}) ClientEnd)
     (writes : WritesFile uid gid dir name b b' h h' left given left' given' result) →
     HasDone result b b' h h' (write_exchanges uid gid dir name b b' h h' left given left' given' result writes)
+
+-- The outcomes that are handed over by these marks are the ones from which each call and the result of a request follow.
+abbrev pub FollowsOutcomes : Type 0 → Type 0
+FollowsOutcomes A =
+    (request : List Outcome → Next A) (b b' : LinkBytes) (h h' : RequesterSide) (result : Result A ClientEnd) (follows : Follows request b b' h h' result) →
+    outcomes_in (followed_exchanges request b b' h h' result follows).made ≡ follows.outcomes
+
+abbrev pub ReadsInOrder : Type 0
+ReadsInOrder =
+    (uid gid : ℕ) (file : List ℕ) (b b' : LinkBytes) (h h' : RequesterSide) (taken taken' : Option (List ℕ)) (result : Result (Unit {0}) ClientEnd)
+    (reads : ReadsFile uid gid file b b' h h' taken taken' result) →
+    outcomes_in (read_exchanges uid gid file b b' h h' taken taken' result reads).made ≡ reads.last.outcomes
 
 -- Two of them one after another, if the first has a value.
 abbrev pub MarksGoOn : Type 0 → Type 0 → Type 0

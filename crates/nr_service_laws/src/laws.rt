@@ -1,7 +1,7 @@
 //! Laws of sessions and of commands.
 
 ghost use Rattle.nr_service_laws.specs.CommandRuns.{CommandsHaveARun};
-ghost use Rattle.nr_service_laws.specs.SessionMarks.{AsksHaveMarks, FollowsHaveMarks, MarksGoOn, ReadsHaveMarks, SessionsBegin, WritesHaveMarks};
+ghost use Rattle.nr_service_laws.specs.SessionMarks.{AsksHaveMarks, FollowsHaveMarks, FollowsOutcomes, MarksGoOn, ReadsHaveMarks, ReadsInOrder, SessionsBegin, WritesHaveMarks};
 
 /// A session that was opened stands for no marks, whatever its server is opened with.
 pub fn sessions_begin()
@@ -13,12 +13,14 @@ pub fn sessions_begin()
 pub fn requests_have_marks<A, B>()
     ensures asks { AsksHaveMarks A }
     ensures follows { FollowsHaveMarks A }
+    ensures outcomes { FollowsOutcomes A }
     ensures goes_on { MarksGoOn A B }
 {}
 
 /// So it is if a file is read, with several READs outstanding, or written.
 pub fn files_have_marks()
     ensures reads { ReadsHaveMarks }
+    ensures in_order { ReadsInOrder }
     ensures writes { WritesHaveMarks }
 {}
 
