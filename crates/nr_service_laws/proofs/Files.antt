@@ -1,0 +1,61 @@
+-- A file is read, or written.
+use Rattle.std.proofs.Common.{◌≡◌, ℕ, ◌⊎◌, List, [], ◌∷◌, ◌++◌, Option, Result, Ok, Err, inl, inr, sym, ap, subst}
+use Rattle.nr_requester.specs.RequesterState.{RequesterSide}
+use Rattle.nr_client.specs.declared.client_end.ClientEnd.{ClientEnd}
+use Rattle.nr_client.specs.declared.client_end.ClientEnd.TheVariants as client
+use Rattle.nr_client.specs.Following.{Follows}
+use Rattle.nr_client.specs.Reading.{EndsReading, LeadsBy, OpenRead, ReadStep, ReadingAt, ReadsFile, starts_at, xids_of}
+use Rattle.nr_client.specs.Reading.ReadStep.{MakesAlone, AsksAhead, TakesOldest}
+use Rattle.nr_client.specs.Reading.EndsReading.{EndsByReplies, OutputFails, NotAnswered, NotSubmitted, OldestForgotten}
+use Rattle.nr_client.specs.Transfers.{LinkBytes}
+use Rattle.nr_client.specs.Writing.{WritesFile, writing}
+use Rattle.nr_service_laws.specs.Exchanges.{giving_up, lost_by, read_exchanges, reading_end_exchanges, refused_by, step_exchanges, steps_exchanges, unanswered_exchanges, write_exchanges, write_exchanges_by}
+use Rattle.nr_service_laws.specs.Exchanges.Exchange.{GivenUp}
+use Rattle.nr_service_laws.specs.SessionMarks.{HasDone}
+use Rattle.nr_service_laws.proofs.Extending.{does_both, does_none_at}
+use Rattle.nr_service_laws.proofs.OneCall.{does_answers, does_completes, does_forgets, does_giving_up, does_refuses, does_submits}
+use Rattle.nr_service_laws.proofs.SeveralCalls.{does_follows, does_unanswered}
+
+does_step : (uid gid : ℕ) (file : List ℕ) (s t : ReadingAt) (step : ReadStep uid gid file s t)
+    → HasDone {A = Unit {0}} (Ok tt) s.bytes t.bytes s.side t.side (step_exchanges uid gid file s t step)
+does_step uid gid file s t (MakesAlone call outcome alone answers replies waits) = does_answers {A = Unit {0}} tt call outcome s.bytes t.bytes s.side t.side answers
+does_step uid gid file s t (AsksAhead read ahead submits replies waits) = does_submits {A = Unit {0}} tt read.call read.xid s.bytes t.bytes s.side t.side submits
+does_step uid gid file s t (TakesOldest read outcome full is completes replies waits) = does_completes {A = Unit {0}} tt read.xid outcome s.bytes t.bytes s.side t.side completes
+
+does_steps : (uid gid : ℕ) (file : List ℕ) (first : ReadingAt) (states : List ReadingAt) (last : ReadingAt) (leads : LeadsBy uid gid file first states last)
+    → HasDone {A = Unit {0}} (Ok tt) first.bytes last.bytes first.side last.side (steps_exchanges uid gid file first states last leads)
+does_steps uid gid file first [] last same =
+    does_none_at {A = Unit {0}} (Ok tt) first.bytes last.bytes first.side last.side (ap (λ (r : ReadingAt). r.bytes) same, ap (λ (r : ReadingAt). r.side) same)
+does_steps uid gid file first (s ∷ states) last (step, leads) =
+    does_both {A = Unit {0}} {B = Unit {0}} tt (Ok tt) first.bytes s.bytes last.bytes first.side s.side last.side (steps_exchanges uid gid file first states s leads) (step_exchanges uid gid file s last step)
+    (does_steps uid gid file first states s leads) (does_step uid gid file s last step)
+
+does_reading_end : (uid gid : ℕ) (file : List ℕ) (s : ReadingAt) (left : List OpenRead) (b : LinkBytes) (h : RequesterSide) (taken taken' : Option (List ℕ)) (given : Result (Unit {0}) ClientEnd)
+    (ends : EndsReading uid gid file s left b h taken taken' given) → HasDone given s.bytes b s.side h (reading_end_exchanges uid gid file s left b h taken taken' given ends)
+does_reading_end uid gid file s left b h taken taken' given (EndsByReplies same is waits takes) = does_none_at given s.bytes b s.side h same
+does_reading_end uid gid file s left b h taken taken' given (OutputFails is same waits takes) = does_none_at given s.bytes b s.side h same
+does_reading_end uid gid file s left b h taken taken' given (NotAnswered call end alone is gone waits takes) =
+    subst (λ (r : Result (Unit {0}) ClientEnd). HasDone r s.bytes b s.side h (unanswered_exchanges call s.bytes b s.side h end gone)) (sym is)
+    (does_unanswered {A = Unit {0}} call s.bytes b s.side h end gone)
+does_reading_end uid gid file s left b h taken taken' given (NotSubmitted call end ahead is refused waits takes) =
+    subst (λ (r : Result (Unit {0}) ClientEnd). HasDone r s.bytes b s.side h (refused_by end)) (sym is) (does_refuses {A = Unit {0}} call end s.bytes b s.side h refused.0)
+does_reading_end uid gid file s left b h taken taken' given (OldestForgotten read end full is given_is forgets waits takes) =
+    subst (λ (r : Result (Unit {0}) ClientEnd). HasDone r s.bytes b s.side h (lost_by (GivenUp read.xid) end)) (sym given_is)
+    (does_forgets {A = Unit {0}} read.xid end s.bytes b s.side h forgets.0)
+
+pub does_reads : (uid gid : ℕ) (file : List ℕ) (b c : LinkBytes) (h i : RequesterSide) (taken taken' : Option (List ℕ)) (given : Result (Unit {0}) ClientEnd)
+    (f : ReadsFile uid gid file b c h i taken taken' given) → HasDone given b c h i (read_exchanges uid gid file b c h i taken taken' given f)
+does_reads uid gid file b c h i taken taken' given f =
+    let exchanges = reading_end_exchanges uid gid file f.last f.left c f.side taken taken' given f.ends in
+    does_both {A = Unit {0}} {B = Unit {0}} tt given b f.last.bytes c h f.last.side i (steps_exchanges uid gid file (starts_at b h) f.between f.last f.made) (giving_up exchanges (xids_of f.left))
+    (does_steps uid gid file (starts_at b h) f.between f.last f.made)
+    (does_giving_up given f.last.bytes c f.last.side f.side i (xids_of f.left) exchanges (does_reading_end uid gid file f.last f.left c f.side taken taken' given f.ends) f.forgets)
+
+does_writes_by : (uid gid : ℕ) (dir name input : List ℕ) (b c : LinkBytes) (h i : RequesterSide) (result : Result (Unit {0}) ClientEnd)
+    (w : Follows (writing uid gid dir name input) b c h i result ⊎ ((result ≡ Err client.InputFault) × ((c ≡ b) × (i ≡ h)))) → HasDone result b c h i (write_exchanges_by uid gid dir name input b c h i result w)
+does_writes_by uid gid dir name input b c h i result (inl follows) = does_follows (writing uid gid dir name input) b c h i result follows
+does_writes_by uid gid dir name input b c h i result (inr (is, same)) = does_none_at result b c h i same
+
+pub does_writes : (uid gid : ℕ) (dir name : List ℕ) (b c : LinkBytes) (h i : RequesterSide) (left given left' given' : Option (List ℕ)) (result : Result (Unit {0}) ClientEnd)
+    (w : WritesFile uid gid dir name b c h i left given left' given' result) → HasDone result b c h i (write_exchanges uid gid dir name b c h i left given left' given' result w)
+does_writes uid gid dir name b c h i left given left' given' result w = does_writes_by uid gid dir name (w.handed ++ w.rest) b c h i result w.calls

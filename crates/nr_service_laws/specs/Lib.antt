@@ -1,0 +1,4 @@
+pub mod Exchanges
+pub mod ClientMarks
+pub mod SessionMarks
+pub mod CommandRuns

@@ -1,0 +1,31 @@
+//! Laws of sessions and of commands.
+
+ghost use Rattle.nr_service_laws.specs.CommandRuns.{CommandsHaveARun};
+ghost use Rattle.nr_service_laws.specs.SessionMarks.{AsksHaveMarks, FollowsHaveMarks, FollowsOutcomes, MarksGoOn, ReadsHaveMarks, ReadsInOrder, SessionsBegin, WritesHaveMarks};
+
+/// A session that was opened stands for no marks, whatever its server is opened with.
+pub fn sessions_begin()
+    ensures { SessionsBegin }
+{}
+
+/// Each request of a session makes marks more of its link, whatever marks its requester stood for: its calls are submitted and their outcomes handed
+/// over in the order of the request, bytes move between, and the client keeps its law and the last grant. So do two requests, one after the other.
+pub fn requests_have_marks<A, B>()
+    ensures asks { AsksHaveMarks A }
+    ensures follows { FollowsHaveMarks A }
+    ensures outcomes { FollowsOutcomes A }
+    ensures goes_on { MarksGoOn A B }
+{}
+
+/// So it is if a file is read, with several READs outstanding, or written.
+pub fn files_have_marks()
+    ensures reads { ReadsHaveMarks }
+    ensures in_order { ReadsInOrder }
+    ensures writes { WritesHaveMarks }
+{}
+
+/// A command that opened a session is one run of its link, which has all that its requests did one after another: the client keeps its law and the
+/// last grant, calls are submitted and outcomes handed over in the order of the requests, and the bytes are those of the link that was hung up.
+pub fn commands_have_a_run()
+    ensures { CommandsHaveARun }
+{}

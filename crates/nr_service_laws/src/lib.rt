@@ -1,0 +1,9 @@
+//! What holds of a command of a client as one run of its link, proved from the contracts of its calls.
+//!
+//! It stands on `nr_commands` and `nr_client`, whose definitions say what each call and each command does. Nothing of it runs: each public
+//! function has a law as its contract.
+#![tactic(auto)]
+
+mod laws;
+
+pub use laws::{commands_have_a_run, files_have_marks, requests_have_marks, sessions_begin};
