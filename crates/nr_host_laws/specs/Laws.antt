@@ -1,0 +1,37 @@
+-- A connection whose client sends a complete stream is served to its end.
+use Rattle.std.specs.Prelude.{◌≡◌, ℕ, ◌⊎◌, List, false, Some}
+use Rattle.nr_outside.specs.Faults.{Rises}
+use Rattle.nr_reduce.specs.declared.mark.Entry.{Entry}
+use Rattle.nr_plain.specs.Setup.{Setup}
+use Rattle.nr_plain.specs.Stands.{RepresentsJournal}
+use Rattle.nr_host.specs.Connections.{Outside}
+use Rattle.nr_host.specs.Ending.{SinkCount, SourceCount}
+use Rattle.nr_host.specs.Serving.{Between, ServesLink}
+use Rattle.nr_host.specs.Steps.{IsServed, outside, sink_state}
+use Rattle.nr_host.specs.declared.conn_end.ConnEnd.{ConnEnd}
+use Rattle.nr_host.specs.declared.conn_end.ConnEnd.TheVariants as ends
+use Rattle.nr_host_laws.specs.Streams.{IsCompleteStream, ServesStream}
+
+-- `Closed`, after all of the stream, whatever number the link has in the marks; or memory ran out
+abbrev pub Completes : ℕ → Setup → List Entry → (before after : Outside) → List ℕ → ConnEnd → Type 0
+Completes credits s J before after stream end =
+    (end ≡ ends.Memory) ⊎ ((end ≡ ends.Closed) × ((link : ℕ) → ServesStream credits s J link before after stream))
+
+-- A connection over a source with a complete stream, with the clauses of `serve_connection`. No fault count rises: that of the source, or of the sink.
+abbrev pub ConnectionsComplete : Type 0
+ConnectionsComplete =
+    (credits : ℕ) (before after : Outside) (end : ConnEnd) (source source' : ℕ) (s : Setup) (J : List Entry) (stream : List ℕ) →
+    IsServed credits before after end → SourceCount end source source' → SinkCount end before.sink.faults after.sink.faults →
+    (Rises source source' → ⊥) → (Rises before.sink.faults after.sink.faults → ⊥) →
+    RepresentsJournal s J before.kept → before.left ≡ Some stream → IsCompleteStream credits s J stream →
+    Completes credits s J before after stream end
+
+-- A link of `serve`. The count of lost links doesn't rise.
+abbrev pub LinksComplete : Type 0
+LinksComplete =
+    (credits : ℕ) (before after : Between) (end : ConnEnd) (s : Setup) (J : List Entry) (stream : List ℕ) (served : ServesLink credits before after end) →
+    (Rises before.lost after.lost → ⊥) →
+    RepresentsJournal s J before.kept → served.opened.left ≡ Some stream → IsCompleteStream credits s J stream →
+    Completes credits s J
+    (outside served.opened.left served.opened.given (sink_state served.opened.taken 0 false) before.gave before.kept)
+    (outside served.closed.left served.closed.given (sink_state served.closed.taken served.sink_faults false) after.gave after.kept) stream end

@@ -1,0 +1,14 @@
+//! Laws of connections. Nothing here runs.
+
+ghost use Rattle.nr_host_laws.specs.Laws.{ConnectionsComplete, LinksComplete};
+
+/// A connection whose client sends a complete stream ends with `Closed`, with each call executed and answered, unless memory runs out or a
+/// fault count of its source or its sink rises.
+pub fn connections_complete()
+    ensures { ConnectionsComplete }
+{}
+
+/// So does each link that `serve` accepts, unless the count of lost links rises with it.
+pub fn links_complete()
+    ensures { LinksComplete }
+{}

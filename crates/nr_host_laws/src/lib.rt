@@ -1,0 +1,6 @@
+//! The laws of connections of a server: what follows from the clauses of `nr_host`.
+#![tactic(auto)]
+
+mod laws;
+
+pub use laws::{connections_complete, links_complete};
