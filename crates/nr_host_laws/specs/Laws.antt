@@ -1,6 +1,8 @@
 -- A connection whose client sends a complete stream is served to its end.
-use Rattle.std.specs.Prelude.{◌≡◌, ℕ, ◌⊎◌, List, false, Some}
+use Rattle.std.specs.Prelude.{◌≡◌, ℕ, ◌⊎◌, List, [], false, Some}
 use Rattle.nr_outside.specs.Faults.{Rises}
+use Rattle.nr_wire.specs.declared.hello.Side.TheVariants.{Initiator}
+use Rattle.nr_link.specs.Output.{own_hello}
 use Rattle.nr_reduce.specs.declared.mark.Entry.{Entry}
 use Rattle.nr_plain.specs.Setup.{Setup}
 use Rattle.nr_plain.specs.Stands.{RepresentsJournal}
@@ -35,3 +37,7 @@ LinksComplete =
     Completes credits s J
     (outside served.opened.left served.opened.given (sink_state served.opened.taken 0 false) before.gave before.kept)
     (outside served.closed.left served.closed.given (sink_state served.closed.taken served.sink_faults false) after.gave after.kept) stream end
+
+-- A client that sends nothing, or its hello alone, sends a complete stream, whatever the server stands for.
+abbrev pub StreamsWithoutCalls : Type 0
+StreamsWithoutCalls = (credits : ℕ) (s : Setup) (J : List Entry) → IsCompleteStream credits s J [] × IsCompleteStream credits s J (own_hello Initiator)

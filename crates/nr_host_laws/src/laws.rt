@@ -1,6 +1,6 @@
 //! Laws of connections. Nothing here runs.
 
-ghost use Rattle.nr_host_laws.specs.Laws.{ConnectionsComplete, LinksComplete};
+ghost use Rattle.nr_host_laws.specs.Laws.{ConnectionsComplete, LinksComplete, StreamsWithoutCalls};
 
 /// A connection whose client sends a complete stream ends with `Closed`, with each call executed and answered, unless memory runs out or a
 /// fault count of its source or its sink rises.
@@ -11,4 +11,9 @@ pub fn connections_complete()
 /// So does each link that `serve` accepts, unless the count of lost links rises with it.
 pub fn links_complete()
     ensures { LinksComplete }
+{}
+
+/// No bytes, and a hello alone, are complete streams.
+pub fn streams_without_calls()
+    ensures { StreamsWithoutCalls }
 {}

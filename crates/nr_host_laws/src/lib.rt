@@ -3,4 +3,4 @@
 
 mod laws;
 
-pub use laws::{connections_complete, links_complete};
+pub use laws::{connections_complete, links_complete, streams_without_calls};
