@@ -1,2 +1,3 @@
+pub mod AnsweredSends
 pub mod Completing
 pub mod NoCalls

@@ -1,9 +1,15 @@
 -- A connection whose client sends a complete stream is served to its end.
-use Rattle.std.specs.Prelude.{◌≡◌, ℕ, ◌⊎◌, List, [], false, Some}
+use Rattle.std.specs.Prelude.{◌≡◌, ℕ, ◌⊎◌, List, [], length, false, Some}
 use Rattle.nr_outside.specs.Faults.{Rises}
-use Rattle.nr_wire.specs.declared.hello.Side.TheVariants.{Initiator}
+use Rattle.nr_wire.specs.declared.hello.Side.TheVariants.{Initiator, Responder}
+use Rattle.nr_link.specs.OutputItem.{is_send_item, items_written}
 use Rattle.nr_link.specs.Output.{own_hello}
 use Rattle.nr_reduce.specs.declared.mark.Entry.{Entry}
+use Rattle.nr_reduce.specs.declared.mark.LinkParameters.{LinkParameters}
+use Rattle.nr_reduce.specs.DueItems.{hello_due, items_due}
+use Rattle.nr_reduce.specs.History.{bytes_sent}
+use Rattle.nr_reduce.specs.Run.{server}
+use Rattle.nr_laws.specs.Typed.{IsTyped}
 use Rattle.nr_plain.specs.Setup.{Setup}
 use Rattle.nr_plain.specs.Stands.{RepresentsJournal}
 use Rattle.nr_host.specs.Connections.{Outside}
@@ -41,3 +47,12 @@ LinksComplete =
 -- A client that sends nothing, or its hello alone, sends a complete stream, whatever the server stands for.
 abbrev pub StreamsWithoutCalls : Type 0
 StreamsWithoutCalls = (credits : ℕ) (s : Setup) (J : List Entry) → IsCompleteStream credits s J [] × IsCompleteStream credits s J (own_hello Initiator)
+
+-- A connection that served a complete stream answered each Send of it: as many messages were completely written as Sends were received, if what
+-- is written down as bytes are bytes.
+abbrev pub SendsAreAnswered : Type 0
+SendsAreAnswered =
+    (credits : ℕ) (s : Setup) (J : List Entry) (link : ℕ) (before after : Outside) (stream : List ℕ) (served : ServesStream credits s J link before after stream) →
+    (opened : LinkParameters) → opened.granted ≡ credits → IsTyped served.run →
+    items_written is_send_item (length (hello_due opened link Responder served.run)) (length (bytes_sent link Responder served.run)) (items_due opened link Responder served.run)
+    ≡ (server opened link served.run).state.received.sends

@@ -1,6 +1,6 @@
 //! Laws of connections. Nothing here runs.
 
-ghost use Rattle.nr_host_laws.specs.Laws.{ConnectionsComplete, LinksComplete, StreamsWithoutCalls};
+ghost use Rattle.nr_host_laws.specs.Laws.{ConnectionsComplete, LinksComplete, SendsAreAnswered, StreamsWithoutCalls};
 
 /// A connection whose client sends a complete stream ends with `Closed`, with each call executed and answered, unless memory runs out or a
 /// fault count of its source or its sink rises.
@@ -16,4 +16,9 @@ pub fn links_complete()
 /// No bytes, and a hello alone, are complete streams.
 pub fn streams_without_calls()
     ensures { StreamsWithoutCalls }
+{}
+
+/// Each Send of a complete stream is answered.
+pub fn sends_are_answered()
+    ensures { SendsAreAnswered }
 {}

@@ -3,4 +3,4 @@
 
 mod laws;
 
-pub use laws::{connections_complete, links_complete, streams_without_calls};
+pub use laws::{connections_complete, links_complete, sends_are_answered, streams_without_calls};
