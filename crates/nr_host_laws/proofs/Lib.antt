@@ -1,3 +1,4 @@
 pub mod AnsweredSends
 pub mod Completing
 pub mod NoCalls
+pub mod WholeWrites
