@@ -1,4 +1,5 @@
 pub mod AnsweredSends
 pub mod Completing
+pub mod Merged
 pub mod NoCalls
 pub mod WholeWrites

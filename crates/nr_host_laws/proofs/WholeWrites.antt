@@ -95,14 +95,14 @@ unfolding moments
 moments_more run mark = one_more moment_of run mark
 
 module _ (opened : LinkParameters) (link : ℕ) where
-  live_first : (before run : List Mark) → (server opened link (before ++ run)).ended ≡ None → (server opened link before).ended ≡ None
+  pub live_first : (before run : List Mark) → (server opened link (before ++ run)).ended ≡ None → (server opened link before).ended ≡ None
   live_first before [] live = subst (λ (r : List Mark). (server opened link r).ended ≡ None) (append-nil before) live
   live_first before (mark ∷ run) live =
       let next = live_first (before ++ mark ∷ []) run (subst (λ (r : List Mark). (server opened link r).ended ≡ None) (sym (append_assoc before (mark ∷ []) run)) live) in
       live_before (server_rules opened) (server opened link before) (events_at link Responder before mark)
       (ap (λ (e : EndState ServerState). e.ended) (sym (server_one opened link before mark)) ∙ next)
 
-  same_behind : (run run' : List Mark) → IsSame opened link run run' → IsBehind opened link run run' []
+  pub same_behind : (run run' : List Mark) → IsSame opened link run run' → IsBehind opened link run run' []
   same_behind run run' h = record {
     written = (server opened link run).state.written;
     state = h.state;
@@ -113,7 +113,7 @@ module _ (opened : LinkParameters) (link : ℕ) where
     times = h.times;
   }
 
-  same_more : (run run' : List Mark) (mark : Mark) → IsSame opened link run run' → IsSame opened link (run ++ mark ∷ []) (run' ++ mark ∷ [])
+  pub same_more : (run run' : List Mark) (mark : Mark) → IsSame opened link run run' → IsSame opened link (run ++ mark ∷ []) (run' ++ mark ∷ [])
   same_more run run' mark h = record {
     state = server_one opened link run' mark
         ∙ (λ i. end_state_after (server_rules opened) (h.state i) (mark_events link Responder (length (h.received i)) (frames_completed Initiator (h.received i)) mark))
@@ -127,7 +127,7 @@ module _ (opened : LinkParameters) (link : ℕ) where
     times = moments_more run' mark ∙ ap (λ (l : List Moment). l ++ moment_of mark) h.times ∙ sym (moments_more run mark);
   }
 
-  executed_more : (run run' : List Mark) (left : List ℕ) (l xid place : ℕ) (moment : Moment) (payload reply : List ℕ) → l ≡ link → (server opened link run).ended ≡ None
+  pub executed_more : (run run' : List Mark) (left : List ℕ) (l xid place : ℕ) (moment : Moment) (payload reply : List ℕ) → l ≡ link → (server opened link run).ended ≡ None
       → IsBehind opened link run run' left
       → IsBehind opened link (run ++ marks.Execute l xid moment payload place reply ∷ []) (run' ++ marks.Execute l xid moment payload place reply ∷ []) left
   executed_more run run' left l xid place moment payload reply e live h =
@@ -154,7 +154,7 @@ module _ (opened : LinkParameters) (link : ℕ) where
         times = moments_more run' mark ∙ ap (λ (xs : List Moment). xs ++ moment_of mark) h.times ∙ sym (moments_more run mark);
       }
 
-  wrote_more : (run run' : List Mark) (left bytes : List ℕ) (l : ℕ) → l ≡ link → (server opened link run).ended ≡ None → IsBehind opened link run run' left
+  pub wrote_more : (run run' : List Mark) (left bytes : List ℕ) (l : ℕ) → l ≡ link → (server opened link run).ended ≡ None → IsBehind opened link run run' left
       → IsBehind opened link (run ++ marks.Wrote l Responder bytes ∷ []) run' (left ++ bytes)
   wrote_more run run' left bytes l e live h =
       let mark : Mark = marks.Wrote l Responder bytes in
@@ -178,7 +178,7 @@ module _ (opened : LinkParameters) (link : ℕ) where
       }
 
   -- a Wrote of what is left
-  all_written : (run run' : List Mark) (left : List ℕ) → (server opened link run).ended ≡ None → IsBehind opened link run run' left
+  pub all_written : (run run' : List Mark) (left : List ℕ) → (server opened link run).ended ≡ None → IsBehind opened link run run' left
       → IsSame opened link run (run' ++ marks.Wrote link Responder left ∷ [])
   all_written run run' left live h =
       let mark : Mark = marks.Wrote link Responder left in
