@@ -1,9 +1,7 @@
 -- The run of a connection with one Wrote before each piece, and one at the end.
-use Rattle.std.proofs.Common.{◌≡◌, ℕ, ◌≤◌, Bool, true, List, [], ◌∷◌, ◌++◌, length, Option, None, Some, refl, sym, ap, subst, ◌∙◌, append_assoc, append-nil, inl, inr, ◌⊎◌}
+use Rattle.std.proofs.Common.{◌≡◌, ℕ, ◌≤◌, List, [], ◌∷◌, ◌++◌, length, None, refl, sym, ap, subst, ◌∙◌, append_assoc, append-nil, inl, inr}
 use Rattle.std.specs.Prelude.{is_some}
-use Rattle.nr_outside.specs.declared.moment.Moment.{Moment}
 use Rattle.nr_wire.specs.declared.hello.Side.TheVariants.{Initiator, Responder}
-use Rattle.nr_link.specs.declared.end.End.{End}
 use Rattle.nr_link.specs.Frames.{frames_completed}
 use Rattle.nr_reduce.specs.declared.mark.Mark.{Mark}
 use Rattle.nr_reduce.specs.declared.mark.Mark.TheVariants as marks
@@ -12,14 +10,14 @@ use Rattle.nr_reduce.specs.declared.mark.LinkParameters.{LinkParameters}
 use Rattle.nr_reduce.specs.Asked.{IsAll}
 use Rattle.nr_reduce.specs.AtEachMark.{AtEachMark}
 use Rattle.nr_reduce.specs.EndRules.{EndState}
-use Rattle.nr_reduce.specs.History.{bytes_received, bytes_sent}
+use Rattle.nr_reduce.specs.History.{bytes_sent}
 use Rattle.nr_reduce.specs.Matched.{IsPrefixOf}
 use Rattle.nr_reduce.specs.Run.{HasWritten, output_due, server}
 use Rattle.nr_reduce.specs.Served.{IsExecuted, ServedMark, first_ready, next_call}
 use Rattle.nr_reduce.specs.ServerState.{ServerState}
 use Rattle.nr_plain.specs.Replies.{plain_reply}
 use Rattle.nr_plain.specs.Setup.{Setup}
-use Rattle.nr_host.specs.Connections.{FrameMark, IsOwn, IsQuiet, PlainMark, QuietMark, added}
+use Rattle.nr_host.specs.Connections.{FrameMark, IsOwn, IsQuiet, PlainMark, QuietMark}
 use Rattle.nr_host_laws.proofs.WholeWrites.{IsBehind, IsSame, all_written, executed_more, live_first, same_behind, same_more, wrote_more}
 
 -- the marks, with what is left to be written
@@ -58,7 +56,7 @@ module _ (s : Setup) (J : List Entry) (opened : LinkParameters) (link : ℕ) whe
   frame_same run run' l bytes h (inl one) = inl (subst (λ (old : List ℕ). length (frames_completed Initiator old bytes) ≤ 1) (sym h.received) one)
   frame_same run run' l bytes h (inr out) = inr (ap (λ (e : EndState ServerState). is_some e.ended) h.state ∙ out)
 
-  quiet_same : (run run' : List Mark) → IsSame opened link run run' → IsQuiet opened link run → IsQuiet opened link run'
+  pub quiet_same : (run run' : List Mark) → IsSame opened link run run' → IsQuiet opened link run → IsQuiet opened link run'
   quiet_same run run' h q = record {
     written = h.sent ∙ q.written ∙ sym h.due;
     executed = next_behind run run' [] (same_behind opened link run run' h) ∙ q.executed;
@@ -71,17 +69,18 @@ module _ (s : Setup) (J : List Entry) (opened : LinkParameters) (link : ℕ) whe
       let none = append-nil before in
       let live_now : (server opened link before).ended ≡ None = live_first opened link before [] live in
       let due : HasWritten opened link Responder before = subst (λ (r : List Mark). HasWritten opened link Responder r) none quiet in
-      let last : IsAll (bytes_sent link Responder before' ++ left) (output_due opened link Responder before') = h.sent ∙ due ∙ sym h.due in
-      (((refl, ((λ l. last), (tt, (tt, tt)))), tt),
-      subst (λ (r : List Mark). IsSame opened link r (before' ++ marks.Wrote link Responder left ∷ [])) (sym none) (all_written opened link before before' left live_now h))
+      let last : IsAll (bytes_sent link Responder before' ++ left) (output_due opened link Responder before') = h.sent ∙ due ∙ sym h.due in (
+        ((refl, ((λ l. last), (tt, (tt, tt)))), tt),
+        subst (λ (r : List Mark). IsSame opened link r (before' ++ marks.Wrote link Responder left ∷ [])) (sym none) (all_written opened link before before' left live_now h),
+      )
   merged left before before' (marks.Wrote l Responder bytes ∷ run) each live quiet h =
       let mark : Mark = marks.Wrote l Responder bytes in
       let same : (before ++ mark ∷ []) ++ run ≡ before ++ mark ∷ run = append_assoc before (mark ∷ []) run in
       let live_now : (server opened link before).ended ≡ None = live_first opened link before (mark ∷ run) live in
       let rest = merged (left ++ bytes) (before ++ mark ∷ []) before' run each.1
-          (subst (λ (r : List Mark). (server opened link r).ended ≡ None) (sym same) live)
-          (subst (λ (r : List Mark). HasWritten opened link Responder r) (sym same) quiet)
-          (wrote_more opened link before before' left bytes l each.0.0 live_now h) in
+      (subst (λ (r : List Mark). (server opened link r).ended ≡ None) (sym same) live)
+      (subst (λ (r : List Mark). HasWritten opened link Responder r) (sym same) quiet)
+      (wrote_more opened link before before' left bytes l each.0.0 live_now h) in
       (rest.0, subst (λ (r : List Mark). IsSame opened link r (before' ++ merge link (left ++ bytes) run)) same rest.1)
   merged left before before' (marks.Execute l xid moment payload place reply ∷ run) each live quiet h =
       let mark : Mark = marks.Execute l xid moment payload place reply in
@@ -89,9 +88,9 @@ module _ (s : Setup) (J : List Entry) (opened : LinkParameters) (link : ℕ) whe
       let own : l ≡ link = each.0.0 in
       let live_now : (server opened link before).ended ≡ None = live_first opened link before (mark ∷ run) live in
       let rest = merged left (before ++ mark ∷ []) (before' ++ mark ∷ []) run each.1
-          (subst (λ (r : List Mark). (server opened link r).ended ≡ None) (sym same) live)
-          (subst (λ (r : List Mark). HasWritten opened link Responder r) (sym same) quiet)
-          (executed_more opened link before before' left l xid place moment payload reply own live_now h) in
+      (subst (λ (r : List Mark). (server opened link r).ended ≡ None) (sym same) live)
+      (subst (λ (r : List Mark). HasWritten opened link Responder r) (sym same) quiet)
+      (executed_more opened link before before' left l xid place moment payload reply own live_now h) in
       let e : IsExecuted opened link before xid payload = each.0.1.0 own in
       let e' : IsExecuted opened link before' xid payload =
       record { call = e.call; is_next = next_behind before before' left h ∙ e.is_next; own = e.own; conveyed = e.conveyed } in
@@ -109,14 +108,15 @@ module _ (s : Setup) (J : List Entry) (opened : LinkParameters) (link : ℕ) whe
       let q : IsQuiet opened link before = each.0.1.1.0 in
       let f : IsSame opened link before now = all_written opened link before before' left live_now h in
       let rest = merged [] (before ++ mark ∷ []) (now ++ mark ∷ []) run each.1
-          (subst (λ (r : List Mark). (server opened link r).ended ≡ None) (sym same) live)
-          (subst (λ (r : List Mark). HasWritten opened link Responder r) (sym same) quiet)
-          (same_behind opened link (before ++ mark ∷ []) (now ++ mark ∷ []) (same_more opened link before now mark f)) in
+      (subst (λ (r : List Mark). (server opened link r).ended ≡ None) (sym same) live)
+      (subst (λ (r : List Mark). HasWritten opened link Responder r) (sym same) quiet)
+      (same_behind opened link (before ++ mark ∷ []) (now ++ mark ∷ []) (same_more opened link before now mark f)) in
       let last : IsAll (bytes_sent link Responder before' ++ left) (output_due opened link Responder before') = h.sent ∙ q.written ∙ sym h.due in
       let all : (now ++ mark ∷ []) ++ merge link [] run ≡ before' ++ write ∷ mark ∷ merge link [] run =
-      append_assoc now (mark ∷ []) (merge link [] run) ∙ append_assoc before' (write ∷ []) (mark ∷ merge link [] run) in
-      (((refl, ((λ k. last), (tt, (tt, tt)))), ((own, (tt, (quiet_same before now f q, (frame_same before now l bytes f each.0.1.1.1.0, tt)))), rest.0)),
-      subst2 same all rest.1)
+      append_assoc now (mark ∷ []) (merge link [] run) ∙ append_assoc before' (write ∷ []) (mark ∷ merge link [] run) in (
+        ((refl, ((λ k. last), (tt, (tt, tt)))), ((own, (tt, (quiet_same before now f q, (frame_same before now l bytes f each.0.1.1.1.0, tt)))), rest.0)),
+        subst2 same all rest.1,
+      )
   merged left before before' (marks.Fed l Initiator bytes ∷ run) each live quiet h = absurd each.0.0
   merged left before before' (marks.Wrote l Initiator bytes ∷ run) each live quiet h = absurd each.0.0
   merged left before before' (marks.Submit l call form answer ∷ run) each live quiet h = absurd each.0.0

@@ -1,32 +1,26 @@
 -- A run of a connection in which each Wrote writes all that is due: what several wrote before a piece is written by one.
-use Rattle.std.proofs.Common.{◌≡◌, ℕ, ◌+◌, Bool, true, false, List, [], ◌∷◌, ◌++◌, length, map, Option, None, Some, refl, sym, ap, subst, ◌∙◌, append_assoc, append-nil, inl, inr, ◌⊎◌}
+use Rattle.std.proofs.Common.{◌≡◌, ℕ, ◌+◌, List, [], ◌∷◌, ◌++◌, length, None, refl, sym, ap, subst, ◌∙◌, append_assoc, append-nil}
 use Rattle.std.proofs.lemmas.Bool.{eq-eqb}
 use Rattle.nr_outside.specs.declared.moment.Moment.{Moment}
 use Rattle.nr_wire.specs.declared.hello.Side.TheVariants.{Initiator, Responder}
-use Rattle.nr_link.specs.declared.end.End.{End}
 use Rattle.nr_link.specs.Frames.{frames_completed}
 use Rattle.nr_reduce.specs.declared.mark.Mark.{Mark}
 use Rattle.nr_reduce.specs.declared.mark.Mark.TheVariants as marks
 use Rattle.nr_reduce.specs.declared.mark.Entry.{Entry}
 use Rattle.nr_reduce.specs.declared.mark.LinkParameters.{LinkParameters}
-use Rattle.nr_reduce.specs.Asked.{IsAll}
-use Rattle.nr_reduce.specs.AtEachMark.{AtEachMark}
 use Rattle.nr_reduce.specs.EndRules.{EndState, end_state_after, next_end_state, next_end_state_by, next_end_state_in, output_for, output_for_all, output_for_by, output_for_in}
 use Rattle.nr_reduce.specs.Events.{RunEvent, events_at, mark_events}
 use Rattle.nr_reduce.specs.Events.RunEvent.{CallExecuted, QueueWritten}
 use Rattle.nr_reduce.specs.History.{ExecutedCall, bytes_received, bytes_sent, fed_at, written_at}
-use Rattle.nr_reduce.specs.Matched.{IsPrefixOf}
 use Rattle.nr_reduce.specs.PlainJournal.{any_that_adds, entries_added, journal}
-use Rattle.nr_reduce.specs.Run.{HasWritten, output_due, server}
-use Rattle.nr_reduce.specs.Served.{IsExecuted, Served, ServedMark, ServedSoFar, first_ready, next_call}
+use Rattle.nr_reduce.specs.Run.{output_due, server}
 use Rattle.nr_reduce.specs.Server.{execution_output, server_end, server_output, server_rules, server_state_after}
-use Rattle.nr_reduce.specs.ServerState.{ReadyCall, ServerState}
+use Rattle.nr_reduce.specs.ServerState.{ServerState}
 use Rattle.nr_reduce.proofs.CountedBytes.{server_bytes_written}
 use Rattle.nr_reduce.proofs.Standing.{itself, live_before, one_more, received_one, sent_one}
 use Rattle.nr_reduce.proofs.Steps.{output_due_down_one, server_one}
 use Rattle.nr_plain.specs.Added.{entries_of_call}
-use Rattle.nr_plain.specs.Setup.{Setup}
-use Rattle.nr_host.specs.Connections.{FrameMark, IsOwn, IsQuiet, PlainMark, QuietMark, added, moment_of, moments}
+use Rattle.nr_host.specs.Connections.{added, moment_of, moments}
 
 -- ---- The server, but for what it has written
 
@@ -186,11 +180,11 @@ module _ (opened : LinkParameters) (link : ℕ) where
       let sent : bytes_sent link Responder (run' ++ mark ∷ []) ≡ bytes_sent link Responder run' ++ left = sent_one link Responder run' mark ∙ rw (itself link) refl in
       let step : server opened link (run' ++ mark ∷ []) ≡ with_written (h.written + length left) (server opened link run) =
       server_one opened link run' mark ∙ (λ i. end_state_after (server_rules opened) (h.state i) (its i))
-          ∙ next_written opened (with_written h.written (server opened link run)) (length left) live in
+      ∙ next_written opened (with_written h.written (server opened link run)) (length left) live in
       let live' : (server opened link (run' ++ mark ∷ [])).ended ≡ None = ap (λ (e : EndState ServerState). e.ended) step ∙ live in
       let count : h.written + length left ≡ (server opened link run).state.written =
       sym (ap (λ (e : EndState ServerState). e.state.written) step) ∙ server_bytes_written opened link (run' ++ mark ∷ []) live'
-          ∙ ap (λ (xs : List ℕ). length xs) (sent ∙ h.sent) ∙ sym (server_bytes_written opened link run live) in
+      ∙ ap (λ (xs : List ℕ). length xs) (sent ∙ h.sent) ∙ sym (server_bytes_written opened link run live) in
       record {
         state = step ∙ (λ i. with_written (count i) (server opened link run));
         due = output_due_down_one opened link run' mark

@@ -10,7 +10,7 @@ use Rattle.nr_reduce.specs.AtEachMark.{AtEachMark}
 use Rattle.nr_reduce.specs.History.{bytes_sent, bytes_received}
 use Rattle.nr_reduce.specs.Matched.{IsPrefixOf}
 use Rattle.nr_reduce.specs.Run.{server}
-use Rattle.nr_reduce.specs.Served.{ServedSoFar}
+use Rattle.nr_reduce.specs.Served.{Served, ServedSoFar}
 use Rattle.nr_plain.specs.Setup.{Setup}
 use Rattle.nr_plain.specs.Stands.{RepresentsJournal}
 use Rattle.nr_links.specs.Limits.{read_max}
@@ -40,7 +40,8 @@ pub record IsCompleteStream (credits : ℕ) (s : Setup) (J : List Entry) (stream
       (server opened link run).state.calls ≡ []
 
 -- A connection served such a stream: it read and fed all of it and nothing else, the sink took all that was written, which is all that was
--- due, each call was executed at the moment that the clock gave and answered, and the server stands for the journal with their entries.
+-- due, each call was executed at the moment that the clock gave and answered, and the server stands for the journal with their entries. The
+-- law of a link's server holds in full: each Wrote writes all that is due.
 pub record ServesStream (credits : ℕ) (s : Setup) (J : List Entry) (link : ℕ) (before after : Outside) (stream : List ℕ) : Type 0 where
   pub run : List Mark
   pub fed : bytes_received link Responder run ≡ stream
@@ -50,5 +51,6 @@ pub record ServesStream (credits : ℕ) (s : Setup) (J : List Entry) (link : ℕ
   pub gave : GivesAll before.gave after.gave (moments run)
   pub stands : RepresentsJournal s (J ++ added run) after.kept
   pub made : (opened : LinkParameters) → opened.granted ≡ credits → MayHaveMade s J opened link stream run
+  pub served : (opened : LinkParameters) → opened.granted ≡ credits → Served opened link run
   pub idle : (opened : LinkParameters) → opened.granted ≡ credits → IsIdle opened link run
   pub answered : (opened : LinkParameters) → opened.granted ≡ credits → (server opened link run).state.calls ≡ []
