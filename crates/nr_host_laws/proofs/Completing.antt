@@ -15,15 +15,9 @@ use Rattle.nr_reduce.specs.declared.mark.LinkParameters.{LinkParameters}
 use Rattle.nr_reduce.specs.History.{bytes_received, bytes_sent}
 use Rattle.nr_reduce.specs.Matched.{IsPrefixOf}
 use Rattle.nr_reduce.specs.Run.{server}
-use Rattle.nr_reduce.specs.ServerState.{PendingCall, ServerState}
-use Rattle.nr_reduce.specs.Asked.{IsAll}
-use Rattle.nr_reduce.specs.AtEachMark.{AtEachMark}
-use Rattle.nr_reduce.specs.EndRules.{EndState}
-use Rattle.nr_reduce.specs.Served.{ServedMark}
-use Rattle.nr_reduce.proofs.SoFarLaws.{AtEachMark_each, served_mark}
-use Rattle.nr_host.specs.Connections.{IsOwn, QuietMark, FrameMark, PlainMark}
-use Rattle.nr_host_laws.proofs.Merged.{KeepsTo, both, merge, merged, quiet_same}
-use Rattle.nr_host_laws.proofs.WholeWrites.{IsSame, same_behind}
+use Rattle.nr_reduce.specs.ServerState.{PendingCall}
+use Rattle.nr_host_laws.proofs.Lawful.{keep_the_law, with_credits}
+use Rattle.nr_reduce.specs.Served.{Served}
 use Rattle.nr_plain.specs.Setup.{Setup}
 use Rattle.nr_plain.specs.Stands.{RepresentsJournal}
 use Rattle.nr_links.specs.Limits.{read_max}
@@ -63,10 +57,6 @@ no_calls_below : (xs : List PendingCall) → xs ≡ [] → 0 < length xs → ⊥
 no_calls_below [] none more = absurd (omega (arith, more))
 no_calls_below (x ∷ xs) none more = absurd cc
 
--- the parameters of a link with these credits
-abbrev with_credits : ℕ → LinkParameters
-with_credits credits = record { first_xid = 1; first_stag = 1; wished = 1; granted = credits }
-
 -- ---- One connection
 
 abbrev terms_of : ℕ → ℕ → Terms
@@ -90,70 +80,29 @@ module _ (credits : ℕ) (before after : Outside) (s : Setup) (J : List Entry) (
     plain = (r.over s J stands).each;
   }
 
-  -- its marks, with one Wrote before each piece
-  as_merged : (read link : ℕ) (failed : Bool) (ahead : List ℕ) (more : List Moment) (run : List Mark) → Runs (terms_of credits read) link before (with_failed failed after) ahead more run
-      → (opened : LinkParameters) → opened.granted ≡ credits → IsIdle opened link run
-      → AtEachMark (KeepsTo IsAll s J opened link) [] (merge link [] run) × IsSame opened link run (merge link [] run)
-  as_merged read link failed ahead more run r opened is idle =
-      let each : AtEachMark (KeepsTo IsPrefixOf s J opened link) [] run =
-      both (λ earlier mark. IsOwn link mark) (λ b m. ServedMark IsPrefixOf opened link b m × (QuietMark opened link b m × (FrameMark opened link b m × PlainMark s J b m))) [] run r.own
-      (both (ServedMark IsPrefixOf opened link) (λ b m. QuietMark opened link b m × (FrameMark opened link b m × PlainMark s J b m)) [] run (r.served opened is)
-      (both (QuietMark opened link) (λ b m. FrameMark opened link b m × PlainMark s J b m) [] run (r.quiet opened is)
-      (both (FrameMark opened link) (PlainMark s J) [] run (r.frames opened is) (r.over s J stands).each))) in
-      let first : IsSame opened link [] [] = record { state = refl; due = refl; sent = refl; received = refl; entries = refl; times = refl } in
-      merged s J opened link [] [] [] run each idle.live idle.quiet.written (same_behind opened link [] [] first)
-
-  made_of : (link : ℕ) (run : List Mark) (opened : LinkParameters) → bytes_received link Responder run ≡ stream → AtEachMark (KeepsTo IsAll s J opened link) [] run
-      → MayHaveMade s J opened link stream run
-  made_of link run opened fed each = record {
-    own = AtEachMark_each (KeepsTo IsAll s J opened link) (λ earlier mark. IsOwn link mark) [] run (λ b m h. h.0) each;
-    begins = ([], append-nil (bytes_received link Responder run) ∙ fed);
-    served = AtEachMark_each (KeepsTo IsAll s J opened link) (ServedMark IsPrefixOf opened link) [] run (λ b m h. served_mark opened link b m h.1.0) each;
-    quiet = AtEachMark_each (KeepsTo IsAll s J opened link) (QuietMark opened link) [] run (λ b m h. h.1.1.0) each;
-    frames = AtEachMark_each (KeepsTo IsAll s J opened link) (FrameMark opened link) [] run (λ b m h. h.1.1.1.0) each;
-    plain = AtEachMark_each (KeepsTo IsAll s J opened link) (PlainMark s J) [] run (λ b m h. h.1.1.1.1) each;
-  }
-
   -- a connection that read all of it, and is idle, has closed
   closed : (read link : ℕ) (failed : Bool) (ahead : List ℕ) (more : List Moment) (run : List Mark) → Runs (terms_of credits read) link before (with_failed failed after) ahead more run
       → ahead ≡ [] → more ≡ [] → failed ≡ false
       → ((opened : LinkParameters) → opened.granted ≡ credits → IsIdle opened link run × IsAtEnd after.left)
+      → ((opened : LinkParameters) → opened.granted ≡ credits → Served opened link run)
       → ServesStream credits s J link before after stream
-  closed read link failed ahead more run r none no_more fine idle =
+  closed read link failed ahead more run r none no_more fine idle served =
       let at : IsAtEnd after.left = (idle (with_credits credits) refl).1 in
       let all : (bytes_received link Responder run ≡ stream) × (after.left ≡ Some []) = read_all after.left stream (bytes_received link Responder run) ahead (consumed read link failed ahead more run r) none at in
-      let same : IsSame (with_credits credits) link run (merge link [] run) = (as_merged read link failed ahead more run r (with_credits credits) refl (idle (with_credits credits) refl).0).1 in
-      let fed : bytes_received link Responder (merge link [] run) ≡ stream = same.received ∙ all.0 in
       record {
-        run = merge link [] run;
-        fed = fed;
+        run = run;
+        fed = all.0;
         left = all.1;
         given = subst (λ (l : List ℕ). Appends before.given after.given l)
             (ap (λ (l : List ℕ). bytes_received link Responder run ++ l) none ∙ append-nil (bytes_received link Responder run) ∙ all.0) r.handed.to_given;
-        taken = subst (λ (l : List ℕ). Appends before.sink.taken after.sink.taken l) (sym same.sent)
-            (subst (λ (f : Bool). TakesUntil f before.sink (sink_state after.sink.taken after.sink.faults f) (bytes_sent link Responder run)) fine r.taken).1;
+        taken = (subst (λ (f : Bool). TakesUntil f before.sink (sink_state after.sink.taken after.sink.faults f) (bytes_sent link Responder run)) fine r.taken).1;
         gave = subst (λ (l : List Moment). GivesAll before.gave after.gave l)
-            (ap (λ (l : List Moment). moments run ++ l) no_more ∙ append-nil (moments run) ∙ sym same.times) r.gave;
-        stands = subst (λ (es : List Entry). RepresentsJournal s (J ++ es) after.kept) (sym same.entries) (r.over s J stands).stands;
-        made = λ opened is.
-            let (each, goes) = as_merged read link failed ahead more run r opened is (idle opened is).0 in
-            made_of link (merge link [] run) opened fed each;
-        served = λ opened is.
-            let (each, goes) = as_merged read link failed ahead more run r opened is (idle opened is).0 in
-            record {
-              each = AtEachMark_each (KeepsTo IsAll s J opened link) (ServedMark IsAll opened link) [] (merge link [] run) (λ b m h. h.1.0) each;
-              written = goes.sent ∙ (idle opened is).0.quiet.written ∙ sym goes.due;
-            };
-        idle = λ opened is.
-            let (each, goes) = as_merged read link failed ahead more run r opened is (idle opened is).0 in
-            record {
-              quiet = quiet_same s J opened link run (merge link [] run) goes (idle opened is).0.quiet;
-              live = ap (λ (e : EndState ServerState). e.ended) goes.state ∙ (idle opened is).0.live;
-            };
-        answered = λ opened is.
-            let (each, goes) = as_merged read link failed ahead more run r opened is (idle opened is).0 in
-            ap (λ (e : EndState ServerState). e.state.calls) goes.state
-            ∙ complete.answered opened link run is (made_by read link failed ahead more run r opened is) all.0 (idle opened is).0.quiet;
+            (ap (λ (l : List Moment). moments run ++ l) no_more ∙ append-nil (moments run)) r.gave;
+        stands = (r.over s J stands).stands;
+        made = made_by read link failed ahead more run r;
+        served = served;
+        idle = λ opened same. (idle opened same).0;
+        answered = λ opened same. complete.answered opened link run same (made_by read link failed ahead more run r opened same) all.0 (idle opened same).0.quiet;
       }
 
   -- the ends that are left
@@ -185,8 +134,8 @@ module _ (credits : ℕ) (before after : Outside) (s : Setup) (J : List Entry) (
 
   closed_at : (end : ConnEnd) → end ≡ ends.Closed → IsServed credits before after end → (link : ℕ) → ServesStream credits s J link before after stream
   closed_at end is served link =
-      let (read, (failed, e)) = subst (λ (c : ConnEnd). IsServed credits before after c) is served link in
-      closed read link failed e.ahead e.more e.run e.runs e.ahead_is e.more_is e.failed_is (λ opened same. ((e.cause opened same).0, (e.cause opened same).1.0))
+      let (read, (failed, (e, lawful))) = keep_the_law credits before after ends.Closed tt (subst (λ (c : ConnEnd). IsServed credits before after c) is served) link in
+      closed read link failed e.ahead e.more e.run e.runs e.ahead_is e.more_is e.failed_is (λ opened same. ((e.cause opened same).0, (e.cause opened same).1.0)) lawful
 
   completes_by : (end : ConnEnd) → IsServed credits before after end → (end ≡ ends.Memory) ⊎ (end ≡ ends.Closed) → Completes credits s J before after stream end
   completes_by end served (inl memory) = inl memory

@@ -15,9 +15,7 @@ use Rattle.nr_reduce.specs.Matched.{IsPrefixOf}
 use Rattle.nr_reduce.specs.Run.{HasWritten, output_due, server}
 use Rattle.nr_reduce.specs.Served.{IsExecuted, ServedMark, first_ready, next_call}
 use Rattle.nr_reduce.specs.ServerState.{ServerState}
-use Rattle.nr_plain.specs.Replies.{plain_reply}
-use Rattle.nr_plain.specs.Setup.{Setup}
-use Rattle.nr_host.specs.Connections.{FrameMark, IsOwn, IsQuiet, PlainMark, QuietMark}
+use Rattle.nr_host.specs.Connections.{FrameMark, IsOwn, IsQuiet, QuietMark, added}
 use Rattle.nr_host_laws.proofs.WholeWrites.{IsBehind, IsSame, all_written, executed_more, live_first, same_behind, same_more, wrote_more}
 
 -- the marks, with what is left to be written
@@ -38,11 +36,11 @@ both P Q before [] h g = tt
 both P Q before (mark ∷ run) h g = ((h.0, g.0), both P Q (before ++ mark ∷ []) run h.1 g.1)
 
 -- what a mark of a connection keeps to
-abbrev pub KeepsTo : (List ℕ → List ℕ → Type 0) → Setup → List Entry → LinkParameters → ℕ → List Mark → Mark → Type 0
-KeepsTo Relates s J opened link before mark =
-    IsOwn link mark × (ServedMark Relates opened link before mark × (QuietMark opened link before mark × (FrameMark opened link before mark × PlainMark s J before mark)))
+abbrev pub KeepsTo : (List ℕ → List ℕ → Type 0) → (List Entry → Mark → Type 0) → LinkParameters → ℕ → List Mark → Mark → Type 0
+KeepsTo Relates Plain opened link before mark =
+    IsOwn link mark × (ServedMark Relates opened link before mark × (QuietMark opened link before mark × (FrameMark opened link before mark × Plain (added before) mark)))
 
-module _ (s : Setup) (J : List Entry) (opened : LinkParameters) (link : ℕ) where
+module _ (Plain : List Entry → Mark → Type 0) (opened : LinkParameters) (link : ℕ) (free : (es : List Entry) (bytes : List ℕ) → Plain es (marks.Wrote link Responder bytes)) where
   subst2 : {run other run' other' : List Mark} → run ≡ other → run' ≡ other' → IsSame opened link run run' → IsSame opened link other other'
   subst2 {run} {other} {run'} {other'} e e' h =
       subst (λ (r : List Mark). IsSame opened link other r) e' (subst (λ (r : List Mark). IsSame opened link r run') e h)
@@ -62,15 +60,15 @@ module _ (s : Setup) (J : List Entry) (opened : LinkParameters) (link : ℕ) whe
     executed = next_behind run run' [] (same_behind opened link run run' h) ∙ q.executed;
   }
 
-  pub merged : (left : List ℕ) (before before' run : List Mark) → AtEachMark (KeepsTo IsPrefixOf s J opened link) before run
+  pub merged : (left : List ℕ) (before before' run : List Mark) → AtEachMark (KeepsTo IsPrefixOf Plain opened link) before run
       → (server opened link (before ++ run)).ended ≡ None → HasWritten opened link Responder (before ++ run) → IsBehind opened link before before' left
-      → AtEachMark (KeepsTo IsAll s J opened link) before' (merge link left run) × IsSame opened link (before ++ run) (before' ++ merge link left run)
+      → AtEachMark (KeepsTo IsAll Plain opened link) before' (merge link left run) × IsSame opened link (before ++ run) (before' ++ merge link left run)
   merged left before before' [] each live quiet h =
       let none = append-nil before in
       let live_now : (server opened link before).ended ≡ None = live_first opened link before [] live in
       let due : HasWritten opened link Responder before = subst (λ (r : List Mark). HasWritten opened link Responder r) none quiet in
       let last : IsAll (bytes_sent link Responder before' ++ left) (output_due opened link Responder before') = h.sent ∙ due ∙ sym h.due in (
-        ((refl, ((λ l. last), (tt, (tt, tt)))), tt),
+        ((refl, ((λ l. last), (tt, (tt, free (added before') left)))), tt),
         subst (λ (r : List Mark). IsSame opened link r (before' ++ marks.Wrote link Responder left ∷ [])) (sym none) (all_written opened link before before' left live_now h),
       )
   merged left before before' (marks.Wrote l Responder bytes ∷ run) each live quiet h =
@@ -94,10 +92,8 @@ module _ (s : Setup) (J : List Entry) (opened : LinkParameters) (link : ℕ) whe
       let e : IsExecuted opened link before xid payload = each.0.1.0 own in
       let e' : IsExecuted opened link before' xid payload =
       record { call = e.call; is_next = next_behind before before' left h ∙ e.is_next; own = e.own; conveyed = e.conveyed } in
-      let plain : PlainMark s J before mark = each.0.1.1.1.1 in
-      let plain' : PlainMark s J before' mark =
-      (plain.0 ∙ ap (λ (es : List Entry). length (J ++ es)) (sym h.entries), ap (λ (es : List Entry). plain_reply s (J ++ es) place moment payload) h.entries ∙ plain.1) in
-      (((own, ((λ k. e'), (tt, (tt, plain')))), rest.0), subst2 same (append_assoc before' (mark ∷ []) (merge link left run)) rest.1)
+      let plain : Plain (added before') mark = subst (λ (es : List Entry). Plain es mark) (sym h.entries) each.0.1.1.1.1 in
+      (((own, ((λ k. e'), (tt, (tt, plain)))), rest.0), subst2 same (append_assoc before' (mark ∷ []) (merge link left run)) rest.1)
   merged left before before' (marks.Fed l Responder bytes ∷ run) each live quiet h =
       let mark : Mark = marks.Fed l Responder bytes in
       let write : Mark = marks.Wrote link Responder left in
@@ -114,7 +110,7 @@ module _ (s : Setup) (J : List Entry) (opened : LinkParameters) (link : ℕ) whe
       let last : IsAll (bytes_sent link Responder before' ++ left) (output_due opened link Responder before') = h.sent ∙ q.written ∙ sym h.due in
       let all : (now ++ mark ∷ []) ++ merge link [] run ≡ before' ++ write ∷ mark ∷ merge link [] run =
       append_assoc now (mark ∷ []) (merge link [] run) ∙ append_assoc before' (write ∷ []) (mark ∷ merge link [] run) in (
-        ((refl, ((λ k. last), (tt, (tt, tt)))), ((own, (tt, (quiet_same before now f q, (frame_same before now l bytes f each.0.1.1.1.0, tt)))), rest.0)),
+        ((refl, ((λ k. last), (tt, (tt, free (added before') left)))), ((own, (tt, (quiet_same before now f q, (frame_same before now l bytes f each.0.1.1.1.0, subst (λ (es : List Entry). Plain es mark) (sym f.entries) each.0.1.1.1.1)))), rest.0)),
         subst2 same all rest.1,
       )
   merged left before before' (marks.Fed l Initiator bytes ∷ run) each live quiet h = absurd each.0.0

@@ -1,5 +1,5 @@
 -- A connection whose client sends a complete stream is served to its end.
-use Rattle.std.specs.Prelude.{◌≡◌, ℕ, ◌⊎◌, List, [], length, false, Some}
+use Rattle.std.specs.Prelude.{◌≡◌, ℕ, ◌⊎◌, List, [], length, false, Bool, Some, ⊤}
 use Rattle.nr_outside.specs.Faults.{Rises}
 use Rattle.nr_wire.specs.declared.hello.Side.TheVariants.{Initiator, Responder}
 use Rattle.nr_link.specs.OutputItem.{is_send_item, items_written}
@@ -9,13 +9,14 @@ use Rattle.nr_reduce.specs.declared.mark.LinkParameters.{LinkParameters}
 use Rattle.nr_reduce.specs.DueItems.{hello_due, items_due}
 use Rattle.nr_reduce.specs.History.{bytes_sent}
 use Rattle.nr_reduce.specs.Run.{server}
+use Rattle.nr_reduce.specs.Served.{Served}
 use Rattle.nr_laws.specs.Typed.{IsTyped}
 use Rattle.nr_plain.specs.Setup.{Setup}
 use Rattle.nr_plain.specs.Stands.{RepresentsJournal}
 use Rattle.nr_host.specs.Connections.{Outside}
-use Rattle.nr_host.specs.Ending.{SinkCount, SourceCount}
+use Rattle.nr_host.specs.Ending.{Ended, SinkCount, SourceCount}
 use Rattle.nr_host.specs.Serving.{Between, ServesLink}
-use Rattle.nr_host.specs.Steps.{IsServed, outside, sink_state}
+use Rattle.nr_host.specs.Steps.{IsServed, outside, sink_state, with_failed}
 use Rattle.nr_host.specs.declared.conn_end.ConnEnd.{ConnEnd}
 use Rattle.nr_host.specs.declared.conn_end.ConnEnd.TheVariants as ends
 use Rattle.nr_host_laws.specs.Streams.{IsCompleteStream, ServesStream}
@@ -24,6 +25,22 @@ use Rattle.nr_host_laws.specs.Streams.{IsCompleteStream, ServesStream}
 abbrev pub Completes : ℕ → Setup → List Entry → (before after : Outside) → List ℕ → ConnEnd → Type 0
 Completes credits s J before after stream end =
     (end ≡ ends.Memory) ⊎ ((end ≡ ends.Closed) × ((link : ℕ) → ServesStream credits s J link before after stream))
+
+-- ends at which the server's side has not ended, and all that is due is written
+abbrev pub LeavesOpen : ConnEnd → Type 0
+LeavesOpen ends.Closed = ⊤
+LeavesOpen (ends.Cut at calls) = ⊤
+LeavesOpen ends.LinkRead = ⊤
+LeavesOpen (ends.Budget read) = ⊤
+LeavesOpen end = ⊥
+
+-- A connection that ends so has marks, as the clause `served` of `serve_connection` says, of which the law of a link's server holds in full: each
+-- Wrote writes all that is due.
+abbrev pub ConnectionsKeepTheLaw : Type 0
+ConnectionsKeepTheLaw =
+    (credits : ℕ) (before after : Outside) (end : ConnEnd) → LeavesOpen end → IsServed credits before after end → (link : ℕ) →
+    (read : ℕ) × ((failed : Bool) × ((ended : Ended (record { credits = credits; read = read }) link before (with_failed failed after) end)
+    × ((opened : LinkParameters) → opened.granted ≡ credits → Served opened link ended.run)))
 
 -- A connection over a source with a complete stream, with the clauses of `serve_connection`. No fault count rises: that of the source, or of the sink.
 abbrev pub ConnectionsComplete : Type 0

@@ -1,6 +1,6 @@
 //! Laws of connections. Nothing here runs.
 
-ghost use Rattle.nr_host_laws.specs.Laws.{ConnectionsComplete, LinksComplete, SendsAreAnswered, StreamsWithoutCalls};
+ghost use Rattle.nr_host_laws.specs.Laws.{ConnectionsComplete, ConnectionsKeepTheLaw, LinksComplete, SendsAreAnswered, StreamsWithoutCalls};
 
 /// A connection whose client sends a complete stream ends with `Closed`, with each call executed and answered, unless memory runs out or a
 /// fault count of its source or its sink rises.
@@ -21,4 +21,9 @@ pub fn streams_without_calls()
 /// Each Send of a complete stream is answered.
 pub fn sends_are_answered()
     ensures { SendsAreAnswered }
+{}
+
+/// A connection that ends while its side is open keeps the law of a link's server in full.
+pub fn connections_keep_the_law()
+    ensures { ConnectionsKeepTheLaw }
 {}

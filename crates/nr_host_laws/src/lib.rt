@@ -3,4 +3,7 @@
 
 mod laws;
 
-pub use laws::{connections_complete, links_complete, sends_are_answered, streams_without_calls};
+pub use laws::{
+    connections_complete, connections_keep_the_law, links_complete, sends_are_answered,
+    streams_without_calls,
+};
