@@ -34,15 +34,16 @@ LeavesOpen ends.LinkRead = ⊤
 LeavesOpen (ends.Budget read) = ⊤
 LeavesOpen end = ⊥
 
--- A connection that ends so has marks, as the clause `served` of `serve_connection` says, of which the law of a link's server holds in full: each
--- Wrote writes all that is due.
+-- A connection that ends so has marks, as the clause `served` of `serve_connection` says, of which the law of a link's server holds in
+-- full: each Wrote writes all that is due.
 abbrev pub ConnectionsKeepTheLaw : Type 0
 ConnectionsKeepTheLaw =
     (credits : ℕ) (before after : Outside) (end : ConnEnd) → LeavesOpen end → IsServed credits before after end → (link : ℕ) →
     (read : ℕ) × ((failed : Bool) × ((ended : Ended (record { credits = credits; read = read }) link before (with_failed failed after) end)
     × ((opened : LinkParameters) → opened.granted ≡ credits → Served opened link ended.run)))
 
--- A connection over a source with a complete stream, with the clauses of `serve_connection`. No fault count rises: that of the source, or of the sink.
+-- A connection over a source with a complete stream, with the clauses of `serve_connection`. No fault count rises: that of the source, or
+-- of the sink.
 abbrev pub ConnectionsComplete : Type 0
 ConnectionsComplete =
     (credits : ℕ) (before after : Outside) (end : ConnEnd) (source source' : ℕ) (s : Setup) (J : List Entry) (stream : List ℕ) →
@@ -65,8 +66,8 @@ LinksComplete =
 abbrev pub StreamsWithoutCalls : Type 0
 StreamsWithoutCalls = (credits : ℕ) (s : Setup) (J : List Entry) → IsCompleteStream credits s J [] × IsCompleteStream credits s J (own_hello Initiator)
 
--- A connection that served a complete stream answered each Send of it: as many messages were completely written as Sends were received, if what
--- is written down as bytes are bytes.
+-- A connection that served a complete stream answered each Send of it: as many messages were completely written as Sends were received,
+-- if what is written down as bytes are bytes.
 abbrev pub SendsAreAnswered : Type 0
 SendsAreAnswered =
     (credits : ℕ) (s : Setup) (J : List Entry) (link : ℕ) (before after : Outside) (stream : List ℕ) (served : ServesStream credits s J link before after stream) →
