@@ -57,6 +57,9 @@ no_calls_below : (xs : List PendingCall) → xs ≡ [] → 0 < length xs → ⊥
 no_calls_below [] none more = absurd (omega (arith, more))
 no_calls_below (x ∷ xs) none more = absurd cc
 
+not_memory : ends.Closed ≡ ends.Memory → ⊥
+not_memory e = absurd cc
+
 -- ---- One connection
 
 abbrev terms_of : ℕ → ℕ → Terms
@@ -134,7 +137,7 @@ module _ (credits : ℕ) (before after : Outside) (s : Setup) (J : List Entry) (
 
   closed_at : (end : ConnEnd) → end ≡ ends.Closed → IsServed credits before after end → (link : ℕ) → ServesStream credits s J link before after stream
   closed_at end is served link =
-      let (read, (failed, (e, lawful))) = keep_the_law credits before after ends.Closed tt (subst (λ (c : ConnEnd). IsServed credits before after c) is served) link in
+      let (read, (failed, (e, lawful))) = keep_the_law credits before after ends.Closed not_memory (subst (λ (c : ConnEnd). IsServed credits before after c) is served) link in
       closed read link failed e.ahead e.more e.run e.runs e.ahead_is e.more_is e.failed_is (λ opened same. ((e.cause opened same).0, (e.cause opened same).1.0)) lawful
 
   completes_by : (end : ConnEnd) → IsServed credits before after end → (end ≡ ends.Memory) ⊎ (end ≡ ends.Closed) → Completes credits s J before after stream end

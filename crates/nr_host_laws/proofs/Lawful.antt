@@ -1,4 +1,4 @@
--- The marks of a connection whose side has not ended, with one Wrote before each piece: the law of a link's server holds of them in full.
+-- The marks of a connection that memory didn't end, with one Wrote before each piece: the law of a link's server holds of them in full.
 use Rattle.std.proofs.Common.{◌≡◌, ℕ, ◌+◌, ◌<◌, ◌⊎◌, inl, inr, List, [], ◌∷◌, ◌++◌, length, Option, Some, refl, sym, ap, subst, ◌∙◌}
 use Rattle.std.specs.Prelude.{⊤}
 use Rattle.nr_outside.specs.Content.{HandsOut}
@@ -13,6 +13,7 @@ use Rattle.nr_reduce.specs.Asked.{IsAll}
 use Rattle.nr_reduce.specs.AtEachMark.{AtEachMark}
 use Rattle.nr_reduce.specs.EndRules.{EndState}
 use Rattle.nr_reduce.specs.Matched.{IsPrefixOf}
+use Rattle.nr_reduce.specs.Run.{HasWritten}
 use Rattle.nr_reduce.specs.Served.{Served, ServedMark}
 use Rattle.nr_reduce.specs.ServerState.{ServerState}
 use Rattle.nr_reduce.proofs.SoFarLaws.{AtEachMark_each, served_mark}
@@ -24,7 +25,7 @@ use Rattle.nr_host.specs.Ending.{IsCause, IsIdle, begun_bytes, open_calls}
 use Rattle.nr_host.specs.Steps.{with_failed}
 use Rattle.nr_host.specs.declared.conn_end.ConnEnd.{ConnEnd}
 use Rattle.nr_host.specs.declared.conn_end.ConnEnd.TheVariants as ends
-use Rattle.nr_host_laws.specs.Laws.{ConnectionsKeepTheLaw, LeavesOpen}
+use Rattle.nr_host_laws.specs.Laws.{ConnectionsKeepTheLaw}
 use Rattle.nr_host_laws.proofs.Merged.{KeepsTo, both, merge, merged, quiet_same}
 use Rattle.nr_host_laws.proofs.WholeWrites.{IsSame, same_behind}
 
@@ -89,14 +90,15 @@ cause_same opened link run run' left (ends.Budget read) h (idle, (read_is, most)
     (idle_same opened link run run' h idle, (read_is, ap (λ (l : List ℕ). length l) h.received ∙ most))
 cause_same opened link run run' left ends.Memory h cause = tt
 
-idle_at : (opened : LinkParameters) (link : ℕ) (run : List Mark) (left : Option (List ℕ)) (end : ConnEnd) → LeavesOpen end → IsCause opened link run left end → IsIdle opened link run
-idle_at opened link run left ends.Closed leaves cause = cause.0
-idle_at opened link run left (ends.Cut at calls) leaves cause = cause.0
-idle_at opened link run left ends.LinkRead leaves cause = cause
-idle_at opened link run left (ends.Budget read) leaves cause = cause.0
-idle_at opened link run left ends.LinkWrite leaves cause = absurd leaves
-idle_at opened link run left (ends.Protocol end) leaves cause = absurd leaves
-idle_at opened link run left ends.Memory leaves cause = absurd leaves
+written_at : (opened : LinkParameters) (link : ℕ) (run : List Mark) (left : Option (List ℕ)) (end : ConnEnd) → (end ≡ ends.Memory → ⊥) → IsCause opened link run left end
+    → HasWritten opened link Responder run
+written_at opened link run left ends.Closed other cause = cause.0.quiet.written
+written_at opened link run left (ends.Cut at calls) other cause = cause.0.quiet.written
+written_at opened link run left ends.LinkRead other cause = cause.quiet.written
+written_at opened link run left (ends.Budget read) other cause = cause.0.quiet.written
+written_at opened link run left ends.LinkWrite other cause = cause.written
+written_at opened link run left (ends.Protocol end) other cause = cause.1
+written_at opened link run left ends.Memory other cause = absurd (other refl)
 
 -- ---- The marks
 
@@ -105,7 +107,7 @@ abbrev pub with_credits : ℕ → LinkParameters
 with_credits credits = record { first_xid = 1; first_stag = 1; wished = 1; granted = credits }
 
 module _ (terms : Terms) (link : ℕ) (before now : Outside) (ahead : List ℕ) (more : List Moment) (run : List Mark) (r : Runs terms link before now ahead more run)
-    (idle : (opened : LinkParameters) → opened.granted ≡ terms.credits → IsIdle opened link run) where
+    (all : (opened : LinkParameters) → opened.granted ≡ terms.credits → HasWritten opened link Responder run) where
   with_plain : (Plain : List Entry → Mark → Type 0) (free : (es : List Entry) (bytes : List ℕ) → Plain es (marks.Wrote link Responder bytes))
       → AtEachMark (λ b m. Plain (added b) m) [] run → (opened : LinkParameters) → opened.granted ≡ terms.credits
       → AtEachMark (KeepsTo IsAll Plain opened link) [] (merge link [] run) × IsSame opened link run (merge link [] run)
@@ -116,7 +118,7 @@ module _ (terms : Terms) (link : ℕ) (before now : Outside) (ahead : List ℕ) 
       (both (QuietMark opened link) (λ b m. FrameMark opened link b m × Plain (added b) m) [] run (r.quiet opened is)
       (both (FrameMark opened link) (λ b m. Plain (added b) m) [] run (r.frames opened is) plain))) in
       let first : IsSame opened link [] [] = record { state = refl; due = refl; sent = refl; received = refl; entries = refl; times = refl } in
-      merged Plain opened link free [] [] [] run each (idle opened is).live (idle opened is).quiet.written (same_behind opened link [] [] first)
+      merged Plain opened link free [] [] [] run each (all opened is) (same_behind opened link [] [] first)
 
   as_any : (opened : LinkParameters) → opened.granted ≡ terms.credits → AtEachMark (KeepsTo IsAll Any opened link) [] (merge link [] run) × IsSame opened link run (merge link [] run)
   as_any opened is = with_plain Any (λ es bytes. tt) (any_mark [] run) opened is
@@ -147,7 +149,7 @@ module _ (terms : Terms) (link : ℕ) (before now : Outside) (ahead : List ℕ) 
   pub merged_served : (opened : LinkParameters) → opened.granted ≡ terms.credits → Served opened link (merge link [] run)
   merged_served opened is = record {
     each = AtEachMark_each (KeepsTo IsAll Any opened link) (ServedMark IsAll opened link) [] (merge link [] run) (λ b m h. h.1.0) (as_any opened is).0;
-    written = (as_any opened is).1.sent ∙ (idle opened is).quiet.written ∙ sym (as_any opened is).1.due;
+    written = (as_any opened is).1.sent ∙ all opened is ∙ sym (as_any opened is).1.due;
   }
 
   pub merged_cause : (left : Option (List ℕ)) (end : ConnEnd) → ((opened : LinkParameters) → opened.granted ≡ terms.credits → IsCause opened link run left end)
@@ -155,11 +157,12 @@ module _ (terms : Terms) (link : ℕ) (before now : Outside) (ahead : List ℕ) 
   merged_cause left end cause opened is = cause_same opened link run (merge link [] run) left end (as_any opened is).1 (cause opened is)
 
 pub keep_the_law : ConnectionsKeepTheLaw
-keep_the_law credits before after end leaves served link =
+keep_the_law credits before after end other served link =
     let (read, (failed, e)) = served link in
     let terms : Terms = record { credits = credits; read = read } in
     let now : Outside = with_failed failed after in
-    let idle : (opened : LinkParameters) → opened.granted ≡ credits → IsIdle opened link e.run = λ opened is. idle_at opened link e.run after.left end leaves (e.cause opened is) in (
+    let all : (opened : LinkParameters) → opened.granted ≡ credits → HasWritten opened link Responder e.run =
+    λ opened is. written_at opened link e.run after.left end other (e.cause opened is) in (
       read,
       (
         failed,
@@ -168,14 +171,14 @@ keep_the_law credits before after end leaves served link =
             run = merge link [] e.run;
             ahead = e.ahead;
             more = e.more;
-            runs = merged_runs terms link before now e.ahead e.more e.run e.runs idle;
+            runs = merged_runs terms link before now e.ahead e.more e.run e.runs all;
             ahead_is = e.ahead_is;
             more_is = e.more_is;
             read_is = e.read_is;
             failed_is = e.failed_is;
-            cause = merged_cause terms link before now e.ahead e.more e.run e.runs idle after.left end e.cause;
+            cause = merged_cause terms link before now e.ahead e.more e.run e.runs all after.left end e.cause;
           },
-          merged_served terms link before now e.ahead e.more e.run e.runs idle,
+          merged_served terms link before now e.ahead e.more e.run e.runs all,
         ),
       ),
     )

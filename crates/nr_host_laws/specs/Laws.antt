@@ -1,5 +1,5 @@
 -- A connection whose client sends a complete stream is served to its end.
-use Rattle.std.specs.Prelude.{◌≡◌, ℕ, ◌⊎◌, List, [], length, false, Bool, Some, ⊤}
+use Rattle.std.specs.Prelude.{◌≡◌, ℕ, ◌⊎◌, List, [], length, false, Bool, Some}
 use Rattle.nr_outside.specs.Faults.{Rises}
 use Rattle.nr_wire.specs.declared.hello.Side.TheVariants.{Initiator, Responder}
 use Rattle.nr_link.specs.OutputItem.{is_send_item, items_written}
@@ -26,19 +26,11 @@ abbrev pub Completes : ℕ → Setup → List Entry → (before after : Outside)
 Completes credits s J before after stream end =
     (end ≡ ends.Memory) ⊎ ((end ≡ ends.Closed) × ((link : ℕ) → ServesStream credits s J link before after stream))
 
--- ends at which the server's side has not ended, and all that is due is written
-abbrev pub LeavesOpen : ConnEnd → Type 0
-LeavesOpen ends.Closed = ⊤
-LeavesOpen (ends.Cut at calls) = ⊤
-LeavesOpen ends.LinkRead = ⊤
-LeavesOpen (ends.Budget read) = ⊤
-LeavesOpen end = ⊥
-
--- A connection that ends so has marks, as the clause `served` of `serve_connection` says, of which the law of a link's server holds in
--- full: each Wrote writes all that is due.
+-- A connection that doesn't run out of memory has marks, as the clause `served` of `serve_connection` says, of which the law of a link's
+-- server holds in full: each Wrote writes all that is due.
 abbrev pub ConnectionsKeepTheLaw : Type 0
 ConnectionsKeepTheLaw =
-    (credits : ℕ) (before after : Outside) (end : ConnEnd) → LeavesOpen end → IsServed credits before after end → (link : ℕ) →
+    (credits : ℕ) (before after : Outside) (end : ConnEnd) → (end ≡ ends.Memory → ⊥) → IsServed credits before after end → (link : ℕ) →
     (read : ℕ) × ((failed : Bool) × ((ended : Ended (record { credits = credits; read = read }) link before (with_failed failed after) end)
     × ((opened : LinkParameters) → opened.granted ≡ credits → Served opened link ended.run)))
 

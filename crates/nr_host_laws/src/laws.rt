@@ -23,7 +23,7 @@ pub fn sends_are_answered()
     ensures { SendsAreAnswered }
 {}
 
-/// A connection that ends while its side is open keeps the law of a link's server in full.
+/// A connection that doesn't run out of memory keeps the law of a link's server in full.
 pub fn connections_keep_the_law()
     ensures { ConnectionsKeepTheLaw }
 {}
