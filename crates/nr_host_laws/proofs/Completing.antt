@@ -1,0 +1,185 @@
+-- How a connection ends whose client sends a complete stream.
+use Rattle.std.proofs.Common.{◌≡◌, ℕ, ◌<◌, ◌≤◌, ◌⊎◌, inl, inr, Bool, true, false, List, [], ◌∷◌, ◌++◌, length, Option, Some, None, refl, arith, subst, sym, ap, ◌∙◌, append_assoc, append-nil}
+use Rattle.std.proofs.lemmas.Bool.{ltb-false}
+use Rattle.std.proofs.lemmas.List.{length-append}
+use Rattle.std.proofs.lemmas.Option.{none-some}
+use Rattle.std.specs.Prelude.{MatchBool, nat_lt, ◌||◌}
+use Rattle.std.specs.Io.KnownBytes.{Appends, Consumes, IsAtEnd}
+use Rattle.nr_outside.specs.Faults.{Rises}
+use Rattle.nr_outside.specs.declared.moment.Moment.{Moment}
+use Rattle.nr_wire.specs.declared.hello.Side.TheVariants.{Initiator, Responder}
+use Rattle.nr_link.specs.Input.{input_of}
+use Rattle.nr_reduce.specs.declared.mark.Mark.{Mark}
+use Rattle.nr_reduce.specs.declared.mark.Entry.{Entry}
+use Rattle.nr_reduce.specs.declared.mark.LinkParameters.{LinkParameters}
+use Rattle.nr_reduce.specs.History.{bytes_received, bytes_sent}
+use Rattle.nr_reduce.specs.Matched.{IsPrefixOf}
+use Rattle.nr_reduce.specs.Run.{server}
+use Rattle.nr_reduce.specs.ServerState.{PendingCall}
+use Rattle.nr_host_laws.proofs.Lawful.{keep_the_law, with_credits}
+use Rattle.nr_reduce.specs.Served.{Served}
+use Rattle.nr_plain.specs.Setup.{Setup}
+use Rattle.nr_plain.specs.Stands.{RepresentsJournal}
+use Rattle.nr_links.specs.Limits.{read_max}
+use Rattle.nr_links.specs.Links.{CountsLost, is_faulty}
+use Rattle.nr_host.specs.Connections.{Terms, Outside, Runs, TakesUntil, GivesAll, moments}
+use Rattle.nr_host.specs.Ending.{Ended, IsCause, IsIdle, SinkCount, SourceCount, begun_bytes, open_calls}
+use Rattle.nr_host.specs.Steps.{IsServed, outside, sink_state, with_failed}
+use Rattle.nr_host.specs.declared.conn_end.ConnEnd.{ConnEnd}
+use Rattle.nr_host.specs.declared.conn_end.ConnEnd.TheVariants as ends
+use Rattle.nr_host_laws.specs.Laws.{Completes, ConnectionsComplete, LinksComplete}
+use Rattle.nr_host_laws.specs.Streams.{MayHaveMade, IsCompleteStream, ServesStream}
+
+-- ---- What is read of a stream that is known
+
+read_first : (left : Option (List ℕ)) (stream received ahead : List ℕ) → Consumes (Some stream) left (received ++ ahead) → IsPrefixOf received stream
+read_first None stream received ahead never = absurd never
+read_first (Some rest) stream received ahead is = (ahead ++ rest, sym (is ∙ append_assoc received ahead rest))
+
+read_all : (left : Option (List ℕ)) (stream received ahead : List ℕ) → Consumes (Some stream) left (received ++ ahead) → ahead ≡ [] → IsAtEnd left → (received ≡ stream) × (left ≡ Some [])
+read_all None stream received ahead never none at = absurd never
+read_all (Some rest) stream received ahead is none at = (
+  sym (is ∙ ap (λ (l : List ℕ). (received ++ ahead) ++ l) at ∙ append-nil (received ++ ahead) ∙ ap (λ (l : List ℕ). received ++ l) none ∙ append-nil received),
+  ap (λ (l : List ℕ). Some l) at,
+)
+
+no_longer : (received stream : List ℕ) → IsPrefixOf received stream → length stream < read_max → length received ≡ read_max → ⊥
+no_longer received stream (rest, is) within most =
+    let all : length (received ++ rest) ≡ length stream = ap length is in
+    let parts = length-append received rest in
+    absurd (omega (arith, all, parts, within, most))
+
+none_below : (xs : List ℕ) → xs ≡ [] → 0 < length xs → ⊥
+none_below [] none more = absurd (omega (arith, more))
+none_below (x ∷ xs) none more = absurd cc
+
+no_calls_below : (xs : List PendingCall) → xs ≡ [] → 0 < length xs → ⊥
+no_calls_below [] none more = absurd (omega (arith, more))
+no_calls_below (x ∷ xs) none more = absurd cc
+
+not_memory : ends.Closed ≡ ends.Memory → ⊥
+not_memory e = absurd cc
+
+-- ---- One connection
+
+abbrev terms_of : ℕ → ℕ → Terms
+terms_of credits read = record { credits = credits; read = read }
+
+module _ (credits : ℕ) (before after : Outside) (s : Setup) (J : List Entry) (stream : List ℕ) (stands : RepresentsJournal s J before.kept) (known : before.left ≡ Some stream)
+    (complete : IsCompleteStream credits s J stream) where
+  consumed : (read link : ℕ) (failed : Bool) (ahead : List ℕ) (more : List Moment) (run : List Mark) → Runs (terms_of credits read) link before (with_failed failed after) ahead more run
+      → Consumes (Some stream) after.left (bytes_received link Responder run ++ ahead)
+  consumed read link failed ahead more run r =
+      subst (λ (l : Option (List ℕ)). Consumes l after.left (bytes_received link Responder run ++ ahead)) known r.handed.from_left
+
+  made_by : (read link : ℕ) (failed : Bool) (ahead : List ℕ) (more : List Moment) (run : List Mark) → Runs (terms_of credits read) link before (with_failed failed after) ahead more run
+      → (opened : LinkParameters) → opened.granted ≡ credits → MayHaveMade s J opened link stream run
+  made_by read link failed ahead more run r opened same = record {
+    own = r.own;
+    begins = read_first after.left stream (bytes_received link Responder run) ahead (consumed read link failed ahead more run r);
+    served = r.served opened same;
+    quiet = r.quiet opened same;
+    frames = r.frames opened same;
+    plain = (r.over s J stands).each;
+  }
+
+  -- a connection that read all of it, and is idle, has closed
+  closed : (read link : ℕ) (failed : Bool) (ahead : List ℕ) (more : List Moment) (run : List Mark) → Runs (terms_of credits read) link before (with_failed failed after) ahead more run
+      → ahead ≡ [] → more ≡ [] → failed ≡ false
+      → ((opened : LinkParameters) → opened.granted ≡ credits → IsIdle opened link run × IsAtEnd after.left)
+      → ((opened : LinkParameters) → opened.granted ≡ credits → Served opened link run)
+      → ServesStream credits s J link before after stream
+  closed read link failed ahead more run r none no_more fine idle served =
+      let at : IsAtEnd after.left = (idle (with_credits credits) refl).1 in
+      let all : (bytes_received link Responder run ≡ stream) × (after.left ≡ Some []) = read_all after.left stream (bytes_received link Responder run) ahead (consumed read link failed ahead more run r) none at in
+      record {
+        run = run;
+        fed = all.0;
+        left = all.1;
+        given = subst (λ (l : List ℕ). Appends before.given after.given l)
+            (ap (λ (l : List ℕ). bytes_received link Responder run ++ l) none ∙ append-nil (bytes_received link Responder run) ∙ all.0) r.handed.to_given;
+        taken = (subst (λ (f : Bool). TakesUntil f before.sink (sink_state after.sink.taken after.sink.faults f) (bytes_sent link Responder run)) fine r.taken).1;
+        gave = subst (λ (l : List Moment). GivesAll before.gave after.gave l)
+            (ap (λ (l : List Moment). moments run ++ l) no_more ∙ append-nil (moments run)) r.gave;
+        stands = (r.over s J stands).stands;
+        made = made_by read link failed ahead more run r;
+        served = served;
+        idle = λ opened same. (idle opened same).0;
+        answered = λ opened same. complete.answered opened link run same (made_by read link failed ahead more run r opened same) all.0 (idle opened same).0.quiet;
+      }
+
+  -- the ends that are left
+  by_end : (end : ConnEnd) (source source' : ℕ) → SourceCount end source source' → SinkCount end before.sink.faults after.sink.faults
+      → (Rises source source' → ⊥) → (Rises before.sink.faults after.sink.faults → ⊥)
+      → (read : ℕ) (failed : Bool) → Ended (terms_of credits read) 0 before (with_failed failed after) end → (end ≡ ends.Memory) ⊎ (end ≡ ends.Closed)
+  by_end ends.Memory source source' sc kc quiet fine read failed e = inl refl
+  by_end ends.Closed source source' sc kc quiet fine read failed e = inr refl
+  by_end ends.LinkRead source source' sc kc quiet fine read failed e = absurd (quiet sc)
+  by_end ends.LinkWrite source source' sc kc quiet fine read failed e = absurd (fine kc)
+  by_end (ends.Protocol why) source source' sc kc quiet fine read failed e =
+      let opened : LinkParameters = with_credits credits in
+      absurd (none-some why (sym (complete.stays opened 0 e.run refl (made_by read 0 failed e.ahead e.more e.run e.runs opened refl)) ∙ (e.cause opened refl).0))
+  by_end (ends.Budget most) source source' sc kc quiet fine read failed e =
+      let opened : LinkParameters = with_credits credits in
+      absurd (no_longer (bytes_received 0 Responder e.run) stream (made_by read 0 failed e.ahead e.more e.run e.runs opened refl).begins complete.within (e.cause opened refl).1.1)
+  by_end (ends.Cut at calls) source source' sc kc quiet fine read failed e =
+      let opened : LinkParameters = with_credits credits in
+      let why : IsCause opened 0 e.run after.left (ends.Cut at calls) = e.cause opened refl in
+      let all : (bytes_received 0 Responder e.run ≡ stream) × (after.left ≡ Some []) =
+      read_all after.left stream (bytes_received 0 Responder e.run) e.ahead (consumed read 0 failed e.ahead e.more e.run e.runs) e.ahead_is why.1.0 in
+      absurd (by (ap (λ (l : List ℕ). (input_of Initiator l).rest) all.0 ∙ complete.frames)
+      (complete.answered opened 0 e.run refl (made_by read 0 failed e.ahead e.more e.run e.runs opened refl) all.0 why.0.quiet) why.1.1.1.1)
+    where
+      by : (input_of Initiator (bytes_received 0 Responder e.run)).rest ≡ [] → (server (with_credits credits) 0 e.run).state.calls ≡ []
+          → (0 < begun_bytes 0 e.run) ⊎ (0 < open_calls (with_credits credits) 0 e.run) → ⊥
+      by rest calls (inl more) = none_below (input_of Initiator (bytes_received 0 Responder e.run)).rest rest more
+      by rest calls (inr more) = no_calls_below (server (with_credits credits) 0 e.run).state.calls calls more
+
+  closed_at : (end : ConnEnd) → end ≡ ends.Closed → IsServed credits before after end → (link : ℕ) → ServesStream credits s J link before after stream
+  closed_at end is served link =
+      let (read, (failed, (e, lawful))) = keep_the_law credits before after ends.Closed not_memory (subst (λ (c : ConnEnd). IsServed credits before after c) is served) link in
+      closed read link failed e.ahead e.more e.run e.runs e.ahead_is e.more_is e.failed_is (λ opened same. ((e.cause opened same).0, (e.cause opened same).1.0)) lawful
+
+  completes_by : (end : ConnEnd) → IsServed credits before after end → (end ≡ ends.Memory) ⊎ (end ≡ ends.Closed) → Completes credits s J before after stream end
+  completes_by end served (inl memory) = inl memory
+  completes_by end served (inr is) = inr (is, closed_at end is served)
+
+pub completes : ConnectionsComplete
+completes credits before after end source source' s J stream served sc kc quiet fine stands known complete =
+    let (read, (failed, e)) = served 0 in
+    completes_by credits before after s J stream stands known complete end served
+    (by_end credits before after s J stream stands known complete end source source' sc kc quiet fine read failed e)
+
+-- ---- A link of `serve`
+
+not_lost : (source sink before after : ℕ) → CountsLost source sink before after → (Rises before after → ⊥) → is_faulty source sink ≡ false
+not_lost source sink before after counts fine = by (is_faulty source sink) counts
+  where
+    by : (faulty : Bool) → MatchBool faulty (Rises before after) (after ≡ before) → faulty ≡ false
+    by true rose = absurd (fine rose)
+    by false same = refl
+
+neither : (a b : Bool) → (a || b) ≡ false → (a ≡ false) × (b ≡ false)
+neither true b is = absurd cc
+neither false b is = (refl, is)
+
+no_fault : (source sink : ℕ) → is_faulty source sink ≡ false → (source ≡ 0) × (sink ≡ 0)
+no_fault source sink is =
+    let none : (nat_lt 0 source ≡ false) × (nat_lt 0 sink ≡ false) = neither (nat_lt 0 source) (nat_lt 0 sink) is in
+    let source_none : source ≤ 0 = ltb-false 0 source none.0 in
+    let sink_none : sink ≤ 0 = ltb-false 0 sink none.1 in
+    (omega (arith, source_none), omega (arith, sink_none))
+
+no_rise : (count : ℕ) → count ≡ 0 → Rises 0 count → ⊥
+no_rise count none (inl more) = absurd (omega (arith, none, more))
+no_rise count none (inr last) = absurd (omega (arith, none, last))
+
+pub links_complete : LinksComplete
+links_complete credits before after end s J stream served fine stands known complete =
+    let none : (served.source_faults ≡ 0) × (served.sink_faults ≡ 0) =
+    no_fault served.source_faults served.sink_faults (not_lost served.source_faults served.sink_faults before.lost after.lost served.lost fine) in
+    completes credits
+    (outside served.opened.left served.opened.given (sink_state served.opened.taken 0 false) before.gave before.kept)
+    (outside served.closed.left served.closed.given (sink_state served.closed.taken served.sink_faults false) after.gave after.kept)
+    end 0 served.source_faults s J stream served.served served.source_count served.sink_count
+    (no_rise served.source_faults none.0) (no_rise served.sink_faults none.1) stands known complete

@@ -1,0 +1,68 @@
+-- A connection whose client sends a complete stream is served to its end.
+use Rattle.std.specs.Prelude.{◌≡◌, ℕ, ◌⊎◌, List, [], length, false, Bool, Some}
+use Rattle.nr_outside.specs.Faults.{Rises}
+use Rattle.nr_wire.specs.declared.hello.Side.TheVariants.{Initiator, Responder}
+use Rattle.nr_link.specs.OutputItem.{is_send_item, items_written}
+use Rattle.nr_link.specs.Output.{own_hello}
+use Rattle.nr_reduce.specs.declared.mark.Entry.{Entry}
+use Rattle.nr_reduce.specs.declared.mark.LinkParameters.{LinkParameters}
+use Rattle.nr_reduce.specs.DueItems.{hello_due, items_due}
+use Rattle.nr_reduce.specs.History.{bytes_sent}
+use Rattle.nr_reduce.specs.Run.{server}
+use Rattle.nr_reduce.specs.Served.{Served}
+use Rattle.nr_laws.specs.Typed.{IsTyped}
+use Rattle.nr_plain.specs.Setup.{Setup}
+use Rattle.nr_plain.specs.Stands.{RepresentsJournal}
+use Rattle.nr_host.specs.Connections.{Outside}
+use Rattle.nr_host.specs.Ending.{Ended, SinkCount, SourceCount}
+use Rattle.nr_host.specs.Serving.{Between, ServesLink}
+use Rattle.nr_host.specs.Steps.{IsServed, outside, sink_state, with_failed}
+use Rattle.nr_host.specs.declared.conn_end.ConnEnd.{ConnEnd}
+use Rattle.nr_host.specs.declared.conn_end.ConnEnd.TheVariants as ends
+use Rattle.nr_host_laws.specs.Streams.{IsCompleteStream, ServesStream}
+
+-- `Closed`, after all of the stream, whatever number the link has in the marks; or memory ran out
+abbrev pub Completes : ℕ → Setup → List Entry → (before after : Outside) → List ℕ → ConnEnd → Type 0
+Completes credits s J before after stream end =
+    (end ≡ ends.Memory) ⊎ ((end ≡ ends.Closed) × ((link : ℕ) → ServesStream credits s J link before after stream))
+
+-- A connection that doesn't run out of memory has marks, as the clause `served` of `serve_connection` says, of which the law of a link's
+-- server holds in full: each Wrote writes all that is due.
+abbrev pub ConnectionsKeepTheLaw : Type 0
+ConnectionsKeepTheLaw =
+    (credits : ℕ) (before after : Outside) (end : ConnEnd) → (end ≡ ends.Memory → ⊥) → IsServed credits before after end → (link : ℕ) →
+    (read : ℕ) × ((failed : Bool) × ((ended : Ended (record { credits = credits; read = read }) link before (with_failed failed after) end)
+    × ((opened : LinkParameters) → opened.granted ≡ credits → Served opened link ended.run)))
+
+-- A connection over a source with a complete stream, with the clauses of `serve_connection`. No fault count rises: that of the source, or
+-- of the sink.
+abbrev pub ConnectionsComplete : Type 0
+ConnectionsComplete =
+    (credits : ℕ) (before after : Outside) (end : ConnEnd) (source source' : ℕ) (s : Setup) (J : List Entry) (stream : List ℕ) →
+    IsServed credits before after end → SourceCount end source source' → SinkCount end before.sink.faults after.sink.faults →
+    (Rises source source' → ⊥) → (Rises before.sink.faults after.sink.faults → ⊥) →
+    RepresentsJournal s J before.kept → before.left ≡ Some stream → IsCompleteStream credits s J stream →
+    Completes credits s J before after stream end
+
+-- A link of `serve`. The count of lost links doesn't rise.
+abbrev pub LinksComplete : Type 0
+LinksComplete =
+    (credits : ℕ) (before after : Between) (end : ConnEnd) (s : Setup) (J : List Entry) (stream : List ℕ) (served : ServesLink credits before after end) →
+    (Rises before.lost after.lost → ⊥) →
+    RepresentsJournal s J before.kept → served.opened.left ≡ Some stream → IsCompleteStream credits s J stream →
+    Completes credits s J
+    (outside served.opened.left served.opened.given (sink_state served.opened.taken 0 false) before.gave before.kept)
+    (outside served.closed.left served.closed.given (sink_state served.closed.taken served.sink_faults false) after.gave after.kept) stream end
+
+-- A client that sends nothing, or its hello alone, sends a complete stream, whatever the server stands for.
+abbrev pub StreamsWithoutCalls : Type 0
+StreamsWithoutCalls = (credits : ℕ) (s : Setup) (J : List Entry) → IsCompleteStream credits s J [] × IsCompleteStream credits s J (own_hello Initiator)
+
+-- A connection that served a complete stream answered each Send of it: as many messages were completely written as Sends were received,
+-- if what is written down as bytes are bytes.
+abbrev pub SendsAreAnswered : Type 0
+SendsAreAnswered =
+    (credits : ℕ) (s : Setup) (J : List Entry) (link : ℕ) (before after : Outside) (stream : List ℕ) (served : ServesStream credits s J link before after stream) →
+    (opened : LinkParameters) → opened.granted ≡ credits → IsTyped served.run →
+    items_written is_send_item (length (hello_due opened link Responder served.run)) (length (bytes_sent link Responder served.run)) (items_due opened link Responder served.run)
+    ≡ (server opened link served.run).state.received.sends
