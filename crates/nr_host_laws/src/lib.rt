@@ -4,6 +4,6 @@
 mod laws;
 
 pub use laws::{
-    connections_complete, connections_keep_the_law, links_complete, sends_are_answered,
+    connections_complete, connections_keep_the_law, links_complete, matched_connections_stay, sends_are_answered,
     streams_without_calls,
 };
