@@ -1,7 +1,6 @@
 -- A server's side of a link is as its own marks say, whatever other marks stand between them.
-use Rattle.std.proofs.Common.{◌≡◌, ℕ, Bool, true, false, cond, ◌&&◌, eqb, List, [], ◌∷◌, ◌++◌, length, Option, None, Some, refl, sym, ap, subst, ◌∙◌, append-nil}
+use Rattle.std.proofs.Common.{◌≡◌, ℕ, Bool, true, false, cond, ◌&&◌, eqb, List, [], ◌∷◌, ◌++◌, length, None, Some, refl, sym, ap, ◌∙◌, append-nil}
 use Rattle.std.proofs.lemmas.Option.{none-some}
-use Rattle.std.specs.List.{filter}
 use Rattle.nr_wire.specs.declared.hello.Side.TheVariants.{Initiator, Responder}
 use Rattle.nr_link.specs.declared.end.End.{End}
 use Rattle.nr_link.specs.Frames.{Frame, frames_completed}
@@ -97,9 +96,20 @@ other_end end why is memory = apart (sym is ∙ memory)
 
 pub stay : MatchedConnectionsStay
 stay credits before after why served link =
-    let (read, (failed, (e, lawful))) = keep_the_law credits before after (ends.Protocol why) (other_end (ends.Protocol why) why refl) served link in
-    (read, (failed, (e, λ reply_to adds opened run same is opens typed laws revoked conveyed limits replies.
-        by opened run e.run same is (open_side opened link run (links_stay reply_to adds opened link run opens typed laws revoked conveyed limits replies).1) (e.cause opened same).0)))
+    let (read, (failed, (e, lawful))) = keep_the_law credits before after (ends.Protocol why) (other_end (ends.Protocol why) why refl) served link in (
+      read,
+      (
+        failed,
+        (
+          e,
+          (
+            lawful,
+            λ reply_to adds opened run same is opens typed laws revoked conveyed limits replies.
+                by opened run e.run same is (open_side opened link run (links_stay reply_to adds opened link run opens typed laws revoked conveyed limits replies).1) (e.cause opened same).0,
+          ),
+        ),
+      ),
+    )
   where
     by : (opened : LinkParameters) (run own : List Mark) → opened.granted ≡ credits → own_marks link run ≡ own → (server opened link run).ended ≡ None → (server opened link own).ended ≡ Some why → ⊥
     by opened run own same is open_still out =
