@@ -1,6 +1,16 @@
 -- A connection whose client sends a complete stream is served to its end.
-use Rattle.std.specs.Prelude.{◌≡◌, ℕ, ◌⊎◌, List, [], length, false, Bool, Some}
+use Rattle.std.specs.Prelude.{◌≡◌, ℕ, ◌⊎◌, List, [], length, ◌==◌, false, Bool, Option, Some}
+use Rattle.std.specs.List.{filter}
 use Rattle.nr_outside.specs.Faults.{Rises}
+use Rattle.nr_outside.specs.declared.moment.Moment.{Moment}
+use Rattle.nr_link.specs.declared.end.End.{End}
+use Rattle.nr_reduce.specs.declared.mark.Mark.{Mark}
+use Rattle.nr_reduce.specs.declared.mark.Mark.TheVariants as marks
+use Rattle.nr_reduce.specs.KeepsReplyLimits.{KeepsReplyLimits}
+use Rattle.nr_reduce.specs.Opening.{IsOpened}
+use Rattle.nr_laws.specs.EndCauses.{KeepLaws}
+use Rattle.nr_laws.specs.PlainLinks.{HasPlainReplies, server_with}
+use Rattle.nr_laws.specs.Stays.{AreConveyedOrRefused, HasNoRevoke}
 use Rattle.nr_wire.specs.declared.hello.Side.TheVariants.{Initiator, Responder}
 use Rattle.nr_link.specs.OutputItem.{is_send_item, items_written}
 use Rattle.nr_link.specs.Output.{own_hello}
@@ -66,3 +76,25 @@ SendsAreAnswered =
     (opened : LinkParameters) → opened.granted ≡ credits → IsTyped served.run →
     items_written is_send_item (length (hello_due opened link Responder served.run)) (length (bytes_sent link Responder served.run)) (items_due opened link Responder served.run)
     ≡ (server opened link served.run).state.received.sends
+
+-- the marks of the server's side of a link
+abbrev pub is_own : ℕ → Mark → Bool
+is_own link (marks.Fed l Responder bytes) = l == link
+is_own link (marks.Wrote l Responder bytes) = l == link
+is_own link (marks.Execute l xid moment payload place reply) = l == link
+is_own link mark = false
+
+abbrev pub own_marks : ℕ → List Mark → List Mark
+own_marks link run = filter (is_own link) run
+
+-- A connection that ends with `Protocol` has marks that keep the law of a link's server, and are not those of the server's side of any run
+-- that meets the premises under which a matched link never ends: those of `MatchedLinksStayOpen` of nr_laws.
+abbrev pub MatchedConnectionsStay : Type 0
+MatchedConnectionsStay =
+    (credits : ℕ) (before after : Outside) (why : End) → IsServed credits before after (ends.Protocol why) → (link : ℕ) →
+    (read : ℕ) × ((failed : Bool) × ((ended : Ended (record { credits = credits; read = read }) link before (with_failed failed after) (ends.Protocol why))
+    × (((opened : LinkParameters) → opened.granted ≡ credits → Served opened link ended.run)
+    × ((reply_to : List Entry → Moment → List ℕ → Option (List ℕ)) (adds : Moment → List ℕ → List ℕ → List Entry) (opened : LinkParameters) (run : List Mark) →
+    opened.granted ≡ credits → own_marks link run ≡ ended.run →
+    IsOpened opened → IsTyped run → KeepLaws opened link run → HasNoRevoke link run → AreConveyedOrRefused opened link run →
+    KeepsReplyLimits (server_with reply_to adds) → HasPlainReplies (server_with reply_to adds) link run → ⊥))))

@@ -1,6 +1,6 @@
 //! Laws of connections. Nothing here runs.
 
-ghost use Rattle.nr_host_laws.specs.Laws.{ConnectionsComplete, ConnectionsKeepTheLaw, LinksComplete, SendsAreAnswered, StreamsWithoutCalls};
+ghost use Rattle.nr_host_laws.specs.Laws.{ConnectionsComplete, ConnectionsKeepTheLaw, LinksComplete, MatchedConnectionsStay, SendsAreAnswered, StreamsWithoutCalls};
 
 /// A connection whose client sends a complete stream ends with `Closed`, with each call executed and answered, unless memory runs out or a
 /// fault count of its source or its sink rises.
@@ -26,4 +26,9 @@ pub fn sends_are_answered()
 /// A connection that doesn't run out of memory keeps the law of a link's server in full.
 pub fn connections_keep_the_law()
     ensures { ConnectionsKeepTheLaw }
+{}
+
+/// A connection with a client that keeps its law doesn't end with `Protocol`: its marks are not those of the server's side of a matched link.
+pub fn matched_connections_stay()
+    ensures { MatchedConnectionsStay }
 {}
