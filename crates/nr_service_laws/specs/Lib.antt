@@ -2,3 +2,4 @@ pub mod Exchanges
 pub mod ClientMarks
 pub mod SessionMarks
 pub mod CommandRuns
+pub mod CommandEnds

@@ -1,5 +1,6 @@
 //! Laws of sessions and of commands.
 
+ghost use Rattle.nr_service_laws.specs.CommandEnds.{CommandsEndByReplies};
 ghost use Rattle.nr_service_laws.specs.CommandRuns.{CommandsHaveARun};
 ghost use Rattle.nr_service_laws.specs.SessionMarks.{AsksHaveMarks, FollowsHaveMarks, FollowsOutcomes, MarksGoOn, ReadsHaveMarks, ReadsInOrder, SessionsBegin, WritesHaveMarks};
 
@@ -28,4 +29,11 @@ pub fn files_have_marks()
 /// last grant, calls are submitted and outcomes handed over in the order of the requests, and the bytes are those of the link that was hung up.
 pub fn commands_have_a_run()
     ensures { CommandsHaveARun }
+{}
+
+/// A command that opened a session, and to each of whose calls that was answered the answer is a reply, ends by what these replies say or for
+/// another reason, but not for ERR_CHUNK (RFC 8166 section 4.5.3), for another version or for its dialer. The fault counts of its link rise only
+/// if a call has no answer for that.
+pub fn commands_end_by_replies()
+    ensures { CommandsEndByReplies }
 {}
