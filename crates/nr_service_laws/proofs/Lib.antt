@@ -10,3 +10,4 @@ pub mod ReplyResults
 pub mod ReplyRequests
 pub mod ReplyParts
 pub mod ReplyCommands
+pub mod ServedOutcomes

@@ -3,3 +3,4 @@ pub mod ClientMarks
 pub mod SessionMarks
 pub mod CommandRuns
 pub mod CommandEnds
+pub mod ServedCommands

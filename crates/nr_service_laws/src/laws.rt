@@ -2,6 +2,7 @@
 
 ghost use Rattle.nr_service_laws.specs.CommandEnds.{CommandsEndByReplies};
 ghost use Rattle.nr_service_laws.specs.CommandRuns.{CommandsHaveARun};
+ghost use Rattle.nr_service_laws.specs.ServedCommands.{ServedClientsHaveReplies, ServedCommandsEndByReplies};
 ghost use Rattle.nr_service_laws.specs.SessionMarks.{AsksHaveMarks, FollowsHaveMarks, FollowsOutcomes, MarksGoOn, ReadsHaveMarks, ReadsInOrder, SessionsBegin, WritesHaveMarks};
 
 /// A session that was opened stands for no marks, whatever its server is opened with.
@@ -36,4 +37,11 @@ pub fn commands_have_a_run()
 /// if a call has no answer for that.
 pub fn commands_end_by_replies()
     ensures { CommandsEndByReplies }
+{}
+
+/// If the run of a command is the client's side of a matched link (RFC 8166), whose calls are answered as a plain server answers, each outcome that
+/// the command handed over is a reply. So the command ends by these replies or for another reason, but not for ERR_CHUNK or for another version.
+pub fn served_commands_end_by_replies()
+    ensures outcomes { ServedClientsHaveReplies }
+    ensures ends { ServedCommandsEndByReplies }
 {}
