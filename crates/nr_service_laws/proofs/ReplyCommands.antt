@@ -13,8 +13,8 @@ use Rattle.nr_commands.specs.Printed.{attributes_text, handle_text, names_text, 
 use Rattle.nr_commands.specs.Running.{IsPrinted, text_of}
 use Rattle.nr_commands.specs.Running.Runs.{NotOpened, Opened}
 use Rattle.nr_commands.specs.Sessions.{CountsFaults, Request, Requests, SessionAt, Text as Prints, Then}
-use Rattle.nr_service_laws.specs.CommandEnds.{AreReplies, CommandsEndByReplies, IsByReplies}
-use Rattle.nr_service_laws.specs.Exchanges.{outcomes_in, tells_finds, tells_finds_parent, tells_get, tells_list, tells_make_directory, tells_make_symlink, tells_mount, tells_mounts, tells_none, tells_put, tells_read_link, tells_reads_out, tells_remove, tells_request, tells_requests, tells_stat, tells_symlinks, tells_text, tells_then, tells_writes_in}
+use Rattle.nr_service_laws.specs.CommandEnds.{CommandsEndByReplies, IsByReplies}
+use Rattle.nr_service_laws.specs.Exchanges.{tells_finds, tells_finds_parent, tells_get, tells_list, tells_make_directory, tells_make_symlink, tells_mount, tells_mounts, tells_none, tells_put, tells_read_link, tells_reads_out, tells_remove, tells_request, tells_requests, tells_stat, tells_symlinks, tells_text, tells_then, tells_writes_in}
 use Rattle.nr_service_laws.proofs.ReplyRequests.{create_fine, getattr_fine, list_fine, readlink_fine, remove_fine}
 use Rattle.nr_service_laws.proofs.ReplyParts.{PartFine, counts_as, counts_then, part_finds, part_finds_parent, part_mounts, part_reads_out, part_request, part_requests, part_symlinks, part_text, part_then, part_writes_in, replies_made}
 

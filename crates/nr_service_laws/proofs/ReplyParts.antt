@@ -1,5 +1,5 @@
 -- Each part of a command whose outcomes are replies ends by them, and counts the faults of its link.
-use Rattle.std.proofs.Common.{◌≡◌, ◌⊎◌, ℕ, Bool, true, false, List, [], ◌∷◌, ◌++◌, length, Option, Result, Ok, Err, inl, inr, sym, ap, subst, ◌∙◌, refl}
+use Rattle.std.proofs.Common.{◌≡◌, ◌⊎◌, ℕ, Bool, true, false, List, [], ◌∷◌, ◌++◌, length, Option, Result, Ok, Err, inl, inr, sym, ap, subst}
 use Rattle.std.specs.Prelude.{MatchBool, nat_lt}
 use Rattle.nr_outside.specs.Streams.{SinkAt, SourceAt}
 use Rattle.nr_nfs_base.specs.Limits.{link_target_max}
@@ -16,12 +16,12 @@ use Rattle.nr_client.specs.Reading.EndsReading.{EndsByReplies, OutputFails, NotA
 use Rattle.nr_client.specs.Requests.{Asks, create_result, mnt_call, mnt_result, symlink_call}
 use Rattle.nr_client.specs.Transfers.{LinkBytes}
 use Rattle.nr_client.specs.Walking.{parent_next, walk_next}
-use Rattle.nr_client.specs.Writing.{WritesFile, writing}
+use Rattle.nr_client.specs.Writing.{writing}
 use Rattle.nr_commands.specs.Commands.{Finds, FindsParent, IsSilent, Mounts, ReadsOut, Symlinks, WritesIn}
 use Rattle.nr_commands.specs.Sessions.{CountsFaults, Fails, Part, Request, Requests, SessionAt, Text as Prints, Then}
 use Rattle.nr_client.specs.Requests.{SinkFaults, SourceFaults}
 use Rattle.nr_service_laws.specs.CommandEnds.{AreReplies, IsByReplies, IsOfReplies}
-use Rattle.nr_service_laws.specs.Exchanges.{Exchange, Exchanges, Tells, and_then, asked_exchanges, followed_exchanges, none, outcomes_in, read_exchanges, tells_finds, tells_finds_parent, tells_mounts, tells_none, tells_reads_out, tells_request, tells_requests, tells_symlinks, tells_then, tells_writes_in, within_exchanges, write_exchanges, write_exchanges_by}
+use Rattle.nr_service_laws.specs.Exchanges.{Exchange, Exchanges, Tells, asked_exchanges, followed_exchanges, outcomes_in, read_exchanges, tells_finds, tells_finds_parent, tells_mounts, tells_none, tells_reads_out, tells_request, tells_requests, tells_symlinks, tells_then, tells_writes_in, within_exchanges, write_exchanges_by}
 use Rattle.nr_service_laws.proofs.OutcomesInOrder.{followed_outcomes, outcomes_both, read_outcomes}
 use Rattle.nr_service_laws.proofs.ReplyResults.{ReadsReplies, gives_fine}
 use Rattle.nr_service_laws.proofs.ReplyRequests.{NextFine, RequestFine, create_fine, file_fine, mnt_fine, parent_fine, walk_fine, writing_fine}

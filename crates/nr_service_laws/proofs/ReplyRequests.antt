@@ -1,5 +1,5 @@
 -- What each request makes of replies is no end for ERR_CHUNK or for another version.
-use Rattle.std.proofs.Common.{◌≡◌, ℕ, ◌+◌, Bool, true, false, cond, List, [], ◌∷◌, ◌++◌, length, map, Option, None, Some, Result, Ok, Err}
+use Rattle.std.proofs.Common.{ℕ, ◌+◌, Bool, true, false, cond, List, [], ◌∷◌, ◌++◌, length, map, Option, None, Some, Result, Ok, Err}
 use Rattle.std.specs.Prelude.{◌==◌, ◌||◌, nat_lt, ltb, fold, take}
 use Rattle.nr_outside.specs.Whole.{input_max}
 use Rattle.nr_nfs_base.specs.Attributes.{attributes_codec}
@@ -25,12 +25,12 @@ use Rattle.nr_client.specs.declared.client_end.ClientEnd.{ClientEnd}
 use Rattle.nr_client.specs.declared.client_end.ClientEnd.TheVariants as client
 use Rattle.nr_client.specs.Following.{Next, go_on}
 use Rattle.nr_client.specs.Following.Next.{Calls, Returns}
-use Rattle.nr_client.specs.Listing.{entries_max, eof_offset, is_stuck, last_cookie, list_from, list_next, listed_after, listed_or, listed_with, no_progress, none_listed, readdir_call, readdir_result}
+use Rattle.nr_client.specs.Listing.{entries_max, eof_offset, is_stuck, list_from, list_next, listed_after, listed_or, listed_with, no_progress, none_listed, readdir_call, readdir_result}
 use Rattle.nr_client.specs.Paths.{component_max, components_of, names_in, path_names, with_name}
 use Rattle.nr_client.specs.Reading.{FileRead, after_reply, checked_read, file_read, is_bad_read, next_read, piece_left, post_op_attr_len, read_call, read_result, reading, results_offset, with_data, with_size}
 use Rattle.nr_client.specs.Reading.FileRead.{NothingKnown, ReadEnds, SizeKnown}
 use Rattle.nr_client.specs.Requests.{create_result, getattr_result, handle_of, lookup_result, mnt_result, nfs_reads, readlink_result, remove_result}
-use Rattle.nr_client.specs.Results.{mount_done, nfs_done, result_of_outcome}
+use Rattle.nr_client.specs.Results.{mount_done, result_of_outcome}
 use Rattle.nr_client.specs.Walking.{object_in, object_result, parent_along, parent_from, parent_next, walk_from, walk_next}
 use Rattle.nr_client.specs.Writing.{FileWrite, after_write_reply, checked_write, created_file, created_handle, file_write, handle_or, next_write, piece_at, wcc_data_len, with_count, with_handle, write_call, write_end, write_result, writing}
 use Rattle.nr_client.specs.Writing.FileWrite.{Created, NotCreated, WriteEnds}

@@ -1,6 +1,6 @@
 -- What is read of replies is no end for ERR_CHUNK or for another version.
-use Rattle.std.proofs.Common.{◌≡◌, ℕ, ◌+◌, Bool, true, false, cond, List, [], ◌∷◌, ◌++◌, length, Option, None, Some, Result, Ok, Err, inl, inr, subst, sym}
-use Rattle.std.specs.Prelude.{◌==◌, ◌||◌, nat_lt, ltb, fold, take}
+use Rattle.std.proofs.Common.{ℕ, Bool, true, false, cond, List, Result, Ok, Err, subst}
+use Rattle.std.specs.Prelude.{◌==◌}
 use Rattle.nr_rpc.specs.declared.head.ReplyHead.{ReplyHead}
 use Rattle.nr_rpc.specs.declared.head.ReplyHead.TheVariants as heads
 use Rattle.nr_rpc.specs.Reading.{reply_of}
@@ -14,7 +14,7 @@ use Rattle.nr_reduce.specs.declared.call.Outcome.TheVariants as outcomes
 use Rattle.nr_client.specs.declared.client_end.ClientEnd.{ClientEnd}
 use Rattle.nr_client.specs.declared.client_end.ClientEnd.TheVariants as client
 use Rattle.nr_client.specs.Results.{Gives, mount_done, nfs_done, result_by_head, result_by_reading, result_of_outcome, results_in, results_or}
-use Rattle.nr_service_laws.specs.CommandEnds.{IsByReplies, IsReply, AreReplies}
+use Rattle.nr_service_laws.specs.CommandEnds.{IsByReplies, IsReply}
 
 pub either_fine : {A : Type 0} (b : Bool) (x y : Result A ClientEnd) → IsByReplies x → IsByReplies y → IsByReplies (cond b x y)
 either_fine true x y f g = f

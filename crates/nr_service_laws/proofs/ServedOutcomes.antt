@@ -1,7 +1,6 @@
 -- Each outcome that the client of a matched link hands over is a reply, if its calls are in form Auto and a plain server answers them.
-use Rattle.std.proofs.Common.{◌≡◌, ℕ, Bool, true, false, cond, eqb, List, [], ◌∷◌, ◌++◌, map, Option, inl, inr, ◌⊎◌, refl, sym, ap, subst, ◌∙◌, append_assoc, append-nil, eqb-true}
+use Rattle.std.proofs.Common.{◌≡◌, ℕ, Bool, true, false, cond, eqb, List, [], ◌∷◌, ◌++◌, map, Option, inl, inr, refl, sym, ap, subst, ◌∙◌, append_assoc, eqb-true}
 use Rattle.std.specs.List.{AllByRecursion, filter, flat_map}
-use Rattle.nr_outside.specs.Streams.{SinkAt, SourceAt}
 use Rattle.nr_outside.specs.declared.moment.Moment.{Moment}
 use Rattle.nr_reduce.specs.declared.call.Call.{Call}
 use Rattle.nr_reduce.specs.declared.call.Form.{Form}
@@ -23,7 +22,6 @@ use Rattle.nr_laws.proofs.AutoReplies.{auto_has_replies}
 use Rattle.nr_laws.proofs.ChunkCauses.{chunk_has_cause}
 use Rattle.nr_laws.proofs.LaterMarks.{mark_later}
 use Rattle.nr_laws.proofs.Completed.{version_never}
-use Rattle.nr_client.specs.declared.client_end.ClientEnd.{ClientEnd}
 use Rattle.nr_commands.specs.Running.Runs.{NotOpened, Opened}
 use Rattle.nr_service_laws.specs.ClientMarks.{IsOwn}
 use Rattle.nr_service_laws.specs.CommandEnds.{AreReplies, IsReply}
@@ -116,9 +114,11 @@ each_reply reply_to adds opened link run both own served before (m ∷ rest) is 
   where
     at_done : (l xid : ℕ) (outcome : Outcome) (b : Bool) → eqb l link ≡ b → both ≡ before ++ marks.Done l xid outcome ∷ rest → AreReplies (map (λ (c : CompletedCall). c.outcome) (flat_map (completed_at link) rest))
         → AreReplies (map (λ (c : CompletedCall). c.outcome) (cond b (record { xid = xid; outcome = outcome } ∷ []) [] ++ flat_map (completed_at link) rest))
-    at_done l xid outcome true own_link is later =
-        (one_reply reply_to adds opened link run both own served before xid outcome
-        (record { after = rest; is = subst (λ (n : ℕ). both ≡ before ++ marks.Done n xid outcome ∷ rest) (eqb-true l link own_link) is }), later)
+    at_done l xid outcome true own_link is later = (
+      one_reply reply_to adds opened link run both own served before xid outcome
+          (record { after = rest; is = subst (λ (n : ℕ). both ≡ before ++ marks.Done n xid outcome ∷ rest) (eqb-true l link own_link) is }),
+      later,
+    )
     at_done l xid outcome false own_link is later = later
 
     by : (n : Mark) → both ≡ before ++ n ∷ rest → AreReplies (map (λ (c : CompletedCall). c.outcome) (flat_map (completed_at link) rest))

@@ -22,7 +22,7 @@ use Rattle.nr_commands.specs.Running.Runs.{NotOpened, Opened}
 use Rattle.nr_commands.specs.Sessions.{CountsFaults}
 use Rattle.nr_service_laws.specs.ClientMarks.{IsOwn}
 use Rattle.nr_service_laws.specs.CommandEnds.{AreReplies, IsByReplies}
-use Rattle.nr_service_laws.specs.CommandRuns.{HasRun, IsRunOf, outcomes_of}
+use Rattle.nr_service_laws.specs.CommandRuns.{IsRunOf, outcomes_of}
 use Rattle.nr_service_laws.specs.Exchanges.{tells_text}
 
 -- whether a mark is one of the client of this link
