@@ -11,3 +11,4 @@ pub mod ReplyRequests
 pub mod ReplyParts
 pub mod ReplyCommands
 pub mod ServedOutcomes
+pub mod OpenLinks

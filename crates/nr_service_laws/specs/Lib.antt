@@ -4,3 +4,4 @@ pub mod SessionMarks
 pub mod CommandRuns
 pub mod CommandEnds
 pub mod ServedCommands
+pub mod ServedLinks

@@ -3,6 +3,7 @@
 ghost use Rattle.nr_service_laws.specs.CommandEnds.{CommandsEndByReplies};
 ghost use Rattle.nr_service_laws.specs.CommandRuns.{CommandsHaveARun};
 ghost use Rattle.nr_service_laws.specs.ServedCommands.{ServedClientsHaveReplies, ServedCommandsEndByReplies};
+ghost use Rattle.nr_service_laws.specs.ServedLinks.{ServedClientsStayOpen, ServedCommandsStayOpen};
 ghost use Rattle.nr_service_laws.specs.SessionMarks.{AsksHaveMarks, FollowsHaveMarks, FollowsOutcomes, MarksGoOn, ReadsHaveMarks, ReadsInOrder, SessionsBegin, WritesHaveMarks};
 
 /// A session that was opened stands for no marks, whatever its server is opened with.
@@ -44,4 +45,11 @@ pub fn commands_end_by_replies()
 pub fn served_commands_end_by_replies()
     ensures outcomes { ServedClientsHaveReplies }
     ensures ends { ServedCommandsEndByReplies }
+{}
+
+/// If both sides of such a link keep their laws with each Wrote in full, the client's side of it has not ended, nor has the requester of the command
+/// when the link is hung up, unless memory ran out for a frame.
+pub fn served_commands_stay_open()
+    ensures clients { ServedClientsStayOpen }
+    ensures requesters { ServedCommandsStayOpen }
 {}
