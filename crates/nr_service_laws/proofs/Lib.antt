@@ -6,3 +6,9 @@ pub mod CallsInOrder
 pub mod OutcomesInOrder
 pub mod Parts
 pub mod Commands
+pub mod ReplyResults
+pub mod ReplyRequests
+pub mod ReplyParts
+pub mod ReplyCommands
+pub mod ServedOutcomes
+pub mod OpenLinks

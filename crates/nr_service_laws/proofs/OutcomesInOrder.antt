@@ -17,7 +17,7 @@ use Rattle.nr_service_laws.specs.Exchanges.{Exchange, end_exchanges, exchange_ou
 use Rattle.nr_service_laws.specs.Exchanges.Exchange.{GivenUp}
 use Rattle.nr_service_laws.specs.SessionMarks.{FollowsOutcomes, ReadsInOrder}
 
-outcomes_both : (made later : List Exchange) → outcomes_in (made ++ later) ≡ outcomes_in made ++ outcomes_in later
+pub outcomes_both : (made later : List Exchange) → outcomes_in (made ++ later) ≡ outcomes_in made ++ outcomes_in later
 outcomes_both made later = flat_map-append exchange_outcomes made later
 
 -- ---- A call without an answer has no outcome

@@ -1,6 +1,9 @@
 //! Laws of sessions and of commands.
 
+ghost use Rattle.nr_service_laws.specs.CommandEnds.{CommandsEndByReplies};
 ghost use Rattle.nr_service_laws.specs.CommandRuns.{CommandsHaveARun};
+ghost use Rattle.nr_service_laws.specs.ServedCommands.{ServedClientsHaveReplies, ServedCommandsEndByReplies};
+ghost use Rattle.nr_service_laws.specs.ServedLinks.{ServedClientsStayOpen, ServedCommandsStayOpen};
 ghost use Rattle.nr_service_laws.specs.SessionMarks.{AsksHaveMarks, FollowsHaveMarks, FollowsOutcomes, MarksGoOn, ReadsHaveMarks, ReadsInOrder, SessionsBegin, WritesHaveMarks};
 
 /// A session that was opened stands for no marks, whatever its server is opened with.
@@ -28,4 +31,25 @@ pub fn files_have_marks()
 /// last grant, calls are submitted and outcomes handed over in the order of the requests, and the bytes are those of the link that was hung up.
 pub fn commands_have_a_run()
     ensures { CommandsHaveARun }
+{}
+
+/// A command that opened a session, and to each of whose calls that was answered the answer is a reply, ends by what these replies say or for
+/// another reason, but not for ERR_CHUNK (RFC 8166 section 4.5.3), for another version or for its dialer. The fault counts of its link rise only
+/// if a call has no answer for that.
+pub fn commands_end_by_replies()
+    ensures { CommandsEndByReplies }
+{}
+
+/// If the run of a command is the client's side of a matched link (RFC 8166), whose calls are answered as a plain server answers, each outcome that
+/// the command handed over is a reply. So the command ends by these replies or for another reason, but not for ERR_CHUNK or for another version.
+pub fn served_commands_end_by_replies()
+    ensures outcomes { ServedClientsHaveReplies }
+    ensures ends { ServedCommandsEndByReplies }
+{}
+
+/// If both sides of such a link keep their laws with each Wrote in full, the client's side of it has not ended, nor has the requester of the command
+/// when the link is hung up, unless memory ran out for a frame.
+pub fn served_commands_stay_open()
+    ensures clients { ServedClientsStayOpen }
+    ensures requesters { ServedCommandsStayOpen }
 {}

@@ -1,0 +1,47 @@
+-- The ends of a command whose calls have replies.
+use Rattle.std.specs.Prelude.{⊤, List, [], ◌∷◌, Result, Ok, Err}
+use Rattle.nr_outside.specs.Streams.{SinkAt, SourceAt}
+use Rattle.nr_words.specs.Lines.{Text}
+use Rattle.nr_words.specs.declared.commands.Client.{Client}
+use Rattle.nr_reduce.specs.declared.call.Outcome.{Outcome}
+use Rattle.nr_reduce.specs.declared.call.Outcome.TheVariants as outcomes
+use Rattle.nr_client.specs.declared.client_end.ClientEnd.{ClientEnd}
+use Rattle.nr_client.specs.declared.client_end.ClientEnd.TheVariants as client
+use Rattle.nr_client.specs.Dialing.{DialerAt}
+use Rattle.nr_commands.specs.Running.{Runs}
+use Rattle.nr_commands.specs.Running.Runs.{NotOpened, Opened}
+use Rattle.nr_commands.specs.Sessions.{CountsFaults}
+use Rattle.nr_service_laws.specs.Exchanges.{outcomes_in, tells_text}
+
+-- an outcome is a reply; each of these is
+abbrev pub IsReply : Outcome → Type 0
+IsReply (outcomes.Reply payload) = ⊤
+IsReply outcome = ⊥
+
+abbrev pub AreReplies : List Outcome → Type 0
+AreReplies [] = ⊤
+AreReplies (outcome ∷ later) = IsReply outcome × AreReplies later
+
+-- no end of a command for ERR_CHUNK, for another version, or of a dialer
+abbrev pub IsOfReplies : ClientEnd → Type 0
+IsOfReplies client.DialFault = ⊥
+IsOfReplies client.Chunk = ⊥
+IsOfReplies (client.Version low high) = ⊥
+IsOfReplies end = ⊤
+
+abbrev pub IsByReplies : {A : Type 0} → Result A ClientEnd → Type 0
+IsByReplies (Ok value) = ⊤
+IsByReplies (Err end) = IsOfReplies end
+
+-- If all outcomes that a command handed over are replies, it ends by them, and the fault counts of its link rise only if it has no answer for that.
+abbrev pub RepliesGiveEnd : (c : Client Text) (before after : DialerAt) (input input' : SourceAt) (out out' : SinkAt) (result : Result (Unit {0}) ClientEnd)
+    → Runs c before after input input' out out' result → Type 0
+RepliesGiveEnd c before after input input' out out' result (NotOpened end is fails same_input same_out) = ⊤
+RepliesGiveEnd c before after input input' out out' result (Opened dialed s s' opens prints closes) =
+    AreReplies (outcomes_in (tells_text c.uid c.gid c.export c.action input input' out prints.written s s' prints.text prints.made).made) →
+    CountsFaults s s' result × IsByReplies result
+
+abbrev pub CommandsEndByReplies : Type 0
+CommandsEndByReplies =
+    (c : Client Text) (before after : DialerAt) (input input' : SourceAt) (out out' : SinkAt) (result : Result (Unit {0}) ClientEnd)
+    (runs : Runs c before after input input' out out' result) → RepliesGiveEnd c before after input input' out out' result runs
