@@ -34,7 +34,7 @@ static void write_all(int to, long bytes)
     }
 }
 
-/* Reads so many bytes; 0 at the end of the stream. */
+/* Reads exactly these bytes: 1, or 0 at the end of the stream. */
 static int read_all(int from, long bytes)
 {
     while (bytes > 0) {

@@ -33,7 +33,7 @@ def used(child):
 
 @contextlib.contextmanager
 def server(folder, connections):
-    """A server of as many connections; it has a file 2 of 16 MiB after the first. Gives its address, and a list that gets what it used."""
+    """A server of this number of connections after one that puts file 2, of 16 MiB. Gives its address, and a list that gets what it used."""
     at = port()
     config = f"{folder}/config{at}.toml"
     with open(config, "w") as it:
