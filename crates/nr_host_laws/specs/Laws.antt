@@ -1,4 +1,4 @@
--- A connection whose client sends a complete stream is served to its end.
+-- Laws of connections: those over a complete stream are served to their end; all but those that run out of memory keep the law of a link's server.
 use Rattle.std.specs.Prelude.{◌≡◌, ℕ, ◌⊎◌, List, [], length, ◌==◌, false, Bool, Option, Some}
 use Rattle.std.specs.List.{filter}
 use Rattle.nr_outside.specs.Faults.{Rises}
@@ -87,14 +87,13 @@ is_own link mark = false
 abbrev pub own_marks : ℕ → List Mark → List Mark
 own_marks link run = filter (is_own link) run
 
--- A connection that ends with `Protocol` has marks that keep the law of a link's server, and are not those of the server's side of any run
--- that meets the premises under which a matched link never ends: those of `MatchedLinksStayOpen` of nr_laws.
+-- No marks of a connection that ends with `Protocol` are those of the server's side of a run that meets the premises under which a matched link
+-- never ends: those of `MatchedLinksStayOpen` of nr_laws, on the server's replies too.
 abbrev pub MatchedConnectionsStay : Type 0
 MatchedConnectionsStay =
-    (credits : ℕ) (before after : Outside) (why : End) → IsServed credits before after (ends.Protocol why) → (link : ℕ) →
-    (read : ℕ) × ((failed : Bool) × ((ended : Ended (record { credits = credits; read = read }) link before (with_failed failed after) (ends.Protocol why))
-    × (((opened : LinkParameters) → opened.granted ≡ credits → Served opened link ended.run)
-    × ((reply_to : List Entry → Moment → List ℕ → Option (List ℕ)) (adds : Moment → List ℕ → List ℕ → List Entry) (opened : LinkParameters) (run : List Mark) →
+    (credits : ℕ) (before after : Outside) (why : End) (link read : ℕ) (failed : Bool)
+    (ended : Ended (record { credits = credits; read = read }) link before (with_failed failed after) (ends.Protocol why))
+    (reply_to : List Entry → Moment → List ℕ → Option (List ℕ)) (adds : Moment → List ℕ → List ℕ → List Entry) (opened : LinkParameters) (run : List Mark) →
     opened.granted ≡ credits → own_marks link run ≡ ended.run →
     IsOpened opened → IsTyped run → KeepLaws opened link run → HasNoRevoke link run → AreConveyedOrRefused opened link run →
-    KeepsReplyLimits (server_with reply_to adds) → HasPlainReplies (server_with reply_to adds) link run → ⊥))))
+    KeepsReplyLimits (server_with reply_to adds) → HasPlainReplies (server_with reply_to adds) link run → ⊥

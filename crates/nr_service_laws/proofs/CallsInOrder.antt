@@ -9,7 +9,7 @@ use Rattle.nr_reduce.specs.declared.mark.Mark.TheVariants as marks
 use Rattle.nr_reduce.specs.History.{AcceptedCall, CompletedCall, accepted_at, accepted_calls, completed_at, completed_calls}
 use Rattle.nr_reduce.proofs.Standing.{itself}
 use Rattle.nr_service_laws.specs.ClientMarks.{AreMarksOf, exchange_marks, moves_bytes, without_bytes}
-use Rattle.nr_service_laws.specs.CommandRuns.{calls_of, outcomes_of}
+use Rattle.nr_service_laws.specs.CommandRuns.{calls_of, outcomes_handed_over}
 use Rattle.nr_service_laws.specs.Exchanges.{Exchange, exchange_calls, exchange_outcomes}
 use Rattle.nr_service_laws.specs.Exchanges.Exchange.{Answered, Forgotten, GivenUp, HandedOver, Submitted}
 
@@ -61,7 +61,7 @@ calls_are link run made are = calls_without link run ∙ calls_by link made (wit
 
 -- ---- Outcomes
 
-outcomes_one : (link : ℕ) (e : Exchange) (xid : ℕ) (rest : List Mark) → outcomes_of link (exchange_marks link e xid ++ rest) ≡ exchange_outcomes e ++ outcomes_of link rest
+outcomes_one : (link : ℕ) (e : Exchange) (xid : ℕ) (rest : List Mark) → outcomes_handed_over link (exchange_marks link e xid ++ rest) ≡ exchange_outcomes e ++ outcomes_handed_over link rest
 unfolding completed_calls
 outcomes_one link (Answered call outcome) xid rest =
     ap (λ (b : Bool). map (λ (c : CompletedCall). c.outcome) (cond b (record { xid = xid; outcome = outcome } ∷ []) [] ++ flat_map (completed_at link) rest)) (itself link)
@@ -71,15 +71,15 @@ outcomes_one link (HandedOver number outcome) xid rest =
     ap (λ (b : Bool). map (λ (c : CompletedCall). c.outcome) (cond b (record { xid = number; outcome = outcome } ∷ []) [] ++ flat_map (completed_at link) rest)) (itself link)
 outcomes_one link (GivenUp number) xid rest = refl
 
-outcomes_by : (link : ℕ) (made : List Exchange) (run : List Mark) → AreMarksOf link made run → outcomes_of link run ≡ flat_map exchange_outcomes made
+outcomes_by : (link : ℕ) (made : List Exchange) (run : List Mark) → AreMarksOf link made run → outcomes_handed_over link run ≡ flat_map exchange_outcomes made
 unfolding completed_calls
-outcomes_by link [] run is = ap (λ (l : List Mark). outcomes_of link l) is
+outcomes_by link [] run is = ap (λ (l : List Mark). outcomes_handed_over link l) is
 outcomes_by link (e ∷ made) run (xid, rest, (is, are)) =
-    ap (λ (l : List Mark). outcomes_of link l) is ∙ outcomes_one link e xid rest ∙ ap (λ (l : List Outcome). exchange_outcomes e ++ l) (outcomes_by link made rest are)
+    ap (λ (l : List Mark). outcomes_handed_over link l) is ∙ outcomes_one link e xid rest ∙ ap (λ (l : List Outcome). exchange_outcomes e ++ l) (outcomes_by link made rest are)
 
-outcomes_without : (link : ℕ) (run : List Mark) → outcomes_of link run ≡ outcomes_of link (without_bytes run)
+outcomes_without : (link : ℕ) (run : List Mark) → outcomes_handed_over link run ≡ outcomes_handed_over link (without_bytes run)
 unfolding completed_calls
 outcomes_without link run = ap (λ (l : List CompletedCall). map (λ (c : CompletedCall). c.outcome) l) (flat_without (completed_at link) run (λ m is. (bytes_none link m is).1))
 
-pub outcomes_are : (link : ℕ) (run : List Mark) (made : List Exchange) → AreMarksOf link made (without_bytes run) → outcomes_of link run ≡ flat_map exchange_outcomes made
+pub outcomes_are : (link : ℕ) (run : List Mark) (made : List Exchange) → AreMarksOf link made (without_bytes run) → outcomes_handed_over link run ≡ flat_map exchange_outcomes made
 outcomes_are link run made are = outcomes_without link run ∙ outcomes_by link made (without_bytes run) are

@@ -23,7 +23,7 @@ use Rattle.nr_commands.specs.Printed.{attributes_text, handle_text, names_text, 
 use Rattle.nr_commands.specs.Running.{Closes, IsPrinted, Opens, text_of}
 use Rattle.nr_commands.specs.Running.Runs.{NotOpened, Opened}
 use Rattle.nr_commands.specs.Sessions.{Request, Requests, SessionAt, Text as Prints, Then}
-use Rattle.nr_service_laws.specs.CommandRuns.{CommandsHaveARun, IsRunOf}
+use Rattle.nr_service_laws.specs.CommandRuns.{CommandsHaveARun, IsCommandRun}
 use Rattle.nr_service_laws.specs.ClientMarks.{StandsAt}
 use Rattle.nr_service_laws.specs.Exchanges.{Exchanges, tells_finds, tells_finds_parent, tells_get, tells_list, tells_make_directory, tells_make_symlink, tells_mount, tells_mounts, tells_none, tells_put, tells_read_link, tells_reads_out, tells_remove, tells_request, tells_requests, tells_stat, tells_symlinks, tells_text, tells_then, tells_writes_in}
 use Rattle.nr_service_laws.specs.SessionMarks.{SessionsBegin, Does, HasDone}
@@ -149,7 +149,7 @@ asked_of result opened link h ahead run (inr (is, out)) = (out.asked, out.grante
 
 is_run : (opened : LinkParameters) (link : ℕ) (s s' : SessionAt) (addr : List ℕ) (before dialed after : DialerAt) (result : Result (Unit {0}) ClientEnd) (exchanges : Exchanges)
     → Opens addr before dialed s → Closes s' dialed after → Does result opened link [] s.bytes s'.bytes s'.requester exchanges
-    → IsRunOf opened link s s' dialed.ended after.ended result exchanges
+    → IsCommandRun opened link s s' dialed.ended after.ended result exchanges
 is_run opened link s s' addr before dialed after result exchanges opens closes done =
     let laws = asked_of result opened link s'.requester done.ahead done.more done.stands in
     record {

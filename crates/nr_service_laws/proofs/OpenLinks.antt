@@ -24,7 +24,7 @@ use Rattle.nr_client.specs.declared.client_end.ClientEnd.TheVariants as client
 use Rattle.nr_client.specs.declared.call_end.CallEnd.TheVariants as calls
 use Rattle.nr_commands.specs.Running.Runs.{NotOpened, Opened}
 use Rattle.nr_service_laws.specs.ClientMarks.{IsOwn, StandsAt}
-use Rattle.nr_service_laws.specs.ServedCommands.{client_marks, is_of_client}
+use Rattle.nr_service_laws.specs.ServedCommands.{client_marks, is_client_mark}
 use Rattle.nr_service_laws.specs.ServedLinks.{ServedClientsStayOpen, ServedCommandsStayOpen}
 
 -- ---- Marks that are no client's
@@ -36,7 +36,7 @@ and_never false = refl
 not_own : (b : Bool) (es : List RunEvent) → b ≡ false → if_own b es ≡ []
 not_own b es is = ap (λ (c : Bool). if_own c es) is
 
-others_no_events : (link place : ℕ) (completed : List ℕ → List Frame) (m : Mark) → is_of_client link m ≡ false → mark_events link Initiator place completed m ≡ []
+others_no_events : (link place : ℕ) (completed : List ℕ → List Frame) (m : Mark) → is_client_mark link m ≡ false → mark_events link Initiator place completed m ≡ []
 others_no_events link place completed (marks.Wrote l side bytes) is = not_own (eqb l link && same_side side Initiator) _ is
 others_no_events link place completed (marks.Fed l side bytes) is = not_own (eqb l link && same_side side Initiator) _ is
 others_no_events link place completed (marks.Submit l call form (submissions.Accepted xid)) is = not_own (eqb l link && true) _ (ap (λ (b : Bool). b && true) is)
@@ -49,7 +49,7 @@ others_no_events link place completed (marks.Forget l xid) is = refl
 others_no_events link place completed (marks.Revoke l xid bytes) is = not_own (eqb l link && true) _ (ap (λ (b : Bool). b && true) is)
 others_no_events link place completed (marks.Drop l) is = refl
 
-others_not_fed : (link : ℕ) (m : Mark) → is_of_client link m ≡ false → fed_at link Initiator m ≡ []
+others_not_fed : (link : ℕ) (m : Mark) → is_client_mark link m ≡ false → fed_at link Initiator m ≡ []
 others_not_fed link (marks.Wrote l side bytes) is = refl
 others_not_fed link (marks.Fed l side bytes) is = ap (λ (b : Bool). cond b bytes []) is
 others_not_fed link (marks.Submit l call form answer) is = refl
@@ -67,29 +67,29 @@ received_more link run m = one_more (fed_at link Initiator) run m
 -- ---- The events of a client
 
 events_kept : (link : ℕ) (before kept rest : List Mark) → bytes_received link Initiator before ≡ bytes_received link Initiator kept
-    → events_from link Initiator before rest ≡ events_from link Initiator kept (filter (is_of_client link) rest)
+    → events_from link Initiator before rest ≡ events_from link Initiator kept (filter (is_client_mark link) rest)
 events_kept link before kept [] same = refl
 events_kept link before kept (m ∷ rest) same =
-    by (is_of_client link m) refl (λ later agree. events_kept link (before ++ m ∷ []) later rest agree)
+    by (is_client_mark link m) refl (λ later agree. events_kept link (before ++ m ∷ []) later rest agree)
   where
     at_mark : events_at link Initiator before m ≡ events_at link Initiator kept m
     at_mark = ap (λ (bs : List ℕ). mark_events link Initiator (length bs) (frames_completed (other Initiator) bs) m) same
 
-    by : (b : Bool) → is_of_client link m ≡ b
+    by : (b : Bool) → is_client_mark link m ≡ b
         → ((later : List Mark) → bytes_received link Initiator (before ++ m ∷ []) ≡ bytes_received link Initiator later
-        → events_from link Initiator (before ++ m ∷ []) rest ≡ events_from link Initiator later (filter (is_of_client link) rest))
+        → events_from link Initiator (before ++ m ∷ []) rest ≡ events_from link Initiator later (filter (is_client_mark link) rest))
         → events_at link Initiator before m ++ events_from link Initiator (before ++ m ∷ []) rest
-        ≡ events_from link Initiator kept (cond (is_of_client link m) (m ∷ filter (is_of_client link) rest) (filter (is_of_client link) rest))
+        ≡ events_from link Initiator kept (cond (is_client_mark link m) (m ∷ filter (is_client_mark link) rest) (filter (is_client_mark link) rest))
     by true is goes =
         ap (λ (es : List RunEvent). es ++ events_from link Initiator (before ++ m ∷ []) rest) at_mark
         ∙ ap (λ (es : List RunEvent). events_at link Initiator kept m ++ es)
         (goes (kept ++ m ∷ []) (received_more link before m ∙ ap (λ (bs : List ℕ). bs ++ fed_at link Initiator m) same ∙ sym (received_more link kept m)))
-        ∙ ap (λ (b : Bool). events_from link Initiator kept (cond b (m ∷ filter (is_of_client link) rest) (filter (is_of_client link) rest))) (sym is)
+        ∙ ap (λ (b : Bool). events_from link Initiator kept (cond b (m ∷ filter (is_client_mark link) rest) (filter (is_client_mark link) rest))) (sym is)
     by false is goes =
         ap (λ (es : List RunEvent). es ++ events_from link Initiator (before ++ m ∷ []) rest)
         (others_no_events link (length (bytes_received link Initiator before)) (frames_completed (other Initiator) (bytes_received link Initiator before)) m is)
         ∙ goes kept (received_more link before m ∙ ap (λ (bs : List ℕ). bytes_received link Initiator before ++ bs) (others_not_fed link m is) ∙ append-nil (bytes_received link Initiator before) ∙ same)
-        ∙ ap (λ (b : Bool). events_from link Initiator kept (cond b (m ∷ filter (is_of_client link) rest) (filter (is_of_client link) rest))) (sym is)
+        ∙ ap (λ (b : Bool). events_from link Initiator kept (cond b (m ∷ filter (is_client_mark link) rest) (filter (is_client_mark link) rest))) (sym is)
 
 client_kept : (opened : LinkParameters) (link : ℕ) (both : List Mark) → end_of_side opened link Initiator both ≡ end_of_side opened link Initiator (client_marks link both)
 unfolding end_of_side client_of events
@@ -99,17 +99,17 @@ client_kept opened link both =
 
 -- ---- What each mark is, if the client's marks are those of a command
 
-own_each : (Q : List Mark → Mark → Type 0) (link : ℕ) (before rest : List Mark) → ((earlier : List Mark) (m : Mark) → (is_of_client link m ≡ true → IsOwn link m) → Q earlier m)
-    → AllByRecursion (IsOwn link) (filter (is_of_client link) rest) → AtEachMark Q before rest
+own_each : (Q : List Mark → Mark → Type 0) (link : ℕ) (before rest : List Mark) → ((earlier : List Mark) (m : Mark) → (is_client_mark link m ≡ true → IsOwn link m) → Q earlier m)
+    → AllByRecursion (IsOwn link) (filter (is_client_mark link) rest) → AtEachMark Q before rest
 own_each Q link before [] each all = tt
-own_each Q link before (m ∷ rest) each all = by (is_of_client link m) refl all (λ later. own_each Q link (before ++ m ∷ []) rest each later)
+own_each Q link before (m ∷ rest) each all = by (is_client_mark link m) refl all (λ later. own_each Q link (before ++ m ∷ []) rest each later)
   where
-    by : (b : Bool) → is_of_client link m ≡ b → AllByRecursion (IsOwn link) (cond b (m ∷ filter (is_of_client link) rest) (filter (is_of_client link) rest))
-        → (AllByRecursion (IsOwn link) (filter (is_of_client link) rest) → AtEachMark Q (before ++ m ∷ []) rest) → Q before m × AtEachMark Q (before ++ m ∷ []) rest
+    by : (b : Bool) → is_client_mark link m ≡ b → AllByRecursion (IsOwn link) (cond b (m ∷ filter (is_client_mark link) rest) (filter (is_client_mark link) rest))
+        → (AllByRecursion (IsOwn link) (filter (is_client_mark link) rest) → AtEachMark Q (before ++ m ∷ []) rest) → Q before m × AtEachMark Q (before ++ m ∷ []) rest
     by true is own goes = (each before m (λ same. own.0), goes own.1)
     by false is own goes = (each before m (λ same. absurd (let wrong : true ≡ false = sym same ∙ is in cc)), goes own)
 
-not_revoked : (link : ℕ) (before : List Mark) (m : Mark) → (is_of_client link m ≡ true → IsOwn link m) → NotRevokedMark link before m
+not_revoked : (link : ℕ) (before : List Mark) (m : Mark) → (is_client_mark link m ≡ true → IsOwn link m) → NotRevokedMark link before m
 not_revoked link before (marks.Revoke l xid bytes) own = λ same. own (eq-eqb l link same)
 not_revoked link before (marks.Wrote l side bytes) own = tt
 not_revoked link before (marks.Fed l side bytes) own = tt
@@ -120,7 +120,7 @@ not_revoked link before (marks.Lost l xid) own = tt
 not_revoked link before (marks.Forget l xid) own = tt
 not_revoked link before (marks.Drop l) own = tt
 
-conveyed : (opened : LinkParameters) (link : ℕ) (before : List Mark) (m : Mark) → (is_of_client link m ≡ true → IsOwn link m) → ConveyedMark opened link before m
+conveyed : (opened : LinkParameters) (link : ℕ) (before : List Mark) (m : Mark) → (is_client_mark link m ≡ true → IsOwn link m) → ConveyedMark opened link before m
 conveyed opened link before (marks.Submit l call forms.Auto (submissions.Accepted xid)) own = λ same plan is. tt
 conveyed opened link before (marks.Submit l call forms.Inline (submissions.Accepted xid)) own = λ same plan is. tt
 conveyed opened link before (marks.Submit l call forms.Chunk (submissions.Accepted xid)) own = λ same plan is. tt

@@ -13,7 +13,7 @@ use Rattle.nr_commands.specs.Printed.{attributes_text, handle_text, names_text, 
 use Rattle.nr_commands.specs.Running.{IsPrinted, text_of}
 use Rattle.nr_commands.specs.Running.Runs.{NotOpened, Opened}
 use Rattle.nr_commands.specs.Sessions.{CountsFaults, Request, Requests, SessionAt, Text as Prints, Then}
-use Rattle.nr_service_laws.specs.CommandEnds.{CommandsEndByReplies, IsByReplies}
+use Rattle.nr_service_laws.specs.CommandEnds.{RepliesExcludeEnds, ResultCanFollowReplies}
 use Rattle.nr_service_laws.specs.Exchanges.{tells_finds, tells_finds_parent, tells_get, tells_list, tells_make_directory, tells_make_symlink, tells_mount, tells_mounts, tells_none, tells_put, tells_read_link, tells_reads_out, tells_remove, tells_request, tells_requests, tells_stat, tells_symlinks, tells_text, tells_then, tells_writes_in}
 use Rattle.nr_service_laws.proofs.ReplyRequests.{create_fine, getattr_fine, list_fine, readlink_fine, remove_fine}
 use Rattle.nr_service_laws.proofs.ReplyParts.{PartFine, counts_as, counts_then, part_finds, part_finds_parent, part_mounts, part_reads_out, part_request, part_requests, part_symlinks, part_text, part_then, part_writes_in, replies_made}
@@ -85,9 +85,9 @@ command_make_symlink uid gid export path target =
     (part_symlinks uid gid place.0 place.1 target) (λ made. part_text []))
 
 -- a part that ends before the bytes of a file move
-ends_as : (A B : Type 0) (s s' : SessionAt) (end : ClientEnd) (result : Result B ClientEnd) → result ≡ Err end → CountsFaults {A = A} s s' (Err end) × IsByReplies {A = A} (Err end)
-    → CountsFaults s s' result × IsByReplies result
-ends_as A B s s' end result same one = subst (λ (r : Result B ClientEnd). CountsFaults s s' r × IsByReplies r) (sym same) (counts_as A B s s' end one.0, one.1)
+ends_as : (A B : Type 0) (s s' : SessionAt) (end : ClientEnd) (result : Result B ClientEnd) → result ≡ Err end → CountsFaults {A = A} s s' (Err end) × ResultCanFollowReplies {A = A} (Err end)
+    → CountsFaults s s' result × ResultCanFollowReplies result
+ends_as A B s s' end result same one = subst (λ (r : Result B ClientEnd). CountsFaults s s' r × ResultCanFollowReplies r) (sym same) (counts_as A B s s' end one.0, one.1)
 
 command_get : (uid gid : ℕ) (export path : List ℕ) (out out' : SinkAt) → PartFine (Gets uid gid export path out out') (tells_get uid gid export path out out')
 command_get uid gid export path out out' s s' text (inl (file, (mid, (finds, reads)))) are =
@@ -122,7 +122,7 @@ command_text uid gid export (actions.Get path) input input' out out' s s' text i
 -- ---- Up to what is printed
 
 ok_printed : (text : List ℕ) (result : Result (Unit {0}) ClientEnd) (out out' : SinkAt) (s s' : SessionAt) → IsPrinted (Ok text) result out out' → CountsFaults {A = List ℕ} s s' (Ok text)
-    → CountsFaults s s' result × IsByReplies result
+    → CountsFaults s s' result × ResultCanFollowReplies result
 ok_printed text (Ok done) out out' s s' prints counts = (counts, tt)
 ok_printed text (Err client.OutputFault) out out' s s' prints counts = (counts, tt)
 ok_printed text (Err client.DialFault) out out' s s' prints counts = absurd prints
@@ -139,14 +139,14 @@ ok_printed text (Err (client.Budget count)) out out' s s' prints counts = absurd
 ok_printed text (Err client.Memory) out out' s s' prints counts = absurd prints
 
 printed_fine : (text : Result (List ℕ) ClientEnd) (result : Result (Unit {0}) ClientEnd) (out out' : SinkAt) (s s' : SessionAt) → IsPrinted text result out out'
-    → CountsFaults s s' text × IsByReplies text → CountsFaults s s' result × IsByReplies result
+    → CountsFaults s s' text × ResultCanFollowReplies text → CountsFaults s s' result × ResultCanFollowReplies result
 printed_fine (Ok text) result out out' s s' prints one = ok_printed text result out out' s s' prints one.0
 printed_fine (Err why) (Ok done) out out' s s' prints one = absurd prints
 printed_fine (Err why) (Err end) out out' s s' (is, same) one =
-    subst (λ (e : ClientEnd). CountsFaults {A = Unit {0}} s s' (Err e) × IsByReplies {A = Unit {0}} (Err e)) (sym is) (counts_as (List ℕ) (Unit {0}) s s' why one.0, one.1)
+    subst (λ (e : ClientEnd). CountsFaults {A = Unit {0}} s s' (Err e) × ResultCanFollowReplies {A = Unit {0}} (Err e)) (sym is) (counts_as (List ℕ) (Unit {0}) s s' why one.0, one.1)
 
-pub commands_end_by_replies_lem : CommandsEndByReplies
-commands_end_by_replies_lem c before after input input' out out' result (NotOpened end is fails same_input same_out) = tt
-commands_end_by_replies_lem c before after input input' out out' result (Opened dialed s s' opens prints closes) = λ are.
+pub replies_exclude_ends_lem : RepliesExcludeEnds
+replies_exclude_ends_lem c before after input input' out out' result (NotOpened end is fails same_input same_out) = tt
+replies_exclude_ends_lem c before after input input' out out' result (Opened dialed s s' opens prints closes) = λ are.
     printed_fine prints.text result prints.written out' s s' prints.prints
     (command_text c.uid c.gid c.export c.action input input' out prints.written s s' prints.text prints.made are)

@@ -20,7 +20,7 @@ use Rattle.nr_client.specs.Writing.{writing}
 use Rattle.nr_commands.specs.Commands.{Finds, FindsParent, IsSilent, Mounts, ReadsOut, Symlinks, WritesIn}
 use Rattle.nr_commands.specs.Sessions.{CountsFaults, Fails, Part, Request, Requests, SessionAt, Text as Prints, Then}
 use Rattle.nr_client.specs.Requests.{SinkFaults, SourceFaults}
-use Rattle.nr_service_laws.specs.CommandEnds.{AreReplies, IsByReplies, IsOfReplies}
+use Rattle.nr_service_laws.specs.CommandEnds.{AreReplies, ResultCanFollowReplies, CanFollowReplies}
 use Rattle.nr_service_laws.specs.Exchanges.{Exchange, Exchanges, Tells, asked_exchanges, followed_exchanges, outcomes_in, read_exchanges, tells_finds, tells_finds_parent, tells_mounts, tells_none, tells_reads_out, tells_request, tells_requests, tells_symlinks, tells_then, tells_writes_in, within_exchanges, write_exchanges_by}
 use Rattle.nr_service_laws.proofs.OutcomesInOrder.{followed_outcomes, outcomes_both, read_outcomes}
 use Rattle.nr_service_laws.proofs.ReplyResults.{ReadsReplies, gives_fine}
@@ -38,53 +38,53 @@ replies_made made later are = replies_both (outcomes_in made) (outcomes_in later
 -- ---- Requests
 
 asks_fine : {A : Type 0} (reads : Outcome → Result A ClientEnd) (call : Call) (b c : LinkBytes) (h i : RequesterSide) (result : Result A ClientEnd) (asks : Asks reads call b c h i result)
-    → ReadsReplies reads → AreReplies (outcomes_in (asked_exchanges reads call b c h i result asks).made) → IsByReplies result
+    → ReadsReplies reads → AreReplies (outcomes_in (asked_exchanges reads call b c h i result asks).made) → ResultCanFollowReplies result
 asks_fine reads call b c h i result (inl (outcome, (answers, gives))) fine are = gives_fine result (reads outcome) gives (fine outcome are.0)
-asks_fine {A} reads call b c h i result (inr (inl (cause, (is, rest)))) fine are = subst (λ (r : Result A ClientEnd). IsByReplies r) (sym is) tt
-asks_fine {A} reads call b c h i result (inr (inr (is, same))) fine are = subst (λ (r : Result A ClientEnd). IsByReplies r) (sym is) tt
+asks_fine {A} reads call b c h i result (inr (inl (cause, (is, rest)))) fine are = subst (λ (r : Result A ClientEnd). ResultCanFollowReplies r) (sym is) tt
+asks_fine {A} reads call b c h i result (inr (inr (is, same))) fine are = subst (λ (r : Result A ClientEnd). ResultCanFollowReplies r) (sym is) tt
 
-unanswered_fine : (call : Call) (b c : LinkBytes) (h i : RequesterSide) (end : ClientEnd) → Unanswered call b c h i end → IsOfReplies end
-unanswered_fine call b c h i end (inl (cause, (is, rest))) = subst IsOfReplies (sym is) tt
-unanswered_fine call b c h i end (inr (is, same)) = subst IsOfReplies (sym is) tt
+unanswered_fine : (call : Call) (b c : LinkBytes) (h i : RequesterSide) (end : ClientEnd) → Unanswered call b c h i end → CanFollowReplies end
+unanswered_fine call b c h i end (inl (cause, (is, rest))) = subst CanFollowReplies (sym is) tt
+unanswered_fine call b c h i end (inr (is, same)) = subst CanFollowReplies (sym is) tt
 
-end_fine : {A : Type 0} (next : Next A) (b c : LinkBytes) (h i : RequesterSide) (given : Result A ClientEnd) → EndsWith next b c h i given → NextFine next → IsByReplies given
+end_fine : {A : Type 0} (next : Next A) (b c : LinkBytes) (h i : RequesterSide) (given : Result A ClientEnd) → EndsWith next b c h i given → NextFine next → ResultCanFollowReplies given
 end_fine (Returns result) b c h i given (gives, same) fine = gives_fine given result gives fine
-end_fine {A} (Calls call) b c h i given (end, (is, gone)) fine = subst (λ (r : Result A ClientEnd). IsByReplies r) (sym is) (unanswered_fine call b c h i end gone)
+end_fine {A} (Calls call) b c h i given (end, (is, gone)) fine = subst (λ (r : Result A ClientEnd). ResultCanFollowReplies r) (sym is) (unanswered_fine call b c h i end gone)
 
 follows_fine : {A : Type 0} (request : List Outcome → Next A) (b c : LinkBytes) (h i : RequesterSide) (given : Result A ClientEnd) (f : Follows request b c h i given)
-    → RequestFine request → AreReplies (outcomes_in (followed_exchanges request b c h i given f).made) → IsByReplies given
+    → RequestFine request → AreReplies (outcomes_in (followed_exchanges request b c h i given f).made) → ResultCanFollowReplies given
 follows_fine request b c h i given f fine are =
     end_fine (request f.outcomes) f.between c f.side i given f.ends (fine f.outcomes (subst AreReplies (followed_outcomes request b c h i given f) are))
 
 -- ---- A file
 
-read_result_fine : (given result : Result (Unit {0}) ClientEnd) (next : Next (Unit {0})) → NextFine next → (given ≡ Err client.Memory) ⊎ (next ≡ Returns given) → IsByReplies given
-read_result_fine given result next fine (inl is) = subst (λ (r : Result (Unit {0}) ClientEnd). IsByReplies r) (sym is) tt
+read_result_fine : (given result : Result (Unit {0}) ClientEnd) (next : Next (Unit {0})) → NextFine next → (given ≡ Err client.Memory) ⊎ (next ≡ Returns given) → ResultCanFollowReplies given
+read_result_fine given result next fine (inl is) = subst (λ (r : Result (Unit {0}) ClientEnd). ResultCanFollowReplies r) (sym is) tt
 read_result_fine given result next fine (inr is) = subst (λ (n : Next (Unit {0})). NextFine n) is fine
 
 reading_end_fine : (uid gid : ℕ) (file : List ℕ) (s : ReadingAt) (left : List OpenRead) (b : LinkBytes) (h : RequesterSide) (taken taken' : Option (List ℕ)) (given : Result (Unit {0}) ClientEnd)
-    → EndsReading uid gid file s left b h taken taken' given → AreReplies s.outcomes → IsByReplies given
+    → EndsReading uid gid file s left b h taken taken' given → AreReplies s.outcomes → ResultCanFollowReplies given
 reading_end_fine uid gid file s left b h taken taken' given (EndsByReplies same is waits takes) are =
     read_result_fine given given (reading uid gid file s.outcomes) (file_fine uid gid file s.outcomes are) is
-reading_end_fine uid gid file s left b h taken taken' given (OutputFails is same waits takes) are = subst (λ (r : Result (Unit {0}) ClientEnd). IsByReplies r) (sym is) tt
+reading_end_fine uid gid file s left b h taken taken' given (OutputFails is same waits takes) are = subst (λ (r : Result (Unit {0}) ClientEnd). ResultCanFollowReplies r) (sym is) tt
 reading_end_fine uid gid file s left b h taken taken' given (NotAnswered call end alone is gone waits takes) are =
-    subst (λ (r : Result (Unit {0}) ClientEnd). IsByReplies r) (sym is) (unanswered_fine call s.bytes b s.side h end gone)
+    subst (λ (r : Result (Unit {0}) ClientEnd). ResultCanFollowReplies r) (sym is) (unanswered_fine call s.bytes b s.side h end gone)
 reading_end_fine uid gid file s left b h taken taken' given (NotSubmitted call end ahead is refused waits takes) are =
-    subst (λ (r : Result (Unit {0}) ClientEnd). IsByReplies r) (sym is) tt
+    subst (λ (r : Result (Unit {0}) ClientEnd). ResultCanFollowReplies r) (sym is) tt
 reading_end_fine uid gid file s left b h taken taken' given (OldestForgotten read end full is given_is forgets waits takes) are =
-    subst (λ (r : Result (Unit {0}) ClientEnd). IsByReplies r) (sym given_is) tt
+    subst (λ (r : Result (Unit {0}) ClientEnd). ResultCanFollowReplies r) (sym given_is) tt
 
 reads_fine : (uid gid : ℕ) (file : List ℕ) (b c : LinkBytes) (h i : RequesterSide) (taken taken' : Option (List ℕ)) (given : Result (Unit {0}) ClientEnd)
-    (f : ReadsFile uid gid file b c h i taken taken' given) → AreReplies (outcomes_in (read_exchanges uid gid file b c h i taken taken' given f).made) → IsByReplies given
+    (f : ReadsFile uid gid file b c h i taken taken' given) → AreReplies (outcomes_in (read_exchanges uid gid file b c h i taken taken' given f).made) → ResultCanFollowReplies given
 reads_fine uid gid file b c h i taken taken' given f are =
     reading_end_fine uid gid file f.last f.left c f.side taken taken' given f.ends (subst AreReplies (read_outcomes uid gid file b c h i taken taken' given f) are)
 
 writes_fine : (uid gid : ℕ) (dir name input : List ℕ) (b c : LinkBytes) (h i : RequesterSide) (result : Result (Unit {0}) ClientEnd)
     (w : Follows (writing uid gid dir name input) b c h i result ⊎ ((result ≡ Err client.InputFault) × ((c ≡ b) × (i ≡ h))))
-    → AreReplies (outcomes_in (write_exchanges_by uid gid dir name input b c h i result w).made) → IsByReplies result
+    → AreReplies (outcomes_in (write_exchanges_by uid gid dir name input b c h i result w).made) → ResultCanFollowReplies result
 writes_fine uid gid dir name input b c h i result (inl follows) are =
     follows_fine (writing uid gid dir name input) b c h i result follows (writing_fine uid gid dir name input) are
-writes_fine uid gid dir name input b c h i result (inr (is, same)) are = subst (λ (r : Result (Unit {0}) ClientEnd). IsByReplies r) (sym is) tt
+writes_fine uid gid dir name input b c h i result (inr (is, same)) are = subst (λ (r : Result (Unit {0}) ClientEnd). ResultCanFollowReplies r) (sym is) tt
 
 -- ---- Fault counts of two parts
 
@@ -111,7 +111,7 @@ counts_as A B s s' client.Memory counts = counts
 
 abbrev pub PartFine : {A : Type 0} (part : Part A) → Tells part → Type 0
 PartFine {A} part exchanges = (s s' : SessionAt) (result : Result A ClientEnd) (is : part s s' result) → AreReplies (outcomes_in (exchanges s s' result is).made)
-    → CountsFaults s s' result × IsByReplies result
+    → CountsFaults s s' result × ResultCanFollowReplies result
 
 same_counts : (s s' : SessionAt) → s' ≡ s → (s'.source_faults ≡ s.source_faults) × (s'.sink_faults ≡ s.sink_faults)
 same_counts s s' same = (ap (λ (x : SessionAt). x.source_faults) same, ap (λ (x : SessionAt). x.sink_faults) same)
@@ -119,7 +119,7 @@ same_counts s s' same = (ap (λ (x : SessionAt). x.source_faults) same, ap (λ (
 pub part_text : (text : List ℕ) → PartFine (Prints text) (tells_none (Prints text))
 part_text text s s' (Ok t) (same, is) are = (same_counts s s' same, tt)
 part_text text s s' (Err end) (same, is) are =
-    subst (λ (e : ClientEnd). CountsFaults {A = List ℕ} s s' (Err e) × IsByReplies {A = List ℕ} (Err e)) (sym is) (same_counts s s' same, tt)
+    subst (λ (e : ClientEnd). CountsFaults {A = List ℕ} s s' (Err e) × ResultCanFollowReplies {A = List ℕ} (Err e)) (sym is) (same_counts s s' same, tt)
 
 pub part_request : {A : Type 0} (reads : Outcome → Result A ClientEnd) (call : Call) → ReadsReplies reads → PartFine (Request reads call) (tells_request reads call)
 part_request reads call fine s s' result is are = (is.1, asks_fine reads call s.bytes s'.bytes s.requester s'.requester result is.0 fine are)
@@ -136,10 +136,10 @@ part_then first next exchanges later fine then s s' result (inl (value, (mid, (i
     (counts_then s mid s' value result one.0 two.0, two.1)
 part_then {A} {B} first next exchanges later fine then s s' result (inr (end, (is, same))) are =
     let one = fine s s' (Err end) is are in
-    subst (λ (r : Result B ClientEnd). CountsFaults s s' r × IsByReplies r) (sym same) (counts_as A B s s' end one.0, one.1)
+    subst (λ (r : Result B ClientEnd). CountsFaults s s' r × ResultCanFollowReplies r) (sym same) (counts_as A B s s' end one.0, one.1)
 
-fails_fine : {A : Type 0} (max : ℕ) (s s' : SessionAt) (result : Result A ClientEnd) → Fails (client.Budget max) s s' result → CountsFaults s s' result × IsByReplies result
-fails_fine {A} max s s' result (same, is) = subst (λ (r : Result A ClientEnd). CountsFaults s s' r × IsByReplies r) (sym is) (same_counts s s' same, tt)
+fails_fine : {A : Type 0} (max : ℕ) (s s' : SessionAt) (result : Result A ClientEnd) → Fails (client.Budget max) s s' result → CountsFaults s s' result × ResultCanFollowReplies result
+fails_fine {A} max s s' result (same, is) = subst (λ (r : Result A ClientEnd). CountsFaults s s' r × ResultCanFollowReplies r) (sym is) (same_counts s s' same, tt)
 
 within_fine : (above : Bool) (Above Within Is : Type 0) (exchanges : Within → Exchanges) → (Above → Is) → ((is : Within) → AreReplies (outcomes_in (exchanges is).made) → Is)
     → (is : MatchBool above Above Within) → AreReplies (outcomes_in (within_exchanges above Above Within exchanges is).made) → Is
@@ -149,13 +149,13 @@ within_fine false Above Within Is exchanges beyond within is are = within is are
 pub part_mounts : (uid gid : ℕ) (export : List ℕ) → PartFine (Mounts uid gid export) (tells_mounts uid gid export)
 part_mounts uid gid export s s' result is are =
     within_fine (nat_lt mount_path_max (length export)) (Fails (client.Budget mount_path_max) s s' result) (Request mnt_result (mnt_call uid gid export) s s' result)
-    (CountsFaults s s' result × IsByReplies result) (tells_request mnt_result (mnt_call uid gid export) s s' result)
+    (CountsFaults s s' result × ResultCanFollowReplies result) (tells_request mnt_result (mnt_call uid gid export) s s' result)
     (fails_fine mount_path_max s s' result) (part_request mnt_result (mnt_call uid gid export) mnt_fine s s' result) is are
 
 pub part_symlinks : (uid gid : ℕ) (dir name target : List ℕ) → PartFine (Symlinks uid gid dir name target) (tells_symlinks uid gid dir name target)
 part_symlinks uid gid dir name target s s' result is are =
     within_fine (nat_lt link_target_max (length target)) (Fails (client.Budget link_target_max) s s' result) (Request create_result (symlink_call uid gid dir name target) s s' result)
-    (CountsFaults s s' result × IsByReplies result) (tells_request create_result (symlink_call uid gid dir name target) s s' result)
+    (CountsFaults s s' result × ResultCanFollowReplies result) (tells_request create_result (symlink_call uid gid dir name target) s s' result)
     (fails_fine link_target_max s s' result) (part_request create_result (symlink_call uid gid dir name target) create_fine s s' result) is are
 
 pub part_finds : (uid gid : ℕ) (export path : List ℕ) → PartFine (Finds uid gid export path) (tells_finds uid gid export path)
@@ -170,13 +170,13 @@ part_finds_parent uid gid export path =
 
 -- ---- Parts that have no text
 
-silent_fine : (s s' : SessionAt) (done : Result (Unit {0}) ClientEnd) (text : Result (List ℕ) ClientEnd) → IsSilent done text → CountsFaults s s' done → IsByReplies done
-    → CountsFaults s s' text × IsByReplies text
+silent_fine : (s s' : SessionAt) (done : Result (Unit {0}) ClientEnd) (text : Result (List ℕ) ClientEnd) → IsSilent done text → CountsFaults s s' done → ResultCanFollowReplies done
+    → CountsFaults s s' text × ResultCanFollowReplies text
 silent_fine s s' (Ok done) (Ok text) silent counts fine = (counts, tt)
 silent_fine s s' (Ok done) (Err why) silent counts fine = absurd silent
 silent_fine s s' (Err end) (Ok text) silent counts fine = absurd silent
 silent_fine s s' (Err end) (Err why) silent counts fine =
-    subst (λ (e : ClientEnd). CountsFaults {A = List ℕ} s s' (Err e) × IsByReplies {A = List ℕ} (Err e)) (sym silent) (counts_as (Unit {0}) (List ℕ) s s' end counts, fine)
+    subst (λ (e : ClientEnd). CountsFaults {A = List ℕ} s s' (Err e) × ResultCanFollowReplies {A = List ℕ} (Err e)) (sym silent) (counts_as (Unit {0}) (List ℕ) s s' end counts, fine)
 
 pub part_reads_out : (uid gid : ℕ) (file : List ℕ) (out out' : SinkAt) → PartFine (ReadsOut uid gid file out out') (tells_reads_out uid gid file out out')
 part_reads_out uid gid file out out' s s' text (done, ((reads, counts), silent)) are =

@@ -34,7 +34,7 @@ use Rattle.nr_client.specs.Results.{mount_done, result_of_outcome}
 use Rattle.nr_client.specs.Walking.{object_in, object_result, parent_along, parent_from, parent_next, walk_from, walk_next}
 use Rattle.nr_client.specs.Writing.{FileWrite, after_write_reply, checked_write, created_file, created_handle, file_write, handle_or, next_write, piece_at, wcc_data_len, with_count, with_handle, write_call, write_end, write_result, writing}
 use Rattle.nr_client.specs.Writing.FileWrite.{Created, NotCreated, WriteEnds}
-use Rattle.nr_service_laws.specs.CommandEnds.{AreReplies, IsByReplies, IsOfReplies, IsReply}
+use Rattle.nr_service_laws.specs.CommandEnds.{AreReplies, ResultCanFollowReplies, CanFollowReplies, IsReplyOutcome}
 use Rattle.nr_service_laws.proofs.ReplyResults.{ReadsReplies, either_fine, mount_fine, nfs_fine, outcome_fine}
 
 -- ---- One call
@@ -58,7 +58,7 @@ remove_fine = nfs_reads_fine wcc_data_codec wcc_data_codec
 pub create_fine : ReadsReplies create_result
 create_fine = nfs_reads_fine create_ok_codec wcc_data_codec
 
-handle_fine : (r : Result MountOk ClientEnd) → IsByReplies r → IsByReplies (handle_of r)
+handle_fine : (r : Result MountOk ClientEnd) → ResultCanFollowReplies r → ResultCanFollowReplies (handle_of r)
 handle_fine (Ok results) fine = tt
 handle_fine (Err end) fine = fine
 
@@ -71,12 +71,12 @@ mnt_fine outcome is =
 
 abbrev pub NextFine : {A : Type 0} → Next A → Type 0
 NextFine (Calls call) = Unit {0}
-NextFine (Returns result) = IsByReplies result
+NextFine (Returns result) = ResultCanFollowReplies result
 
 abbrev pub RequestFine : {A : Type 0} → (List Outcome → Next A) → Type 0
 RequestFine request = (outcomes : List Outcome) → AreReplies outcomes → NextFine (request outcomes)
 
-go_on_fine : {A B : Type 0} (r : Result B ClientEnd) (next : B → Next A) → IsByReplies r → ((value : B) → NextFine (next value)) → NextFine (go_on r next)
+go_on_fine : {A B : Type 0} (r : Result B ClientEnd) (next : B → Next A) → ResultCanFollowReplies r → ((value : B) → NextFine (next value)) → NextFine (go_on r next)
 go_on_fine (Ok value) next fine goes = goes value
 go_on_fine (Err end) next fine goes = fine
 
@@ -84,7 +84,7 @@ either_next : {A : Type 0} (b : Bool) (x y : Next A) → NextFine x → NextFine
 either_next true x y f g = f
 either_next false x y f g = g
 
-object_fine : (r : Result LookupOk ClientEnd) → IsByReplies r → IsByReplies (object_in r)
+object_fine : (r : Result LookupOk ClientEnd) → ResultCanFollowReplies r → ResultCanFollowReplies (object_in r)
 object_fine (Ok found) fine = tt
 object_fine (Err end) fine = fine
 
@@ -106,11 +106,11 @@ parent_along_fine : (uid gid : ℕ) (dir : List ℕ) (at : ℕ) (names : List (L
 parent_along_fine uid gid dir at [] outcomes are = tt
 parent_along_fine uid gid dir at (name ∷ names) outcomes are = parent_from_fine uid gid dir name names outcomes are
 
-name_fine : (name : List ℕ) (r : Result (List (List ℕ)) ClientEnd) → IsByReplies r → IsByReplies (with_name name r)
+name_fine : (name : List ℕ) (r : Result (List (List ℕ)) ClientEnd) → ResultCanFollowReplies r → ResultCanFollowReplies (with_name name r)
 name_fine name (Ok names) fine = tt
 name_fine name (Err end) fine = fine
 
-names_fine : (components : List (ℕ × List ℕ)) → IsByReplies (names_in components)
+names_fine : (components : List (ℕ × List ℕ)) → ResultCanFollowReplies (names_in components)
 names_fine [] = tt
 names_fine (component ∷ rest) =
     either_fine (ltb component_max (length component.1)) (Err (client.BadPath component.0)) (with_name component.1 (names_in rest)) tt (name_fine component.1 (names_in rest) (names_fine rest))
@@ -126,11 +126,11 @@ parent_fine uid gid root path outcomes are =
 
 -- ---- A list
 
-listed_with_fine : (listed : _) (listing : ReaddirOk) (at : ℕ) → IsByReplies (listed_with listed listing at)
+listed_with_fine : (listed : _) (listing : ReaddirOk) (at : ℕ) → ResultCanFollowReplies (listed_with listed listing at)
 listed_with_fine listed listing at =
     either_fine (ltb entries_max (length (listed.names ++ map (λ (entry : Entry). entry.name) listing.entries))) _ _ tt (either_fine (is_stuck listing) _ _ tt tt)
 
-listed_or_fine : (listed : _) (at : ℕ) (r : Result ReaddirOk ClientEnd) → IsByReplies r → IsByReplies (listed_or listed at r)
+listed_or_fine : (listed : _) (at : ℕ) (r : Result ReaddirOk ClientEnd) → ResultCanFollowReplies r → ResultCanFollowReplies (listed_or listed at r)
 listed_or_fine listed at (Ok listing) fine = listed_with_fine listed listing at
 listed_or_fine listed at (Err end) fine = fine
 
@@ -149,22 +149,22 @@ list_fine uid gid dir = list_from_fine uid gid dir none_listed
 abbrev ReadFine : FileRead → Type 0
 ReadFine NothingKnown = Unit {0}
 ReadFine (SizeKnown size at bytes) = Unit {0}
-ReadFine (ReadEnds end bytes) = IsOfReplies end
+ReadFine (ReadEnds end bytes) = CanFollowReplies end
 
-size_fine : (r : Result Attributes ClientEnd) → IsByReplies r → ReadFine (with_size r)
+size_fine : (r : Result Attributes ClientEnd) → ResultCanFollowReplies r → ReadFine (with_size r)
 size_fine (Ok attributes) fine = tt
 size_fine (Err end) fine = fine
 
-data_fine : (size at : ℕ) (bytes : List ℕ) (r : Result ReadOk ClientEnd) → IsByReplies r → ReadFine (with_data size at bytes r)
+data_fine : (size at : ℕ) (bytes : List ℕ) (r : Result ReadOk ClientEnd) → ResultCanFollowReplies r → ReadFine (with_data size at bytes r)
 data_fine size at bytes (Ok results) fine = tt
 data_fine size at bytes (Err end) fine = fine
 
-checked_fine : (count results_at : ℕ) (r : Result ReadOk ClientEnd) → IsByReplies r → IsByReplies (checked_read count results_at r)
+checked_fine : (count results_at : ℕ) (r : Result ReadOk ClientEnd) → ResultCanFollowReplies r → ResultCanFollowReplies (checked_read count results_at r)
 checked_fine count results_at (Ok results) fine =
     either_fine (is_bad_read count results) (Err (client.BadReply (results_at + (12 + post_op_attr_len results.attributes)) no_progress)) (Ok results) tt tt
 checked_fine count results_at (Err end) fine = fine
 
-one_read_fine : (file : FileRead) (outcome : Outcome) → IsReply outcome → ReadFine file → ReadFine (after_reply file outcome)
+one_read_fine : (file : FileRead) (outcome : Outcome) → IsReplyOutcome outcome → ReadFine file → ReadFine (after_reply file outcome)
 one_read_fine NothingKnown outcome is fine = size_fine (getattr_result outcome) (getattr_fine outcome is)
 one_read_fine (SizeKnown size at bytes) outcome is fine =
     data_fine size at bytes (read_result (piece_left size at) outcome)
@@ -190,30 +190,30 @@ file_fine uid gid file outcomes are = next_read_fine uid gid file (file_read out
 abbrev WriteFine : FileWrite → Type 0
 WriteFine NotCreated = Unit {0}
 WriteFine (Created file at) = Unit {0}
-WriteFine (WriteEnds end) = IsOfReplies end
+WriteFine (WriteEnds end) = CanFollowReplies end
 
-handle_or_fine : (results_at : ℕ) (object : Option (List ℕ)) → IsByReplies (handle_or results_at object)
+handle_or_fine : (results_at : ℕ) (object : Option (List ℕ)) → ResultCanFollowReplies (handle_or results_at object)
 handle_or_fine results_at (Some handle) = tt
 handle_or_fine results_at None = tt
 
-created_fine : (results_at : ℕ) (r : Result CreateOk ClientEnd) → IsByReplies r → IsByReplies (created_handle results_at r)
+created_fine : (results_at : ℕ) (r : Result CreateOk ClientEnd) → ResultCanFollowReplies r → ResultCanFollowReplies (created_handle results_at r)
 created_fine results_at (Ok results) fine = handle_or_fine results_at results.object
 created_fine results_at (Err end) fine = fine
 
-with_handle_fine : (r : Result (List ℕ) ClientEnd) → IsByReplies r → WriteFine (with_handle r)
+with_handle_fine : (r : Result (List ℕ) ClientEnd) → ResultCanFollowReplies r → WriteFine (with_handle r)
 with_handle_fine (Ok file) fine = tt
 with_handle_fine (Err end) fine = fine
 
-count_fine : (sent results_at : ℕ) (r : Result WriteOk ClientEnd) → IsByReplies r → IsByReplies (checked_write sent results_at r)
+count_fine : (sent results_at : ℕ) (r : Result WriteOk ClientEnd) → ResultCanFollowReplies r → ResultCanFollowReplies (checked_write sent results_at r)
 count_fine sent results_at (Ok results) fine =
     either_fine (results.count == 0 || nat_lt sent results.count) (Err (client.BadReply (results_at + (4 + wcc_data_len results.wcc)) no_progress)) (Ok results.count) tt tt
 count_fine sent results_at (Err end) fine = fine
 
-with_count_fine : (file : List ℕ) (at : ℕ) (r : Result ℕ ClientEnd) → IsByReplies r → WriteFine (with_count file at r)
+with_count_fine : (file : List ℕ) (at : ℕ) (r : Result ℕ ClientEnd) → ResultCanFollowReplies r → WriteFine (with_count file at r)
 with_count_fine file at (Ok count) fine = tt
 with_count_fine file at (Err end) fine = fine
 
-one_write_fine : (input : List ℕ) (file : FileWrite) (outcome : Outcome) → IsReply outcome → WriteFine file → WriteFine (after_write_reply input file outcome)
+one_write_fine : (input : List ℕ) (file : FileWrite) (outcome : Outcome) → IsReplyOutcome outcome → WriteFine file → WriteFine (after_write_reply input file outcome)
 one_write_fine input NotCreated outcome is fine =
     with_handle_fine (created_file outcome) (created_fine (results_offset outcome) (create_result outcome) (create_fine outcome is))
 one_write_fine input (Created file at) outcome is fine =

@@ -14,21 +14,21 @@ use Rattle.nr_reduce.specs.declared.call.Outcome.TheVariants as outcomes
 use Rattle.nr_client.specs.declared.client_end.ClientEnd.{ClientEnd}
 use Rattle.nr_client.specs.declared.client_end.ClientEnd.TheVariants as client
 use Rattle.nr_client.specs.Results.{Gives, mount_done, nfs_done, result_by_head, result_by_reading, result_of_outcome, results_in, results_or}
-use Rattle.nr_service_laws.specs.CommandEnds.{IsByReplies, IsReply}
+use Rattle.nr_service_laws.specs.CommandEnds.{ResultCanFollowReplies, IsReplyOutcome}
 
-pub either_fine : {A : Type 0} (b : Bool) (x y : Result A ClientEnd) → IsByReplies x → IsByReplies y → IsByReplies (cond b x y)
+pub either_fine : {A : Type 0} (b : Bool) (x y : Result A ClientEnd) → ResultCanFollowReplies x → ResultCanFollowReplies y → ResultCanFollowReplies (cond b x y)
 either_fine true x y f g = f
 either_fine false x y f g = g
 
-pub gives_fine : {A : Type 0} (given read : Result A ClientEnd) → Gives given read → IsByReplies read → IsByReplies given
+pub gives_fine : {A : Type 0} (given read : Result A ClientEnd) → Gives given read → ResultCanFollowReplies read → ResultCanFollowReplies given
 gives_fine (Ok value) read gives fine = tt
-gives_fine {A} (Err client.DialFault) read gives fine = subst (λ (r : Result A ClientEnd). IsByReplies r) gives fine
+gives_fine {A} (Err client.DialFault) read gives fine = subst (λ (r : Result A ClientEnd). ResultCanFollowReplies r) gives fine
 gives_fine (Err (client.Link end)) read gives fine = tt
 gives_fine (Err (client.Rpc kind code)) read gives fine = tt
 gives_fine (Err (client.Mount status)) read gives fine = tt
 gives_fine (Err (client.Nfs status)) read gives fine = tt
-gives_fine {A} (Err client.Chunk) read gives fine = subst (λ (r : Result A ClientEnd). IsByReplies r) gives fine
-gives_fine {A} (Err (client.Version low high)) read gives fine = subst (λ (r : Result A ClientEnd). IsByReplies r) gives fine
+gives_fine {A} (Err client.Chunk) read gives fine = subst (λ (r : Result A ClientEnd). ResultCanFollowReplies r) gives fine
+gives_fine {A} (Err (client.Version low high)) read gives fine = subst (λ (r : Result A ClientEnd). ResultCanFollowReplies r) gives fine
 gives_fine (Err (client.BadReply at reason)) read gives fine = tt
 gives_fine (Err (client.BadPath at)) read gives fine = tt
 gives_fine (Err client.InputFault) read gives fine = tt
@@ -38,13 +38,13 @@ gives_fine (Err client.Memory) read gives fine = tt
 
 -- a way to read outcomes gives no such end of replies
 abbrev pub ReadsReplies : {A : Type 0} → (Outcome → Result A ClientEnd) → Type 0
-ReadsReplies reads = (outcome : Outcome) → IsReply outcome → IsByReplies (reads outcome)
+ReadsReplies reads = (outcome : Outcome) → IsReplyOutcome outcome → ResultCanFollowReplies (reads outcome)
 
-results_fine : {A : Type 0} (r : Result A ℕ) → IsByReplies (results_or r)
+results_fine : {A : Type 0} (r : Result A ℕ) → ResultCanFollowReplies (results_or r)
 results_fine (Ok value) = tt
 results_fine (Err at) = tt
 
-head_fine : {A : Type 0} (codec : Codec A) (payload : List ℕ) (head : ReplyHead) → IsByReplies (result_by_head codec payload head)
+head_fine : {A : Type 0} (codec : Codec A) (payload : List ℕ) (head : ReplyHead) → ResultCanFollowReplies (result_by_head codec payload head)
 head_fine codec payload (heads.Accepted xid stat results_at) =
     either_fine (stat == 0) (results_or (results_in codec payload results_at)) (Err (client.Rpc Rattle.nr_client.specs.declared.client_end.RpcKind.TheVariants.Accept stat))
     (results_fine (results_in codec payload results_at)) tt
@@ -52,7 +52,7 @@ head_fine codec payload (heads.ProgMismatch xid low high) = tt
 head_fine codec payload (heads.RpcMismatch xid low high) = tt
 head_fine codec payload (heads.AuthError xid stat) = tt
 
-reading_fine : {A : Type 0} (codec : Codec A) (payload : List ℕ) (r : Result ReplyHead ℕ) → IsByReplies (result_by_reading codec payload r)
+reading_fine : {A : Type 0} (codec : Codec A) (payload : List ℕ) (r : Result ReplyHead ℕ) → ResultCanFollowReplies (result_by_reading codec payload r)
 reading_fine codec payload (Ok head) = head_fine codec payload head
 reading_fine codec payload (Err at) = tt
 
@@ -61,12 +61,12 @@ outcome_fine codec (outcomes.Reply payload) is = reading_fine codec payload (rep
 outcome_fine codec outcomes.Chunk is = absurd is
 outcome_fine codec (outcomes.Version low high) is = absurd is
 
-pub nfs_fine : {D F : Type 0} (r : Result (StatusUnion D F Status) ClientEnd) → IsByReplies r → IsByReplies (nfs_done r)
+pub nfs_fine : {D F : Type 0} (r : Result (StatusUnion D F Status) ClientEnd) → ResultCanFollowReplies r → ResultCanFollowReplies (nfs_done r)
 nfs_fine (Ok (Done results)) fine = tt
 nfs_fine (Ok (Failed status part)) fine = tt
 nfs_fine (Err end) fine = fine
 
-pub mount_fine : {D F : Type 0} (r : Result (StatusUnion D F MountStatus) ClientEnd) → IsByReplies r → IsByReplies (mount_done r)
+pub mount_fine : {D F : Type 0} (r : Result (StatusUnion D F MountStatus) ClientEnd) → ResultCanFollowReplies r → ResultCanFollowReplies (mount_done r)
 mount_fine (Ok (Done results)) fine = tt
 mount_fine (Ok (Failed status part)) fine = tt
 mount_fine (Err end) fine = fine

@@ -24,10 +24,10 @@ use Rattle.nr_laws.proofs.LaterMarks.{mark_later}
 use Rattle.nr_laws.proofs.Completed.{version_never}
 use Rattle.nr_commands.specs.Running.Runs.{NotOpened, Opened}
 use Rattle.nr_service_laws.specs.ClientMarks.{IsOwn}
-use Rattle.nr_service_laws.specs.CommandEnds.{AreReplies, IsReply}
-use Rattle.nr_service_laws.specs.CommandRuns.{outcomes_of}
-use Rattle.nr_service_laws.specs.ServedCommands.{IsServedBy, ServedClientsHaveReplies, ServedCommandsEndByReplies, client_marks, is_of_client}
-use Rattle.nr_service_laws.proofs.ReplyCommands.{commands_end_by_replies_lem}
+use Rattle.nr_service_laws.specs.CommandEnds.{AreReplies, IsReplyOutcome}
+use Rattle.nr_service_laws.specs.CommandRuns.{outcomes_handed_over}
+use Rattle.nr_service_laws.specs.ServedCommands.{IsClientSideOf, ServedClientsHaveReplies, ServedCommandsExcludeEnds, client_marks, is_client_mark}
+use Rattle.nr_service_laws.proofs.ReplyCommands.{replies_exclude_ends_lem}
 
 -- ---- The client's marks of a run of both sides
 
@@ -48,7 +48,7 @@ own_auto link l call forms.Long xid own = absurd own
 own_auto link l call (forms.Given offer) xid own = absurd own
 
 -- marks that are no client's are no outcomes
-others_none : (link : ℕ) (m : Mark) → is_of_client link m ≡ false → completed_at link m ≡ []
+others_none : (link : ℕ) (m : Mark) → is_client_mark link m ≡ false → completed_at link m ≡ []
 others_none link (marks.Wrote l side bytes) is = refl
 others_none link (marks.Fed l side bytes) is = refl
 others_none link (marks.Submit l call form answer) is = refl
@@ -67,9 +67,9 @@ kept_all {A} f p (m ∷ run) none = by (kept_all f p run none) (p m) refl
     by rest true is = ap (λ (l : List A). f m ++ l) rest ∙ ap (λ (b : Bool). flat_map f (cond b (m ∷ filter p run) (filter p run))) (sym is)
     by rest false is = ap (λ (l : List A). l ++ flat_map f run) (none m is) ∙ rest ∙ ap (λ (b : Bool). flat_map f (cond b (m ∷ filter p run) (filter p run))) (sym is)
 
-outcomes_kept : (link : ℕ) (both : List Mark) → outcomes_of link both ≡ outcomes_of link (client_marks link both)
+outcomes_kept : (link : ℕ) (both : List Mark) → outcomes_handed_over link both ≡ outcomes_handed_over link (client_marks link both)
 unfolding completed_calls
-outcomes_kept link both = ap (λ (l : List CompletedCall). map (λ (c : CompletedCall). c.outcome) l) (kept_all (completed_at link) (is_of_client link) both (λ m is. others_none link m is))
+outcomes_kept link both = ap (λ (l : List CompletedCall). map (λ (c : CompletedCall). c.outcome) l) (kept_all (completed_at link) (is_client_mark link) both (λ m is. others_none link m is))
 
 -- ---- Each outcome
 
@@ -77,11 +77,11 @@ auto_of : (link : ℕ) (both earlier later : List Mark) (call : Call) (form : Fo
     → both ≡ earlier ++ marks.Submit link call form (submissions.Accepted xid) ∷ later → form ≡ forms.Auto
 auto_of link both earlier later call form xid own is =
     own_auto link link call form xid
-    (kept_one (IsOwn link) (is_of_client link) earlier (marks.Submit link call form (submissions.Accepted xid)) later
+    (kept_one (IsOwn link) (is_client_mark link) earlier (marks.Submit link call form (submissions.Accepted xid)) later
     (subst (λ (r : List Mark). AllByRecursion (IsOwn link) (client_marks link r)) is own) (itself link))
 
 one_reply : (reply_to : List Entry → Moment → List ℕ → Option (List ℕ)) (adds : Moment → List ℕ → List ℕ → List Entry) (opened : LinkParameters) (link : ℕ) (run both : List Mark)
-    → AllByRecursion (IsOwn link) (client_marks link both) → IsServedBy reply_to adds opened link run both → (before : List Mark) (xid : ℕ) (outcome : Outcome) → MarkAt both before (marks.Done link xid outcome) → IsReply outcome
+    → AllByRecursion (IsOwn link) (client_marks link both) → IsClientSideOf reply_to adds opened link run both → (before : List Mark) (xid : ℕ) (outcome : Outcome) → MarkAt both before (marks.Done link xid outcome) → IsReplyOutcome outcome
 one_reply reply_to adds opened link run both own served before xid outcome at = by outcome at
   where
     no_chunk : (o : Outcome) → (reply : List ℕ) × (o ≡ outcomes.Reply reply) → o ≡ outcomes.Chunk → ⊥
@@ -102,13 +102,13 @@ one_reply reply_to adds opened link run both own served before xid outcome at = 
     caused (inl refused) there = planned refused.plan refused.has there
     caused (inr held) there = planned held.plan held.has there
 
-    by : (o : Outcome) → MarkAt both before (marks.Done link xid o) → IsReply o
+    by : (o : Outcome) → MarkAt both before (marks.Done link xid o) → IsReplyOutcome o
     by (outcomes.Reply payload) there = tt
     by outcomes.Chunk there = caused ((chunk_has_cause opened link both before xid outcomes.Chunk served.typed served.matched there).0 refl) there
     by (outcomes.Version low high) there = version_never opened link both before there.after xid low high served.typed served.matched there.is
 
 each_reply : (reply_to : List Entry → Moment → List ℕ → Option (List ℕ)) (adds : Moment → List ℕ → List ℕ → List Entry) (opened : LinkParameters) (link : ℕ) (run both : List Mark)
-    → AllByRecursion (IsOwn link) (client_marks link both) → IsServedBy reply_to adds opened link run both → (before rest : List Mark) → both ≡ before ++ rest → AreReplies (map (λ (c : CompletedCall). c.outcome) (flat_map (completed_at link) rest))
+    → AllByRecursion (IsOwn link) (client_marks link both) → IsClientSideOf reply_to adds opened link run both → (before rest : List Mark) → both ≡ before ++ rest → AreReplies (map (λ (c : CompletedCall). c.outcome) (flat_map (completed_at link) rest))
 each_reply reply_to adds opened link run both own served before [] is = tt
 each_reply reply_to adds opened link run both own served before (m ∷ rest) is = by m is (each_reply reply_to adds opened link run both own served (before ++ m ∷ []) rest (is ∙ sym (append_assoc before (m ∷ []) rest)))
   where
@@ -136,11 +136,11 @@ each_reply reply_to adds opened link run both own served before (m ∷ rest) is 
 pub served_clients_have_replies_lem : ServedClientsHaveReplies
 unfolding completed_calls
 served_clients_have_replies_lem reply_to adds opened link run both own served =
-    subst AreReplies (outcomes_kept link both ∙ ap (λ (r : List Mark). outcomes_of link r) served.client_side)
+    subst AreReplies (outcomes_kept link both ∙ ap (λ (r : List Mark). outcomes_handed_over link r) served.client_side)
     (each_reply reply_to adds opened link run both (subst (λ (r : List Mark). AllByRecursion (IsOwn link) r) (sym served.client_side) own) served [] both refl)
 
-pub served_commands_end_lem : ServedCommandsEndByReplies
+pub served_commands_end_lem : ServedCommandsExcludeEnds
 served_commands_end_lem opened link c before after input input' out out' result (NotOpened end is fails same_input same_out) = tt
 served_commands_end_lem opened link c before after input input' out out' result (Opened dialed s s' opens prints closes) = λ ran reply_to adds both served.
-    commands_end_by_replies_lem c before after input input' out out' result (Opened dialed s s' opens prints closes)
+    replies_exclude_ends_lem c before after input input' out out' result (Opened dialed s s' opens prints closes)
     (subst AreReplies ran.outcomes (served_clients_have_replies_lem reply_to adds opened link ran.run both ran.own served))

@@ -14,34 +14,34 @@ use Rattle.nr_commands.specs.Sessions.{CountsFaults}
 use Rattle.nr_service_laws.specs.Exchanges.{outcomes_in, tells_text}
 
 -- an outcome is a reply; each of these is
-abbrev pub IsReply : Outcome → Type 0
-IsReply (outcomes.Reply payload) = ⊤
-IsReply outcome = ⊥
+abbrev pub IsReplyOutcome : Outcome → Type 0
+IsReplyOutcome (outcomes.Reply payload) = ⊤
+IsReplyOutcome outcome = ⊥
 
 abbrev pub AreReplies : List Outcome → Type 0
 AreReplies [] = ⊤
-AreReplies (outcome ∷ later) = IsReply outcome × AreReplies later
+AreReplies (outcome ∷ later) = IsReplyOutcome outcome × AreReplies later
 
 -- no end of a command for ERR_CHUNK, for another version, or of a dialer
-abbrev pub IsOfReplies : ClientEnd → Type 0
-IsOfReplies client.DialFault = ⊥
-IsOfReplies client.Chunk = ⊥
-IsOfReplies (client.Version low high) = ⊥
-IsOfReplies end = ⊤
+abbrev pub CanFollowReplies : ClientEnd → Type 0
+CanFollowReplies client.DialFault = ⊥
+CanFollowReplies client.Chunk = ⊥
+CanFollowReplies (client.Version low high) = ⊥
+CanFollowReplies end = ⊤
 
-abbrev pub IsByReplies : {A : Type 0} → Result A ClientEnd → Type 0
-IsByReplies (Ok value) = ⊤
-IsByReplies (Err end) = IsOfReplies end
+abbrev pub ResultCanFollowReplies : {A : Type 0} → Result A ClientEnd → Type 0
+ResultCanFollowReplies (Ok value) = ⊤
+ResultCanFollowReplies (Err end) = CanFollowReplies end
 
 -- If all outcomes that a command handed over are replies, it ends by them, and the fault counts of its link rise only if it has no answer for that.
-abbrev pub RepliesGiveEnd : (c : Client Text) (before after : DialerAt) (input input' : SourceAt) (out out' : SinkAt) (result : Result (Unit {0}) ClientEnd)
+abbrev pub ExcludesEnds : (c : Client Text) (before after : DialerAt) (input input' : SourceAt) (out out' : SinkAt) (result : Result (Unit {0}) ClientEnd)
     → Runs c before after input input' out out' result → Type 0
-RepliesGiveEnd c before after input input' out out' result (NotOpened end is fails same_input same_out) = ⊤
-RepliesGiveEnd c before after input input' out out' result (Opened dialed s s' opens prints closes) =
+ExcludesEnds c before after input input' out out' result (NotOpened end is fails same_input same_out) = ⊤
+ExcludesEnds c before after input input' out out' result (Opened dialed s s' opens prints closes) =
     AreReplies (outcomes_in (tells_text c.uid c.gid c.export c.action input input' out prints.written s s' prints.text prints.made).made) →
-    CountsFaults s s' result × IsByReplies result
+    CountsFaults s s' result × ResultCanFollowReplies result
 
-abbrev pub CommandsEndByReplies : Type 0
-CommandsEndByReplies =
+abbrev pub RepliesExcludeEnds : Type 0
+RepliesExcludeEnds =
     (c : Client Text) (before after : DialerAt) (input input' : SourceAt) (out out' : SinkAt) (result : Result (Unit {0}) ClientEnd)
-    (runs : Runs c before after input input' out out' result) → RepliesGiveEnd c before after input input' out out' result runs
+    (runs : Runs c before after input input' out out' result) → ExcludesEnds c before after input input' out out' result runs

@@ -32,11 +32,11 @@ AreThen known known' bytes = IfSome known (λ nothing. known' ≡ Some bytes)
 abbrev pub calls_of : ℕ → List Mark → List Call
 calls_of link run = map (λ (a : AcceptedCall). a.call) (accepted_calls link run)
 
-abbrev pub outcomes_of : ℕ → List Mark → List Outcome
-outcomes_of link run = map (λ (c : CompletedCall). c.outcome) (completed_calls link run)
+abbrev pub outcomes_handed_over : ℕ → List Mark → List Outcome
+outcomes_handed_over link run = map (λ (c : CompletedCall). c.outcome) (completed_calls link run)
 
 -- One run of a link has all that a command did over a session, from its opening to the moment at which its link was hung up.
-pub record IsRunOf (opened : LinkParameters) (link : ℕ) (s s' : SessionAt) (log log' : Option LinkLog) (result : Result (Unit {0}) ClientEnd) (exchanges : Exchanges) : Type 0 where
+pub record IsCommandRun (opened : LinkParameters) (link : ℕ) (s s' : SessionAt) (log log' : Option LinkLog) (result : Result (Unit {0}) ClientEnd) (exchanges : Exchanges) : Type 0 where
   pub run : List Mark
   -- It is a run of the client's side alone. The client keeps its law and the last grant.
   pub own : AllByRecursion (IsOwn link) run
@@ -50,7 +50,7 @@ pub record IsRunOf (opened : LinkParameters) (link : ℕ) (s s' : SessionAt) (lo
   -- its calls are submitted, handed over and forgotten as the requests say, in their order
   pub marks_are : AreMarksOf link exchanges.made (without_bytes run)
   pub calls : calls_of link run ≡ calls_in exchanges.made
-  pub outcomes : outcomes_of link run ≡ outcomes_in exchanges.made
+  pub outcomes : outcomes_handed_over link run ≡ outcomes_in exchanges.made
   -- The bytes of its marks are those of the link that was hung up. Bytes that were read are fed in no mark only if memory ran out for a frame.
   pub ahead : List ℕ
   pub given : AreThen s.bytes.given s'.bytes.given (bytes_received link Initiator run ++ ahead)
@@ -65,7 +65,7 @@ abbrev pub HasRun : LinkParameters → ℕ → (c : Client Text) (before after :
     → Runs c before after input input' out out' result → Type 0
 HasRun opened link c before after input input' out out' result (NotOpened end is fails same_input same_out) = ⊤
 HasRun opened link c before after input input' out out' result (Opened dialed s s' opens prints closes) =
-    IsRunOf opened link s s' dialed.ended after.ended result
+    IsCommandRun opened link s s' dialed.ended after.ended result
     (tells_text c.uid c.gid c.export c.action input input' out prints.written s s' prints.text prints.made)
 
 -- A client that opened a session is opened with these first numbers and that wish, whatever its server is opened with.

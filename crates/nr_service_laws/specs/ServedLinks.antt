@@ -20,24 +20,24 @@ use Rattle.nr_client.specs.Dialing.{DialerAt}
 use Rattle.nr_commands.specs.Running.{Runs}
 use Rattle.nr_commands.specs.Running.Runs.{NotOpened, Opened}
 use Rattle.nr_service_laws.specs.ClientMarks.{IsOwn}
-use Rattle.nr_service_laws.specs.CommandRuns.{IsRunOf}
+use Rattle.nr_service_laws.specs.CommandRuns.{IsCommandRun}
 use Rattle.nr_service_laws.specs.Exchanges.{tells_text}
-use Rattle.nr_service_laws.specs.ServedCommands.{IsServedBy}
+use Rattle.nr_service_laws.specs.ServedCommands.{IsClientSideOf}
 
 -- If both sides of the link also keep their laws with each Wrote in full, the client's side of these marks has not ended.
 abbrev pub ServedClientsStayOpen : Type 0
 ServedClientsStayOpen =
     (reply_to : List Entry → Moment → List ℕ → Option (List ℕ)) (adds : Moment → List ℕ → List ℕ → List Entry) (opened : LinkParameters) (link : ℕ) (run both : List Mark) →
-    IsOpened opened → AllByRecursion (IsOwn link) run → IsServedBy reply_to adds opened link run both → KeepLaws opened link both → end_of_side opened link Initiator run ≡ None
+    IsOpened opened → AllByRecursion (IsOwn link) run → IsClientSideOf reply_to adds opened link run both → KeepLaws opened link both → end_of_side opened link Initiator run ≡ None
 
 -- So the requester of a command over such a link has not ended when the link is hung up, unless memory ran out for a frame.
 abbrev pub EndsOpen : (opened : LinkParameters) (link : ℕ) (c : Client Text) (before after : DialerAt) (input input' : SourceAt) (out out' : SinkAt) (result : Result (Unit {0}) ClientEnd)
     → (runs : Runs c before after input input' out out' result) → Type 0
 EndsOpen opened link c before after input input' out out' result (NotOpened end is fails same_input same_out) = ⊤
 EndsOpen opened link c before after input input' out out' result (Opened dialed s s' opens prints closes) =
-    (ran : IsRunOf opened link s s' dialed.ended after.ended result (tells_text c.uid c.gid c.export c.action input input' out prints.written s s' prints.text prints.made)) →
+    (ran : IsCommandRun opened link s s' dialed.ended after.ended result (tells_text c.uid c.gid c.export c.action input input' out prints.written s s' prints.text prints.made)) →
     (reply_to : List Entry → Moment → List ℕ → Option (List ℕ)) (adds : Moment → List ℕ → List ℕ → List Entry) (both : List Mark) →
-    IsOpened opened → IsServedBy reply_to adds opened link ran.run both → KeepLaws opened link both →
+    IsOpened opened → IsClientSideOf reply_to adds opened link ran.run both → KeepLaws opened link both →
     (s'.requester.state.side.ended ≡ None) ⊎ (result ≡ Err (client.Link (calls.Ended ends.Memory)))
 
 abbrev pub ServedCommandsStayOpen : Type 0

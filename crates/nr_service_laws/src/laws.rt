@@ -1,17 +1,17 @@
 //! Laws of sessions and of commands.
 
-ghost use Rattle.nr_service_laws.specs.CommandEnds.{CommandsEndByReplies};
+ghost use Rattle.nr_service_laws.specs.CommandEnds.{RepliesExcludeEnds};
 ghost use Rattle.nr_service_laws.specs.CommandRuns.{CommandsHaveARun};
-ghost use Rattle.nr_service_laws.specs.ServedCommands.{ServedClientsHaveReplies, ServedCommandsEndByReplies};
+ghost use Rattle.nr_service_laws.specs.ServedCommands.{ServedClientsHaveReplies, ServedCommandsExcludeEnds};
 ghost use Rattle.nr_service_laws.specs.ServedLinks.{ServedClientsStayOpen, ServedCommandsStayOpen};
 ghost use Rattle.nr_service_laws.specs.SessionMarks.{AsksHaveMarks, FollowsHaveMarks, FollowsOutcomes, MarksGoOn, ReadsHaveMarks, ReadsInOrder, SessionsBegin, WritesHaveMarks};
 
-/// A session that was opened stands for no marks, whatever its server is opened with.
+/// A session that was opened stands for the empty list of marks, whatever its server is opened with.
 pub fn sessions_begin()
     ensures { SessionsBegin }
 {}
 
-/// Each request of a session makes marks more of its link, whatever marks its requester stood for: its calls are submitted and their outcomes handed
+/// Each request of a session adds marks to those of its link, whatever marks its requester stood for: its calls are submitted and their outcomes handed
 /// over in the order of the request, bytes move between, and the client keeps its law and the last grant. So do two requests, one after the other.
 pub fn requests_have_marks<A, B>()
     ensures asks { AsksHaveMarks A }
@@ -33,18 +33,18 @@ pub fn commands_have_a_run()
     ensures { CommandsHaveARun }
 {}
 
-/// A command that opened a session, and to each of whose calls that was answered the answer is a reply, ends by what these replies say or for
-/// another reason, but not for ERR_CHUNK (RFC 8166 section 4.5.3), for another version or for its dialer. The fault counts of its link rise only
-/// if a call has no answer for that.
-pub fn commands_end_by_replies()
-    ensures { CommandsEndByReplies }
+/// A command that opened a session, and each outcome of which is a reply, ends neither for ERR_CHUNK (RFC 8166 section 4.5.3) nor for ERR_VERS
+/// (section 4.5.1) nor for its dialer. The fault counts of its link rise if and only if a call has no answer for that.
+pub fn replies_exclude_ends()
+    ensures { RepliesExcludeEnds }
 {}
 
-/// If the run of a command is the client's side of a matched link (RFC 8166), whose calls are answered as a plain server answers, each outcome that
-/// the command handed over is a reply. So the command ends by these replies or for another reason, but not for ERR_CHUNK or for another version.
-pub fn served_commands_end_by_replies()
+/// If the run of a command is the client's side of a link that is matched so far (`MatchedSoFar` of nr_laws), whose calls are answered as a plain
+/// server answers within the limits of replies, each outcome that the command handed over is a reply. So the command ends neither for ERR_CHUNK nor
+/// for ERR_VERS.
+pub fn served_commands_have_replies()
     ensures outcomes { ServedClientsHaveReplies }
-    ensures ends { ServedCommandsEndByReplies }
+    ensures ends { ServedCommandsExcludeEnds }
 {}
 
 /// If both sides of such a link keep their laws with each Wrote in full, the client's side of it has not ended, nor has the requester of the command

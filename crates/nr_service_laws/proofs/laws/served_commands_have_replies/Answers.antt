@@ -1,5 +1,5 @@
 use Rattle.nr_service_laws.proofs.ServedOutcomes.{served_clients_have_replies_lem, served_commands_end_lem}
-use Rattle.nr_service_laws.proofs.laws.served_commands_end_by_replies.Goals as goal
+use Rattle.nr_service_laws.proofs.laws.served_commands_have_replies.Goals as goal
 
 pub returns-clause-outcomes : goal.returns-clause-outcomes
 returns-clause-outcomes c = served_clients_have_replies_lem
