@@ -7,11 +7,12 @@ use Rattle.nr_header.specs.declared.fault.HeaderFault.{HeaderFault}
 use Rattle.nr_header.specs.declared.fault.HeaderFault.TheVariants.{BadChunks}
 use Rattle.nr_header.specs.declared.header.Body.{Body}
 use Rattle.nr_header.specs.declared.header.ChunkLists.{ChunkLists}
-use Rattle.nr_header.specs.declared.reading.Found.{Found}
-use Rattle.nr_header.specs.private.ListsRead.{body_of, MatchesBody}
+use Rattle.nr_header.specs.declared.header.MessageKind.{MessageKind}
+use Rattle.nr_header.specs.ReadInto.{body_with}
+use Rattle.nr_header.specs.private.ListsRead.{MatchesBody}
 use Rattle.nr_header.specs.Reading.{in_lists}
 
-pub body_is : (lists : ChunkLists) (r : Result Found DecodeError) (answer : Result Found HeaderFault) (read : Result Body ℕ) → MatchesValue (λ f. body_of f lists) r read
+pub body_is : (lists : ChunkLists) (r : Result MessageKind DecodeError) (answer : Result MessageKind HeaderFault) (read : Result Body ℕ) → MatchesValue (λ f. body_with f lists) r read
     → MatchResult r (λ found. answer ≡ Ok found) (λ error. answer ≡ Err (BadChunks error.at)) → MatchesBody lists answer (in_lists read)
 body_is lists (Ok found) answer read h is = rw (is, h) refl
 body_is lists (Err error) answer read h is = rw (is, h) refl

@@ -7,7 +7,10 @@ use Rattle.nr_header.specs.declared.fault.HeaderFault.{HeaderFault}
 use Rattle.nr_header.specs.declared.header.Body.{Body}
 use Rattle.nr_header.specs.declared.header.Body.TheVariants.{Msg, Nomsg, ErrVers, ErrChunk}
 use Rattle.nr_header.specs.declared.header.Header.{Header}
+use Rattle.nr_header.specs.declared.header.ChunkLists.{ChunkLists}
+use Rattle.nr_header.specs.declared.header.HeaderFields.{HeaderFields}
 use Rattle.nr_header.specs.Reading.{header_of}
+use Rattle.nr_header.specs.ReadInto.{body_with, with_lists}
 use Rattle.nr_header.specs.WithinLimits.{CanRead, StreamAt, IsMessage, StreamWithin, stream_after}
 use Rattle.nr_header.proofs.Messages.{header_is_found}
 
@@ -36,3 +39,12 @@ limits_kept bytes (Ok h) fits is =
     let m : IsMessage h bytes = header_is_found bytes (Ok h) fits is in
     kept h.body _ m.stream bytes m.parts m.place m.can
 limits_kept bytes (Err fault) fits is = tt
+
+-- The same of a header whose lists were read into a room.
+pub stream_within_room : (bytes : List ℕ) (lists : ChunkLists) (r : Result HeaderFields HeaderFault) → IsBytes bytes → with_lists lists r ≡ header_of bytes → IfOk r (λ f. StreamWithin (body_with f.kind lists) (length bytes))
+stream_within_room bytes lists (Ok f) fits is = stream_within bytes (with_lists lists (Ok f)) fits is
+stream_within_room bytes lists (Err fault) fits is = tt
+
+pub limits_kept_in_room : (bytes : List ℕ) (lists : ChunkLists) (r : Result HeaderFields HeaderFault) → IsBytes bytes → with_lists lists r ≡ header_of bytes → IfOk r (λ f. CanRead (body_with f.kind lists) (stream_after (body_with f.kind lists) bytes))
+limits_kept_in_room bytes lists (Ok f) fits is = limits_kept bytes (with_lists lists (Ok f)) fits is
+limits_kept_in_room bytes lists (Err fault) fits is = tt

@@ -7,3 +7,4 @@ pub mod Reading
 pub mod Kinds
 pub mod Length
 pub mod private
+pub mod ReadInto

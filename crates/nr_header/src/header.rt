@@ -134,6 +134,28 @@ pub enum TransportError {
     Chunk,
 }
 
+/// What a message has after its fixed words (RFC 8166 section 4.2), but for its lists, which were read into a room.
+#[derive(Clone, Copy, Debug, PartialEq, Eq)]
+pub enum MessageKind {
+    /// RDMA_MSG: the stream follows the header, from the offset `stream_at` of the message on.
+    Msg { stream_at: usize },
+    /// RDMA_NOMSG: the stream is in a chunk.
+    Nomsg,
+    /// RDMA_ERROR. `version` is the version word.
+    Error { version: u32, error: TransportError },
+}
+
+/// A transport header that was read, but for its lists (RFC 8166 section 4.2).
+#[derive(Clone, Copy, Debug, PartialEq, Eq)]
+pub struct HeaderFields {
+    /// The transaction ID, that of the RPC message.
+    pub xid: u32,
+    /// The number of credits that a requester asks for or a responder grants.
+    pub credit: u32,
+    /// What the message is, and where its stream begins.
+    pub kind: MessageKind,
+}
+
 /// A transport header (RFC 8166 section 4.2).
 #[derive(Drop)]
 pub struct Header {

@@ -26,11 +26,12 @@ pub use constants::{
 };
 pub use fault::HeaderFault;
 pub use header::{
-    Body, Chunk, ChunkLists, Header, ListSlices, RdmaSegment, ReadList, ReadSegment,
-    TransportError, WriteList,
+    Body, Chunk, ChunkLists, Header, HeaderFields, ListSlices, MessageKind, RdmaSegment, ReadList,
+    ReadSegment, TransportError, WriteList,
 };
 pub use inline_vec::InlineVec;
 pub use laws::{bad_messages, header_round_trip, kinds_of_messages, lengths_of_headers};
 pub use length::{header_len, read_list_len, reply_chunk_len, write_chunk_len};
-pub use reading::{credit_of, read_header, xid_of};
+pub use lists::ListsRoom;
+pub use reading::{credit_of, read_header, read_header_into, xid_of};
 pub use writing::{write_error, write_header, write_plain, write_with_lists, write_with_slices};

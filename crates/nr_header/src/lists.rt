@@ -5,15 +5,17 @@ ghost use Rattle.nr_header.specs.WithinLimits.{read_total};
 ghost use Rattle.nr_xdr.specs.Matching.{MatchesRead};
 ghost use Rattle.nr_header.specs.Reading.{optional_at, lists_after, is_allowed, other_position, entry_at, read_list_at, segments_at, chunk_at, write_list_at, reply_chunk_at, lists_at};
 ghost use Rattle.nr_header.specs.private.ListsRead.{lists_of, nothing_read};
+ghost use Rattle.nr_header.specs.ReadInto.{no_lists};
 
 use crate::constants::{
     CHUNK_ROOM, CHUNK_SEGMENTS_MAX, READ_SEGMENTS_MAX, REPLY_SEGMENTS_MAX, WRITE_CHUNKS_MAX,
 };
-use crate::header::{Chunk, ChunkLists, RdmaSegment, ReadSegment};
+use crate::header::{Chunk, ChunkLists, ListSlices, RdmaSegment, ReadSegment};
 use crate::inline_vec::InlineVec;
 use crate::item::{end, more, segment};
 use crate::short_list::ShortList;
 use nr_xdr::{DecodeError, Reader, number};
+use std::marker::Model;
 
 /// Whether an entry may have this position, if `seen` is the position other than 0 among the entries before it.
 fn is_allowed(zero_allowed: bool, seen: u32, position: u32) -> bool
@@ -187,6 +189,46 @@ impl ListsRead {
             write: InlineVec::from_list(self.write),
             reply: self.reply,
         }
+    }
+}
+
+/// Room for the lists of a header, which are read into it and are not moved. It takes no memory. Contracts see the lists that are in it.
+#[derive(Drop)]
+pub struct ListsRoom {
+    pub(crate) held: ListsRead,
+}
+
+impl Model for ListsRoom {
+    ghost use Rattle.nr_header.specs.declared.header.ChunkLists.{ChunkLists};
+
+    ghost Value = { ChunkLists };
+
+    ghost use Rattle.nr_header.specs.private.ListsRead.{lists_of};
+
+    ghost view = { λ r. lists_of r.held };
+}
+
+impl ListsRoom {
+    ghost use Rattle.nr_header.specs.Slices.{lists_of_slices};
+
+    /// Room without a list in it.
+    pub fn new() -> ListsRoom
+        ensures { result ≡ no_lists }
+    {
+        ListsRoom {
+            held: ListsRead::new(),
+        }
+    }
+
+    /// The lists, borrowed.
+    pub fn as_slices(&self) -> ListSlices<'_>
+        ensures { lists_of_slices result ≡ self.now }
+    {
+        ListSlices::new(
+            self.held.read.as_slice(),
+            self.held.write.as_slice(),
+            &self.held.reply,
+        )
     }
 }
 

@@ -7,14 +7,15 @@ ghost use Rattle.nr_xdr.specs.Fields.{word_at};
 ghost use Rattle.nr_xdr.specs.Matching.{MatchesValue};
 ghost use Rattle.nr_header.specs.Reading.{sums_pass, msg_body, nomsg_body, msg_at, nomsg_at, error_of, error_by, version1_of, body_by, in_lists, header_of};
 ghost use Rattle.nr_header.specs.Header.{error_body};
-ghost use Rattle.nr_header.specs.private.ListsRead.{lists_of, nothing_read, body_of, MatchesBody};
+ghost use Rattle.nr_header.specs.private.ListsRead.{lists_of, nothing_read, MatchesBody};
+ghost use Rattle.nr_header.specs.ReadInto.{no_lists, body_with, with_lists, lists_in};
 
 use crate::constants::{
     ERR_CHUNK, ERR_VERS, ERROR, FIXED_LEN, MSG, NOMSG, PAYLOAD_MAX, VERSION, WRITE_SEGMENTS_MAX,
 };
 use crate::fault::HeaderFault;
-use crate::header::{Body, Chunk, Header, ReadSegment, TransportError};
-use crate::lists::{ListsRead, lists};
+use crate::header::{Body, Chunk, Header, HeaderFields, MessageKind, ReadSegment, TransportError};
+use crate::lists::{ListsRead, ListsRoom, lists};
 use nr_xdr::{DecodeError, Reader, word_at};
 
 /// Whether the chunks together have more segments than the limit.
@@ -56,17 +57,6 @@ fn sums_pass(room: &ListsRead, stream: usize) -> bool
     passes_segments(room.write.as_slice()) || passes_payload(room.read.as_slice(), stream)
 }
 
-/// What a message has after its fixed words, but for its lists.
-#[derive(Clone, Copy)]
-enum Found {
-    /// RDMA_MSG: its stream begins at this offset.
-    Msg { stream_at: usize },
-    /// RDMA_NOMSG.
-    Nomsg,
-    /// An error, with the version word.
-    Error { version: u32, error: TransportError },
-}
-
 /// A complete error message: its code is one of two, and it has exactly the bytes of that code.
 fn whole_error(bytes: &[u8]) -> Option<TransportError>
     ensures { option_map (error_body (word_at 4 bytes.now)) result ≡ error_of bytes.now }
@@ -82,47 +72,47 @@ fn whole_error(bytes: &[u8]) -> Option<TransportError>
 }
 
 /// RDMA_MSG with these lists, which end at `at` with `left` bytes after them.
-fn msg_found(room: &ListsRead, at: usize, left: usize) -> Result<Found, DecodeError>
-    ensures { MatchesValue (λ f. body_of f (lists_of room.now)) result (msg_body (lists_of room.now) at left) }
+fn msg_found(room: &ListsRead, at: usize, left: usize) -> Result<MessageKind, DecodeError>
+    ensures { MatchesValue (λ f. body_with f (lists_of room.now)) result (msg_body (lists_of room.now) at left) }
 {
     if sums_pass(room, left) {
         return Err(DecodeError { at });
     }
-    Ok(Found::Msg { stream_at: at })
+    Ok(MessageKind::Msg { stream_at: at })
 }
 
 /// Reads what follows the fixed words of RDMA_MSG.
 #[tactic(auto, unfolding(crate::specs::Reading::msg_at))]
-fn msg(reader: &mut Reader<'_>, room: &mut ListsRead) -> Result<Found, DecodeError>
+fn msg(reader: &mut Reader<'_>, room: &mut ListsRead) -> Result<MessageKind, DecodeError>
     requires { room.old ≡ nothing_read }
-    ensures { MatchesValue (λ f. body_of f (lists_of room.new)) result (msg_at reader.old) }
+    ensures { MatchesValue (λ f. body_with f (lists_of room.new)) result (msg_at reader.old) }
 {
     lists(reader, false, room)?;
     msg_found(room, reader.at(), reader.rest().len())
 }
 
 /// RDMA_NOMSG with these lists, which end at `at` with `left` bytes after them.
-fn nomsg_found(room: &ListsRead, at: usize, left: usize) -> Result<Found, DecodeError>
-    ensures { MatchesValue (λ f. body_of f (lists_of room.now)) result (nomsg_body (lists_of room.now) at left) }
+fn nomsg_found(room: &ListsRead, at: usize, left: usize) -> Result<MessageKind, DecodeError>
+    ensures { MatchesValue (λ f. body_with f (lists_of room.now)) result (nomsg_body (lists_of room.now) at left) }
 {
     if sums_pass(room, 0) || left > 0 {
         return Err(DecodeError { at });
     }
-    Ok(Found::Nomsg)
+    Ok(MessageKind::Nomsg)
 }
 
 /// Reads what follows the fixed words of RDMA_NOMSG.
 #[tactic(auto, unfolding(crate::specs::Reading::nomsg_at))]
-fn nomsg(reader: &mut Reader<'_>, room: &mut ListsRead) -> Result<Found, DecodeError>
+fn nomsg(reader: &mut Reader<'_>, room: &mut ListsRead) -> Result<MessageKind, DecodeError>
     requires { room.old ≡ nothing_read }
-    ensures { MatchesValue (λ f. body_of f (lists_of room.new)) result (nomsg_at reader.old) }
+    ensures { MatchesValue (λ f. body_with f (lists_of room.new)) result (nomsg_at reader.old) }
 {
     lists(reader, true, room)?;
     nomsg_found(room, reader.at(), reader.rest().len())
 }
 
 /// What was found; lists that fail are bad chunks.
-fn or_bad_chunks(found: Result<Found, DecodeError>) -> Result<Found, HeaderFault>
+fn or_bad_chunks(found: Result<MessageKind, DecodeError>) -> Result<MessageKind, HeaderFault>
     ensures { MatchResult found (λ read. result ≡ Ok read) (λ error. result ≡ Err (HeaderFault.BadChunks error.at)) }
 {
     match found {
@@ -138,7 +128,7 @@ fn version1(
     kind: u32,
     bytes: &[u8],
     room: &mut ListsRead,
-) -> Result<Found, HeaderFault>
+) -> Result<MessageKind, HeaderFault>
     requires after { reader.old ≡ record { place = FIXED_LEN; rest = drop FIXED_LEN bytes.now } }
     requires room { room.old ≡ nothing_read }
     ensures { MatchesBody (lists_of room.new) result (version1_of kind bytes.now) }
@@ -152,7 +142,11 @@ fn version1(
 
 /// Reads what follows the fixed words.
 #[tactic(auto, unfolding(crate::specs::Reading::body_by))]
-fn body(reader: &mut Reader<'_>, bytes: &[u8], room: &mut ListsRead) -> Result<Found, HeaderFault>
+fn body(
+    reader: &mut Reader<'_>,
+    bytes: &[u8],
+    room: &mut ListsRead,
+) -> Result<MessageKind, HeaderFault>
     requires fixed { FIXED_LEN ≤ length bytes.now }
     requires after { reader.old ≡ record { place = FIXED_LEN; rest = drop FIXED_LEN bytes.now } }
     requires room { room.old ≡ nothing_read }
@@ -161,7 +155,7 @@ fn body(reader: &mut Reader<'_>, bytes: &[u8], room: &mut ListsRead) -> Result<F
     let (version, kind) = (word_at(bytes, 4), word_at(bytes, 12));
     if kind == ERROR {
         if let Some(error) = whole_error(bytes) {
-            return Ok(Found::Error { version, error });
+            return Ok(MessageKind::Error { version, error });
         }
     }
     if version != VERSION {
@@ -171,18 +165,18 @@ fn body(reader: &mut Reader<'_>, bytes: &[u8], room: &mut ListsRead) -> Result<F
 }
 
 /// The body of what was found, with the lists that were read.
-fn body_of(found: Found, room: ListsRead) -> Body
-    ensures { result ≡ body_of found (lists_of room) }
+fn body_of(kind: MessageKind, room: ListsRead) -> Body
+    ensures { result ≡ body_with kind (lists_of room) }
 {
-    match found {
-        Found::Msg { stream_at } => Body::Msg {
+    match kind {
+        MessageKind::Msg { stream_at } => Body::Msg {
             lists: room.into_lists(),
             stream_at,
         },
-        Found::Nomsg => Body::Nomsg {
+        MessageKind::Nomsg => Body::Nomsg {
             lists: room.into_lists(),
         },
-        Found::Error { version, error } => error_body(version, error),
+        MessageKind::Error { version, error } => error_body(version, error),
     }
 }
 
@@ -196,21 +190,63 @@ fn error_body(version: u32, error: TransportError) -> Body
     }
 }
 
+/// Reads a message's header, but for its lists, which are put into a room.
 #[tactic(auto, unfolding(crate::specs::Reading::header_of, nr_xdr::specs::Reading::fixed_at, nr_xdr::specs::Reading::cursor_past, nr_xdr::specs::Item::pad_len))]
-fn read_header_inner(bytes: &[u8]) -> Result<Header, HeaderFault>
-    ensures is { result ≡ header_of bytes.now }
-    ensures words { IfOk result (λ header. (header.xid ≡ word_at 0 bytes.now) × (header.credit ≡ word_at 8 bytes.now)) }
+fn fields(bytes: &[u8], room: &mut ListsRead) -> Result<HeaderFields, HeaderFault>
+    requires room { room.old ≡ nothing_read }
+    ensures is { with_lists (lists_of room.new) result ≡ header_of bytes.now }
+    ensures words { IfOk result (λ fields. (fields.xid ≡ word_at 0 bytes.now) × (fields.credit ≡ word_at 8 bytes.now)) }
 {
     let mut reader = Reader::new(bytes);
     if reader.fixed(FIXED_LEN).is_err() {
         return Err(HeaderFault::Short);
     }
-    let mut room = ListsRead::new();
-    match body(&mut reader, bytes, &mut room) {
-        Ok(found) => Ok(Header {
+    match body(&mut reader, bytes, room) {
+        Ok(kind) => Ok(HeaderFields {
             xid: word_at(bytes, 0),
             credit: word_at(bytes, 8),
-            body: body_of(found, room),
+            kind,
+        }),
+        Err(fault) => Err(fault),
+    }
+}
+
+/// The same, with what the layers above need to know of it.
+fn fields_within(bytes: &[u8], room: &mut ListsRead) -> Result<HeaderFields, HeaderFault>
+    requires room { room.old ≡ nothing_read }
+    ensures is { with_lists (lists_of room.new) result ≡ header_of bytes.now }
+    ensures words { IfOk result (λ fields. (fields.xid ≡ word_at 0 bytes.now) × (fields.credit ≡ word_at 8 bytes.now)) }
+    ensures stream { IfOk result (λ fields. StreamWithin (body_with fields.kind (lists_of room.new)) (length bytes.now)) }
+    ensures limits { IfOk result (λ fields. CanRead (body_with fields.kind (lists_of room.new)) (stream_after (body_with fields.kind (lists_of room.new)) bytes.now)) }
+{
+    fields(bytes, room)
+}
+
+/// Reads a message's header as [`read_header`] does, and puts its lists into a room, in which they are not moved. After an
+/// `Err` the room may have some of the lists.
+pub fn read_header_into(bytes: &[u8], room: &mut ListsRoom) -> Result<HeaderFields, HeaderFault>
+    requires room { room.old ≡ no_lists }
+    ensures exact { with_lists room.new result ≡ header_of bytes.now }
+    // Its numbers are words of the message.
+    ensures words { IfOk result (λ fields. (fields.xid ≡ word_at 0 bytes.now) × (fields.credit ≡ word_at 8 bytes.now)) }
+    // Its stream lies within the message.
+    ensures stream { IfOk result (λ fields. StreamWithin (body_with fields.kind room.new) (length bytes.now)) }
+    // Its lists and its stream are within the limits; each segment ends at 2^64 or before.
+    ensures limits { IfOk result (λ fields. CanRead (body_with fields.kind room.new) (stream_after (body_with fields.kind room.new) bytes.now)) }
+{
+    fields_within(bytes, &mut room.held)
+}
+
+fn read_header_inner(bytes: &[u8]) -> Result<Header, HeaderFault>
+    ensures is { result ≡ header_of bytes.now }
+    ensures words { IfOk result (λ header. (header.xid ≡ word_at 0 bytes.now) × (header.credit ≡ word_at 8 bytes.now)) }
+{
+    let mut room = ListsRead::new();
+    match fields(bytes, &mut room) {
+        Ok(fields) => Ok(Header {
+            xid: fields.xid,
+            credit: fields.credit,
+            body: body_of(fields.kind, room),
         }),
         Err(fault) => Err(fault),
     }

@@ -1,11 +1,12 @@
 //! Whether the lists of a reply are those that its call offered (RFC 8166 section 3.4).
 
-ghost use Rattle.std.specs.Prelude.{◌≡◌, nat_le, ◌&&◌, ◌||◌, ◌==◌};
+ghost use Rattle.std.specs.Prelude.{◌≡◌, nat_le, ◌&&◌, ◌||◌, ◌==◌, option_map};
 ghost use Rattle.std.specs.List.{list_all};
 ghost use Rattle.nr_reduce.specs.Chunks.{are_empty, returns, returns_each, fills_first, returns_none, returns_stream, answers_offer};
+ghost use Rattle.nr_header.specs.Slices.{lists_of_slices};
 ghost use Rattle.nr_reduce.specs.CodeViews.{returns_one};
 
-use nr_header::{Chunk, ChunkLists, RdmaSegment};
+use nr_header::{Chunk, ListSlices, RdmaSegment};
 
 fn are_empty(chunk: &[RdmaSegment]) -> bool
     ensures { result ≡ are_empty chunk.now }
@@ -86,25 +87,25 @@ fn fills_first(chunks: &[Chunk]) -> bool
 }
 
 /// Whether the reply chunk of a reply with an inline stream is absent, or as offered and empty.
-fn returns_none(offered: &Option<Chunk>, back: &Option<Chunk>) -> bool
-    ensures { result ≡ returns_none offered.now back.now }
+fn returns_none(offered: Option<&[RdmaSegment]>, back: Option<&[RdmaSegment]>) -> bool
+    ensures { result ≡ returns_none (option_map (λ segments. segments.now) offered.entry) (option_map (λ segments. segments.now) back.entry) }
 {
     let back = match back {
         None => return true,
-        Some(back) => back.as_slice(),
+        Some(back) => back,
     };
     match offered {
         None => false,
-        Some(offered) => returns(offered.as_slice(), back) && are_empty(back),
+        Some(offered) => returns(offered, back) && are_empty(back),
     }
 }
 
 /// Whether the reply chunk of a reply whose stream is in it is as offered.
-fn returns_stream(offered: &Option<Chunk>, back: &Option<Chunk>) -> bool
-    ensures { result ≡ returns_stream offered.now back.now }
+fn returns_stream(offered: Option<&[RdmaSegment]>, back: Option<&[RdmaSegment]>) -> bool
+    ensures { result ≡ returns_stream (option_map (λ segments. segments.now) offered.entry) (option_map (λ segments. segments.now) back.entry) }
 {
     match (offered, back) {
-        (Some(offered), Some(back)) => returns(offered.as_slice(), back.as_slice()),
+        (Some(offered), Some(back)) => returns(offered, back),
         _ => false,
     }
 }
@@ -113,21 +114,20 @@ fn returns_stream(offered: &Option<Chunk>, back: &Option<Chunk>) -> bool
 /// filled from the front, those after the first empty; a reply chunk with the stream if `long`, else absent or empty.
 /// Takes no memory.
 #[tactic(auto, unfolding(crate::specs::Chunks::answers_offer))]
-pub fn answers_offer(long: bool, offered: &ChunkLists, back: &ChunkLists) -> bool
-    ensures { result ≡ answers_offer long offered.now back.now }
+pub fn answers_offer(long: bool, offered: ListSlices<'_>, back: ListSlices<'_>) -> bool
+    ensures { result ≡ answers_offer long (lists_of_slices offered.entry) (lists_of_slices back.entry) }
 {
     if !back.read.is_empty() {
         return false;
     }
-    let written = back.write.as_slice();
-    if !returns_each(offered.write.as_slice(), written) {
+    if !returns_each(offered.write, back.write) {
         return false;
     }
-    if !fills_first(written) {
+    if !fills_first(back.write) {
         return false;
     }
     if long {
-        return returns_stream(&offered.reply, &back.reply);
+        return returns_stream(offered.reply, back.reply);
     }
-    returns_none(&offered.reply, &back.reply)
+    returns_none(offered.reply, back.reply)
 }

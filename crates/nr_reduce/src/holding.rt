@@ -1,6 +1,7 @@
 //! How a reply is sent back (RFC 8166 section 3.5), or that its offer doesn't hold it.
 
 ghost use Rattle.std.specs.Prelude.{◌≡◌, ◌↔◌, ◌+◌, ◌≤◌, nat_le, length, option_map, IsTrue};
+ghost use Rattle.nr_header.specs.Slices.{lists_of_slices};
 ghost use Rattle.nr_reduce.specs.Items.{stream_of, moved_of};
 ghost use Rattle.nr_reduce.specs.Chunks.{chunk_total};
 ghost use Rattle.nr_reduce.specs.Holds.{answer_size, fits_reply, answer_for, Holds};
@@ -8,7 +9,7 @@ ghost use Rattle.nr_reduce.specs.CodeViews.{first_total, parts_of, parts_view, a
 
 use crate::cutting::reducible_item;
 use crate::item::{Item, Of};
-use nr_header::{Chunk, ChunkLists, HEADER_LEN_MIN, RdmaSegment, write_chunk_len};
+use nr_header::{Chunk, ChunkLists, HEADER_LEN_MIN, ListSlices, RdmaSegment, write_chunk_len};
 
 /// What goes as the stream of a reply, and what moves into its first write chunk.
 #[derive(Clone, Copy)]
@@ -71,11 +72,11 @@ fn fits_message(chunks: &[Chunk], len: usize, down: u32) -> bool
 }
 
 /// Whether a reply chunk is there and has room for `len` bytes.
-fn fits_reply(chunk: &Option<Chunk>, len: usize) -> bool
-    ensures { result ≡ fits_reply chunk.now len }
+fn fits_reply(chunk: Option<&[RdmaSegment]>, len: usize) -> bool
+    ensures { result ≡ fits_reply (option_map (λ segments. segments.now) chunk.entry) len }
 {
     match chunk {
-        Some(chunk) => len as u128 <= chunk_total(chunk.as_slice()),
+        Some(chunk) => len as u128 <= chunk_total(chunk),
         None => false,
     }
 }
@@ -118,21 +119,21 @@ fn parted<'a>(of: &Of, room: Option<u128>, reply: &'a [u8]) -> Option<Parts<'a>>
 /// the reply chunk, if that is long enough. `None` if neither is so. Takes no memory.
 #[tactic(auto, using(crate::proofs::ChunkSums::parts_by_total), unfolding(crate::specs::Holds::answer_for))]
 pub fn answer_for<'a>(
-    offer: &ChunkLists,
+    offer: ListSlices<'_>,
     prog: u32,
     vers: u32,
     proc: u32,
     reply: &'a [u8],
     down: u32,
 ) -> Option<Answer<'a>>
-    ensures { option_map answer_view result ≡ answer_for offer.now down prog vers proc reply.now }
+    ensures { option_map answer_view result ≡ answer_for (lists_of_slices offer.entry) down prog vers proc reply.now }
 {
     let of = Of::Reply { prog, vers, proc };
-    let Some(parts) = parted(&of, first_total(offer.write.as_slice()), reply) else {
+    let Some(parts) = parted(&of, first_total(offer.write), reply) else {
         return None;
     };
-    let long = !fits_message(offer.write.as_slice(), parts.stream.len(), down);
-    if long && !fits_reply(&offer.reply, parts.stream.len()) {
+    let long = !fits_message(offer.write, parts.stream.len(), down);
+    if long && !fits_reply(offer.reply, parts.stream.len()) {
         return None;
     }
     Some(Answer {
@@ -146,5 +147,5 @@ pub fn answer_for<'a>(
 pub fn holds(offer: &ChunkLists, prog: u32, vers: u32, proc: u32, reply: &[u8], down: u32) -> bool
     ensures { IsTrue result ↔ Holds offer.now down prog vers proc reply.now }
 {
-    answer_for(offer, prog, vers, proc, reply, down).is_some()
+    answer_for(offer.as_slices(), prog, vers, proc, reply, down).is_some()
 }

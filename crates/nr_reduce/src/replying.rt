@@ -1,6 +1,6 @@
 //! The message of an answer: the lists say what was written (RFC 8166 sections 3.4.6, 3.5).
 
-ghost use Rattle.std.specs.Prelude.{◌≡◌, ◌^◌, ◌<◌, ◌++◌, All, length, min, IfOk, IfSome};
+ghost use Rattle.std.specs.Prelude.{◌≡◌, ◌^◌, ◌<◌, ◌++◌, All, length, min, IfOk, IfSome, option_map};
 ghost use Rattle.nr_reduce.specs.Chunks.{filled_chunk};
 ghost use Rattle.nr_reduce.specs.Holds.{empty_chunks, written_chunks, answer_lists, answer_body, answer_message};
 ghost use Rattle.nr_reduce.specs.CodeViews.{answer_view, reply_of_answer};
@@ -91,16 +91,16 @@ fn written_list(alloc: Global, offered: &[Chunk], len: usize) -> Result<WriteLis
 /// The reply chunk of an answer: it is there if the stream goes in it.
 fn reply_chunk(
     alloc: Global,
-    offered: &Option<Chunk>,
+    offered: Option<&[RdmaSegment]>,
     answer: Answer<'_>,
 ) -> Result<Option<Chunk>, Memory>
-    ensures { IfOk result (λ c. c ≡ reply_of_answer offered.now (answer_view answer.entry)) }
+    ensures { IfOk result (λ c. c ≡ reply_of_answer (option_map (λ segments. segments.now) offered.entry) (answer_view answer.entry)) }
 {
     if !answer.long {
         return Ok(None);
     }
     let chunk = match offered {
-        Some(chunk) => chunk.as_slice(),
+        Some(chunk) => chunk,
         None => &[],
     };
     Ok(Some(filled_chunk(alloc, chunk, answer.stream.len())?))
@@ -110,13 +110,13 @@ fn reply_chunk(
 /// that move are written into the first write chunk, and a long stream into the reply chunk.
 pub fn answer_lists(
     alloc: Global,
-    offer: &ChunkLists,
+    offer: ListSlices<'_>,
     answer: Answer<'_>,
 ) -> Result<ChunkLists, Memory>
-    ensures { IfOk result (λ l. l ≡ answer_lists offer.now (answer_view answer.entry)) }
+    ensures { IfOk result (λ l. l ≡ answer_lists (lists_of_slices offer.entry) (answer_view answer.entry)) }
 {
-    let write = written_list(alloc, offer.write.as_slice(), answer.moved.len())?;
-    let reply = reply_chunk(alloc, &offer.reply, answer)?;
+    let write = written_list(alloc, offer.write, answer.moved.len())?;
+    let reply = reply_chunk(alloc, offer.reply, answer)?;
     Ok(ChunkLists {
         read: ReadList::new(),
         write,
@@ -129,13 +129,13 @@ fn header_with(
     alloc: Global,
     xid: u32,
     credit: u32,
-    offer: &ChunkLists,
+    offer: ListSlices<'_>,
     answer: Answer<'_>,
     lists: ListSlices<'_>,
 ) -> Result<Octets, Memory>
-    requires within { ListsWithin offer.now }
-    requires lists { lists_of_slices lists ≡ answer_lists offer.now (answer_view answer) }
-    ensures { IfOk result (λ o. o ≡ header_encoding (record { xid = xid; credit = credit; body = answer_body offer.now (answer_view answer.entry) })) }
+    requires within { ListsWithin (lists_of_slices offer) }
+    requires lists { lists_of_slices lists ≡ answer_lists (lists_of_slices offer) (answer_view answer) }
+    ensures { IfOk result (λ o. o ≡ header_encoding (record { xid = xid; credit = credit; body = answer_body (lists_of_slices offer.entry) (answer_view answer.entry) })) }
 {
     let _offer = offer;
     write_with_slices(alloc, xid, credit, answer.long, lists)
@@ -146,20 +146,15 @@ pub fn answer_header(
     alloc: Global,
     xid: u32,
     credit: u32,
-    offer: &ChunkLists,
+    offer: ListSlices<'_>,
     answer: Answer<'_>,
 ) -> Result<Octets, Memory>
-    requires { ListsWithin offer.now }
-    ensures { IfOk result (λ o. o ≡ header_encoding (record { xid = xid; credit = credit; body = answer_body offer.now (answer_view answer.entry) })) }
+    requires { ListsWithin (lists_of_slices offer) }
+    ensures { IfOk result (λ o. o ≡ header_encoding (record { xid = xid; credit = credit; body = answer_body (lists_of_slices offer.entry) (answer_view answer.entry) })) }
 {
     let mut chunks = Vec::new(alloc);
-    push_written(
-        alloc,
-        &mut chunks,
-        offer.write.as_slice(),
-        answer.moved.len(),
-    )?;
-    let reply = reply_chunk(alloc, &offer.reply, answer)?;
+    push_written(alloc, &mut chunks, offer.write, answer.moved.len())?;
+    let reply = reply_chunk(alloc, offer.reply, answer)?;
     let lists = ListSlices::new(&[], chunks.as_slice(), &reply);
     header_with(alloc, xid, credit, offer, answer, lists)
 }
@@ -170,11 +165,11 @@ pub fn answer_message(
     alloc: Global,
     xid: u32,
     credit: u32,
-    offer: &ChunkLists,
+    offer: ListSlices<'_>,
     answer: Answer<'_>,
 ) -> Result<Octets, Memory>
-    requires { ListsWithin offer.now }
-    ensures { IfOk result (λ o. o ≡ answer_message xid credit offer.now (answer_view answer.entry)) }
+    requires { ListsWithin (lists_of_slices offer) }
+    ensures { IfOk result (λ o. o ≡ answer_message xid credit (lists_of_slices offer.entry) (answer_view answer.entry)) }
 {
     let mut message = answer_header(alloc, xid, credit, offer, answer)?;
     if !answer.long {
