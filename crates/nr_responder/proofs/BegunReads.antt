@@ -180,7 +180,7 @@ call_fits s calls ready used a b c le h = omega (arith, le, h.lent, h.calls_fit)
 counted : (reads : List ReadEntry) → min (length reads) open_reads_max ≡ length (take open_reads_max (map read_view reads))
 counted reads = (let e = length-take open_reads_max (map read_view reads) in let m = length-map reads read_view in omega (arith, e, m))
 
-pub started_is : (r s : ServerEnd) (call : Pending) (room : ℕ) (chunks : List ℕ) → chunks ≡ chunk_positions call.lists.read → BeginsReads call.number call.lists.read chunks r.reads.items s.reads.items r.sinks.items s.sinks.items r.endpoint.link s.endpoint.link →
+pub started_is : (r s : ServerEnd) (call : Pending) (room : ℕ) (chunks : List ℕ) → chunks ≡ chunk_positions (call_view call).lists.read → BeginsReads call.number (call_view call).lists.read chunks r.reads.items s.reads.items r.sinks.items s.sinks.items r.endpoint.link s.endpoint.link →
     s.calls.items ≡ r.calls.items ++ with_room call room ∷ [] → s.ready.items ≡ r.ready.items → s.credits ≡ r.credits → state_of s ≡ reading_call (state_of r) (call_view call)
 started_is r s call room chunks are b calls ready credits =
     λ i. record {
@@ -197,11 +197,11 @@ started_is r s call room chunks are b calls ready credits =
     next : ℕ
     next = r.endpoint.link.state.memory.next
 
-    same : sinks_from call.number next call.lists.read chunks ≡ sinks_of v.link.state (call_view call)
-    same = ap (λ (ps : List ℕ). sinks_from call.number next call.lists.read ps) are ∙ sym (same_sinks call.number next call.lists (chunks_of call.lists))
+    same : sinks_from call.number next (call_view call).lists.read chunks ≡ sinks_of v.link.state (call_view call)
+    same = ap (λ (ps : List ℕ). sinks_from call.number next (call_view call).lists.read ps) are ∙ sym (same_sinks call.number next (call_view call).lists (chunks_of (call_view call).lists))
 
     reads : map read_view s.reads.items ≡ reads_with v (call_view call)
-    reads = b.reads ∙ ap (λ (rs : List Region). map read_view r.reads.items ++ reads_from rs call.number [] call.lists.read) same
+    reads = b.reads ∙ ap (λ (rs : List Region). map read_view r.reads.items ++ reads_from rs call.number [] (call_view call).lists.read) same
 
     opened : opening (min (length r.reads.items) open_reads_max) (map read_view s.reads.items) ≡ opened_with v (call_view call)
     opened = λ i. opening (counted r.reads.items i) (reads i)

@@ -16,6 +16,7 @@ use Rattle.nr_header.specs.WithinLimits.{CanRead, ListsWithin, StreamWithin, rea
 use Rattle.nr_header.specs.Constants.{PAYLOAD_MAX}
 use Rattle.std.proofs.lemmas.List.{drop_all}
 use Rattle.nr_header.specs.Reading.{header_of, header_by, body_by, error_by}
+use Rattle.nr_header.specs.ReadInto.{lists_in, lists_of_body, lists_read}
 use Rattle.nr_xdr.specs.Fields.{word_at}
 use Rattle.nr_reduce.specs.Chunks.{is_read_chunk_of_item, item_position, total_at, positions}
 use Rattle.nr_reduce.specs.ServerState.{PendingCall, ServerState, is_pending, next_stag}
@@ -33,7 +34,7 @@ use Rattle.nr_responder.proofs.ServerSteps.{inline_message_lem, pending_effect}
 use Rattle.nr_responder.specs.declared.call.Pending.{Pending}
 use Rattle.nr_responder.specs.declared.judging.Judged.{Judged}
 use Rattle.nr_responder.specs.declared.judging.Judged.TheVariants as judged
-use Rattle.nr_responder.specs.Views.{call_view, call_with, inline_of, HasStream, Judges, JudgesBody, brings_stream, fits_stream, reads_if}
+use Rattle.nr_responder.specs.Views.{call_view, call_with, inline_of, HasLists, HasStream, IsCall, IsListed, IsOfReads, Judges, JudgesBody, PutsLists, ReadsLists, brings_stream, fits_stream, reads_if}
 
 pub verdict_version : (k : ServerState) (m : List ℕ) → word_at 4 m ≢ 1 → verdict k m ≡ OtherVersion
 unfolding verdict
@@ -94,31 +95,44 @@ call_stream_lem k lists xid stream none few =
 pub header_verdict : (k : ServerState) (m : List ℕ) → word_at 4 m ≡ 1 → word_at 12 m ≢ 3 → word_at 12 m ≢ 4 → is_pending k (word_at 0 m) ≡ false → verdict k m ≡ by_header k m (header_of m)
 header_verdict k m is done error new = verdict_kinds k m is done error ∙ ap (λ (b : Bool). cond b (EndsLink 20) (by_header k m (header_of m))) new
 
+-- the lists that are judged are those of the message
+pub lists_judged : (m : List ℕ) (h : Header) (lists : ChunkLists) (j : Judged) → header_of m ≡ Ok h → JudgesBody m h.body lists j → PutsLists m lists j
+lists_judged m h lists judged.Kind read b = absurd b
+lists_judged m h lists judged.Open read b = absurd b
+lists_judged m h lists judged.OtherVersion read b = absurd b
+lists_judged m h lists judged.BadChunks read b = tt
+lists_judged m h lists (judged.Call stream_at) read b = sym (ap lists_read read ∙ ap lists_of_body b.0)
+lists_judged m h lists (judged.Reads stream_at inline) read b = by b.1.1
+  where
+    by : (h.body ≡ Msg lists stream_at) ⊎ ((h.body ≡ Nomsg lists) × (stream_at ≡ length m)) → lists ≡ lists_in m
+    by (inl msg) = sym (ap lists_read read ∙ ap lists_of_body msg)
+    by (inr nomsg) = sym (ap lists_read read ∙ ap lists_of_body nomsg.0)
+
 -- what is judged of a body is judged of its message
-pub body_judged : (k : ServerState) (m : List ℕ) (h : Header) (j : Judged) → FIXED_LEN ≤ length m → word_at 4 m ≡ 1 → word_at 12 m ≢ 3 → word_at 12 m ≢ 4 → is_pending k (word_at 0 m) ≡ false →
-    next_stag k ≤ 4294967296 → header_of m ≡ Ok h → JudgesBody m h.body j → Judges k m j
-body_judged k m h j long is done error new few read judges = by j judges
+pub body_judged : (k : ServerState) (m : List ℕ) (h : Header) (lists : ChunkLists) (j : Judged) → FIXED_LEN ≤ length m → word_at 4 m ≡ 1 → word_at 12 m ≢ 3 → word_at 12 m ≢ 4 → is_pending k (word_at 0 m) ≡ false →
+    next_stag k ≤ 4294967296 → header_of m ≡ Ok h → JudgesBody m h.body lists j → Judges k m j
+body_judged k m h lists j long is done error new few read judges = by j judges (lists_judged m h lists j read judges)
   where
     verdict_is : verdict k m ≡ by_body k h.xid m h.body
     verdict_is = header_verdict k m is done error new ∙ ap (by_header k m) read
 
-    by : (j : Judged) → JudgesBody m h.body j → Judges k m j
-    by judged.Kind b = absurd b
-    by judged.Open b = absurd b
-    by judged.OtherVersion b = absurd b
-    by judged.BadChunks b = verdict_is ∙ b k h.xid
-    by (judged.Call lists stream_at) b = record {
+    by : (j : Judged) → JudgesBody m h.body lists j → PutsLists m lists j → Judges k m j
+    by judged.Kind b puts = absurd b
+    by judged.Open b puts = absurd b
+    by judged.OtherVersion b puts = absurd b
+    by judged.BadChunks b puts = verdict_is ∙ b k h.xid
+    by (judged.Call stream_at) b puts = subst (λ (l : ChunkLists). IsCall k m l stream_at) puts (record {
       no_reads = b.1;
       own = new;
       pending =
           verdict_is ∙ ap (by_body k h.xid m) b.0 ∙ call_stream_lem k lists h.xid (drop stream_at m) b.1 few
           ∙ ap (λ (x : ℕ). MakesPending (record { number = k.received.sends + 1; xid = x; lists = lists; inline = Some (drop stream_at m) })) (header_xid m h long read);
-    }
-    by (judged.Reads lists stream_at inline) b = record {
+    })
+    by (judged.Reads stream_at inline) b puts = subst (λ (l : ChunkLists). IsOfReads k m l stream_at inline) puts (record {
       some = b.0;
       own = new;
       needs = verdict_is ∙ b.1.0 k h.xid ∙ ap (λ (x : ℕ). by_need k (call_with (k.received.sends + 1) x lists (inline_of inline (drop stream_at m)))) (header_xid m h long read);
-    }
+    })
 
 pub verdict_open : (k : ServerState) (m : List ℕ) → word_at 4 m ≡ 1 → word_at 12 m ≢ 3 → word_at 12 m ≢ 4 → is_pending k (word_at 0 m) ≡ true → verdict k m ≡ EndsLink 20
 verdict_open k m is done error new = verdict_kinds k m is done error ∙ ap (λ (b : Bool). cond b (EndsLink 20) (by_header k m (header_of m))) new
@@ -165,24 +179,37 @@ pub plain_lists_lem : (k : ServerState) (xid : ℕ) (lists : ChunkLists) (stream
 plain_lists_lem k xid lists stream none = λ i. record { number = k.received.sends + 1; xid = xid; lists = record { read = none i; write = lists.write; reply = lists.reply }; inline = Some stream }
 
 -- the lists and the stream of a call that is judged by its body
-pub has_stream : (m : List ℕ) (body : Body) (j : Judged) → JudgesBody m body j → StreamWithin body (length m) → CanRead body (stream_after body m) → HasStream m j
-has_stream m body judged.Kind b within can = tt
-has_stream m body judged.Open b within can = tt
-has_stream m body judged.OtherVersion b within can = tt
-has_stream m body judged.BadChunks b within can = tt
-has_stream m body (judged.Call lists stream_at) b within can =
-    (subst (λ (x : Body). StreamWithin x (length m)) b.0 within, (subst (λ (x : Body). CanRead x (stream_after x m)) b.0 can).0)
-has_stream m body (judged.Reads lists stream_at inline) b within can = by b.1.1
+has_lists : (m : List ℕ) (h : Header) (lists : ChunkLists) → header_of m ≡ Ok h → lists ≡ lists_in m → IsListed h.body → ListsWithin lists → HasLists m
+has_lists m h lists read puts listed within = record {
+  listed = subst ReadsLists (sym read) listed;
+  within = subst ListsWithin puts within;
+}
+
+pub has_stream : (m : List ℕ) (h : Header) (lists : ChunkLists) (j : Judged) → header_of m ≡ Ok h → JudgesBody m h.body lists j → StreamWithin h.body (length m) → CanRead h.body (stream_after h.body m) → HasStream m j
+has_stream m h lists judged.Kind read b within can = tt
+has_stream m h lists judged.Open read b within can = tt
+has_stream m h lists judged.OtherVersion read b within can = tt
+has_stream m h lists judged.BadChunks read b within can = tt
+has_stream m h lists (judged.Call stream_at) read b within can = (
+  subst (λ (x : Body). StreamWithin x (length m)) b.0 within,
+  has_lists m h lists read (lists_judged m h lists (judged.Call stream_at) read b) (subst IsListed (sym b.0) tt) (subst (λ (x : Body). CanRead x (stream_after x m)) b.0 can).0,
+)
+has_stream m h lists (judged.Reads stream_at inline) read b within can = by b.1.1
   where
-    by : (body ≡ Msg lists stream_at) ⊎ ((body ≡ Nomsg lists) × (stream_at ≡ length m)) → (stream_at ≤ length m) × (ListsWithin lists × (read_total lists.read ≤ PAYLOAD_MAX))
+    puts : lists ≡ lists_in m
+    puts = lists_judged m h lists (judged.Reads stream_at inline) read b
+
+    by : (h.body ≡ Msg lists stream_at) ⊎ ((h.body ≡ Nomsg lists) × (stream_at ≡ length m)) → (stream_at ≤ length m) × (HasLists m × (read_total (lists_in m).read ≤ PAYLOAD_MAX))
     by (inl msg) =
         let c : CanRead (Msg lists stream_at) (stream_after (Msg lists stream_at) m) = subst (λ (x : Body). CanRead x (stream_after x m)) msg can in
-        let all = c.2 in
-        (subst (λ (x : Body). StreamWithin x (length m)) msg within, (c.0, omega (arith, all)))
+        let all = c.2 in (
+          subst (λ (x : Body). StreamWithin x (length m)) msg within,
+          (has_lists m h lists read puts (subst IsListed (sym msg) tt) c.0, subst (λ (l : ChunkLists). read_total l.read ≤ PAYLOAD_MAX) puts (omega (arith, all))),
+        )
     by (inr nomsg) =
         let c : CanRead (Nomsg lists) (stream_after (Nomsg lists) m) = subst (λ (x : Body). CanRead x (stream_after x m)) nomsg.0 can in
         let at = nomsg.1 in
-        (omega (arith, at), (c.1, c.2))
+        (omega (arith, at), (has_lists m h lists read puts (subst IsListed (sym nomsg.0) tt) c.1, subst (λ (l : ChunkLists). read_total l.read ≤ PAYLOAD_MAX) puts c.2))
 
 -- ---- A read list that is refused
 
@@ -198,7 +225,7 @@ refused_nomsg k lists xid is = by (has_position lists.read) is
     by false e = refl
 
 -- a body by RDMA_MSG with a read list
-pub msg_judged : (message : List ℕ) (lists : ChunkLists) (stream_at : ℕ) (b : Bool) → lists.read ≢ [] → b ≡ is_read_chunk_of_item (drop stream_at message) lists.read → JudgesBody message (Msg lists stream_at) (reads_if b lists stream_at true)
+pub msg_judged : (message : List ℕ) (lists : ChunkLists) (stream_at : ℕ) (b : Bool) → lists.read ≢ [] → b ≡ is_read_chunk_of_item (drop stream_at message) lists.read → JudgesBody message (Msg lists stream_at) lists (reads_if b stream_at true)
 msg_judged message lists stream_at true some is =
     (some, (λ k xid. ap (λ (b : Bool). cond b (by_need k (call_with (k.received.sends + 1) xid lists (Some (drop stream_at message)))) BadChunks) (sym is), inl refl))
 msg_judged message lists stream_at false some is = λ k xid. refused_stream k lists xid (Some (drop stream_at message)) (sym is)
@@ -222,6 +249,6 @@ brings k lists xid is = by (has_position lists.read) is
     by true e = brought k lists xid (no_stream lists.read) e
     by false e = absurd cc
 
-pub nomsg_judged : (message : List ℕ) (lists : ChunkLists) (b : Bool) (total : ℕ) → b ≡ brings_stream lists.read → total ≡ total_at 0 lists.read → JudgesBody message (Nomsg lists) (reads_if b lists (length message) (eqb total 0))
+pub nomsg_judged : (message : List ℕ) (lists : ChunkLists) (b : Bool) (total : ℕ) → b ≡ brings_stream lists.read → total ≡ total_at 0 lists.read → JudgesBody message (Nomsg lists) lists (reads_if b (length message) (eqb total 0))
 nomsg_judged message lists true total is empty = (no_position lists.read (sym is), (λ k xid. brings k lists xid (sym is) ∙ ap (λ (o : Option (List ℕ)). by_need k (call_with (k.received.sends + 1) xid lists o)) (sym (nothing_after message (eqb total 0) ∙ ap (λ (n : ℕ). cond (eqb n 0) (Some []) None) empty)), inr (refl, refl)))
 nomsg_judged message lists false total is empty = λ k xid. refused_nomsg k lists xid (sym is)

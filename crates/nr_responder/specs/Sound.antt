@@ -4,7 +4,6 @@ use Rattle.std.specs.VecDeque.{deque_capacity}
 use Rattle.nr_regions.specs.RegisteredMemory.{Claim, RegisteredMemory, IsHeld, outside_len}
 use Rattle.nr_regions.specs.Table.{IsTotal}
 use Rattle.nr_rpc.specs.Reading.{call_of, target_of}
-use Rattle.nr_header.specs.WithinLimits.{ListsWithin}
 use Rattle.nr_header.specs.Constants.{PAYLOAD_MAX}
 use Rattle.nr_reduce.specs.ServerReads.{is_read}
 use Rattle.nr_endpoint.specs.EndpointState.{EndpointState}
@@ -19,7 +18,7 @@ use Rattle.nr_responder.specs.declared.server_end.ServerEnd.{ServerEnd}
 use Rattle.nr_responder.specs.Fetching.{Fetching}
 use Rattle.nr_responder.specs.ResponderState.{ResponderSide, ResponderState, unsent}
 use Rattle.nr_responder.specs.Rooms.{payload_room}
-use Rattle.nr_responder.specs.Views.{call_view, read_view, sink_view}
+use Rattle.nr_responder.specs.Views.{call_view, read_view, sink_view, HasLists}
 
 -- the xids of calls that are ready, and the payloads that were read
 abbrev pub xids_of : List Ready → List ℕ
@@ -55,12 +54,12 @@ rooms_of calls ready = sum_by (λ c. room_len c.room) calls + sum_by (λ q. payl
 abbrev pub with_staging : ServerEnd → ResponderState
 with_staging r = record { side = state_of r; staging = r.endpoint.staging; rooms = rooms_of r.calls.items r.ready.items }
 
--- A pending call's message lies in its receive buffer, its lists are within the limits, and what its head asks for is that of its stream.
+-- A pending call's message lies in its receive buffer, it has lists that are within the limits, and what its head asks for is that of its stream.
 pub record InBuffer (c : Pending) : Type 0 where
   pub buf : length c.buf ≡ send_max
   pub len : c.len ≤ send_max
   pub at : c.stream_at ≤ c.len
-  pub lists : ListsWithin c.lists
+  pub lists : HasLists (take c.len c.buf)
   pub target : IfSome c.target (λ t. t ≡ target_of (call_of (drop c.stream_at (take c.len c.buf))))
 
 -- a link that has queued something, or ended

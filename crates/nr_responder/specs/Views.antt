@@ -1,8 +1,12 @@
 -- What the code keeps, as the definitions of a run see it.
-use Rattle.std.specs.Prelude.{◌≡◌, ◌≢◌, ℕ, ◌+◌, ◌≤◌, ◌&&◌, Bool, true, false, List, [], length, take, drop, Option, None, Some, ◌⊎◌}
+use Rattle.std.specs.Prelude.{◌≡◌, ◌≢◌, ℕ, ◌+◌, ◌≤◌, ◌&&◌, Bool, true, false, List, [], length, take, drop, Option, None, Some, Result, Ok, Err, ◌⊎◌}
 use Rattle.nr_header.specs.declared.header.ChunkLists.{ChunkLists}
+use Rattle.nr_header.specs.declared.fault.HeaderFault.{HeaderFault}
+use Rattle.nr_header.specs.declared.header.Header.{Header}
 use Rattle.nr_header.specs.declared.header.Body.{Body}
-use Rattle.nr_header.specs.declared.header.Body.TheVariants.{Msg, Nomsg}
+use Rattle.nr_header.specs.declared.header.Body.TheVariants.{Msg, Nomsg, ErrVers, ErrChunk}
+use Rattle.nr_header.specs.Reading.{header_of}
+use Rattle.nr_header.specs.ReadInto.{lists_in}
 use Rattle.nr_header.specs.Constants.{PAYLOAD_MAX}
 use Rattle.nr_header.specs.WithinLimits.{ListsWithin, read_total}
 use Rattle.nr_link.specs.Reasons.{REASON_KIND, REASON_CALL}
@@ -26,7 +30,7 @@ inline_of true stream = Some stream
 inline_of false stream = None
 
 abbrev pub call_view : Pending → PendingCall
-call_view c = record { number = c.number; xid = c.xid; lists = c.lists; inline = inline_of c.inline (drop c.stream_at (take c.len c.buf)) }
+call_view c = record { number = c.number; xid = c.xid; lists = lists_in (take c.len c.buf); inline = inline_of c.inline (drop c.stream_at (take c.len c.buf)) }
 
 abbrev pub read_view : ReadEntry → PendingRead
 read_view r = record { number = r.number; position = r.position; sink = r.sink; at = r.at; size = r.size; stag = r.stag; to = r.to }
@@ -54,8 +58,33 @@ Judges k message judged.Kind = verdict k message ≡ EndsLink REASON_KIND
 Judges k message judged.Open = verdict k message ≡ EndsLink REASON_CALL
 Judges k message judged.OtherVersion = verdict k message ≡ OtherVersion
 Judges k message judged.BadChunks = verdict k message ≡ BadChunks
-Judges k message (judged.Call lists stream_at) = IsCall k message lists stream_at
-Judges k message (judged.Reads lists stream_at inline) = IsOfReads k message lists stream_at inline
+Judges k message (judged.Call stream_at) = IsCall k message (lists_in message) stream_at
+Judges k message (judged.Reads stream_at inline) = IsOfReads k message (lists_in message) stream_at inline
+
+-- a header with lists: that of RDMA_MSG or RDMA_NOMSG
+abbrev pub IsListed : Body → Type 0
+IsListed (Msg lists stream_at) = Unit {0}
+IsListed (Nomsg lists) = Unit {0}
+IsListed (ErrVers version low high) = ⊥
+IsListed (ErrChunk version) = ⊥
+
+abbrev pub ReadsLists : Result Header HeaderFault → Type 0
+ReadsLists (Ok header) = IsListed header.body
+ReadsLists (Err fault) = ⊥
+
+-- a message with lists that are within the limits
+pub record HasLists (message : List ℕ) : Type 0 where
+  pub listed : ReadsLists (header_of message)
+  pub within : ListsWithin (lists_in message)
+
+-- the lists of a message that makes a call
+abbrev pub PutsLists : List ℕ → ChunkLists → Judged → Type 0
+PutsLists message lists judged.Kind = Unit {0}
+PutsLists message lists judged.Open = Unit {0}
+PutsLists message lists judged.OtherVersion = Unit {0}
+PutsLists message lists judged.BadChunks = Unit {0}
+PutsLists message lists (judged.Call stream_at) = lists ≡ lists_in message
+PutsLists message lists (judged.Reads stream_at inline) = lists ≡ lists_in message
 
 -- the lists and the stream of a call lie within its message
 abbrev pub HasStream : List ℕ → Judged → Type 0
@@ -63,8 +92,8 @@ HasStream message judged.Kind = Unit {0}
 HasStream message judged.Open = Unit {0}
 HasStream message judged.OtherVersion = Unit {0}
 HasStream message judged.BadChunks = Unit {0}
-HasStream message (judged.Call lists stream_at) = (stream_at ≤ length message) × ListsWithin lists
-HasStream message (judged.Reads lists stream_at inline) = (stream_at ≤ length message) × (ListsWithin lists × (read_total lists.read ≤ PAYLOAD_MAX))
+HasStream message (judged.Call stream_at) = (stream_at ≤ length message) × HasLists message
+HasStream message (judged.Reads stream_at inline) = (stream_at ≤ length message) × (HasLists message × (read_total (lists_in message).read ≤ PAYLOAD_MAX))
 
 -- whether the read chunk of a list is that of the item of a stream, if that is known; and whether a list can bring a stream
 abbrev pub fits_stream : Option (List ℕ) → List ReadSegment → Bool
@@ -74,17 +103,17 @@ fits_stream (Some stream) read = is_read_chunk_of_item stream read
 abbrev pub brings_stream : List ReadSegment → Bool
 brings_stream read = has_position read && fits_stream (no_stream read) read
 
-abbrev pub reads_if : Bool → ChunkLists → ℕ → Bool → Judged
-reads_if true lists stream_at inline = judged.Reads lists stream_at inline
-reads_if false lists stream_at inline = judged.BadChunks
+abbrev pub reads_if : Bool → ℕ → Bool → Judged
+reads_if true stream_at inline = judged.Reads stream_at inline
+reads_if false stream_at inline = judged.BadChunks
 
--- what is made of the body of a message whose xid isn't pending
-abbrev pub JudgesBody : List ℕ → Body → Judged → Type 0
-JudgesBody message body judged.Kind = ⊥
-JudgesBody message body judged.Open = ⊥
-JudgesBody message body judged.OtherVersion = ⊥
-JudgesBody message body judged.BadChunks = (k : ServerState) (xid : ℕ) → by_body k xid message body ≡ BadChunks
-JudgesBody message body (judged.Call lists stream_at) = (body ≡ Msg lists stream_at) × (lists.read ≡ [])
-JudgesBody message body (judged.Reads lists stream_at inline) =
+-- what is made of the body of a message whose xid isn't pending, with these lists
+abbrev pub JudgesBody : List ℕ → Body → ChunkLists → Judged → Type 0
+JudgesBody message body lists judged.Kind = ⊥
+JudgesBody message body lists judged.Open = ⊥
+JudgesBody message body lists judged.OtherVersion = ⊥
+JudgesBody message body lists judged.BadChunks = (k : ServerState) (xid : ℕ) → by_body k xid message body ≡ BadChunks
+JudgesBody message body lists (judged.Call stream_at) = (body ≡ Msg lists stream_at) × (lists.read ≡ [])
+JudgesBody message body lists (judged.Reads stream_at inline) =
     (lists.read ≢ []) × (((k : ServerState) (xid : ℕ) → by_body k xid message body ≡ by_need k (call_with (k.received.sends + 1) xid lists (inline_of inline (drop stream_at message))))
     × ((body ≡ Msg lists stream_at) ⊎ ((body ≡ Nomsg lists) × (stream_at ≡ length message))))

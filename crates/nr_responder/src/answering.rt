@@ -1,6 +1,7 @@
 //! The answer to a call: its message and its RDMA Writes (RFC 8166 sections 3.4.6, 3.5).
 
 ghost use Rattle.std.specs.Prelude.{◌≡◌, ℕ, ◌+◌, ◌≤◌, ◌<◌, ◌^◌, length, drop, take, IfOk, OnOk, OnErr, All, option_map, [], ◌++◌, IfSome, ◌==◌, if◌then◌else◌};
+ghost use Rattle.nr_header.specs.Slices.{lists_of_slices};
 ghost use Rattle.nr_header.specs.WithinLimits.{ListsWithin, SegmentsEnd};
 ghost use Rattle.nr_endpoint.specs.Offering.{FitsRegion, writes_output};
 ghost use Rattle.nr_link.specs.Limits.{send_max};
@@ -14,9 +15,9 @@ ghost use Rattle.nr_responder.specs.HeldBytes.{sent_reply_max};
 ghost use Rattle.nr_responder.specs.Views.{call_view};
 ghost use Rattle.nr_responder.specs.Sound.{InBuffer};
 
-use crate::call::{Pending, Sent};
+use crate::call::{Pending, Sent, lists_again};
 use nr_endpoint::{Endpoint, RemoteWrite};
-use nr_header::{Chunk, ChunkLists, RdmaSegment, TransportError, VERSION, write_error};
+use nr_header::{Chunk, ListSlices, ListsRoom, RdmaSegment, TransportError, VERSION, write_error};
 use nr_link::constants::SEND_MAX;
 use nr_reduce::{Answer, answer_for, answer_message};
 use nr_rpc::{CallTarget, call_target};
@@ -66,19 +67,23 @@ fn target_of(stream: &[u8], known: Option<Option<CallTarget>>) -> Option<CallTar
 }
 
 /// How the reply to a call whose head asks for this is sent back, by what it offered; `None` if the offer doesn't hold it.
-fn answer_to<'a>(call: &Pending, target: Option<CallTarget>, reply: &'a [u8]) -> Option<Answer<'a>>
-    ensures { option_map answer_view result ≡ answer_of_target (call_view call.now).lists send_max reply.now target }
+fn answer_to<'a>(
+    lists: ListSlices<'_>,
+    target: Option<CallTarget>,
+    reply: &'a [u8],
+) -> Option<Answer<'a>>
+    ensures { option_map answer_view result ≡ answer_of_target (lists_of_slices lists.entry) send_max reply.now target }
 {
     match target {
         Some(target) => answer_for(
-            &call.lists,
+            lists,
             target.prog,
             target.vers,
             target.proc,
             reply,
             SEND_MAX,
         ),
-        None => answer_for(&call.lists, 0, 0, 0, reply, SEND_MAX),
+        None => answer_for(lists, 0, 0, 0, reply, SEND_MAX),
     }
 }
 
@@ -103,11 +108,11 @@ fn message_for(
     alloc: Global,
     xid: u32,
     credits: u32,
-    lists: &ChunkLists,
+    lists: ListSlices<'_>,
     answer: Option<Answer<'_>>,
 ) -> Result<Octets, Memory>
-    requires { ListsWithin lists.now }
-    ensures { IfOk result (λ m. m ≡ message_for xid credits lists.now (option_map answer_view answer.entry)) }
+    requires { ListsWithin (lists_of_slices lists) }
+    ensures { IfOk result (λ m. m ≡ message_for xid credits (lists_of_slices lists.entry) (option_map answer_view answer.entry)) }
 {
     match answer {
         Some(answer) => answer_message(alloc, xid, credits, lists, answer),
@@ -188,16 +193,16 @@ fn push_moved<'a>(
 /// Puts the RDMA Writes of a long stream into the reply chunk.
 fn push_stream<'a>(
     writes: &mut Vec<RemoteWrite<'a>>,
-    reply: &Option<Chunk>,
+    reply: Option<&[RdmaSegment]>,
     stream: &'a [u8],
 ) -> Result<(), Memory>
-    requires ends { IfSome reply.now SegmentsEnd }
+    requires ends { IfSome reply (λ chunk. SegmentsEnd chunk.now) }
     requires fits { All FitsRegion writes.old.items }
-    ensures output { OnOk result (writes_output writes.new.items ≡ writes_output writes.old.items ++ writes_into (no_segments reply.now) stream.now) }
+    ensures output { OnOk result (writes_output writes.new.items ≡ writes_output writes.old.items ++ writes_into (no_segments (option_map (λ chunk. chunk.now) reply.entry)) stream.now) }
     ensures fits { OnOk result (All FitsRegion writes.new.items) }
 {
     match reply {
-        Some(chunk) => push_writes(writes, chunk.as_slice(), stream),
+        Some(chunk) => push_writes(writes, chunk, stream),
         None => Ok(()),
     }
 }
@@ -205,22 +210,22 @@ fn push_stream<'a>(
 /// Puts the RDMA Writes of an answer: what moves goes into the first write chunk, and a long stream into the reply chunk.
 fn push_answer<'a>(
     writes: &mut Vec<RemoteWrite<'a>>,
-    lists: &ChunkLists,
+    lists: ListSlices<'_>,
     answer: Option<Answer<'a>>,
 ) -> Result<(), Memory>
-    requires lists { ListsWithin lists.now }
+    requires lists { ListsWithin (lists_of_slices lists) }
     requires none { writes.old.items ≡ [] }
-    ensures output { OnOk result (writes_output writes.new.items ≡ writes_for lists.now (option_map answer_view answer.entry)) }
+    ensures output { OnOk result (writes_output writes.new.items ≡ writes_for (lists_of_slices lists.entry) (option_map answer_view answer.entry)) }
     ensures fits { OnOk result (All FitsRegion writes.new.items) }
 {
     let Some(answer) = answer else {
         return Ok(());
     };
-    push_moved(writes, lists.write.as_slice(), answer.moved)?;
+    push_moved(writes, lists.write, answer.moved)?;
     if !answer.long {
         return Ok(());
     }
-    push_stream(writes, &lists.reply, answer.stream)?;
+    push_stream(writes, lists.reply, answer.stream)?;
     Ok(())
 }
 
@@ -237,7 +242,7 @@ pub(crate) fn queue_answer(
 ) -> Result<Sent, Memory>
     requires call { InBuffer call.now }
     requires target { IfSome target (λ t. t ≡ target_of (call_of stream.now)) }
-    ensures short { IfOk result (λ _. length (message_for call.now.xid credits call.now.lists (answer_to (call_view call.now) stream.now reply.now)) ≤ send_max) }
+    ensures short { IfOk result (λ _. length (message_for call.now.xid credits (call_view call.now).lists (answer_to (call_view call.now) stream.now reply.now)) ≤ send_max) }
     ensures reply { IfOk result (λ _. length reply.now ≤ sent_reply_max) }
     ensures queued { IfOk result (Queues (call_view call.now) stream.now reply.now credits endpoint.old.link endpoint.new.link) }
     ensures err { OnErr result (endpoint.new.link ≡ endpoint.old.link) }
@@ -247,15 +252,18 @@ pub(crate) fn queue_answer(
     if reply.len() > SENT_REPLY_MAX {
         return Err(Memory);
     }
-    let answer = answer_to(call, target_of(stream, target), reply);
+    let mut room = ListsRoom::new();
+    lists_again(call, &mut room);
+    let lists = room.as_slices();
+    let answer = answer_to(lists, target_of(stream, target), reply);
     let sent = sent_as(&answer);
-    let message = message_for(alloc, call.xid, credits, &call.lists, answer)?;
+    let message = message_for(alloc, call.xid, credits, lists, answer)?;
     // The answer is one that fits into the client's receive.
     if message.len() > SEND_MAX as usize {
         return Err(Memory);
     }
     let mut writes = Vec::new(alloc);
-    push_answer(&mut writes, &call.lists, answer)?;
+    push_answer(&mut writes, lists, answer)?;
     endpoint.answer(writes.as_slice(), message.as_slice())?;
     Ok(sent)
 }

@@ -3,17 +3,19 @@
 ghost use Rattle.std.specs.Prelude.{◌≡◌, ◌≢◌, ℕ, ◌==◌, ◌<◌, ◌≤◌, length, drop, take, get_or, map, None, IfSome};
 ghost use Rattle.std.specs.List.{list_any};
 ghost use Rattle.nr_reduce.specs.ServerReads.{is_read};
-ghost use Rattle.nr_responder.specs.Views.{read_view};
+ghost use Rattle.nr_header.specs.ReadInto.{no_lists};
+ghost use Rattle.nr_responder.specs.Sound.{InBuffer};
+ghost use Rattle.nr_responder.specs.Views.{call_view, read_view};
 
 use crate::room::{Payload, Room};
-use nr_header::ChunkLists;
+use nr_header::{ListsRoom, read_header_into};
 use nr_regions::Registration;
 use nr_rpc::CallTarget;
 use nr_xdr::Octets;
 use std::marker::Model;
 
 /// A call whose Send is complete, and which isn't answered. Its Send has this number, from 1 on. Its message is the first `len` bytes of
-/// its receive buffer. If its stream is `inline`, it stands in the message from `stream_at` on. `room` is the room of its payload, while its
+/// its receive buffer, and has its chunk lists. If its stream is `inline`, it stands in the message from `stream_at` on. `room` is the room of its payload, while its
 /// chunks are read. `target` is what the head of its inline stream asks for, if that was read: `Some(None)` if it is of another RPC version.
 #[derive(Drop)]
 pub struct Pending {
@@ -21,8 +23,6 @@ pub struct Pending {
     pub number: u64,
     /// Its transaction ID (XID).
     pub xid: u32,
-    /// The chunk lists of its message.
-    pub lists: ChunkLists,
     /// The receive buffer of its Send.
     pub buf: Octets,
     /// The length of its message in bytes.
@@ -159,6 +159,18 @@ pub(crate) fn place_of(calls: &[Pending], xid: u32) -> Option<usize>
         }
     }
     None
+}
+
+/// Puts the lists of a call's message into a room: that message was read before.
+pub(crate) fn lists_again(call: &Pending, room: &mut ListsRoom)
+    requires call { InBuffer call.now }
+    requires room { room.old ≡ no_lists }
+    ensures { room.new ≡ (call_view call.now).lists }
+{
+    match read_header_into(stream_of(&call.buf, call.len, 0), room) {
+        Ok(_) => (),
+        Err(_) => unreachable!(),
+    }
 }
 
 /// The bytes of a message from a place on.

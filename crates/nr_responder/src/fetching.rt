@@ -28,54 +28,57 @@ fn has_bytes(read: &[ReadSegment]) -> bool
 
 impl ServerEnd {
     /// A call with a read list.
-    pub(crate) fn fetch(&mut self, call: Pending)
+    pub(crate) fn fetch(&mut self, call: Pending, read: &[ReadSegment])
         requires sound { ServerEndInvariantWith 1 self.old }
         requires live { self.old.endpoint.link.state.ended ≡ None }
         requires frame { 0 < self.old.endpoint.link.state.place }
         requires call { InBuffer call }
-        requires reads { read_total call.lists.read ≤ PAYLOAD_MAX }
+        requires read { read.now ≡ (call_view call).lists.read }
+        requires reads { read_total read.now ≤ PAYLOAD_MAX }
         requires fresh { is_read (map read_view self.old.reads.items) call.number ≡ true }
         ensures fetched { FetchesCall (state_of self.old) (state_of self.new) (call_view call) }
         ensures sound { ServerEndInvariant self.new }
         ensures input { SameInput self.old.endpoint.link self.new.endpoint.link }
         ensures staging { self.new.endpoint.staging ≡ self.old.endpoint.staging }
     {
-        if has_bytes(call.lists.read.as_slice()) {
-            self.fetch_chunks(call);
+        if has_bytes(read) {
+            self.fetch_chunks(call, read);
         } else {
-            self.complete_at_once(call);
+            self.complete_at_once(call, read);
         }
     }
 
     /// A call whose read list has bytes.
-    fn fetch_chunks(&mut self, call: Pending)
+    fn fetch_chunks(&mut self, call: Pending, read: &[ReadSegment])
         requires sound { ServerEndInvariantWith 1 self.old }
         requires live { self.old.endpoint.link.state.ended ≡ None }
         requires frame { 0 < self.old.endpoint.link.state.place }
         requires call { InBuffer call }
-        requires reads { read_total call.lists.read ≤ PAYLOAD_MAX }
-        requires bytes { HasBytes call.lists.read }
+        requires read { read.now ≡ (call_view call).lists.read }
+        requires reads { read_total read.now ≤ PAYLOAD_MAX }
+        requires bytes { HasBytes read.now }
         requires fresh { is_read (map read_view self.old.reads.items) call.number ≡ true }
         ensures fetched { FetchesCall (state_of self.old) (state_of self.new) (call_view call) }
         ensures sound { ServerEndInvariant self.new }
         ensures input { SameInput self.old.endpoint.link self.new.endpoint.link }
         ensures staging { self.new.endpoint.staging ≡ self.old.endpoint.staging }
     {
-        match chunk_positions(self.alloc, call.lists.read.as_slice()) {
-            Ok(chunks) => self.fetch_into(call, chunks.as_slice()),
+        match chunk_positions(self.alloc, read) {
+            Ok(chunks) => self.fetch_into(call, chunks.as_slice(), read),
             Err(_) => self.run_out(),
         }
     }
 
     /// A call with these chunks that have bytes.
-    fn fetch_into(&mut self, call: Pending, chunks: &[u32])
+    fn fetch_into(&mut self, call: Pending, chunks: &[u32], read: &[ReadSegment])
         requires sound { ServerEndInvariantWith 1 self.old }
         requires live { self.old.endpoint.link.state.ended ≡ None }
         requires frame { 0 < self.old.endpoint.link.state.place }
         requires call { InBuffer call }
-        requires reads { read_total call.lists.read ≤ PAYLOAD_MAX }
-        requires bytes { HasBytes call.lists.read }
-        requires chunks { chunks.now ≡ chunk_positions call.lists.read }
+        requires read { read.now ≡ (call_view call).lists.read }
+        requires reads { read_total read.now ≤ PAYLOAD_MAX }
+        requires bytes { HasBytes (call_view call).lists.read }
+        requires chunks { chunks.now ≡ chunk_positions (call_view call).lists.read }
         ensures fetched { FetchesCall (state_of self.old) (state_of self.new) (call_view call) }
         ensures sound { ServerEndInvariant self.new }
         ensures input { SameInput self.old.endpoint.link self.new.endpoint.link }
@@ -90,17 +93,18 @@ impl ServerEnd {
             self.run_out();
             return;
         }
-        self.start_reads(call, chunks);
+        self.start_reads(call, chunks, read);
     }
 
     /// A call whose reads may begin.
     #[tactic(none)]
-    fn start_reads(&mut self, call: Pending, chunks: &[u32])
+    fn start_reads(&mut self, call: Pending, chunks: &[u32], read: &[ReadSegment])
         requires sound { ServerEndInvariantWith 1 self.old }
         requires live { self.old.endpoint.link.state.ended ≡ None }
         requires call { InBuffer call }
-        requires reads { read_total call.lists.read ≤ PAYLOAD_MAX }
-        requires chunks { chunks.now ≡ chunk_positions call.lists.read }
+        requires read { read.now ≡ (call_view call).lists.read }
+        requires reads { read_total read.now ≤ PAYLOAD_MAX }
+        requires chunks { chunks.now ≡ chunk_positions (call_view call).lists.read }
         requires stags { self.old.endpoint.link.state.memory.next + length chunks.now ≤ 2 ^ 32 }
         requires own { list_any (λ c. c.number == call.number) self.old.calls.items ≡ false }
         ensures started { (state_of self.new ≡ reading_call (state_of self.old) (call_view call)) ⊎ (state_of self.new ≡ out (state_of self.old)) }
@@ -116,7 +120,7 @@ impl ServerEnd {
             &mut self.sinks,
             call.number,
             chunks,
-            call.lists.read.as_slice(),
+            read,
         ) {
             Ok(room) => push_reading(&mut self.calls, call, room),
             Err(_) => self.run_out(),
@@ -124,19 +128,20 @@ impl ServerEnd {
     }
 
     /// A call whose read list has no bytes: it is ready, or ends the link. Takes memory for a Terminate alone.
-    fn complete_at_once(&mut self, call: Pending)
+    fn complete_at_once(&mut self, call: Pending, read: &[ReadSegment])
         requires sound { ServerEndInvariantWith 1 self.old }
         requires live { self.old.endpoint.link.state.ended ≡ None }
         requires frame { 0 < self.old.endpoint.link.state.place }
         requires call { InBuffer call }
-        requires none { HasNoBytes call.lists.read }
+        requires read { read.now ≡ (call_view call).lists.read }
+        requires none { HasNoBytes read.now }
         requires fresh { is_read (map read_view self.old.reads.items) call.number ≡ true }
         ensures fetched { FetchesCall (state_of self.old) (state_of self.new) (call_view call) }
         ensures sound { ServerEndInvariant self.new }
         ensures input { SameInput self.old.endpoint.link self.new.endpoint.link }
         ensures staging { self.new.endpoint.staging ≡ self.old.endpoint.staging }
     {
-        match judge_at_once(&call) {
+        match judge_at_once(&call, read) {
             None => self.push(call, None),
             Some(reason) => self.end_for(reason),
         }

@@ -2,19 +2,24 @@
 
 ghost use Rattle.std.specs.Prelude.{◌≡◌, ℕ, ◌≤◌, ◌^◌, length, map};
 ghost use Rattle.nr_header.specs.Constants.{FIXED_LEN};
+ghost use Rattle.nr_header.specs.ReadInto.{body_with, no_lists};
+ghost use Rattle.nr_header.specs.Slices.{lists_of_slices};
 ghost use Rattle.nr_header.specs.WithinLimits.{StreamWithin};
 ghost use Rattle.nr_reduce.specs.ServerState.{ServerState, next_stag};
 ghost use Rattle.nr_reduce.specs.ServerMessages.{has_position};
-ghost use Rattle.nr_responder.specs.Views.{brings_stream, call_view, reads_if, HasStream, Judges, JudgesBody};
+ghost use Rattle.nr_responder.specs.Views.{brings_stream, call_view, reads_if, HasStream, Judges, JudgesBody, PutsLists};
 
 use crate::call::{Pending, has_xid};
-use nr_header::{Body, ChunkLists, DONE, ERROR, FIXED_LEN, ReadSegment, VERSION, read_header};
+use nr_header::{
+    DONE, ERROR, FIXED_LEN, ListSlices, ListsRoom, MessageKind, ReadSegment, VERSION,
+    read_header_into,
+};
 use nr_reduce::{is_read_chunk_of_item, total_at};
 use nr_xdr::word_at;
 
 /// What a responder makes of a message: it ends the link, by its kind or by its xid; ERR_VERS; ERR_CHUNK; a call without a read list,
-/// with its lists and the place of its stream; or a call with a read list, whose stream is `inline` from a place of its message on, or read.
-#[derive(Drop)]
+/// with the place of its stream; or a call with a read list, whose stream is `inline` from a place of its message on, or read.
+#[derive(Clone, Copy)]
 pub enum Judged {
     /// The message is of a kind that no client sends: the link ends.
     Kind,
@@ -25,16 +30,9 @@ pub enum Judged {
     /// A header or a read list that is refused: ERR_CHUNK is due (RFC 8166 sections 4.5.2, 4.5.3).
     BadChunks,
     /// A call without a read list: its stream stands in the message from `stream_at` on.
-    Call {
-        lists: ChunkLists,
-        stream_at: usize,
-    },
+    Call { stream_at: usize },
     /// A call with a read list: its stream stands in the message from `stream_at` on, if it is `inline`; else it is read.
-    Reads {
-        lists: ChunkLists,
-        stream_at: usize,
-        inline: bool,
-    },
+    Reads { stream_at: usize, inline: bool },
 }
 
 /// Whether some entry of a read list has position 0.
@@ -59,50 +57,46 @@ fn brings_stream(read: &[ReadSegment]) -> bool
 }
 
 /// A call with a read list, or ERR_CHUNK.
-fn reads_if(fits: bool, lists: ChunkLists, stream_at: usize, inline: bool) -> Judged
-    ensures { result ≡ reads_if fits lists stream_at inline }
+fn reads_if(fits: bool, stream_at: usize, inline: bool) -> Judged
+    ensures { result ≡ reads_if fits stream_at inline }
 {
     if fits {
-        return Judged::Reads {
-            lists,
-            stream_at,
-            inline,
-        };
+        return Judged::Reads { stream_at, inline };
     }
-    drop(lists);
     Judged::BadChunks
 }
 
-/// Judges the body of a message.
-fn judge_body(message: &[u8], body: Body) -> Judged
-    requires { StreamWithin body (length message.now) }
-    ensures { JudgesBody message.now body result }
+/// Judges a message of this kind with these lists.
+fn judge_kind(message: &[u8], kind: MessageKind, lists: ListSlices<'_>) -> Judged
+    requires { StreamWithin (body_with kind (lists_of_slices lists)) (length message.now) }
+    ensures { JudgesBody message.now (body_with kind (lists_of_slices lists.entry)) (lists_of_slices lists.entry) result }
 {
-    match body {
-        Body::Msg { lists, stream_at } => {
+    match kind {
+        MessageKind::Msg { stream_at } => {
             if lists.read.is_empty() {
-                return Judged::Call { lists, stream_at };
+                return Judged::Call { stream_at };
             }
             let (_, stream) = message.split_at(stream_at);
-            let fits = is_read_chunk_of_item(stream, lists.read.as_slice());
-            reads_if(fits, lists, stream_at, true)
+            let fits = is_read_chunk_of_item(stream, lists.read);
+            reads_if(fits, stream_at, true)
         }
-        Body::Nomsg { lists } => {
-            let fits = brings_stream(lists.read.as_slice());
+        MessageKind::Nomsg => {
+            let fits = brings_stream(lists.read);
             // A stream without bytes isn't read.
-            let inline = total_at(0, lists.read.as_slice()) == 0;
-            reads_if(fits, lists, message.len(), inline)
+            let inline = total_at(0, lists.read) == 0;
+            reads_if(fits, message.len(), inline)
         }
-        Body::ErrVers { .. } => Judged::BadChunks,
-        Body::ErrChunk { .. } => Judged::BadChunks,
+        MessageKind::Error { .. } => Judged::BadChunks,
     }
 }
 
-/// Judges a message, when these calls are pending.
-pub(crate) fn judge(message: &[u8], calls: &[Pending]) -> Judged
-    requires { FIXED_LEN ≤ length message.now }
+/// Judges a message, when these calls are pending. The lists of a call are put into a room.
+pub(crate) fn judge(message: &[u8], calls: &[Pending], room: &mut ListsRoom) -> Judged
+    requires fixed { FIXED_LEN ≤ length message.now }
+    requires room { room.old ≡ no_lists }
     ensures judged { (k : ServerState) → k.calls ≡ map call_view calls.now → next_stag k ≤ 2 ^ 32 → Judges k message.now result }
     ensures stream { HasStream message.now result }
+    ensures lists { PutsLists message.now room.new result }
 {
     if word_at(message, 4) != VERSION {
         return Judged::OtherVersion;
@@ -117,8 +111,8 @@ pub(crate) fn judge(message: &[u8], calls: &[Pending]) -> Judged
     if has_xid(calls, word_at(message, 0)) {
         return Judged::Open;
     }
-    match read_header(message) {
-        Ok(header) => judge_body(message, header.body),
+    match read_header_into(message, room) {
+        Ok(fields) => judge_kind(message, fields.kind, room.as_slices()),
         Err(_) => Judged::BadChunks,
     }
 }

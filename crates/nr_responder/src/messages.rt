@@ -3,21 +3,21 @@
 ghost use Rattle.std.specs.Prelude.{◌≡◌, ℕ, ◌+◌, ◌<◌, ◌≤◌, [], ◌∷◌, ◌++◌, take, map, Option, None, IfOk, IsOk, true, ◌⊎◌};
 ghost use Rattle.nr_link.specs.Limits.{send_max};
 ghost use Rattle.nr_header.specs.Constants.{FIXED_LEN};
-ghost use Rattle.nr_header.specs.WithinLimits.{ListsWithin};
+ghost use Rattle.nr_header.specs.ReadInto.{lists_in};
 ghost use Rattle.nr_endpoint.specs.Receives.{IsReceive};
 ghost use Rattle.nr_endpoint.specs.Calls.{after_call, IsStopReason};
 ghost use Rattle.nr_endpoint.specs.Calls.Call.{Stop, Send, OutOfMemory};
 ghost use Rattle.nr_responder.specs.private.Handling.{out, Begins, Makes, OrOut};
 ghost use Rattle.nr_reduce.specs.ServerReads.{is_read};
 ghost use Rattle.nr_responder.specs.Sound.{state_of, HasRoom, InBuffer, ServerEndInvariant, ServerEndInvariantWith, SameInput};
-ghost use Rattle.nr_responder.specs.Views.{read_view};
+ghost use Rattle.nr_responder.specs.Views.{read_view, HasLists};
 
 use crate::answering::{chunk_error, version_error};
 use crate::call::{Pending, Ready, is_read, stream_of};
 use crate::judging::{Judged, judge};
 use crate::room::Payload;
 use crate::server_end::{ServerEnd, own_xid, send_error, stop};
-use nr_header::ChunkLists;
+use nr_header::ListsRoom;
 use nr_link::constants::{REASON_CALL, REASON_KIND};
 use nr_rpc::call_target;
 use nr_xdr::{Memory, Octets, word_at};
@@ -69,7 +69,8 @@ impl ServerEnd {
         let message = stream_of(&buf, len, 0);
         let xid = word_at(message, 0);
         let version = word_at(message, 4);
-        match judge(message, self.calls.as_slice()) {
+        let mut room = ListsRoom::new();
+        match judge(message, self.calls.as_slice(), &mut room) {
             Judged::Kind => self.end_for(REASON_KIND),
             Judged::Open => self.end_for(REASON_CALL),
             Judged::OtherVersion => {
@@ -80,22 +81,20 @@ impl ServerEnd {
                 let made = chunk_error(self.alloc, xid, self.credits);
                 self.refuse(buf, made);
             }
-            Judged::Call { lists, stream_at } => self.begin(number, buf, len, lists, stream_at),
-            Judged::Reads {
-                lists,
-                stream_at,
-                inline,
-            } => self.fetch(Pending {
-                number,
-                xid,
-                lists,
-                buf,
-                len,
-                stream_at,
-                inline,
-                room: None,
-                target: None,
-            }),
+            Judged::Call { stream_at } => self.begin(number, buf, len, stream_at),
+            Judged::Reads { stream_at, inline } => self.fetch(
+                Pending {
+                    number,
+                    xid,
+                    buf,
+                    len,
+                    stream_at,
+                    inline,
+                    room: None,
+                    target: None,
+                },
+                room.as_slices().read,
+            ),
         }
     }
 
@@ -117,15 +116,16 @@ impl ServerEnd {
     }
 
     /// A call whose stream stands in its message: it is ready if that is an RPC call of its xid, else it ends the link.
-    fn begin(&mut self, number: u64, buf: Octets, len: usize, lists: ChunkLists, stream_at: usize)
+    fn begin(&mut self, number: u64, buf: Octets, len: usize, stream_at: usize)
         requires sound { ServerEndInvariantWith 1 self.old }
         requires live { self.old.endpoint.link.state.ended ≡ None }
         requires frame { 0 < self.old.endpoint.link.state.place }
         requires buf { IsReceive send_max buf }
         requires len { (FIXED_LEN ≤ len) × (len ≤ send_max) }
-        requires lists { (stream_at ≤ len) × ListsWithin lists }
+        requires stream { stream_at ≤ len }
+        requires lists { HasLists (take len buf) }
         requires fresh { is_read (map read_view self.old.reads.items) number ≡ true }
-        ensures begun { Begins (state_of self.old) (state_of self.new) number (take len buf) lists stream_at }
+        ensures begun { Begins (state_of self.old) (state_of self.new) number (take len buf) (lists_in (take len buf)) stream_at }
         ensures sound { ServerEndInvariant self.new }
         ensures input { SameInput self.old.endpoint.link self.new.endpoint.link }
         ensures staging { self.new.endpoint.staging ≡ self.old.endpoint.staging }
@@ -137,7 +137,6 @@ impl ServerEnd {
                 let call = Pending {
                     number,
                     xid,
-                    lists,
                     buf,
                     len,
                     stream_at,

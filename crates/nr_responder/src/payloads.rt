@@ -110,8 +110,9 @@ fn is_stream_alone(stream: &[u8], read: &[ReadSegment]) -> bool
 }
 
 /// Why the link ends for a call of which nothing is read; if it doesn't, the call's payload is the stream of its Send.
-pub(crate) fn judge_at_once(call: &Pending) -> Option<u32>
-    requires { InBuffer call.now }
+pub(crate) fn judge_at_once(call: &Pending, read: &[ReadSegment]) -> Option<u32>
+    requires call { InBuffer call.now }
+    requires read { read.now ≡ (call_view call.now).lists.read }
     ensures alone { result ≡ None → IsStreamAlone (call_view call.now) }
     ensures ends { IfSome result (λ reason. by_payload (call_view call.now) (payload_at_once (call_view call.now)) ≡ Refuses reason) }
     ensures reason { IfSome result (λ reason. IsStopReason reason × (5 ≤ reason)) }
@@ -120,7 +121,7 @@ pub(crate) fn judge_at_once(call: &Pending) -> Option<u32>
         return Some(REASON_HEAD);
     }
     let stream = stream_of(&call.buf, call.len, call.stream_at);
-    if !is_stream_alone(stream, call.lists.read.as_slice()) {
+    if !is_stream_alone(stream, read) {
         return Some(REASON_HEAD);
     }
     judge_bytes(stream, call.xid)

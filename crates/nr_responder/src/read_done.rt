@@ -7,7 +7,7 @@ ghost use Rattle.nr_link.specs.Limits.{send_max};
 ghost use Rattle.nr_reduce.specs.Holds.{chunk_error};
 ghost use Rattle.nr_reduce.specs.ServerState.{PendingRead};
 ghost use Rattle.nr_reduce.specs.ServerReads.{is_read};
-ghost use Rattle.nr_reduce.specs.Chunks.{call_conveyed, call_stream};
+ghost use Rattle.nr_reduce.specs.Chunks.{call_conveyed, call_stream, is_read_chunk_of_item, item_position};
 ghost use Rattle.nr_responder.specs.private.Reading.{opening, sink_bytes, with_opened_after};
 ghost use Rattle.nr_responder.specs.private.ReadsDone.{has_bad_chunk, reads_without, still_open, HandlesRead, NothingReady};
 ghost use Rattle.nr_responder.specs.private.DoneReads.{IsOfCall, ReadsOn, ReadyMade};
@@ -16,13 +16,14 @@ ghost use Rattle.nr_responder.specs.Sound.{claims_of, state_of, AreHeldFrom, InB
 ghost use Rattle.nr_responder.specs.Views.{call_view, read_view, sink_view};
 
 use crate::answering::chunk_error;
-use crate::call::{OpenSink, Pending, ReadEntry, Ready, is_read};
+use crate::call::{OpenSink, Pending, ReadEntry, Ready, is_read, lists_again};
 use crate::opening::{open_count, open_reads, send_and_open};
 use crate::payloads::{inline_stream, judge_payload, stream_alone, with_item};
 use crate::room::{Payload, Room};
 use crate::server_end::ServerEnd;
 use crate::sink_regions::{close_over, is_read_at, sink_bytes};
 use nr_endpoint::Endpoint;
+use nr_header::ListsRoom;
 use nr_reduce::{is_read_chunk_of_item, item_position};
 use nr_xdr::Memory;
 use std::alloc::Global;
@@ -55,6 +56,30 @@ fn stream_read<'a>(call: &'a Pending, endpoint: &'a Endpoint, sinks: &'a [OpenSi
     sink_bytes(endpoint, sinks, call.number, 0)
 }
 
+/// The position of the item of a call in its read list, if it has one.
+fn position_of(call: &Pending) -> Option<u32>
+    requires { InBuffer call.now }
+    ensures { result ≡ item_position (call_view call.now).lists.read }
+{
+    let mut room = ListsRoom::new();
+    lists_again(call, &mut room);
+    let position = item_position(room.as_slices().read);
+    drop(room);
+    position
+}
+
+/// Whether the read chunk of a call is that of the item of a stream.
+fn has_own_chunk(call: &Pending, stream: &[u8]) -> bool
+    requires { InBuffer call.now }
+    ensures { result ≡ is_read_chunk_of_item stream.now (call_view call.now).lists.read }
+{
+    let mut room = ListsRoom::new();
+    lists_again(call, &mut room);
+    let is_own = is_read_chunk_of_item(stream, room.as_slices().read);
+    drop(room);
+    is_own
+}
+
 /// The payload of a call of which all chunks are read, if they convey one.
 fn payload_read(
     room: Room,
@@ -66,10 +91,10 @@ fn payload_read(
     requires call { InBuffer call.now }
     requires held { AreHeldFrom endpoint.now.link.state.memory 0 (claims_of sinks.now) }
     requires short { All (λ s. s.registration.len ≤ PAYLOAD_MAX) sinks.now }
-    ensures { result ≡ call_conveyed (call_view call.now).inline call.now.lists.read (sink_bytes endpoint.now.link.state.memory (map sink_view sinks.now) call.now.number) }
+    ensures { result ≡ call_conveyed (call_view call.now).inline (call_view call.now).lists.read (sink_bytes endpoint.now.link.state.memory (map sink_view sinks.now) call.now.number) }
 {
     let stream = stream_read(call, endpoint, sinks);
-    match item_position(call.lists.read.as_slice()) {
+    match position_of(call) {
         Some(position) => {
             let moved = sink_bytes(endpoint, sinks, call.number, position);
             with_item(room, stream, moved)
@@ -252,7 +277,7 @@ impl ServerEnd {
             return false;
         }
         let stream = sink_bytes(&self.endpoint, self.sinks.as_slice(), call.number, 0);
-        !is_read_chunk_of_item(stream, call.lists.read.as_slice())
+        !has_own_chunk(call, stream)
     }
 
     /// The call at this place is refused by ERR_CHUNK (RFC 8166 section 4.5.3), and its reads that wait are dropped.

@@ -15,7 +15,7 @@ returns-then-not-is_stream_alone-clause-ends c =
     let call = c.args.call.now in
     let stream : List ℕ = drop call.stream_at (take call.len call.buf) in
     stream_conveyed (call_view call) stream None (ap (λ (b : Bool). inline_of b stream) c.if-not-call.false)
-    (alone_as stream c.stream_of-stream.result.now call.lists.read c.as_slice.result.now c.is_stream_alone.result false c.stream_of-stream.ensures c.as_slice.ensures c.is_stream_alone.ensures c.if-not-is_stream_alone.true)
+    (alone_as stream c.stream_of-stream.result.now (call_view call).lists.read c.args.read.now c.is_stream_alone.result false c.stream_of-stream.ensures c.requires.read c.is_stream_alone.ensures c.if-not-is_stream_alone.true)
 
 pub returns-clause-alone : goal.returns-clause-alone
 returns-clause-alone c = λ none.
@@ -27,7 +27,7 @@ returns-clause-alone c = λ none.
       inline = inline;
       judged =
           stream_conveyed (call_view call) stream (Some stream) inline
-          (alone_as stream c.stream_of-stream.result.now call.lists.read c.as_slice.result.now c.is_stream_alone.result true c.stream_of-stream.ensures c.as_slice.ensures c.is_stream_alone.ensures c.if-not-is_stream_alone.false)
+          (alone_as stream c.stream_of-stream.result.now (call_view call).lists.read c.args.read.now c.is_stream_alone.result true c.stream_of-stream.ensures c.requires.read c.is_stream_alone.ensures c.if-not-is_stream_alone.false)
           ∙ ap (λ (s : List ℕ). by_payload (call_view call) (Some s)) (sym c.stream_of-stream.ensures)
           ∙ c.judge_bytes.ensures.verdict (call_view call) refl
           ∙ (λ i. verdict_by (call_view call) (c.stream_of-stream.ensures i) (none i));
@@ -39,6 +39,6 @@ returns-clause-ends c =
     let stream : List ℕ = drop call.stream_at (take call.len call.buf) in
     ends_by (call_view call) c.stream_of-stream.result.now c.judge_bytes.result (by_payload (call_view call) (payload_at_once (call_view call)))
     (stream_conveyed (call_view call) stream (Some stream) (ap (λ (b : Bool). inline_of b stream) c.if-not-call.false)
-    (alone_as stream c.stream_of-stream.result.now call.lists.read c.as_slice.result.now c.is_stream_alone.result true c.stream_of-stream.ensures c.as_slice.ensures c.is_stream_alone.ensures c.if-not-is_stream_alone.false)
+    (alone_as stream c.stream_of-stream.result.now (call_view call).lists.read c.args.read.now c.is_stream_alone.result true c.stream_of-stream.ensures c.requires.read c.is_stream_alone.ensures c.if-not-is_stream_alone.false)
     ∙ ap (λ (s : List ℕ). by_payload (call_view call) (Some s)) (sym c.stream_of-stream.ensures)
     ∙ c.judge_bytes.ensures.verdict (call_view call) refl)

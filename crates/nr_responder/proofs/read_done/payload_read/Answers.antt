@@ -1,6 +1,6 @@
 use Rattle.std.proofs.Common.{ℕ, List, Some, None, sym, ap, ◌∙◌}
 use Rattle.std.specs.Prelude.{map}
-use Rattle.nr_reduce.specs.Chunks.{item_position, whole}
+use Rattle.nr_reduce.specs.Chunks.{whole}
 use Rattle.nr_reduce.specs.declared.item.Of.TheVariants as of
 use Rattle.nr_responder.specs.private.Reading.{sink_bytes}
 use Rattle.nr_responder.specs.Views.{call_view, sink_view}
@@ -10,9 +10,9 @@ use Rattle.nr_responder.proofs.read_done.payload_read.Goals as goal
 pub returns-in-Some : goal.returns-in-Some
 returns-in-Some c =
     c.with_item.ensures ∙ (λ i. whole of.Call (c.stream_read-stream.ensures.stream i) (Some (c.sink_bytes-moved.ensures.bytes i)))
-    ∙ conveyed_is (call_view c.args.call.now).inline c.args.call.now.lists.read (sink_bytes c.args.endpoint.now.link.state.memory (map sink_view c.args.sinks.now) c.args.call.now.number) (Some c.in-Some.position) (sym c.in-Some.is ∙ c.item_position.ensures ∙ ap item_position c.as_slice.ensures)
+    ∙ conveyed_is (call_view c.args.call.now).inline (call_view c.args.call.now).lists.read (sink_bytes c.args.endpoint.now.link.state.memory (map sink_view c.args.sinks.now) c.args.call.now.number) (Some c.in-Some.position) (sym c.in-Some.is ∙ c.position_of.ensures)
 
 pub returns-in-None : goal.returns-in-None
 returns-in-None c =
     ap (λ (s : List ℕ). Some s) (c.stream_alone.ensures ∙ c.stream_read-stream.ensures.stream)
-    ∙ conveyed_is (call_view c.args.call.now).inline c.args.call.now.lists.read (sink_bytes c.args.endpoint.now.link.state.memory (map sink_view c.args.sinks.now) c.args.call.now.number) None (sym c.in-None.is ∙ c.item_position.ensures ∙ ap item_position c.as_slice.ensures)
+    ∙ conveyed_is (call_view c.args.call.now).inline (call_view c.args.call.now).lists.read (sink_bytes c.args.endpoint.now.link.state.memory (map sink_view c.args.sinks.now) c.args.call.now.number) None (sym c.in-None.is ∙ c.position_of.ensures)

@@ -1,3 +1,5 @@
+use Rattle.std.proofs.Common.{subst}
+use Rattle.nr_responder.specs.private.CallsRead.{HasNoBytes}
 use Rattle.nr_responder.specs.private.Handling.FetchesCall.{EndsFor, IsComplete}
 use Rattle.nr_responder.proofs.Sounds.{sound_less}
 use Rattle.nr_responder.proofs.Begun.{pushed_view}
@@ -9,11 +11,11 @@ push-requires-clause-room c = read_has_room c.args.self.now.reads.items c.args.c
 
 pub returns-in-None-clause-fetched : goal.returns-in-None-clause-fetched
 returns-in-None-clause-fetched c =
-    IsComplete c.requires.none (c.judge_at_once.ensures.alone c.in-None.is)
+    IsComplete (subst HasNoBytes c.requires.read c.requires.none) (c.judge_at_once.ensures.alone c.in-None.is)
     (pushed_view c.args.self.now c.push.new.self c.args.call c.push.ensures.same.0 c.push.ensures.same.1 c.push.ensures.reads.0 c.push.ensures.reads.1 c.push.ensures.pushed.0 c.push.ensures.pushed.1)
 
 pub returns-in-Some-clause-fetched : goal.returns-in-Some-clause-fetched
-returns-in-Some-clause-fetched c = EndsFor c.in-Some.reason c.in-Some.ensures.reason.1 c.requires.none c.in-Some.ensures.ends c.end_for.ensures.ended
+returns-in-Some-clause-fetched c = EndsFor c.in-Some.reason c.in-Some.ensures.reason.1 (subst HasNoBytes c.requires.read c.requires.none) c.in-Some.ensures.ends c.end_for.ensures.ended
 
 pub end_for-requires-clause-sound : goal.end_for-requires-clause-sound
 end_for-requires-clause-sound c = sound_less c.args.self.now c.requires.sound

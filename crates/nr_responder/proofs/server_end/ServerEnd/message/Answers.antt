@@ -5,6 +5,7 @@ use Rattle.nr_reduce.specs.ServerReads.{is_read}
 use Rattle.nr_responder.specs.declared.call.Pending.{Pending}
 use Rattle.nr_responder.specs.declared.call.ReadEntry.{ReadEntry}
 use Rattle.nr_responder.specs.Views.{call_view, read_view, call_with, inline_of, IsCall, IsOfReads}
+use Rattle.nr_header.specs.ReadInto.{lists_in}
 use Rattle.nr_xdr.specs.Fields.{word_at}
 use Rattle.nr_responder.specs.private.Handling.{FetchesCall}
 use Rattle.nr_responder.specs.private.Handling.Makes.{Ends, Calls, NoServer}
@@ -35,17 +36,17 @@ returns-in-BadChunks-clause-input c = refused_input _ c.args.self.now.endpoint.l
 
 pub returns-in-Call-clause-made : goal.returns-in-Call-clause-made
 returns-in-Call-clause-made c =
-    Calls c.in-Call.lists c.in-Call.stream_at
-    (λ k server. subst (λ (m : List ℕ). IsCall k m c.in-Call.lists c.in-Call.stream_at) c.stream_of-message.ensures (c.in-Call.ensures.judged k (server.calls ∙ ap (λ (cs : List Pending). map call_view cs) (sym c.as_slice-2.ensures.value)) (few_stags k (state_of c.args.self.now) server c.facts.ensures.stags)))
+    Calls (lists_in (take c.args.len c.args.buf)) c.in-Call.stream_at
+    (λ k server. subst (λ (m : List ℕ). IsCall k m (lists_in m) c.in-Call.stream_at) c.stream_of-message.ensures (c.in-Call.ensures.judged k (server.calls ∙ ap (λ (cs : List Pending). map call_view cs) (sym c.as_slice-2.ensures.value)) (few_stags k (state_of c.args.self.now) server c.facts.ensures.stags)))
     c.begin.ensures.begun
 
 pub returns-in-Reads-clause-made : goal.returns-in-Reads-clause-made
 returns-in-Reads-clause-made c =
-    fetched_makes (state_of c.args.self.now) (state_of c.fetch.new.self) c.args.number (take c.args.len c.args.buf) c.in-Reads.lists c.in-Reads.stream_at c.in-Reads.inline
-    (λ k server. subst (λ (m : List ℕ). IsOfReads k m c.in-Reads.lists c.in-Reads.stream_at c.in-Reads.inline) c.stream_of-message.ensures
+    fetched_makes (state_of c.args.self.now) (state_of c.fetch.new.self) c.args.number (take c.args.len c.args.buf) (lists_in (take c.args.len c.args.buf)) c.in-Reads.stream_at c.in-Reads.inline
+    (λ k server. subst (λ (m : List ℕ). IsOfReads k m (lists_in m) c.in-Reads.stream_at c.in-Reads.inline) c.stream_of-message.ensures
     (c.in-Reads.ensures.judged k (server.calls ∙ ap (λ (cs : List Pending). map call_view cs) (sym c.as_slice-2.ensures.value)) (few_stags k (state_of c.args.self.now) server c.facts.ensures.stags)))
     c.facts.ensures.stags
-    (subst (λ (x : ℕ). FetchesCall (state_of c.args.self.now) (state_of c.fetch.new.self) (call_with c.args.number x c.in-Reads.lists (inline_of c.in-Reads.inline (drop c.in-Reads.stream_at (take c.args.len c.args.buf)))))
+    (subst (λ (x : ℕ). FetchesCall (state_of c.args.self.now) (state_of c.fetch.new.self) (call_with c.args.number x (lists_in (take c.args.len c.args.buf)) (inline_of c.in-Reads.inline (drop c.in-Reads.stream_at (take c.args.len c.args.buf)))))
     (c.word_at-xid.ensures ∙ ap (word_at 0) c.stream_of-message.ensures) c.fetch.ensures.fetched)
 
 pub returns-then-not-is_read-clause-made : goal.returns-then-not-is_read-clause-made

@@ -1,7 +1,5 @@
-use Rattle.std.proofs.Common.{◌≤◌, ◌∙◌, List, refl, sym, ap, subst, arith, inl, inr}
-use Rattle.nr_header.specs.Constants.{PAYLOAD_MAX}
+use Rattle.std.proofs.Common.{◌∙◌, List, refl, ap, subst, arith, inl, inr}
 use Rattle.nr_header.specs.declared.header.ReadSegment.{ReadSegment}
-use Rattle.nr_header.specs.WithinLimits.{read_total}
 use Rattle.nr_endpoint.specs.LinkState.{LinkSide}
 use Rattle.nr_responder.specs.declared.server_end.ServerEnd.{ServerEnd}
 use Rattle.nr_responder.specs.private.Starting.{BeginsReads}
@@ -9,9 +7,6 @@ use Rattle.nr_responder.specs.Sound.{SameInput, state_of}
 use Rattle.nr_responder.proofs.BegunReads.{call_fits, kept_fetched, started_fetched, started_input, started_is, started_sound, stopped_is}
 use Rattle.nr_responder.proofs.Sounds.{sound_as}
 use Rattle.nr_responder.proofs.server_end.ServerEnd.start_reads.Goals as goal
-
-pub as_slice-requires : goal.as_slice-requires
-as_slice-requires c = omega arith
 
 pub begin_reads-requires-clause-live : goal.begin_reads-requires-clause-live
 begin_reads-requires-clause-live c = c.requires.live
@@ -29,7 +24,7 @@ pub begin_reads-requires-clause-stags : goal.begin_reads-requires-clause-stags
 begin_reads-requires-clause-stags c = c.requires.stags
 
 pub begin_reads-requires-clause-total : goal.begin_reads-requires-clause-total
-begin_reads-requires-clause-total c = subst (λ (read : List ReadSegment). read_total read ≤ PAYLOAD_MAX) (sym c.as_slice.ensures) c.requires.reads
+begin_reads-requires-clause-total c = c.requires.reads
 
 pub push_reading-requires : goal.push_reading-requires
 push_reading-requires c =
@@ -46,27 +41,24 @@ run_out-requires c = record {
   );
 }
 
-pub array_drop-requires : goal.array_drop-requires
-array_drop-requires c = omega arith
-
 pub returns-in-Ok-clause-started : goal.returns-in-Ok-clause-started
 returns-in-Ok-clause-started c =
     let after : ServerEnd = record { endpoint = c.begin_reads.new.endpoint; calls = c.push_reading.new.calls; ready = c.args.self.now.ready; reads = c.begin_reads.new.reads; sinks = c.begin_reads.new.sinks; used = c.args.self.now.used; credits = c.args.self.now.credits; alloc = c.args.self.now.alloc } in
     inl (started_is c.args.self.now after c.args.call c.in-Ok.room c.args.chunks.now c.requires.chunks
-    (subst (λ (read : List ReadSegment). BeginsReads c.args.call.number read c.args.chunks.now c.args.self.now.reads.items c.begin_reads.new.reads.items c.args.self.now.sinks.items c.begin_reads.new.sinks.items c.args.self.now.endpoint.link c.begin_reads.new.endpoint.link) c.as_slice.ensures c.in-Ok.ensures.ok)
+    (subst (λ (read : List ReadSegment). BeginsReads c.args.call.number read c.args.chunks.now c.args.self.now.reads.items c.begin_reads.new.reads.items c.args.self.now.sinks.items c.begin_reads.new.sinks.items c.args.self.now.endpoint.link c.begin_reads.new.endpoint.link) c.requires.read c.in-Ok.ensures.ok)
     c.push_reading.ensures.items refl refl)
 
 pub returns-in-Ok-clause-sound : goal.returns-in-Ok-clause-sound
 returns-in-Ok-clause-sound c = (
-  started_sound c.args.call.number c.as_slice.result.now c.args.chunks.now c.args.self.now.reads.items c.begin_reads.new.reads.items c.args.self.now.sinks.items c.begin_reads.new.sinks.items c.args.self.now.endpoint.link c.begin_reads.new.endpoint.link
+  started_sound c.args.call.number c.args.read.now c.args.chunks.now c.args.self.now.reads.items c.begin_reads.new.reads.items c.args.self.now.sinks.items c.begin_reads.new.sinks.items c.args.self.now.endpoint.link c.begin_reads.new.endpoint.link
       c.args.self.now.calls.items c.push_reading.new.calls.items c.args.call c.in-Ok.room c.args.self.now.ready.items c.args.self.now.used.items _ _ _ _ c.in-Ok.ensures.ok c.requires.call c.push_reading.ensures.items c.push_reading.ensures.capacity c.requires.sound.0,
-  started_fetched c.begin_reads.new.endpoint c.args.self.now.reads.items c.begin_reads.new.reads.items c.args.call.number c.args.self.now.endpoint.link.state.memory.next c.as_slice.result.now c.args.chunks.now c.args.self.now.calls.items c.push_reading.new.calls.items
+  started_fetched c.begin_reads.new.endpoint c.args.self.now.reads.items c.begin_reads.new.reads.items c.args.call.number c.args.self.now.endpoint.link.state.memory.next c.args.read.now c.args.chunks.now c.args.self.now.calls.items c.push_reading.new.calls.items
       c.args.call c.in-Ok.room c.begin_reads.new.sinks.items c.begin_reads.ensures.held c.begin_reads.ensures.short c.begin_reads.ensures.outside c.requires.own c.in-Ok.ensures.ok.reads c.in-Ok.ensures.room c.push_reading.ensures.items c.requires.sound.1.rooms,
 )
 
 pub returns-in-Ok-clause-input : goal.returns-in-Ok-clause-input
 returns-in-Ok-clause-input c =
-    started_input c.args.call.number c.as_slice.result.now c.args.chunks.now c.args.self.now.reads.items c.begin_reads.new.reads.items c.args.self.now.sinks.items c.begin_reads.new.sinks.items c.args.self.now.endpoint.link c.begin_reads.new.endpoint.link c.in-Ok.ensures.ok
+    started_input c.args.call.number c.args.read.now c.args.chunks.now c.args.self.now.reads.items c.begin_reads.new.reads.items c.args.self.now.sinks.items c.begin_reads.new.sinks.items c.args.self.now.endpoint.link c.begin_reads.new.endpoint.link c.in-Ok.ensures.ok
 
 pub returns-in-Ok-clause-staging : goal.returns-in-Ok-clause-staging
 returns-in-Ok-clause-staging c = c.begin_reads.ensures.staging
