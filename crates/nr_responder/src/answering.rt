@@ -229,8 +229,45 @@ fn push_answer<'a>(
     Ok(())
 }
 
-/// Queues the answer to a call with this payload: its RDMA Writes and its message. `target` is what the payload's head asks for, if that was
-/// read. An `Err` changes nothing: memory ran out, or the reply is longer than a reply may be.
+/// Queues the answer to a call with these lists and this payload: its RDMA Writes and its message. `target` is what the payload's head asks
+/// for, if that was read. An `Err` changes nothing: memory ran out, or the reply is longer than a reply may be.
+fn queue_with(
+    endpoint: &mut Endpoint,
+    alloc: Global,
+    call: &Pending,
+    lists: ListSlices<'_>,
+    stream: &[u8],
+    target: Option<Option<CallTarget>>,
+    credits: u32,
+    reply: &[u8],
+) -> Result<Sent, Memory>
+    requires call { InBuffer call.now }
+    requires lists { lists_of_slices lists ≡ (call_view call.now).lists }
+    requires target { IfSome target (λ t. t ≡ target_of (call_of stream.now)) }
+    ensures short { IfOk result (λ _. length (message_for call.now.xid credits (call_view call.now).lists (answer_to (call_view call.now) stream.now reply.now)) ≤ send_max) }
+    ensures reply { IfOk result (λ _. length reply.now ≤ sent_reply_max) }
+    ensures queued { IfOk result (Queues (call_view call.now) stream.now reply.now credits endpoint.old.link endpoint.new.link) }
+    ensures err { OnErr result (endpoint.new.link ≡ endpoint.old.link) }
+    ensures staging { endpoint.new.staging ≡ endpoint.old.staging }
+    ensures outside { endpoint.new.outside ≡ endpoint.old.outside }
+{
+    if reply.len() > SENT_REPLY_MAX {
+        return Err(Memory);
+    }
+    let answer = answer_to(lists, target_of(stream, target), reply);
+    let sent = sent_as(&answer);
+    let message = message_for(alloc, call.xid, credits, lists, answer)?;
+    // The answer is one that fits into the client's receive.
+    if message.len() > SEND_MAX as usize {
+        return Err(Memory);
+    }
+    let mut writes = Vec::new(alloc);
+    push_answer(&mut writes, lists, answer)?;
+    endpoint.answer(writes.as_slice(), message.as_slice())?;
+    Ok(sent)
+}
+
+/// The same of a call whose lists are read again.
 pub(crate) fn queue_answer(
     endpoint: &mut Endpoint,
     alloc: Global,
@@ -249,21 +286,10 @@ pub(crate) fn queue_answer(
     ensures staging { endpoint.new.staging ≡ endpoint.old.staging }
     ensures outside { endpoint.new.outside ≡ endpoint.old.outside }
 {
-    if reply.len() > SENT_REPLY_MAX {
-        return Err(Memory);
-    }
     let mut room = ListsRoom::new();
     lists_again(call, &mut room);
     let lists = room.as_slices();
-    let answer = answer_to(lists, target_of(stream, target), reply);
-    let sent = sent_as(&answer);
-    let message = message_for(alloc, call.xid, credits, lists, answer)?;
-    // The answer is one that fits into the client's receive.
-    if message.len() > SEND_MAX as usize {
-        return Err(Memory);
-    }
-    let mut writes = Vec::new(alloc);
-    push_answer(&mut writes, lists, answer)?;
-    endpoint.answer(writes.as_slice(), message.as_slice())?;
-    Ok(sent)
+    let sent = queue_with(endpoint, alloc, call, lists, stream, target, credits, reply);
+    drop(room);
+    sent
 }

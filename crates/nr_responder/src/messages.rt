@@ -3,7 +3,7 @@
 ghost use Rattle.std.specs.Prelude.{◌≡◌, ℕ, ◌+◌, ◌<◌, ◌≤◌, [], ◌∷◌, ◌++◌, take, map, Option, None, IfOk, IsOk, true, ◌⊎◌};
 ghost use Rattle.nr_link.specs.Limits.{send_max};
 ghost use Rattle.nr_header.specs.Constants.{FIXED_LEN};
-ghost use Rattle.nr_header.specs.ReadInto.{lists_in};
+ghost use Rattle.nr_header.specs.ReadInto.{lists_in, no_lists};
 ghost use Rattle.nr_endpoint.specs.Receives.{IsReceive};
 ghost use Rattle.nr_endpoint.specs.Calls.{after_call, IsStopReason};
 ghost use Rattle.nr_endpoint.specs.Calls.Call.{Stop, Send, OutOfMemory};
@@ -60,6 +60,24 @@ impl ServerEnd {
         ensures input { SameInput self.old.endpoint.link self.new.endpoint.link }
         ensures staging { self.new.endpoint.staging ≡ self.old.endpoint.staging }
     {
+        let mut room = ListsRoom::new();
+        self.message_into(number, buf, len, &mut room);
+        drop(room);
+    }
+
+    /// The same, with room for its lists.
+    fn message_into(&mut self, number: u64, buf: Octets, len: usize, room: &mut ListsRoom)
+        requires room { room.old ≡ no_lists }
+        requires sound { ServerEndInvariantWith 1 self.old }
+        requires live { self.old.endpoint.link.state.ended ≡ None }
+        requires frame { 0 < self.old.endpoint.link.state.place }
+        requires buf { IsReceive send_max buf }
+        requires len { (FIXED_LEN ≤ len) × (len ≤ send_max) }
+        ensures made { Makes (state_of self.old) number (take len buf) (state_of self.new) }
+        ensures sound { ServerEndInvariant self.new }
+        ensures input { SameInput self.old.endpoint.link self.new.endpoint.link }
+        ensures staging { self.new.endpoint.staging ≡ self.old.endpoint.staging }
+    {
         self.endpoint.facts();
         if !is_read(self.reads.as_slice(), number) {
             // No read is left from before a call's Send.
@@ -69,8 +87,7 @@ impl ServerEnd {
         let message = stream_of(&buf, len, 0);
         let xid = word_at(message, 0);
         let version = word_at(message, 4);
-        let mut room = ListsRoom::new();
-        match judge(message, self.calls.as_slice(), &mut room) {
+        match judge(message, self.calls.as_slice(), room) {
             Judged::Kind => self.end_for(REASON_KIND),
             Judged::Open => self.end_for(REASON_CALL),
             Judged::OtherVersion => {

@@ -14,7 +14,7 @@ use Rattle.nr_responder.proofs.Sounds.{sound_less}
 use Rattle.nr_responder.proofs.Begun.{few_stags, fresh_number, not_fresh}
 use Rattle.nr_responder.proofs.Fetches.{fetched_makes}
 use Rattle.nr_responder.proofs.Posted.{refused_input}
-use Rattle.nr_responder.proofs.server_end.ServerEnd.message.Goals as goal
+use Rattle.nr_responder.proofs.server_end.ServerEnd.message_into.Goals as goal
 
 pub returns-in-Kind-clause-made : goal.returns-in-Kind-clause-made
 returns-in-Kind-clause-made c =
