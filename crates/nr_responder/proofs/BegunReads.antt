@@ -136,7 +136,7 @@ kept_fetched f old new calls sinks held short nothing is h = record {
 }
 
 in_buffer : (c : Pending) (room : ℕ) → InBuffer c → InBuffer (with_room c room)
-in_buffer c room h = record { buf = h.buf; len = h.len; at = h.at; lists = h.lists; target = h.target }
+in_buffer c room h = record { buf = h.buf; len = h.len; at = h.at; lists = h.lists; target = h.target; item = h.item }
 
 started_link : (number : ℕ) (read : List ReadSegment) (chunks : List ℕ) (old new : List ReadEntry) (sinks later : List OpenSink) (before after : LinkSide) → BeginsReads number read chunks old new sinks later before after →
     (after.state.receive_queue ≡ before.state.receive_queue) × (after.state.send_queue.send_ends ≡ before.state.send_queue.send_ends)

@@ -332,7 +332,7 @@ with_read v r rest all after = by
 
 -- some call, if none is at hand
 pub no_call : Pending
-no_call = record { number = 0; xid = 0; buf = []; len = 0; stream_at = 0; inline = true; room = None; target = None }
+no_call = record { number = 0; xid = 0; buf = []; len = 0; stream_at = 0; inline = true; room = None; target = None; item = None }
 
 pub call_is : (v : ResponderSide) (r : PendingRead) (calls : List Pending) (at kept : ℕ) (d : Pending) → v.calls ≡ map call_view calls → at < length calls → (get_or calls at d).number ≡ r.number → ((k : ℕ) (e : Pending) → k < at → (get_or calls k e).number ≢ r.number) →
     kept ≡ still_open r v.fetching.reads → IsOfCall v r kept at (call_view (get_or calls at d))
@@ -436,7 +436,7 @@ refused_link message opened over l m n sent closed = closed ∙ ap (λ (x : Link
 -- ---- The room of a payload is taken out of its call
 
 pub emptied : Pending → Pending
-emptied c = record { number = c.number; xid = c.xid; buf = c.buf; len = c.len; stream_at = c.stream_at; inline = c.inline; room = None; target = c.target }
+emptied c = record { number = c.number; xid = c.xid; buf = c.buf; len = c.len; stream_at = c.stream_at; inline = c.inline; room = None; target = c.target; item = c.item }
 
 pub emptied_sound : (r : ServerEnd) (at : ℕ) (c : Pending) (calls : List Pending) → calls ≡ set r.calls.items at c → InBuffer c → HasRoom r.reads.items c → ServerEndInvariant r →
     QueuesInvariant 0 r.endpoint.link.state calls r.ready.items r.used.items (vec_capacity r.calls) (deque_capacity r.ready) (deque_capacity r.used) × AreFetched r.endpoint calls r.reads.items r.sinks.items

@@ -32,6 +32,7 @@ use Rattle.nr_reduce.specs.ServerFrames.{FrameEffect, by_message, message_effect
 use Rattle.nr_responder.specs.private.Handling.{inline_call, refused_effect}
 use Rattle.nr_responder.proofs.ServerSteps.{inline_message_lem, pending_effect}
 use Rattle.nr_responder.specs.declared.call.Pending.{Pending}
+use Rattle.nr_responder.specs.declared.heads.StreamHead.{StreamHead}
 use Rattle.nr_responder.specs.declared.judging.Judged.{Judged}
 use Rattle.nr_responder.specs.declared.judging.Judged.TheVariants as judged
 use Rattle.nr_responder.specs.Views.{call_view, call_with, inline_of, HasLists, HasStream, IsCall, IsListed, IsOfReads, Judges, JudgesBody, PutsLists, ReadsLists, brings_stream, fits_stream, reads_if}
@@ -102,7 +103,7 @@ lists_judged m h lists judged.Open read b = absurd b
 lists_judged m h lists judged.OtherVersion read b = absurd b
 lists_judged m h lists judged.BadChunks read b = tt
 lists_judged m h lists (judged.Call stream_at) read b = sym (ap lists_read read ∙ ap lists_of_body b.0)
-lists_judged m h lists (judged.Reads stream_at inline) read b = by b.1.1
+lists_judged m h lists (judged.Reads stream_at inline head) read b = by b.1.1
   where
     by : (h.body ≡ Msg lists stream_at) ⊎ ((h.body ≡ Nomsg lists) × (stream_at ≡ length m)) → lists ≡ lists_in m
     by (inl msg) = sym (ap lists_read read ∙ ap lists_of_body msg)
@@ -128,7 +129,7 @@ body_judged k m h lists j long is done error new few read judges = by j judges (
           verdict_is ∙ ap (by_body k h.xid m) b.0 ∙ call_stream_lem k lists h.xid (drop stream_at m) b.1 few
           ∙ ap (λ (x : ℕ). MakesPending (record { number = k.received.sends + 1; xid = x; lists = lists; inline = Some (drop stream_at m) })) (header_xid m h long read);
     })
-    by (judged.Reads stream_at inline) b puts = subst (λ (l : ChunkLists). IsOfReads k m l stream_at inline) puts (record {
+    by (judged.Reads stream_at inline head) b puts = subst (λ (l : ChunkLists). IsOfReads k m l stream_at inline) puts (record {
       some = b.0;
       own = new;
       needs = verdict_is ∙ b.1.0 k h.xid ∙ ap (λ (x : ℕ). by_need k (call_with (k.received.sends + 1) x lists (inline_of inline (drop stream_at m)))) (header_xid m h long read);
@@ -194,10 +195,10 @@ has_stream m h lists (judged.Call stream_at) read b within can = (
   subst (λ (x : Body). StreamWithin x (length m)) b.0 within,
   has_lists m h lists read (lists_judged m h lists (judged.Call stream_at) read b) (subst IsListed (sym b.0) tt) (subst (λ (x : Body). CanRead x (stream_after x m)) b.0 can).0,
 )
-has_stream m h lists (judged.Reads stream_at inline) read b within can = by b.1.1
+has_stream m h lists (judged.Reads stream_at inline head) read b within can = by b.1.1
   where
     puts : lists ≡ lists_in m
-    puts = lists_judged m h lists (judged.Reads stream_at inline) read b
+    puts = lists_judged m h lists (judged.Reads stream_at inline head) read b
 
     by : (h.body ≡ Msg lists stream_at) ⊎ ((h.body ≡ Nomsg lists) × (stream_at ≡ length m)) → (stream_at ≤ length m) × (HasLists m × (read_total (lists_in m).read ≤ PAYLOAD_MAX))
     by (inl msg) =
@@ -225,10 +226,10 @@ refused_nomsg k lists xid is = by (has_position lists.read) is
     by false e = refl
 
 -- a body by RDMA_MSG with a read list
-pub msg_judged : (message : List ℕ) (lists : ChunkLists) (stream_at : ℕ) (b : Bool) → lists.read ≢ [] → b ≡ is_read_chunk_of_item (drop stream_at message) lists.read → JudgesBody message (Msg lists stream_at) lists (reads_if b stream_at true)
-msg_judged message lists stream_at true some is =
+pub msg_judged : (message : List ℕ) (lists : ChunkLists) (stream_at : ℕ) (b : Bool) (head : Option StreamHead) → lists.read ≢ [] → b ≡ is_read_chunk_of_item (drop stream_at message) lists.read → JudgesBody message (Msg lists stream_at) lists (reads_if b stream_at true head)
+msg_judged message lists stream_at true head some is =
     (some, (λ k xid. ap (λ (b : Bool). cond b (by_need k (call_with (k.received.sends + 1) xid lists (Some (drop stream_at message)))) BadChunks) (sym is), inl refl))
-msg_judged message lists stream_at false some is = λ k xid. refused_stream k lists xid (Some (drop stream_at message)) (sym is)
+msg_judged message lists stream_at false head some is = λ k xid. refused_stream k lists xid (Some (drop stream_at message)) (sym is)
 
 no_position : (read : List ReadSegment) → brings_stream read ≡ true → read ≢ []
 no_position read is none = (let two : false ≡ true = ap brings_stream (sym none) ∙ is in absurd cc)
@@ -249,6 +250,6 @@ brings k lists xid is = by (has_position lists.read) is
     by true e = brought k lists xid (no_stream lists.read) e
     by false e = absurd cc
 
-pub nomsg_judged : (message : List ℕ) (lists : ChunkLists) (b : Bool) (total : ℕ) → b ≡ brings_stream lists.read → total ≡ total_at 0 lists.read → JudgesBody message (Nomsg lists) lists (reads_if b (length message) (eqb total 0))
-nomsg_judged message lists true total is empty = (no_position lists.read (sym is), (λ k xid. brings k lists xid (sym is) ∙ ap (λ (o : Option (List ℕ)). by_need k (call_with (k.received.sends + 1) xid lists o)) (sym (nothing_after message (eqb total 0) ∙ ap (λ (n : ℕ). cond (eqb n 0) (Some []) None) empty)), inr (refl, refl)))
-nomsg_judged message lists false total is empty = λ k xid. refused_nomsg k lists xid (sym is)
+pub nomsg_judged : (message : List ℕ) (lists : ChunkLists) (b : Bool) (total : ℕ) (head : Option StreamHead) → b ≡ brings_stream lists.read → total ≡ total_at 0 lists.read → JudgesBody message (Nomsg lists) lists (reads_if b (length message) (eqb total 0) head)
+nomsg_judged message lists true total head is empty = (no_position lists.read (sym is), (λ k xid. brings k lists xid (sym is) ∙ ap (λ (o : Option (List ℕ)). by_need k (call_with (k.received.sends + 1) xid lists o)) (sym (nothing_after message (eqb total 0) ∙ ap (λ (n : ℕ). cond (eqb n 0) (Some []) None) empty)), inr (refl, refl)))
+nomsg_judged message lists false total head is empty = λ k xid. refused_nomsg k lists xid (sym is)

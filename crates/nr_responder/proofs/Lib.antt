@@ -68,3 +68,4 @@ pub mod QueueBounds
 pub mod OutputBounds
 pub mod OutputSteps
 mod ReadAgain
+pub mod ReadHeads

@@ -1,9 +1,10 @@
 -- What a responder keeps of its own, whatever the marks.
-use Rattle.std.specs.Prelude.{◌≡◌, ◌⊎◌, ℕ, ◌+◌, ◌≤◌, false, List, [], ◌∷◌, length, map, sum_by, Option, None, Some, IfSome, All, slice_get, take, drop, vec_capacity}
+use Rattle.std.specs.Prelude.{◌≡◌, ◌⊎◌, ℕ, ◌+◌, ◌≤◌, true, false, List, [], ◌∷◌, length, map, sum_by, Option, None, Some, IfSome, All, slice_get, take, drop, vec_capacity}
 use Rattle.std.specs.VecDeque.{deque_capacity}
 use Rattle.nr_regions.specs.RegisteredMemory.{Claim, RegisteredMemory, IsHeld, outside_len}
 use Rattle.nr_regions.specs.Table.{IsTotal}
 use Rattle.nr_rpc.specs.Reading.{call_of, target_of}
+use Rattle.nr_reduce.specs.Items.{call_item}
 use Rattle.nr_header.specs.Constants.{PAYLOAD_MAX}
 use Rattle.nr_reduce.specs.ServerReads.{is_read}
 use Rattle.nr_endpoint.specs.EndpointState.{EndpointState}
@@ -54,13 +55,15 @@ rooms_of calls ready = sum_by (λ c. room_len c.room) calls + sum_by (λ q. payl
 abbrev pub with_staging : ServerEnd → ResponderState
 with_staging r = record { side = state_of r; staging = r.endpoint.staging; rooms = rooms_of r.calls.items r.ready.items }
 
--- A pending call's message lies in its receive buffer, it has lists that are within the limits, and what its head asks for is that of its stream.
+-- A pending call's message lies in its receive buffer, it has lists that are within the limits, and what its head asks for and its item are those of its
+-- stream.
 pub record InBuffer (c : Pending) : Type 0 where
   pub buf : length c.buf ≡ send_max
   pub len : c.len ≤ send_max
   pub at : c.stream_at ≤ c.len
   pub lists : HasLists (take c.len c.buf)
   pub target : IfSome c.target (λ t. t ≡ target_of (call_of (drop c.stream_at (take c.len c.buf))))
+  pub item : IfSome c.item (λ i. (c.inline ≡ true) × (i ≡ call_item (drop c.stream_at (take c.len c.buf))))
 
 -- a link that has queued something, or ended
 pub record SameInput (l m : LinkSide) : Type 0 where

@@ -1,5 +1,5 @@
 -- What the code keeps, as the definitions of a run see it.
-use Rattle.std.specs.Prelude.{◌≡◌, ◌≢◌, ℕ, ◌+◌, ◌≤◌, ◌&&◌, Bool, true, false, List, [], length, take, drop, Option, None, Some, Result, Ok, Err, ◌⊎◌}
+use Rattle.std.specs.Prelude.{◌≡◌, ◌≢◌, ℕ, ◌+◌, ◌≤◌, ◌&&◌, Bool, true, false, List, [], length, take, drop, Option, None, Some, IfSome, Result, Ok, Err, ◌⊎◌}
 use Rattle.nr_header.specs.declared.header.ChunkLists.{ChunkLists}
 use Rattle.nr_header.specs.declared.fault.HeaderFault.{HeaderFault}
 use Rattle.nr_header.specs.declared.header.Header.{Header}
@@ -21,6 +21,9 @@ use Rattle.nr_responder.specs.declared.call.Pending.{Pending}
 use Rattle.nr_responder.specs.declared.call.ReadEntry.{ReadEntry}
 use Rattle.nr_responder.specs.declared.call.OpenSink.{OpenSink}
 use Rattle.nr_responder.specs.Fetching.{SinkRegion}
+use Rattle.nr_rpc.specs.Reading.{call_of, target_of}
+use Rattle.nr_reduce.specs.Items.{call_item}
+use Rattle.nr_responder.specs.declared.heads.StreamHead.{StreamHead}
 use Rattle.nr_responder.specs.declared.judging.Judged.{Judged}
 use Rattle.nr_responder.specs.declared.judging.Judged.TheVariants as judged
 
@@ -59,7 +62,7 @@ Judges k message judged.Open = verdict k message ≡ EndsLink REASON_CALL
 Judges k message judged.OtherVersion = verdict k message ≡ OtherVersion
 Judges k message judged.BadChunks = verdict k message ≡ BadChunks
 Judges k message (judged.Call stream_at) = IsCall k message (lists_in message) stream_at
-Judges k message (judged.Reads stream_at inline) = IsOfReads k message (lists_in message) stream_at inline
+Judges k message (judged.Reads stream_at inline head) = IsOfReads k message (lists_in message) stream_at inline
 
 -- a header with lists: that of RDMA_MSG or RDMA_NOMSG
 abbrev pub IsListed : Body → Type 0
@@ -84,7 +87,20 @@ PutsLists message lists judged.Open = Unit {0}
 PutsLists message lists judged.OtherVersion = Unit {0}
 PutsLists message lists judged.BadChunks = Unit {0}
 PutsLists message lists (judged.Call stream_at) = lists ≡ lists_in message
-PutsLists message lists (judged.Reads stream_at inline) = lists ≡ lists_in message
+PutsLists message lists (judged.Reads stream_at inline head) = lists ≡ lists_in message
+
+-- the head of a stream, and its item
+abbrev pub IsHeadOf : StreamHead → List ℕ → Type 0
+IsHeadOf head stream = (head.target ≡ target_of (call_of stream)) × (head.item ≡ call_item stream)
+
+-- the head of a call's stream, if that stands in its message and was read
+abbrev pub HasHead : List ℕ → Judged → Type 0
+HasHead message judged.Kind = Unit {0}
+HasHead message judged.Open = Unit {0}
+HasHead message judged.OtherVersion = Unit {0}
+HasHead message judged.BadChunks = Unit {0}
+HasHead message (judged.Call stream_at) = Unit {0}
+HasHead message (judged.Reads stream_at inline head) = IfSome head (λ h. (inline ≡ true) × IsHeadOf h (drop stream_at message))
 
 -- the lists and the stream of a call lie within its message
 abbrev pub HasStream : List ℕ → Judged → Type 0
@@ -93,7 +109,7 @@ HasStream message judged.Open = Unit {0}
 HasStream message judged.OtherVersion = Unit {0}
 HasStream message judged.BadChunks = Unit {0}
 HasStream message (judged.Call stream_at) = (stream_at ≤ length message) × HasLists message
-HasStream message (judged.Reads stream_at inline) = (stream_at ≤ length message) × (HasLists message × (read_total (lists_in message).read ≤ PAYLOAD_MAX))
+HasStream message (judged.Reads stream_at inline head) = (stream_at ≤ length message) × (HasLists message × (read_total (lists_in message).read ≤ PAYLOAD_MAX))
 
 -- whether the read chunk of a list is that of the item of a stream, if that is known; and whether a list can bring a stream
 abbrev pub fits_stream : Option (List ℕ) → List ReadSegment → Bool
@@ -103,9 +119,9 @@ fits_stream (Some stream) read = is_read_chunk_of_item stream read
 abbrev pub brings_stream : List ReadSegment → Bool
 brings_stream read = has_position read && fits_stream (no_stream read) read
 
-abbrev pub reads_if : Bool → ℕ → Bool → Judged
-reads_if true stream_at inline = judged.Reads stream_at inline
-reads_if false stream_at inline = judged.BadChunks
+abbrev pub reads_if : Bool → ℕ → Bool → Option StreamHead → Judged
+reads_if true stream_at inline head = judged.Reads stream_at inline head
+reads_if false stream_at inline head = judged.BadChunks
 
 -- what is made of the body of a message whose xid isn't pending, with these lists
 abbrev pub JudgesBody : List ℕ → Body → ChunkLists → Judged → Type 0
@@ -114,6 +130,6 @@ JudgesBody message body lists judged.Open = ⊥
 JudgesBody message body lists judged.OtherVersion = ⊥
 JudgesBody message body lists judged.BadChunks = (k : ServerState) (xid : ℕ) → by_body k xid message body ≡ BadChunks
 JudgesBody message body lists (judged.Call stream_at) = (body ≡ Msg lists stream_at) × (lists.read ≡ [])
-JudgesBody message body lists (judged.Reads stream_at inline) =
+JudgesBody message body lists (judged.Reads stream_at inline head) =
     (lists.read ≢ []) × (((k : ServerState) (xid : ℕ) → by_body k xid message body ≡ by_need k (call_with (k.received.sends + 1) xid lists (inline_of inline (drop stream_at message))))
     × ((body ≡ Msg lists stream_at) ⊎ ((body ≡ Nomsg lists) × (stream_at ≡ length message))))

@@ -9,6 +9,7 @@ ghost use Rattle.nr_responder.specs.Views.{call_view, read_view};
 
 use crate::room::{Payload, Room};
 use nr_header::{ListsRoom, read_header_into};
+use nr_reduce::Item;
 use nr_regions::Registration;
 use nr_rpc::CallTarget;
 use nr_xdr::Octets;
@@ -35,6 +36,8 @@ pub struct Pending {
     pub room: Option<Room>,
     /// What the head of its inline stream asks for, once that was read: `Some(None)` if it is of another RPC version.
     pub target: Option<Option<CallTarget>>,
+    /// The item of its inline stream, once that was looked for: `Some(None)` if it has none.
+    pub item: Option<Option<Item>>,
 }
 
 /// A call that waits to be executed, with its payload if that was read with its chunks; else it is the stream of its Send.

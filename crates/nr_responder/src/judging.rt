@@ -7,14 +7,15 @@ ghost use Rattle.nr_header.specs.Slices.{lists_of_slices};
 ghost use Rattle.nr_header.specs.WithinLimits.{StreamWithin};
 ghost use Rattle.nr_reduce.specs.ServerState.{ServerState, next_stag};
 ghost use Rattle.nr_reduce.specs.ServerMessages.{has_position};
-ghost use Rattle.nr_responder.specs.Views.{brings_stream, call_view, reads_if, HasStream, Judges, JudgesBody, PutsLists};
+ghost use Rattle.nr_responder.specs.Views.{brings_stream, call_view, reads_if, HasHead, HasStream, Judges, JudgesBody, PutsLists};
 
 use crate::call::{Pending, has_xid};
+use crate::heads::{StreamHead, read_head};
 use nr_header::{
     DONE, ERROR, FIXED_LEN, ListSlices, ListsRoom, MessageKind, ReadSegment, VERSION,
     read_header_into,
 };
-use nr_reduce::{is_read_chunk_of_item, total_at};
+use nr_reduce::{is_read_chunk_of, is_read_chunk_of_item, total_at};
 use nr_xdr::word_at;
 
 /// What a responder makes of a message: it ends the link, by its kind or by its xid; ERR_VERS; ERR_CHUNK; a call without a read list,
@@ -30,9 +31,16 @@ pub enum Judged {
     /// A header or a read list that is refused: ERR_CHUNK is due (RFC 8166 sections 4.5.2, 4.5.3).
     BadChunks,
     /// A call without a read list: its stream stands in the message from `stream_at` on.
-    Call { stream_at: usize },
-    /// A call with a read list: its stream stands in the message from `stream_at` on, if it is `inline`; else it is read.
-    Reads { stream_at: usize, inline: bool },
+    Call {
+        stream_at: usize,
+    },
+    /// A call with a read list: its stream stands in the message from `stream_at` on, if it is `inline`, and its head was read; else it
+    /// is read.
+    Reads {
+        stream_at: usize,
+        inline: bool,
+        head: Option<StreamHead>,
+    },
 }
 
 /// Whether some entry of a read list has position 0.
@@ -57,11 +65,15 @@ fn brings_stream(read: &[ReadSegment]) -> bool
 }
 
 /// A call with a read list, or ERR_CHUNK.
-fn reads_if(fits: bool, stream_at: usize, inline: bool) -> Judged
-    ensures { result ≡ reads_if fits stream_at inline }
+fn reads_if(fits: bool, stream_at: usize, inline: bool, head: Option<StreamHead>) -> Judged
+    ensures { result ≡ reads_if fits stream_at inline head }
 {
     if fits {
-        return Judged::Reads { stream_at, inline };
+        return Judged::Reads {
+            stream_at,
+            inline,
+            head,
+        };
     }
     Judged::BadChunks
 }
@@ -69,7 +81,8 @@ fn reads_if(fits: bool, stream_at: usize, inline: bool) -> Judged
 /// Judges a message of this kind with these lists.
 fn judge_kind(message: &[u8], kind: MessageKind, lists: ListSlices<'_>) -> Judged
     requires { StreamWithin (body_with kind (lists_of_slices lists)) (length message.now) }
-    ensures { JudgesBody message.now (body_with kind (lists_of_slices lists.entry)) (lists_of_slices lists.entry) result }
+    ensures body { JudgesBody message.now (body_with kind (lists_of_slices lists.entry)) (lists_of_slices lists.entry) result }
+    ensures head { HasHead message.now result }
 {
     match kind {
         MessageKind::Msg { stream_at } => {
@@ -77,14 +90,15 @@ fn judge_kind(message: &[u8], kind: MessageKind, lists: ListSlices<'_>) -> Judge
                 return Judged::Call { stream_at };
             }
             let (_, stream) = message.split_at(stream_at);
-            let fits = is_read_chunk_of_item(stream, lists.read);
-            reads_if(fits, stream_at, true)
+            let head = read_head(stream);
+            let fits = is_read_chunk_of(head.item, lists.read);
+            reads_if(fits, stream_at, true, Some(head))
         }
         MessageKind::Nomsg => {
             let fits = brings_stream(lists.read);
             // A stream without bytes isn't read.
             let inline = total_at(0, lists.read) == 0;
-            reads_if(fits, message.len(), inline)
+            reads_if(fits, message.len(), inline, None)
         }
         MessageKind::Error { .. } => Judged::BadChunks,
     }
@@ -97,6 +111,7 @@ pub(crate) fn judge(message: &[u8], calls: &[Pending], room: &mut ListsRoom) -> 
     ensures judged { (k : ServerState) → k.calls ≡ map call_view calls.now → next_stag k ≤ 2 ^ 32 → Judges k message.now result }
     ensures stream { HasStream message.now result }
     ensures lists { PutsLists message.now room.new result }
+    ensures head { HasHead message.now result }
 {
     if word_at(message, 4) != VERSION {
         return Judged::OtherVersion;

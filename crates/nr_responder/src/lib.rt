@@ -20,6 +20,7 @@ mod answering;
 mod call;
 mod counting;
 mod fetching;
+mod heads;
 mod judging;
 mod laws;
 mod messages;

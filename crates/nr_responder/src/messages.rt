@@ -1,6 +1,6 @@
 //! What a message makes of a responder (RFC 8166 sections 4.2 to 4.5).
 
-ghost use Rattle.std.specs.Prelude.{◌≡◌, ℕ, ◌+◌, ◌<◌, ◌≤◌, [], ◌∷◌, ◌++◌, take, map, Option, None, IfOk, IsOk, true, ◌⊎◌};
+ghost use Rattle.std.specs.Prelude.{◌≡◌, ℕ, ◌+◌, ◌<◌, ◌≤◌, [], ◌∷◌, ◌++◌, take, map, Option, None, option_map, IfOk, IsOk, true, ◌⊎◌};
 ghost use Rattle.nr_link.specs.Limits.{send_max};
 ghost use Rattle.nr_header.specs.Constants.{FIXED_LEN};
 ghost use Rattle.nr_header.specs.ReadInto.{lists_in, no_lists};
@@ -14,13 +14,35 @@ ghost use Rattle.nr_responder.specs.Views.{read_view, HasLists};
 
 use crate::answering::{chunk_error, version_error};
 use crate::call::{Pending, Ready, is_read, stream_of};
+use crate::heads::StreamHead;
 use crate::judging::{Judged, judge};
 use crate::room::Payload;
 use crate::server_end::{ServerEnd, own_xid, send_error, stop};
 use nr_header::ListsRoom;
 use nr_link::constants::{REASON_CALL, REASON_KIND};
-use nr_rpc::call_target;
+use nr_reduce::Item;
+use nr_rpc::{CallTarget, call_target};
 use nr_xdr::{Memory, Octets, word_at};
+
+/// What a head that was read asks for.
+fn target_read(head: Option<StreamHead>) -> Option<Option<CallTarget>>
+    ensures { result ≡ option_map (λ h. h.target) head }
+{
+    match head {
+        Some(head) => Some(head.target),
+        None => None,
+    }
+}
+
+/// The item of a stream whose head was read.
+fn item_read(head: Option<StreamHead>) -> Option<Option<Item>>
+    ensures { result ≡ option_map (λ h. h.item) head }
+{
+    match head {
+        Some(head) => Some(head.item),
+        None => None,
+    }
+}
 
 impl ServerEnd {
     /// Ends the side because memory ran out.
@@ -99,7 +121,11 @@ impl ServerEnd {
                 self.refuse(buf, made);
             }
             Judged::Call { stream_at } => self.begin(number, buf, len, stream_at),
-            Judged::Reads { stream_at, inline } => self.fetch(
+            Judged::Reads {
+                stream_at,
+                inline,
+                head,
+            } => self.fetch(
                 Pending {
                     number,
                     xid,
@@ -108,7 +134,8 @@ impl ServerEnd {
                     stream_at,
                     inline,
                     room: None,
-                    target: None,
+                    target: target_read(head),
+                    item: item_read(head),
                 },
                 room.as_slices().read,
             ),
@@ -160,6 +187,7 @@ impl ServerEnd {
                     inline: true,
                     room: None,
                     target: Some(target),
+                    item: None,
                 };
                 self.push(call, None);
             }

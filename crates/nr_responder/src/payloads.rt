@@ -12,34 +12,44 @@ ghost use Rattle.nr_reduce.specs.ServerMessages.CallVerdict.{Refuses};
 ghost use Rattle.nr_responder.specs.private.CallsRead.{payload_at_once, verdict_by, verdict_of, IsStreamAlone};
 ghost use Rattle.nr_responder.specs.Sound.{payloads_of, InBuffer};
 ghost use Rattle.nr_responder.specs.Answering.{IsPayload};
-ghost use Rattle.nr_responder.specs.Views.{call_view};
+ghost use Rattle.nr_reduce.specs.Items.{call_item};
+ghost use Rattle.nr_responder.specs.Views.{call_view, IsHeadOf};
 
 use crate::call::{Pending, Ready, stream_of};
+use crate::heads::{StreamHead, head_of};
 use crate::room::{Payload, Room};
+use crate::server_end::stream_xid;
 use nr_header::ReadSegment;
 use nr_link::constants::{REASON_HEAD, REASON_XID};
-use nr_reduce::{Of, call_item, item_position, rebuild_item_into};
-use nr_rpc::{CallTarget, call_xid};
+use nr_reduce::{Item, Of, item_position, rebuild_item_into};
+use nr_rpc::CallTarget;
 use nr_xdr::Memory;
 use std::collections::VecDeque;
 
-/// A payload that is a stream alone.
-pub(crate) fn stream_alone(room: Room, stream: &[u8]) -> Payload
-    requires { length stream.now ≤ room }
+/// A payload that is a stream alone, whose head asks for this.
+pub(crate) fn stream_alone(room: Room, stream: &[u8], target: Option<CallTarget>) -> Payload
+    requires room { length stream.now ≤ room }
+    requires target { target ≡ target_of (call_of stream.now) }
     ensures { result ≡ stream.now }
 {
     let mut buffer = room.into_buffer();
     buffer.put(0, stream);
-    Payload::of(buffer, stream.len())
+    Payload::of(buffer, stream.len(), target)
 }
 
-/// The payload of a stream and of the content of its item; `None` if it has no item of that length.
-pub(crate) fn with_item(room: Room, stream: &[u8], moved: &[u8]) -> Option<Payload>
+/// The payload of a stream with this head and of the content of its item; `None` if it has no item of that length.
+pub(crate) fn with_item(
+    room: Room,
+    head: StreamHead,
+    stream: &[u8],
+    moved: &[u8],
+) -> Option<Payload>
     requires room { length stream.now + length moved.now + 3 ≤ room }
     requires small { length stream.now < 2 ^ 32 }
+    requires head { IsHeadOf head stream.now }
     ensures { result ≡ whole of.Call stream.now (Some moved.now) }
 {
-    let item = call_item(stream)?;
+    let item = head.item?;
     let mut buffer = room.into_buffer();
     match rebuild_item_into(
         &mut buffer,
@@ -49,17 +59,18 @@ pub(crate) fn with_item(room: Room, stream: &[u8], moved: &[u8]) -> Option<Paylo
         item.pos as u32,
         moved,
     ) {
-        Ok(len) => Some(Payload::of(buffer, len)),
+        Ok(len) => Some(Payload::of(buffer, len, head.target)),
         Err(_) => None,
     }
 }
 
-/// Why the link ends if a call has this payload: it is no RPC call with this xid.
-fn judge_bytes(payload: &[u8], xid: u32) -> Option<u32>
+/// Why the link ends if a call has this payload, whose head asks for this: it is no RPC call with this xid.
+fn judge_bytes(payload: &[u8], target: Option<CallTarget>, xid: u32) -> Option<u32>
+    requires { target ≡ target_of (call_of payload.now) }
     ensures verdict { (c : PendingCall) → c.xid ≡ xid → by_payload c (Some payload.now) ≡ verdict_by c payload.now result }
     ensures reason { IfSome result (λ reason. IsStopReason reason × (5 ≤ reason)) }
 {
-    match call_xid(payload) {
+    match stream_xid(payload, target) {
         None => Some(REASON_HEAD),
         Some(found) => {
             if found != xid {
@@ -78,7 +89,7 @@ pub(crate) fn judge_payload(payload: Option<Payload>, xid: u32) -> Result<Payloa
     let Some(payload) = payload else {
         return Err(REASON_HEAD);
     };
-    match judge_bytes(payload.as_slice(), xid) {
+    match judge_bytes(payload.as_slice(), payload.target(), xid) {
         None => Ok(payload),
         Some(reason) => Err(reason),
     }
@@ -97,14 +108,18 @@ pub(crate) fn inline_stream(call: &Pending) -> &[u8]
 }
 
 /// Whether a stream is the payload of a call with this read list, each of whose chunks is empty: it has no item, or one of no bytes.
-fn is_stream_alone(stream: &[u8], read: &[ReadSegment]) -> bool
+fn is_stream_alone(stream: &[u8], item: Option<Item>, read: &[ReadSegment]) -> bool
+    requires { item ≡ call_item stream.now }
     ensures { whole of.Call stream.now (call_moved (item_position read.now) (λ position. [])) ≡ (if result then Some stream.now else None) }
 {
     match item_position(read) {
-        Some(_) => match call_item(stream) {
-            Some(item) => item.len == 0,
-            None => false,
-        },
+        Some(_) => {
+            let _stream = stream;
+            match item {
+                Some(item) => item.len == 0,
+                None => false,
+            }
+        }
         None => true,
     }
 }
@@ -121,10 +136,11 @@ pub(crate) fn judge_at_once(call: &Pending, read: &[ReadSegment]) -> Option<u32>
         return Some(REASON_HEAD);
     }
     let stream = stream_of(&call.buf, call.len, call.stream_at);
-    if !is_stream_alone(stream, read) {
+    let head = head_of(call, stream);
+    if !is_stream_alone(stream, head.item, read) {
         return Some(REASON_HEAD);
     }
-    judge_bytes(stream, call.xid)
+    judge_bytes(stream, head.target, call.xid)
 }
 
 /// The payload of the first call that is ready, if it was read with its chunks.
@@ -150,7 +166,7 @@ pub(crate) fn ready_payload<'a>(
     ensures target { IfOk result (λ s. IfSome s.1 (λ t. t ≡ target_of (call_of s.0.now))) }
 {
     if let Some(payload) = first_payload(ready) {
-        return Ok((payload.as_slice(), None));
+        return Ok((payload.as_slice(), Some(payload.target())));
     }
     if !call.inline {
         return Err(Memory);

@@ -17,6 +17,7 @@ ghost use Rattle.nr_responder.specs.Views.{call_view, read_view, sink_view};
 
 use crate::answering::chunk_error;
 use crate::call::{OpenSink, Pending, ReadEntry, Ready, is_read, lists_again};
+use crate::heads::head_of;
 use crate::opening::{open_count, open_reads, send_and_open};
 use crate::payloads::{inline_stream, judge_payload, stream_alone, with_item};
 use crate::room::{Payload, Room};
@@ -94,12 +95,13 @@ fn payload_read(
     ensures { result ≡ call_conveyed (call_view call.now).inline (call_view call.now).lists.read (sink_bytes endpoint.now.link.state.memory (map sink_view sinks.now) call.now.number) }
 {
     let stream = stream_read(call, endpoint, sinks);
+    let head = head_of(call, stream);
     match position_of(call) {
         Some(position) => {
             let moved = sink_bytes(endpoint, sinks, call.number, position);
-            with_item(room, stream, moved)
+            with_item(room, head, stream, moved)
         }
-        None => Some(stream_alone(room, stream)),
+        None => Some(stream_alone(room, stream, head.target)),
     }
 }
 

@@ -1,11 +1,13 @@
 //! The room in which a payload is put together, and the payload.
 
 ghost use Rattle.std.specs.Prelude.{◌≡◌, ◌≤◌, length, take, IfOk};
+ghost use Rattle.nr_rpc.specs.Reading.{call_of, target_of};
 ghost use Rattle.nr_responder.specs.Rooms.{payload_room};
 
 use nr_header::PAYLOAD_MAX;
 use nr_link::constants::SEND_MAX;
 use nr_reduce::PayloadBuffer;
+use nr_rpc::CallTarget;
 use nr_xdr::{Memory, Octets};
 use std::alloc::Global;
 use std::marker::Model;
@@ -57,34 +59,39 @@ impl Room {
     }
 }
 
-/// A payload that was put together. It keeps all of the room that was taken for it. Contracts see its bytes, of which there are at most
-/// `payload_room`.
+/// A payload that was put together. It keeps all of the room that was taken for it, and what its head asks for. Contracts see its bytes, of
+/// which there are at most `payload_room`.
 #[derive(Drop)]
 pub struct Payload {
     bytes: Octets,
+    target: Option<CallTarget>,
 }
 
 impl Model for Payload {
     ghost use Rattle.std.specs.Prelude.{List, ℕ, ◌≤◌, length};
+    ghost use Rattle.std.specs.Prelude.{◌≡◌};
+    ghost use Rattle.nr_rpc.specs.Reading.{call_of, target_of};
     ghost use Rattle.nr_responder.specs.Rooms.{payload_room};
 
     ghost Value = { List ℕ };
 
     ghost view = { λ p. p.bytes };
 
-    ghost invariant = { λ p. length p.bytes ≤ payload_room };
+    ghost invariant = { λ p. (length p.bytes ≤ payload_room) × (p.target ≡ target_of (call_of p.bytes)) };
 }
 
 impl Payload {
-    /// The payload that is the first `len` bytes written into a buffer.
-    pub fn of(buffer: PayloadBuffer, len: usize) -> Payload
+    /// The payload that is the first `len` bytes written into a buffer, whose head asks for this.
+    pub fn of(buffer: PayloadBuffer, len: usize, target: Option<CallTarget>) -> Payload
         requires room { buffer.len ≤ payload_room }
         requires len { len ≤ length buffer.bytes }
+        requires target { target ≡ target_of (call_of (take len buffer.bytes)) }
         ensures { result ≡ take len buffer.bytes }
     {
         let _room = buffer.len();
         Payload {
             bytes: buffer.into_first(len),
+            target,
         }
     }
 
@@ -93,6 +100,13 @@ impl Payload {
         ensures { result.now ≡ self.now }
     {
         self.bytes.as_slice()
+    }
+
+    /// What its head asks for; `None` if it has no head of RPC version 2.
+    pub fn target(&self) -> Option<CallTarget>
+        ensures { result ≡ target_of (call_of self.now) }
+    {
+        self.target
     }
 
     /// How many bytes there are.

@@ -59,7 +59,7 @@ pub struct ServerEnd {
 }
 
 /// The xid of the call head with which a stream begins, if it does. What such a head of RPC version 2 asks for was read.
-fn stream_xid(stream: &[u8], target: Option<CallTarget>) -> Option<u32>
+pub(crate) fn stream_xid(stream: &[u8], target: Option<CallTarget>) -> Option<u32>
     requires { target ≡ target_of (call_of stream.now) }
     ensures { result ≡ xid_of_call (call_of stream.now) }
 {

@@ -20,7 +20,7 @@ returns-clause-sound c =
     let d : Pending = c.index_mut.result.now in
     let whole : InBuffer d = subst InBuffer (sym c.index_mut.ensures.value) (c.requires.sound.0.bufs c.args.at d c.requires.at) in
     emptied_sound c.args.self.now c.args.at c.take_out_room.new.call (set c.args.self.now.calls.items c.args.at c.take_out_room.new.call) refl
-    (subst InBuffer (sym c.take_out_room.ensures.call) (record { buf = whole.buf; len = whole.len; at = whole.at; lists = whole.lists; target = whole.target }))
+    (subst InBuffer (sym c.take_out_room.ensures.call) (record { buf = whole.buf; len = whole.len; at = whole.at; lists = whole.lists; target = whole.target; item = whole.item }))
     (read_has_room c.args.self.now.reads.items c.take_out_room.new.call
     (ap (λ (x : Pending). is_read (map read_view c.args.self.now.reads.items) x.number) c.take_out_room.ensures.call ∙ ap (λ (x : Pending). is_read (map read_view c.args.self.now.reads.items) x.number) c.index_mut.ensures.value ∙ c.requires.read d))
     c.requires.sound
