@@ -11,6 +11,8 @@ use Rattle.nr_header.specs.declared.header.ChunkLists.{ChunkLists}
 use Rattle.nr_header.specs.declared.header.Body.{Body}
 use Rattle.nr_header.specs.declared.header.Body.TheVariants.{Msg, Nomsg}
 use Rattle.nr_header.specs.declared.header.Header.{Header}
+use Rattle.nr_header.specs.declared.header.HeaderFields.{HeaderFields}
+use Rattle.nr_header.specs.ReadInto.{body_with}
 use Rattle.nr_header.specs.Reading.{header_of, header_by, body_by, error_by, version1_of, in_lists}
 use Rattle.nr_regions.specs.RegisteredMemory.{RegisteredMemory, Claim, IsHeld}
 use Rattle.nr_link.specs.Reasons.{REASON_CALL, REASON_CHUNKS}
@@ -111,6 +113,10 @@ body_nomsg first sent c call memory message stream lists e has is =
     ap (kept_lists (kept_view first sent c) None lists memory) e ∙ ap (λ (o : Option Call). kept_payload c.xid o None lists memory) has ∙ ap (λ (xs : List ℕ). by_stream c.xid call xs (reply_moved memory lists.write)) (sym is)
 
 -- ---- Headers
+
+-- a header whose lists were read apart from it
+abbrev pub header_with : HeaderFields → ChunkLists → Header
+header_with fields lists = record { xid = fields.xid; credit = fields.credit; body = body_with fields.kind lists }
 
 lists_short : (r : Result Body ℕ) → in_lists r ≢ Err faults.Short
 lists_short (Ok body) = λ e. cc

@@ -90,9 +90,9 @@ stags_are_lem m p =
 
 -- ---- Its message
 
-pub message_by : (xid credit stag : ℕ) (p : Plan) (lists : ChunkLists) (message : List ℕ) → message ≡ header_encoding (record { xid = xid; credit = credit; body = body_by p.read_at lists }) ++ p.inline → lists ≡ lists_of stag p → message ≡ call_message xid credit stag p
+pub message_by : (xid credit stag : ℕ) (p : Plan) (lists : ChunkLists) (front sent stream : List ℕ) → sent ≡ front → front ++ stream ≡ header_encoding (record { xid = xid; credit = credit; body = body_by p.read_at lists }) ++ p.inline → lists ≡ lists_of stag p → sent ++ stream ≡ call_message xid credit stag p
 unfolding call_message
-message_by xid credit stag p lists message is are = is ∙ ap (λ (l : ChunkLists). header_encoding (record { xid = xid; credit = credit; body = body_by p.read_at l }) ++ p.inline) are
+message_by xid credit stag p lists front sent stream same is are = (λ i. same i ++ stream) ∙ is ∙ ap (λ (l : ChunkLists). header_encoding (record { xid = xid; credit = credit; body = body_by p.read_at l }) ++ p.inline) are
 
 -- ---- The side of the link
 

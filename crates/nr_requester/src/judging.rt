@@ -1,14 +1,16 @@
 //! What a requester makes of a message (RFC 8166 sections 4.2 to 4.5).
 
-ghost use Rattle.std.specs.Prelude.{◌≡◌, ℕ, ◌+◌, ◌<◌, ◌≤◌, ◌-◌, nat_lt, length, map, get_or, None, Some, Ok, MatchOption, IfOk, IfErr};
+ghost use Rattle.std.specs.Prelude.{◌≡◌, ℕ, ◌+◌, ◌<◌, ◌≤◌, ◌-◌, nat_lt, List, length, map, get_or, None, Some, Ok, MatchOption, IfOk, IfErr};
 ghost use Rattle.std.specs.List.{AllByRecursion};
 ghost use Rattle.nr_xdr.specs.Fields.{word_at};
 ghost use Rattle.nr_header.specs.WithinLimits.{StreamWithin};
-ghost use Rattle.nr_header.specs.declared.header.Header.{Header};
+ghost use Rattle.nr_header.specs.Header.{error_body};
 ghost use Rattle.nr_header.specs.Reading.{header_of};
+ghost use Rattle.nr_header.specs.ReadInto.{no_lists, body_with, with_lists};
 ghost use Rattle.nr_link.specs.Limits.{send_max};
 ghost use Rattle.nr_reduce.specs.ClientMessages.ReplyVerdict.{GivesOutcome};
-ghost use Rattle.nr_reduce.specs.KeptCalls.{kept_body, kept_by, kept_verdict};
+ghost use Rattle.nr_reduce.specs.Chunks.{Bytes};
+ghost use Rattle.nr_reduce.specs.KeptCalls.{KeptCall, kept_body, kept_by, kept_verdict};
 ghost use Rattle.nr_reduce.specs.KeptClient.{bytes_under};
 ghost use Rattle.nr_requester.specs.HeldClaims.{AreHeldFrom, call_claims, all_claims, OffersOwn};
 ghost use Rattle.nr_requester.specs.Judged.{header_reason, Ends, SameCall, outcome_by, LiesWithin, kept_view, kept_views, SameCalls, Brings};
@@ -16,7 +18,9 @@ ghost use Rattle.nr_requester.specs.Views.{HasRoom};
 
 use crate::outstanding::OutstandingCall;
 use crate::replies::{Found, long_stream, of_call, reply_found};
-use nr_header::{Body, Header, HeaderFault, read_header};
+use nr_header::{
+    HeaderFault, HeaderFields, ListsRoom, MessageKind, TransportError, read_header_into,
+};
 use nr_link::constants::{REASON_CALL, REASON_CHUNKS, REASON_KIND, REASON_SHORT, REASON_VERSION};
 use nr_reduce::answers_offer;
 use nr_regions::Regions;
@@ -57,49 +61,59 @@ fn call_at(calls: &[OutstandingCall], first_xid: u32, sent: u64, xid: u32) -> Op
     None
 }
 
-/// What a message with this body brings for its call, or why it ends the link. Takes no memory.
+/// What an error message brings for its call.
+fn error_found(error: TransportError) -> Found
+    ensures is { (c : KeptCall) (memory : Bytes) (message room : List ℕ) (version : ℕ) → kept_body c memory message (error_body version error) ≡ GivesOutcome c.xid (outcome_by result room) }
+    ensures within { (room : List ℕ) → LiesWithin result room }
+{
+    match error {
+        TransportError::Vers { low, high } => Found::Version { low, high },
+        TransportError::Chunk => Found::Chunk,
+    }
+}
+
+/// What a message of this kind with these lists brings for its call, or why it ends the link. Takes no memory.
 fn found(
     regions: &Regions,
     call: &mut OutstandingCall,
-    body: &Body,
+    kind: MessageKind,
+    lists: &ListsRoom,
     message: &[u8],
 ) -> Result<Found, u32>
     requires held { AreHeldFrom regions.now.memory 0 (call_claims call.old.claims) }
     requires offers { OffersOwn call.old }
     requires room { HasRoom call.old }
-    requires stream { StreamWithin body.now (length message.now) }
+    requires stream { StreamWithin (body_with kind lists.now) (length message.now) }
     requires message { length message.now ≤ send_max }
-    ensures ok { IfOk result (λ f. (first sent : ℕ) → kept_body (kept_view first sent call.old) (bytes_under regions.now.memory) message.now body.now ≡ GivesOutcome call.old.xid (outcome_by f call.new.room.bytes)) }
+    ensures ok { IfOk result (λ f. (first sent : ℕ) → kept_body (kept_view first sent call.old) (bytes_under regions.now.memory) message.now (body_with kind lists.now) ≡ GivesOutcome call.old.xid (outcome_by f call.new.room.bytes)) }
     ensures within { IfOk result (λ f. LiesWithin f call.new.room.bytes) }
-    ensures err { IfErr result (λ reason. (first sent : ℕ) → Ends (kept_body (kept_view first sent call.old) (bytes_under regions.now.memory) message.now body.now) reason) }
+    ensures err { IfErr result (λ reason. (first sent : ℕ) → Ends (kept_body (kept_view first sent call.old) (bytes_under regions.now.memory) message.now (body_with kind lists.now)) reason) }
     ensures same { SameCall call.old call.new }
 {
-    match body {
-        Body::Msg { lists, stream_at } => {
-            if !answers_offer(false, &call.offered, lists) {
+    match kind {
+        MessageKind::Msg { stream_at } => {
+            let back = lists.as_slices();
+            if !answers_offer(false, call.offered.as_slices(), back) {
                 return Err(REASON_CHUNKS);
             }
             let Some(of) = of_call(call) else {
                 return Ok(Found::Nothing);
             };
-            let (_, stream) = message.split_at(*stream_at);
-            reply_found(regions, call, &of, stream, lists.write.as_slice())
+            let (_, stream) = message.split_at(stream_at);
+            reply_found(regions, call, &of, stream, back.write)
         }
-        Body::Nomsg { lists } => {
-            if !answers_offer(true, &call.offered, lists) {
+        MessageKind::Nomsg => {
+            let back = lists.as_slices();
+            if !answers_offer(true, call.offered.as_slices(), back) {
                 return Err(REASON_CHUNKS);
             }
             let Some(of) = of_call(call) else {
                 return Ok(Found::Nothing);
             };
-            let stream = long_stream(regions, &call.claims.reply, &lists.reply);
-            reply_found(regions, call, &of, stream, lists.write.as_slice())
+            let stream = long_stream(regions, &call.claims.reply, back.reply);
+            reply_found(regions, call, &of, stream, back.write)
         }
-        Body::ErrVers { low, high, .. } => Ok(Found::Version {
-            low: *low,
-            high: *high,
-        }),
-        Body::ErrChunk { .. } => Ok(Found::Chunk),
+        MessageKind::Error { error, .. } => Ok(error_found(error)),
     }
 }
 
@@ -109,14 +123,15 @@ fn by_header(
     calls: &mut [OutstandingCall],
     first_xid: u32,
     sent: u64,
-    header: &Header,
+    header: HeaderFields,
+    lists: &ListsRoom,
     message: &[u8],
 ) -> Result<(usize, Found), u32>
-    requires header { header_of message.now ≡ Ok header.now }
+    requires header { with_lists lists.now (Ok header) ≡ header_of message.now }
     requires held { AreHeldFrom regions.now.memory 0 (all_claims calls.old) }
     requires offers { AllByRecursion OffersOwn calls.old }
     requires rooms { AllByRecursion HasRoom calls.old }
-    requires stream { StreamWithin header.now.body (length message.now) }
+    requires stream { StreamWithin (body_with header.kind lists.now) (length message.now) }
     requires message { length message.now ≤ send_max }
     ensures ok { IfOk result (λ f. Brings first_xid sent calls.old calls.new (bytes_under regions.now.memory) message.now f.0 f.1) }
     ensures err { IfErr result (λ reason. Ends (kept_verdict (kept_views first_xid sent calls.old) (bytes_under regions.now.memory) message.now) reason) }
@@ -125,9 +140,33 @@ fn by_header(
     let Some(at) = call_at(calls, first_xid, sent, header.xid) else {
         return Err(REASON_CALL);
     };
-    match found(regions, &mut calls[at], &header.body, message) {
+    match found(regions, &mut calls[at], header.kind, lists, message) {
         Ok(found) => Ok((at, found)),
         Err(reason) => Err(reason),
+    }
+}
+
+/// The same of a message whose lists are read into this room.
+fn judged(
+    regions: &Regions,
+    calls: &mut [OutstandingCall],
+    first_xid: u32,
+    sent: u64,
+    room: &mut ListsRoom,
+    message: &[u8],
+) -> Result<(usize, Found), u32>
+    requires empty { room.old ≡ no_lists }
+    requires held { AreHeldFrom regions.now.memory 0 (all_claims calls.old) }
+    requires offers { AllByRecursion OffersOwn calls.old }
+    requires rooms { AllByRecursion HasRoom calls.old }
+    requires message { (16 ≤ length message.now) × (length message.now ≤ send_max) }
+    ensures ok { IfOk result (λ f. Brings first_xid sent calls.old calls.new (bytes_under regions.now.memory) message.now f.0 f.1) }
+    ensures err { IfErr result (λ reason. Ends (kept_verdict (kept_views first_xid sent calls.old) (bytes_under regions.now.memory) message.now) reason) }
+    ensures same { SameCalls calls.old calls.new }
+{
+    match read_header_into(message, room) {
+        Ok(header) => by_header(regions, calls, first_xid, sent, header, room, message),
+        Err(fault) => Err(reason_of(&fault)),
     }
 }
 
@@ -147,18 +186,13 @@ pub fn verdict(
     ensures err { IfErr result (λ reason. Ends (kept_verdict (kept_views first_xid sent calls.old.items) (bytes_under regions.now.memory) message.now) reason) }
     ensures same { SameCalls calls.old.items calls.new.items }
 {
-    let header = match read_header(message) {
-        Ok(header) => header,
-        Err(fault) => return Err(reason_of(&fault)),
-    };
-    let found = by_header(
+    let mut room = ListsRoom::new();
+    judged(
         regions,
         calls.as_mut_slice(),
         first_xid,
         sent,
-        &header,
+        &mut room,
         message,
-    );
-    drop(header);
-    found
+    )
 }

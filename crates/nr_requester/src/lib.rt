@@ -7,6 +7,7 @@ mod holding;
 mod judging;
 mod laws;
 mod messages;
+mod offered;
 mod outstanding;
 mod pieces;
 mod releasing;

@@ -1,17 +1,17 @@
 //! The message of a call, and what it offers.
 
-ghost use Rattle.std.specs.Prelude.{◌≡◌, ℕ, ◌+◌, ◌^◌, ◌<◌, ◌≤◌, [], ◌∷◌, ◌++◌, length, sum, replicate, Some, if◌then◌else◌, IfOk, IfSome};
+ghost use Rattle.std.specs.Prelude.{◌≡◌, ℕ, ◌+◌, ◌^◌, ◌<◌, ◌≤◌, [], ◌∷◌, ◌++◌, length, sum, replicate, option_map, Some, if◌then◌else◌, IfOk, IfSome};
 ghost use Rattle.nr_reduce.specs.CallOutlines.{chunk_lengths};
 ghost use Rattle.nr_reduce.specs.Plans.{segments_from, entries_from, has_segment, one_if, read_list, write_list, reply_chunk, lists_of, read_stag, write_stag, reply_stag, regions_needed, call_message, total, body_by};
 ghost use Rattle.nr_link.specs.Limits.{send_max};
 ghost use Rattle.nr_header.specs.declared.header.ChunkLists.{ChunkLists};
 ghost use Rattle.nr_header.specs.Header.{header_encoding, lists_body, ChunksFit};
+ghost use Rattle.nr_header.specs.Slices.{lists_of_slices};
 ghost use Rattle.nr_requester.specs.Sending.{AreFew, some_if, offered_of, call_plan};
 
+use crate::offered::OfferedLists;
 use nr_endpoint::Offered;
-use nr_header::{
-    Chunk, ChunkLists, RdmaSegment, ReadList, ReadSegment, WriteList, write_with_lists,
-};
+use nr_header::{Chunk, ListSlices, RdmaSegment, ReadSegment, write_with_slices};
 use nr_reduce::{ChunkLengths, Outline, PayloadBuffer};
 use nr_xdr::{Memory, Octets};
 use std::alloc::Global;
@@ -54,14 +54,14 @@ fn push_segments(
     Ok(())
 }
 
-/// A chunk of segments of one region, one after the other.
-fn chunk_of(alloc: Global, handle: u32, lengths: &[u32]) -> Result<Chunk, Memory>
+/// Segments of one region, one after the other.
+fn segments_of(alloc: Global, handle: u32, lengths: &[u32]) -> Result<Vec<RdmaSegment>, Memory>
     requires { length lengths.now < 2 ^ 31 }
-    ensures { IfOk result (λ c. c ≡ segments_from handle 0 lengths.now) }
+    ensures { IfOk result (λ c. c.items ≡ segments_from handle 0 lengths.now) }
 {
-    let mut segments = Vec::new(alloc);
+    let mut segments = Vec::with_capacity(alloc, lengths.len())?;
     push_segments(&mut segments, handle, lengths)?;
-    Ok(Chunk::from_vec(segments))
+    Ok(segments)
 }
 
 fn push_entries(
@@ -86,18 +86,18 @@ fn push_entries(
     Ok(())
 }
 
-fn read_list_of(
+fn entries_of(
     alloc: Global,
     position: u32,
     handle: u32,
     lengths: &[u32],
-) -> Result<ReadList, Memory>
+) -> Result<Vec<ReadSegment>, Memory>
     requires { length lengths.now < 2 ^ 31 }
-    ensures { IfOk result (λ c. c ≡ entries_from position handle 0 lengths.now) }
+    ensures { IfOk result (λ c. c.items ≡ entries_from position handle 0 lengths.now) }
 {
-    let mut entries = Vec::new(alloc);
+    let mut entries = Vec::with_capacity(alloc, lengths.len())?;
     push_entries(&mut entries, position, handle, lengths)?;
-    Ok(ReadList::from_vec(entries))
+    Ok(entries)
 }
 
 /// How many regions a chunk with these segments has.
@@ -135,37 +135,42 @@ pub fn regions_needed(plan: PlannedCall<'_>) -> u64
         + region_count_of(plan.outline.reply)
 }
 
-/// A chunk of the region under an STag, if it has a segment.
-fn chunk_at(alloc: Global, stag: u64, lengths: &[u32]) -> Result<Chunk, Memory>
+/// The segments of the region under an STag, if it has one.
+fn segments_at(alloc: Global, stag: u64, lengths: &[u32]) -> Result<Vec<RdmaSegment>, Memory>
     requires few { length lengths.now < 2 ^ 31 }
     requires stags { stag + one_if (has_segment (Some lengths.now)) ≤ 2 ^ 32 }
-    ensures { IfOk result (λ c. c ≡ segments_from stag 0 lengths.now) }
+    ensures { IfOk result (λ c. c.items ≡ segments_from stag 0 lengths.now) }
 {
     if lengths.is_empty() {
-        return Ok(Chunk::from_vec(Vec::new(alloc)));
+        return Ok(Vec::new(alloc));
     }
-    chunk_of(alloc, stag as u32, lengths)
+    segments_of(alloc, stag as u32, lengths)
 }
 
-fn entries_at(alloc: Global, position: u32, stag: u64, lengths: &[u32]) -> Result<ReadList, Memory>
+fn entries_at(
+    alloc: Global,
+    position: u32,
+    stag: u64,
+    lengths: &[u32],
+) -> Result<Vec<ReadSegment>, Memory>
     requires few { length lengths.now < 2 ^ 31 }
     requires stags { stag + one_if (has_segment (Some lengths.now)) ≤ 2 ^ 32 }
-    ensures { IfOk result (λ c. c ≡ entries_from position stag 0 lengths.now) }
+    ensures { IfOk result (λ c. c.items ≡ entries_from position stag 0 lengths.now) }
 {
     if lengths.is_empty() {
-        return Ok(ReadList::from_vec(Vec::new(alloc)));
+        return Ok(Vec::new(alloc));
     }
-    read_list_of(alloc, position, stag as u32, lengths)
+    entries_of(alloc, position, stag as u32, lengths)
 }
 
-fn read_chunk_of(alloc: Global, stag: u64, plan: PlannedCall<'_>) -> Result<ReadList, Memory>
+fn read_list_of(alloc: Global, stag: u64, plan: PlannedCall<'_>) -> Result<Vec<ReadSegment>, Memory>
     requires few { length (call_plan plan).read < 2 ^ 31 }
     requires stags { stag + one_if (has_segment (Some (call_plan plan).read)) ≤ 2 ^ 32 }
-    ensures { IfOk result (λ l. l ≡ read_list stag (call_plan plan.entry) (call_plan plan.entry).read_at) }
+    ensures { IfOk result (λ l. l.items ≡ read_list stag (call_plan plan.entry) (call_plan plan.entry).read_at) }
 {
     match plan.outline.read {
         Some(chunk) => entries_at(alloc, chunk.position, stag, chunk.lengths.as_slice()),
-        None => Ok(ReadList::from_vec(Vec::new(alloc))),
+        None => Ok(Vec::new(alloc)),
     }
 }
 
@@ -173,17 +178,17 @@ fn write_list_of(
     alloc: Global,
     stag: u64,
     write: Option<ChunkLengths<'_>>,
-) -> Result<WriteList, Memory>
+) -> Result<Vec<Chunk>, Memory>
     requires few { IfSome (chunk_lengths write) (λ lengths. length lengths < 2 ^ 31) }
     requires stags { stag + one_if (has_segment (chunk_lengths write)) ≤ 2 ^ 32 }
-    ensures { IfOk result (λ l. l ≡ write_list stag (chunk_lengths write.entry)) }
+    ensures { IfOk result (λ l. l.items ≡ write_list stag (chunk_lengths write.entry)) }
 {
     match write {
         Some(lengths) => {
-            let chunk = chunk_at(alloc, stag, lengths.as_slice())?;
-            Ok(WriteList::from_vec(vec![in alloc; chunk]?))
+            let segments = segments_at(alloc, stag, lengths.as_slice())?;
+            Ok(vec![in alloc; Chunk::from_vec(segments)]?)
         }
-        None => Ok(WriteList::from_vec(Vec::new(alloc))),
+        None => Ok(Vec::new(alloc)),
     }
 }
 
@@ -191,30 +196,30 @@ fn reply_chunk_of(
     alloc: Global,
     stag: u64,
     reply: Option<ChunkLengths<'_>>,
-) -> Result<Option<Chunk>, Memory>
+) -> Result<Option<Vec<RdmaSegment>>, Memory>
     requires few { IfSome (chunk_lengths reply) (λ lengths. length lengths < 2 ^ 31) }
     requires stags { stag + one_if (has_segment (chunk_lengths reply)) ≤ 2 ^ 32 }
-    ensures { IfOk result (λ l. l ≡ reply_chunk stag (chunk_lengths reply.entry)) }
+    ensures { IfOk result (λ l. option_map (λ v. v.items) l ≡ reply_chunk stag (chunk_lengths reply.entry)) }
 {
     match reply {
-        Some(lengths) => Ok(Some(chunk_at(alloc, stag, lengths.as_slice())?)),
+        Some(lengths) => Ok(Some(segments_at(alloc, stag, lengths.as_slice())?)),
         None => Ok(None),
     }
 }
 
 /// The lists of a plan, whose regions get STags from this one on.
 #[tactic(auto, unfolding(nr_reduce::specs::Plans::regions_needed, nr_reduce::specs::Plans::lists_of))]
-pub fn lists_of(alloc: Global, stag: u64, plan: PlannedCall<'_>) -> Result<ChunkLists, Memory>
+pub fn lists_of(alloc: Global, stag: u64, plan: PlannedCall<'_>) -> Result<OfferedLists, Memory>
     requires few { AreFew (call_plan plan) }
     requires stags { stag + regions_needed (call_plan plan) ≤ 2 ^ 32 }
     ensures { IfOk result (λ l. l ≡ lists_of stag (call_plan plan.entry)) }
 {
     let write_at = stag + read_region_count(plan);
     let reply_at = write_at + region_count_of(plan.outline.write);
-    let read = read_chunk_of(alloc, stag, plan)?;
+    let read = read_list_of(alloc, stag, plan)?;
     let reply = reply_chunk_of(alloc, reply_at, plan.outline.reply)?;
     match write_list_of(alloc, write_at, plan.outline.write) {
-        Ok(write) => Ok(ChunkLists { read, write, reply }),
+        Ok(write) => Ok(OfferedLists::new(read, write, reply)),
         Err(memory) => {
             drop(read);
             drop(reply);
@@ -235,29 +240,33 @@ fn is_long(plan: PlannedCall<'_>) -> bool
     }
 }
 
-/// Appends what goes inline.
-fn push_inline(message: &mut Octets, plan: PlannedCall<'_>) -> Result<(), Memory>
-    ensures { IfOk result (λ _. message.new ≡ message.old ++ (call_plan plan.entry).inline) }
+/// Appends the first of two pieces, unless the second is empty; the piece that is left to append.
+fn push_first<'a>(front: &mut Octets, first: &'a [u8], second: &'a [u8]) -> Result<&'a [u8], Memory>
+    ensures { IfOk result (λ rest. front.new ++ rest.now ≡ front.old ++ (first.now ++ second.now)) }
 {
-    let (head, args) = plan.outline.inline(plan.head, plan.args);
-    message.extend_from_slice(head)?;
-    message.extend_from_slice(args)
+    if second.is_empty() {
+        return Ok(first);
+    }
+    front.extend_from_slice(first)?;
+    Ok(second)
 }
 
-/// The message of a plan with these lists.
-pub fn message_of(
+/// The message of a plan with these lists, in two parts: the second is the arguments that go inline or, if none do, the head,
+/// which is not copied.
+pub fn message_of<'a>(
     alloc: Global,
     xid: u32,
     credit: u32,
-    plan: PlannedCall<'_>,
-    lists: &ChunkLists,
-) -> Result<Octets, Memory>
-    requires { ChunksFit lists.now }
-    ensures { IfOk result (λ m. m ≡ header_encoding (record { xid = xid; credit = credit; body = body_by (call_plan plan.entry).read_at lists.now }) ++ (call_plan plan.entry).inline) }
+    plan: PlannedCall<'a>,
+    lists: ListSlices<'_>,
+) -> Result<(Octets, &'a [u8]), Memory>
+    requires { ChunksFit (lists_of_slices lists) }
+    ensures { IfOk result (λ m. m.0 ++ m.1.now ≡ header_encoding (record { xid = xid; credit = credit; body = body_by (call_plan plan.entry).read_at (lists_of_slices lists.entry) }) ++ (call_plan plan.entry).inline) }
 {
-    let mut message = write_with_lists(alloc, xid, credit, is_long(plan), lists)?;
-    push_inline(&mut message, plan)?;
-    Ok(message)
+    let mut front = write_with_slices(alloc, xid, credit, is_long(plan), lists)?;
+    let (head, args) = plan.outline.inline(plan.head, plan.args);
+    let rest = push_first(&mut front, head, args)?;
+    Ok((front, rest))
 }
 
 // ---- The buffers

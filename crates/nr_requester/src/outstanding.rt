@@ -1,7 +1,7 @@
 //! A call that is outstanding.
 
+use crate::offered::OfferedLists;
 use nr_endpoint::Claims;
-use nr_header::ChunkLists;
 use nr_reduce::{Call, PayloadBuffer};
 
 /// A call that is outstanding: accepted, and no message of its xid was received. The call, until its memory is revoked; whether its
@@ -15,7 +15,7 @@ pub struct OutstandingCall {
     /// Whether its owner gave up the answer.
     pub is_forgotten: bool,
     /// The chunk lists of its message, which the reply has to repeat (RFC 8166 section 3.4.6).
-    pub offered: ChunkLists,
+    pub offered: OfferedLists,
     /// Its regions.
     pub claims: Claims,
     /// The room in which its reply is put together.

@@ -1,6 +1,6 @@
 //! What a reply brings for its call, by its stream and its chunks (RFC 8166 section 3.4).
 
-ghost use Rattle.std.specs.Prelude.{◌≡◌, ℕ, ◌+◌, ◌^◌, ◌<◌, ◌≤◌, min, length, take, None, Some, MatchOption, IfOk, IfErr};
+ghost use Rattle.std.specs.Prelude.{◌≡◌, ℕ, ◌+◌, ◌^◌, ◌<◌, ◌≤◌, min, length, take, option_map, None, Some, MatchOption, IfOk, IfErr};
 ghost use Rattle.nr_reduce.specs.Chunks.{chunk_total, joined_bytes, reply_moved, reply_stream, some_bytes, whole};
 ghost use Rattle.nr_reduce.specs.ClientMessages.{reply_by_payload, reply_xid};
 ghost use Rattle.nr_reduce.specs.ClientMessages.ReplyVerdict.{GivesOutcome};
@@ -85,15 +85,15 @@ fn moved<'a>(regions: &'a Regions, claim: &Option<Registration>, written: &[Chun
 pub fn long_stream<'a>(
     regions: &'a Regions,
     claim: &Option<Registration>,
-    chunk: &Option<Chunk>,
+    chunk: Option<&[RdmaSegment]>,
 ) -> &'a [u8]
-    requires { ReplyComesBack regions.now.memory claim.now chunk.now }
-    ensures bytes { result.now ≡ reply_stream (bytes_under regions.now.memory) None chunk.now }
+    requires { ReplyComesBack regions.now.memory claim.now (option_map (λ segments. segments.now) chunk) }
+    ensures bytes { result.now ≡ reply_stream (bytes_under regions.now.memory) None (option_map (λ segments. segments.now) chunk.entry) }
     ensures len { length result.now ≤ claim_len claim.now }
 {
     match chunk {
         None => &[],
-        Some(chunk) => filled(regions, claim, chunk.as_slice()),
+        Some(chunk) => filled(regions, claim, chunk),
     }
 }
 

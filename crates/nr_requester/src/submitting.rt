@@ -22,11 +22,11 @@ ghost use Rattle.nr_requester.specs.OpenCalls.{OpensTicket};
 
 use crate::answer::AnsweredCall;
 use crate::messages::{PlannedCall, lists_of, message_of, offered_of, regions_needed, reply_room};
+use crate::offered::OfferedLists;
 use crate::outstanding::OutstandingCall;
 use crate::requester::{Requester, marks_if};
 use crate::ticket::Ticket;
 use nr_endpoint::{Claims, Endpoint};
-use nr_header::ChunkLists;
 use nr_link::constants::SEND_MAX;
 use nr_reduce::{Call, Form, Outline, PayloadBuffer, Refused, TooLarge, outline_of, written_parts};
 use nr_rpc::{CallTarget, write_call_head};
@@ -40,7 +40,7 @@ const NUMBERS_END: u64 = 4294967296;
 #[derive(Drop)]
 pub struct Sent {
     /// The chunk lists of its message.
-    pub lists: ChunkLists,
+    pub lists: OfferedLists,
     /// Its regions.
     pub claims: Claims,
 }
@@ -61,7 +61,7 @@ fn offer_plan(
     xid: u32,
     credit: u32,
     plan: PlannedCall<'_>,
-    lists: &ChunkLists,
+    lists: &OfferedLists,
 ) -> Result<Claims, Memory>
     requires live { endpoint.old.link.state.ended ≡ None }
     requires planned { IsPlan (call_plan plan) }
@@ -75,9 +75,9 @@ fn offer_plan(
     ensures outside_err { OnErr result (endpoint.new.outside ≡ endpoint.old.outside) }
     ensures err { OnErr result (endpoint.new.link ≡ endpoint.old.link) }
 {
-    let message = message_of(alloc, xid, credit, plan, lists)?;
+    let (front, stream) = message_of(alloc, xid, credit, plan, lists.as_slices())?;
     let offered = offered_of(alloc, plan)?;
-    match endpoint.offer(message.as_slice(), offered) {
+    match endpoint.offer_parts(front.as_slice(), stream, offered) {
         Ok(claims) => Ok(claims),
         Err(offered) => {
             drop(offered);

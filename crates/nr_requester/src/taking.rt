@@ -114,7 +114,7 @@ impl Requester {
         ensures state { self.new ≡ after_forget self.old xid }
         ensures number { xid < self.old.state.next_xid }
     {
-        let Some(answer) = take_answer(&mut self.answered, xid) else {
+        let Some(at) = answer_place(self.answered.as_slice(), xid) else {
             unreachable!();
         };
         let AnsweredCall {
@@ -122,7 +122,7 @@ impl Requester {
             buffers,
             outcome,
             ..
-        } = answer;
+        } = self.answered.remove(at);
         self.marks = marks_if(true, self.marks);
         Done {
             call,

@@ -1,6 +1,7 @@
 use Rattle.nr_link.specs.Limits.{send_max}
-use Rattle.std.proofs.Common.{ℕ, List, length, sym, ap, subst, ◌∙◌, arith}
+use Rattle.std.proofs.Common.{ℕ, List, ◌++◌, length, length-append, sym, ap, subst, ◌∙◌, arith}
 use Rattle.nr_header.specs.Header.{ChunksFit}
+use Rattle.nr_header.specs.Slices.{lists_of_slices}
 use Rattle.nr_reduce.proofs.Sizes.{message_size}
 use Rattle.nr_endpoint.specs.declared.offering.Offered.{Offered}
 use Rattle.nr_endpoint.specs.Offering.{offered_count, claims_of}
@@ -12,28 +13,28 @@ use Rattle.nr_requester.proofs.OutsideBounds.{offered_outside}
 use Rattle.nr_requester.proofs.submitting.offer_plan.Goals as goal
 
 pub message_of-requires : goal.message_of-requires
-message_of-requires c = subst ChunksFit (sym c.requires.lists) (lists_fit_lem c.args.endpoint.now.link.state.memory.next (call_plan c.args.plan) (few (call_plan c.args.plan) (plan_fits (call_plan c.args.plan) c.requires.planned)))
+message_of-requires c = subst ChunksFit (sym (c.as_slices.ensures ∙ c.requires.lists)) (lists_fit_lem c.args.endpoint.now.link.state.memory.next (call_plan c.args.plan) (few (call_plan c.args.plan) (plan_fits (call_plan c.args.plan) c.requires.planned)))
 
 pub offered_of-requires : goal.offered_of-requires
 offered_of-requires c = record { few = few (call_plan c.args.plan) (plan_fits (call_plan c.args.plan) c.requires.planned) }
 
-pub offer-requires-clause-size : goal.offer-requires-clause-size
-offer-requires-clause-size c =
+pub offer_parts-requires-clause-size : goal.offer_parts-requires-clause-size
+offer_parts-requires-clause-size c =
     let p = c.requires.planned in
     let size = (message_size p.payload p.form send_max send_max c.args.xid c.args.credit c.args.endpoint.now.link.state.memory.next (call_plan c.args.plan) p.is).1 in
-    let len = ap (λ (xs : List ℕ). length xs) (c.as_slice.ensures ∙ message_by c.args.xid c.args.credit c.args.endpoint.now.link.state.memory.next (call_plan c.args.plan) c.args.lists.now c.in_ok-message.message c.in_ok-message.ensures c.requires.lists) in
-    omega (arith, size, len)
+    let len = ap (λ (xs : List ℕ). length xs) (message_by c.args.xid c.args.credit c.args.endpoint.now.link.state.memory.next (call_plan c.args.plan) (lists_of_slices c.as_slices.result) c.in_ok-front.front c.as_slice.result.now c.in_ok-front.stream.now c.as_slice.ensures c.in_ok-front.ensures (c.as_slices.ensures ∙ c.requires.lists)) in
+    omega (arith, size, len, length-append c.as_slice.result.now c.in_ok-front.stream.now)
 
-pub offer-requires-clause-stags : goal.offer-requires-clause-stags
-offer-requires-clause-stags c =
+pub offer_parts-requires-clause-stags : goal.offer_parts-requires-clause-stags
+offer_parts-requires-clause-stags c =
     let count = ap (λ (o : Offered). offered_count o) c.in_ok-offered.ensures ∙ count_offered (call_plan c.args.plan) in
     let fits = c.requires.stags in
     omega (arith, count, fits)
 
 pub returns-in-Ok-clause-link : goal.returns-in-Ok-clause-link
 returns-in-Ok-clause-link c =
-    offered_view c.args.endpoint.now.link c.offer.new.self.link c.args.xid c.args.credit (call_plan c.args.plan) c.as_slice.result.now c.in_ok-offered.offered c.requires.live c.in-Ok.ensures.state
-    (c.as_slice.ensures ∙ message_by c.args.xid c.args.credit c.args.endpoint.now.link.state.memory.next (call_plan c.args.plan) c.args.lists.now c.in_ok-message.message c.in_ok-message.ensures c.requires.lists)
+    offered_view c.args.endpoint.now.link c.offer_parts.new.self.link c.args.xid c.args.credit (call_plan c.args.plan) (c.as_slice.result.now ++ c.in_ok-front.stream.now) c.in_ok-offered.offered c.requires.live c.in-Ok.ensures.state
+    (message_by c.args.xid c.args.credit c.args.endpoint.now.link.state.memory.next (call_plan c.args.plan) (lists_of_slices c.as_slices.result) c.in_ok-front.front c.as_slice.result.now c.in_ok-front.stream.now c.as_slice.ensures c.in_ok-front.ensures (c.as_slices.ensures ∙ c.requires.lists))
     c.in_ok-offered.ensures
 
 pub returns-in-Ok-clause-claims : goal.returns-in-Ok-clause-claims
@@ -41,11 +42,11 @@ returns-in-Ok-clause-claims c = c.in-Ok.ensures.claims ∙ ap (λ (o : Offered).
 
 pub returns-in-Ok-clause-held : goal.returns-in-Ok-clause-held
 returns-in-Ok-clause-held c =
-    sent_held c.args.endpoint.now.link.state.memory c.offer.new.self.link.state.memory c.in_ok-offered.offered c.in-Ok.claims
-    (offered_memory c.args.endpoint.now.link c.offer.new.self.link c.as_slice.result.now c.in_ok-offered.offered c.in-Ok.ensures.state) c.in-Ok.ensures.claims
+    sent_held c.args.endpoint.now.link.state.memory c.offer_parts.new.self.link.state.memory c.in_ok-offered.offered c.in-Ok.claims
+    (offered_memory c.args.endpoint.now.link c.offer_parts.new.self.link (c.as_slice.result.now ++ c.in_ok-front.stream.now) c.in_ok-offered.offered c.in-Ok.ensures.state) c.in-Ok.ensures.claims
 
 pub returns-in-Ok-clause-outside : goal.returns-in-Ok-clause-outside
 returns-in-Ok-clause-outside c =
     let count = ap (λ (o : Offered). offered_count o) c.in_ok-offered.ensures ∙ count_offered (call_plan c.args.plan) in
     let fits = c.requires.stags in
-    offered_outside c.args.endpoint.now c.offer.new.self c.in_ok-offered.offered (offered_memory c.args.endpoint.now.link c.offer.new.self.link c.as_slice.result.now c.in_ok-offered.offered c.in-Ok.ensures.state) c.in-Ok.ensures.outside (omega (arith, count, fits))
+    offered_outside c.args.endpoint.now c.offer_parts.new.self c.in_ok-offered.offered (offered_memory c.args.endpoint.now.link c.offer_parts.new.self.link (c.as_slice.result.now ++ c.in_ok-front.stream.now) c.in_ok-offered.offered c.in-Ok.ensures.state) c.in-Ok.ensures.outside (omega (arith, count, fits))
