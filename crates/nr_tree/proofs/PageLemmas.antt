@@ -7,7 +7,7 @@ use Rattle.std.specs.Ordering.{nat_cmp}
 use Rattle.std.specs.declared.vec.Vec.{Vec}
 use Rattle.std.specs.declared.alloc.Global.{Global}
 use Rattle.nr_tree.specs.Pages.{page_size}
-use Rattle.nr_tree.specs.Paged.{Pages, page, items_of, byte, HasSize, HasByte, AreSized, AreZeros, ArePages, KeepsBytes, IsOver, WritesOver, ClearsTail}
+use Rattle.nr_tree.specs.Paged.{Pages, page, items_of, byte, HasSize, HasByte, AreSized, AreZeros, ArePages, AreSet, KeepsBytes, IsOver, WritesOver, ClearsTail}
 use Rattle.nr_tree.proofs.NodeMaps.{same_number}
 
 -- ===== one page changes
@@ -60,6 +60,13 @@ set_then qs rs first n had keeps here p from to = by (cases_lt p n) where
   by : (p < n) ⊎ (n ≤ p) → IfSome (page rs p) HasByte
   by (inl lt) = subst (λ (o : Option (Vec ℕ Global)). IfSome o HasByte) (sym (keeps.below p lt)) (had p from lt)
   by (inr le) = let same : n ≡ p = omega (arith, le, to) in subst (λ (q : ℕ). IfSome (page rs q) HasByte) same here
+
+-- one more part has a byte in its page
+pub set_more : (qs rs : Pages) (offset at n : ℕ) → at % page_size + n ≤ page_size → AreSet qs offset at → ((p : ℕ) → p < at / page_size → page rs p ≡ page qs p) → IfSome (page rs (at / page_size)) HasByte → AreSet rs offset (at + n)
+set_more qs rs offset at n fits had below here i from to = by (cases_lt (i / page_size) (at / page_size)) where
+  by : (i / page_size < at / page_size) ⊎ (at / page_size ≤ i / page_size) → IfSome (page rs (i / page_size)) HasByte
+  by (inl lt) = subst (λ (o : Option (Vec ℕ Global)). IfSome o HasByte) (sym (below (i / page_size) lt)) (had i from (omega (arith, lt)))
+  by (inr le) = let same : at / page_size ≡ i / page_size = omega (arith, le, fits, to) in subst (λ (q : ℕ). IfSome (page rs q) HasByte) same here
 
 -- ===== one more page goes
 
@@ -214,6 +221,16 @@ set_again ps qs ss first end a b set between p = by (cases_lt p first) (cases_lt
   by (inl lt) c = subst (λ (o : Option (Vec ℕ Global)). IfSome o HasByte) (sym (b.below p lt ∙ a.below p lt)) (set p)
   by (inr le) (inl lt) = between p le lt
   by (inr le) (inr past) = subst (λ (o : Option (Vec ℕ Global)). IfSome o HasByte) (sym (b.above p past ∙ a.above p past)) (set p)
+
+-- each of the pages that a piece lies in has one of its bytes
+pub set_between : (qs : Pages) (first end offset len : ℕ) → first ≡ offset / page_size → end ≡ (offset + len + 4095) / page_size → 0 < len → AreSet qs offset (offset + len)
+    → (p : ℕ) → first ≤ p → p < end → IfSome (page qs p) HasByte
+set_between qs first end offset len begin last some set p from to = by (cases_lt (page_size * p) offset) where
+  by : (page_size * p < offset) ⊎ (offset ≤ page_size * p) → IfSome (page qs p) HasByte
+  by (inl lt) = let same : offset / page_size ≡ p = omega (arith, lt, begin, from) in subst (λ (q : ℕ). IfSome (page qs q) HasByte) same (set offset (omega arith) (omega (arith, some)))
+  by (inr le) =
+      let same : (page_size * p) / page_size ≡ p = omega arith in
+      subst (λ (q : ℕ). IfSome (page qs q) HasByte) same (set (page_size * p) le (omega (arith, to, last)))
 
 -- the numbers of the pages that a piece lies in
 pub room_for : (qs : Pages) (first end offset len : ℕ) → first ≡ offset / page_size → end ≡ (offset + len + 4095) / page_size → ((p : ℕ) → first ≤ p → p < end → is_some (page qs p) ≡ true)

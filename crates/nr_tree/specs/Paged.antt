@@ -37,6 +37,10 @@ HasByte v = list_any is_set v.items ≡ true
 abbrev pub AreSized : Pages → Type 0
 AreSized ps = (p : ℕ) → IfSome (page ps p) HasSize
 
+-- each page that has a byte from an offset on, below another one, has a byte that isn't 0
+abbrev pub AreSet : Pages → ℕ → ℕ → Type 0
+AreSet ps from end = (i : ℕ) → from ≤ i → i < end → IfSome (page ps (i / page_size)) HasByte
+
 -- n zeros
 pub record AreZeros (xs : List ℕ) (n : ℕ) : Type 0 where
   pub length : length xs ≡ n

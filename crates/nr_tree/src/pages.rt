@@ -3,7 +3,7 @@
 ghost use Rattle.std.specs.Prelude.{◌≡◌, ◌≢◌, ◌+◌, ◌-◌, ◌*◌, ◌/◌, ◌%◌, ◌<◌, ◌≤◌, ◌^◌, ℕ, ◌++◌, length, take, drop, replicate, is_some, slice_index, true, false, IfOk, IfSome, OnOk, OnErr, None, Some};
 ghost use Rattle.std.specs.List.{list_any};
 ghost use Rattle.nr_tree.specs.Pages.{page_size, is_set};
-ghost use Rattle.nr_tree.specs.Paged.{page, byte, HasSize, HasByte, AreSized, AreZeros, ArePages, KeepsBytes, IsOver, WritesOver, ClearsTail};
+ghost use Rattle.nr_tree.specs.Paged.{page, byte, HasSize, HasByte, AreSized, AreZeros, ArePages, AreSet, KeepsBytes, IsOver, WritesOver, ClearsTail};
 
 use std::alloc::{AllocError, Global};
 use std::collections::BTreeMap;
@@ -34,13 +34,30 @@ fn insert_zeros(alloc: Global, pages: &mut Pages, number: u64) -> Result<(), All
     Ok(())
 }
 
+/// The first number from `first` on, below `end`, under which no page is kept, or `end`. Found by one walk.
+fn first_missing(pages: &Pages, first: u64, end: u64) -> u64
+    requires { first ≤ end }
+    ensures from { first ≤ result }
+    ensures kept { (p : ℕ) → first ≤ p → p < result → is_some (page pages.now.entries p) ≡ true }
+{
+    let mut missing = first;
+    for (number, _) in pages.range(first..end) {
+        if *number != missing {
+            return missing;
+        }
+        missing += 1;
+    }
+    missing
+}
+
 /// Keeps a page of zeros under each of the numbers from `first` on, below `end`, that has none.
 fn make_room(alloc: Global, pages: &mut Pages, first: u64, end: u64) -> Result<(), AllocError>
-    requires { AreSized pages.old.entries }
+    requires sized { AreSized pages.old.entries }
+    requires forward { first ≤ end }
     ensures bytes { KeepsBytes pages.old.entries pages.new.entries first end }
     ensures kept { OnOk result ((p : ℕ) → first ≤ p → p < end → is_some (page pages.new.entries p) ≡ true) }
 {
-    for number in first..end {
+    for number in first_missing(pages, first, end)..end {
         insert_zeros(alloc, pages, number)?;
     }
     Ok(())
@@ -80,22 +97,25 @@ fn drop_zeros(pages: &mut Pages, first: u64, end: u64)
     }
 }
 
-/// Copies a piece into a page, from an offset in it on.
-fn copy_at(bytes: &mut Vec<u8>, offset: usize, piece: &[u8])
+/// Copies a piece into a page, from an offset in it on, and gives whether all bytes of the page are 0 then.
+fn copy_at(bytes: &mut Vec<u8>, offset: usize, piece: &[u8]) -> bool
     requires { offset + length piece.now ≤ length bytes.old.items }
-    ensures { bytes.new.items ≡ take offset bytes.old.items ++ (piece.now ++ drop (offset + length piece.now) bytes.old.items) }
+    ensures bytes { bytes.new.items ≡ take offset bytes.old.items ++ (piece.now ++ drop (offset + length piece.now) bytes.old.items) }
+    ensures set { result ≡ false → HasByte bytes.new }
 {
     let all = bytes.as_mut_slice();
     all[offset..offset + piece.len()].copy_from_slice(piece);
+    are_zero(bytes)
 }
 
-/// Copies a piece into the page that it lies in, which is kept.
-fn put(pages: &mut Pages, offset: u64, piece: &[u8])
+/// Copies a piece into the page that it lies in, which is kept, and gives whether all bytes of the page are 0 then.
+fn put(pages: &mut Pages, offset: u64, piece: &[u8]) -> bool
     requires sized { AreSized pages.old.entries }
     requires kept { is_some (page pages.old.entries (offset / page_size)) ≡ true }
     requires some { 0 < length piece.now }
     requires fits { offset % page_size + length piece.now ≤ page_size }
-    ensures { WritesOver pages.old.entries pages.new.entries offset piece.now }
+    ensures over { WritesOver pages.old.entries pages.new.entries offset piece.now }
+    ensures set { result ≡ false → IfSome (page pages.new.entries (offset / page_size)) HasByte }
 {
     match pages.get_mut(&(offset / PAGE_SIZE)) {
         Some(page) => copy_at(page, (offset % PAGE_SIZE) as usize, piece),
@@ -103,22 +123,26 @@ fn put(pages: &mut Pages, offset: u64, piece: &[u8])
     }
 }
 
-/// Copies a piece into its pages, each of which is kept. Each byte is copied once.
-fn copy(pages: &mut Pages, offset: u64, piece: &[u8])
+/// Copies a piece into its pages, each of which is kept, and gives whether all bytes of one of them are 0 then. Each byte is
+/// copied once.
+fn copy(pages: &mut Pages, offset: u64, piece: &[u8]) -> bool
     requires sized { AreSized pages.old.entries }
     requires limit { offset + length piece.now < 2 ^ 62 }
     requires kept { (i : ℕ) → offset ≤ i → i < offset + length piece.now → is_some (page pages.old.entries (i / page_size)) ≡ true }
-    ensures { WritesOver pages.old.entries pages.new.entries offset piece.now }
+    ensures over { WritesOver pages.old.entries pages.new.entries offset piece.now }
+    ensures set { result ≡ false → AreSet pages.new.entries offset (offset + length piece.now) }
 {
     let mut at = offset;
     let mut rest = piece;
+    let mut is_zero = false;
     while !rest.is_empty() {
         let room = PAGE_SIZE - at % PAGE_SIZE; // the rest of the page
         let (part, after) = rest.split_at((room as usize).min(rest.len()));
-        put(pages, at, part);
+        is_zero |= put(pages, at, part);
         at += part.len() as u64;
         rest = after;
     }
+    is_zero
 }
 
 /// Writes a piece over the bytes from an offset on. Room first: a page that isn't kept begins as zeros, and no page of zeros
@@ -137,14 +161,18 @@ pub(crate) fn write_pages(
     ensures ok { OnOk result (IsOver (byte pages.old.entries) (byte pages.new.entries) offset piece.now) }
     ensures err { OnErr result ((i : ℕ) → byte pages.new.entries i ≡ byte pages.old.entries i) }
 {
+    if piece.is_empty() {
+        return Ok(());
+    }
     let first = offset / PAGE_SIZE;
     let end = (offset + piece.len() as u64 + (PAGE_SIZE - 1)) / PAGE_SIZE;
     if let Err(e) = make_room(alloc, pages, first, end) {
         drop_zeros(pages, first, end);
         return Err(e);
     }
-    copy(pages, offset, piece);
-    drop_zeros(pages, first, end);
+    if copy(pages, offset, piece) {
+        drop_zeros(pages, first, end);
+    }
     Ok(())
 }
 
