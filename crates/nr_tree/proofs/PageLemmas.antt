@@ -1,5 +1,5 @@
 -- Changes of pages, and what they make of the bytes.
-use Rattle.std.proofs.Common.{◌≡◌, ◌≢◌, ℕ, ◌+◌, ◌-◌, ◌*◌, ◌/◌, ◌%◌, ◌<◌, ◌≤◌, ◌⊎◌, inl, inr, Bool, true, false, cond, List, ◌++◌, length, take, drop, get_or, Option, None, Some, IfSome, is_some, refl, ap, sym, ◌∙◌, subst, arith, length-append, replicate}
+use Rattle.std.proofs.Common.{◌≡◌, ◌≢◌, ℕ, ◌+◌, ◌-◌, ◌*◌, ◌/◌, ◌%◌, ◌<◌, ◌≤◌, ◌⊎◌, inl, inr, Bool, true, false, cond, List, ◌++◌, length, take, drop, get_or, Option, None, Some, IfSome, is_some, refl, ap, sym, ◌∙◌, subst, arith, length-append, replicate, min}
 use Rattle.std.proofs.lemmas.List.{places}
 use Rattle.std.proofs.lemmas.Bool.{cases_lt, cases_eq}
 use Rattle.std.specs.BTreeMap.{is_at}
@@ -61,7 +61,7 @@ set_then qs rs first n had keeps here p from to = by (cases_lt p n) where
   by (inl lt) = subst (λ (o : Option (Vec ℕ Global)). IfSome o HasByte) (sym (keeps.below p lt)) (had p from lt)
   by (inr le) = let same : n ≡ p = omega (arith, le, to) in subst (λ (q : ℕ). IfSome (page rs q) HasByte) same here
 
--- one more part has a byte in its page
+-- one more part lies in a page with a byte
 pub set_more : (qs rs : Pages) (offset at n : ℕ) → at % page_size + n ≤ page_size → AreSet qs offset at → ((p : ℕ) → p < at / page_size → page rs p ≡ page qs p) → IfSome (page rs (at / page_size)) HasByte → AreSet rs offset (at + n)
 set_more qs rs offset at n fits had below here i from to = by (cases_lt (i / page_size) (at / page_size)) where
   by : (i / page_size < at / page_size) ⊎ (at / page_size ≤ i / page_size) → IfSome (page rs (i / page_size)) HasByte
@@ -121,12 +121,6 @@ module _ (ps qs : Pages) (offset : ℕ) (piece : List ℕ) (v w : Vec ℕ Global
     by (inl e) = subst (λ (o : Option (Vec ℕ Global)). IfSome o HasSize) (sym (ap (page qs) e ∙ now)) (spliced_length v.items piece w.items (offset % page_size) room made ∙ size)
     by (inr ne) = subst (λ (o : Option (Vec ℕ Global)). IfSome o HasSize) (sym (others p ne)) (sized p)
 
-  keeps : (p : ℕ) → is_some (page qs p) ≡ is_some (page ps p)
-  keeps p = by (cases_eq p (offset / page_size)) where
-    by : (p ≡ offset / page_size) ⊎ (p ≢ offset / page_size) → is_some (page qs p) ≡ is_some (page ps p)
-    by (inl e) = ap is_some (ap (page qs) e ∙ now) ∙ sym (ap is_some (ap (page ps) e ∙ here))
-    by (inr ne) = ap is_some (others p ne)
-
   put_inside : (k : ℕ) → k < length piece → byte qs (offset + k) ≡ get_or piece k 0
   put_inside k lt =
       let number : (offset + k) / page_size ≡ offset / page_size = omega (arith, lt, fits) in
@@ -155,7 +149,33 @@ module _ (ps qs : Pages) (offset : ℕ) (piece : List ℕ) (v w : Vec ℕ Global
     over = record { inside = put_inside; below = put_below; above = put_above };
     below = λ p lt. let ne : p ≢ offset / page_size = omega (arith, lt) in others p ne;
     above = λ p le. let ne : p ≢ offset / page_size = omega (arith, le, some) in others p ne;
-    kept = keeps;
+  }
+
+-- ===== a page of zeros goes
+
+module _ (ps qs rs : Pages) (offset : ℕ) (piece : List ℕ) (some : 0 < length piece) (over : WritesOver ps qs offset piece) (zero : (i : ℕ) → i / page_size ≡ offset / page_size → byte qs i ≡ 0)
+    (is : (q : ℕ) → page rs q ≡ cond (is_at (nat_cmp (offset / page_size)) q) None (page qs q)) (now : page rs (offset / page_size) ≡ None) where
+  left : (q : ℕ) → q ≢ offset / page_size → page rs q ≡ page qs q
+  left = others_stay qs rs (offset / page_size) None is
+
+  left_sized : (p : ℕ) → IfSome (page rs p) HasSize
+  left_sized p = by (cases_eq p (offset / page_size)) where
+    by : (p ≡ offset / page_size) ⊎ (p ≢ offset / page_size) → IfSome (page rs p) HasSize
+    by (inl e) = subst (λ (o : Option (Vec ℕ Global)). IfSome o HasSize) (sym (ap (page rs) e ∙ now)) tt
+    by (inr ne) = subst (λ (o : Option (Vec ℕ Global)). IfSome o HasSize) (sym (left p ne)) (over.sized p)
+
+  left_bytes : (i : ℕ) → byte rs i ≡ byte qs i
+  left_bytes i = by (cases_eq (i / page_size) (offset / page_size)) where
+    by : (i / page_size ≡ offset / page_size) ⊎ (i / page_size ≢ offset / page_size) → byte rs i ≡ byte qs i
+    by (inl e) = byte_none rs i (ap (page rs) e ∙ now) ∙ sym (zero i e)
+    by (inr ne) = byte_of qs rs i (left (i / page_size) ne)
+
+  pub writes_zeros : WritesOver ps rs offset piece
+  writes_zeros = record {
+    sized = left_sized;
+    over = record { inside = λ k lt. left_bytes (offset + k) ∙ over.over.inside k lt; below = λ i lt. left_bytes i ∙ over.over.below i lt; above = λ i le. left_bytes i ∙ over.over.above i le };
+    below = λ p lt. let ne : p ≢ offset / page_size = omega (arith, lt) in left p ne ∙ over.below p lt;
+    above = λ p le. let ne : p ≢ offset / page_size = omega (arith, le, some) in left p ne ∙ over.above p le;
   }
 
 -- ===== pieces after one another
@@ -166,7 +186,6 @@ writes_none ps offset xs none sized = record {
   over = record { inside = λ k lt. absurd (omega (arith, lt, none)); below = λ i lt. refl; above = λ i le. refl };
   below = λ p lt. refl;
   above = λ p le. refl;
-  kept = λ p. refl;
 }
 
 over_then : (f g h : ℕ → ℕ) (offset : ℕ) (xs ys : List ℕ) → IsOver f g offset xs → IsOver g h (offset + length xs) ys → IsOver f h offset (xs ++ ys)
@@ -191,28 +210,37 @@ writes_then ps qs rs offset xs ys zs a b is = subst (λ (l : List ℕ). WritesOv
   over = over_then (byte ps) (byte qs) (byte rs) offset xs ys a.over b.over;
   below = λ p lt. b.below p (omega (arith, lt)) ∙ a.below p lt;
   above = λ p le. let past : (offset + length xs) + length ys ≤ page_size * p = omega (arith, le, length-append xs ys) in b.above p past ∙ a.above p (omega (arith, past));
-  kept = λ p. b.kept p ∙ a.kept p;
 })
 
--- ===== room, the piece, and what is zero again
+-- the pages that the rest lies in are as they were: a part ends at the end of its page, or with the piece
+pub kept_after : (qs rs : Pages) (at : ℕ) (xs ys zs : List ℕ) → length zs ≡ length xs + length ys → length xs ≡ min (page_size - at % page_size) (length zs) → WritesOver qs rs at xs
+    → ((i : ℕ) → at ≤ i → i < at + length zs → is_some (page qs (i / page_size)) ≡ true) → (i : ℕ) → at + length xs ≤ i → i < at + length xs + length ys → is_some (page rs (i / page_size)) ≡ true
+kept_after qs rs at xs ys zs both least w kept i from to =
+    let past : at + length xs ≤ page_size * (i / page_size) = omega (arith, both, least, from, to) in ap is_some (w.above (i / page_size) past) ∙ kept i (omega (arith, from)) (omega (arith, to, both))
 
-pub over_kept : (ps qs rs ss : Pages) (first end offset : ℕ) (xs : List ℕ) → KeepsBytes ps qs first end → WritesOver qs rs offset xs → KeepsBytes rs ss first end → IsOver (byte ps) (byte ss) offset xs
-over_kept ps qs rs ss first end offset xs a w b = record {
-  inside = λ k lt. b.bytes (offset + k) ∙ w.over.inside k lt;
-  below = λ i lt. b.bytes i ∙ w.over.below i lt ∙ a.bytes i;
-  above = λ i le. b.bytes i ∙ w.over.above i le ∙ a.bytes i;
+-- ===== room, then the piece
+
+pub over_kept : (ps qs rs : Pages) (first end offset : ℕ) (xs : List ℕ) → KeepsBytes ps qs first end → WritesOver qs rs offset xs → IsOver (byte ps) (byte rs) offset xs
+over_kept ps qs rs first end offset xs a w = record {
+  inside = w.over.inside;
+  below = λ i lt. w.over.below i lt ∙ a.bytes i;
+  above = λ i le. w.over.above i le ∙ a.bytes i;
 }
 
-pub set_kept : (ps qs rs ss : Pages) (first end offset : ℕ) (xs : List ℕ) → KeepsBytes ps qs first end → WritesOver qs rs offset xs → KeepsBytes rs ss first end
-    → first ≡ offset / page_size → end ≡ (offset + length xs + 4095) / page_size
-    → ((p : ℕ) → IfSome (page ps p) HasByte) → ((p : ℕ) → first ≤ p → p < end → IfSome (page ss p) HasByte) → (p : ℕ) → IfSome (page ss p) HasByte
-set_kept ps qs rs ss first end offset xs a w b begin last set between p = by (cases_lt p first) (cases_lt p end) where
-  by : (p < first) ⊎ (first ≤ p) → (p < end) ⊎ (end ≤ p) → IfSome (page ss p) HasByte
-  by (inl lt) c = subst (λ (o : Option (Vec ℕ Global)). IfSome o HasByte) (sym (b.below p lt ∙ w.below p (omega (arith, lt, begin)) ∙ a.below p lt)) (set p)
-  by (inr le) (inl lt) = between p le lt
-  by (inr le) (inr past) =
+pub set_kept : (ps qs rs : Pages) (first end offset : ℕ) (xs : List ℕ) → KeepsBytes ps qs first end → WritesOver qs rs offset xs → first ≡ offset / page_size → end ≡ (offset + length xs + 4095) / page_size
+    → 0 < length xs → ((p : ℕ) → IfSome (page ps p) HasByte) → AreSet rs offset (offset + length xs) → (p : ℕ) → IfSome (page rs p) HasByte
+set_kept ps qs rs first end offset xs a w begin last some set between p = by (cases_lt p first) (cases_lt p end) (cases_lt (page_size * p) offset) where
+  by : (p < first) ⊎ (first ≤ p) → (p < end) ⊎ (end ≤ p) → (page_size * p < offset) ⊎ (offset ≤ page_size * p) → IfSome (page rs p) HasByte
+  by (inl lt) c d = subst (λ (o : Option (Vec ℕ Global)). IfSome o HasByte) (sym (w.below p (omega (arith, lt, begin)) ∙ a.below p lt)) (set p)
+  by (inr le) (inl lt) (inl low) =
+      let same : offset / page_size ≡ p = omega (arith, low, begin, le) in
+      subst (λ (q : ℕ). IfSome (page rs q) HasByte) same (between offset (omega arith) (omega (arith, some)))
+  by (inr le) (inl lt) (inr high) =
+      let same : (page_size * p) / page_size ≡ p = omega arith in
+      subst (λ (q : ℕ). IfSome (page rs q) HasByte) same (between (page_size * p) high (omega (arith, lt, last)))
+  by (inr le) (inr past) d =
       let after : offset + length xs ≤ page_size * p = omega (arith, past, last) in
-      subst (λ (o : Option (Vec ℕ Global)). IfSome o HasByte) (sym (b.above p past ∙ w.above p after ∙ a.above p past)) (set p)
+      subst (λ (o : Option (Vec ℕ Global)). IfSome o HasByte) (sym (w.above p after ∙ a.above p past)) (set p)
 
 pub set_again : (ps qs ss : Pages) (first end : ℕ) → KeepsBytes ps qs first end → KeepsBytes qs ss first end → ((p : ℕ) → IfSome (page ps p) HasByte) → ((p : ℕ) → first ≤ p → p < end → IfSome (page ss p) HasByte)
     → (p : ℕ) → IfSome (page ss p) HasByte
@@ -221,16 +249,6 @@ set_again ps qs ss first end a b set between p = by (cases_lt p first) (cases_lt
   by (inl lt) c = subst (λ (o : Option (Vec ℕ Global)). IfSome o HasByte) (sym (b.below p lt ∙ a.below p lt)) (set p)
   by (inr le) (inl lt) = between p le lt
   by (inr le) (inr past) = subst (λ (o : Option (Vec ℕ Global)). IfSome o HasByte) (sym (b.above p past ∙ a.above p past)) (set p)
-
--- each of the pages that a piece lies in has one of its bytes
-pub set_between : (qs : Pages) (first end offset len : ℕ) → first ≡ offset / page_size → end ≡ (offset + len + 4095) / page_size → 0 < len → AreSet qs offset (offset + len)
-    → (p : ℕ) → first ≤ p → p < end → IfSome (page qs p) HasByte
-set_between qs first end offset len begin last some set p from to = by (cases_lt (page_size * p) offset) where
-  by : (page_size * p < offset) ⊎ (offset ≤ page_size * p) → IfSome (page qs p) HasByte
-  by (inl lt) = let same : offset / page_size ≡ p = omega (arith, lt, begin, from) in subst (λ (q : ℕ). IfSome (page qs q) HasByte) same (set offset (omega arith) (omega (arith, some)))
-  by (inr le) =
-      let same : (page_size * p) / page_size ≡ p = omega arith in
-      subst (λ (q : ℕ). IfSome (page qs q) HasByte) same (set (page_size * p) le (omega (arith, to, last)))
 
 -- the numbers of the pages that a piece lies in
 pub room_for : (qs : Pages) (first end offset len : ℕ) → first ≡ offset / page_size → end ≡ (offset + len + 4095) / page_size → ((p : ℕ) → first ≤ p → p < end → is_some (page qs p) ≡ true)

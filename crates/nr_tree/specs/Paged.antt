@@ -1,5 +1,5 @@
 -- Bytes that are kept as pages by number (for the code).
-use Rattle.std.specs.Prelude.{ℕ, ◌≡◌, ◌+◌, ◌*◌, ◌/◌, ◌%◌, ◌<◌, ◌≤◌, ◌≢◌, true, List, [], length, map, Option, None, Some, IfSome, is_some, slice_index}
+use Rattle.std.specs.Prelude.{ℕ, ◌≡◌, ◌+◌, ◌*◌, ◌/◌, ◌%◌, ◌<◌, ◌≤◌, ◌≢◌, true, List, [], length, map, Option, None, Some, IfSome, slice_index}
 use Rattle.std.specs.List.{list_any, range_with_len}
 use Rattle.std.specs.Map.{lookup}
 use Rattle.std.specs.BTreeMap.{is_at}
@@ -65,13 +65,12 @@ pub record IsOver (f g : ℕ → ℕ) (offset : ℕ) (xs : List ℕ) : Type 0 wh
   pub below : (i : ℕ) → i < offset → g i ≡ f i
   pub above : (i : ℕ) → offset + length xs ≤ i → g i ≡ f i
 
--- a piece written over the pages that are there
+-- a piece written over its pages
 pub record WritesOver (ps qs : Pages) (offset : ℕ) (xs : List ℕ) : Type 0 where
   pub sized : (p : ℕ) → IfSome (page qs p) HasSize
   pub over : IsOver (byte ps) (byte qs) offset xs
   pub below : (p : ℕ) → p < offset / page_size → page qs p ≡ page ps p
   pub above : (p : ℕ) → offset + length xs ≤ page_size * p → page qs p ≡ page ps p
-  pub kept : (p : ℕ) → is_some (page qs p) ≡ is_some (page ps p)
 
 -- the bytes from an offset on are 0 in its page
 pub record ClearsTail (ps qs : Pages) (from : ℕ) : Type 0 where

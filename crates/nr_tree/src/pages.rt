@@ -102,6 +102,7 @@ fn copy_at(bytes: &mut Vec<u8>, offset: usize, piece: &[u8]) -> bool
     requires { offset + length piece.now ≤ length bytes.old.items }
     ensures bytes { bytes.new.items ≡ take offset bytes.old.items ++ (piece.now ++ drop (offset + length piece.now) bytes.old.items) }
     ensures set { result ≡ false → HasByte bytes.new }
+    ensures zero { result ≡ true → (i : ℕ) → slice_index bytes.new.items i ≡ 0 }
 {
     let all = bytes.as_mut_slice();
     all[offset..offset + piece.len()].copy_from_slice(piece);
@@ -116,6 +117,7 @@ fn put(pages: &mut Pages, offset: u64, piece: &[u8]) -> bool
     requires fits { offset % page_size + length piece.now ≤ page_size }
     ensures over { WritesOver pages.old.entries pages.new.entries offset piece.now }
     ensures set { result ≡ false → IfSome (page pages.new.entries (offset / page_size)) HasByte }
+    ensures zero { result ≡ true → (i : ℕ) → i / page_size ≡ offset / page_size → byte pages.new.entries i ≡ 0 }
 {
     match pages.get_mut(&(offset / PAGE_SIZE)) {
         Some(page) => copy_at(page, (offset % PAGE_SIZE) as usize, piece),
@@ -123,26 +125,37 @@ fn put(pages: &mut Pages, offset: u64, piece: &[u8]) -> bool
     }
 }
 
-/// Copies a piece into its pages, each of which is kept, and gives whether all bytes of one of them are 0 then. Each byte is
-/// copied once.
-fn copy(pages: &mut Pages, offset: u64, piece: &[u8]) -> bool
+/// Copies a piece into the page that it lies in, which is kept. If all bytes of the page are 0 then, it goes.
+fn put_or_remove(pages: &mut Pages, offset: u64, piece: &[u8])
+    requires sized { AreSized pages.old.entries }
+    requires kept { is_some (page pages.old.entries (offset / page_size)) ≡ true }
+    requires some { 0 < length piece.now }
+    requires fits { offset % page_size + length piece.now ≤ page_size }
+    ensures over { WritesOver pages.old.entries pages.new.entries offset piece.now }
+    ensures set { IfSome (page pages.new.entries (offset / page_size)) HasByte }
+{
+    if put(pages, offset, piece) {
+        pages.remove(&(offset / PAGE_SIZE));
+    }
+}
+
+/// Copies a piece into its pages, each of which is kept. Each byte is copied once. A page whose bytes are all 0 then goes.
+fn copy(pages: &mut Pages, offset: u64, piece: &[u8])
     requires sized { AreSized pages.old.entries }
     requires limit { offset + length piece.now < 2 ^ 62 }
     requires kept { (i : ℕ) → offset ≤ i → i < offset + length piece.now → is_some (page pages.old.entries (i / page_size)) ≡ true }
     ensures over { WritesOver pages.old.entries pages.new.entries offset piece.now }
-    ensures set { result ≡ false → AreSet pages.new.entries offset (offset + length piece.now) }
+    ensures set { AreSet pages.new.entries offset (offset + length piece.now) }
 {
     let mut at = offset;
     let mut rest = piece;
-    let mut is_zero = false;
     while !rest.is_empty() {
         let room = PAGE_SIZE - at % PAGE_SIZE; // the rest of the page
         let (part, after) = rest.split_at((room as usize).min(rest.len()));
-        is_zero |= put(pages, at, part);
+        put_or_remove(pages, at, part);
         at += part.len() as u64;
         rest = after;
     }
-    is_zero
 }
 
 /// Writes a piece over the bytes from an offset on. Room first: a page that isn't kept begins as zeros, and no page of zeros
@@ -170,9 +183,7 @@ pub(crate) fn write_pages(
         drop_zeros(pages, first, end);
         return Err(e);
     }
-    if copy(pages, offset, piece) {
-        drop_zeros(pages, first, end);
-    }
+    copy(pages, offset, piece);
     Ok(())
 }
 

@@ -1,23 +1,18 @@
-use Rattle.std.proofs.Common.{◌≡◌, ◌+◌, ◌/◌, ◌++◌, Bool, true, false, ◌||◌, refl, ap, ◌∙◌, arith, length, length-append}
+use Rattle.std.proofs.Common.{◌≡◌, ◌+◌, ◌++◌, ap, ◌∙◌, arith, length, length-append}
 use Rattle.std.proofs.lemmas.Bool.Decides.{nat_tests}
-use Rattle.nr_tree.specs.Pages.{page_size}
-use Rattle.nr_tree.proofs.PageLemmas.{writes_none, writes_then, set_more}
+use Rattle.nr_tree.proofs.PageLemmas.{writes_none, writes_then, set_more, kept_after}
 use Rattle.nr_tree.proofs.pages.copy.Goals as goal
-
-neither : (a b : Bool) → (a || b) ≡ false → (a ≡ false) × (b ≡ false)
-neither false b e = (refl, e)
-neither true b e = (e, grind (arith, e))
 
 pub loop-rest-preserved : goal.loop-rest-preserved
 loop-rest-preserved c =
     let cut : c.loop-rest.rest.now ≡ c.split_at.result.0.now ++ c.split_at.result.1.now = c.split_at.ensures.by_index.0 in
     let both : length c.loop-rest.rest.now ≡ length c.split_at.result.0.now + length c.split_at.result.1.now = ap length cut ∙ length-append c.split_at.result.0.now c.split_at.result.1.now in record {
-      sized = c.put-is_zero.ensures.over.sized;
+      sized = c.put_or_remove.ensures.over.sized;
       left = omega (arith, c.loop-rest.invariant.left, both);
       from = omega (arith, c.loop-rest.invariant.from);
-      kept = λ i from to. c.put-is_zero.ensures.over.kept (i / page_size) ∙ c.loop-rest.invariant.kept i (omega (arith, from)) (omega (arith, to, both));
-      over = λ qs h. c.loop-rest.invariant.over qs (writes_then _ _ qs c.loop-rest.at c.split_at.result.0.now c.split_at.result.1.now c.loop-rest.rest.now c.put-is_zero.ensures.over h cut);
-      set = λ none. let (was, is) = neither _ _ none in set_more c.loop-rest.pages.entries c.put-is_zero.new.pages.entries c.args.offset c.loop-rest.at (length c.split_at.result.0.now) (omega (arith, c.min.ensures, c.split_at.ensures.front_len)) (c.loop-rest.invariant.set was) c.put-is_zero.ensures.over.below (c.put-is_zero.ensures.set is);
+      kept = kept_after _ _ c.loop-rest.at c.split_at.result.0.now c.split_at.result.1.now c.loop-rest.rest.now both (c.split_at.ensures.front_len ∙ c.min.ensures) c.put_or_remove.ensures.over c.loop-rest.invariant.kept;
+      over = λ qs h. c.loop-rest.invariant.over qs (writes_then _ _ qs c.loop-rest.at c.split_at.result.0.now c.split_at.result.1.now c.loop-rest.rest.now c.put_or_remove.ensures.over h cut);
+      set = set_more _ _ c.args.offset c.loop-rest.at (length c.split_at.result.0.now) (omega (arith, c.min.ensures, c.split_at.ensures.front_len)) c.loop-rest.invariant.set c.put_or_remove.ensures.over.below c.put_or_remove.ensures.set;
     }
 
 pub returns-clause-over : goal.returns-clause-over

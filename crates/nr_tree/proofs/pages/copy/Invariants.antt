@@ -1,9 +1,9 @@
-use Rattle.std.proofs.Common.{◌≡◌, ℕ, ◌+◌, ◌/◌, ◌<◌, ◌≤◌, length, is_some, true, false}
+use Rattle.std.proofs.Common.{◌≡◌, ℕ, ◌+◌, ◌/◌, ◌<◌, ◌≤◌, length, is_some, true}
 use Rattle.nr_tree.specs.Pages.{page_size}
 use Rattle.nr_tree.specs.Paged.{Pages, page, AreSized, AreSet, WritesOver}
 use Rattle.nr_tree.proofs.pages.copy.Given as goal
 
--- what is written over what stands gives all, and what is written has a byte in each page
+-- what is written over what stands gives all, and each page that is written has a byte
 abbrev pub invariant-loop-rest : goal.invariant-loop-rest
 invariant-loop-rest l = record {
   sized : AreSized l.pages.entries;
@@ -11,7 +11,7 @@ invariant-loop-rest l = record {
   from : l.offset ≤ l.at;
   kept : (i : ℕ) → l.at ≤ i → i < l.at + length l.rest → is_some (page l.pages.entries (i / page_size)) ≡ true;
   over : (qs : Pages) → WritesOver l.pages.entries qs l.at l.rest → WritesOver l.fn.pages.entries qs l.offset l.piece;
-  set : l.is_zero ≡ false → AreSet l.pages.entries l.offset l.at;
+  set : AreSet l.pages.entries l.offset l.at;
 }
 
 abbrev pub decreases-loop-rest : goal.decreases-loop-rest
