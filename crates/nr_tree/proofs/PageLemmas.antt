@@ -257,108 +257,74 @@ room_for qs first end offset len begin last kept i from to = kept (i / page_size
 
 -- ===== the tail of a page is cleared
 
-module _ (ps qs : Pages) (from : ℕ) (v w : Vec ℕ Global) (sized : AreSized ps) (here : page ps (from / page_size) ≡ Some v)
-    (is : (q : ℕ) → page qs q ≡ cond (is_at (nat_cmp (from / page_size)) q) (Some w) (page ps q))
-    (now : page qs (from / page_size) ≡ Some w)
-    (made : w.items ≡ take (from % page_size) v.items ++ replicate (length v.items - from % page_size) 0) where
-  tail_size : length v.items ≡ page_size
-  tail_size = subst (λ (o : Option (Vec ℕ Global)). IfSome o HasSize) here (sized (from / page_size))
+pub tail_cleared : (ps qs : Pages) (from room : ℕ) (zs : List ℕ) → room ≡ page_size - from % page_size → AreZeros zs room → WritesOver ps qs from zs → IfSome (page qs (from / page_size)) HasByte → ClearsTail ps qs from
+tail_cleared ps qs from room zs is zeros w set = record { sized = w.sized; below = w.over.below; clear = clear; others = λ p ne. by p ne (cases_lt p (from / page_size)); set = set } where
+  clear : (i : ℕ) → from ≤ i → i / page_size ≡ from / page_size → byte qs i ≡ 0
+  clear i le same =
+      let at : from + (i - from) ≡ i = omega (arith, le) in
+      let short : i - from < length zs = omega (arith, le, same, is, zeros.length) in
+      ap (byte qs) (sym at) ∙ w.over.inside (i - from) short ∙ zeros.zero (i - from)
 
-  within : from % page_size ≤ length v.items
-  within = omega (arith, tail_size)
+  by : (p : ℕ) → p ≢ from / page_size → (p < from / page_size) ⊎ (from / page_size ≤ p) → page qs p ≡ page ps p
+  by p ne (inl lt) = w.below p lt
+  by p ne (inr le) = w.above p (omega (arith, ne, le, is, zeros.length))
 
-  rest : (q : ℕ) → q ≢ from / page_size → page qs q ≡ page ps q
-  rest = others_stay ps qs (from / page_size) (Some w) is
-
-  cleared_length : (xs ys : List ℕ) (r : ℕ) → r ≤ length xs → ys ≡ take r xs ++ replicate (length xs - r) 0 → length ys ≡ length xs
-  cleared_length xs ys r le e = grind (arith, places)
-
-  cleared_below : (xs ys : List ℕ) (r j : ℕ) → r ≤ length xs → ys ≡ take r xs ++ replicate (length xs - r) 0 → j < r → get_or ys j 0 ≡ get_or xs j 0
-  cleared_below xs ys r j le e lt = grind (arith, places)
-
-  cleared_above : (xs ys : List ℕ) (r j : ℕ) → r ≤ length xs → ys ≡ take r xs ++ replicate (length xs - r) 0 → r ≤ j → j < length xs → get_or ys j 0 ≡ 0
-  cleared_above xs ys r j le e ge lt = grind (arith, places)
-
-  tails_sized : (p : ℕ) → IfSome (page qs p) HasSize
-  tails_sized p = by (cases_eq p (from / page_size)) where
-    by : (p ≡ from / page_size) ⊎ (p ≢ from / page_size) → IfSome (page qs p) HasSize
-    by (inl e) = subst (λ (o : Option (Vec ℕ Global)). IfSome o HasSize) (sym (ap (page qs) e ∙ now)) (cleared_length v.items w.items (from % page_size) within made ∙ tail_size)
-    by (inr ne) = subst (λ (o : Option (Vec ℕ Global)). IfSome o HasSize) (sym (rest p ne)) (sized p)
-
-  tail_below : (i : ℕ) → i < from → byte qs i ≡ byte ps i
-  tail_below i lt = by (cases_eq (i / page_size) (from / page_size)) where
-    by : (i / page_size ≡ from / page_size) ⊎ (i / page_size ≢ from / page_size) → byte qs i ≡ byte ps i
-    by (inl e) =
-        let low : i % page_size < from % page_size = omega (arith, e, lt) in
-        byte_at qs i w (ap (page qs) e ∙ now) ∙ cleared_below v.items w.items (from % page_size) (i % page_size) within made low ∙ sym (byte_at ps i v (ap (page ps) e ∙ here))
-    by (inr ne) = byte_of ps qs i (rest (i / page_size) ne)
-
-  tail_clear : (i : ℕ) → from ≤ i → i / page_size ≡ from / page_size → byte qs i ≡ 0
-  tail_clear i le e =
-      let high : from % page_size ≤ i % page_size = omega (arith, e, le) in
-      let short : i % page_size < length v.items = omega (arith, tail_size) in
-      byte_at qs i w (ap (page qs) e ∙ now) ∙ cleared_above v.items w.items (from % page_size) (i % page_size) within made high short
-
-  pub tail_cleared : ClearsTail ps qs from
-  tail_cleared = record { sized = tails_sized; below = tail_below; clear = tail_clear; others = rest }
-
-pub tail_absent : (ps qs : Pages) (from : ℕ) → AreSized ps → page ps (from / page_size) ≡ None → qs ≡ ps → ClearsTail ps qs from
-tail_absent ps qs from sized none same = subst (λ (l : Pages). ClearsTail ps l from) (sym same) (record {
+pub tail_absent : (ps : Pages) (from : ℕ) → AreSized ps → page ps (from / page_size) ≡ None → ClearsTail ps ps from
+tail_absent ps from sized none = record {
   sized = sized;
   below = λ i lt. refl;
   clear = λ i le e. byte_none ps i (ap (page ps) e ∙ none);
   others = λ p ne. refl;
-})
+  set = subst (λ (o : Option (Vec ℕ Global)). IfSome o HasByte) (sym none) tt;
+}
 
 -- ===== a file that is cut
 
-module _ (ps qs rs ss : Pages) (from len first end : ℕ) (begin : first ≡ from / page_size) (last : end ≡ len / page_size + 1) (shorter : from < len) (pages : ArePages ps len) (clears : ClearsTail ps qs from)
+module _ (ps qs rs : Pages) (from len first end : ℕ) (begin : first ≡ from / page_size) (last : end ≡ len / page_size + 1) (shorter : from < len) (pages : ArePages ps len) (clears : ClearsTail ps qs from)
     (lower : (p : ℕ) → p < first + 1 → page rs p ≡ page qs p) (gone : (p : ℕ) → first + 1 ≤ p → p < end → page rs p ≡ None) (upper : (p : ℕ) → end ≤ p → page rs p ≡ page qs p) where
   other : (p : ℕ) → p ≢ first → page qs p ≡ page ps p
   other p ne = clears.others p (λ e. ne (e ∙ sym begin))
 
-  pub cut_sized : AreSized rs
+  cut_sized : AreSized rs
   cut_sized p = by (cases_lt p (first + 1)) (cases_lt p end) where
     by : (p < first + 1) ⊎ (first + 1 ≤ p) → (p < end) ⊎ (end ≤ p) → IfSome (page rs p) HasSize
     by (inl lt) c = subst (λ (o : Option (Vec ℕ Global)). IfSome o HasSize) (sym (lower p lt)) (clears.sized p)
     by (inr le) (inl lt) = subst (λ (o : Option (Vec ℕ Global)). IfSome o HasSize) (sym (gone p le lt)) tt
     by (inr le) (inr past) = subst (λ (o : Option (Vec ℕ Global)). IfSome o HasSize) (sym (upper p past)) (clears.sized p)
 
-  module _ (keeps : KeepsBytes rs ss first (first + 1)) (set : IfSome (page ss first) HasByte) where
-    -- a page other than the first is as it was, or gone
-    other_set : (p : ℕ) → p ≢ first → IfSome (page rs p) HasByte
-    other_set p ne = by (cases_lt p (first + 1)) (cases_lt p end) where
-      by : (p < first + 1) ⊎ (first + 1 ≤ p) → (p < end) ⊎ (end ≤ p) → IfSome (page rs p) HasByte
-      by (inl lt) c = subst (λ (o : Option (Vec ℕ Global)). IfSome o HasByte) (sym (lower p lt ∙ other p ne)) (pages.set p)
-      by (inr le) (inl lt) = subst (λ (o : Option (Vec ℕ Global)). IfSome o HasByte) (sym (gone p le lt)) tt
-      by (inr le) (inr past) = subst (λ (o : Option (Vec ℕ Global)). IfSome o HasByte) (sym (upper p past ∙ other p ne)) (pages.set p)
+  -- a page is the first, or as it was, or gone
+  set_before : (p : ℕ) → IfSome (page qs p) HasByte
+  set_before p = by (cases_eq p first) where
+    by : (p ≡ first) ⊎ (p ≢ first) → IfSome (page qs p) HasByte
+    by (inl e) = subst (λ (q : ℕ). IfSome (page qs q) HasByte) (sym (e ∙ begin)) clears.set
+    by (inr ne) = subst (λ (o : Option (Vec ℕ Global)). IfSome o HasByte) (sym (other p ne)) (pages.set p)
 
-    all_set : (p : ℕ) → IfSome (page ss p) HasByte
-    all_set p = by (cases_lt p first) (cases_lt p (first + 1)) where
-      by : (p < first) ⊎ (first ≤ p) → (p < first + 1) ⊎ (first + 1 ≤ p) → IfSome (page ss p) HasByte
-      by (inl lt) c = let ne : p ≢ first = omega (arith, lt) in subst (λ (o : Option (Vec ℕ Global)). IfSome o HasByte) (sym (keeps.below p lt)) (other_set p ne)
-      by (inr le) (inl lt) = let same : first ≡ p = omega (arith, le, lt) in subst (λ (q : ℕ). IfSome (page ss q) HasByte) same set
-      by (inr le) (inr past) = let ne : p ≢ first = omega (arith, past) in subst (λ (o : Option (Vec ℕ Global)). IfSome o HasByte) (sym (keeps.above p past)) (other_set p ne)
+  cut_set : (p : ℕ) → IfSome (page rs p) HasByte
+  cut_set p = by (cases_lt p (first + 1)) (cases_lt p end) where
+    by : (p < first + 1) ⊎ (first + 1 ≤ p) → (p < end) ⊎ (end ≤ p) → IfSome (page rs p) HasByte
+    by (inl lt) c = subst (λ (o : Option (Vec ℕ Global)). IfSome o HasByte) (sym (lower p lt)) (set_before p)
+    by (inr le) (inl lt) = subst (λ (o : Option (Vec ℕ Global)). IfSome o HasByte) (sym (gone p le lt)) tt
+    by (inr le) (inr past) = subst (λ (o : Option (Vec ℕ Global)). IfSome o HasByte) (sym (upper p past)) (set_before p)
 
-    cut_ends : (i : ℕ) → from ≤ i → byte rs i ≡ 0
-    cut_ends i le = by (cases_lt (i / page_size) (first + 1)) (cases_lt (i / page_size) end) where
-      by : (i / page_size < first + 1) ⊎ (first + 1 ≤ i / page_size) → (i / page_size < end) ⊎ (end ≤ i / page_size) → byte rs i ≡ 0
-      by (inl lt) c =
-          let same : i / page_size ≡ from / page_size = omega (arith, lt, le, begin) in
-          byte_of qs rs i (lower (i / page_size) lt) ∙ clears.clear i le same
-      by (inr high) (inl lt) = byte_none rs i (gone (i / page_size) high lt)
-      by (inr high) (inr past) =
-          let ne : i / page_size ≢ first = omega (arith, high) in
-          let after : len ≤ i = omega (arith, past, last) in
-          byte_of qs rs i (upper (i / page_size) past) ∙ byte_of ps qs i (other (i / page_size) ne) ∙ pages.ends i after
+  cut_ends : (i : ℕ) → from ≤ i → byte rs i ≡ 0
+  cut_ends i le = by (cases_lt (i / page_size) (first + 1)) (cases_lt (i / page_size) end) where
+    by : (i / page_size < first + 1) ⊎ (first + 1 ≤ i / page_size) → (i / page_size < end) ⊎ (end ≤ i / page_size) → byte rs i ≡ 0
+    by (inl lt) c =
+        let same : i / page_size ≡ from / page_size = omega (arith, lt, le, begin) in
+        byte_of qs rs i (lower (i / page_size) lt) ∙ clears.clear i le same
+    by (inr high) (inl lt) = byte_none rs i (gone (i / page_size) high lt)
+    by (inr high) (inr past) =
+        let ne : i / page_size ≢ first = omega (arith, high) in
+        let after : len ≤ i = omega (arith, past, last) in
+        byte_of qs rs i (upper (i / page_size) past) ∙ byte_of ps qs i (other (i / page_size) ne) ∙ pages.ends i after
 
-    pub cut_pages : ArePages ss from
-    cut_pages = record { sized = keeps.sized; set = all_set; ends = λ i le. keeps.bytes i ∙ cut_ends i le }
+  pub cut_pages : ArePages rs from
+  cut_pages = record { sized = cut_sized; set = cut_set; ends = cut_ends }
 
-    pub cut_below : (i : ℕ) → i < from → byte ss i ≡ byte ps i
-    cut_below i lt =
-        let low : i / page_size < first + 1 = omega (arith, lt, begin) in
-        keeps.bytes i ∙ byte_of qs rs i (lower (i / page_size) low) ∙ clears.below i lt
+  pub cut_below : (i : ℕ) → i < from → byte rs i ≡ byte ps i
+  cut_below i lt =
+      let low : i / page_size < first + 1 = omega (arith, lt, begin) in
+      byte_of qs rs i (lower (i / page_size) low) ∙ clears.below i lt
 
 -- ===== the part of a page
 

@@ -72,9 +72,10 @@ pub record WritesOver (ps qs : Pages) (offset : ℕ) (xs : List ℕ) : Type 0 wh
   pub below : (p : ℕ) → p < offset / page_size → page qs p ≡ page ps p
   pub above : (p : ℕ) → offset + length xs ≤ page_size * p → page qs p ≡ page ps p
 
--- the bytes from an offset on are 0 in its page
+-- the bytes from an offset on are 0 in its page, which, if it is kept, has a byte that isn't 0
 pub record ClearsTail (ps qs : Pages) (from : ℕ) : Type 0 where
   pub sized : (p : ℕ) → IfSome (page qs p) HasSize
   pub below : (i : ℕ) → i < from → byte qs i ≡ byte ps i
   pub clear : (i : ℕ) → from ≤ i → i / page_size ≡ from / page_size → byte qs i ≡ 0
   pub others : (p : ℕ) → p ≢ from / page_size → page qs p ≡ page ps p
+  pub set : IfSome (page qs (from / page_size)) HasByte

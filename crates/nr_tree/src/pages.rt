@@ -187,24 +187,26 @@ pub(crate) fn write_pages(
     Ok(())
 }
 
-/// Puts zeros over the bytes of a page from an offset in it on.
-fn clear_from(bytes: &mut Vec<u8>, offset: usize)
-    requires { offset ≤ length bytes.old.items }
-    ensures { bytes.new.items ≡ take offset bytes.old.items ++ replicate (length bytes.old.items - offset) 0 }
+static ZEROS: [u8; PAGE_SIZE as usize] = [0; PAGE_SIZE as usize];
+
+/// `len` zeros, at most a page of them.
+fn zero_bytes<'a>(len: usize) -> &'a [u8]
+    requires { len ≤ page_size }
+    ensures { AreZeros result.now len }
 {
-    let all = bytes.as_mut_slice();
-    all[offset..].fill(0);
+    &ZEROS[..len]
 }
 
-/// Puts zeros over the bytes from an offset on in its page.
+/// Puts zeros over the bytes from an offset on in its page, if it is kept. If all bytes of the page are 0 then, it goes.
 fn clear_tail(pages: &mut Pages, from: u64)
     requires { AreSized pages.old.entries }
     ensures { ClearsTail pages.old.entries pages.new.entries from }
 {
-    match pages.get_mut(&(from / PAGE_SIZE)) {
-        Some(page) => clear_from(page, (from % PAGE_SIZE) as usize),
-        None => {}
+    if !pages.contains_key(&(from / PAGE_SIZE)) {
+        return;
     }
+    let room = PAGE_SIZE - from % PAGE_SIZE; // the rest of the page
+    put_or_remove(pages, from, zero_bytes(room as usize));
 }
 
 /// Lets the pages from `first` on, below `end`, go.
@@ -228,17 +230,6 @@ pub(crate) fn cut_pages(pages: &mut Pages, from: u64, len: u64)
     let first = from / PAGE_SIZE;
     clear_tail(pages, from);
     remove_pages(pages, first + 1, len / PAGE_SIZE + 1);
-    drop_if_zero(pages, first);
-}
-
-static ZEROS: [u8; PAGE_SIZE as usize] = [0; PAGE_SIZE as usize];
-
-/// `len` zeros, at most a page of them.
-fn zero_bytes<'a>(len: usize) -> &'a [u8]
-    requires { len ≤ page_size }
-    ensures { AreZeros result.now len }
-{
-    &ZEROS[..len]
 }
 
 /// `count` bytes from an offset on, which lie in one page.
