@@ -34,20 +34,12 @@ fn insert_zeros(alloc: Global, pages: &mut Pages, number: u64) -> Result<(), All
     Ok(())
 }
 
-/// The first number from `first` on, below `end`, under which no page is kept, or `end`. Found by one walk.
-fn first_missing(pages: &Pages, first: u64, end: u64) -> u64
+/// Whether a page is kept under each of the numbers from `first` on, below `end`, found by one walk.
+fn are_kept(pages: &Pages, first: u64, end: u64) -> bool
     requires { first ≤ end }
-    ensures from { first ≤ result }
-    ensures kept { (p : ℕ) → first ≤ p → p < result → is_some (page pages.now.entries p) ≡ true }
+    ensures { result ≡ true → (p : ℕ) → first ≤ p → p < end → is_some (page pages.now.entries p) ≡ true }
 {
-    let mut missing = first;
-    for (number, _) in pages.range(first..end) {
-        if *number != missing {
-            return missing;
-        }
-        missing += 1;
-    }
-    missing
+    pages.range(first..end).count() as u64 == end - first
 }
 
 /// Keeps a page of zeros under each of the numbers from `first` on, below `end`, that has none.
@@ -57,7 +49,10 @@ fn make_room(alloc: Global, pages: &mut Pages, first: u64, end: u64) -> Result<(
     ensures bytes { KeepsBytes pages.old.entries pages.new.entries first end }
     ensures kept { OnOk result ((p : ℕ) → first ≤ p → p < end → is_some (page pages.new.entries p) ≡ true) }
 {
-    for number in first_missing(pages, first, end)..end {
+    if are_kept(pages, first, end) {
+        return Ok(());
+    }
+    for number in first..end {
         insert_zeros(alloc, pages, number)?;
     }
     Ok(())
