@@ -1,15 +1,18 @@
 -- How many pages are kept.
-use Rattle.std.proofs.Common.{◌≡◌, ℕ, zero, suc, ◌+◌, ◌-◌, ◌*◌, ◌/◌, ◌%◌, ◌<◌, ◌≤◌, ◌⊎◌, inl, inr, Bool, true, false, cond, List, [], ◌∷◌, length, take, drop, get_or, Option, None, Some, IfSome, is_some, refl, ap, sym, ◌∙◌, subst, arith, min, true≢false, ◌≢◌}
-use Rattle.std.proofs.lemmas.List.{places, get_or_default}
+use Rattle.std.proofs.Common.{◌≡◌, ℕ, zero, suc, ◌+◌, ◌-◌, ◌*◌, ◌/◌, ◌%◌, ◌<◌, ◌≤◌, ◌⊎◌, inl, inr, Bool, true, false, cond, List, [], ◌∷◌, length, take, drop, get_or, Option, None, Some, IfSome, is_some, refl, ap, sym, ◌∙◌, subst, arith, min, true≢false, ◌≢◌, All}
+use Rattle.std.proofs.lemmas.List.{places, get_or_default, get_or-map, length-map}
 use Rattle.std.proofs.lemmas.List.Folds.{Any-from_list_any, list_any_at, list_any_none}
 use Rattle.std.proofs.lemmas.Bool.{cases_lt, cases_eq}
 use Rattle.std.proofs.lemmas.Bool.Decides.{nat_tests}
-use Rattle.std.proofs.lemmas.Map.Keys.{sorted_head, sorted_tail}
+use Rattle.std.proofs.lemmas.Map.Keys.{sorted_head, sorted_tail, below_from_sorted, le_from_not_gt}
+use Rattle.std.proofs.lemmas.Map.Views.{by_place}
 use Rattle.std.specs.Prelude.{slice_index_or}
 use Rattle.std.specs.List.{filter, range_with_len, AllByRecursion}
 use Rattle.std.specs.List.Sorted.{IsStrictlySortedBy}
 use Rattle.std.specs.Map.{keys_of}
-use Rattle.std.specs.BTreeMap.{is_at}
+use Rattle.std.specs.BTreeMap.{is_at, BTreeMap}
+use Rattle.std.specs.BTreeMap.Range.{IsEntryInRange, EntryPlaces}
+use Rattle.std.specs.declared.ops.Bound.TheVariants.{Included, Excluded}
 use Rattle.std.specs.Ordering.{nat_cmp, is_eq}
 use Rattle.std.specs.declared.cmp.Ordering.TheVariants.{Less}
 use Rattle.std.specs.declared.vec.Vec.{Vec}
@@ -94,6 +97,54 @@ keys_counted (e ∷ es) n sorted below =
         by : (b : Bool) → is_some (page es p) ≡ true → is_some (cond b (Some e.1) (page es p)) ≡ true
         by true h = refl
         by false h = h
+
+-- ===== a range that has as many pages as numbers
+
+-- numbers that rise
+rising : (f : ℕ → ℕ) (n : ℕ) → ((i j : ℕ) → i < j → j < n → f i < f j) → (i k : ℕ) → i + k < n → f i + k ≤ f (i + k)
+rising f n below i zero lt = let e : i + 0 ≡ i = omega arith in omega (arith, ap f e)
+rising f n below i (suc k) lt =
+    let e : i + suc k ≡ (i + k) + 1 = omega arith in
+    omega (arith, rising f n below i k (omega (arith, lt)), below (i + k) ((i + k) + 1) (omega arith) (omega (arith, lt)), ap f e)
+
+-- n of them that lie from first on, below first + n
+dense : (f : ℕ → ℕ) (n first end i : ℕ) → ((i j : ℕ) → i < j → j < n → f i < f j) → ((k : ℕ) → k < n → first ≤ f k) → ((k : ℕ) → k < n → f k < end) → end ≤ first + n → i < n → f i ≡ first + i
+dense f n first end i below low high many lt =
+    let at : 0 + i ≡ i = omega arith in
+    let last : i + ((n - 1) - i) < n = omega (arith, lt) in
+    omega (arith, rising f n below 0 i (omega (arith, lt)), ap f at, low 0 (omega (arith, lt)), rising f n below i ((n - 1) - i) last, high (i + ((n - 1) - i)) last, many, lt)
+
+less : (a b : ℕ) → nat_cmp a b ≡ Less → a < b
+less a b is = grind (arith, nat_tests, is)
+
+module _ (m : BTreeMap ℕ (Vec ℕ Global)) (r : Pages) (d : ℕ × Vec ℕ Global) (first end : ℕ) (inside : All (IsEntryInRange nat_cmp (Included first) (Excluded end) m) r) (stands : EntryPlaces m.entries r)
+    (sorted : IsStrictlySortedBy nat_cmp (keys_of m.entries)) (many : end ≤ first + length r) where
+  abbrev key : ℕ → ℕ
+  key k = (get_or r k d).0
+
+  key_at : (k : ℕ) → k < length r → get_or (keys_of m.entries) (stands.start + k) d.0 ≡ key k
+  key_at k lt =
+      let there = stands.entries k d by_place lt in
+      get_or-map (λ (e : ℕ × Vec ℕ Global). e.0) m.entries (stands.start + k) d d.0 there.0 ∙ ap (λ (e : ℕ × Vec ℕ Global). e.0) (sym there.1)
+
+  keys_rise : (i j : ℕ) → i < j → j < length r → key i < key j
+  keys_rise i j lt short =
+      let there = stands.entries j d by_place short in
+      let fits : stands.start + j < length (keys_of m.entries) = omega (arith, there.0, length-map m.entries (λ (e : ℕ × Vec ℕ Global). e.0)) in
+      let below : get_or (keys_of m.entries) (stands.start + i) d.0 < get_or (keys_of m.entries) (stands.start + j) d.0 = below_from_sorted (keys_of m.entries) (stands.start + i) (stands.start + j) d.0 sorted (omega (arith, lt)) fits in
+      omega (arith, below, key_at i (omega (arith, lt, short)), key_at j short)
+
+  kept_between : (p : ℕ) → first ≤ p → p < end → is_some (page m.entries p) ≡ true
+  kept_between p from to =
+      let short : p - first < length r = omega (arith, many, from, to) in
+      let at : key (p - first) ≡ first + (p - first) = dense key (length r) first end (p - first) keys_rise (λ k lt. le_from_not_gt _ _ (inside k d lt).0.0) (λ k lt. less _ _ (inside k d lt).0.1) many short in
+      let same : key (p - first) ≡ p = omega (arith, at, from) in
+      subst (λ (q : ℕ). is_some (page m.entries q) ≡ true) same (ap is_some (inside (p - first) d short).1)
+
+pub all_kept : (m : BTreeMap ℕ (Vec ℕ Global)) (r : Pages) (first end : ℕ) → All (IsEntryInRange nat_cmp (Included first) (Excluded end) m) r → EntryPlaces m.entries r → IsStrictlySortedBy nat_cmp (keys_of m.entries) → end ≤ first + length r
+    → (p : ℕ) → first ≤ p → p < end → is_some (page m.entries p) ≡ true
+all_kept m [] first end inside stands sorted many p from to = absurd (omega (arith, many, from, to))
+all_kept m (d ∷ r) first end inside stands sorted many p from to = kept_between m (d ∷ r) d first end inside stands sorted many p from to
 
 -- ===== a page is kept if and only if it holds a byte that isn't 0
 

@@ -1,5 +1,5 @@
 -- Changes of pages, and what they make of the bytes.
-use Rattle.std.proofs.Common.{◌≡◌, ◌≢◌, ℕ, ◌+◌, ◌-◌, ◌*◌, ◌/◌, ◌%◌, ◌<◌, ◌≤◌, ◌⊎◌, inl, inr, Bool, true, false, cond, List, ◌++◌, length, take, drop, get_or, Option, None, Some, IfSome, is_some, refl, ap, sym, ◌∙◌, subst, arith, length-append, replicate}
+use Rattle.std.proofs.Common.{◌≡◌, ◌≢◌, ℕ, ◌+◌, ◌-◌, ◌*◌, ◌/◌, ◌%◌, ◌<◌, ◌≤◌, ◌⊎◌, inl, inr, Bool, true, false, cond, List, ◌++◌, length, take, drop, get_or, Option, None, Some, IfSome, is_some, refl, ap, sym, ◌∙◌, subst, arith, length-append, replicate, min}
 use Rattle.std.proofs.lemmas.List.{places}
 use Rattle.std.proofs.lemmas.Bool.{cases_lt, cases_eq}
 use Rattle.std.specs.BTreeMap.{is_at}
@@ -7,7 +7,7 @@ use Rattle.std.specs.Ordering.{nat_cmp}
 use Rattle.std.specs.declared.vec.Vec.{Vec}
 use Rattle.std.specs.declared.alloc.Global.{Global}
 use Rattle.nr_tree.specs.Pages.{page_size}
-use Rattle.nr_tree.specs.Paged.{Pages, page, items_of, byte, HasSize, HasByte, AreSized, AreZeros, ArePages, KeepsBytes, IsOver, WritesOver, ClearsTail}
+use Rattle.nr_tree.specs.Paged.{Pages, page, items_of, byte, HasSize, HasByte, AreSized, AreZeros, ArePages, AreSet, KeepsBytes, IsOver, WritesOver, ClearsTail}
 use Rattle.nr_tree.proofs.NodeMaps.{same_number}
 
 -- ===== one page changes
@@ -60,6 +60,13 @@ set_then qs rs first n had keeps here p from to = by (cases_lt p n) where
   by : (p < n) ⊎ (n ≤ p) → IfSome (page rs p) HasByte
   by (inl lt) = subst (λ (o : Option (Vec ℕ Global)). IfSome o HasByte) (sym (keeps.below p lt)) (had p from lt)
   by (inr le) = let same : n ≡ p = omega (arith, le, to) in subst (λ (q : ℕ). IfSome (page rs q) HasByte) same here
+
+-- one more part lies in a page with a byte
+pub set_more : (qs rs : Pages) (offset at n : ℕ) → at % page_size + n ≤ page_size → AreSet qs offset at → ((p : ℕ) → p < at / page_size → page rs p ≡ page qs p) → IfSome (page rs (at / page_size)) HasByte → AreSet rs offset (at + n)
+set_more qs rs offset at n fits had below here i from to = by (cases_lt (i / page_size) (at / page_size)) where
+  by : (i / page_size < at / page_size) ⊎ (at / page_size ≤ i / page_size) → IfSome (page rs (i / page_size)) HasByte
+  by (inl lt) = subst (λ (o : Option (Vec ℕ Global)). IfSome o HasByte) (sym (below (i / page_size) lt)) (had i from (omega (arith, lt)))
+  by (inr le) = let same : at / page_size ≡ i / page_size = omega (arith, le, fits, to) in subst (λ (q : ℕ). IfSome (page rs q) HasByte) same here
 
 -- ===== one more page goes
 
@@ -114,12 +121,6 @@ module _ (ps qs : Pages) (offset : ℕ) (piece : List ℕ) (v w : Vec ℕ Global
     by (inl e) = subst (λ (o : Option (Vec ℕ Global)). IfSome o HasSize) (sym (ap (page qs) e ∙ now)) (spliced_length v.items piece w.items (offset % page_size) room made ∙ size)
     by (inr ne) = subst (λ (o : Option (Vec ℕ Global)). IfSome o HasSize) (sym (others p ne)) (sized p)
 
-  keeps : (p : ℕ) → is_some (page qs p) ≡ is_some (page ps p)
-  keeps p = by (cases_eq p (offset / page_size)) where
-    by : (p ≡ offset / page_size) ⊎ (p ≢ offset / page_size) → is_some (page qs p) ≡ is_some (page ps p)
-    by (inl e) = ap is_some (ap (page qs) e ∙ now) ∙ sym (ap is_some (ap (page ps) e ∙ here))
-    by (inr ne) = ap is_some (others p ne)
-
   put_inside : (k : ℕ) → k < length piece → byte qs (offset + k) ≡ get_or piece k 0
   put_inside k lt =
       let number : (offset + k) / page_size ≡ offset / page_size = omega (arith, lt, fits) in
@@ -148,7 +149,33 @@ module _ (ps qs : Pages) (offset : ℕ) (piece : List ℕ) (v w : Vec ℕ Global
     over = record { inside = put_inside; below = put_below; above = put_above };
     below = λ p lt. let ne : p ≢ offset / page_size = omega (arith, lt) in others p ne;
     above = λ p le. let ne : p ≢ offset / page_size = omega (arith, le, some) in others p ne;
-    kept = keeps;
+  }
+
+-- ===== a page of zeros goes
+
+module _ (ps qs rs : Pages) (offset : ℕ) (piece : List ℕ) (some : 0 < length piece) (over : WritesOver ps qs offset piece) (zero : (i : ℕ) → i / page_size ≡ offset / page_size → byte qs i ≡ 0)
+    (is : (q : ℕ) → page rs q ≡ cond (is_at (nat_cmp (offset / page_size)) q) None (page qs q)) (now : page rs (offset / page_size) ≡ None) where
+  left : (q : ℕ) → q ≢ offset / page_size → page rs q ≡ page qs q
+  left = others_stay qs rs (offset / page_size) None is
+
+  left_sized : (p : ℕ) → IfSome (page rs p) HasSize
+  left_sized p = by (cases_eq p (offset / page_size)) where
+    by : (p ≡ offset / page_size) ⊎ (p ≢ offset / page_size) → IfSome (page rs p) HasSize
+    by (inl e) = subst (λ (o : Option (Vec ℕ Global)). IfSome o HasSize) (sym (ap (page rs) e ∙ now)) tt
+    by (inr ne) = subst (λ (o : Option (Vec ℕ Global)). IfSome o HasSize) (sym (left p ne)) (over.sized p)
+
+  left_bytes : (i : ℕ) → byte rs i ≡ byte qs i
+  left_bytes i = by (cases_eq (i / page_size) (offset / page_size)) where
+    by : (i / page_size ≡ offset / page_size) ⊎ (i / page_size ≢ offset / page_size) → byte rs i ≡ byte qs i
+    by (inl e) = byte_none rs i (ap (page rs) e ∙ now) ∙ sym (zero i e)
+    by (inr ne) = byte_of qs rs i (left (i / page_size) ne)
+
+  pub writes_zeros : WritesOver ps rs offset piece
+  writes_zeros = record {
+    sized = left_sized;
+    over = record { inside = λ k lt. left_bytes (offset + k) ∙ over.over.inside k lt; below = λ i lt. left_bytes i ∙ over.over.below i lt; above = λ i le. left_bytes i ∙ over.over.above i le };
+    below = λ p lt. let ne : p ≢ offset / page_size = omega (arith, lt) in left p ne ∙ over.below p lt;
+    above = λ p le. let ne : p ≢ offset / page_size = omega (arith, le, some) in left p ne ∙ over.above p le;
   }
 
 -- ===== pieces after one another
@@ -159,7 +186,6 @@ writes_none ps offset xs none sized = record {
   over = record { inside = λ k lt. absurd (omega (arith, lt, none)); below = λ i lt. refl; above = λ i le. refl };
   below = λ p lt. refl;
   above = λ p le. refl;
-  kept = λ p. refl;
 }
 
 over_then : (f g h : ℕ → ℕ) (offset : ℕ) (xs ys : List ℕ) → IsOver f g offset xs → IsOver g h (offset + length xs) ys → IsOver f h offset (xs ++ ys)
@@ -184,28 +210,37 @@ writes_then ps qs rs offset xs ys zs a b is = subst (λ (l : List ℕ). WritesOv
   over = over_then (byte ps) (byte qs) (byte rs) offset xs ys a.over b.over;
   below = λ p lt. b.below p (omega (arith, lt)) ∙ a.below p lt;
   above = λ p le. let past : (offset + length xs) + length ys ≤ page_size * p = omega (arith, le, length-append xs ys) in b.above p past ∙ a.above p (omega (arith, past));
-  kept = λ p. b.kept p ∙ a.kept p;
 })
 
--- ===== room, the piece, and what is zero again
+-- the pages that the rest lies in are as they were: a part ends at the end of its page, or with the piece
+pub kept_after : (qs rs : Pages) (at : ℕ) (xs ys zs : List ℕ) → length zs ≡ length xs + length ys → length xs ≡ min (page_size - at % page_size) (length zs) → WritesOver qs rs at xs
+    → ((i : ℕ) → at ≤ i → i < at + length zs → is_some (page qs (i / page_size)) ≡ true) → (i : ℕ) → at + length xs ≤ i → i < at + length xs + length ys → is_some (page rs (i / page_size)) ≡ true
+kept_after qs rs at xs ys zs both least w kept i from to =
+    let past : at + length xs ≤ page_size * (i / page_size) = omega (arith, both, least, from, to) in ap is_some (w.above (i / page_size) past) ∙ kept i (omega (arith, from)) (omega (arith, to, both))
 
-pub over_kept : (ps qs rs ss : Pages) (first end offset : ℕ) (xs : List ℕ) → KeepsBytes ps qs first end → WritesOver qs rs offset xs → KeepsBytes rs ss first end → IsOver (byte ps) (byte ss) offset xs
-over_kept ps qs rs ss first end offset xs a w b = record {
-  inside = λ k lt. b.bytes (offset + k) ∙ w.over.inside k lt;
-  below = λ i lt. b.bytes i ∙ w.over.below i lt ∙ a.bytes i;
-  above = λ i le. b.bytes i ∙ w.over.above i le ∙ a.bytes i;
+-- ===== room, then the piece
+
+pub over_kept : (ps qs rs : Pages) (first end offset : ℕ) (xs : List ℕ) → KeepsBytes ps qs first end → WritesOver qs rs offset xs → IsOver (byte ps) (byte rs) offset xs
+over_kept ps qs rs first end offset xs a w = record {
+  inside = w.over.inside;
+  below = λ i lt. w.over.below i lt ∙ a.bytes i;
+  above = λ i le. w.over.above i le ∙ a.bytes i;
 }
 
-pub set_kept : (ps qs rs ss : Pages) (first end offset : ℕ) (xs : List ℕ) → KeepsBytes ps qs first end → WritesOver qs rs offset xs → KeepsBytes rs ss first end
-    → first ≡ offset / page_size → end ≡ (offset + length xs + 4095) / page_size
-    → ((p : ℕ) → IfSome (page ps p) HasByte) → ((p : ℕ) → first ≤ p → p < end → IfSome (page ss p) HasByte) → (p : ℕ) → IfSome (page ss p) HasByte
-set_kept ps qs rs ss first end offset xs a w b begin last set between p = by (cases_lt p first) (cases_lt p end) where
-  by : (p < first) ⊎ (first ≤ p) → (p < end) ⊎ (end ≤ p) → IfSome (page ss p) HasByte
-  by (inl lt) c = subst (λ (o : Option (Vec ℕ Global)). IfSome o HasByte) (sym (b.below p lt ∙ w.below p (omega (arith, lt, begin)) ∙ a.below p lt)) (set p)
-  by (inr le) (inl lt) = between p le lt
-  by (inr le) (inr past) =
+pub set_kept : (ps qs rs : Pages) (first end offset : ℕ) (xs : List ℕ) → KeepsBytes ps qs first end → WritesOver qs rs offset xs → first ≡ offset / page_size → end ≡ (offset + length xs + 4095) / page_size
+    → 0 < length xs → ((p : ℕ) → IfSome (page ps p) HasByte) → AreSet rs offset (offset + length xs) → (p : ℕ) → IfSome (page rs p) HasByte
+set_kept ps qs rs first end offset xs a w begin last some set between p = by (cases_lt p first) (cases_lt p end) (cases_lt (page_size * p) offset) where
+  by : (p < first) ⊎ (first ≤ p) → (p < end) ⊎ (end ≤ p) → (page_size * p < offset) ⊎ (offset ≤ page_size * p) → IfSome (page rs p) HasByte
+  by (inl lt) c d = subst (λ (o : Option (Vec ℕ Global)). IfSome o HasByte) (sym (w.below p (omega (arith, lt, begin)) ∙ a.below p lt)) (set p)
+  by (inr le) (inl lt) (inl low) =
+      let same : offset / page_size ≡ p = omega (arith, low, begin, le) in
+      subst (λ (q : ℕ). IfSome (page rs q) HasByte) same (between offset (omega arith) (omega (arith, some)))
+  by (inr le) (inl lt) (inr high) =
+      let same : (page_size * p) / page_size ≡ p = omega arith in
+      subst (λ (q : ℕ). IfSome (page rs q) HasByte) same (between (page_size * p) high (omega (arith, lt, last)))
+  by (inr le) (inr past) d =
       let after : offset + length xs ≤ page_size * p = omega (arith, past, last) in
-      subst (λ (o : Option (Vec ℕ Global)). IfSome o HasByte) (sym (b.above p past ∙ w.above p after ∙ a.above p past)) (set p)
+      subst (λ (o : Option (Vec ℕ Global)). IfSome o HasByte) (sym (w.above p after ∙ a.above p past)) (set p)
 
 pub set_again : (ps qs ss : Pages) (first end : ℕ) → KeepsBytes ps qs first end → KeepsBytes qs ss first end → ((p : ℕ) → IfSome (page ps p) HasByte) → ((p : ℕ) → first ≤ p → p < end → IfSome (page ss p) HasByte)
     → (p : ℕ) → IfSome (page ss p) HasByte
@@ -222,108 +257,74 @@ room_for qs first end offset len begin last kept i from to = kept (i / page_size
 
 -- ===== the tail of a page is cleared
 
-module _ (ps qs : Pages) (from : ℕ) (v w : Vec ℕ Global) (sized : AreSized ps) (here : page ps (from / page_size) ≡ Some v)
-    (is : (q : ℕ) → page qs q ≡ cond (is_at (nat_cmp (from / page_size)) q) (Some w) (page ps q))
-    (now : page qs (from / page_size) ≡ Some w)
-    (made : w.items ≡ take (from % page_size) v.items ++ replicate (length v.items - from % page_size) 0) where
-  tail_size : length v.items ≡ page_size
-  tail_size = subst (λ (o : Option (Vec ℕ Global)). IfSome o HasSize) here (sized (from / page_size))
+pub tail_cleared : (ps qs : Pages) (from room : ℕ) (zs : List ℕ) → room ≡ page_size - from % page_size → AreZeros zs room → WritesOver ps qs from zs → IfSome (page qs (from / page_size)) HasByte → ClearsTail ps qs from
+tail_cleared ps qs from room zs is zeros w set = record { sized = w.sized; below = w.over.below; clear = clear; others = λ p ne. by p ne (cases_lt p (from / page_size)); set = set } where
+  clear : (i : ℕ) → from ≤ i → i / page_size ≡ from / page_size → byte qs i ≡ 0
+  clear i le same =
+      let at : from + (i - from) ≡ i = omega (arith, le) in
+      let short : i - from < length zs = omega (arith, le, same, is, zeros.length) in
+      ap (byte qs) (sym at) ∙ w.over.inside (i - from) short ∙ zeros.zero (i - from)
 
-  within : from % page_size ≤ length v.items
-  within = omega (arith, tail_size)
+  by : (p : ℕ) → p ≢ from / page_size → (p < from / page_size) ⊎ (from / page_size ≤ p) → page qs p ≡ page ps p
+  by p ne (inl lt) = w.below p lt
+  by p ne (inr le) = w.above p (omega (arith, ne, le, is, zeros.length))
 
-  rest : (q : ℕ) → q ≢ from / page_size → page qs q ≡ page ps q
-  rest = others_stay ps qs (from / page_size) (Some w) is
-
-  cleared_length : (xs ys : List ℕ) (r : ℕ) → r ≤ length xs → ys ≡ take r xs ++ replicate (length xs - r) 0 → length ys ≡ length xs
-  cleared_length xs ys r le e = grind (arith, places)
-
-  cleared_below : (xs ys : List ℕ) (r j : ℕ) → r ≤ length xs → ys ≡ take r xs ++ replicate (length xs - r) 0 → j < r → get_or ys j 0 ≡ get_or xs j 0
-  cleared_below xs ys r j le e lt = grind (arith, places)
-
-  cleared_above : (xs ys : List ℕ) (r j : ℕ) → r ≤ length xs → ys ≡ take r xs ++ replicate (length xs - r) 0 → r ≤ j → j < length xs → get_or ys j 0 ≡ 0
-  cleared_above xs ys r j le e ge lt = grind (arith, places)
-
-  tails_sized : (p : ℕ) → IfSome (page qs p) HasSize
-  tails_sized p = by (cases_eq p (from / page_size)) where
-    by : (p ≡ from / page_size) ⊎ (p ≢ from / page_size) → IfSome (page qs p) HasSize
-    by (inl e) = subst (λ (o : Option (Vec ℕ Global)). IfSome o HasSize) (sym (ap (page qs) e ∙ now)) (cleared_length v.items w.items (from % page_size) within made ∙ tail_size)
-    by (inr ne) = subst (λ (o : Option (Vec ℕ Global)). IfSome o HasSize) (sym (rest p ne)) (sized p)
-
-  tail_below : (i : ℕ) → i < from → byte qs i ≡ byte ps i
-  tail_below i lt = by (cases_eq (i / page_size) (from / page_size)) where
-    by : (i / page_size ≡ from / page_size) ⊎ (i / page_size ≢ from / page_size) → byte qs i ≡ byte ps i
-    by (inl e) =
-        let low : i % page_size < from % page_size = omega (arith, e, lt) in
-        byte_at qs i w (ap (page qs) e ∙ now) ∙ cleared_below v.items w.items (from % page_size) (i % page_size) within made low ∙ sym (byte_at ps i v (ap (page ps) e ∙ here))
-    by (inr ne) = byte_of ps qs i (rest (i / page_size) ne)
-
-  tail_clear : (i : ℕ) → from ≤ i → i / page_size ≡ from / page_size → byte qs i ≡ 0
-  tail_clear i le e =
-      let high : from % page_size ≤ i % page_size = omega (arith, e, le) in
-      let short : i % page_size < length v.items = omega (arith, tail_size) in
-      byte_at qs i w (ap (page qs) e ∙ now) ∙ cleared_above v.items w.items (from % page_size) (i % page_size) within made high short
-
-  pub tail_cleared : ClearsTail ps qs from
-  tail_cleared = record { sized = tails_sized; below = tail_below; clear = tail_clear; others = rest }
-
-pub tail_absent : (ps qs : Pages) (from : ℕ) → AreSized ps → page ps (from / page_size) ≡ None → qs ≡ ps → ClearsTail ps qs from
-tail_absent ps qs from sized none same = subst (λ (l : Pages). ClearsTail ps l from) (sym same) (record {
+pub tail_absent : (ps : Pages) (from : ℕ) → AreSized ps → page ps (from / page_size) ≡ None → ClearsTail ps ps from
+tail_absent ps from sized none = record {
   sized = sized;
   below = λ i lt. refl;
   clear = λ i le e. byte_none ps i (ap (page ps) e ∙ none);
   others = λ p ne. refl;
-})
+  set = subst (λ (o : Option (Vec ℕ Global)). IfSome o HasByte) (sym none) tt;
+}
 
 -- ===== a file that is cut
 
-module _ (ps qs rs ss : Pages) (from len first end : ℕ) (begin : first ≡ from / page_size) (last : end ≡ len / page_size + 1) (shorter : from < len) (pages : ArePages ps len) (clears : ClearsTail ps qs from)
+module _ (ps qs rs : Pages) (from len first end : ℕ) (begin : first ≡ from / page_size) (last : end ≡ len / page_size + 1) (shorter : from < len) (pages : ArePages ps len) (clears : ClearsTail ps qs from)
     (lower : (p : ℕ) → p < first + 1 → page rs p ≡ page qs p) (gone : (p : ℕ) → first + 1 ≤ p → p < end → page rs p ≡ None) (upper : (p : ℕ) → end ≤ p → page rs p ≡ page qs p) where
   other : (p : ℕ) → p ≢ first → page qs p ≡ page ps p
   other p ne = clears.others p (λ e. ne (e ∙ sym begin))
 
-  pub cut_sized : AreSized rs
+  cut_sized : AreSized rs
   cut_sized p = by (cases_lt p (first + 1)) (cases_lt p end) where
     by : (p < first + 1) ⊎ (first + 1 ≤ p) → (p < end) ⊎ (end ≤ p) → IfSome (page rs p) HasSize
     by (inl lt) c = subst (λ (o : Option (Vec ℕ Global)). IfSome o HasSize) (sym (lower p lt)) (clears.sized p)
     by (inr le) (inl lt) = subst (λ (o : Option (Vec ℕ Global)). IfSome o HasSize) (sym (gone p le lt)) tt
     by (inr le) (inr past) = subst (λ (o : Option (Vec ℕ Global)). IfSome o HasSize) (sym (upper p past)) (clears.sized p)
 
-  module _ (keeps : KeepsBytes rs ss first (first + 1)) (set : IfSome (page ss first) HasByte) where
-    -- a page other than the first is as it was, or gone
-    other_set : (p : ℕ) → p ≢ first → IfSome (page rs p) HasByte
-    other_set p ne = by (cases_lt p (first + 1)) (cases_lt p end) where
-      by : (p < first + 1) ⊎ (first + 1 ≤ p) → (p < end) ⊎ (end ≤ p) → IfSome (page rs p) HasByte
-      by (inl lt) c = subst (λ (o : Option (Vec ℕ Global)). IfSome o HasByte) (sym (lower p lt ∙ other p ne)) (pages.set p)
-      by (inr le) (inl lt) = subst (λ (o : Option (Vec ℕ Global)). IfSome o HasByte) (sym (gone p le lt)) tt
-      by (inr le) (inr past) = subst (λ (o : Option (Vec ℕ Global)). IfSome o HasByte) (sym (upper p past ∙ other p ne)) (pages.set p)
+  -- a page is the first, or as it was, or gone
+  set_before : (p : ℕ) → IfSome (page qs p) HasByte
+  set_before p = by (cases_eq p first) where
+    by : (p ≡ first) ⊎ (p ≢ first) → IfSome (page qs p) HasByte
+    by (inl e) = subst (λ (q : ℕ). IfSome (page qs q) HasByte) (sym (e ∙ begin)) clears.set
+    by (inr ne) = subst (λ (o : Option (Vec ℕ Global)). IfSome o HasByte) (sym (other p ne)) (pages.set p)
 
-    all_set : (p : ℕ) → IfSome (page ss p) HasByte
-    all_set p = by (cases_lt p first) (cases_lt p (first + 1)) where
-      by : (p < first) ⊎ (first ≤ p) → (p < first + 1) ⊎ (first + 1 ≤ p) → IfSome (page ss p) HasByte
-      by (inl lt) c = let ne : p ≢ first = omega (arith, lt) in subst (λ (o : Option (Vec ℕ Global)). IfSome o HasByte) (sym (keeps.below p lt)) (other_set p ne)
-      by (inr le) (inl lt) = let same : first ≡ p = omega (arith, le, lt) in subst (λ (q : ℕ). IfSome (page ss q) HasByte) same set
-      by (inr le) (inr past) = let ne : p ≢ first = omega (arith, past) in subst (λ (o : Option (Vec ℕ Global)). IfSome o HasByte) (sym (keeps.above p past)) (other_set p ne)
+  cut_set : (p : ℕ) → IfSome (page rs p) HasByte
+  cut_set p = by (cases_lt p (first + 1)) (cases_lt p end) where
+    by : (p < first + 1) ⊎ (first + 1 ≤ p) → (p < end) ⊎ (end ≤ p) → IfSome (page rs p) HasByte
+    by (inl lt) c = subst (λ (o : Option (Vec ℕ Global)). IfSome o HasByte) (sym (lower p lt)) (set_before p)
+    by (inr le) (inl lt) = subst (λ (o : Option (Vec ℕ Global)). IfSome o HasByte) (sym (gone p le lt)) tt
+    by (inr le) (inr past) = subst (λ (o : Option (Vec ℕ Global)). IfSome o HasByte) (sym (upper p past)) (set_before p)
 
-    cut_ends : (i : ℕ) → from ≤ i → byte rs i ≡ 0
-    cut_ends i le = by (cases_lt (i / page_size) (first + 1)) (cases_lt (i / page_size) end) where
-      by : (i / page_size < first + 1) ⊎ (first + 1 ≤ i / page_size) → (i / page_size < end) ⊎ (end ≤ i / page_size) → byte rs i ≡ 0
-      by (inl lt) c =
-          let same : i / page_size ≡ from / page_size = omega (arith, lt, le, begin) in
-          byte_of qs rs i (lower (i / page_size) lt) ∙ clears.clear i le same
-      by (inr high) (inl lt) = byte_none rs i (gone (i / page_size) high lt)
-      by (inr high) (inr past) =
-          let ne : i / page_size ≢ first = omega (arith, high) in
-          let after : len ≤ i = omega (arith, past, last) in
-          byte_of qs rs i (upper (i / page_size) past) ∙ byte_of ps qs i (other (i / page_size) ne) ∙ pages.ends i after
+  cut_ends : (i : ℕ) → from ≤ i → byte rs i ≡ 0
+  cut_ends i le = by (cases_lt (i / page_size) (first + 1)) (cases_lt (i / page_size) end) where
+    by : (i / page_size < first + 1) ⊎ (first + 1 ≤ i / page_size) → (i / page_size < end) ⊎ (end ≤ i / page_size) → byte rs i ≡ 0
+    by (inl lt) c =
+        let same : i / page_size ≡ from / page_size = omega (arith, lt, le, begin) in
+        byte_of qs rs i (lower (i / page_size) lt) ∙ clears.clear i le same
+    by (inr high) (inl lt) = byte_none rs i (gone (i / page_size) high lt)
+    by (inr high) (inr past) =
+        let ne : i / page_size ≢ first = omega (arith, high) in
+        let after : len ≤ i = omega (arith, past, last) in
+        byte_of qs rs i (upper (i / page_size) past) ∙ byte_of ps qs i (other (i / page_size) ne) ∙ pages.ends i after
 
-    pub cut_pages : ArePages ss from
-    cut_pages = record { sized = keeps.sized; set = all_set; ends = λ i le. keeps.bytes i ∙ cut_ends i le }
+  pub cut_pages : ArePages rs from
+  cut_pages = record { sized = cut_sized; set = cut_set; ends = cut_ends }
 
-    pub cut_below : (i : ℕ) → i < from → byte ss i ≡ byte ps i
-    cut_below i lt =
-        let low : i / page_size < first + 1 = omega (arith, lt, begin) in
-        keeps.bytes i ∙ byte_of qs rs i (lower (i / page_size) low) ∙ clears.below i lt
+  pub cut_below : (i : ℕ) → i < from → byte rs i ≡ byte ps i
+  cut_below i lt =
+      let low : i / page_size < first + 1 = omega (arith, lt, begin) in
+      byte_of qs rs i (lower (i / page_size) low) ∙ clears.below i lt
 
 -- ===== the part of a page
 

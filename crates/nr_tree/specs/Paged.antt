@@ -1,5 +1,5 @@
 -- Bytes that are kept as pages by number (for the code).
-use Rattle.std.specs.Prelude.{ℕ, ◌≡◌, ◌+◌, ◌*◌, ◌/◌, ◌%◌, ◌<◌, ◌≤◌, ◌≢◌, true, List, [], length, map, Option, None, Some, IfSome, is_some, slice_index}
+use Rattle.std.specs.Prelude.{ℕ, ◌≡◌, ◌+◌, ◌*◌, ◌/◌, ◌%◌, ◌<◌, ◌≤◌, ◌≢◌, true, List, [], length, map, Option, None, Some, IfSome, slice_index}
 use Rattle.std.specs.List.{list_any, range_with_len}
 use Rattle.std.specs.Map.{lookup}
 use Rattle.std.specs.BTreeMap.{is_at}
@@ -37,6 +37,10 @@ HasByte v = list_any is_set v.items ≡ true
 abbrev pub AreSized : Pages → Type 0
 AreSized ps = (p : ℕ) → IfSome (page ps p) HasSize
 
+-- each page that has a byte from an offset on, below another one, has a byte that isn't 0
+abbrev pub AreSet : Pages → ℕ → ℕ → Type 0
+AreSet ps from end = (i : ℕ) → from ≤ i → i < end → IfSome (page ps (i / page_size)) HasByte
+
 -- n zeros
 pub record AreZeros (xs : List ℕ) (n : ℕ) : Type 0 where
   pub length : length xs ≡ n
@@ -61,17 +65,17 @@ pub record IsOver (f g : ℕ → ℕ) (offset : ℕ) (xs : List ℕ) : Type 0 wh
   pub below : (i : ℕ) → i < offset → g i ≡ f i
   pub above : (i : ℕ) → offset + length xs ≤ i → g i ≡ f i
 
--- a piece written over the pages that are there
+-- a piece written over its pages
 pub record WritesOver (ps qs : Pages) (offset : ℕ) (xs : List ℕ) : Type 0 where
   pub sized : (p : ℕ) → IfSome (page qs p) HasSize
   pub over : IsOver (byte ps) (byte qs) offset xs
   pub below : (p : ℕ) → p < offset / page_size → page qs p ≡ page ps p
   pub above : (p : ℕ) → offset + length xs ≤ page_size * p → page qs p ≡ page ps p
-  pub kept : (p : ℕ) → is_some (page qs p) ≡ is_some (page ps p)
 
--- the bytes from an offset on are 0 in its page
+-- the bytes from an offset on are 0 in its page, which, if it is kept, has a byte that isn't 0
 pub record ClearsTail (ps qs : Pages) (from : ℕ) : Type 0 where
   pub sized : (p : ℕ) → IfSome (page qs p) HasSize
   pub below : (i : ℕ) → i < from → byte qs i ≡ byte ps i
   pub clear : (i : ℕ) → from ≤ i → i / page_size ≡ from / page_size → byte qs i ≡ 0
   pub others : (p : ℕ) → p ≢ from / page_size → page qs p ≡ page ps p
+  pub set : IfSome (page qs (from / page_size)) HasByte

@@ -3,7 +3,7 @@
 ghost use Rattle.std.specs.Prelude.{◌≡◌, ◌≢◌, ◌+◌, ◌-◌, ◌*◌, ◌/◌, ◌%◌, ◌<◌, ◌≤◌, ◌^◌, ℕ, ◌++◌, length, take, drop, replicate, is_some, slice_index, true, false, IfOk, IfSome, OnOk, OnErr, None, Some};
 ghost use Rattle.std.specs.List.{list_any};
 ghost use Rattle.nr_tree.specs.Pages.{page_size, is_set};
-ghost use Rattle.nr_tree.specs.Paged.{page, byte, HasSize, HasByte, AreSized, AreZeros, ArePages, KeepsBytes, IsOver, WritesOver, ClearsTail};
+ghost use Rattle.nr_tree.specs.Paged.{page, byte, HasSize, HasByte, AreSized, AreZeros, ArePages, AreSet, KeepsBytes, IsOver, WritesOver, ClearsTail};
 
 use std::alloc::{AllocError, Global};
 use std::collections::BTreeMap;
@@ -34,12 +34,24 @@ fn insert_zeros(alloc: Global, pages: &mut Pages, number: u64) -> Result<(), All
     Ok(())
 }
 
+/// Whether a page is kept under each of the numbers from `first` on, below `end`, found by one walk.
+fn are_kept(pages: &Pages, first: u64, end: u64) -> bool
+    requires { first ≤ end }
+    ensures { result ≡ true → (p : ℕ) → first ≤ p → p < end → is_some (page pages.now.entries p) ≡ true }
+{
+    pages.range(first..end).count() as u64 == end - first
+}
+
 /// Keeps a page of zeros under each of the numbers from `first` on, below `end`, that has none.
 fn make_room(alloc: Global, pages: &mut Pages, first: u64, end: u64) -> Result<(), AllocError>
-    requires { AreSized pages.old.entries }
+    requires sized { AreSized pages.old.entries }
+    requires forward { first ≤ end }
     ensures bytes { KeepsBytes pages.old.entries pages.new.entries first end }
     ensures kept { OnOk result ((p : ℕ) → first ≤ p → p < end → is_some (page pages.new.entries p) ≡ true) }
 {
+    if are_kept(pages, first, end) {
+        return Ok(());
+    }
     for number in first..end {
         insert_zeros(alloc, pages, number)?;
     }
@@ -80,22 +92,27 @@ fn drop_zeros(pages: &mut Pages, first: u64, end: u64)
     }
 }
 
-/// Copies a piece into a page, from an offset in it on.
-fn copy_at(bytes: &mut Vec<u8>, offset: usize, piece: &[u8])
+/// Copies a piece into a page, from an offset in it on, and gives whether all bytes of the page are 0 then.
+fn copy_at(bytes: &mut Vec<u8>, offset: usize, piece: &[u8]) -> bool
     requires { offset + length piece.now ≤ length bytes.old.items }
-    ensures { bytes.new.items ≡ take offset bytes.old.items ++ (piece.now ++ drop (offset + length piece.now) bytes.old.items) }
+    ensures bytes { bytes.new.items ≡ take offset bytes.old.items ++ (piece.now ++ drop (offset + length piece.now) bytes.old.items) }
+    ensures set { result ≡ false → HasByte bytes.new }
+    ensures zero { result ≡ true → (i : ℕ) → slice_index bytes.new.items i ≡ 0 }
 {
     let all = bytes.as_mut_slice();
     all[offset..offset + piece.len()].copy_from_slice(piece);
+    are_zero(bytes)
 }
 
-/// Copies a piece into the page that it lies in, which is kept.
-fn put(pages: &mut Pages, offset: u64, piece: &[u8])
+/// Copies a piece into the page that it lies in, which is kept, and gives whether all bytes of the page are 0 then.
+fn put(pages: &mut Pages, offset: u64, piece: &[u8]) -> bool
     requires sized { AreSized pages.old.entries }
     requires kept { is_some (page pages.old.entries (offset / page_size)) ≡ true }
     requires some { 0 < length piece.now }
     requires fits { offset % page_size + length piece.now ≤ page_size }
-    ensures { WritesOver pages.old.entries pages.new.entries offset piece.now }
+    ensures over { WritesOver pages.old.entries pages.new.entries offset piece.now }
+    ensures set { result ≡ false → IfSome (page pages.new.entries (offset / page_size)) HasByte }
+    ensures zero { result ≡ true → (i : ℕ) → i / page_size ≡ offset / page_size → byte pages.new.entries i ≡ 0 }
 {
     match pages.get_mut(&(offset / PAGE_SIZE)) {
         Some(page) => copy_at(page, (offset % PAGE_SIZE) as usize, piece),
@@ -103,19 +120,34 @@ fn put(pages: &mut Pages, offset: u64, piece: &[u8])
     }
 }
 
-/// Copies a piece into its pages, each of which is kept. Each byte is copied once.
+/// Copies a piece into the page that it lies in, which is kept. If all bytes of the page are 0 then, it goes.
+fn put_or_remove(pages: &mut Pages, offset: u64, piece: &[u8])
+    requires sized { AreSized pages.old.entries }
+    requires kept { is_some (page pages.old.entries (offset / page_size)) ≡ true }
+    requires some { 0 < length piece.now }
+    requires fits { offset % page_size + length piece.now ≤ page_size }
+    ensures over { WritesOver pages.old.entries pages.new.entries offset piece.now }
+    ensures set { IfSome (page pages.new.entries (offset / page_size)) HasByte }
+{
+    if put(pages, offset, piece) {
+        pages.remove(&(offset / PAGE_SIZE));
+    }
+}
+
+/// Copies a piece into its pages, each of which is kept. Each byte is copied once. A page whose bytes are all 0 then goes.
 fn copy(pages: &mut Pages, offset: u64, piece: &[u8])
     requires sized { AreSized pages.old.entries }
     requires limit { offset + length piece.now < 2 ^ 62 }
     requires kept { (i : ℕ) → offset ≤ i → i < offset + length piece.now → is_some (page pages.old.entries (i / page_size)) ≡ true }
-    ensures { WritesOver pages.old.entries pages.new.entries offset piece.now }
+    ensures over { WritesOver pages.old.entries pages.new.entries offset piece.now }
+    ensures set { AreSet pages.new.entries offset (offset + length piece.now) }
 {
     let mut at = offset;
     let mut rest = piece;
     while !rest.is_empty() {
         let room = PAGE_SIZE - at % PAGE_SIZE; // the rest of the page
         let (part, after) = rest.split_at((room as usize).min(rest.len()));
-        put(pages, at, part);
+        put_or_remove(pages, at, part);
         at += part.len() as u64;
         rest = after;
     }
@@ -137,6 +169,9 @@ pub(crate) fn write_pages(
     ensures ok { OnOk result (IsOver (byte pages.old.entries) (byte pages.new.entries) offset piece.now) }
     ensures err { OnErr result ((i : ℕ) → byte pages.new.entries i ≡ byte pages.old.entries i) }
 {
+    if piece.is_empty() {
+        return Ok(());
+    }
     let first = offset / PAGE_SIZE;
     let end = (offset + piece.len() as u64 + (PAGE_SIZE - 1)) / PAGE_SIZE;
     if let Err(e) = make_room(alloc, pages, first, end) {
@@ -144,28 +179,29 @@ pub(crate) fn write_pages(
         return Err(e);
     }
     copy(pages, offset, piece);
-    drop_zeros(pages, first, end);
     Ok(())
 }
 
-/// Puts zeros over the bytes of a page from an offset in it on.
-fn clear_from(bytes: &mut Vec<u8>, offset: usize)
-    requires { offset ≤ length bytes.old.items }
-    ensures { bytes.new.items ≡ take offset bytes.old.items ++ replicate (length bytes.old.items - offset) 0 }
+static ZEROS: [u8; PAGE_SIZE as usize] = [0; PAGE_SIZE as usize];
+
+/// `len` zeros, at most a page of them.
+fn zero_bytes<'a>(len: usize) -> &'a [u8]
+    requires { len ≤ page_size }
+    ensures { AreZeros result.now len }
 {
-    let all = bytes.as_mut_slice();
-    all[offset..].fill(0);
+    &ZEROS[..len]
 }
 
-/// Puts zeros over the bytes from an offset on in its page.
+/// Puts zeros over the bytes from an offset on in its page, if it is kept. If all bytes of the page are 0 then, it goes.
 fn clear_tail(pages: &mut Pages, from: u64)
     requires { AreSized pages.old.entries }
     ensures { ClearsTail pages.old.entries pages.new.entries from }
 {
-    match pages.get_mut(&(from / PAGE_SIZE)) {
-        Some(page) => clear_from(page, (from % PAGE_SIZE) as usize),
-        None => {}
+    if !pages.contains_key(&(from / PAGE_SIZE)) {
+        return;
     }
+    let room = PAGE_SIZE - from % PAGE_SIZE; // the rest of the page
+    put_or_remove(pages, from, zero_bytes(room as usize));
 }
 
 /// Lets the pages from `first` on, below `end`, go.
@@ -189,17 +225,6 @@ pub(crate) fn cut_pages(pages: &mut Pages, from: u64, len: u64)
     let first = from / PAGE_SIZE;
     clear_tail(pages, from);
     remove_pages(pages, first + 1, len / PAGE_SIZE + 1);
-    drop_if_zero(pages, first);
-}
-
-static ZEROS: [u8; PAGE_SIZE as usize] = [0; PAGE_SIZE as usize];
-
-/// `len` zeros, at most a page of them.
-fn zero_bytes<'a>(len: usize) -> &'a [u8]
-    requires { len ≤ page_size }
-    ensures { AreZeros result.now len }
-{
-    &ZEROS[..len]
 }
 
 /// `count` bytes from an offset on, which lie in one page.
