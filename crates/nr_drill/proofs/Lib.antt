@@ -26,6 +26,7 @@ pub mod LessDrains
 pub mod Told
 pub mod Lookups
 pub mod Executions
+pub mod Counting
 pub mod DraftSteps
 pub mod Numbering
 pub mod TellingMarks

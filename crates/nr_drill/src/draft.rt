@@ -1,10 +1,13 @@
 //! A report that is being made, mark by mark.
 
-ghost use Rattle.std.specs.Prelude.{◌≡◌, ℕ, ◌+◌, ◌-◌, ◌++◌, ◌==◌, ◌&&◌, List, [], length, replicate, IfOk, OnOk, MatchOption, Option, None, slice_get, slice_set, slice_index_or};
+ghost use Rattle.std.specs.Prelude.{◌≡◌, ℕ, ◌+◌, ◌-◌, ◌++◌, ◌==◌, ◌&&◌, ◌<◌, List, [], length, get_or, replicate, IfOk, OnOk, MatchOption, Option, None, slice_get, slice_set, slice_index_or};
+ghost use Rattle.nr_reduce.specs.declared.mark.Mark.{Mark};
+ghost use Rattle.nr_marks.specs.Views.{mark_seen};
 ghost use Rattle.nr_drill.specs.Reports.{submitted_state, becomes, is_open_as, place_shown};
 ghost use Rattle.nr_drill.specs.private.Drafts.{AddsLine, AddsPlace, AreEmpty, AreNumbered, IsDraft, is_submit_of, submits_of, EndsAt, Ended, Executed, Noted, Same, Submitted, index_of, place_of, state_done};
 
 use crate::report::{CallReport, CallState};
+use nr_marks::{MarkList, MarkView};
 use nr_outside::Moment;
 use nr_plain::entry_of_call;
 use nr_reduce::{Entry, Mark, Outcome, Submission};
@@ -228,21 +231,12 @@ impl Draft {
 
     /// What is said of a call with this outcome.
     #[tactic(auto, unfolding(crate::specs::private::Drafts::state_done))]
-    fn state_done(
-        &self,
-        alloc: Global,
-        link: u32,
-        xid: u32,
-        outcome: &Outcome,
-    ) -> Result<CallState, Memory>
-        ensures { IfOk result (λ state. state ≡ state_done link xid outcome.now self.now) }
+    fn state_done(&self, link: u32, xid: u32, outcome: Outcome) -> CallState
+        ensures { result ≡ state_done link xid outcome self.now }
     {
         let len = self.journal.len() as u64;
-        let place = place_shown(len, self.place_of(link, xid), outcome);
-        Ok(CallState::Done {
-            place,
-            outcome: copy_of(alloc, outcome)?,
-        })
+        let place = place_shown(len, self.place_of(link, xid), &outcome);
+        CallState::Done { place, outcome }
     }
 
     /// Notes an execution: its entry, if it adds one, and its place.
@@ -267,8 +261,32 @@ impl Draft {
         }
     }
 
+    /// Notes a mark that is read.
+    pub(crate) fn note(&mut self, alloc: Global, mark: MarkView<'_>) -> Result<(), Memory>
+        ensures { OnOk result (Noted (mark_seen mark.entry) self.old self.new) }
+    {
+        match mark {
+            MarkView::Submit { link, xid, .. } => self.submit(link, Submission::Accepted { xid }),
+            MarkView::Execute {
+                link,
+                xid,
+                moment,
+                payload,
+                place,
+                reply,
+            } => self.execute(alloc, (link, xid, place), moment, payload, reply),
+            MarkView::Done { link, xid, reply } => {
+                let reply = Octets::from_slice(alloc, reply)?;
+                self.complete(link, xid, Outcome::Reply(reply));
+                Ok(())
+            }
+            MarkView::Wrote { .. } | MarkView::Fed { .. } => Ok(()),
+            MarkView::Other(mark) => self.note_mark(alloc, mark),
+        }
+    }
+
     /// Notes a mark.
-    pub(crate) fn note(&mut self, alloc: Global, mark: &Mark) -> Result<(), Memory>
+    fn note_mark(&mut self, alloc: Global, mark: &Mark) -> Result<(), Memory>
         ensures { OnOk result (Noted mark.now self.old self.new) }
     {
         match mark {
@@ -287,7 +305,11 @@ impl Draft {
                 payload.as_slice(),
                 reply.as_slice(),
             ),
-            Mark::Done { link, xid, outcome } => self.complete(alloc, *link, *xid, outcome),
+            Mark::Done { link, xid, outcome } => {
+                let outcome = copy_of(alloc, outcome)?;
+                self.complete(*link, *xid, outcome);
+                Ok(())
+            }
             Mark::Lost { link, xid } => {
                 self.end(*link, *xid, CallState::Lost);
                 Ok(())
@@ -302,18 +324,11 @@ impl Draft {
     }
 
     /// Notes that the outcome of a call was handed over.
-    fn complete(
-        &mut self,
-        alloc: Global,
-        link: u32,
-        xid: u32,
-        outcome: &Outcome,
-    ) -> Result<(), Memory>
-        ensures { OnOk result (Ended link xid (state_done link xid outcome.now self.old) self.old self.new) }
+    fn complete(&mut self, link: u32, xid: u32, outcome: Outcome)
+        ensures { Ended link xid (state_done link xid outcome self.old) self.old self.new }
     {
-        let state = self.state_done(alloc, link, xid, outcome)?;
+        let state = self.state_done(link, xid, outcome);
         self.end(link, xid, state);
-        Ok(())
     }
 
     /// Notes that the memory of a call was taken back, which held these bytes.
@@ -327,32 +342,33 @@ impl Draft {
 }
 
 /// Notes all marks, in order.
-fn note_all(alloc: Global, draft: &mut Draft, marks: &[Mark]) -> Result<(), Memory>
+fn note_all(alloc: Global, draft: &mut Draft, marks: &MarkList) -> Result<(), Memory>
     ensures { OnOk result ((clients : ℕ) → AreNumbered clients marks.now → IsDraft clients marks.now [] draft.old → IsDraft clients marks.now marks.now draft.new) }
 {
-    for mark in marks {
-        draft.note(alloc, mark)?;
+    for at in 0..marks.len() {
+        draft.note(alloc, marks.mark(at))?;
     }
     Ok(())
 }
 
-/// Whether a mark is a call line of a link.
-fn is_submit_of(link: u32, mark: &Mark) -> bool
-    ensures { result ≡ is_submit_of link mark.now }
+/// Whether the mark at an index is a call line of a link.
+fn is_submit_of(link: u32, marks: &MarkList, at: usize) -> bool
+    requires { at < length marks.now }
+    ensures { (d : Mark) → result ≡ is_submit_of link (get_or marks.now at d) }
 {
-    match mark {
-        Mark::Submit { link: own, .. } => *own == link,
-        _ => false,
+    match marks.submit_link(at) {
+        Some(own) => own == link,
+        None => false,
     }
 }
 
 /// How many call lines a link has.
-fn submits_of(link: u32, marks: &[Mark]) -> usize
+fn submits_of(link: u32, marks: &MarkList) -> usize
     ensures { result ≡ submits_of link marks.now }
 {
     let mut count: usize = 0;
-    for mark in marks {
-        if is_submit_of(link, mark) {
+    for at in 0..marks.len() {
+        if is_submit_of(link, marks, at) {
             count += 1;
         }
     }
@@ -360,7 +376,7 @@ fn submits_of(link: u32, marks: &[Mark]) -> usize
 }
 
 /// The tables of this many links, before the first mark.
-fn empty_tables(alloc: Global, links: u32, marks: &[Mark]) -> Result<Vec<CallTable>, Memory>
+fn empty_tables(alloc: Global, links: u32, marks: &MarkList) -> Result<Vec<CallTable>, Memory>
     ensures { IfOk result (λ tables. AreEmpty links marks.now tables.items) }
 {
     let mut tables = Vec::new(alloc);
@@ -371,7 +387,7 @@ fn empty_tables(alloc: Global, links: u32, marks: &[Mark]) -> Result<Vec<CallTab
 }
 
 /// The report after all marks of this many links, but for what becomes of open calls in the end.
-pub(crate) fn draft_of(alloc: Global, links: u32, marks: &[Mark]) -> Result<Draft, Memory>
+pub(crate) fn draft_of(alloc: Global, links: u32, marks: &MarkList) -> Result<Draft, Memory>
     ensures { IfOk result (λ draft. AreNumbered links marks.now → IsDraft links marks.now marks.now draft) }
 {
     let mut draft = Draft {

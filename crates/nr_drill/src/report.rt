@@ -1,7 +1,8 @@
 //! What a drill reports.
 
 use nr_link::End;
-use nr_reduce::{Entry, Marks, Outcome, Refused, Sequence};
+use nr_marks::MarkList;
+use nr_reduce::{Entry, Outcome, Refused, Sequence};
 use nr_wire::Side;
 use nr_xdr::Octets;
 
@@ -94,7 +95,7 @@ pub struct LinkLog {
 #[derive(Drop)]
 pub struct Report {
     /// What happened, mark by mark. What crossed a link is the log of the link's marks (`link_log`).
-    pub marks: Marks,
+    pub marks: MarkList,
     /// What the executed calls of all links added, in order.
     pub journal: Journal,
     /// What became of each call.

@@ -1,6 +1,8 @@
 //! The report of a run, by its marks and by what its links came to.
 
 ghost use Rattle.std.specs.Prelude.{◌≡◌, ℕ, ◌+◌, ◌-◌, ◌≤◌, ◌++◌, [], length, map, IfOk, OnOk, slice_get};
+ghost use Rattle.nr_reduce.specs.declared.mark.Mark.TheVariants as marks;
+ghost use Rattle.nr_marks.specs.Views.{mark_seen};
 ghost use Rattle.nr_script.specs.Limits.{clients_max};
 ghost use Rattle.nr_drill.specs.Headline.{log_of};
 ghost use Rattle.nr_drill.specs.LinkEnds.{ReportsRuns};
@@ -10,7 +12,8 @@ ghost use Rattle.nr_drill.specs.private.Drafts.{AddsToLog, AreCalls, AreNumbered
 use crate::draft::{Draft, draft_of, index};
 use crate::report::{CallReport, CallState, LinkEnds, LinkLog, LinkReport, LinkState, Report};
 use nr_link::End;
-use nr_reduce::{Entry, Mark, Marks, Sequence};
+use nr_marks::{MarkList, MarkLog, MarkView};
+use nr_reduce::{Entry, Mark, Sequence};
 use nr_wire::Side;
 use nr_xdr::{Memory, Octets};
 use std::alloc::Global;
@@ -101,8 +104,34 @@ fn settle(calls: &mut [CallReport], ends: &[LinkEnds])
     }
 }
 
+/// Adds bytes that a side of a link wrote to the log of a link.
+fn add_wrote(log: &mut LinkLog, link: u32, own: u32, side: Side, bytes: &[u8]) -> Result<(), Memory>
+    ensures { OnOk result (AddsToLog link (marks.Wrote own side bytes.now) log.old log.new) }
+{
+    if own != link {
+        return Ok(());
+    }
+    match side {
+        Side::Initiator => log.client_wrote.extend_from_slice(bytes),
+        Side::Responder => log.server_wrote.extend_from_slice(bytes),
+    }
+}
+
+/// Adds bytes that a side of a link was fed to the log of a link.
+fn add_fed(log: &mut LinkLog, link: u32, own: u32, side: Side, bytes: &[u8]) -> Result<(), Memory>
+    ensures { OnOk result (AddsToLog link (marks.Fed own side bytes.now) log.old log.new) }
+{
+    if own != link {
+        return Ok(());
+    }
+    match side {
+        Side::Initiator => log.client_was_fed.extend_from_slice(bytes),
+        Side::Responder => log.server_was_fed.extend_from_slice(bytes),
+    }
+}
+
 /// Adds a mark's bytes to the log of a link.
-fn add_to_log(log: &mut LinkLog, link: u32, mark: &Mark) -> Result<(), Memory>
+fn add_mark(log: &mut LinkLog, link: u32, mark: &Mark) -> Result<(), Memory>
     ensures { OnOk result (AddsToLog link mark.now log.old log.new) }
 {
     match mark {
@@ -110,28 +139,32 @@ fn add_to_log(log: &mut LinkLog, link: u32, mark: &Mark) -> Result<(), Memory>
             link: own,
             side,
             bytes,
-        } => {
-            if *own != link {
-                return Ok(());
-            }
-            match side {
-                Side::Initiator => log.client_wrote.extend_from_slice(bytes.as_slice()),
-                Side::Responder => log.server_wrote.extend_from_slice(bytes.as_slice()),
-            }
-        }
+        } => add_wrote(log, link, *own, *side, bytes.as_slice()),
         Mark::Fed {
             link: own,
             side,
             bytes,
-        } => {
-            if *own != link {
-                return Ok(());
-            }
-            match side {
-                Side::Initiator => log.client_was_fed.extend_from_slice(bytes.as_slice()),
-                Side::Responder => log.server_was_fed.extend_from_slice(bytes.as_slice()),
-            }
-        }
+        } => add_fed(log, link, *own, *side, bytes.as_slice()),
+        _ => Ok(()),
+    }
+}
+
+/// Adds the bytes of a mark that is read to the log of a link.
+fn add_to_log(log: &mut LinkLog, link: u32, mark: MarkView<'_>) -> Result<(), Memory>
+    ensures { OnOk result (AddsToLog link (mark_seen mark.entry) log.old log.new) }
+{
+    match mark {
+        MarkView::Wrote {
+            link: own,
+            side,
+            bytes,
+        } => add_wrote(log, link, own, side, bytes),
+        MarkView::Fed {
+            link: own,
+            side,
+            bytes,
+        } => add_fed(log, link, own, side, bytes),
+        MarkView::Other(mark) => add_mark(log, link, mark),
         _ => Ok(()),
     }
 }
@@ -141,7 +174,7 @@ fn add_to_log(log: &mut LinkLog, link: u32, mark: &Mark) -> Result<(), Memory>
 /// # Errors
 ///
 /// [`Memory`] if memory ran out.
-pub fn link_log(alloc: Global, marks: &[Mark], link: u32) -> Result<LinkLog, Memory>
+pub fn link_log(alloc: Global, marks: &MarkList, link: u32) -> Result<LinkLog, Memory>
     ensures { IfOk result (λ log. log ≡ log_of marks.now link) }
 {
     let mut log = LinkLog {
@@ -150,8 +183,8 @@ pub fn link_log(alloc: Global, marks: &[Mark], link: u32) -> Result<LinkLog, Mem
         client_was_fed: Octets::new(alloc),
         server_was_fed: Octets::new(alloc),
     };
-    for mark in marks {
-        add_to_log(&mut log, link, mark)?;
+    for at in 0..marks.len() {
+        add_to_log(&mut log, link, marks.mark(at))?;
     }
     Ok(log)
 }
@@ -167,7 +200,7 @@ struct ReportParts {
 /// The call lines, and the entries of the journal.
 fn calls_of(
     alloc: Global,
-    marks: &[Mark],
+    marks: &MarkList,
     ends: &[LinkEnds],
 ) -> Result<(Vec<CallReport>, Vec<Entry>), Memory>
     requires { length ends.now ≤ clients_max }
@@ -183,7 +216,7 @@ fn calls_of(
 }
 
 /// What a report says beside its marks.
-fn report_parts(alloc: Global, marks: &[Mark], ends: &[LinkEnds]) -> Result<ReportParts, Memory>
+fn report_parts(alloc: Global, marks: &MarkList, ends: &[LinkEnds]) -> Result<ReportParts, Memory>
     requires { length ends.now ≤ clients_max }
     ensures calls { IfOk result (λ told. AreNumbered (length ends.now) marks.now → AreCalls marks.now ends.now told.calls.items told.journal.items) }
     ensures links { IfOk result (λ told. told.links.items ≡ link_reports_from 1 ends.now) }
@@ -202,13 +235,17 @@ fn report_parts(alloc: Global, marks: &[Mark], ends: &[LinkEnds]) -> Result<Repo
 /// # Errors
 ///
 /// [`Memory`] if memory ran out.
-pub fn report_of(alloc: Global, marks: Marks, ends: &[LinkEnds]) -> Result<Report, Memory>
+pub fn report_of(alloc: Global, marks: MarkLog, ends: &[LinkEnds]) -> Result<Report, Memory>
     requires { length ends.now ≤ clients_max }
     ensures marks { IfOk result (λ report. report.marks ≡ marks) }
     // Of the run of a drill whose links came to that it says what its marks say.
     ensures reports { IfOk result (λ report. ReportsRuns marks ends.now report) }
 {
-    match report_parts(alloc, marks.as_slice(), ends) {
+    let marks = match marks.finish() {
+        Ok(marks) => marks,
+        Err(memory) => return Err(memory),
+    };
+    match report_parts(alloc, &marks, ends) {
         Ok(
             ReportParts {
                 journal,
@@ -221,6 +258,9 @@ pub fn report_of(alloc: Global, marks: Marks, ends: &[LinkEnds]) -> Result<Repor
             calls: Sequence::from_vec(calls),
             links: Sequence::from_vec(links),
         }),
-        Err(e) => Err(e),
+        Err(e) => {
+            drop(marks);
+            Err(e)
+        }
     }
 }

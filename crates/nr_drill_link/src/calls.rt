@@ -20,6 +20,7 @@ use crate::awaited::AwaitedCall;
 use crate::copying::{copy_call, copy_form};
 use crate::draining::{add_mark, add_submit};
 use crate::link::DrillLink;
+use nr_marks::MarkLog;
 use nr_reduce::{Call, Form, Mark, Refused, Submission};
 use nr_requester::{Buffers, Requester, Ticket};
 use nr_xdr::{Memory, Octets};
@@ -189,9 +190,9 @@ impl DrillLink {
 
     /// Submits a call, and writes what is due. On a dropped link it is answered with Dropped.
     #[tactic(none)]
-    pub fn submit(&mut self, marks: &mut Vec<Mark>, call: Call, form: Form) -> Result<(), Memory>
+    pub fn submit(&mut self, marks: &mut MarkLog, call: Call, form: Form) -> Result<(), Memory>
         requires { CanWriteCred call.cred }
-        ensures { OnOk result (Goes (λ s link. after_submit s link call form) self.old self.new marks.old.items marks.new.items) }
+        ensures { OnOk result (Goes (λ s link. after_submit s link call form) self.old self.new marks.old marks.new) }
     {
         let answer = match self.answer(&call, &form) {
             Ok(answer) => answer,
@@ -204,8 +205,8 @@ impl DrillLink {
     }
 
     /// Gives up the answer to the call of this call line, if it is open.
-    pub fn forget(&mut self, marks: &mut Vec<Mark>, number: u32) -> Result<(), Memory>
-        ensures { OnOk result (Goes (λ s link. after_forget s link number) self.old self.new marks.old.items marks.new.items) }
+    pub fn forget(&mut self, marks: &mut MarkLog, number: u32) -> Result<(), Memory>
+        ensures { OnOk result (Goes (λ s link. after_forget s link number) self.old self.new marks.old marks.new) }
     {
         if self.dropped {
             return Ok(());
@@ -228,8 +229,8 @@ impl DrillLink {
     }
 
     /// Revokes the memory of the call of this call line, if it is open; then what is due is written.
-    pub fn revoke(&mut self, marks: &mut Vec<Mark>, number: u32) -> Result<(), Memory>
-        ensures { OnOk result (Goes (λ s link. after_revoke s link number) self.old self.new marks.old.items marks.new.items) }
+    pub fn revoke(&mut self, marks: &mut MarkLog, number: u32) -> Result<(), Memory>
+        ensures { OnOk result (Goes (λ s link. after_revoke s link number) self.old self.new marks.old marks.new) }
     {
         if self.dropped {
             return Ok(());

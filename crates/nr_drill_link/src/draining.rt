@@ -8,6 +8,7 @@ ghost use Rattle.nr_requester.specs.Fed.{fed_bytes as client_fed_bytes};
 ghost use Rattle.nr_requester.specs.OpenCalls.{KeepsTickets};
 ghost use Rattle.nr_drill_link.specs.Steps.{ClientWrites, ServerWrites};
 
+use nr_marks::MarkLog;
 use nr_outside::{MemSink, Pipe, Sink};
 use nr_reduce::{Boxed, Call, Form, Mark, Outcome, Submission};
 use nr_requester::Requester;
@@ -64,8 +65,8 @@ pub(crate) fn skip_next(alloc: Global, pipe: &mut Pipe, most: usize)
 }
 
 /// Adds a mark to those of the drill.
-pub(crate) fn add_mark(marks: &mut Vec<Mark>, mark: Mark) -> Result<(), Memory>
-    ensures { OnOk result (marks.new.items ≡ marks.old.items ++ mark ∷ []) }
+pub(crate) fn add_mark(marks: &mut MarkLog, mark: Mark) -> Result<(), Memory>
+    ensures { OnOk result (marks.new ≡ marks.old ++ mark ∷ []) }
 {
     match marks.push(mark) {
         Ok(()) => Ok(()),
@@ -79,13 +80,13 @@ pub(crate) fn add_mark(marks: &mut Vec<Mark>, mark: Mark) -> Result<(), Memory>
 /// Adds the mark of a call line: its call, how it was to be sent, and the client's answer.
 pub(crate) fn add_submit(
     alloc: Global,
-    marks: &mut Vec<Mark>,
+    marks: &mut MarkLog,
     link: u32,
     call: Call,
     form: Form,
     answer: Submission,
 ) -> Result<(), Memory>
-    ensures { OnOk result (marks.new.items ≡ marks.old.items ++ mark_kinds.Submit link call form answer ∷ []) }
+    ensures { OnOk result (marks.new ≡ marks.old ++ mark_kinds.Submit link call form answer ∷ []) }
 {
     let Ok(call) = Boxed::new(alloc, call) else {
         drop(form);
@@ -108,74 +109,15 @@ pub(crate) fn add_submit(
     }
 }
 
-/// These bytes, without the room that they were made in.
-fn without_room(alloc: Global, bytes: Octets) -> Result<Octets, Memory>
-    ensures { IfOk result (λ exact. exact ≡ bytes) }
-{
-    Octets::from_slice(alloc, bytes.as_slice())
-}
-
-/// This mark, whose reply keeps no room after it: a reply is made in a room for the longest one.
-fn trimmed(alloc: Global, mark: Mark) -> Result<Mark, Memory>
-    ensures { IfOk result (λ trimmed. trimmed ≡ mark) }
-{
-    match mark {
-        Mark::Execute {
-            link,
-            xid,
-            moment,
-            payload,
-            place,
-            reply,
-        } => match without_room(alloc, reply) {
-            Ok(reply) => Ok(Mark::Execute {
-                link,
-                xid,
-                moment,
-                payload,
-                place,
-                reply,
-            }),
-            Err(memory) => {
-                drop(payload);
-                Err(memory)
-            }
-        },
-        Mark::Done {
-            link,
-            xid,
-            outcome: Outcome::Reply(reply),
-        } => match without_room(alloc, reply) {
-            Ok(reply) => Ok(Mark::Done {
-                link,
-                xid,
-                outcome: Outcome::Reply(reply),
-            }),
-            Err(memory) => Err(memory),
-        },
-        mark => Ok(mark),
-    }
-}
-
-/// Adds a mark with a reply to those of the drill.
-pub(crate) fn add_reply(alloc: Global, marks: &mut Vec<Mark>, mark: Mark) -> Result<(), Memory>
-    ensures { OnOk result (marks.new.items ≡ marks.old.items ++ mark ∷ []) }
-{
-    match trimmed(alloc, mark) {
-        Ok(mark) => add_mark(marks, mark),
-        Err(memory) => Err(memory),
-    }
-}
-
 /// Puts what an end wrote after the bytes that wait in its pipe, and adds the mark of it.
 pub(crate) fn put_output(
     pipe: &mut Pipe,
-    marks: &mut Vec<Mark>,
+    marks: &mut MarkLog,
     link: u32,
     side: Side,
     bytes: Octets,
 ) -> Result<(), Memory>
-    ensures { OnOk result ((waiting_bytes pipe.new ≡ waiting_bytes pipe.old ++ bytes) × (marks.new.items ≡ marks.old.items ++ mark_kinds.Wrote link side bytes ∷ [])) }
+    ensures { OnOk result ((waiting_bytes pipe.new ≡ waiting_bytes pipe.old ++ bytes) × (marks.new ≡ marks.old ++ mark_kinds.Wrote link side bytes ∷ [])) }
 {
     match put(pipe, bytes.as_slice()) {
         Ok(()) => add_mark(marks, Mark::Wrote { link, side, bytes }),

@@ -13,6 +13,7 @@ ghost use Rattle.nr_drill_link.specs.Steps.{Goes, IsFresh, Opens};
 use crate::awaited::AwaitedCall;
 use crate::draining::{add_mark, put};
 use nr_link::End;
+use nr_marks::MarkLog;
 use nr_outside::Pipe;
 use nr_reduce::Mark;
 use nr_requester::Requester;
@@ -71,11 +72,11 @@ impl DrillLink {
     /// Opens a link with this number: each end is fed the complete hello of the other.
     pub fn open(
         alloc: Global,
-        marks: &mut Vec<Mark>,
+        marks: &mut MarkLog,
         number: u32,
         credits: u32,
     ) -> Result<DrillLink, Memory>
-        ensures { IfOk result (λ v. Opens number credits v marks.old.items marks.new.items) }
+        ensures { IfOk result (λ v. Opens number credits v marks.old marks.new) }
     {
         let mut link = DrillLink::fresh(alloc, number, credits)?;
         match link.exchange(marks) {
@@ -116,8 +117,8 @@ impl DrillLink {
 
     /// Both ends write their hellos, and each is fed that of the other.
     #[tactic(none)]
-    fn exchange(&mut self, marks: &mut Vec<Mark>) -> Result<(), Memory>
-        ensures { OnOk result (Goes after_opening self.old self.new marks.old.items marks.new.items) }
+    fn exchange(&mut self, marks: &mut MarkLog) -> Result<(), Memory>
+        ensures { OnOk result (Goes after_opening self.old self.new marks.old marks.new) }
     {
         match self.settle(marks) {
             Ok(()) => match self.all_up(marks) {
@@ -130,8 +131,8 @@ impl DrillLink {
 
     /// Drops the link: what is in transit is lost, and so is what is written later.
     #[tactic(none)]
-    pub fn drop_link(&mut self, marks: &mut Vec<Mark>) -> Result<(), Memory>
-        ensures { OnOk result (Goes (λ s link. after_drop link) self.old self.new marks.old.items marks.new.items) }
+    pub fn drop_link(&mut self, marks: &mut MarkLog) -> Result<(), Memory>
+        ensures { OnOk result (Goes (λ s link. after_drop link) self.old self.new marks.old marks.new) }
     {
         self.up = Pipe::new(self.alloc);
         self.down = Pipe::new(self.alloc);

@@ -8,6 +8,7 @@ ghost use Rattle.nr_drill_link.specs.Steps.{Goes};
 use crate::draining::{add_mark, skip_next};
 use crate::link::{DrillLink, FED_MAX};
 use nr_link::End;
+use nr_marks::MarkLog;
 use nr_reduce::Mark;
 use nr_wire::Side;
 use nr_xdr::{Memory, Octets};
@@ -29,8 +30,8 @@ fn ran_out(fed: Result<(), End>) -> bool
 impl DrillLink {
     /// Feeds the server the next bytes that wait for it, at most `most`, if there are any.
     #[tactic(none)]
-    fn feed_up(&mut self, marks: &mut Vec<Mark>, most: usize) -> Result<(), Memory>
-        ensures { OnOk result (Goes (λ s link. after_feeding_up link most) self.old self.new marks.old.items marks.new.items) }
+    fn feed_up(&mut self, marks: &mut MarkLog, most: usize) -> Result<(), Memory>
+        ensures { OnOk result (Goes (λ s link. after_feeding_up link most) self.old self.new marks.old marks.new) }
     {
         let piece = self.up.peek(most);
         if piece.is_empty() {
@@ -58,8 +59,8 @@ impl DrillLink {
 
     /// Feeds the server the next bytes that wait for it, at most `most`; then what is due is written.
     #[tactic(none)]
-    pub fn up(&mut self, marks: &mut Vec<Mark>, most: usize) -> Result<(), Memory>
-        ensures { OnOk result (Goes (λ s link. after_up s link most) self.old self.new marks.old.items marks.new.items) }
+    pub fn up(&mut self, marks: &mut MarkLog, most: usize) -> Result<(), Memory>
+        ensures { OnOk result (Goes (λ s link. after_up s link most) self.old self.new marks.old marks.new) }
     {
         match self.feed_up(marks, most) {
             Ok(()) => self.settle(marks),
@@ -69,8 +70,8 @@ impl DrillLink {
 
     /// Feeds the client the next bytes that wait for it, at most `most`, if there are any.
     #[tactic(none)]
-    fn feed_down(&mut self, marks: &mut Vec<Mark>, most: usize) -> Result<(), Memory>
-        ensures { OnOk result (Goes (λ s link. after_feeding_down link most) self.old self.new marks.old.items marks.new.items) }
+    fn feed_down(&mut self, marks: &mut MarkLog, most: usize) -> Result<(), Memory>
+        ensures { OnOk result (Goes (λ s link. after_feeding_down link most) self.old self.new marks.old marks.new) }
     {
         let piece = self.down.peek(most);
         if piece.is_empty() {
@@ -98,8 +99,8 @@ impl DrillLink {
 
     /// Feeds the client the next bytes that wait for it, at most `most`, and hands over the outcomes that are due.
     #[tactic(none)]
-    fn feed_and_hand_over(&mut self, marks: &mut Vec<Mark>, most: usize) -> Result<(), Memory>
-        ensures { OnOk result (Goes (λ s link d. after_outcomes s link (after_feeding_down link most d)) self.old self.new marks.old.items marks.new.items) }
+    fn feed_and_hand_over(&mut self, marks: &mut MarkLog, most: usize) -> Result<(), Memory>
+        ensures { OnOk result (Goes (λ s link d. after_outcomes s link (after_feeding_down link most d)) self.old self.new marks.old marks.new) }
     {
         match self.feed_down(marks, most) {
             Ok(()) => self.hand_over(marks),
@@ -110,8 +111,8 @@ impl DrillLink {
     /// Feeds the client the next bytes that wait for it, at most `most`, and hands over the outcomes that are due; then what is due is
     /// written.
     #[tactic(none)]
-    pub fn down(&mut self, marks: &mut Vec<Mark>, most: usize) -> Result<(), Memory>
-        ensures { OnOk result (Goes (λ s link. after_down s link most) self.old self.new marks.old.items marks.new.items) }
+    pub fn down(&mut self, marks: &mut MarkLog, most: usize) -> Result<(), Memory>
+        ensures { OnOk result (Goes (λ s link. after_down s link most) self.old self.new marks.old marks.new) }
     {
         match self.feed_and_hand_over(marks, most) {
             Ok(()) => self.settle(marks),
@@ -121,8 +122,8 @@ impl DrillLink {
 
     /// Feeds the server all bytes that wait for it; then what is due is written.
     #[tactic(none)]
-    pub(crate) fn all_up(&mut self, marks: &mut Vec<Mark>) -> Result<(), Memory>
-        ensures { OnOk result (Goes after_all_up self.old self.new marks.old.items marks.new.items) }
+    pub(crate) fn all_up(&mut self, marks: &mut MarkLog) -> Result<(), Memory>
+        ensures { OnOk result (Goes after_all_up self.old self.new marks.old marks.new) }
     {
         let most = self.up.waiting();
         self.up(marks, most)
@@ -130,8 +131,8 @@ impl DrillLink {
 
     /// Feeds the client all bytes that wait for it, hands over the outcomes that are due, and writes what is due.
     #[tactic(none)]
-    pub(crate) fn all_down(&mut self, marks: &mut Vec<Mark>) -> Result<(), Memory>
-        ensures { OnOk result (Goes after_all_down self.old self.new marks.old.items marks.new.items) }
+    pub(crate) fn all_down(&mut self, marks: &mut MarkLog) -> Result<(), Memory>
+        ensures { OnOk result (Goes after_all_down self.old self.new marks.old marks.new) }
     {
         let most = self.down.waiting();
         self.down(marks, most)

@@ -9,8 +9,9 @@ ghost use Rattle.nr_drill_link.specs.private.HandsOver.{TakesOutcome, HandsAt};
 ghost use Rattle.nr_drill_link.specs.Steps.{Goes};
 
 use crate::awaited::AwaitedCall;
-use crate::draining::add_reply;
+use crate::draining::add_mark;
 use crate::link::DrillLink;
+use nr_marks::MarkLog;
 use nr_reduce::{Mark, Outcome};
 use nr_requester::{Done, Requester, Take, Ticket};
 use nr_xdr::Memory;
@@ -42,10 +43,10 @@ fn take_outcome(client: &mut Requester, ticket: Ticket) -> Outcome
 impl DrillLink {
     /// Hands over the outcome of the awaited call at this place, which has come.
     #[tactic(none)]
-    fn complete(&mut self, marks: &mut Vec<Mark>, at: usize) -> Result<(), Memory>
+    fn complete(&mut self, marks: &mut MarkLog, at: usize) -> Result<(), Memory>
         requires there { at < length self.old.awaited }
         requires came { (line : AwaitedLine) → is_some (found_answer (get_or self.old.awaited at line).xid self.old.client.state) ≡ true }
-        ensures { OnOk result (HandsAt at self.old self.new marks.old.items marks.new.items) }
+        ensures { OnOk result (HandsAt at self.old self.new marks.old marks.new) }
     {
         let AwaitedCall { ticket, .. } = self.awaited.remove(at);
         let xid = ticket.xid();
@@ -55,13 +56,13 @@ impl DrillLink {
             xid,
             outcome,
         };
-        add_reply(self.alloc, marks, done)
+        add_mark(marks, done)
     }
 
     /// Hands over the outcomes that are due, in the order in which their calls were made.
     #[tactic(none)]
-    pub(crate) fn hand_over(&mut self, marks: &mut Vec<Mark>) -> Result<(), Memory>
-        ensures { OnOk result (Goes after_outcomes self.old self.new marks.old.items marks.new.items) }
+    pub(crate) fn hand_over(&mut self, marks: &mut MarkLog) -> Result<(), Memory>
+        ensures { OnOk result (Goes after_outcomes self.old self.new marks.old marks.new) }
     {
         let mut at = 0;
         'calls: while at < self.awaited.len() {

@@ -7,8 +7,9 @@ ghost use Rattle.nr_responder.specs.Sound.{IsNext};
 ghost use Rattle.nr_drill.specs.Drill.{after_work, after_all_work, after_moves};
 ghost use Rattle.nr_drill_link.specs.Steps.{Executes, Works};
 
-use crate::draining::add_reply;
+use crate::draining::add_mark;
 use crate::link::DrillLink;
+use nr_marks::MarkLog;
 use nr_outside::Moment;
 use nr_plain::{Reply, Server};
 use nr_reduce::Mark;
@@ -27,7 +28,7 @@ impl DrillLink {
     #[tactic(none)]
     fn execute(
         &mut self,
-        marks: &mut Vec<Mark>,
+        marks: &mut MarkLog,
         server: &mut Server,
         seconds: u32,
         call: CallId,
@@ -35,7 +36,7 @@ impl DrillLink {
         requires standing { self.old.is_dropped ≡ false }
         requires live { end_of self.old.server ≡ None }
         requires next { IsNext self.old.server call }
-        ensures { OnOk result (Executes seconds self.old self.new marks.old.items marks.new.items server.old server.new) }
+        ensures { OnOk result (Executes seconds self.old self.new marks.old marks.new server.old server.new) }
     {
         let Ok(payload) = Octets::from_slice(self.alloc, self.server.payload(&call)) else {
             return Err(Memory);
@@ -61,18 +62,18 @@ impl DrillLink {
             place,
             reply,
         };
-        add_reply(self.alloc, marks, executed)
+        add_mark(marks, executed)
     }
 
     /// Executes the next complete call at this second, if there is one and the link isn't dropped, and writes the answer.
     #[tactic(none)]
     pub fn work(
         &mut self,
-        marks: &mut Vec<Mark>,
+        marks: &mut MarkLog,
         server: &mut Server,
         seconds: u32,
     ) -> Result<(), Memory>
-        ensures { OnOk result (Works after_work seconds self.old self.new marks.old.items marks.new.items server.old server.new) }
+        ensures { OnOk result (Works after_work seconds self.old self.new marks.old marks.new server.old server.new) }
     {
         if self.dropped {
             return Ok(());
@@ -90,11 +91,11 @@ impl DrillLink {
     #[tactic(none)]
     fn all_work(
         &mut self,
-        marks: &mut Vec<Mark>,
+        marks: &mut MarkLog,
         server: &mut Server,
         seconds: u32,
     ) -> Result<(), Memory>
-        ensures { OnOk result (Works after_all_work seconds self.old self.new marks.old.items marks.new.items server.old server.new) }
+        ensures { OnOk result (Works after_all_work seconds self.old self.new marks.old marks.new server.old server.new) }
     {
         let unanswered = self.server.unanswered();
         for _at in 0..unanswered {
@@ -110,11 +111,11 @@ impl DrillLink {
     #[tactic(none)]
     pub fn moves(
         &mut self,
-        marks: &mut Vec<Mark>,
+        marks: &mut MarkLog,
         server: &mut Server,
         seconds: u32,
     ) -> Result<(), Memory>
-        ensures { OnOk result (Works after_moves seconds self.old self.new marks.old.items marks.new.items server.old server.new) }
+        ensures { OnOk result (Works after_moves seconds self.old self.new marks.old marks.new server.old server.new) }
     {
         match self.all_up(marks) {
             Ok(()) => {}

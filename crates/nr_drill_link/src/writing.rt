@@ -7,6 +7,7 @@ ghost use Rattle.nr_drill_link.specs.Steps.{Goes};
 
 use crate::draining::{client_output, put_output, server_output};
 use crate::link::DrillLink;
+use nr_marks::MarkLog;
 use nr_reduce::Mark;
 use nr_wire::Side;
 use nr_xdr::Memory;
@@ -14,8 +15,8 @@ use nr_xdr::Memory;
 impl DrillLink {
     /// The client writes what it has to write, if anything.
     #[tactic(none)]
-    fn write_up(&mut self, marks: &mut Vec<Mark>) -> Result<(), Memory>
-        ensures { OnOk result (Goes (λ s link. after_all_output s link Initiator) self.old self.new marks.old.items marks.new.items) }
+    fn write_up(&mut self, marks: &mut MarkLog) -> Result<(), Memory>
+        ensures { OnOk result (Goes (λ s link. after_all_output s link Initiator) self.old self.new marks.old marks.new) }
     {
         let bytes = match client_output(self.alloc, &mut self.client) {
             Ok(bytes) => bytes,
@@ -29,8 +30,8 @@ impl DrillLink {
 
     /// The server writes what it has to write, if anything.
     #[tactic(none)]
-    fn write_down(&mut self, marks: &mut Vec<Mark>) -> Result<(), Memory>
-        ensures { OnOk result (Goes (λ s link. after_all_output s link ResponderSide) self.old self.new marks.old.items marks.new.items) }
+    fn write_down(&mut self, marks: &mut MarkLog) -> Result<(), Memory>
+        ensures { OnOk result (Goes (λ s link. after_all_output s link ResponderSide) self.old self.new marks.old marks.new) }
     {
         let bytes = match server_output(self.alloc, &mut self.server) {
             Ok(bytes) => bytes,
@@ -44,8 +45,8 @@ impl DrillLink {
 
     /// Both ends write what they have to write, the client first.
     #[tactic(none)]
-    pub(crate) fn settle(&mut self, marks: &mut Vec<Mark>) -> Result<(), Memory>
-        ensures { OnOk result (Goes settled self.old self.new marks.old.items marks.new.items) }
+    pub(crate) fn settle(&mut self, marks: &mut MarkLog) -> Result<(), Memory>
+        ensures { OnOk result (Goes settled self.old self.new marks.old marks.new) }
     {
         match self.write_up(marks) {
             Ok(()) => self.write_down(marks),

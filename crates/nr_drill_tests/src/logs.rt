@@ -2,6 +2,7 @@
 
 use crate::compare::same;
 use nr_drill::{LinkLog, link_log};
+use nr_marks::MarkLog;
 use nr_reduce::Mark;
 use nr_wire::Side;
 use nr_xdr::Octets;
@@ -30,14 +31,15 @@ fn mark_of(link: u32, is_fed: bool, side: Side, bytes: Octets) -> Mark {
 }
 
 fn log_of(rt: &impl Abort, alloc: Global, link: u32) -> LinkLog {
-    let mut marks = Vec::new(alloc);
+    let mut marks = MarkLog::new(alloc);
     for (link, is_fed, side, bytes) in ROWS.iter() {
         let bytes = Octets::from_slice(alloc, bytes).expect(rt, "memory");
         marks
             .push(mark_of(*link, *is_fed, *side, bytes))
             .expect(rt, "memory");
     }
-    link_log(alloc, marks.as_slice(), link).expect(rt, "memory")
+    let marks = marks.finish().expect(rt, "memory");
+    link_log(alloc, &marks, link).expect(rt, "memory")
 }
 
 fn part_of(rt: &impl Abort, alloc: Global, part: usize) -> Vec<u8> {

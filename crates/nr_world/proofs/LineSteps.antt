@@ -86,7 +86,7 @@ clock_of w line more e (tree, opening, d, stands, within) =
 -- a world with another clock, or with other credentials
 pub record IsAfterLine (w n : World) : Type 0 where
   pub links : n.links.items ≡ w.links.items
-  pub marks : n.marks.items ≡ w.marks.items
+  pub marks : n.marks ≡ w.marks
   pub server : n.server ≡ w.server
 
 others_same : (tree : Tree) (opening : Opening) (seconds : ℕ) (all : List Cred) (d : Drill) (w n : World) → WorldStands tree opening d w → IsAfterLine w n → n.seconds ≡ seconds → n.creds.items ≡ all →
@@ -201,7 +201,7 @@ line_within w all at e lt (tree, opening, d, stands, within) =
 pub more_marks : (w n : World) (still : Bool) → still ≡ false → CanMake lines.Drain w →
     ((tree : Tree) (opening : Opening) (d : Drill) → WorldStands tree opening d w → still ≡ list_all (is_still (drill_setting tree opening) d) (links_of opening.clients)) →
     ((tree : Tree) (opening : Opening) (d : Drill) → WorldStands tree opening d w → WorldStands tree opening (after_round (drill_setting tree opening) (links_of opening.clients) d) n) →
-    length w.marks.items < length n.marks.items
+    length w.marks < length n.marks
 more_marks w n still moves (tree, opening, d, stands, within) are round =
     let s = drill_setting tree opening in
     let new = round tree opening d stands in

@@ -50,7 +50,7 @@ ends_all w ends at le so_far tree opening d h =
     let none : map f (range_with_len (at + 1) (opening.clients - at)) ≡ [] = ap (λ (links : List ℕ). map f links) (no_links opening.clients at (omega (arith, le, h.count))) in
     sym (append-nil ends) ∙ sym (ap (λ (xs : List LinkEnds). ends ++ xs) none) ∙ so_far tree opening d h
 
-pub tells_world : (w : World) (run : List Mark) (ends : List LinkEnds) (report : Report) → run ≡ w.marks.items → AreEndsOf w ends → ReportsRuns run ends report → ReportsWorld w report
+pub tells_world : (w : World) (run : List Mark) (ends : List LinkEnds) (report : Report) → run ≡ w.marks → AreEndsOf w ends → ReportsRuns run ends report → ReportsWorld w report
 tells_world w run ends report same are tells tree script d h is drill =
     let s = server_of (drill_setup tree script.opening) in
     let run_is : run ≡ d.marks = same ∙ h.marks in

@@ -42,7 +42,7 @@ link_of_client tree opening opened d w client v h is e =
     subst (LinkStands (drill_setting tree opening) client d) (sym e) (h.links client v is.0 (omega (arith, h.count, is.1)))
 
 pub stands_at : (tree : Tree) (opening : Opening) (opened : ℕ) (d : Drill) (w : World) (client : ℕ) (v : DrillLinkState) → HasOpened tree opening opened d w → IsClient (length w.links.items) client →
-    v ≡ slice_index_or w.links.items (client - 1) v → StandsAt (drill_setting tree opening) client d v w.marks.items
+    v ≡ slice_index_or w.links.items (client - 1) v → StandsAt (drill_setting tree opening) client d v w.marks
 stands_at tree opening opened d w client v h is e = record {
   stands = link_of_client tree opening opened d w client v h is e;
   marks = h.marks;
@@ -76,7 +76,7 @@ pub record IsAfterStep (w : World) (client : ℕ) (v : DrillLinkState) (n : Worl
   pub creds : n.creds.items ≡ w.creds.items
 
 pub world_steps : (tree : Tree) (opening : Opening) (opened client : ℕ) (d new : Drill) (w n : World) (v : DrillLinkState) → HasOpened tree opening opened d w → IsClient (length w.links.items) client →
-    Extends client d new → new.seconds ≡ d.seconds → IsAfterStep w client v n → StandsAt (drill_setting tree opening) client new v n.marks.items → ServerStands (drill_setup tree opening) new n.server →
+    Extends client d new → new.seconds ≡ d.seconds → IsAfterStep w client v n → StandsAt (drill_setting tree opening) client new v n.marks → ServerStands (drill_setup tree opening) new n.server →
     HasOpened tree opening opened new n
 world_steps tree opening opened client d new w n v h is x clock a at server = record {
   count = ap length a.links ∙ length-set w.links.items (client - 1) v ∙ h.count;
@@ -96,7 +96,7 @@ abbrev pub IsQuiet : (Setting → ℕ → Drill → Drill) → Type 0
 IsQuiet step = (s : Setting) (link : ℕ) (d : Drill) → Extends link d (step s link d) × Leaves s d (step s link d)
 
 pub world_goes : (step : Setting → ℕ → Drill → Drill) → IsQuiet step → (client : ℕ) (w n : World) (before after : DrillLinkState) → before ≡ slice_index_or w.links.items (client - 1) before → IsClient (length w.links.items) client →
-    IsAfterStep w client after n → n.server ≡ w.server → Goes step before after w.marks.items n.marks.items → Steps (λ s d. step s client d) w n
+    IsAfterStep w client after n → n.server ≡ w.server → Goes step before after w.marks n.marks → Steps (λ s d. step s client d) w n
 world_goes step quiet client w n before after e is a same goes tree opening d h =
     let s = drill_setting tree opening in
     let both = quiet s client d in
@@ -111,7 +111,7 @@ abbrev pub KeepsClock : (Setting → ℕ → Drill → Drill) → Type 0
 KeepsClock step = (s : Setting) (link : ℕ) (d : Drill) → Extends link d (step s link d) × ((step s link d).seconds ≡ d.seconds)
 
 pub world_works : (step : Setting → ℕ → Drill → Drill) → KeepsClock step → (client : ℕ) (w n : World) (before after : DrillLinkState) → before ≡ slice_index_or w.links.items (client - 1) before → IsClient (length w.links.items) client →
-    IsAfterStep w client after n → Works step w.seconds before after w.marks.items n.marks.items w.server n.server → Steps (λ s d. step s client d) w n
+    IsAfterStep w client after n → Works step w.seconds before after w.marks n.marks w.server n.server → Steps (λ s d. step s client d) w n
 world_works step quiet client w n before after e is a works tree opening d h =
     let s = drill_setting tree opening in
     let both = quiet s client d in

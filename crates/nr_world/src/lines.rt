@@ -21,6 +21,7 @@ impl World {
     {
         while !self.is_still() {
             self.round()?;
+            self.marks.facts();
         }
         Ok(())
     }

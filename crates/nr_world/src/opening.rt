@@ -7,6 +7,7 @@ ghost use Rattle.nr_world.specs.private.Opened.{IsDrillServer, HasOpenLinks, IsS
 
 use crate::world::World;
 use nr_drill_link::DrillLink;
+use nr_marks::MarkLog;
 use nr_nfs_base::Verifier;
 use nr_plain::Server;
 use nr_rpc::Cred;
@@ -56,7 +57,7 @@ impl World {
         match drill_server(alloc, opening) {
             Ok(server) => Ok(World {
                 links: Vec::new(alloc),
-                marks: Vec::new(alloc),
+                marks: MarkLog::new(alloc),
                 server,
                 seconds: 0,
                 creds,

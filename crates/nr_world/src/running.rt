@@ -7,7 +7,6 @@ ghost use Rattle.nr_world.specs.private.Results.{AreEndsOf, ReportsWorld};
 
 use crate::world::World;
 use nr_drill::{LinkEnds, Report, report_of};
-use nr_reduce::Marks;
 use nr_script::Script;
 use nr_xdr::Memory;
 use std::alloc::Global;
@@ -37,7 +36,7 @@ impl World {
     {
         let mut ends = Vec::new(alloc);
         match self.push_ends(&mut ends) {
-            Ok(()) => report_of(alloc, Marks::from_vec(self.marks), ends.as_slice()),
+            Ok(()) => report_of(alloc, self.marks, ends.as_slice()),
             Err(memory) => Err(memory),
         }
     }

@@ -1,8 +1,8 @@
 //! A drill that runs.
 
 use nr_drill_link::DrillLink;
+use nr_marks::MarkLog;
 use nr_plain::Server;
-use nr_reduce::Mark;
 use nr_rpc::Cred;
 
 /// A drill that runs. Links and credentials are in the order of the clients.
@@ -10,7 +10,7 @@ use nr_rpc::Cred;
 pub(crate) struct World {
     pub(crate) links: Vec<DrillLink>,
     // What happened so far.
-    pub(crate) marks: Vec<Mark>,
+    pub(crate) marks: MarkLog,
     pub(crate) server: Server,
     // What the clock shows.
     pub(crate) seconds: u32,

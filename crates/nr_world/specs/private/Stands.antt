@@ -23,7 +23,7 @@ drill_setting tree opening = setting_of (server_of (drill_setup tree opening)) o
 pub record HasOpened (tree : Tree) (opening : Opening) (opened : ℕ) (d : Drill) (w : World) : Type 0 where
   pub count : length w.links.items ≡ opened
   pub links : (link : ℕ) (v : DrillLinkState) → 1 ≤ link → link ≤ opened → LinkStands (drill_setting tree opening) link d (slice_index_or w.links.items (link - 1) v)
-  pub marks : w.marks.items ≡ d.marks
+  pub marks : w.marks ≡ d.marks
   pub replies : RepliedInBytes d.marks
   pub seconds : w.seconds ≡ d.seconds
   pub creds : w.creds.items ≡ d.creds

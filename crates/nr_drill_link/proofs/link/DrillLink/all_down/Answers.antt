@@ -7,7 +7,7 @@ use Rattle.nr_drill_link.proofs.link.DrillLink.all_down.Goals as goal
 pub returns : goal.returns
 returns c =
     on_ok c.down.result _ _
-    (λ goes. all_down_goes c.args.self.now c.down.new.self c.args.marks.now.items c.down.new.marks.items c.self.inside.down.log c.self.inside.down.place c.waiting-most.result
+    (λ goes. all_down_goes c.args.self.now c.down.new.self c.args.marks.now c.down.new.marks c.self.inside.down.log c.self.inside.down.place c.waiting-most.result
     (ap (λ (v : DrillLinkState). v.pipes.down) (sym c.self.view_is)) c.waiting-most.ensures goes)
     c.down.ensures
 

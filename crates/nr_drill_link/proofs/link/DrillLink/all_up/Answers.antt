@@ -7,7 +7,7 @@ use Rattle.nr_drill_link.proofs.link.DrillLink.all_up.Goals as goal
 pub returns : goal.returns
 returns c =
     on_ok c.up.result _ _
-    (λ goes. all_up_goes c.args.self.now c.up.new.self c.args.marks.now.items c.up.new.marks.items c.self.inside.up.log c.self.inside.up.place c.waiting-most.result
+    (λ goes. all_up_goes c.args.self.now c.up.new.self c.args.marks.now c.up.new.marks c.self.inside.up.log c.self.inside.up.place c.waiting-most.result
     (ap (λ (v : DrillLinkState). v.pipes.up) (sym c.self.view_is)) c.waiting-most.ensures goes)
     c.up.ensures
 

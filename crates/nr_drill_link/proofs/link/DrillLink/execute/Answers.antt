@@ -40,9 +40,9 @@ invariant_of-self-2 c = server_fed_same _ c.self.inside.server.side.link c.answe
 pub returns : goal.returns
 returns c =
     let done : is_err c.answer.result ≡ false = sym c.is_err.ensures.value ∙ c.if-is_err.false in
-    on_ok c.add_reply.result _ _
-    (λ more. executes_code c.args.seconds _ c.args.self.now c.answer.new.self.side c.args.marks.now.items _ c.args.server.now c.execute.new.self c.args.call _ _ _ _ _ _ _ _ c.self.view_is c.requires.standing
+    on_ok c.add_mark.result _ _
+    (λ more. executes_code c.args.seconds _ c.args.self.now c.answer.new.self.side c.args.marks.now _ c.args.server.now c.execute.new.self c.args.call _ _ _ _ _ _ _ _ c.self.view_is c.requires.standing
     c.payload.ensures.exact c.in-Ok.ensures c.as_slice.ensures c.in-Ok-execute.ensures.executed c.is_bytes.ensures c.as_slice-2.ensures
     (of_ok c.answer.result _ done c.answer.ensures.stands) c.as_slice-3.ensures
     (live_answered _ _ _ _ _ (of_if_ok c.answer.result _ done c.answer.ensures.answers).1 (ap (λ (v : DrillLinkState). end_of v.server) c.self.view_is ∙ c.requires.live)) c.xid-xid.ensures more)
-    c.add_reply.ensures
+    c.add_mark.ensures

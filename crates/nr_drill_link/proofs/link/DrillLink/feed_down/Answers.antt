@@ -26,7 +26,7 @@ same-bytes c = refl
 
 pub returns-then-is_empty : goal.returns-then-is_empty
 returns-then-is_empty c =
-    down_nothing c.args.self.now c.args.most c.args.marks.now.items
+    down_nothing c.args.self.now c.args.most c.args.marks.now
     (ap (λ (v : DrillLinkState). take c.args.most v.pipes.down) (sym c.self.view_is) ∙ sym c.peek-piece.ensures ∙ is_nothing c.peek-piece.result.now c.is_empty.result c.is_empty.ensures c.if-is_empty.true)
 
 pub overflow_sub-self-inside : goal.overflow_sub-self-inside
@@ -65,6 +65,6 @@ returns c =
     subst (λ (xs : List ℕ). StandsOn c.self.inside.client (λ link. marks.Fed link Initiator xs) c.feed.new.self) c.as_slice.ensures (c.feed.ensures.stands (c.ran_out.ensures c.if-ran_out.false)) in
     on_ok c.add_mark.result _ _
     (λ more. from_view (λ s link. after_feeding_down link c.args.most) v c.args.self.now _ _ _ c.self.view_is
-    (down_fed v c.feed.new.self c.args.most c.in-Ok.bytes _ c.args.marks.now.items c.add_mark.new.marks.items piece some takes (not_out c.feed.result _ c.feed.ensures.ended (c.ran_out.ensures c.if-ran_out.false))
+    (down_fed v c.feed.new.self c.args.most c.in-Ok.bytes _ c.args.marks.now c.add_mark.new.marks piece some takes (not_out c.feed.result _ c.feed.ensures.ended (c.ran_out.ensures c.if-ran_out.false))
     (ap (λ (xs : List ℕ). record { up = v.pipes.up; down = xs }) c.skip_next.ensures) more))
     c.add_mark.ensures

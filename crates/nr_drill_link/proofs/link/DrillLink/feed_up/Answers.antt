@@ -22,7 +22,7 @@ same-bytes c = refl
 
 pub returns-then-is_empty : goal.returns-then-is_empty
 returns-then-is_empty c =
-    up_nothing c.args.self.now c.args.most c.args.marks.now.items
+    up_nothing c.args.self.now c.args.most c.args.marks.now
     (ap (λ (v : DrillLinkState). take c.args.most v.pipes.up) (sym c.self.view_is) ∙ sym c.peek-piece.ensures ∙ is_nothing c.peek-piece.result.now c.is_empty.result c.is_empty.ensures c.if-is_empty.true)
 
 pub overflow_sub-self-inside : goal.overflow_sub-self-inside
@@ -60,6 +60,6 @@ returns c =
     let takes : TakesPiece c.self.inside.server.side c.in-Ok.bytes c.feed.new.self.side = subst (λ (xs : List ℕ). TakesPiece c.self.inside.server.side xs c.feed.new.self.side) c.as_slice.ensures c.feed.ensures.stands in
     on_ok c.add_mark.result _ _
     (λ more. from_view (λ s link. after_feeding_up link c.args.most) v c.args.self.now _ _ _ c.self.view_is
-    (up_fed v c.feed.new.self.side c.args.most c.in-Ok.bytes _ c.args.marks.now.items c.add_mark.new.marks.items piece some takes (not_out c.feed.result _ c.feed.ensures.ended (c.ran_out.ensures c.if-ran_out.false))
+    (up_fed v c.feed.new.self.side c.args.most c.in-Ok.bytes _ c.args.marks.now c.add_mark.new.marks piece some takes (not_out c.feed.result _ c.feed.ensures.ended (c.ran_out.ensures c.if-ran_out.false))
     (ap (λ (xs : List ℕ). record { up = xs; down = v.pipes.down }) c.skip_next.ensures) more))
     c.add_mark.ensures

@@ -12,12 +12,12 @@ use Rattle.nr_drill_link.proofs.link.DrillLink.forget.Goals as goal
 
 pub returns-then-self : goal.returns-then-self
 returns-then-self c =
-    stays c.args.number (λ s link. after_forget s link c.args.number) c.args.self.now c.args.marks.now.items (forget_idle c.args.number)
+    stays c.args.number (λ s link. after_forget s link c.args.number) c.args.self.now c.args.marks.now (forget_idle c.args.number)
     (none_if_dropped c.args.number c.args.self.now (ap (λ (v : DrillLinkState). v.is_dropped) (sym c.self.view_is) ∙ c.if-self.true))
 
 pub returns-then-is_some : goal.returns-then-is_some
 returns-then-is_some c =
-    stays c.args.number (λ s link. after_forget s link c.args.number) c.args.self.now c.args.marks.now.items (forget_idle c.args.number)
+    stays c.args.number (λ s link. after_forget s link c.args.number) c.args.self.now c.args.marks.now (forget_idle c.args.number)
     (none_if_ended c.args.number c.args.self.now
     (some_of c.args.self.now.client.state.side.ended c.end.result c.is_some.result (c.end.ensures ∙ ap (λ (v : DrillLinkState). v.client.state.side.ended) c.self.view_is) c.is_some.ensures c.if-is_some.true))
 
@@ -39,7 +39,7 @@ invariant_of-self c = (
 
 pub returns-in_default : goal.returns-in_default
 returns-in_default c =
-    stays_absent c.args.number (λ s link. after_forget s link c.args.number) _ c.args.self.now c.take_line.result (map line_view c.take_line.new.awaited.items) c.args.marks.now.items (forget_idle c.args.number) c.self.view_is c.in_default.is c.take_line.ensures
+    stays_absent c.args.number (λ s link. after_forget s link c.args.number) _ c.args.self.now c.take_line.result (map line_view c.take_line.new.awaited.items) c.args.marks.now (forget_idle c.args.number) c.self.view_is c.in_default.is c.take_line.ensures
 
 pub forget-requires : goal.forget-requires
 forget-requires c = record {
@@ -74,7 +74,7 @@ returns c =
       taken = c.in-Some.ensures;
     } in
     on_ok c.add_mark.result _ _
-    (λ more. from_view (λ s link. after_forget s link c.args.number) v c.args.self.now (with_client v c.forget.new.self left) c.args.marks.now.items c.add_mark.new.marks.items c.self.view_is
-    (forgets v c.forget.new.self c.args.number c.in-Some.ticket left c.args.marks.now.items c.add_mark.new.marks.items took c.forget.ensures.state c.forget.ensures.stands
-    (more ∙ ap (λ (x : ℕ). c.args.marks.now.items ++ marks.Forget c.self.inside.number x ∷ []) c.xid-xid.ensures)))
+    (λ more. from_view (λ s link. after_forget s link c.args.number) v c.args.self.now (with_client v c.forget.new.self left) c.args.marks.now c.add_mark.new.marks c.self.view_is
+    (forgets v c.forget.new.self c.args.number c.in-Some.ticket left c.args.marks.now c.add_mark.new.marks took c.forget.ensures.state c.forget.ensures.stands
+    (more ∙ ap (λ (x : ℕ). c.args.marks.now ++ marks.Forget c.self.inside.number x ∷ []) c.xid-xid.ensures)))
     c.add_mark.ensures

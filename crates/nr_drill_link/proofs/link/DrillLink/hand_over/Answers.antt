@@ -9,7 +9,7 @@ use Rattle.nr_drill_link.proofs.HandSteps.{begins_handing, passes_over, one_hand
 use Rattle.nr_drill_link.proofs.link.DrillLink.hand_over.Goals as goal
 
 pub calls-init : goal.calls-init
-calls-init c = begins_handing c.args.self.now c.args.marks.now.items
+calls-init c = begins_handing c.args.self.now c.args.marks.now
 
 pub same-self : goal.same-self
 same-self c = refl
@@ -42,7 +42,7 @@ calls-preserved-then-not-has_outcome c =
     let lt : c.calls.at < length c.self.inside.awaited.items = grind (arith, common_steps, c.calls-test.true, c.len.ensures, c.self.inside.awaited.ok) in
     let one : c.calls.at + 1 ≡ suc c.calls.at = omega arith in
     rw (one)
-    (passes_over c.calls.at (line_view c.index.result.now) c.args.self.now c.calls.self c.args.marks.now.items c.calls.marks.items
+    (passes_over c.calls.at (line_view c.index.result.now) c.args.self.now c.calls.self c.args.marks.now c.calls.marks
     (subst (λ (v : DrillLinkState). c.calls.at < length v.awaited) c.self.view_is (in_view c.self.inside.awaited.items c.calls.at lt))
     (subst (λ (v : DrillLinkState). found_answer (get_or v.awaited c.calls.at (line_view c.index.result.now)).xid v.client.state ≡ None) c.self.view_is
     (none_view c.self.inside.client.state c.self.inside.awaited.items c.calls.at c.index.result.now c.has_outcome.result c.index.ensures c.has_outcome.ensures c.if-not-has_outcome.true))
@@ -51,7 +51,7 @@ calls-preserved-then-not-has_outcome c =
 pub calls-preserved : goal.calls-preserved
 calls-preserved c =
     let lt : c.calls.at < length c.self.inside.awaited.items = grind (arith, common_steps, c.calls-test.true, c.len.ensures, c.self.inside.awaited.ok) in
-    one_handed c.calls.at c.args.self.now c.calls.self c.complete.new.self c.args.marks.now.items c.calls.marks.items c.complete.new.marks.items
+    one_handed c.calls.at c.args.self.now c.calls.self c.complete.new.self c.args.marks.now c.calls.marks c.complete.new.marks
     (subst (λ (v : DrillLinkState). c.calls.at < length v.awaited) c.self.view_is (in_view c.self.inside.awaited.items c.calls.at lt)) c.calls.invariant c.in-Ok.ensures
 
 pub calls-smaller-then-not-has_outcome : goal.calls-smaller-then-not-has_outcome
@@ -71,5 +71,5 @@ calls-smaller c =
 pub returns : goal.returns
 returns c =
     let le : length c.self.inside.awaited.items ≤ c.calls.at = grind (arith, common_steps, c.calls-test.false, c.len.ensures, c.self.inside.awaited.ok) in
-    all_handed c.calls.at c.args.self.now c.calls.self c.args.marks.now.items c.calls.marks.items
+    all_handed c.calls.at c.args.self.now c.calls.self c.args.marks.now c.calls.marks
     (subst (λ (v : DrillLinkState). length v.awaited ≤ c.calls.at) c.self.view_is (beyond_view c.self.inside.awaited.items c.calls.at le)) c.calls.invariant

@@ -12,12 +12,12 @@ use Rattle.nr_drill_link.proofs.link.DrillLink.revoke.Goals as goal
 
 pub returns-then-self : goal.returns-then-self
 returns-then-self c =
-    stays c.args.number (λ s link. after_revoke s link c.args.number) c.args.self.now c.args.marks.now.items (revoke_idle c.args.number)
+    stays c.args.number (λ s link. after_revoke s link c.args.number) c.args.self.now c.args.marks.now (revoke_idle c.args.number)
     (none_if_dropped c.args.number c.args.self.now (ap (λ (v : DrillLinkState). v.is_dropped) (sym c.self.view_is) ∙ c.if-self.true))
 
 pub returns-then-is_some : goal.returns-then-is_some
 returns-then-is_some c =
-    stays c.args.number (λ s link. after_revoke s link c.args.number) c.args.self.now c.args.marks.now.items (revoke_idle c.args.number)
+    stays c.args.number (λ s link. after_revoke s link c.args.number) c.args.self.now c.args.marks.now (revoke_idle c.args.number)
     (none_if_ended c.args.number c.args.self.now
     (some_of c.args.self.now.client.state.side.ended c.end.result c.is_some.result (c.end.ensures ∙ ap (λ (v : DrillLinkState). v.client.state.side.ended) c.self.view_is) c.is_some.ensures c.if-is_some.true))
 
@@ -39,7 +39,7 @@ invariant_of-self c = (
 
 pub returns-in_default : goal.returns-in_default
 returns-in_default c =
-    stays_absent c.args.number (λ s link. after_revoke s link c.args.number) _ c.args.self.now c.take_line.result (map line_view c.take_line.new.awaited.items) c.args.marks.now.items (revoke_idle c.args.number) c.self.view_is c.in_default.is c.take_line.ensures
+    stays_absent c.args.number (λ s link. after_revoke s link c.args.number) _ c.args.self.now c.take_line.result (map line_view c.take_line.new.awaited.items) c.args.marks.now (revoke_idle c.args.number) c.self.view_is c.in_default.is c.take_line.ensures
 
 pub revoke_call-requires : goal.revoke_call-requires
 revoke_call-requires c = open_ticket c.self.inside.client.state (c.args.number - 1) c.in-Some.ticket (map line_view c.self.inside.awaited.items) (map line_view c.take_line.new.awaited.items) c.in-Some.ensures (lines_open c.self.inside.client.state c.self.inside.awaited.items c.self.invariant.1.1.1.1)
@@ -106,8 +106,8 @@ returns-in-Ok-add_mark c =
       taken = c.in-Some.ensures;
     } in
     on_ok c.settle.result _ _
-    (λ settles. from_view (λ s link. after_revoke s link c.args.number) v c.args.self.now c.settle.new.self c.args.marks.now.items c.settle.new.marks.items c.self.view_is
-    (revokes v c.settle.new.self c.revoke_call.new.client c.args.number c.in-Some.ticket c.in-Ok.bytes left c.args.marks.now.items c.add_mark.new.marks.items c.settle.new.marks.items took
+    (λ settles. from_view (λ s link. after_revoke s link c.args.number) v c.args.self.now c.settle.new.self c.args.marks.now c.settle.new.marks c.self.view_is
+    (revokes v c.settle.new.self c.revoke_call.new.client c.args.number c.in-Some.ticket c.in-Ok.bytes left c.args.marks.now c.add_mark.new.marks c.settle.new.marks took
     (open_ticket c.self.inside.client.state (c.args.number - 1) c.in-Some.ticket (map line_view c.self.inside.awaited.items) (map line_view c.take_line.new.awaited.items) c.in-Some.ensures (lines_open c.self.inside.client.state c.self.inside.awaited.items c.self.invariant.1.1.1.1)) c.in-Ok.ensures.bytes c.in-Ok.ensures.state c.in-Ok.ensures.stands
-    (c.in-Ok-add_mark.ensures ∙ ap (λ (x : ℕ). c.args.marks.now.items ++ marks.Revoke c.self.inside.number x c.in-Ok.bytes ∷ []) c.xid-xid.ensures) settles))
+    (c.in-Ok-add_mark.ensures ∙ ap (λ (x : ℕ). c.args.marks.now ++ marks.Revoke c.self.inside.number x c.in-Ok.bytes ∷ []) c.xid-xid.ensures) settles))
     c.settle.ensures

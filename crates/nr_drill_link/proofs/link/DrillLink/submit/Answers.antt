@@ -17,6 +17,6 @@ same-self-in-Err-add_submit c = refl
 pub returns-in-Ok-add_submit : goal.returns-in-Ok-add_submit
 returns-in-Ok-add_submit c =
     on_ok c.settle.result _ _
-    (λ settles. submits c.args.self.now c.answer.new.self c.settle.new.self c.args.call c.args.form c.in-Ok.answer c.args.marks.now.items c.add_submit.new.marks.items c.settle.new.marks.items c.in-Ok.ensures
-    (c.in-Ok-add_submit.ensures ∙ ap (λ (v : DrillLinkState). c.args.marks.now.items ++ marks.Submit v.number c.args.call c.args.form c.in-Ok.answer ∷ []) c.self.view_is) settles)
+    (λ settles. submits c.args.self.now c.answer.new.self c.settle.new.self c.args.call c.args.form c.in-Ok.answer c.args.marks.now c.add_submit.new.marks c.settle.new.marks c.in-Ok.ensures
+    (c.in-Ok-add_submit.ensures ∙ ap (λ (v : DrillLinkState). c.args.marks.now ++ marks.Submit v.number c.args.call c.args.form c.in-Ok.answer ∷ []) c.self.view_is) settles)
     c.settle.ensures

@@ -16,10 +16,10 @@ pub same-self-2 : goal.same-self-2
 same-self-2 c = refl
 
 pub returns-then-self : goal.returns-then-self
-returns-then-self c = works_gone c.args.seconds _ c.args.self.now c.args.marks.now.items c.args.server.now c.self.view_is c.if-self.true
+returns-then-self c = works_gone c.args.seconds _ c.args.self.now c.args.marks.now c.args.server.now c.self.view_is c.if-self.true
 
 pub returns-in_default : goal.returns-in_default
-returns-in_default c = works_idle c.args.seconds _ c.args.self.now c.args.marks.now.items c.args.server.now c.next_ready.result c.self.view_is c.in_default.is c.next_ready.ensures.exact
+returns-in_default c = works_idle c.args.seconds _ c.args.self.now c.args.marks.now c.args.server.now c.next_ready.result c.self.view_is c.in_default.is c.next_ready.ensures.exact
 
 pub execute-requires-clause-standing : goal.execute-requires-clause-standing
 execute-requires-clause-standing c = ap (λ (v : DrillLinkState). v.is_dropped) (sym c.self.view_is) ∙ c.if-self.false

@@ -15,7 +15,7 @@ invariant_of-self-then-is_empty c = server_kept _ c.self.inside.server.side.link
 pub returns-then-is_empty : goal.returns-then-is_empty
 returns-then-is_empty c =
     let v : DrillLinkState = link_view c.self.inside.number c.self.inside.client c.self.inside.server.side c.self.inside.up c.self.inside.down c.self.inside.dropped c.self.inside.lines c.self.inside.awaited.items in
-    wrote_no_bytes_down v c.args.self.now c.server_output.new.server.side _ c.args.marks.now.items c.self.view_is c.in-Ok.ensures.writes (c.is_empty.ensures.0 c.if-is_empty.true)
+    wrote_no_bytes_down v c.args.self.now c.server_output.new.server.side _ c.args.marks.now c.self.view_is c.in-Ok.ensures.writes (c.is_empty.ensures.0 c.if-is_empty.true)
 
 pub same-bytes : goal.same-bytes
 same-bytes c = refl
@@ -27,5 +27,5 @@ pub returns : goal.returns
 returns c =
     let v : DrillLinkState = link_view c.self.inside.number c.self.inside.client c.self.inside.server.side c.self.inside.up c.self.inside.down c.self.inside.dropped c.self.inside.lines c.self.inside.awaited.items in
     on_ok c.put_output.result _ _
-    (λ put. wrote_bytes_down v c.args.self.now c.server_output.new.server.side _ _ (waiting_bytes c.put_output.new.pipe) c.args.marks.now.items _ c.self.view_is c.in-Ok.ensures.writes (some_bytes _ _ c.is_empty.ensures c.if-is_empty.false) refl put.0 put.1)
+    (λ put. wrote_bytes_down v c.args.self.now c.server_output.new.server.side _ _ (waiting_bytes c.put_output.new.pipe) c.args.marks.now _ c.self.view_is c.in-Ok.ensures.writes (some_bytes _ _ c.is_empty.ensures c.if-is_empty.false) refl put.0 put.1)
     c.put_output.ensures

@@ -25,10 +25,9 @@ loop-self-preserved c =
 pub loop-self-smaller : goal.loop-self-smaller
 loop-self-smaller c =
     let answer : c.is_still.result ≡ false = search rules in
-    let more : length c.loop-self.self.marks.items < length c.round.new.self.marks.items = more_marks c.loop-self.self c.round.new.self c.is_still.result answer c.loop-self.invariant.0 c.is_still.ensures c.in_ok-round.ensures in
-    let ok = c.round.new.self.marks.ok in
-    let small = c.round.new.self.marks.small in
-    omega (arith, more, ok, small)
+    let more : length c.loop-self.self.marks < length c.round.new.self.marks = more_marks c.loop-self.self c.round.new.self c.is_still.result answer c.loop-self.invariant.0 c.is_still.ensures c.in_ok-round.ensures in
+    let fits = c.facts.ensures in
+    omega (arith, more, fits)
 
 pub returns : goal.returns
 returns c tree opening d h =

@@ -15,4 +15,4 @@ invariant-loop-self l = CanMake lines.Drain l.self × ((tree : Tree) (opening : 
     × ((rounds : ℕ) (new : Drill) → Drains (drill_setting tree opening) (links_of opening.clients) rounds now new → (more : ℕ) × Drains (drill_setting tree opening) (links_of opening.clients) more d new))
 
 abbrev pub decreases-loop-self : goal.decreases-loop-self
-decreases-loop-self l = 2 ^ 64 - length l.self.marks.items
+decreases-loop-self l = 2 ^ 64 - length l.self.marks

@@ -1,4 +1,4 @@
-use Rattle.std.proofs.Common.{◌≡◌, length, arith, ap, sym, subst, ◌∙◌}
+use Rattle.std.proofs.Common.{◌≡◌, length, arith, refl, ap, sym, subst, ◌∙◌}
 use Rattle.nr_world.specs.private.Results.{AreEndsOf}
 use Rattle.nr_world.proofs.Reporting.{tells_world}
 use Rattle.nr_world.proofs.Stands.{if_ok}
@@ -10,5 +10,5 @@ report_of-requires c =
     omega (arith, all, c.requires)
 
 pub returns-in-Ok : goal.returns-in-Ok
-returns-in-Ok c = if_ok c.report_of.result _ _ c.report_of.ensures.reports (λ report tells. tells_world c.args.self c.from_vec.result c.as_slice.result.now report c.from_vec.ensures
+returns-in-Ok c = if_ok c.report_of.result _ _ c.report_of.ensures.reports (λ report tells. tells_world c.args.self c.args.self.marks c.as_slice.result.now report refl
     (subst (AreEndsOf c.args.self) (sym c.as_slice.ensures.value) c.in-Ok.ensures.ends) tells)

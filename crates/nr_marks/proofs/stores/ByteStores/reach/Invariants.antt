@@ -1,0 +1,5 @@
+use Rattle.nr_marks.specs.private.Pieces.{Grows}
+use Rattle.nr_marks.proofs.stores.ByteStores.reach.Given as goal
+
+abbrev pub invariant-loop-at : goal.invariant-loop-at
+invariant-loop-at l = Grows l.initial.self l.self

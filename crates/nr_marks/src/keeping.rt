@@ -1,0 +1,262 @@
+//! Marks that are put into the form in which they are kept.
+
+ghost use Rattle.std.specs.Prelude.{◌≡◌, ℕ, List, IfOk, IfSome, IsTrue};
+ghost use Rattle.nr_rpc.specs.declared.cred.Cred.TheVariants as creds;
+ghost use Rattle.nr_reduce.specs.declared.call.Form.TheVariants as forms;
+ghost use Rattle.nr_reduce.specs.declared.call.Outcome.TheVariants as outcomes;
+ghost use Rattle.nr_reduce.specs.declared.call.Submission.TheVariants as submissions;
+ghost use Rattle.nr_reduce.specs.declared.mark.Mark.TheVariants as marks;
+ghost use Rattle.nr_marks.specs.private.Pieces.{Grows, Holds};
+ghost use Rattle.nr_marks.specs.private.KeptMarks.{Keeps};
+
+use crate::kept::{Kept, KeptCall, KeptExecution};
+use crate::stores::{ByteStores, Cursor, Piece, before_end, store_of};
+use nr_outside::Moment;
+use nr_reduce::{Boxed, Call, Form, Mark, Outcome, Submission};
+use nr_rpc::Cred;
+use nr_wire::Side;
+use nr_xdr::Memory;
+use std::alloc::Global;
+
+/// The side that a side's bytes go to.
+fn peer(side: Side) -> Side {
+    match side {
+        Side::Initiator => Side::Responder,
+        Side::Responder => Side::Initiator,
+    }
+}
+
+/// Keeps bytes that a side was fed: the next ones that the other side wrote.
+fn keep_fed(
+    alloc: Global,
+    stores: &mut ByteStores,
+    link: u32,
+    side: Side,
+    bytes: &[u8],
+) -> Result<Option<Kept>, Memory>
+    ensures grows { Grows stores.old stores.new }
+    ensures keeps { IfOk result (λ o. IfSome o (λ kept. Keeps stores.new kept (marks.Fed link side bytes.now))) }
+{
+    let store = store_of(link, peer(side));
+    let Cursor { fed, read } = stores.cursor(store);
+    let bytes = stores.refer(alloc, store, (fed, fed), bytes)?;
+    let fed = if bytes.store == store {
+        bytes.at.saturating_add(bytes.len)
+    } else {
+        fed.saturating_add(bytes.len)
+    };
+    stores.set_cursor(store, Cursor { fed, read });
+    Ok(Some(Kept::Fed { link, side, bytes }))
+}
+
+/// Keeps bytes that were found in what a side of a link was fed: the payload of a call, or a reply.
+fn keep_read(
+    alloc: Global,
+    stores: &mut ByteStores,
+    store: usize,
+    bytes: &[u8],
+) -> Result<Piece, Memory>
+    ensures grows { Grows stores.old stores.new }
+    ensures piece { IfOk result (λ piece. Holds stores.new piece bytes.now) }
+{
+    let Cursor { fed, read } = stores.cursor(store);
+    let piece = stores.refer(alloc, store, (read, before_end(fed, bytes.len())), bytes)?;
+    if piece.store == store {
+        let read = piece.at.saturating_add(piece.len);
+        stores.set_cursor(store, Cursor { fed, read });
+    }
+    Ok(piece)
+}
+
+/// Keeps bytes that a side of a link has just written: the arguments of a call, or a reply.
+fn keep_written(
+    alloc: Global,
+    stores: &mut ByteStores,
+    store: usize,
+    bytes: &[u8],
+) -> Result<Piece, Memory>
+    ensures grows { Grows stores.old stores.new }
+    ensures piece { IfOk result (λ piece. Holds stores.new piece bytes.now) }
+{
+    let at = before_end(stores.len_of(store), bytes.len());
+    stores.refer(alloc, store, (at, at), bytes)
+}
+
+/// Whether a call has no credential.
+fn has_no_cred(call: &Call) -> bool
+    ensures { IsTrue result → call.now.cred ≡ creds.None }
+{
+    match &call.cred {
+        Cred::None => true,
+        _ => false,
+    }
+}
+
+/// Whether a form is Auto.
+fn is_auto(form: &Form) -> bool
+    ensures { IsTrue result → form.now ≡ forms.Auto }
+{
+    match form {
+        Form::Auto => true,
+        _ => false,
+    }
+}
+
+/// Keeps an accepted call, if it has no credential and its form is Auto.
+#[tactic(auto, using(crate::proofs::Growing::grows_same))]
+fn keep_call(
+    alloc: Global,
+    stores: &mut ByteStores,
+    link: u32,
+    call: &Call,
+    form: &Form,
+    xid: u32,
+) -> Result<Option<Kept>, Memory>
+    ensures grows { Grows stores.old stores.new }
+    ensures keeps { IfOk result (λ o. IfSome o (λ kept. Keeps stores.new kept (marks.Submit link call.now form.now (submissions.Accepted xid)))) }
+{
+    if !has_no_cred(call) {
+        return Ok(None);
+    }
+    if !is_auto(form) {
+        return Ok(None);
+    }
+    let store = store_of(link, Side::Initiator);
+    let args = keep_written(alloc, stores, store, call.args.as_slice())?;
+    let call = KeptCall {
+        prog: call.prog,
+        vers: call.vers,
+        proc: call.proc,
+        xid,
+        args,
+    };
+    Ok(Some(Kept::Submit {
+        link,
+        call: Boxed::new(alloc, call)?,
+    }))
+}
+
+/// Keeps an execution.
+#[tactic(auto, using(crate::proofs::Growing::grows_trans, crate::proofs::Growing::holds_grown))]
+fn keep_execution(
+    alloc: Global,
+    stores: &mut ByteStores,
+    call: (u32, u32, u64),
+    moment: Moment,
+    payload: &[u8],
+    reply: &[u8],
+) -> Result<Option<Kept>, Memory>
+    ensures grows { Grows stores.old stores.new }
+    ensures keeps { IfOk result (λ o. IfSome o (λ kept. Keeps stores.new kept (marks.Execute call.0 call.1 moment payload.now call.2 reply.now))) }
+{
+    let (link, xid, place) = call;
+    let payload = keep_read(alloc, stores, store_of(link, Side::Initiator), payload)?;
+    let reply = keep_written(alloc, stores, store_of(link, Side::Responder), reply)?;
+    let execution = KeptExecution {
+        link,
+        xid,
+        moment,
+        place,
+        payload,
+        reply,
+    };
+    Ok(Some(Kept::Execute(Boxed::new(alloc, execution)?)))
+}
+
+/// Keeps bytes that a side wrote.
+fn keep_wrote(
+    alloc: Global,
+    stores: &mut ByteStores,
+    link: u32,
+    side: Side,
+    bytes: &[u8],
+) -> Result<Option<Kept>, Memory>
+    ensures grows { Grows stores.old stores.new }
+    ensures keeps { IfOk result (λ o. IfSome o (λ kept. Keeps stores.new kept (marks.Wrote link side bytes.now))) }
+{
+    let bytes = stores.append(alloc, store_of(link, side), bytes)?;
+    Ok(Some(Kept::Wrote { link, side, bytes }))
+}
+
+/// Keeps a reply that was handed over.
+fn keep_done(
+    alloc: Global,
+    stores: &mut ByteStores,
+    link: u32,
+    xid: u32,
+    reply: &[u8],
+) -> Result<Option<Kept>, Memory>
+    ensures grows { Grows stores.old stores.new }
+    ensures keeps { IfOk result (λ o. IfSome o (λ kept. Keeps stores.new kept (marks.Done link xid (outcomes.Reply reply.now)))) }
+{
+    let reply = keep_read(alloc, stores, store_of(link, Side::Responder), reply)?;
+    Ok(Some(Kept::Done { link, xid, reply }))
+}
+
+/// Keeps a mark apart from its bytes, if it is of a kind that is kept so.
+#[tactic(auto, using(crate::proofs::Growing::grows_same))]
+fn keep_apart(alloc: Global, stores: &mut ByteStores, mark: &Mark) -> Result<Option<Kept>, Memory>
+    ensures grows { Grows stores.old stores.new }
+    ensures keeps { IfOk result (λ o. IfSome o (λ kept. Keeps stores.new kept mark.now)) }
+{
+    match mark {
+        Mark::Submit {
+            link,
+            call,
+            form,
+            answer: Submission::Accepted { xid },
+        } => keep_call(alloc, stores, *link, call.get(), form.get(), *xid),
+        Mark::Wrote { link, side, bytes } => {
+            keep_wrote(alloc, stores, *link, *side, bytes.as_slice())
+        }
+        Mark::Fed { link, side, bytes } => keep_fed(alloc, stores, *link, *side, bytes.as_slice()),
+        Mark::Execute {
+            link,
+            xid,
+            moment,
+            payload,
+            place,
+            reply,
+        } => keep_execution(
+            alloc,
+            stores,
+            (*link, *xid, *place),
+            *moment,
+            payload.as_slice(),
+            reply.as_slice(),
+        ),
+        Mark::Done {
+            link,
+            xid,
+            outcome: Outcome::Reply(reply),
+        } => keep_done(alloc, stores, *link, *xid, reply.as_slice()),
+        _ => Ok(None),
+    }
+}
+
+/// Keeps a mark.
+pub(crate) fn keep(alloc: Global, stores: &mut ByteStores, mark: Mark) -> Result<Kept, Memory>
+    ensures grows { Grows stores.old stores.new }
+    ensures keeps { IfOk result (λ kept. Keeps stores.new kept mark) }
+{
+    match keep_apart(alloc, stores, &mark) {
+        Ok(Some(kept)) => {
+            drop(mark);
+            Ok(kept)
+        }
+        Ok(None) => Ok(Kept::Other(Boxed::new(alloc, mark)?)),
+        Err(memory) => {
+            drop(mark);
+            Err(memory)
+        }
+    }
+}
+
+/// Whether a mark waits for the next one, whose bytes may be found to have its own: a call is written right after its call line, and a reply
+/// right after its execution.
+pub(crate) fn waits(mark: &Mark) -> bool {
+    match mark {
+        Mark::Submit { .. } | Mark::Execute { .. } => true,
+        _ => false,
+    }
+}

@@ -1,0 +1,241 @@
+//! The bytes that marks refer to.
+
+ghost use Rattle.std.specs.Prelude.{◌≡◌, ◌+◌, ◌≤◌, ◌<◌, ℕ, List, [], ◌++◌, length, take, drop, get_or, IfOk, IfSome, IsTrue};
+ghost use Rattle.nr_marks.specs.private.Pieces.{Grows, IsWithin, Holds, bytes_in};
+
+use nr_wire::Side;
+use nr_xdr::{Memory, Octets};
+use std::alloc::Global;
+use std::marker::Model;
+
+/// Up to this many offsets are tried for bytes that are looked for.
+const REACH: usize = 128;
+
+/// At most so many bytes of an FPDU follow its payload.
+const TAIL: usize = 8;
+
+/// The highest link that has stores of its own.
+const LINKS: u32 = 16;
+
+/// `len` bytes of a store, from offset `at` on.
+#[derive(Clone, Copy)]
+pub(crate) struct Piece {
+    pub(crate) store: usize,
+    pub(crate) at: usize,
+    pub(crate) len: usize,
+}
+
+/// How far a store was read: by the side that was fed its bytes, and by what was executed or handed over. They only say at which
+/// offset bytes are looked for first.
+#[derive(Clone, Copy)]
+pub(crate) struct Cursor {
+    pub(crate) fed: usize,
+    pub(crate) read: usize,
+}
+
+/// Stores of bytes, which only grow.
+#[derive(Drop)]
+pub(crate) struct ByteStores {
+    stores: Vec<Octets>,
+    cursors: Vec<Cursor>,
+}
+
+impl Model for ByteStores {
+    ghost use Rattle.std.specs.Prelude.{List, ℕ};
+
+    ghost Value = { List (List ℕ) };
+
+    ghost view = { λ s. s.stores.items };
+}
+
+/// The store of what a side of a link wrote. Store 0 has the bytes that are found nowhere else.
+pub(crate) fn store_of(link: u32, side: Side) -> usize {
+    if link > LINKS {
+        return 0;
+    }
+    match side {
+        Side::Initiator => 2 * link as usize + 1,
+        Side::Responder => 2 * link as usize + 2,
+    }
+}
+
+/// Whether these bytes are at this offset of others.
+fn is_at(all: &[u8], at: usize, bytes: &[u8]) -> bool
+    ensures { IsTrue result → (at + length bytes.now ≤ length all.now) × (take (length bytes.now) (drop at all.now) ≡ bytes.now) }
+{
+    if at > all.len() {
+        return false;
+    }
+    if bytes.len() > all.len() - at {
+        return false;
+    }
+    let there = &all[at..at + bytes.len()];
+    there == bytes
+}
+
+/// The offset of these bytes among others, if they are found from this offset on.
+fn offset_of(all: &[u8], from: usize, bytes: &[u8]) -> Option<usize>
+    ensures { IfSome result (λ at. (at + length bytes.now ≤ length all.now) × (take (length bytes.now) (drop at all.now) ≡ bytes.now)) }
+{
+    let end = from.saturating_add(REACH);
+    for at in from..end {
+        if is_at(all, at, bytes) {
+            return Some(at);
+        }
+    }
+    None
+}
+
+impl ByteStores {
+    /// No stores.
+    pub(crate) fn new(alloc: Global) -> ByteStores
+        ensures { result ≡ [] }
+    {
+        ByteStores {
+            stores: Vec::new(alloc),
+            cursors: Vec::new(alloc),
+        }
+    }
+
+    /// The bytes of a piece.
+    pub(crate) fn bytes(&self, piece: Piece) -> &[u8]
+        requires { IsWithin self.now piece }
+        ensures { result.now ≡ bytes_in self.now piece }
+    {
+        if piece.store >= self.stores.len() {
+            return &[];
+        }
+        let store = &self.stores[piece.store];
+        &store.as_slice()[piece.at..piece.at + piece.len]
+    }
+
+    /// How many bytes a store has.
+    pub(crate) fn len_of(&self, store: usize) -> usize {
+        match self.stores.get(store) {
+            Some(store) => store.len(),
+            None => 0,
+        }
+    }
+
+    /// How far a store was read.
+    pub(crate) fn cursor(&self, store: usize) -> Cursor {
+        match self.cursors.get(store) {
+            Some(cursor) => *cursor,
+            None => Cursor { fed: 0, read: 0 },
+        }
+    }
+
+    /// Notes how far a store was read.
+    pub(crate) fn set_cursor(&mut self, store: usize, cursor: Cursor)
+        ensures { self.new ≡ self.old }
+    {
+        if let Some(slot) = self.cursors.get_mut(store) {
+            *slot = cursor;
+        }
+    }
+
+    /// An empty store more.
+    fn add_store(&mut self, alloc: Global) -> Result<(), Memory>
+        ensures { Grows self.old self.new }
+    {
+        if self.cursors.push(Cursor { fed: 0, read: 0 }).is_err() {
+            return Err(Memory);
+        }
+        match self.stores.push(Octets::new(alloc)) {
+            Ok(()) => Ok(()),
+            Err(failed) => {
+                drop(failed);
+                Err(Memory)
+            }
+        }
+    }
+
+    /// Makes stores up to this one.
+    #[tactic(auto, using(crate::proofs::Growing::grows_same, crate::proofs::Growing::grows_trans))]
+    fn reach(&mut self, alloc: Global, store: usize) -> Result<(), Memory>
+        ensures { Grows self.old self.new }
+    {
+        for _at in self.stores.len()..store.saturating_add(1) {
+            self.add_store(alloc)?;
+        }
+        Ok(())
+    }
+
+    /// Appends bytes to a store that exists.
+    fn append_at(&mut self, store: usize, bytes: &[u8]) -> Result<Piece, Memory>
+        ensures grows { Grows self.old self.new }
+        ensures piece { IfOk result (λ piece. Holds self.new piece bytes.now) }
+    {
+        if store >= self.stores.len() {
+            return Err(Memory);
+        }
+        let own = &mut self.stores[store];
+        let at = own.len();
+        own.extend_from_slice(bytes)?;
+        Ok(Piece {
+            store,
+            at,
+            len: bytes.len(),
+        })
+    }
+
+    /// Appends bytes to a store.
+    #[tactic(auto, using(crate::proofs::Growing::grows_trans))]
+    pub(crate) fn append(
+        &mut self,
+        alloc: Global,
+        store: usize,
+        bytes: &[u8],
+    ) -> Result<Piece, Memory>
+        ensures grows { Grows self.old self.new }
+        ensures piece { IfOk result (λ piece. Holds self.new piece bytes.now) }
+    {
+        self.reach(alloc, store)?;
+        self.append_at(store, bytes)
+    }
+
+    /// Looks for bytes in a store from an offset on.
+    fn find(&self, store: usize, from: usize, bytes: &[u8]) -> Option<Piece>
+        ensures { IfSome result (λ piece. Holds self.now piece bytes.now) }
+    {
+        if store >= self.stores.len() {
+            return None;
+        }
+        let all = self.stores[store].as_slice();
+        match offset_of(all, from, bytes) {
+            Some(at) => Some(Piece {
+                store,
+                at,
+                len: bytes.len(),
+            }),
+            None => None,
+        }
+    }
+
+    #[tactic(auto, using(crate::proofs::Growing::grows_same))]
+    /// Refers to bytes that a store has from one of two offsets on, or else appends them to store 0.
+    pub(crate) fn refer(
+        &mut self,
+        alloc: Global,
+        store: usize,
+        offsets: (usize, usize),
+        bytes: &[u8],
+    ) -> Result<Piece, Memory>
+        ensures grows { Grows self.old self.new }
+        ensures piece { IfOk result (λ piece. Holds self.new piece bytes.now) }
+    {
+        let (first, second) = offsets;
+        if let Some(piece) = self.find(store, first, bytes) {
+            return Ok(piece);
+        }
+        if let Some(piece) = self.find(store, second, bytes) {
+            return Ok(piece);
+        }
+        self.append(alloc, 0, bytes)
+    }
+}
+
+/// The offset at which bytes that an FPDU ends with are looked for, if it ends at this offset.
+pub(crate) fn before_end(end: usize, len: usize) -> usize {
+    end.saturating_sub(len).saturating_sub(TAIL)
+}
