@@ -22,7 +22,7 @@ does_step uid gid file s t (MakesAlone call outcome alone answers replies waits)
 does_step uid gid file s t (AsksAhead read ahead submits replies waits) = does_submits {A = Unit {0}} tt read.call read.xid s.bytes t.bytes s.side t.side submits
 does_step uid gid file s t (TakesOldest read outcome full is completes replies waits) = does_completes {A = Unit {0}} tt read.xid outcome s.bytes t.bytes s.side t.side completes
 
-does_steps : (uid gid : ℕ) (file : List ℕ) (first : ReadingAt) (states : List ReadingAt) (last : ReadingAt) (leads : LeadsBy uid gid file first states last)
+pub does_steps : (uid gid : ℕ) (file : List ℕ) (first : ReadingAt) (states : List ReadingAt) (last : ReadingAt) (leads : LeadsBy uid gid file first states last)
     → HasDone {A = Unit {0}} (Ok tt) first.bytes last.bytes first.side last.side (steps_exchanges uid gid file first states last leads)
 does_steps uid gid file first [] last same =
     does_none_at {A = Unit {0}} (Ok tt) first.bytes last.bytes first.side last.side (ap (λ (r : ReadingAt). r.bytes) same, ap (λ (r : ReadingAt). r.side) same)
@@ -30,7 +30,7 @@ does_steps uid gid file first (s ∷ states) last (step, leads) =
     does_both {A = Unit {0}} {B = Unit {0}} tt (Ok tt) first.bytes s.bytes last.bytes first.side s.side last.side (steps_exchanges uid gid file first states s leads) (step_exchanges uid gid file s last step)
     (does_steps uid gid file first states s leads) (does_step uid gid file s last step)
 
-does_reading_end : (uid gid : ℕ) (file : List ℕ) (s : ReadingAt) (left : List OpenRead) (b : LinkBytes) (h : RequesterSide) (taken taken' : Option (List ℕ)) (given : Result (Unit {0}) ClientEnd)
+pub does_reading_end : (uid gid : ℕ) (file : List ℕ) (s : ReadingAt) (left : List OpenRead) (b : LinkBytes) (h : RequesterSide) (taken taken' : Option (List ℕ)) (given : Result (Unit {0}) ClientEnd)
     (ends : EndsReading uid gid file s left b h taken taken' given) → HasDone given s.bytes b s.side h (reading_end_exchanges uid gid file s left b h taken taken' given ends)
 does_reading_end uid gid file s left b h taken taken' given (EndsByReplies same is waits takes) = does_none_at given s.bytes b s.side h same
 does_reading_end uid gid file s left b h taken taken' given (OutputFails is same waits takes) = does_none_at given s.bytes b s.side h same

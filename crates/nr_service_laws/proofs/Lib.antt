@@ -12,3 +12,7 @@ pub mod ReplyParts
 pub mod ReplyCommands
 pub mod ServedOutcomes
 pub mod OpenLinks
+pub mod Judged
+pub mod JudgedParts
+pub mod JudgedCommands
+pub mod EndCauses

@@ -150,7 +150,7 @@ is_written_still None opened link xid run written = tt
 is_written_still (Some end) opened link xid run written = written_at_forget end opened link xid run written
 
 -- a mark of a forgotten call is no event: the client is as before
-client_still : (opened : LinkParameters) (link xid : ℕ) (run : List Mark) → client opened link (run ++ marks.Forget link xid ∷ []) ≡ client opened link run
+pub client_still : (opened : LinkParameters) (link xid : ℕ) (run : List Mark) → client opened link (run ++ marks.Forget link xid ∷ []) ≡ client opened link run
 client_still opened link xid run = client_one opened link run (marks.Forget link xid)
 
 none_still : (end : CallEnd) (opened : LinkParameters) (link x xid : ℕ) (run : List Mark) → NoneCame end opened link run xid → NoneCame end opened link (run ++ marks.Forget link x ∷ []) xid

@@ -5,3 +5,4 @@ pub mod CommandRuns
 pub mod CommandEnds
 pub mod ServedCommands
 pub mod ServedLinks
+pub mod EndCauses

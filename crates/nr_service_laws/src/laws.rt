@@ -2,6 +2,7 @@
 
 ghost use Rattle.nr_service_laws.specs.CommandEnds.{RepliesExcludeEnds};
 ghost use Rattle.nr_service_laws.specs.CommandRuns.{CommandsHaveARun};
+ghost use Rattle.nr_service_laws.specs.EndCauses.{EndsHaveCauses, ServedCommandsEndForMemory};
 ghost use Rattle.nr_service_laws.specs.ServedCommands.{ServedClientsHaveReplies, ServedCommandsExcludeEnds};
 ghost use Rattle.nr_service_laws.specs.ServedLinks.{ServedClientsStayOpen, ServedCommandsStayOpen};
 ghost use Rattle.nr_service_laws.specs.SessionMarks.{AsksHaveMarks, FollowsHaveMarks, FollowsOutcomes, MarksGoOn, ReadsHaveMarks, ReadsInOrder, SessionsBegin, WritesHaveMarks};
@@ -52,4 +53,15 @@ pub fn served_commands_have_replies()
 pub fn served_commands_stay_open()
     ensures clients { ServedClientsStayOpen }
     ensures requesters { ServedCommandsStayOpen }
+{}
+
+/// A command that opened a session, and ends since a call has no answer, has the cause of that end when its link is hung up, whatever its server
+/// replies: at `Closed` no known byte of the source is left, and the requester hasn't ended; at `Ended` it has ended for this reason, or memory ran out.
+pub fn ends_have_causes()
+    ensures { EndsHaveCauses }
+{}
+
+/// So a command over a link that is matched so far, both sides of which keep their laws with each Wrote in full, ends with `Ended` only if memory ran out.
+pub fn served_commands_end_for_memory()
+    ensures { ServedCommandsEndForMemory }
 {}

@@ -1,0 +1,5 @@
+pub mod Decoding
+pub mod Values
+pub mod Replied
+pub mod Procedures
+pub mod Replies

@@ -1,0 +1,402 @@
+-- The ends of parts of a command whose outcomes are judged call by call, each with its cause if a call has no answer.
+use Rattle.std.proofs.Common.{◌≡◌, ℕ, Bool, true, false, List, [], ◌∷◌, ◌++◌, length, Option, Result, Ok, Err, inl, inr, refl, sym, ap, subst, ◌∙◌}
+use Rattle.std.specs.Prelude.{◌⊎◌, MatchBool, nat_lt}
+use Rattle.nr_outside.specs.Streams.{SinkAt, SourceAt}
+use Rattle.nr_nfs_base.specs.Limits.{link_target_max}
+use Rattle.nr_words.specs.Limits.{mount_path_max}
+use Rattle.nr_link.specs.declared.end.End.TheVariants as ends
+use Rattle.nr_reduce.specs.declared.call.Call.{Call}
+use Rattle.nr_reduce.specs.declared.call.Outcome.{Outcome}
+use Rattle.nr_reduce.specs.declared.mark.LinkParameters.{LinkParameters}
+use Rattle.nr_reduce.specs.declared.mark.Mark.{Mark}
+use Rattle.nr_reduce.specs.declared.mark.Mark.TheVariants as marks
+use Rattle.nr_reduce.specs.Opening.{IsOpened}
+use Rattle.nr_requester.specs.RequesterState.{RequesterSide}
+use Rattle.nr_client.specs.declared.call_end.CallEnd.{CallEnd}
+use Rattle.nr_client.specs.declared.call_end.CallEnd.TheVariants as calls
+use Rattle.nr_client.specs.declared.client_end.ClientEnd.{ClientEnd}
+use Rattle.nr_client.specs.declared.client_end.ClientEnd.TheVariants as client
+use Rattle.nr_client.specs.Calls.{ForgetsCalls}
+use Rattle.nr_client.specs.Ending.{IsCause, LinkCause}
+use Rattle.nr_client.specs.Following.{EndsWith, Follows, MakesCalls, Next, Unanswered}
+use Rattle.nr_client.specs.Following.Next.{Calls, Returns}
+use Rattle.nr_client.specs.Reading.{EndsReading, LeadsBy, OpenRead, ReadStep, ReadingAt, ReadsFile, reading, starts_at, xids_of}
+use Rattle.nr_client.specs.Reading.ReadStep.{MakesAlone, AsksAhead, TakesOldest}
+use Rattle.nr_client.specs.Reading.EndsReading.{EndsByReplies, OutputFails, NotAnswered, NotSubmitted, OldestForgotten}
+use Rattle.nr_client.specs.Requests.{Asks, create_result, mnt_call, mnt_result, symlink_call}
+use Rattle.nr_client.specs.Results.{Gives}
+use Rattle.nr_client.specs.Steps.{IsLive}
+use Rattle.nr_client.specs.Transfers.{LinkBytes}
+use Rattle.nr_client.specs.Walking.{parent_next, walk_next}
+use Rattle.nr_client.specs.Writing.{writing}
+use Rattle.nr_commands.specs.Commands.{Finds, FindsParent, IsSilent, Mounts, ReadsOut, Symlinks, WritesIn}
+use Rattle.nr_commands.specs.Sessions.{Fails, Part, Request, Requests, SessionAt, Text as Prints, Then}
+use Rattle.nr_service_laws.specs.ClientMarks.{StandsAt}
+use Rattle.nr_service_laws.specs.EndCauses.{CauseAt}
+use Rattle.nr_service_laws.specs.Exchanges.{Exchange, Exchanges, Tells, asked_exchanges, followed_exchanges, made_exchanges, read_exchanges, step_exchanges, steps_exchanges, tells_finds, tells_finds_parent, tells_mounts, tells_none, tells_reads_out, tells_request, tells_requests, tells_symlinks, tells_then, tells_writes_in, within_exchanges, write_exchanges_by}
+use Rattle.nr_service_laws.specs.Exchanges.Exchange.{Answered, Forgotten, GivenUp, HandedOver, Submitted}
+use Rattle.nr_service_laws.proofs.Judged.{Any, AreAnswers, Judgement, NextIs, RequestIs, ResultIs, IsReadEnd, answers_more, parent_is, reading_is, walk_is, writing_is}
+use Rattle.nr_service_laws.proofs.Files.{does_reading_end, does_steps}
+use Rattle.nr_service_laws.proofs.OneCall.{client_still}
+use Rattle.nr_service_laws.proofs.Parts.{Has, has_mounts}
+
+-- ---- Exchanges that are judged
+
+abbrev pub IsOf : List OpenRead → ℕ → Call → Type 0
+IsOf [] xid call = ⊥
+IsOf (read ∷ open_reads) xid call = ((read.xid ≡ xid) × (read.call ≡ call)) ⊎ IsOf open_reads xid call
+
+-- each outcome that is handed over is judged as one of its call; these READs were submitted before
+abbrev pub AreJudged : (Call → Outcome → Type 0) → List OpenRead → List Exchange → Type 0
+AreJudged R reads [] = Unit {0}
+AreJudged R reads (Answered call outcome ∷ rest) = R call outcome × AreJudged R reads rest
+AreJudged R reads (Forgotten call ∷ rest) = AreJudged R reads rest
+AreJudged R reads (Submitted xid call ∷ rest) = AreJudged R (record { xid = xid; call = call } ∷ reads) rest
+AreJudged R reads (HandedOver xid outcome ∷ rest) = ((call : Call) → IsOf reads xid call → R call outcome) × AreJudged R reads rest
+AreJudged R reads (GivenUp xid ∷ rest) = AreJudged R reads rest
+
+abbrev pub reads_after : List OpenRead → List Exchange → List OpenRead
+reads_after reads [] = reads
+reads_after reads (Submitted xid call ∷ rest) = reads_after (record { xid = xid; call = call } ∷ reads) rest
+reads_after reads (Answered call outcome ∷ rest) = reads_after reads rest
+reads_after reads (Forgotten call ∷ rest) = reads_after reads rest
+reads_after reads (HandedOver xid outcome ∷ rest) = reads_after reads rest
+reads_after reads (GivenUp xid ∷ rest) = reads_after reads rest
+
+pub judged_both : (R : Call → Outcome → Type 0) (reads : List OpenRead) (made later : List Exchange) → AreJudged R reads (made ++ later) → AreJudged R reads made × AreJudged R (reads_after reads made) later
+judged_both R reads [] later are = (tt, are)
+judged_both R reads (Answered call outcome ∷ rest) later (is, are) = let both = judged_both R reads rest later are in ((is, both.0), both.1)
+judged_both R reads (Forgotten call ∷ rest) later are = judged_both R reads rest later are
+judged_both R reads (Submitted xid call ∷ rest) later are = judged_both R (record { xid = xid; call = call } ∷ reads) rest later are
+judged_both R reads (HandedOver xid outcome ∷ rest) later (is, are) = let both = judged_both R reads rest later are in ((is, both.0), both.1)
+judged_both R reads (GivenUp xid ∷ rest) later are = judged_both R reads rest later are
+
+-- ---- Ends
+
+abbrev pub EndsAs : (ClientEnd → Type 0) → ClientEnd → LinkBytes → RequesterSide → Type 0
+EndsAs F client.DialFault b h = ⊥
+EndsAs F (client.Link end) b h = CauseAt end b h
+EndsAs F client.InputFault b h = Unit {0}
+EndsAs F client.OutputFault b h = Unit {0}
+EndsAs F client.Memory b h = Unit {0}
+EndsAs F end b h = F end
+
+abbrev pub GivenIs : {A : Type 0} → (A → Type 0) → (ClientEnd → Type 0) → Result A ClientEnd → LinkBytes → RequesterSide → Type 0
+GivenIs V F (Ok value) b h = V value
+GivenIs V F (Err end) b h = EndsAs F end b h
+
+end_is : (F : ClientEnd → Type 0) (end : ClientEnd) (b : LinkBytes) (h : RequesterSide) → IsReadEnd F end → EndsAs F end b h
+end_is F client.DialFault b h is = is
+end_is F (client.Link end) b h is = absurd is
+end_is F (client.Rpc kind code) b h is = is
+end_is F (client.Mount status) b h is = is
+end_is F (client.Nfs status) b h is = is
+end_is F client.Chunk b h is = is
+end_is F (client.Version low high) b h is = is
+end_is F (client.BadReply at reason) b h is = is
+end_is F (client.BadPath at) b h is = is
+end_is F client.InputFault b h is = tt
+end_is F client.OutputFault b h is = tt
+end_is F (client.Budget count) b h is = is
+end_is F client.Memory b h is = tt
+
+read_is : {A : Type 0} (V : A → Type 0) (F : ClientEnd → Type 0) (result : Result A ClientEnd) (b : LinkBytes) (h : RequesterSide) → ResultIs V F result → GivenIs V F result b h
+read_is V F (Ok value) b h is = is
+read_is V F (Err end) b h is = end_is F end b h is
+
+-- what is given is what is read, or memory ran out
+given_or_memory : {A : Type 0} (given read : Result A ClientEnd) → Gives given read → (given ≡ Err client.Memory) ⊎ (read ≡ given)
+given_or_memory (Ok value) read gives = inr gives
+given_or_memory (Err client.DialFault) read gives = inr gives
+given_or_memory (Err (client.Link end)) read gives = inr gives
+given_or_memory (Err (client.Rpc kind code)) read gives = inr gives
+given_or_memory (Err (client.Mount status)) read gives = inr gives
+given_or_memory (Err (client.Nfs status)) read gives = inr gives
+given_or_memory (Err client.Chunk) read gives = inr gives
+given_or_memory (Err (client.Version low high)) read gives = inr gives
+given_or_memory (Err (client.BadReply at reason)) read gives = inr gives
+given_or_memory (Err (client.BadPath at)) read gives = inr gives
+given_or_memory (Err client.InputFault) read gives = inr gives
+given_or_memory (Err client.OutputFault) read gives = inr gives
+given_or_memory (Err (client.Budget count)) read gives = inr gives
+given_or_memory (Err client.Memory) read gives = inl refl
+
+gives_is : {A : Type 0} (V : A → Type 0) (F : ClientEnd → Type 0) (given read : Result A ClientEnd) (b : LinkBytes) (h : RequesterSide) → Gives given read → ResultIs V F read → GivenIs V F given b h
+gives_is {A} V F given read b h gives is = by (given_or_memory given read gives)
+  where
+    by : (given ≡ Err client.Memory) ⊎ (read ≡ given) → GivenIs V F given b h
+    by (inl same) = subst (λ (r : Result A ClientEnd). GivenIs V F r b h) (sym same) tt
+    by (inr same) = read_is V F given b h (subst (λ (r : Result A ClientEnd). ResultIs V F r) same is)
+
+link_cause_at : (end : CallEnd) (b : LinkBytes) (h : RequesterSide) → LinkCause end b.left b.read h → CauseAt end b h
+link_cause_at (calls.Ended end) b h cause = inr cause
+link_cause_at calls.LinkRead b h cause = cause
+link_cause_at calls.LinkWrite b h cause = tt
+link_cause_at calls.Closed b h cause = cause
+link_cause_at (calls.Spent left_over need) b h cause = tt
+link_cause_at (calls.TooLarge need room) b h cause = tt
+link_cause_at (calls.Budget count) b h cause = cause
+link_cause_at calls.Memory b h cause = tt
+
+cause_at : (end : CallEnd) (b : LinkBytes) (h : RequesterSide) (call : Call) → IsCause end b.left b.read h call → CauseAt end b h
+cause_at (calls.Ended end) b h call cause = inr cause
+cause_at calls.LinkRead b h call cause = cause
+cause_at calls.LinkWrite b h call cause = tt
+cause_at calls.Closed b h call cause = cause
+cause_at (calls.Spent left_over need) b h call cause = tt
+cause_at (calls.TooLarge need room) b h call cause = tt
+cause_at (calls.Budget count) b h call cause = cause
+cause_at calls.Memory b h call cause = tt
+
+unanswered_is : (F : ClientEnd → Type 0) (call : Call) (b c : LinkBytes) (h i : RequesterSide) (end : ClientEnd) → Unanswered call b c h i end → EndsAs F end c i
+unanswered_is F call b c h i end (inl (cause, (is, (gives_up, why)))) = subst (λ (e : ClientEnd). EndsAs F e c i) (sym is) (cause_at cause c i call why)
+unanswered_is F call b c h i end (inr (is, same)) = subst (λ (e : ClientEnd). EndsAs F e c i) (sym is) tt
+
+-- ---- Requests
+
+asks_is : {A : Type 0} (R : Call → Outcome → Type 0) (V : A → Type 0) (F : ClientEnd → Type 0) (reads : Outcome → Result A ClientEnd) (call : Call) (b c : LinkBytes) (h i : RequesterSide) (result : Result A ClientEnd)
+    (asks : Asks reads call b c h i result) (before : List OpenRead) → ((o : Outcome) → R call o → ResultIs V F (reads o)) → AreJudged R before (asked_exchanges reads call b c h i result asks).made → GivenIs V F result c i
+asks_is R V F reads call b c h i result (inl (outcome, (answers, gives))) before judge are = gives_is V F result (reads outcome) c i gives (judge outcome are.0)
+asks_is {A} R V F reads call b c h i result (inr (inl (cause, (is, (gives_up, why))))) before judge are =
+    subst (λ (r : Result A ClientEnd). GivenIs V F r c i) (sym is) (cause_at cause c i call why)
+asks_is {A} R V F reads call b c h i result (inr (inr (is, same))) before judge are = subst (λ (r : Result A ClientEnd). GivenIs V F r c i) (sym is) tt
+
+answers_of : {A : Type 0} (R : Call → Outcome → Type 0) (request : List Outcome → Next A) (outcomes : List Outcome) (b c : LinkBytes) (h i : RequesterSide) (made : MakesCalls request outcomes b c h i) (before : List OpenRead)
+    → AreJudged R before (made_exchanges request outcomes b c h i made).made → AreAnswers R request outcomes
+answers_of R request [] b c h i made before are = tt
+answers_of R request (outcome ∷ outcomes) b c h i (call, d, j, (is, (answers, rest))) before (judged, are) =
+    ((call, (is, judged)), answers_of R (λ later. request (outcome ∷ later)) outcomes d c j i rest before are)
+
+ends_is : {A : Type 0} (V : A → Type 0) (F : ClientEnd → Type 0) (next : Next A) (b c : LinkBytes) (h i : RequesterSide) (given : Result A ClientEnd) → EndsWith next b c h i given → NextIs V F next → GivenIs V F given c i
+ends_is V F (Returns result) b c h i given (gives, same) is = gives_is V F given result c i gives is
+ends_is {A} V F (Calls call) b c h i given (end, (same, gone)) is = subst (λ (r : Result A ClientEnd). GivenIs V F r c i) (sym same) (unanswered_is F call b c h i end gone)
+
+follows_is : {A : Type 0} (R : Call → Outcome → Type 0) (V : A → Type 0) (F : ClientEnd → Type 0) (request : List Outcome → Next A) (b c : LinkBytes) (h i : RequesterSide) (given : Result A ClientEnd)
+    (f : Follows request b c h i given) (before : List OpenRead) → RequestIs R V F request → AreJudged R before (followed_exchanges request b c h i given f).made → GivenIs V F given c i
+follows_is R V F request b c h i given f before judge are =
+    let made = (made_exchanges request f.outcomes b f.between h f.side f.made).made in
+    ends_is V F (request f.outcomes) f.between c f.side i given f.ends
+    (judge f.outcomes (answers_of R request f.outcomes b f.between h f.side f.made before (judged_both R before made _ are).0))
+
+-- ---- A requester whose calls are forgotten
+
+keeps_ended : (opened : LinkParameters) (link : ℕ) (run : List Mark) (h i : RequesterSide) (xids : List ℕ) → IsLive opened link h run → ForgetsCalls xids h i → i.state.side.ended ≡ h.state.side.ended
+keeps_ended opened link run h i [] live same = ap (λ (x : RequesterSide). x.state.side.ended) same
+keeps_ended opened link run h i (xid ∷ xids) live (j, (forgets, rest)) =
+    let next = forgets.0 opened link run live in
+    keeps_ended opened link (run ++ marks.Forget link xid ∷ []) j i xids next rest
+    ∙ next.stands.keeps.kept.keeps.ended
+    ∙ ap (λ e. e.ended) (client_still opened link xid run)
+    ∙ sym live.stands.keeps.kept.keeps.ended
+
+cause_kept : (end : CallEnd) (b : LinkBytes) (h i : RequesterSide) → i.state.side.ended ≡ h.state.side.ended → CauseAt end b h → CauseAt end b i
+cause_kept (calls.Ended end) b h i same (inl is) = inl is
+cause_kept (calls.Ended end) b h i same (inr is) = inr (same ∙ is)
+cause_kept calls.LinkRead b h i same (is, rest) = (same ∙ is, rest)
+cause_kept calls.LinkWrite b h i same cause = tt
+cause_kept calls.Closed b h i same (is, rest) = (same ∙ is, rest)
+cause_kept (calls.Spent left_over need) b h i same cause = tt
+cause_kept (calls.TooLarge need room) b h i same cause = tt
+cause_kept (calls.Budget count) b h i same (is, rest) = (same ∙ is, rest)
+cause_kept calls.Memory b h i same cause = tt
+
+ends_kept : (F : ClientEnd → Type 0) (end : ClientEnd) (b : LinkBytes) (h i : RequesterSide) → i.state.side.ended ≡ h.state.side.ended → EndsAs F end b h → EndsAs F end b i
+ends_kept F client.DialFault b h i same is = is
+ends_kept F (client.Link end) b h i same is = cause_kept end b h i same is
+ends_kept F (client.Rpc kind code) b h i same is = is
+ends_kept F (client.Mount status) b h i same is = is
+ends_kept F (client.Nfs status) b h i same is = is
+ends_kept F client.Chunk b h i same is = is
+ends_kept F (client.Version low high) b h i same is = is
+ends_kept F (client.BadReply at reason) b h i same is = is
+ends_kept F (client.BadPath at) b h i same is = is
+ends_kept F client.InputFault b h i same is = is
+ends_kept F client.OutputFault b h i same is = is
+ends_kept F (client.Budget count) b h i same is = is
+ends_kept F client.Memory b h i same is = is
+
+given_kept : (V : Unit {0} → Type 0) (F : ClientEnd → Type 0) (given : Result (Unit {0}) ClientEnd) (b : LinkBytes) (h i : RequesterSide) → i.state.side.ended ≡ h.state.side.ended → GivenIs V F given b h → GivenIs V F given b i
+given_kept V F (Ok value) b h i same is = is
+given_kept V F (Err end) b h i same is = ends_kept F end b h i same is
+
+given_out : (V : Unit {0} → Type 0) (F : ClientEnd → Type 0) (given : Result (Unit {0}) ClientEnd) (b : LinkBytes) (i : RequesterSide) → given ≡ Err (client.Link (calls.Ended ends.Memory)) → GivenIs V F given b i
+given_out V F given b i is = subst (λ (r : Result (Unit {0}) ClientEnd). GivenIs V F r b i) (sym is) (inl refl)
+
+-- ---- A file that is read
+
+AllOf : List OpenRead → List OpenRead → Type 0
+AllOf reads [] = Unit {0}
+AllOf reads (read ∷ waiting) = IsOf reads read.xid read.call × AllOf reads waiting
+
+all_more : (read : OpenRead) (reads waiting : List OpenRead) → AllOf reads waiting → AllOf (read ∷ reads) waiting
+unfolding AllOf
+all_more read reads [] all = tt
+all_more read reads (x ∷ waiting) (is, all) = (inr is, all_more read reads waiting all)
+
+all_last : (read : OpenRead) (reads waiting : List OpenRead) → AllOf reads waiting → IsOf reads read.xid read.call → AllOf reads (waiting ++ read ∷ [])
+unfolding AllOf
+all_last read reads [] all is = (is, tt)
+all_last read reads (x ∷ waiting) (one, all) is = (one, all_last read reads waiting all is)
+
+record IsReadSoFar (R : Call → Outcome → Type 0) (uid gid : ℕ) (file : List ℕ) (reads : List OpenRead) (s : ReadingAt) : Type 0 where
+  answers : AreAnswers R (reading uid gid file) s.outcomes
+  waiting : AllOf reads s.waiting
+
+step_judged : (R : Call → Outcome → Type 0) (uid gid : ℕ) (file : List ℕ) (reads : List OpenRead) (s t : ReadingAt) (step : ReadStep uid gid file s t) → IsReadSoFar R uid gid file reads s
+    → AreJudged R reads (step_exchanges uid gid file s t step).made → IsReadSoFar R uid gid file (reads_after reads (step_exchanges uid gid file s t step).made) t
+unfolding AllOf
+step_judged R uid gid file reads s t (MakesAlone call outcome alone answers replies waits) so_far (judged, are) = record {
+  answers = subst (λ (os : List Outcome). AreAnswers R (reading uid gid file) os) (sym replies) (answers_more R (reading uid gid file) s.outcomes call outcome so_far.answers alone.0 judged);
+  waiting = subst (λ (w : List OpenRead). AllOf reads w) (sym waits) so_far.waiting;
+}
+step_judged R uid gid file reads s t (AsksAhead read ahead submits replies waits) so_far are = record {
+  answers = subst (λ (os : List Outcome). AreAnswers R (reading uid gid file) os) (sym replies) so_far.answers;
+  waiting = subst (λ (w : List OpenRead). AllOf (record { xid = read.xid; call = read.call } ∷ reads) w) (sym waits)
+      (all_last read (record { xid = read.xid; call = read.call } ∷ reads) s.waiting (all_more (record { xid = read.xid; call = read.call }) reads s.waiting so_far.waiting) (inl (refl, refl)));
+}
+step_judged R uid gid file reads s t (TakesOldest read outcome full is completes replies waits) so_far (judged, are) =
+    let all = subst (λ (w : List OpenRead). AllOf reads w) waits so_far.waiting in
+    record {
+      answers = subst (λ (os : List Outcome). AreAnswers R (reading uid gid file) os) (sym replies)
+          (answers_more R (reading uid gid file) s.outcomes read.call outcome so_far.answers is (judged read.call all.0));
+      waiting = all.1;
+    }
+
+steps_judged : (R : Call → Outcome → Type 0) (uid gid : ℕ) (file : List ℕ) (reads : List OpenRead) (b : LinkBytes) (h : RequesterSide) (states : List ReadingAt) (last : ReadingAt) (leads : LeadsBy uid gid file (starts_at b h) states last)
+    → AreJudged R reads (steps_exchanges uid gid file (starts_at b h) states last leads).made → IsReadSoFar R uid gid file (reads_after reads (steps_exchanges uid gid file (starts_at b h) states last leads).made) last
+unfolding AllOf
+steps_judged R uid gid file reads b h [] last same are = subst (λ (s : ReadingAt). IsReadSoFar R uid gid file reads s) (sym same) (record { answers = tt; waiting = tt })
+steps_judged R uid gid file reads b h (s ∷ states) last (step, leads) are =
+    let before = (steps_exchanges uid gid file (starts_at b h) states s leads).made in
+    let one = (step_exchanges uid gid file s last step).made in
+    let both = judged_both R reads before one are in
+    subst (λ (r : List OpenRead). IsReadSoFar R uid gid file r last) (sym (after_both reads before one))
+    (step_judged R uid gid file (reads_after reads before) s last step (steps_judged R uid gid file reads b h states s leads both.0) both.1)
+  where
+    after_both : (rs : List OpenRead) (made later : List Exchange) → reads_after rs (made ++ later) ≡ reads_after (reads_after rs made) later
+    after_both rs [] later = refl
+    after_both rs (Answered call outcome ∷ rest) later = after_both rs rest later
+    after_both rs (Forgotten call ∷ rest) later = after_both rs rest later
+    after_both rs (Submitted xid call ∷ rest) later = after_both (record { xid = xid; call = call } ∷ rs) rest later
+    after_both rs (HandedOver xid outcome ∷ rest) later = after_both rs rest later
+    after_both rs (GivenUp xid ∷ rest) later = after_both rs rest later
+
+returned_is : (F : ClientEnd → Type 0) (given : Result (Unit {0}) ClientEnd) (next : Next (Unit {0})) (b : LinkBytes) (h : RequesterSide) → NextIs Any F next → (given ≡ Err client.Memory) ⊎ (next ≡ Returns given) → GivenIs Any F given b h
+returned_is F given next b h is (inl same) = subst (λ (r : Result (Unit {0}) ClientEnd). GivenIs Any F r b h) (sym same) tt
+returned_is F given next b h is (inr same) = read_is Any F given b h (subst (λ (n : Next (Unit {0})). NextIs Any F n) same is)
+
+reading_end_is : (F : ClientEnd → Type 0) (uid gid : ℕ) (file : List ℕ) (s : ReadingAt) (left : List OpenRead) (b : LinkBytes) (h : RequesterSide) (taken taken' : Option (List ℕ)) (given : Result (Unit {0}) ClientEnd)
+    → EndsReading uid gid file s left b h taken taken' given → NextIs Any F (reading uid gid file s.outcomes) → GivenIs Any F given b h
+reading_end_is F uid gid file s left b h taken taken' given (EndsByReplies same is waits takes) next = returned_is F given (reading uid gid file s.outcomes) b h next is
+reading_end_is F uid gid file s left b h taken taken' given (OutputFails is same waits takes) next = subst (λ (r : Result (Unit {0}) ClientEnd). GivenIs Any F r b h) (sym is) tt
+reading_end_is F uid gid file s left b h taken taken' given (NotAnswered call end alone is gone waits takes) next =
+    subst (λ (r : Result (Unit {0}) ClientEnd). GivenIs Any F r b h) (sym is) (unanswered_is F call s.bytes b s.side h end gone)
+reading_end_is F uid gid file s left b h taken taken' given (NotSubmitted call end ahead is refused waits takes) next =
+    subst (λ (r : Result (Unit {0}) ClientEnd). GivenIs Any F r b h) (sym is) (cause_at end b h call refused.1)
+reading_end_is F uid gid file s left b h taken taken' given (OldestForgotten read end full is given_is forgets waits takes) next =
+    subst (λ (r : Result (Unit {0}) ClientEnd). GivenIs Any F r b h) (sym given_is) (link_cause_at end b h forgets.1)
+
+-- ---- Parts
+
+pub live_after : {A : Type 0} (value : A) (opened : LinkParameters) (link : ℕ) (h : RequesterSide) (ahead : List ℕ) (run : List Mark) → StandsAt {A = A} (Ok value) opened link h ahead run → IsLive opened link h run
+live_after value opened link h ahead run (inl (live, fed)) = live
+live_after value opened link h ahead run (inr (is, out)) = absurd (let wrong = is in cc)
+
+reads_is : (R : Call → Outcome → Type 0) (F : ClientEnd → Type 0) (uid gid : ℕ) (file : List ℕ) (b c : LinkBytes) (h i : RequesterSide) (taken taken' : Option (List ℕ)) (given : Result (Unit {0}) ClientEnd)
+    (f : ReadsFile uid gid file b c h i taken taken' given) (before : List OpenRead) (opened : LinkParameters) (link : ℕ) (run : List Mark) → RequestIs R Any F (reading uid gid file) → IsOpened opened → IsLive opened link h run
+    → AreJudged R before (read_exchanges uid gid file b c h i taken taken' given f).made → GivenIs Any F given c i
+reads_is R F uid gid file b c h i taken taken' given f before opened link run judge fine live are =
+    let steps = (steps_exchanges uid gid file (starts_at b h) f.between f.last f.made).made in
+    let so_far = steps_judged R uid gid file before b h f.between f.last f.made (judged_both R before steps _ are).0 in
+    let end = reading_end_is F uid gid file f.last f.left c f.side taken taken' given f.ends (judge f.last.outcomes so_far.answers) in
+    let done = does_steps uid gid file (starts_at b h) f.between f.last f.made opened link run fine live in
+    let there = live_after {A = Unit {0}} tt opened link f.last.side done.ahead (run ++ done.more) done.stands in
+    let last = does_reading_end uid gid file f.last f.left c f.side taken taken' given f.ends opened link (run ++ done.more) fine there in
+    by last.ahead ((run ++ done.more) ++ last.more) last.stands end
+  where
+    by : (ahead : List ℕ) (all : List Mark) → StandsAt given opened link f.side ahead all → GivenIs Any F given c f.side → GivenIs Any F given c i
+    by ahead all (inl (stands, fed)) is = given_kept Any F given c f.side i (keeps_ended opened link all f.side i (xids_of f.left) stands f.forgets) is
+    by ahead all (inr (out, stands)) is = given_out Any F given c i out
+
+-- what each part gives, with the cause of its end
+abbrev pub PartIs : (Call → Outcome → Type 0) → {A : Type 0} → (A → Type 0) → (ClientEnd → Type 0) → (part : Part A) → Tells part → Type 0
+PartIs R {A} V F part exchanges =
+    (s s' : SessionAt) (result : Result A ClientEnd) (is : part s s' result) (before : List OpenRead) (opened : LinkParameters) (link : ℕ) (run : List Mark) → IsOpened opened → IsLive opened link s.requester run
+    → AreJudged R before (exchanges s s' result is).made → GivenIs V F result s'.bytes s'.requester
+
+pub text_is : (R : Call → Outcome → Type 0) (F : ClientEnd → Type 0) (text : List ℕ) → PartIs R Any F (Prints text) (tells_none (Prints text))
+text_is R F text s s' (Ok t) (same, is) before opened link run fine live are = tt
+text_is R F text s s' (Err end) (same, is) before opened link run fine live are = subst (λ (e : ClientEnd). EndsAs F e s'.bytes s'.requester) (sym is) tt
+
+pub request_is : {A : Type 0} (R : Call → Outcome → Type 0) (V : A → Type 0) (F : ClientEnd → Type 0) (reads : Outcome → Result A ClientEnd) (call : Call) → ((o : Outcome) → R call o → ResultIs V F (reads o))
+    → PartIs R V F (Request reads call) (tells_request reads call)
+request_is R V F reads call judge s s' result is before opened link run fine live are = asks_is R V F reads call s.bytes s'.bytes s.requester s'.requester result is.0 before judge are
+
+pub requests_is : {A : Type 0} (R : Call → Outcome → Type 0) (V : A → Type 0) (F : ClientEnd → Type 0) (request : List Outcome → Next A) → RequestIs R V F request → PartIs R V F (Requests request) (tells_requests request)
+requests_is R V F request judge s s' result is before opened link run fine live are = follows_is R V F request s.bytes s'.bytes s.requester s'.requester result is.0 before judge are
+
+pub then_is : {A B : Type 0} (R : Call → Outcome → Type 0) (V : A → Type 0) (W : B → Type 0) (F : ClientEnd → Type 0) (first : Part A) (next : A → Part B) (exchanges : Tells first) (later : (value : A) → Tells (next value))
+    → Has first exchanges → PartIs R V F first exchanges → ((value : A) → V value → PartIs R W F (next value) (later value)) → PartIs R W F (Then first next) (tells_then first next exchanges later)
+then_is {A} R V W F first next exchanges later has judge goes_on s s' result (inl (value, (mid, (is, goes)))) before opened link run fine live are =
+    let both = judged_both R before (exchanges s mid (Ok value) is).made (later value mid s' result goes).made are in
+    let done = has s mid (Ok value) is opened link run fine live in
+    goes_on value (judge s mid (Ok value) is before opened link run fine live both.0) mid s' result goes (reads_after before (exchanges s mid (Ok value) is).made) opened link (run ++ done.more) fine
+    (live_after {A = A} value opened link mid.requester done.ahead (run ++ done.more) done.stands) both.1
+then_is {A} {B} R V W F first next exchanges later has judge goes_on s s' result (inr (end, (is, same))) before opened link run fine live are =
+    subst (λ (r : Result B ClientEnd). GivenIs W F r s'.bytes s'.requester) (sym same) (judge s s' (Err end) is before opened link run fine live are)
+
+within_is : (above : Bool) (Above Within Is : Type 0) (exchanges : Within → Exchanges) (J : List Exchange → Type 0) → (Above → Is) → ((is : Within) → J (exchanges is).made → Is)
+    → (is : MatchBool above Above Within) → J (within_exchanges above Above Within exchanges is).made → Is
+within_is true Above Within Is exchanges J beyond within is are = beyond is
+within_is false Above Within Is exchanges J beyond within is are = within is are
+
+module _ (R : Call → Outcome → Type 0) (V : List ℕ → Type 0) (F : ClientEnd → Type 0) (uid gid : ℕ) (judge : Judgement R V F uid gid) where
+  fails_is : {A : Type 0} (W : A → Type 0) (count : ℕ) (s s' : SessionAt) (result : Result A ClientEnd) → Fails (client.Budget count) s s' result → GivenIs W F result s'.bytes s'.requester
+  fails_is {A} W count s s' result (same, is) = subst (λ (r : Result A ClientEnd). GivenIs W F r s'.bytes s'.requester) (sym is) (judge.over_budget count)
+
+  pub mounts_is : (export : List ℕ) → PartIs R V F (Mounts uid gid export) (tells_mounts uid gid export)
+  mounts_is export s s' result is before opened link run fine live are =
+      within_is (nat_lt mount_path_max (length export)) (Fails (client.Budget mount_path_max) s s' result) (Request mnt_result (mnt_call uid gid export) s s' result)
+      (GivenIs V F result s'.bytes s'.requester) (tells_request mnt_result (mnt_call uid gid export) s s' result) (AreJudged R before)
+      (fails_is V mount_path_max s s' result)
+      (λ made judged. request_is R V F mnt_result (mnt_call uid gid export) (judge.mounted export) s s' result made before opened link run fine live judged) is are
+
+  pub symlinks_is : (dir name target : List ℕ) → PartIs R Any F (Symlinks uid gid dir name target) (tells_symlinks uid gid dir name target)
+  symlinks_is dir name target s s' result is before opened link run fine live are =
+      within_is (nat_lt link_target_max (length target)) (Fails (client.Budget link_target_max) s s' result) (Request create_result (symlink_call uid gid dir name target) s s' result)
+      (GivenIs Any F result s'.bytes s'.requester) (tells_request create_result (symlink_call uid gid dir name target) s s' result) (AreJudged R before)
+      (fails_is Any link_target_max s s' result)
+      (λ made judged. request_is R Any F create_result (symlink_call uid gid dir name target) (judge.link_made dir name target) s s' result made before opened link run fine live judged) is are
+
+  pub finds_is : (export path : List ℕ) → PartIs R V F (Finds uid gid export path) (tells_finds uid gid export path)
+  finds_is export path =
+      then_is R V V F (Mounts uid gid export) (λ root. Requests (walk_next uid gid root path)) (tells_mounts uid gid export) (λ root. tells_requests (walk_next uid gid root path))
+      (has_mounts uid gid export) (mounts_is export) (λ root holds. requests_is R V F (walk_next uid gid root path) (walk_is R V F uid gid judge root path holds))
+
+  pub finds_parent_is : (export path : List ℕ) → PartIs R (λ (p : List ℕ × List ℕ). V p.0) F (FindsParent uid gid export path) (tells_finds_parent uid gid export path)
+  finds_parent_is export path =
+      then_is R V (λ (p : List ℕ × List ℕ). V p.0) F (Mounts uid gid export) (λ root. Requests (parent_next uid gid root path)) (tells_mounts uid gid export) (λ root. tells_requests (parent_next uid gid root path))
+      (has_mounts uid gid export) (mounts_is export)
+      (λ root holds. requests_is R (λ (p : List ℕ × List ℕ). V p.0) F (parent_next uid gid root path) (parent_is R V F uid gid judge root path holds))
+
+  -- parts that have no text
+  silent_is : (s' : SessionAt) (done : Result (Unit {0}) ClientEnd) (text : Result (List ℕ) ClientEnd) → IsSilent done text → GivenIs Any F done s'.bytes s'.requester → GivenIs Any F text s'.bytes s'.requester
+  silent_is s' (Ok done) (Ok text) silent is = tt
+  silent_is s' (Ok done) (Err why) silent is = absurd silent
+  silent_is s' (Err end) (Ok text) silent is = absurd silent
+  silent_is s' (Err end) (Err why) silent is = subst (λ (e : ClientEnd). EndsAs F e s'.bytes s'.requester) (sym silent) is
+
+  pub reads_out_is : (file : List ℕ) (out out' : SinkAt) → V file → PartIs R Any F (ReadsOut uid gid file out out') (tells_reads_out uid gid file out out')
+  reads_out_is file out out' holds s s' text (done, ((reads, counts), silent)) before opened link run fine live are =
+      silent_is s' done text silent
+      (reads_is R F uid gid file s.bytes s'.bytes s.requester s'.requester out.taken out'.taken done reads before opened link run (reading_is R V F uid gid judge file holds) fine live are)
+
+  writes_is : (dir name input : List ℕ) (b c : LinkBytes) (h i : RequesterSide) (result : Result (Unit {0}) ClientEnd) (w : Follows (writing uid gid dir name input) b c h i result ⊎ ((result ≡ Err client.InputFault) × ((c ≡ b) × (i ≡ h))))
+      (before : List OpenRead) → AreJudged R before (write_exchanges_by uid gid dir name input b c h i result w).made → GivenIs Any F result c i
+  writes_is dir name input b c h i result (inl follows) before are =
+      follows_is R Any F (writing uid gid dir name input) b c h i result follows before (writing_is R V F uid gid judge dir name input) are
+  writes_is dir name input b c h i result (inr (is, same)) before are = subst (λ (r : Result (Unit {0}) ClientEnd). GivenIs Any F r c i) (sym is) tt
+
+  pub writes_in_is : (dir name : List ℕ) (input input' : SourceAt) → PartIs R Any F (WritesIn uid gid dir name input input') (tells_writes_in uid gid dir name input input')
+  writes_in_is dir name input input' s s' text (done, ((writes, counts), silent)) before opened link run fine live are =
+      silent_is s' done text silent (writes_is dir name (writes.handed ++ writes.rest) s.bytes s'.bytes s.requester s'.requester done writes.calls before are)
