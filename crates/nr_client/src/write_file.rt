@@ -56,11 +56,7 @@ fn read_through<N: Source>(
 }
 
 /// Reads an input to its end, or until more than the maximum came.
-fn read_input<N: Source>(
-    alloc: Global,
-    input: &mut N,
-    bytes: &mut Vec<u8>,
-) -> Result<(), ClientEnd>
+fn read_input<N: Source>(alloc: Global, input: &mut N, bytes: &mut Vec<u8>) -> Result<(), ClientEnd>
     requires { bytes.old.items ≡ [] }
     ensures handed { OnOk result (HandsOut (N.left input.old) (N.given input.old) (N.left input.new) (N.given input.new) bytes.new.items) }
     ensures complete { OnOk result (IsComplete bytes.new.items (N.left input.new)) }
