@@ -1,10 +1,15 @@
 /* What bench/links.sh compares with: round trips and bytes one way over a TCP connection, without any protocol.
  *
  *     echo serve PORT REQUEST REPLY        takes one connection, and answers each REQUEST bytes by REPLY bytes; it only reads if REPLY is 0
+ *     echo save PORT                       takes one connection, and writes what it reads to its output
+ *     echo store PORT PIECE                takes one connection with the passes of WRITEs of PIECE bytes, and keeps their data
  *     echo turns PORT REQUEST REPLY COUNT  makes COUNT round trips, one after another
  *     echo send PORT BYTES PIECE           sends BYTES in pieces, and waits until the server has read them
+ *     echo put PORT PIECE                  reads its input to the end, and sends it in the passes of WRITEs, one after another, to `store`
+ *     echo hold                            reads its input to the end into memory
  *
- * The clients print the microseconds that it took. */
+ * A WRITE has four passes: a Send of CALL bytes, a Read Request of REQUEST bytes back, the data, and a reply of ANSWER bytes back. The clients
+ * print the microseconds that it took. */
 #include <arpa/inet.h>
 #include <netinet/in.h>
 #include <netinet/tcp.h>
@@ -15,7 +20,7 @@
 #include <time.h>
 #include <unistd.h>
 
-enum { ROOM = 65536 };
+enum { ROOM = 65536, CALL = 172, REQUEST = 52, ANSWER = 232 };
 static unsigned char room[ROOM];
 
 static void fail(const char *what)
@@ -62,7 +67,8 @@ static void no_delay(int s)
         fail("setsockopt");
 }
 
-static void serve(int port, long request, long reply)
+/* Takes one connection. */
+static int take(int port)
 {
     int on = 1, listener = socket(AF_INET, SOCK_STREAM, 0);
     struct sockaddr_in at = address(port);
@@ -72,7 +78,14 @@ static void serve(int port, long request, long reply)
     int link = accept(listener, 0, 0);
     if (link < 0)
         fail("accept");
+    close(listener);
     no_delay(link);
+    return link;
+}
+
+static void serve(int port, long request, long reply)
+{
+    int link = take(port);
     if (reply == 0) {
         while (read(link, room, ROOM) > 0) {
         }
@@ -81,6 +94,51 @@ static void serve(int port, long request, long reply)
             write_all(link, reply);
     }
     close(link);
+}
+
+static void save(int port)
+{
+    int link = take(port);
+    ssize_t n;
+    while ((n = read(link, room, ROOM)) > 0)
+        for (ssize_t at = 0, put; at < n; at += put)
+            if ((put = write(1, room + at, n - at)) <= 0)
+                fail("output");
+    close(link);
+}
+
+static void store(int port, long piece)
+{
+    int link = take(port);
+    while (read_all(link, CALL)) {
+        unsigned char *kept = malloc(piece);
+        write_all(link, REQUEST);
+        for (long at = 0; at < piece;) {
+            ssize_t n = read(link, kept + at, piece - at);
+            if (n <= 0)
+                fail("read");
+            at += n;
+        }
+        write_all(link, ANSWER);
+    }
+    close(link);
+}
+
+/* Reads the input to its end into memory that doubles; answers its length. */
+static long hold(unsigned char **bytes)
+{
+    long len = 0, size = ROOM;
+    *bytes = malloc(size);
+    for (;;) {
+        if (size - len < ROOM)
+            *bytes = realloc(*bytes, size *= 2);
+        ssize_t n = read(0, *bytes + len, ROOM);
+        if (n < 0 || !*bytes)
+            fail("input");
+        if (n == 0)
+            return len;
+        len += n;
+    }
 }
 
 static int dial(int port)
@@ -110,6 +168,38 @@ int main(int count, char **words)
 {
     if (count == 5 && !strcmp(words[1], "serve")) {
         serve(atoi(words[2]), atol(words[3]), atol(words[4]));
+        return 0;
+    }
+    if (count == 3 && !strcmp(words[1], "save")) {
+        save(atoi(words[2]));
+        return 0;
+    }
+    if (count == 4 && !strcmp(words[1], "store")) {
+        store(atoi(words[2]), atol(words[3]));
+        return 0;
+    }
+    if (count == 2 && !strcmp(words[1], "hold")) {
+        unsigned char *bytes;
+        double begun = now();
+        hold(&bytes);
+        printf("%.0f\n", now() - begun);
+        return 0;
+    }
+    if (count == 4 && !strcmp(words[1], "put")) {
+        int link = dial(atoi(words[2]));
+        long piece = atol(words[3]);
+        unsigned char *bytes;
+        double begun = now();
+        for (long left = hold(&bytes); left >= piece; left -= piece, bytes += piece) {
+            write_all(link, CALL);
+            if (!read_all(link, REQUEST))
+                fail("end");
+            if (write(link, bytes, piece) != piece)
+                fail("write");
+            if (!read_all(link, ANSWER))
+                fail("end");
+        }
+        printf("%.0f\n", now() - begun);
         return 0;
     }
     if (count == 6 && !strcmp(words[1], "turns")) {

@@ -1,5 +1,5 @@
 -- A file is read: one READ more is submitted, or answered.
-use Rattle.std.proofs.Common.{◌≡◌, ℕ, ◌+◌, ◌<◌, if◌then◌else◌, List, [], ◌∷◌, ◌++◌, length, Option, Result, Ok, inl, inr, ◌⊎◌, refl, sym, ap, subst, ◌∙◌}
+use Rattle.std.proofs.Common.{◌≡◌, ℕ, suc, ◌+◌, ◌<◌, ◌≤◌, if◌then◌else◌, List, [], ◌∷◌, ◌++◌, length, Option, Result, Ok, inl, inr, ◌⊎◌, refl, sym, ap, subst, ◌∙◌}
 use Rattle.std.proofs.lemmas.Bool.{lt-ltb}
 use Rattle.std.proofs.lemmas.List.Sums.{fold-append}
 use Rattle.std.proofs.KnownBytes.{Appends-nil, Appends-trans}
@@ -12,7 +12,7 @@ use Rattle.nr_requester.specs.RequesterState.{RequesterSide}
 use Rattle.nr_client.specs.declared.client_end.ClientEnd.{ClientEnd}
 use Rattle.nr_client.specs.Calls.{Answers, Completes, Submits}
 use Rattle.nr_client.specs.Following.Next.{Calls}
-use Rattle.nr_client.specs.Reading.{FileRead, IsMadeAhead, IsMadeAlone, NoneIsMadeAhead, OpenRead, ReadingAt, after_reply, file_read, is_at_piece, next_read, piece_left, read_ahead, read_call, read_result, reading, starts_at, with_data, with_size}
+use Rattle.nr_client.specs.Reading.{FileRead, IsMadeAhead, IsMadeAlone, NoneIsMadeAhead, OpenRead, ReadingAt, after_reply, file_read, is_at_piece, next_read, piece_left, read_ahead, read_call, read_result, reading, reads_max, starts_at, with_data, with_size}
 use Rattle.nr_client.specs.Reading.FileRead.{NothingKnown, SizeKnown}
 use Rattle.nr_client.specs.Reading.ReadStep.{MakesAlone, AsksAhead, TakesOldest}
 use Rattle.nr_client.specs.Requests.{Asks, getattr_call, getattr_result}
@@ -59,6 +59,10 @@ read_started uid gid file b c h i taken attributes (inl (outcome, (answered, rea
 read_started uid gid file b c h i taken attributes (inr (inl (end, (is, rest)))) = absurd (cc)
 read_started uid gid file b c h i taken attributes (inr (inr (is, rest))) = absurd (cc)
 
+reads_length : (uid gid : ℕ) (file : List ℕ) (size from : ℕ) (xids : List ℕ) → length (reads_from uid gid file size from xids) ≡ length xids
+reads_length uid gid file size from [] = refl
+reads_length uid gid file size from (xid ∷ xids) = ap suc (reads_length uid gid file size (from + piece_left size from) xids)
+
 -- a READ is submitted ahead
 pub is_ahead : (uid gid : ℕ) (file : List ℕ) (size at next : ℕ) (xids : List ℕ) (bytes : List ℕ) (outcomes : List Outcome) (b : LinkBytes) (h : RequesterSide)
     → at < size → file_read outcomes ≡ SizeKnown size at bytes → ReadsAhead h size at next xids → MayAsk size next xids h
@@ -71,9 +75,9 @@ is_ahead uid gid file size at next xids bytes outcomes b h below state ahead may
   ),
 )
   where
-    by : (xids ≡ []) ⊎ HasCreditLeft h → (reads_from uid gid file size at xids ≡ []) ⊎ HasCreditLeft h
+    by : (xids ≡ []) ⊎ (HasCreditLeft h × (length xids < reads_max)) → (reads_from uid gid file size at xids ≡ []) ⊎ (HasCreditLeft h × (length (reads_from uid gid file size at xids) < reads_max))
     by (inl none) = inl (ap (reads_from uid gid file size at) none)
-    by (inr credit) = inr credit
+    by (inr (credit, fewer)) = inr (credit, subst (λ (n : ℕ). n < reads_max) (sym (reads_length uid gid file size at xids)) fewer)
 
 pub asked_more : (uid gid : ℕ) (file : List ℕ) (size at next : ℕ) (xids : List ℕ) (xid : ℕ) (first : ReadingAt) (t u : Option (List ℕ)) (b c : LinkBytes) (h i : RequesterSide)
     → at < size → ReadsAhead h size at next xids → MayAsk size next xids h → Submits b c h i (read_call uid gid file next (piece_left size next)) xid
@@ -99,7 +103,8 @@ pub none_ahead : (uid gid : ℕ) (file : List ℕ) (size at next : ℕ) (xids : 
     → NoneIsMadeAhead uid gid file (moment outcomes (reads_from uid gid file size at xids) b h)
 none_ahead uid gid file size at next xids bytes outcomes b h state ahead (inl above) =
     inl (ap (λ (s : FileRead). read_ahead uid gid file s (reads_from uid gid file size at xids)) state ∙ asks_none uid gid file size at next xids bytes above ahead.next_is)
-none_ahead uid gid file size at next xids bytes outcomes b h state ahead (inr (some, full)) = inr full
+none_ahead uid gid file size at next xids bytes outcomes b h state ahead (inr (some, inl full)) = inr (inl full)
+none_ahead uid gid file size at next xids bytes outcomes b h state ahead (inr (some, inr many)) = inr (inr (subst (λ (n : ℕ). reads_max ≤ n) (sym (reads_length uid gid file size at xids)) many))
 
 -- the state after the data of a READ were written
 pub data_came : (size at at' count step : ℕ) (bytes : List ℕ) (outcomes : List Outcome) (outcome : Outcome) (results : ReadOk) → file_read outcomes ≡ SizeKnown size at bytes

@@ -23,6 +23,7 @@ use Rattle.nr_client.specs.declared.client_end.ClientEnd.{ClientEnd}
 use Rattle.nr_client.specs.declared.client_end.ClientEnd.TheVariants as client
 use Rattle.nr_client.specs.declared.call_end.CallEnd.{CallEnd}
 use Rattle.nr_client.specs.Calls.{Answers, Completes, Forgets, ForgetsCalls, RefusesToSubmit, Submits}
+use Rattle.nr_client.specs.Dialing.{session_credits}
 use Rattle.nr_client.specs.Ending.{IsCause, LinkCause}
 use Rattle.nr_client.specs.Following.{Next, Unanswered}
 use Rattle.nr_client.specs.Following.Next.{Calls, Returns}
@@ -164,14 +165,18 @@ read_ahead uid gid file (ReadEnds end bytes) reads = None
 abbrev pub IsMadeAlone : (uid gid : ℕ) → (file : List ℕ) → ReadingAt → Call → Type 0
 IsMadeAlone uid gid file s call = (reading uid gid file s.outcomes ≡ Calls call) × (is_at_piece (file_read s.outcomes) ≡ false)
 
--- The READ of a piece is submitted while others are outstanding, if a credit is left. If none is outstanding, it waits for a credit.
+-- the most READs of a file that are outstanding: as many as the credits that a session wishes for
+abbrev pub reads_max : ℕ
+reads_max = session_credits
+
+-- The READ of a piece is submitted while fewer than the maximum are outstanding, if a credit is left. If none is outstanding, it waits for a credit.
 abbrev pub IsMadeAhead : (uid gid : ℕ) → (file : List ℕ) → ReadingAt → Call → Type 0
 IsMadeAhead uid gid file s call =
-    (is_at_piece (file_read s.outcomes) ≡ true) × ((read_ahead uid gid file (file_read s.outcomes) s.waiting ≡ Some call) × ((s.waiting ≡ []) ⊎ HasCreditLeft s.side))
+    (is_at_piece (file_read s.outcomes) ≡ true) × ((read_ahead uid gid file (file_read s.outcomes) s.waiting ≡ Some call) × ((s.waiting ≡ []) ⊎ (HasCreditLeft s.side × (length s.waiting < reads_max))))
 
--- no credit is left, or a READ of each piece up to the size is outstanding
+-- no credit is left, or a READ of each piece up to the size is outstanding, or the maximum of READs is
 abbrev pub NoneIsMadeAhead : (uid gid : ℕ) → (file : List ℕ) → ReadingAt → Type 0
-NoneIsMadeAhead uid gid file s = (read_ahead uid gid file (file_read s.outcomes) s.waiting ≡ None) ⊎ (s.side.state.grant ≤ length s.side.state.outstanding)
+NoneIsMadeAhead uid gid file s = (read_ahead uid gid file (file_read s.outcomes) s.waiting ≡ None) ⊎ ((s.side.state.grant ≤ length s.side.state.outstanding) ⊎ (reads_max ≤ length s.waiting))
 
 -- A step: a call was made alone; or a READ was submitted ahead; or, when none is, the oldest READ was answered, which is the one that follows from
 -- the replies before.
@@ -220,7 +225,7 @@ pub data EndsReading (uid gid : ℕ) (file : List ℕ) (s : ReadingAt) (left : L
       → Forgets read.xid end s.bytes b s.side h × LinkCause end b.left b.read h → s.waiting ≡ read ∷ left
       → TakesRead given s.outcomes taken taken' → EndsReading uid gid file s left b h taken taken' given
 
--- A file was read into an output: its calls were made, up to the grant at a time, and the bytes of their replies were written in order. At an end
+-- A file was read into an output: its calls were made, several at a time, and the bytes of their replies were written in order. At an end
 -- the READs that are still outstanding are forgotten.
 pub record ReadsFile (uid gid : ℕ) (file : List ℕ) (b b' : LinkBytes) (h h' : RequesterSide) (taken taken' : Option (List ℕ)) (given : Result (Unit {0}) ClientEnd) : Type 0 where
   pub between : List ReadingAt

@@ -10,6 +10,7 @@ ghost use Rattle.nr_client.specs.private.OpenReads.{AreOpen, EndsSo, IsFull, IsI
 
 use crate::client_end::ClientEnd;
 use crate::file_calls::read_call;
+use crate::limits::READS_MAX;
 use crate::link::Link;
 use crate::read_data::{piece_left, write_data};
 use nr_nfs_base::Handle;
@@ -17,7 +18,7 @@ use nr_outside::{Sink, Source};
 use nr_requester::Ticket;
 use std::alloc::Global;
 
-/// Whether the next piece is asked for: none is outstanding, or a credit is left.
+/// Whether the next piece is asked for: none is outstanding, or fewer than the maximum are and a credit is left.
 fn may_ask<I: Source, O: Sink>(link: &Link<I, O>, size: u64, next: u64, tickets: &[Ticket]) -> bool
     ensures yes { result ≡ true → MayAsk size next tickets.now link.now.requester }
     ensures no { result ≡ false → IsFull size next tickets.now link.now.requester }
@@ -25,7 +26,7 @@ fn may_ask<I: Source, O: Sink>(link: &Link<I, O>, size: u64, next: u64, tickets:
     if next >= size {
         return false;
     }
-    tickets.is_empty() || link.has_credit()
+    tickets.is_empty() || (tickets.len() < READS_MAX && link.has_credit())
 }
 
 /// Submits a READ of the next piece.
@@ -76,7 +77,7 @@ fn ask<I: Source, O: Sink>(
     Ok(())
 }
 
-/// Submits READs of the next pieces while a credit is left, and at least one if none is outstanding.
+/// Submits READs of the next pieces while a credit is left and fewer than the maximum are outstanding, and at least one if none is.
 pub(crate) fn fill<I: Source, O: Sink>(
     alloc: Global,
     link: &mut Link<I, O>,

@@ -18,6 +18,7 @@ ghost use Rattle.nr_client.specs.Walking.{parent_next, walk_next};
 
 use crate::asking::{ask_nfs, mount_over};
 use crate::client_end::ClientEnd;
+use crate::limits::CREDITS;
 use crate::link::Link;
 use crate::listing::list_over;
 use crate::names::Names;
@@ -33,9 +34,6 @@ use nr_nfs_res::{CreateOk, LookupOk, ReadlinkOk};
 use nr_outside::{Sink, Source};
 use std::alloc::Global;
 use std::marker::Model;
-
-/// How many credits a session wishes for.
-const CREDITS: u32 = 16;
 
 /// Requests of a user over one link. Each call has an AUTH_SYS credential with the user and the group, the machine `nfsrdma` and no
 /// further groups.

@@ -23,20 +23,24 @@ use nr_outside::{INPUT_MAX, Sink, Source};
 use std::alloc::Global;
 
 /// The maximum number of bytes that one read of the input asks for.
-const INPUT_PIECE_MAX: usize = 4096;
+const INPUT_PIECE_MAX: usize = 65536;
 
-/// Reads an input to its end, or until more than the maximum came.
-fn read_input<N: Source>(input: &mut N, bytes: &mut Vec<u8>) -> Result<(), ClientEnd>
-    requires { bytes.old.items ≡ [] }
+/// Reads an input to its end, or until more than the maximum came, through this buffer.
+fn read_through<N: Source>(
+    input: &mut N,
+    piece: &mut [u8],
+    bytes: &mut Vec<u8>,
+) -> Result<(), ClientEnd>
+    requires start { bytes.old.items ≡ [] }
+    requires room { 0 < length piece.old }
     ensures handed { OnOk result (HandsOut (N.left input.old) (N.given input.old) (N.left input.new) (N.given input.new) bytes.new.items) }
     ensures complete { OnOk result (IsComplete bytes.new.items (N.left input.new)) }
     ensures err { OnErr result ((handed : List ℕ) × HandsOut (N.left input.old) (N.given input.old) (N.left input.new) (N.given input.new) handed) }
     ensures faults { InputFaults result (N.faults input.old) (N.faults input.new) }
     ensures cause { IfErr result (λ end. (end ≡ client.InputFault) ⊎ (end ≡ client.Memory)) }
 {
-    let mut piece = [0u8; INPUT_PIECE_MAX];
     while bytes.len() <= INPUT_MAX {
-        let n = match input.read(&mut piece) {
+        let n = match input.read(piece) {
             Ok(n) => n,
             Err(_) => return Err(ClientEnd::InputFault),
         };
@@ -49,6 +53,23 @@ fn read_input<N: Source>(input: &mut N, bytes: &mut Vec<u8>) -> Result<(), Clien
         }
     }
     Ok(())
+}
+
+/// Reads an input to its end, or until more than the maximum came.
+fn read_input<N: Source>(alloc: Global, input: &mut N, bytes: &mut Vec<u8>) -> Result<(), ClientEnd>
+    requires { bytes.old.items ≡ [] }
+    ensures handed { OnOk result (HandsOut (N.left input.old) (N.given input.old) (N.left input.new) (N.given input.new) bytes.new.items) }
+    ensures complete { OnOk result (IsComplete bytes.new.items (N.left input.new)) }
+    ensures err { OnErr result ((handed : List ℕ) × HandsOut (N.left input.old) (N.given input.old) (N.left input.new) (N.given input.new) handed) }
+    ensures faults { InputFaults result (N.faults input.old) (N.faults input.new) }
+    ensures cause { IfErr result (λ end. (end ≡ client.InputFault) ⊎ (end ≡ client.Memory)) }
+{
+    let Ok(mut piece) = vec![in alloc; 0u8; INPUT_PIECE_MAX] else {
+        return Err(ClientEnd::Memory);
+    };
+    let done = read_through(input, piece.as_mut_slice(), bytes);
+    drop(piece);
+    done
 }
 
 /// The first bytes, at most `max`.
@@ -202,7 +223,7 @@ pub(crate) fn write_file_over<I: Source, O: Sink, N: Source>(
     ensures sink_faults { SinkFaults result (O.faults link.old.sink) (O.faults link.new.sink) }
 {
     let mut bytes = Vec::new(alloc);
-    match read_input(input, &mut bytes) {
+    match read_input(alloc, input, &mut bytes) {
         Ok(()) => {}
         Err(end) => {
             drop(bytes);

@@ -9,7 +9,7 @@ use Rattle.nr_requester.specs.OpenCalls.{open_call}
 use Rattle.nr_requester.specs.RequesterState.{RequesterSide, RequesterState}
 use Rattle.nr_client.specs.declared.client_end.ClientEnd.{ClientEnd}
 use Rattle.nr_client.specs.declared.client_end.ClientEnd.TheVariants as client
-use Rattle.nr_client.specs.Reading.{EndsReading, LeadsBy, OpenRead, ReadingAt, file_read, piece_left, read_call, read_result, xids_of}
+use Rattle.nr_client.specs.Reading.{EndsReading, LeadsBy, OpenRead, ReadingAt, file_read, piece_left, read_call, read_result, reads_max, xids_of}
 use Rattle.nr_client.specs.Reading.FileRead.{SizeKnown}
 use Rattle.nr_client.specs.Results.{Gives}
 use Rattle.nr_client.specs.Steps.{HasCreditLeft}
@@ -44,12 +44,12 @@ pub record ReadsAhead (h : RequesterSide) (size at next : ℕ) (xids : List ℕ)
   pub next_is : next ≡ next_offset size at xids
   pub open_all : AreOpen h.state xids
 
--- the next piece is asked for; or it is not, since all are, or no credit is left
+-- the next piece is asked for; or it is not, since all are, or no credit is left, or the maximum of READs is outstanding
 abbrev pub MayAsk : (size next : ℕ) → List ℕ → RequesterSide → Type 0
-MayAsk size next xids h = (next < size) × ((xids ≡ []) ⊎ HasCreditLeft h)
+MayAsk size next xids h = (next < size) × ((xids ≡ []) ⊎ (HasCreditLeft h × (length xids < reads_max)))
 
 abbrev pub IsFull : (size next : ℕ) → List ℕ → RequesterSide → Type 0
-IsFull size next xids h = (size ≤ next) ⊎ ((0 < length xids) × (h.state.grant ≤ length h.state.outstanding))
+IsFull size next xids h = (size ≤ next) ⊎ ((0 < length xids) × ((h.state.grant ≤ length h.state.outstanding) ⊎ (reads_max ≤ length xids)))
 
 -- the size is known, these bytes came and were written, and READs are outstanding
 pub record ReadSoFar (uid gid : ℕ) (file : List ℕ) (size : ℕ) (first : ReadingAt) (taken : Option (List ℕ)) (at from : ℕ) (xids : List ℕ) (b : LinkBytes) (h : RequesterSide) (taken' : Option (List ℕ)) : Type 0 where
