@@ -1,12 +1,15 @@
 //! A benchmark, run by hand: NULL calls, or WRITEs or READs of 32 KiB in form Auto, one after the other, through both ends of a link and the
 //! plain server. It prints how many calls, or how many bytes, the replies confirm. The arguments are `null`, `write` or `read`, or `copy` for
-//! copies of 32 KiB alone; their number; and the credits of both ends.
+//! copies of 32 KiB alone, or `sends` for two Sends as long as those of a NULL call, through two endpoints alone; their number; and the credits
+//! of both ends.
 #![tactic(auto)]
 
 mod client;
+mod endpoints;
 mod link;
 mod server;
 
+use endpoints::sends;
 use link::Link;
 use nr_nfs_base::{NFS_PROGRAM, NFS_VERSION, NfsProcedure, Numbered, Verifier};
 use nr_plain::Server;
@@ -207,6 +210,9 @@ fn copied(rounds: u32, source: &mut Vec<u8>, target: &mut Vec<u8>) -> Option<u64
 }
 
 fn total(alloc: Global, what: &str, rounds: u32, credits: u32) -> Option<u64> {
+    if what == "sends" {
+        return sends(alloc, rounds, credits);
+    }
     let mut data = data(alloc)?;
     if what == "copy" {
         let mut target = vec![in alloc; 0u8; SIZE].ok()?;
