@@ -167,7 +167,7 @@ unfolding some_parameters
 ends_have_causes_lem c before after input input' out out' result (NotOpened end is fails same_input same_out) = tt
 ends_have_causes_lem c before after input input' out out' result (Opened dialed s s' opens prints closes) = λ end is.
     cause_of result s'.bytes s'.requester end is
-    (opened_is AnyOutcome Any AnyEnd c before dialed s s' input input' out out' result opens prints some_parameters 0 (any_judgement c.uid c.gid) some_opened refl refl refl
+    (opened_is AnyOutcome Any AnyEnd c before dialed s s' input input' out out' result opens prints some_parameters 0 (any_judgement c.uid c.gid) (λ rose. tt) (λ rose. tt) some_opened refl refl refl
     (all_any [] (tells_text c.uid c.gid c.export c.action input input' out prints.written s s' prints.text prints.made).made))
 
 -- ---- On a link that stays open

@@ -1,5 +1,6 @@
 -- The end of each command whose outcomes are judged call by call, with its cause if a call has no answer.
-use Rattle.std.proofs.Common.{◌≡◌, ℕ, List, [], ◌++◌, Result, Ok, Err, inl, inr, sym, subst}
+use Rattle.std.proofs.Common.{◌≡◌, ℕ, List, [], ◌++◌, Result, Ok, Err, inl, inr, sym, ap, subst}
+use Rattle.nr_outside.specs.Faults.{Rises}
 use Rattle.nr_outside.specs.Streams.{SinkAt, SourceAt}
 use Rattle.nr_words.specs.Lines.{Text}
 use Rattle.nr_words.specs.declared.commands.Action.{Action}
@@ -13,8 +14,9 @@ use Rattle.nr_client.specs.declared.client_end.ClientEnd.{ClientEnd}
 use Rattle.nr_client.specs.declared.client_end.ClientEnd.TheVariants as client
 use Rattle.nr_client.specs.Dialing.{DialerAt, session_credits}
 use Rattle.nr_client.specs.Listing.{list_next}
+use Rattle.nr_client.specs.Reading.{OutputFaults}
 use Rattle.nr_client.specs.Requests.{create_result, getattr_call, getattr_result, mkdir_call, readlink_call, readlink_result, remove_call, remove_result}
-use Rattle.nr_commands.specs.Commands.{Finds, FindsParent, Gets, Lists, MakesDirectory, MakesSymlink, Mounts, MountsAndPrints, Puts, ReadsLink, Removes, Stats, Symlinks}
+use Rattle.nr_commands.specs.Commands.{Finds, FindsParent, Gets, IsSilent, Lists, MakesDirectory, MakesSymlink, Mounts, MountsAndPrints, Puts, ReadsLink, Removes, Stats, Symlinks}
 use Rattle.nr_commands.specs.Printed.{attributes_text, handle_text, names_text, path_text}
 use Rattle.nr_commands.specs.Running.{IsPrinted, Opens, Prints as PrintsAll, text_of}
 use Rattle.nr_commands.specs.Sessions.{Request, Requests, SessionAt, Text as Prints, Then}
@@ -93,68 +95,92 @@ module _ (R : Call → Outcome → Type 0) (V : List ℕ → Type 0) (F : Client
   ends_before : {A : Type 0} (W : A → Type 0) (s' : SessionAt) (end : ClientEnd) (result : Result (List ℕ) ClientEnd) → result ≡ Err end → GivenIs W F (Err end) s'.bytes s'.requester → GivenIs Any F result s'.bytes s'.requester
   ends_before W s' end result same is = subst (λ (r : Result (List ℕ) ClientEnd). GivenIs Any F r s'.bytes s'.requester) (sym same) is
 
-  get_is : (export path : List ℕ) (out out' : SinkAt) → PartIs R Any F (Gets uid gid export path out out') (tells_get uid gid export path out out')
-  get_is export path out out' s s' text (inl (file, (mid, (finds, reads)))) before opened link run fine live are =
+  get_is : (export path : List ℕ) (out out' : SinkAt) → (Rises out.faults out'.faults → F client.OutputFault) → PartIs R Any F (Gets uid gid export path out out') (tells_get uid gid export path out out')
+  get_is export path out out' fault s s' text (inl (file, (mid, (finds, reads)))) before opened link run fine live are =
       let made = (tells_finds uid gid export path s mid (Ok file) finds).made in
       let both = judged_both R before made (tells_reads_out uid gid file out out' mid s' text reads).made are in
       let holds = finds_is R V F uid gid judge export path s mid (Ok file) finds before opened link run fine live both.0 in
       let done = has_finds uid gid export path s mid (Ok file) finds opened link run fine live in
-      reads_out_is R V F uid gid judge file out out' holds mid s' text reads (reads_after before made) opened link (run ++ done.more) fine
+      reads_out_is R V F uid gid judge file out out' fault holds mid s' text reads (reads_after before made) opened link (run ++ done.more) fine
       (live_after {A = List ℕ} file opened link mid.requester done.ahead (run ++ done.more) done.stands) both.1
-  get_is export path out out' s s' text (inr (end, (finds, (same, kept)))) before opened link run fine live are =
+  get_is export path out out' fault s s' text (inr (end, (finds, (same, kept)))) before opened link run fine live are =
       ends_before {A = List ℕ} V s' end text same (finds_is R V F uid gid judge export path s s' (Err end) finds before opened link run fine live are)
 
-  put_is : (export path : List ℕ) (input input' : SourceAt) → PartIs R Any F (Puts uid gid export path input input') (tells_put uid gid export path input input')
-  put_is export path input input' s s' text (inl (place, (mid, (finds, writes)))) before opened link run fine live are =
+  put_is : (export path : List ℕ) (input input' : SourceAt) → (Rises input.faults input'.faults → F client.InputFault) → PartIs R Any F (Puts uid gid export path input input') (tells_put uid gid export path input input')
+  put_is export path input input' fault s s' text (inl (place, (mid, (finds, writes)))) before opened link run fine live are =
       let made = (tells_finds_parent uid gid export path s mid (Ok place) finds).made in
       let both = judged_both R before made (tells_writes_in uid gid place.0 place.1 input input' mid s' text writes).made are in
       let done = has_finds_parent uid gid export path s mid (Ok place) finds opened link run fine live in
-      writes_in_is R V F uid gid judge place.0 place.1 input input' mid s' text writes (reads_after before made) opened link (run ++ done.more) fine
+      writes_in_is R V F uid gid judge place.0 place.1 input input' fault mid s' text writes (reads_after before made) opened link (run ++ done.more) fine
       (live_after {A = List ℕ × List ℕ} place opened link mid.requester done.ahead (run ++ done.more) done.stands) both.1
-  put_is export path input input' s s' text (inr (end, (finds, (same, kept)))) before opened link run fine live are =
+  put_is export path input input' fault s s' text (inr (end, (finds, (same, kept)))) before opened link run fine live are =
       ends_before {A = List ℕ × List ℕ} (λ (p : List ℕ × List ℕ). V p.0) s' end text same (finds_parent_is R V F uid gid judge export path s s' (Err end) finds before opened link run fine live are)
 
-  command_is : (export : List ℕ) (action : Action Text) (input input' : SourceAt) (out out' : SinkAt)
+  command_is : (export : List ℕ) (action : Action Text) (input input' : SourceAt) (out out' : SinkAt) → (Rises input.faults input'.faults → F client.InputFault) → (Rises out.faults out'.faults → F client.OutputFault)
       → PartIs R Any F (text_of uid gid export action input input' out out') (tells_text uid gid export action input input' out out')
-  command_is export actions.Mount input input' out out' s s' text is before opened link run fine live are = mount_is export s s' text is.0 before opened link run fine live are
-  command_is export (actions.List path) input input' out out' s s' text is before opened link run fine live are = list_is_one export path s s' text is.0 before opened link run fine live are
-  command_is export (actions.Stat path) input input' out out' s s' text is before opened link run fine live are = stat_is export path s s' text is.0 before opened link run fine live are
-  command_is export (actions.ReadLink path) input input' out out' s s' text is before opened link run fine live are = read_link_is export path s s' text is.0 before opened link run fine live are
-  command_is export (actions.MakeDirectory path) input input' out out' s s' text is before opened link run fine live are = make_directory_is export path s s' text is.0 before opened link run fine live are
-  command_is export (actions.Remove path) input input' out out' s s' text is before opened link run fine live are = remove_is export path s s' text is.0 before opened link run fine live are
-  command_is export (actions.Link path target) input input' out out' s s' text is before opened link run fine live are = make_symlink_is export path target s s' text is.0 before opened link run fine live are
-  command_is export (actions.Put path) input input' out out' s s' text is before opened link run fine live are = put_is export path input input' s s' text is.0 before opened link run fine live are
-  command_is export (actions.Get path) input input' out out' s s' text is before opened link run fine live are = get_is export path out out' s s' text is.0 before opened link run fine live are
+  command_is export actions.Mount input input' out out' input_fault output_fault s s' text is before opened link run fine live are = mount_is export s s' text is.0 before opened link run fine live are
+  command_is export (actions.List path) input input' out out' input_fault output_fault s s' text is before opened link run fine live are = list_is_one export path s s' text is.0 before opened link run fine live are
+  command_is export (actions.Stat path) input input' out out' input_fault output_fault s s' text is before opened link run fine live are = stat_is export path s s' text is.0 before opened link run fine live are
+  command_is export (actions.ReadLink path) input input' out out' input_fault output_fault s s' text is before opened link run fine live are = read_link_is export path s s' text is.0 before opened link run fine live are
+  command_is export (actions.MakeDirectory path) input input' out out' input_fault output_fault s s' text is before opened link run fine live are = make_directory_is export path s s' text is.0 before opened link run fine live are
+  command_is export (actions.Remove path) input input' out out' input_fault output_fault s s' text is before opened link run fine live are = remove_is export path s s' text is.0 before opened link run fine live are
+  command_is export (actions.Link path target) input input' out out' input_fault output_fault s s' text is before opened link run fine live are = make_symlink_is export path target s s' text is.0 before opened link run fine live are
+  command_is export (actions.Put path) input input' out out' input_fault output_fault s s' text is before opened link run fine live are = put_is export path input input' input_fault s s' text is.0 before opened link run fine live are
+  command_is export (actions.Get path) input input' out out' input_fault output_fault s s' text is before opened link run fine live are = get_is export path out out' output_fault s s' text is.0 before opened link run fine live are
 
 -- ---- Up to what is printed
 
-ok_printed : (F : ClientEnd → Type 0) (text : List ℕ) (result : Result (Unit {0}) ClientEnd) (out out' : SinkAt) (s' : SessionAt) → IsPrinted (Ok text) result out out' → GivenIs Any F result s'.bytes s'.requester
-ok_printed F text (Ok done) out out' s' prints = tt
-ok_printed F text (Err client.OutputFault) out out' s' prints = tt
-ok_printed F text (Err client.DialFault) out out' s' prints = absurd prints
-ok_printed F text (Err (client.Link end)) out out' s' prints = absurd prints
-ok_printed F text (Err (client.Rpc kind code)) out out' s' prints = absurd prints
-ok_printed F text (Err (client.Mount status)) out out' s' prints = absurd prints
-ok_printed F text (Err (client.Nfs status)) out out' s' prints = absurd prints
-ok_printed F text (Err client.Chunk) out out' s' prints = absurd prints
-ok_printed F text (Err (client.Version low high)) out out' s' prints = absurd prints
-ok_printed F text (Err (client.BadReply at reason)) out out' s' prints = absurd prints
-ok_printed F text (Err (client.BadPath at)) out out' s' prints = absurd prints
-ok_printed F text (Err client.InputFault) out out' s' prints = absurd prints
-ok_printed F text (Err (client.Budget count)) out out' s' prints = absurd prints
-ok_printed F text (Err client.Memory) out out' s' prints = absurd prints
+ok_printed : (F : ClientEnd → Type 0) (text : List ℕ) (result : Result (Unit {0}) ClientEnd) (out out' : SinkAt) (s' : SessionAt) → (Rises out.faults out'.faults → F client.OutputFault) → IsPrinted (Ok text) result out out' → GivenIs Any F result s'.bytes s'.requester
+ok_printed F text (Ok done) out out' s' fault prints = tt
+ok_printed F text (Err client.OutputFault) out out' s' fault prints = fault prints.rose
+ok_printed F text (Err client.DialFault) out out' s' fault prints = absurd prints
+ok_printed F text (Err (client.Link end)) out out' s' fault prints = absurd prints
+ok_printed F text (Err (client.Rpc kind code)) out out' s' fault prints = absurd prints
+ok_printed F text (Err (client.Mount status)) out out' s' fault prints = absurd prints
+ok_printed F text (Err (client.Nfs status)) out out' s' fault prints = absurd prints
+ok_printed F text (Err client.Chunk) out out' s' fault prints = absurd prints
+ok_printed F text (Err (client.Version low high)) out out' s' fault prints = absurd prints
+ok_printed F text (Err (client.BadReply at reason)) out out' s' fault prints = absurd prints
+ok_printed F text (Err (client.BadPath at)) out out' s' fault prints = absurd prints
+ok_printed F text (Err client.InputFault) out out' s' fault prints = absurd prints
+ok_printed F text (Err (client.Budget count)) out out' s' fault prints = absurd prints
+ok_printed F text (Err client.Memory) out out' s' fault prints = absurd prints
 
-printed_is : (F : ClientEnd → Type 0) (text : Result (List ℕ) ClientEnd) (result : Result (Unit {0}) ClientEnd) (out out' : SinkAt) (s' : SessionAt) → IsPrinted text result out out'
-    → GivenIs Any F text s'.bytes s'.requester → GivenIs Any F result s'.bytes s'.requester
-printed_is F (Ok text) result out out' s' prints is = ok_printed F text result out out' s' prints
-printed_is F (Err why) (Ok done) out out' s' prints is = absurd prints
-printed_is F (Err why) (Err end) out out' s' (same, kept) is = subst (λ (e : ClientEnd). EndsAs F e s'.bytes s'.requester) (sym same) is
+-- an output is as before if the text was not ended by a fault of it
+output_kept : (uid gid : ℕ) (export : List ℕ) (action : Action Text) (input input' : SourceAt) (out out' : SinkAt) (s s' : SessionAt) (text : List ℕ) → text_of uid gid export action input input' out out' s s' (Ok text)
+    → out'.faults ≡ out.faults
+output_kept uid gid export actions.Mount input input' out out' s s' text is = ap (λ (o : SinkAt). o.faults) is.1.1
+output_kept uid gid export (actions.List path) input input' out out' s s' text is = ap (λ (o : SinkAt). o.faults) is.1.1
+output_kept uid gid export (actions.Stat path) input input' out out' s s' text is = ap (λ (o : SinkAt). o.faults) is.1.1
+output_kept uid gid export (actions.ReadLink path) input input' out out' s s' text is = ap (λ (o : SinkAt). o.faults) is.1.1
+output_kept uid gid export (actions.MakeDirectory path) input input' out out' s s' text is = ap (λ (o : SinkAt). o.faults) is.1.1
+output_kept uid gid export (actions.Remove path) input input' out out' s s' text is = ap (λ (o : SinkAt). o.faults) is.1.1
+output_kept uid gid export (actions.Link path target) input input' out out' s s' text is = ap (λ (o : SinkAt). o.faults) is.1.1
+output_kept uid gid export (actions.Put path) input input' out out' s s' text is = ap (λ (o : SinkAt). o.faults) is.1
+output_kept uid gid export (actions.Get path) input input' out out' s s' text is = by is.0
+  where
+    read : (done : Result (Unit {0}) ClientEnd) → IsSilent done (Ok text) → OutputFaults done out.faults out'.faults → out'.faults ≡ out.faults
+    read (Ok done) silent counts = counts
+    read (Err end) silent counts = absurd silent
+
+    by : Gets uid gid export path out out' s s' (Ok text) → out'.faults ≡ out.faults
+    by (inl (file, (mid, (finds, (done, ((reads, counts), silent)))))) = read done silent counts.0
+    by (inr (end, (finds, (same, kept)))) = absurd (let wrong = same in cc)
 
 -- what a command gives that opened a session
 pub opened_is : (R : Call → Outcome → Type 0) (V : List ℕ → Type 0) (F : ClientEnd → Type 0) (c : Client Text) (before dialed : DialerAt) (s s' : SessionAt) (input input' : SourceAt) (out out' : SinkAt) (result : Result (Unit {0}) ClientEnd)
-    (opens : Opens c.addr before dialed s) (prints : PrintsAll c s s' input input' out out' result) (opened : LinkParameters) (link : ℕ) → Judgement R V F c.uid c.gid → IsOpened opened → opened.first_xid ≡ 1 → opened.first_stag ≡ 1
-    → opened.wished ≡ session_credits → AreJudged R [] (tells_text c.uid c.gid c.export c.action input input' out prints.written s s' prints.text prints.made).made → GivenIs Any F result s'.bytes s'.requester
-opened_is R V F c before dialed s s' input input' out out' result opens prints opened link judge fine xid stag wished are =
-    printed_is F prints.text result prints.written out' s' prints.prints
-    (command_is R V F c.uid c.gid judge c.export c.action input input' out prints.written s s' prints.text prints.made [] opened link [] fine
-    (sessions_begin_lem c.addr before dialed s opened link opens xid stag wished) are)
+    (opens : Opens c.addr before dialed s) (prints : PrintsAll c s s' input input' out out' result) (opened : LinkParameters) (link : ℕ) → Judgement R V F c.uid c.gid → (Rises input.faults input'.faults → F client.InputFault)
+    → (Rises out.faults out'.faults → F client.OutputFault) → IsOpened opened → opened.first_xid ≡ 1 → opened.first_stag ≡ 1 → opened.wished ≡ session_credits
+    → AreJudged R [] (tells_text c.uid c.gid c.export c.action input input' out prints.written s s' prints.text prints.made).made → GivenIs Any F result s'.bytes s'.requester
+opened_is R V F c before dialed s s' input input' out out' result opens prints opened link judge input_fault output_fault fine xid stag wished are = by prints.text result prints.made prints.prints are
+  where
+    by : (text : Result (List ℕ) ClientEnd) (given : Result (Unit {0}) ClientEnd) (made : text_of c.uid c.gid c.export c.action input input' out prints.written s s' text) → IsPrinted text given prints.written out'
+        → AreJudged R [] (tells_text c.uid c.gid c.export c.action input input' out prints.written s s' text made).made → GivenIs Any F given s'.bytes s'.requester
+    by (Ok text) given made printed judged =
+        ok_printed F text given prints.written out' s'
+        (λ rose. output_fault (subst (λ (n : ℕ). Rises n out'.faults) (output_kept c.uid c.gid c.export c.action input input' out prints.written s s' text made) rose)) printed
+    by (Err why) (Ok done) made printed judged = absurd printed
+    by (Err why) (Err end) made (same, kept) judged =
+        subst (λ (e : ClientEnd). EndsAs F e s'.bytes s'.requester) (sym same)
+        (command_is R V F c.uid c.gid judge c.export c.action input input' out prints.written input_fault (λ rose. output_fault (subst (λ (o : SinkAt). Rises out.faults o.faults) (sym kept) rose)) s s' (Err why) made [] opened
+        link [] fine (sessions_begin_lem c.addr before dialed s opened link opens xid stag wished) judged)

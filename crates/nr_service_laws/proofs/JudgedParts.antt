@@ -1,6 +1,7 @@
 -- The ends of parts of a command whose outcomes are judged call by call, each with its cause if a call has no answer.
 use Rattle.std.proofs.Common.{◌≡◌, ℕ, Bool, true, false, List, [], ◌∷◌, ◌++◌, length, Option, Result, Ok, Err, inl, inr, refl, sym, ap, subst, ◌∙◌}
 use Rattle.std.specs.Prelude.{◌⊎◌, MatchBool, nat_lt}
+use Rattle.nr_outside.specs.Faults.{Rises}
 use Rattle.nr_outside.specs.Streams.{SinkAt, SourceAt}
 use Rattle.nr_nfs_base.specs.Limits.{link_target_max}
 use Rattle.nr_words.specs.Limits.{mount_path_max}
@@ -20,7 +21,7 @@ use Rattle.nr_client.specs.Calls.{ForgetsCalls}
 use Rattle.nr_client.specs.Ending.{IsCause, LinkCause}
 use Rattle.nr_client.specs.Following.{EndsWith, Follows, MakesCalls, Next, Unanswered}
 use Rattle.nr_client.specs.Following.Next.{Calls, Returns}
-use Rattle.nr_client.specs.Reading.{EndsReading, LeadsBy, OpenRead, ReadStep, ReadingAt, ReadsFile, reading, starts_at, xids_of}
+use Rattle.nr_client.specs.Reading.{EndsReading, InputFaults, OutputFaults, LeadsBy, OpenRead, ReadStep, ReadingAt, ReadsFile, reading, starts_at, xids_of}
 use Rattle.nr_client.specs.Reading.ReadStep.{MakesAlone, AsksAhead, TakesOldest}
 use Rattle.nr_client.specs.Reading.EndsReading.{EndsByReplies, OutputFails, NotAnswered, NotSubmitted, OldestForgotten}
 use Rattle.nr_client.specs.Requests.{Asks, create_result, mnt_call, mnt_result, symlink_call}
@@ -76,8 +77,6 @@ judged_both R reads (GivenUp xid ∷ rest) later are = judged_both R reads rest 
 abbrev pub EndsAs : (ClientEnd → Type 0) → ClientEnd → LinkBytes → RequesterSide → Type 0
 EndsAs F client.DialFault b h = ⊥
 EndsAs F (client.Link end) b h = CauseAt end b h
-EndsAs F client.InputFault b h = Unit {0}
-EndsAs F client.OutputFault b h = Unit {0}
 EndsAs F client.Memory b h = Unit {0}
 EndsAs F end b h = F end
 
@@ -95,8 +94,8 @@ end_is F client.Chunk b h is = is
 end_is F (client.Version low high) b h is = is
 end_is F (client.BadReply at reason) b h is = is
 end_is F (client.BadPath at) b h is = is
-end_is F client.InputFault b h is = tt
-end_is F client.OutputFault b h is = tt
+end_is F client.InputFault b h is = absurd is
+end_is F client.OutputFault b h is = absurd is
 end_is F (client.Budget count) b h is = is
 end_is F client.Memory b h is = tt
 
@@ -286,14 +285,14 @@ returned_is F given next b h is (inl same) = subst (λ (r : Result (Unit {0}) Cl
 returned_is F given next b h is (inr same) = read_is Any F given b h (subst (λ (n : Next (Unit {0})). NextIs Any F n) same is)
 
 reading_end_is : (F : ClientEnd → Type 0) (uid gid : ℕ) (file : List ℕ) (s : ReadingAt) (left : List OpenRead) (b : LinkBytes) (h : RequesterSide) (taken taken' : Option (List ℕ)) (given : Result (Unit {0}) ClientEnd)
-    → EndsReading uid gid file s left b h taken taken' given → NextIs Any F (reading uid gid file s.outcomes) → GivenIs Any F given b h
-reading_end_is F uid gid file s left b h taken taken' given (EndsByReplies same is waits takes) next = returned_is F given (reading uid gid file s.outcomes) b h next is
-reading_end_is F uid gid file s left b h taken taken' given (OutputFails is same waits takes) next = subst (λ (r : Result (Unit {0}) ClientEnd). GivenIs Any F r b h) (sym is) tt
-reading_end_is F uid gid file s left b h taken taken' given (NotAnswered call end alone is gone waits takes) next =
+    → EndsReading uid gid file s left b h taken taken' given → (given ≡ Err client.OutputFault → F client.OutputFault) → NextIs Any F (reading uid gid file s.outcomes) → GivenIs Any F given b h
+reading_end_is F uid gid file s left b h taken taken' given (EndsByReplies same is waits takes) fault next = returned_is F given (reading uid gid file s.outcomes) b h next is
+reading_end_is F uid gid file s left b h taken taken' given (OutputFails is same waits takes) fault next = subst (λ (r : Result (Unit {0}) ClientEnd). GivenIs Any F r b h) (sym is) (fault is)
+reading_end_is F uid gid file s left b h taken taken' given (NotAnswered call end alone is gone waits takes) fault next =
     subst (λ (r : Result (Unit {0}) ClientEnd). GivenIs Any F r b h) (sym is) (unanswered_is F call s.bytes b s.side h end gone)
-reading_end_is F uid gid file s left b h taken taken' given (NotSubmitted call end ahead is refused waits takes) next =
+reading_end_is F uid gid file s left b h taken taken' given (NotSubmitted call end ahead is refused waits takes) fault next =
     subst (λ (r : Result (Unit {0}) ClientEnd). GivenIs Any F r b h) (sym is) (cause_at end b h call refused.1)
-reading_end_is F uid gid file s left b h taken taken' given (OldestForgotten read end full is given_is forgets waits takes) next =
+reading_end_is F uid gid file s left b h taken taken' given (OldestForgotten read end full is given_is forgets waits takes) fault next =
     subst (λ (r : Result (Unit {0}) ClientEnd). GivenIs Any F r b h) (sym given_is) (link_cause_at end b h forgets.1)
 
 -- ---- Parts
@@ -303,12 +302,12 @@ live_after value opened link h ahead run (inl (live, fed)) = live
 live_after value opened link h ahead run (inr (is, out)) = absurd (let wrong = is in cc)
 
 reads_is : (R : Call → Outcome → Type 0) (F : ClientEnd → Type 0) (uid gid : ℕ) (file : List ℕ) (b c : LinkBytes) (h i : RequesterSide) (taken taken' : Option (List ℕ)) (given : Result (Unit {0}) ClientEnd)
-    (f : ReadsFile uid gid file b c h i taken taken' given) (before : List OpenRead) (opened : LinkParameters) (link : ℕ) (run : List Mark) → RequestIs R Any F (reading uid gid file) → IsOpened opened → IsLive opened link h run
-    → AreJudged R before (read_exchanges uid gid file b c h i taken taken' given f).made → GivenIs Any F given c i
-reads_is R F uid gid file b c h i taken taken' given f before opened link run judge fine live are =
+    (f : ReadsFile uid gid file b c h i taken taken' given) (before : List OpenRead) (opened : LinkParameters) (link : ℕ) (run : List Mark) → (given ≡ Err client.OutputFault → F client.OutputFault) → RequestIs R Any F (reading uid gid file)
+    → IsOpened opened → IsLive opened link h run → AreJudged R before (read_exchanges uid gid file b c h i taken taken' given f).made → GivenIs Any F given c i
+reads_is R F uid gid file b c h i taken taken' given f before opened link run fault judge fine live are =
     let steps = (steps_exchanges uid gid file (starts_at b h) f.between f.last f.made).made in
     let so_far = steps_judged R uid gid file before b h f.between f.last f.made (judged_both R before steps _ are).0 in
-    let end = reading_end_is F uid gid file f.last f.left c f.side taken taken' given f.ends (judge f.last.outcomes so_far.answers) in
+    let end = reading_end_is F uid gid file f.last f.left c f.side taken taken' given f.ends fault (judge f.last.outcomes so_far.answers) in
     let done = does_steps uid gid file (starts_at b h) f.between f.last f.made opened link run fine live in
     let there = live_after {A = Unit {0}} tt opened link f.last.side done.ahead (run ++ done.more) done.stands in
     let last = does_reading_end uid gid file f.last f.left c f.side taken taken' given f.ends opened link (run ++ done.more) fine there in
@@ -386,17 +385,24 @@ module _ (R : Call → Outcome → Type 0) (V : List ℕ → Type 0) (F : Client
   silent_is s' (Err end) (Ok text) silent is = absurd silent
   silent_is s' (Err end) (Err why) silent is = subst (λ (e : ClientEnd). EndsAs F e s'.bytes s'.requester) (sym silent) is
 
-  pub reads_out_is : (file : List ℕ) (out out' : SinkAt) → V file → PartIs R Any F (ReadsOut uid gid file out out') (tells_reads_out uid gid file out out')
-  reads_out_is file out out' holds s s' text (done, ((reads, counts), silent)) before opened link run fine live are =
+  output_rose : (done : Result (Unit {0}) ClientEnd) (before after : ℕ) → OutputFaults done before after → done ≡ Err client.OutputFault → Rises before after
+  output_rose done before after counts is = subst (λ (r : Result (Unit {0}) ClientEnd). OutputFaults r before after) is counts
+
+  input_rose : (done : Result (Unit {0}) ClientEnd) (before after : ℕ) → InputFaults done before after → done ≡ Err client.InputFault → Rises before after
+  input_rose done before after counts is = subst (λ (r : Result (Unit {0}) ClientEnd). InputFaults r before after) is counts
+
+  pub reads_out_is : (file : List ℕ) (out out' : SinkAt) → (Rises out.faults out'.faults → F client.OutputFault) → V file → PartIs R Any F (ReadsOut uid gid file out out') (tells_reads_out uid gid file out out')
+  reads_out_is file out out' fault holds s s' text (done, ((reads, counts), silent)) before opened link run fine live are =
       silent_is s' done text silent
-      (reads_is R F uid gid file s.bytes s'.bytes s.requester s'.requester out.taken out'.taken done reads before opened link run (reading_is R V F uid gid judge file holds) fine live are)
+      (reads_is R F uid gid file s.bytes s'.bytes s.requester s'.requester out.taken out'.taken done reads before opened link run (λ is. fault (output_rose done out.faults out'.faults counts.0 is))
+      (reading_is R V F uid gid judge file holds) fine live are)
 
   writes_is : (dir name input : List ℕ) (b c : LinkBytes) (h i : RequesterSide) (result : Result (Unit {0}) ClientEnd) (w : Follows (writing uid gid dir name input) b c h i result ⊎ ((result ≡ Err client.InputFault) × ((c ≡ b) × (i ≡ h))))
-      (before : List OpenRead) → AreJudged R before (write_exchanges_by uid gid dir name input b c h i result w).made → GivenIs Any F result c i
-  writes_is dir name input b c h i result (inl follows) before are =
+      (before : List OpenRead) → (result ≡ Err client.InputFault → F client.InputFault) → AreJudged R before (write_exchanges_by uid gid dir name input b c h i result w).made → GivenIs Any F result c i
+  writes_is dir name input b c h i result (inl follows) before fault are =
       follows_is R Any F (writing uid gid dir name input) b c h i result follows before (writing_is R V F uid gid judge dir name input) are
-  writes_is dir name input b c h i result (inr (is, same)) before are = subst (λ (r : Result (Unit {0}) ClientEnd). GivenIs Any F r c i) (sym is) tt
+  writes_is dir name input b c h i result (inr (is, same)) before fault are = subst (λ (r : Result (Unit {0}) ClientEnd). GivenIs Any F r c i) (sym is) (fault is)
 
-  pub writes_in_is : (dir name : List ℕ) (input input' : SourceAt) → PartIs R Any F (WritesIn uid gid dir name input input') (tells_writes_in uid gid dir name input input')
-  writes_in_is dir name input input' s s' text (done, ((writes, counts), silent)) before opened link run fine live are =
-      silent_is s' done text silent (writes_is dir name (writes.handed ++ writes.rest) s.bytes s'.bytes s.requester s'.requester done writes.calls before are)
+  pub writes_in_is : (dir name : List ℕ) (input input' : SourceAt) → (Rises input.faults input'.faults → F client.InputFault) → PartIs R Any F (WritesIn uid gid dir name input input') (tells_writes_in uid gid dir name input input')
+  writes_in_is dir name input input' fault s s' text (done, ((writes, counts), silent)) before opened link run fine live are =
+      silent_is s' done text silent (writes_is dir name (writes.handed ++ writes.rest) s.bytes s'.bytes s.requester s'.requester done writes.calls before (λ is. fault (input_rose done input.faults input'.faults counts.0 is)) are)

@@ -16,3 +16,5 @@ pub mod Judged
 pub mod JudgedParts
 pub mod JudgedCommands
 pub mod EndCauses
+pub mod ServedAnswers
+pub mod CompleteCommands

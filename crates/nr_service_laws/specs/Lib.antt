@@ -6,3 +6,4 @@ pub mod CommandEnds
 pub mod ServedCommands
 pub mod ServedLinks
 pub mod EndCauses
+pub mod CompleteCommands

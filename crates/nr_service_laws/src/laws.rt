@@ -2,6 +2,7 @@
 
 ghost use Rattle.nr_service_laws.specs.CommandEnds.{RepliesExcludeEnds};
 ghost use Rattle.nr_service_laws.specs.CommandRuns.{CommandsHaveARun};
+ghost use Rattle.nr_service_laws.specs.CompleteCommands.{ServedCommandsComplete, ServedCommandsHaveCauses};
 ghost use Rattle.nr_service_laws.specs.EndCauses.{EndsHaveCauses, ServedCommandsEndForMemory};
 ghost use Rattle.nr_service_laws.specs.ServedCommands.{ServedClientsHaveReplies, ServedCommandsExcludeEnds};
 ghost use Rattle.nr_service_laws.specs.ServedLinks.{ServedClientsStayOpen, ServedCommandsStayOpen};
@@ -64,4 +65,12 @@ pub fn ends_have_causes()
 /// So a command over a link that is matched so far, both sides of which keep their laws with each Wrote in full, ends with `Ended` only if memory ran out.
 pub fn served_commands_end_for_memory()
     ensures { ServedCommandsEndForMemory }
+{}
+
+/// A command over a link of which `served_commands_end_for_memory` speaks, whose calls a plain server answers that was opened with a sane tree, is
+/// done or ends for a cause: `causes` gives that of each end. So if no fault count rises, it is done, or ends for a refusal of the server, a bad path, a
+/// limit or out of memory, unless the server ends its stream (`complete`).
+pub fn served_commands_complete()
+    ensures causes { ServedCommandsHaveCauses }
+    ensures complete { ServedCommandsComplete }
 {}

@@ -1,0 +1,90 @@
+-- The status of a command of a client whose server is a plain one that keeps its law.
+use Rattle.std.proofs.Common.{◌≡◌, ℕ, ltb, Bool, true, false, ◌||◌, List, Option, Result, Ok, Err, inl, inr, refl, sym, ap, subst, ◌∙◌, arith, ltb-false}
+use Rattle.std.specs.Prelude.{◌⊎◌, MatchBool}
+use Rattle.nr_outside.specs.Faults.{Rises}
+use Rattle.nr_outside.specs.Streams.{SinkAt}
+use Rattle.nr_client.specs.declared.call_end.CallEnd.TheVariants as calls
+use Rattle.nr_client.specs.declared.client_end.ClientEnd.{ClientEnd}
+use Rattle.nr_client.specs.declared.client_end.ClientEnd.TheVariants as client
+use Rattle.nr_commands.specs.Running.Runs.{NotOpened, Opened}
+use Rattle.nr_service_laws.specs.CompleteCommands.{IsComplete, IsUndisturbed}
+use Rattle.nr_service_laws.proofs.CompleteCommands.{served_commands_complete_lem}
+use Rattle.nr_top.specs.Clients.{ReportsEnd, link_status, status_of}
+use Rattle.nr_top.specs.Clients.ClientEnds.{Done, NotDone}
+use Rattle.nr_top.specs.Ends.{Reported}
+use Rattle.nr_top.specs.Statuses as statuses
+use Rattle.nr_top_laws.specs.CommandStatuses.{IsCompleteStatus, ServedCommandsHaveStatuses}
+
+-- ---- The status of an end
+
+status_complete : (end : ClientEnd) (left : Option (List ℕ)) → IsComplete (Err end) left → IsCompleteStatus (status_of end) left
+status_complete client.DialFault left is = absurd is
+status_complete (client.Link (calls.Ended end)) left is = inr (inl (ap link_status is))
+status_complete (client.Link calls.LinkRead) left is = absurd is
+status_complete (client.Link calls.LinkWrite) left is = absurd is
+status_complete (client.Link calls.Closed) left is = inr (inr (inr (inr (inr (inr (refl, is))))))
+status_complete (client.Link (calls.Spent left_over need)) left is = inr (inr (inr (inr (inr (inl refl)))))
+status_complete (client.Link (calls.TooLarge need room)) left is = inr (inr (inr (inr (inr (inl refl)))))
+status_complete (client.Link (calls.Budget count)) left is = inr (inr (inr (inr (inr (inl refl)))))
+status_complete (client.Link calls.Memory) left is = inr (inl refl)
+status_complete (client.Rpc kind code) left is = inr (inr (inl refl))
+status_complete (client.Mount status) left is = inr (inr (inl refl))
+status_complete (client.Nfs status) left is = inr (inr (inr (inl refl)))
+status_complete client.Chunk left is = absurd is
+status_complete (client.Version low high) left is = absurd is
+status_complete (client.BadReply at reason) left is = absurd is
+status_complete (client.BadPath at) left is = inr (inr (inr (inr (inl refl))))
+status_complete client.InputFault left is = absurd is
+status_complete client.OutputFault left is = absurd is
+status_complete (client.Budget count) left is = inr (inr (inr (inr (inr (inl refl)))))
+status_complete client.Memory left is = inr (inl refl)
+
+-- what was reported, if what reports has no fault
+reported_is : (due status : ℕ) (text : List ℕ) (err err' : SinkAt) → (Rises err.faults err'.faults → ⊥) → Reported due text status err err' → status ≡ due
+reported_is due status text err err' calm (inl (is, writes)) = is
+reported_is due status text err err' calm (inr (is, cut)) = absurd (calm cut.rose)
+
+status_is : (end : ClientEnd) (status : ℕ) (err err' : SinkAt) → (Rises err.faults err'.faults → ⊥) → ReportsEnd end status err err' → (status ≡ status_of end) ⊎ (status ≡ statuses.no_memory)
+status_is end status err err' calm (inl reported) = inl (reported_is (status_of end) status _ err err' calm reported)
+status_is end status err err' calm (inr reported) = inr (reported_is statuses.no_memory status _ err err' calm reported)
+
+-- ---- A link that isn't lost
+
+none_faulty : (a b : Bool) (before after : ℕ) → MatchBool (a || b) (Rises before after) (after ≡ before) → (Rises before after → ⊥) → (a ≡ false) × (b ≡ false)
+none_faulty false false before after counts calm = (refl, refl)
+none_faulty false true before after counts calm = absurd (calm counts)
+none_faulty true b before after counts calm = absurd (calm counts)
+
+none_rose : (before after : ℕ) → before ≡ 0 → ltb 0 after ≡ false → Rises before after → ⊥
+none_rose before after none calm (inl more) = let few = ltb-false 0 after calm in omega (arith, few, more)
+none_rose before after none calm (inr last) = let few = ltb-false 0 after calm in omega (arith, few, last)
+
+-- ---- The law
+
+pub served_commands_have_statuses_lem : ServedCommandsHaveStatuses
+served_commands_have_statuses_lem setup opened link c status dialer dialer' input input' out out' err err' (Done is runs same) sane session = is
+served_commands_have_statuses_lem setup opened link c status dialer dialer' input input' out out' err err' (NotDone end (NotOpened why is fails same_input same_out) reports) sane session = λ calm.
+    by (status_is end status err err' calm.error_writes reports)
+    (served_commands_complete_lem setup opened link c dialer dialer' input input' out out' (Err end) (NotOpened why is fails same_input same_out) sane session calm.dials)
+  where
+    end_of : Result (Unit {0}) ClientEnd → ClientEnd
+    end_of (Ok done) = client.Memory
+    end_of (Err x) = x
+
+    by : (status ≡ status_of end) ⊎ (status ≡ statuses.no_memory) → ◌≡◌ {A = Result (Unit {0}) ClientEnd} (Err end) (Err client.Memory) → status ≡ statuses.no_memory
+    by (inl same) memory = same ∙ ap (λ (r : Result (Unit {0}) ClientEnd). status_of (end_of r)) memory
+    by (inr same) memory = same
+served_commands_have_statuses_lem setup opened link c status dialer dialer' input input' out out' err err' (NotDone end (Opened dialed s s' opens prints closes) reports) sane session = λ ran both served calm.
+    let lost = none_faulty (ltb 0 s'.source_faults) (ltb 0 s'.sink_faults) dialed.lost dialer'.lost closes.lost (λ rose. calm.lost (subst (λ (n : ℕ). Rises n dialer'.lost) opens.none_lost rose)) in
+    let undisturbed : IsUndisturbed s s' input input' out out' = record {
+      source = none_rose s.source_faults s'.source_faults opens.fresh.no_source_fault lost.0;
+      sink = none_rose s.sink_faults s'.sink_faults opens.fresh.no_sink_fault lost.1;
+      input_reads = calm.input_reads;
+      output_writes = calm.output_writes;
+    } in
+    by (s'.bytes.left) (status_is end status err err' calm.error_writes reports)
+    (served_commands_complete_lem setup opened link c dialer dialer' input input' out out' (Err end) (Opened dialed s s' opens prints closes) sane session ran both served undisturbed)
+  where
+    by : (left : Option (List ℕ)) → (status ≡ status_of end) ⊎ (status ≡ statuses.no_memory) → IsComplete (Err end) left → IsCompleteStatus status left
+    by left (inl same) complete = subst (λ (n : ℕ). IsCompleteStatus n left) (sym same) (status_complete end left complete)
+    by left (inr same) complete = inr (inl same)

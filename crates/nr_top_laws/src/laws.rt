@@ -1,0 +1,9 @@
+//! Laws of runs of the program.
+
+ghost use Rattle.nr_top_laws.specs.CommandStatuses.{ServedCommandsHaveStatuses};
+
+/// A command of a client has status 0, 2, 6, 7, 10 or 11, or 4 and its server ended its stream, if its run is a side of a link that is matched so far,
+/// both sides of which keep their laws with each Wrote in full, a plain server with a sane first tree answers its calls, and no fault count rises.
+pub fn served_commands_have_statuses()
+    ensures { ServedCommandsHaveStatuses }
+{}
