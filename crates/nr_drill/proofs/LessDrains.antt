@@ -1,7 +1,7 @@
 -- Each step of the drains of a run leaves less work: what it writes down is of its types, since the run is and begins with it.
 use Rattle.std.specs.List.{list_all, AllByRecursion}
-use Rattle.std.specs.Prelude.{◌-◌, ◌<◌, ◌≤◌}
-use Rattle.std.proofs.Common.{◌≡◌, ◌≢◌, ℕ, zero, suc, arith, eqb, eqb-true, Bool, true, false, List, [], ◌∷◌, ◌++◌, length, refl, sym, ap, subst, ◌∙◌, append-nil, append_assoc}
+use Rattle.std.specs.Prelude.{◌<◌, ◌≤◌}
+use Rattle.std.proofs.Common.{◌≡◌, ℕ, zero, suc, arith, eqb, eqb-true, Bool, true, false, List, [], ◌∷◌, ◌++◌, length, refl, sym, ap, subst, ◌∙◌, append-nil, append_assoc}
 use Rattle.nr_reduce.specs.declared.mark.Mark.{Mark}
 use Rattle.nr_reduce.specs.Run.{server}
 use Rattle.nr_reduce.proofs.Steps.{AtEachMark_first}
@@ -20,7 +20,7 @@ use Rattle.nr_drill.proofs.Followed.{moves_adds}
 use Rattle.nr_drill.proofs.Carried.{are_links, other_than}
 use Rattle.nr_drill.proofs.TypedDrills.{AddsQuiet, KeptBySteps, calls_keep, down_keeps, round_keeps, drain_keeps, lines_keep}
 use Rattle.nr_drill.proofs.TypedDrills.AddsQuiet.{Same, More}
-use Rattle.nr_drill.proofs.Drained.{IsCut, cut_at, all_last}
+use Rattle.nr_drill.proofs.Drained.{cut_at, all_last}
 use Rattle.nr_drill.proofs.LessScripts.{all_front, step_runs, other_runs, script_runs}
 use Rattle.nr_drill.proofs.LessSteps.{steps_leave_less}
 use Rattle.nr_drill.proofs.OneRun.{made_once}

@@ -1,6 +1,6 @@
 -- What is kept stands when the stores grow.
-use Rattle.std.proofs.Common.{◌≡◌, ◌≢◌, ℕ, zero, suc, ◌+◌, ◌-◌, ◌≤◌, ◌<◌, arith, length-append, Bool, true, false, if◌then◌else◌, List, [], ◌∷◌, ◌++◌, length, map, get_or, refl, sym, ap, subst, ◌∙◌, append-nil, append_assoc}
-use Rattle.std.specs.Prelude.{Option, Some, None, Result, Ok, Err, OnOk, IfOk, is_ok}
+use Rattle.std.proofs.Common.{◌≡◌, ℕ, zero, suc, ◌+◌, ◌≤◌, ◌<◌, arith, length-append, Bool, true, false, if◌then◌else◌, List, [], ◌∷◌, ◌++◌, length, get_or, refl, sym, ap, subst, ◌∙◌}
+use Rattle.std.specs.Prelude.{Option, Some, None, Result, Ok, Err, OnOk, is_ok}
 use Rattle.std.specs.Option.{option_to_list}
 use Rattle.std.proofs.lemmas.List.{map-append, length-map}
 use Rattle.nr_reduce.specs.declared.mark.Mark.{Mark}
@@ -9,9 +9,9 @@ use Rattle.nr_reduce.specs.declared.call.Outcome.TheVariants as outcomes
 use Rattle.nr_marks.specs.declared.kept.Kept.{Kept}
 use Rattle.nr_marks.specs.declared.kept.Kept.TheVariants as kinds
 use Rattle.nr_marks.specs.Views.{plain_submit}
-use Rattle.nr_marks.specs.private.Pieces.{Grows, IsWithin, bytes_in}
+use Rattle.nr_marks.specs.private.Pieces.{Grows}
 use Rattle.nr_marks.specs.private.KeptMarks.{mark_of, IsKept, Keeps, marks_of, AreKept}
-use Rattle.nr_marks.proofs.Growing.{within_grown, bytes_grown, grows_trans}
+use Rattle.nr_marks.proofs.Growing.{within_grown, bytes_grown}
 
 pub kept_grown : (old new : List (List ℕ)) (k : Kept) → Grows old new → IsKept old k → IsKept new k
 kept_grown old new (kinds.Submit link call) grows h = within_grown old new call.args grows h

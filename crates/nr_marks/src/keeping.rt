@@ -10,7 +10,7 @@ ghost use Rattle.nr_marks.specs.private.Pieces.{Grows, Holds};
 ghost use Rattle.nr_marks.specs.private.KeptMarks.{Keeps};
 
 use crate::kept::{Kept, KeptCall, KeptExecution};
-use crate::stores::{ByteStores, Cursor, Piece, before_end, store_of};
+use crate::stores::{ByteStores, Cursor, Piece, REACH, before_end, store_of};
 use nr_outside::Moment;
 use nr_reduce::{Boxed, Call, Form, Mark, Outcome, Submission};
 use nr_rpc::Cred;
@@ -68,7 +68,7 @@ fn keep_read(
     Ok(piece)
 }
 
-/// Keeps bytes that a side of a link has just written: the arguments of a call, or a reply.
+/// Keeps bytes that a side of a link has just written, the arguments of a call, or a reply: in the last FPDU, or in the one before it.
 fn keep_written(
     alloc: Global,
     stores: &mut ByteStores,
@@ -78,8 +78,8 @@ fn keep_written(
     ensures grows { Grows stores.old stores.new }
     ensures piece { IfOk result (λ piece. Holds stores.new piece bytes.now) }
 {
-    let at = before_end(stores.len_of(store), bytes.len());
-    stores.refer(alloc, store, (at, at), bytes)
+    let last = before_end(stores.len_of(store), bytes.len());
+    stores.refer(alloc, store, (last, last.saturating_sub(REACH)), bytes)
 }
 
 /// Whether a call has no credential.
@@ -152,6 +152,7 @@ fn keep_execution(
     let (link, xid, place) = call;
     let payload = keep_read(alloc, stores, store_of(link, Side::Initiator), payload)?;
     let reply = keep_written(alloc, stores, store_of(link, Side::Responder), reply)?;
+    stores.note_reply(link, xid, reply)?;
     let execution = KeptExecution {
         link,
         xid,
@@ -178,7 +179,8 @@ fn keep_wrote(
     Ok(Some(Kept::Wrote { link, side, bytes }))
 }
 
-/// Keeps a reply that was handed over.
+/// Keeps a reply that was handed over: that of the call's execution, if they are equal.
+#[tactic(auto, using(crate::proofs::Growing::grows_same))]
 fn keep_done(
     alloc: Global,
     stores: &mut ByteStores,
@@ -189,7 +191,10 @@ fn keep_done(
     ensures grows { Grows stores.old stores.new }
     ensures keeps { IfOk result (λ o. IfSome o (λ kept. Keeps stores.new kept (marks.Done link xid (outcomes.Reply reply.now)))) }
 {
-    let reply = keep_read(alloc, stores, store_of(link, Side::Responder), reply)?;
+    let reply = match stores.reply(link, xid, reply) {
+        Some(reply) => reply,
+        None => keep_read(alloc, stores, store_of(link, Side::Responder), reply)?,
+    };
     Ok(Some(Kept::Done { link, xid, reply }))
 }
 

@@ -9,10 +9,13 @@ use std::alloc::Global;
 use std::marker::Model;
 
 /// Up to this many offsets are tried for bytes that are looked for.
-const REACH: usize = 128;
+pub(crate) const REACH: usize = 128;
 
-/// At most so many bytes of an FPDU follow its payload.
+/// An FPDU has fewer bytes than this after its payload.
 const TAIL: usize = 8;
+
+/// Executions of a link whose replies are looked for first.
+const REPLIES: usize = 16;
 
 /// The highest link that has stores of its own.
 const LINKS: u32 = 16;
@@ -38,6 +41,8 @@ pub(crate) struct Cursor {
 pub(crate) struct ByteStores {
     stores: Vec<Octets>,
     cursors: Vec<Cursor>,
+    // The replies of the last executions of each link, by their xids.
+    replies: Vec<Piece>,
 }
 
 impl Model for ByteStores {
@@ -94,6 +99,7 @@ impl ByteStores {
         ByteStores {
             stores: Vec::new(alloc),
             cursors: Vec::new(alloc),
+            replies: Vec::new(alloc),
         }
     }
 
@@ -131,6 +137,23 @@ impl ByteStores {
     {
         if let Some(slot) = self.cursors.get_mut(store) {
             *slot = cursor;
+        }
+    }
+
+    /// Notes the reply to an xid of a link.
+    pub(crate) fn note_reply(&mut self, link: u32, xid: u32, reply: Piece) -> Result<(), Memory>
+        ensures { self.new ≡ self.old }
+    {
+        set_slot(&mut self.replies, slot_of(link, xid), reply)
+    }
+
+    /// The piece of the reply to an xid of a link, if these are its bytes.
+    pub(crate) fn reply(&self, link: u32, xid: u32, bytes: &[u8]) -> Option<Piece>
+        ensures { IfSome result (λ piece. Holds self.now piece bytes.now) }
+    {
+        match self.replies.get(slot_of(link, xid)) {
+            Some(piece) => self.find(piece.store, piece.at, bytes),
+            None => None,
         }
     }
 
@@ -233,6 +256,23 @@ impl ByteStores {
         }
         self.append(alloc, 0, bytes)
     }
+}
+
+/// Which reply is noted for an xid of a link.
+fn slot_of(link: u32, xid: u32) -> usize {
+    let link = if link > LINKS { 0 } else { link as usize };
+    REPLIES * link + xid as usize % REPLIES
+}
+
+/// Sets an element of a list, which is made longer if it is too short.
+fn set_slot(pieces: &mut Vec<Piece>, at: usize, piece: Piece) -> Result<(), Memory> {
+    for _at in pieces.len()..at.saturating_add(1) {
+        pieces.push(piece)?;
+    }
+    if let Some(slot) = pieces.get_mut(at) {
+        *slot = piece;
+    }
+    Ok(())
 }
 
 /// The offset at which bytes that an FPDU ends with are looked for, if it ends at this offset.

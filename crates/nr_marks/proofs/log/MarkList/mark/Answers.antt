@@ -1,5 +1,4 @@
-use Rattle.std.proofs.Common.{◌∙◌}
-use Rattle.nr_marks.proofs.KeptMarks.{at_kept, at_mark}
+use Rattle.nr_marks.proofs.KeptMarks.{at_kept}
 use Rattle.nr_marks.proofs.log.MarkList.mark.Goals as goal
 
 pub view_of-requires : goal.view_of-requires

@@ -1,4 +1,4 @@
-use Rattle.std.proofs.Common.{◌<◌, length, arith, refl}
+use Rattle.std.proofs.Common.{arith, refl}
 use Rattle.nr_marks.proofs.Growing.{grows_same, grows_left, grows_write, holds_write}
 use Rattle.nr_marks.proofs.stores.ByteStores.append_at.Goals as goal
 
