@@ -1,7 +1,7 @@
 -- Each step of the drains of a run leaves less work: what it writes down is of its types, since the run is and begins with it.
 use Rattle.std.specs.List.{list_all, AllByRecursion}
-use Rattle.std.specs.Prelude.{◌-◌, ◌<◌, ◌≤◌}
-use Rattle.std.proofs.Common.{◌≡◌, ◌≢◌, ℕ, zero, suc, arith, eqb, eqb-true, Bool, true, false, List, [], ◌∷◌, ◌++◌, length, refl, sym, ap, subst, ◌∙◌, append-nil, append_assoc}
+use Rattle.std.specs.Prelude.{◌<◌, ◌≤◌}
+use Rattle.std.proofs.Common.{◌≡◌, ℕ, zero, suc, arith, eqb, eqb-true, Bool, true, false, List, [], ◌∷◌, ◌++◌, length, refl, sym, ap, subst, ◌∙◌, append-nil, append_assoc}
 use Rattle.nr_reduce.specs.declared.mark.Mark.{Mark}
 use Rattle.nr_reduce.specs.Run.{server}
 use Rattle.nr_reduce.proofs.Steps.{AtEachMark_first}
@@ -20,7 +20,7 @@ use Rattle.nr_drill.proofs.Followed.{moves_adds}
 use Rattle.nr_drill.proofs.Carried.{are_links, other_than}
 use Rattle.nr_drill.proofs.TypedDrills.{AddsQuiet, KeptBySteps, calls_keep, down_keeps, round_keeps, drain_keeps, lines_keep}
 use Rattle.nr_drill.proofs.TypedDrills.AddsQuiet.{Same, More}
-use Rattle.nr_drill.proofs.Drained.{IsCut, cut_at, all_last}
+use Rattle.nr_drill.proofs.Drained.{cut_at, all_last}
 use Rattle.nr_drill.proofs.LessScripts.{all_front, step_runs, other_runs, script_runs}
 use Rattle.nr_drill.proofs.LessSteps.{steps_leave_less}
 use Rattle.nr_drill.proofs.OneRun.{made_once}
@@ -38,7 +38,7 @@ one_more first run mark h = (h.0 ++ mark ∷ [], ap (λ (r : List Mark). r ++ ma
 
 quiet_begins : (s : Setting) (first : List Mark) (old new : Drill) → AddsQuiet s old new → Begins first old.marks → Begins first new.marks
 quiet_begins s first old new (Same is) h = subst (Begins first) (sym is) h
-quiet_begins s first old new (More mark none is) h = subst (Begins first) (sym is) (one_more first old.marks mark h)
+quiet_begins s first old new (More mark none other is) h = subst (Begins first) (sym is) (one_more first old.marks mark h)
 
 -- a drill whose marks begin with these
 abbrev IsLater : List Mark → Drill → Type 0
