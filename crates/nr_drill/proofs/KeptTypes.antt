@@ -17,7 +17,7 @@ use Rattle.nr_laws.specs.Typed.{TypedMark, IsTyped}
 use Rattle.nr_script.proofs.ByteLists.{no_bytes_lem}
 use Rattle.nr_drill.specs.Drill.{Setting, Drill, Pipes, pipes_of, plain_of, now, with_mark, unwritten, after_output, after_all_output, settled, after_feeding, after_feeding_up, after_feeding_down, after_up, after_down, after_handing, after_done, after_dones, after_outcomes, waiting_call, after_answer, after_execution, after_work}
 use Rattle.nr_drill.specs.WorkLeft.DrainStep.{AllUp, Work, AllDown}
-use Rattle.nr_drill.specs.Drains.{RepliesInBytes, StepsKeepTypes}
+use Rattle.nr_drill.specs.Drains.{AnswersInBytesAt, StepsKeepTypes}
 use Rattle.nr_drill.proofs.ByteClients.{client_due}
 use Rattle.nr_drill.proofs.ByteServers.{server_due}
 
@@ -58,7 +58,7 @@ answers s link call (Some reply) d b h =
     let mark = marks.Execute link call.xid (now d) call.payload (length (journal (plain_of s.server) d.marks)) reply in
     settles s link (with_mark mark d) (more mark d (b reply refl) h)
 
-executes : (s : Setting) (link : ℕ) (call : Option ReadyCall) (d : Drill) → RepliesInBytes s link d → waiting_call s link d.marks ≡ call → IsTyped d.marks → IsTyped (after_execution s link call d).marks
+executes : (s : Setting) (link : ℕ) (call : Option ReadyCall) (d : Drill) → AnswersInBytesAt s link d → waiting_call s link d.marks ≡ call → IsTyped d.marks → IsTyped (after_execution s link call d).marks
 executes s link None d replies is h = h
 executes s link (Some call) d replies is h =
     answers s link call (s.server.reply_to (journal (plain_of s.server) d.marks) (now d) call.payload) d (λ reply told. replies call reply is told) h

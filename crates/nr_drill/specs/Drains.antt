@@ -45,18 +45,18 @@ abbrev pub AnswersCalls : Setting → Type 0
 AnswersCalls s = (link : ℕ) (d : Drill) (call : ReadyCall) → next_call (s.opened link) link d.marks ≡ Some call →
     (reply : List ℕ) × (s.server.reply_to (journal (plain_of s.server) d.marks) (now d) call.payload ≡ Some reply)
 
--- what the server replies to a call that waits on a link is bytes
-abbrev pub RepliesInBytes : Setting → ℕ → Drill → Type 0
-RepliesInBytes s link d = (call : ReadyCall) (reply : List ℕ) → waiting_call s link d.marks ≡ Some call →
+-- what the server replies to a call that waits on a link of a drill is bytes
+abbrev pub AnswersInBytesAt : Setting → ℕ → Drill → Type 0
+AnswersInBytesAt s link d = (call : ReadyCall) (reply : List ℕ) → waiting_call s link d.marks ≡ Some call →
     s.server.reply_to (journal (plain_of s.server) d.marks) (now d) call.payload ≡ Some reply → IsBytes reply
 
--- So is each that it replies, if what is written down so far is of its types, and the payloads of the calls that were executed are bytes.
+-- It is so on each link of each drill whose marks are of their types, and whose executed payloads are bytes.
 abbrev pub AnswersInBytes : Setting → Type 0
-AnswersInBytes s = (link : ℕ) (d : Drill) → IsTyped d.marks → ExecutedInBytes d.marks → RepliesInBytes s link d
+AnswersInBytes s = (link : ℕ) (d : Drill) → IsTyped d.marks → ExecutedInBytes d.marks → AnswersInBytesAt s link d
 
 -- What a step of a drain writes down on a link that runs is of its types, if a reply to a call that waits there is bytes.
 abbrev pub StepsKeepTypes : Type 0
-StepsKeepTypes = (s : Setting) (link : ℕ) (step : DrainStep) (d : Drill) → IsRunning s link d → RepliesInBytes s link d → IsTyped d.marks → IsTyped (after_step s link step d).marks
+StepsKeepTypes = (s : Setting) (link : ℕ) (step : DrainStep) (d : Drill) → IsRunning s link d → AnswersInBytesAt s link d → IsTyped d.marks → IsTyped (after_step s link step d).marks
 
 -- In a script that puts no bytes into pipes a drain ends, at each line: after a number of rounds nothing moves on any link.
 abbrev pub DrainsEnd : Type 0
