@@ -17,7 +17,7 @@ use Rattle.nr_laws.specs.Typed.{TypedMark, IsTyped}
 use Rattle.nr_script.proofs.ByteLists.{no_bytes_lem}
 use Rattle.nr_drill.specs.Drill.{Setting, Drill, Pipes, pipes_of, plain_of, now, with_mark, unwritten, after_output, after_all_output, settled, after_feeding, after_feeding_up, after_feeding_down, after_up, after_down, after_handing, after_done, after_dones, after_outcomes, waiting_call, after_answer, after_execution, after_work}
 use Rattle.nr_drill.specs.WorkLeft.DrainStep.{AllUp, Work, AllDown}
-use Rattle.nr_drill.specs.Drains.{StepsKeepTypes, AnswersInBytes}
+use Rattle.nr_drill.specs.Drains.{AnswersInBytesAt, StepsKeepTypes}
 use Rattle.nr_drill.proofs.ByteClients.{client_due}
 use Rattle.nr_drill.proofs.ByteServers.{server_due}
 
@@ -58,21 +58,21 @@ answers s link call (Some reply) d b h =
     let mark = marks.Execute link call.xid (now d) call.payload (length (journal (plain_of s.server) d.marks)) reply in
     settles s link (with_mark mark d) (more mark d (b reply refl) h)
 
-executes : (s : Setting) (link : ℕ) (call : Option ReadyCall) (d : Drill) → AnswersInBytes s → waiting_call s link d.marks ≡ call → IsTyped d.marks → IsTyped (after_execution s link call d).marks
+executes : (s : Setting) (link : ℕ) (call : Option ReadyCall) (d : Drill) → AnswersInBytesAt s link d → waiting_call s link d.marks ≡ call → IsTyped d.marks → IsTyped (after_execution s link call d).marks
 executes s link None d replies is h = h
 executes s link (Some call) d replies is h =
-    answers s link call (s.server.reply_to (journal (plain_of s.server) d.marks) (now d) call.payload) d (λ reply told. replies link d call reply h is told) h
+    answers s link call (s.server.reply_to (journal (plain_of s.server) d.marks) (now d) call.payload) d (λ reply told. replies call reply is told) h
 
-pub steps_keep_types : (s : Setting) → AnswersInBytes s → StepsKeepTypes s
+pub steps_keep_types : StepsKeepTypes
 unfolding after_up after_down after_outcomes after_work
-steps_keep_types s replies link AllUp d running typed =
+steps_keep_types s link AllUp d running replies typed =
     let pipes = pipes_of link d in
     let bytes = pipe_bytes _ pipes.up (bytes_sent link Initiator d.marks) (is_dropped link d.marks) running.up (λ gone. ap (λ (p : Pipes). p.up) (running.gone gone))
     (subst IsBytes (sym running.asked.written) (client_due (s.opened link) link d.marks typed)) in
     settles s link (after_feeding_up link (length pipes.up) d)
     (feeds link Responder (take (length pipes.up) pipes.up) (record pipes { up = drop (length pipes.up) pipes.up }) d (IsBytes_take (length pipes.up) pipes.up bytes) typed)
-steps_keep_types s replies link Work d running typed = executes s link (waiting_call s link d.marks) d replies refl typed
-steps_keep_types s replies link AllDown d running typed =
+steps_keep_types s link Work d running replies typed = executes s link (waiting_call s link d.marks) d replies refl typed
+steps_keep_types s link AllDown d running replies typed =
     let pipes = pipes_of link d in
     let bytes = pipe_bytes _ pipes.down (bytes_sent link Responder d.marks) (is_dropped link d.marks) running.down (λ gone. ap (λ (p : Pipes). p.down) (running.gone gone))
     (subst IsBytes (sym running.served.written) (server_due (s.opened link) link d.marks typed)) in

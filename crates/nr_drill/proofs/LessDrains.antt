@@ -38,7 +38,7 @@ one_more first run mark h = (h.0 ++ mark ∷ [], ap (λ (r : List Mark). r ++ ma
 
 quiet_begins : (s : Setting) (first : List Mark) (old new : Drill) → AddsQuiet s old new → Begins first old.marks → Begins first new.marks
 quiet_begins s first old new (Same is) h = subst (Begins first) (sym is) h
-quiet_begins s first old new (More mark none is) h = subst (Begins first) (sym is) (one_more first old.marks mark h)
+quiet_begins s first old new (More mark none other is) h = subst (Begins first) (sym is) (one_more first old.marks mark h)
 
 -- a drill whose marks begin with these
 abbrev IsLater : List Mark → Drill → Type 0

@@ -18,16 +18,15 @@ use Rattle.nr_reduce.specs.Server.{server_rules}
 use Rattle.nr_reduce.specs.Run.{client, server, output_due, end_of_side}
 use Rattle.nr_reduce.specs.Served.{next_call, first_ready}
 use Rattle.nr_reduce.proofs.Steps.{client_one, server_one}
-use Rattle.nr_laws.specs.Typed.{IsTyped}
 use Rattle.nr_drill.specs.Drill.{link_of, Setting, Drill, Pipes, empty_pipes, unwritten, pipes_of, settled, if_standing, waiting_call, after_feeding, after_up, after_down, after_outcomes, after_done, after_dones, after_handing, after_answer, after_execution, after_work, after_calls, after_all_up, after_all_work, after_all_down, after_moves, after_round}
 use Rattle.nr_drill.specs.Follows.{is_empty, is_still, Drains}
 use Rattle.nr_drill.specs.WorkLeft.{DrainStep, after_step, frame_len, is_send, send_bytes_left, work_left, stays, IsLess}
 use Rattle.nr_drill.specs.WorkLeft.DrainStep.{AllUp, Work, AllDown}
 use Rattle.nr_drill.specs.DrainSteps.{Moves}
-use Rattle.nr_drill.specs.Drains.{IsRunning, StepsKeepTypes, AnswersCalls, DrainsEnd}
+use Rattle.nr_drill.specs.Drains.{IsRunning, AnswersCalls, DrainsEnd}
 use Rattle.nr_drill.specs.Drill.{links_of}
 use Rattle.nr_drill.specs.Follows.{setting_of}
-use Rattle.nr_drill.proofs.KeptTypes.{steps_keep_types}
+use Rattle.nr_drill.proofs.ByteDrills.{IsByteDrill, next_of_lem, StepsKeepBytes, steps_keep_bytes, script_bytes}
 use Rattle.nr_drill.proofs.Followed.{Extends, no_event, moves_adds}
 use Rattle.nr_drill.proofs.Carried.{same_here, settled_same, dones_keep}
 use Rattle.nr_drill.proofs.Lawful.{Keeps}
@@ -159,12 +158,12 @@ same_still s link old new a = λ i.
 
 -- ===== the steps of a link
 
--- a drill on which a link runs, and whose marks are of their types
+-- a drill on which a link runs, and in which all that is written down is bytes
 abbrev Good : Setting → ℕ → Drill → Type 0
-Good s link d = IsRunning s link d × IsTyped d.marks
+Good s link d = IsRunning s link d × IsByteDrill d
 
-good_step : (s : Setting) → StepsKeepTypes s → (link : ℕ) (step : DrainStep) (d : Drill) → Good s link d → Good s link (after_step s link step d)
-good_step s types link step d g = (step_runs s link step d g.0, types link step d g.0 g.1)
+good_step : (s : Setting) → StepsKeepBytes s → (link : ℕ) (step : DrainStep) (d : Drill) → Good s link d → Good s link (after_step s link step d)
+good_step s types link step d g = (step_runs s link step d g.0, types link step d g.1)
 
 idle_up : (s : Setting) (link : ℕ) (d : Drill) → IsRunning s link d → (pipes_of link d).up ≡ [] → after_all_up s link d ≡ d
 unfolding after_up
@@ -221,21 +220,17 @@ idle_down s link d r none =
     let nothing : take n down ≡ [] = take_all n down (omega arith) ∙ none in
     ap (λ (xs : List ℕ). work_left s (settled s link (after_outcomes s link (after_feeding link Initiator xs rest d))) link) nothing ∙ outcomes_left s link d (running_keeps s link d r)
 
-down_not_more : (s : Setting) → StepsKeepTypes s → (link : ℕ) (d : Drill) → Good s link d → NotMore (work_left s (after_all_down s link d) link) (work_left s d link)
+down_not_more : (s : Setting) → StepsKeepBytes s → (link : ℕ) (d : Drill) → Good s link d → NotMore (work_left s (after_all_down s link d) link) (work_left s d link)
 down_not_more s types link d g = by (pipes_of link d).down refl
   where
     by : (xs : List ℕ) → (pipes_of link d).down ≡ xs → NotMore (work_left s (after_all_down s link d) link) (work_left s d link)
     by [] e = inl (idle_down s link d g.0 e)
-    by (b ∷ xs) e = inr (down_less_lem s link d (running_keeps s link d g.0) (running_carries s link d g.0) g.0.client_heard (λ none. some b xs (sym e ∙ none)) (types link AllDown d g.0 g.1))
+    by (b ∷ xs) e = inr (down_less_lem s link d (running_keeps s link d g.0) (running_carries s link d g.0) g.0.client_heard (λ none. some b xs (sym e ∙ none)) (types link AllDown d g.1).typed.typed)
       where
         some : (b : ℕ) (xs : List ℕ) → b ∷ xs ≡ [] → ⊥
         some b xs x = absurd cc
 
 -- calls
-
-next_of_lem : (dropped : Bool) (call : ReadyCall) (next : Option ReadyCall) → if_standing dropped next ≡ Some call → next ≡ Some call
-next_of_lem true call next e = absurd cc
-next_of_lem false call next e = e
 
 work_idle : (s : Setting) (link : ℕ) (d : Drill) → waiting_call s link d.marks ≡ None → after_work s link d ≡ d
 unfolding after_work
@@ -257,7 +252,7 @@ work_not_more s answers link d r = by (waiting_call s link d.marks) refl
     by None e = inl (ap (λ (x : Drill). work_left s x link) (work_idle s link d e))
     by (Some call) e = inr (work_of s answers link d call r e)
 
-calls_good : (s : Setting) → StepsKeepTypes s → (link n : ℕ) (d : Drill) → Good s link d → Good s link (after_calls s link n d)
+calls_good : (s : Setting) → StepsKeepBytes s → (link n : ℕ) (d : Drill) → Good s link d → Good s link (after_calls s link n d)
 calls_good s types link zero d g = g
 calls_good s types link (suc n) d g = calls_good s types link n (after_work s link d) (good_step s types link Work d g)
 
@@ -290,14 +285,14 @@ some_ready s link d call e =
 
 -- ===== all up, all calls, all down
 
-moves_good : (s : Setting) → StepsKeepTypes s → (link : ℕ) (d : Drill) → Good s link d → Good s link (after_moves s link d)
+moves_good : (s : Setting) → StepsKeepBytes s → (link : ℕ) (d : Drill) → Good s link d → Good s link (after_moves s link d)
 unfolding after_moves after_all_work
 moves_good s types link d g =
     let one = after_all_up s link d in
     let n = length (server (s.opened link) link one.marks).state.ready in
     good_step s types link AllDown (after_calls s link n one) (calls_good s types link n one (good_step s types link AllUp d g))
 
-moves_not_more : (s : Setting) → StepsKeepTypes s → AnswersCalls s → (link : ℕ) (d : Drill) → Good s link d → NotMore (work_left s (after_moves s link d) link) (work_left s d link)
+moves_not_more : (s : Setting) → StepsKeepBytes s → AnswersCalls s → (link : ℕ) (d : Drill) → Good s link d → NotMore (work_left s (after_moves s link d) link) (work_left s d link)
 unfolding after_moves after_all_work
 moves_not_more s types answers link d g =
     let one = after_all_up s link d in
@@ -315,7 +310,7 @@ still_cases [] [] None e = absurd cc
 still_cases [] (b ∷ down) None e = inr (refl, inr (refl, λ none. absurd cc))
 
 -- if something moves on the link
-moves_less : (s : Setting) → StepsKeepTypes s → AnswersCalls s → (link : ℕ) (d : Drill) → Good s link d → is_still s d link ≡ false → IsLess (work_left s (after_moves s link d) link) (work_left s d link)
+moves_less : (s : Setting) → StepsKeepBytes s → AnswersCalls s → (link : ℕ) (d : Drill) → Good s link d → is_still s d link ≡ false → IsLess (work_left s (after_moves s link d) link) (work_left s d link)
 unfolding after_moves after_all_work is_still
 moves_less s types answers link d g e = by (still_cases (pipes_of link d).up (pipes_of link d).down (waiting_call s link d.marks) e)
   where
@@ -347,7 +342,7 @@ moves_less s types answers link d g e = by (still_cases (pipes_of link d).up (pi
     by (inr (none, inr (waits, some))) =
         idle none
         (subst (λ (x : Drill). IsLess (work_left s (after_all_down s link x) link) (work_left s d link)) (sym (calls_idle s link (ready_after d) d waits))
-        (down_less_lem s link d (running_keeps s link d g.0) (running_carries s link d g.0) g.0.client_heard some (types link AllDown d g.0 g.1)))
+        (down_less_lem s link d (running_keeps s link d g.0) (running_carries s link d g.0) g.0.client_heard some (types link AllDown d g.1).typed.typed))
 
 -- ===== a round
 
@@ -401,10 +396,10 @@ others_run s l (k ∷ links) d one others r = (
   others_run s l links d one others.1 r.1,
 )
 
--- the links of a round still run after it, and the marks are of their types
+-- the links of a round still run after it, and all that is written down is bytes
 record RoundGood (s : Setting) (links : List ℕ) (new : Drill) : Type 0 where
   run : AllRun s links new
-  typed : IsTyped new.marks
+  typed : IsByteDrill new
 
 round_runs : (s : Setting) (link : ℕ) (links : List ℕ) (d : Drill) → 1 ≤ link → AllByRecursion (λ (k : ℕ). (1 ≤ k) × (k ≢ link)) links → IsRunning s link d → IsRunning s link (after_round s links d)
 round_runs s link [] d one others r = r
@@ -412,7 +407,7 @@ round_runs s link (l ∷ links) d one others r =
     round_runs s link links (after_moves s l d) one others.1
     (other_runs s link l d (after_moves s l d) others.0.1 (λ same. apart_pipes l link others.0.0 one others.0.1 (sym same)) (moves_adds s l d) r)
 
-round_good : (s : Setting) → StepsKeepTypes s → (links : List ℕ) (d : Drill) → AreApart links → AllRun s links d → IsTyped d.marks → RoundGood s links (after_round s links d)
+round_good : (s : Setting) → StepsKeepBytes s → (links : List ℕ) (d : Drill) → AreApart links → AllRun s links d → IsByteDrill d → RoundGood s links (after_round s links d)
 round_good s types [] d apart r t = record { run = tt; typed = t }
 round_good s types (l ∷ links) d apart r t =
     let mid = after_moves s l d in
@@ -437,7 +432,7 @@ record RoundLess (s : Setting) (links : List ℕ) (d new : Drill) : Type 0 where
   not_more : NotMore (all_left s links new) (all_left s links d)
   less : list_all (is_still s d) links ≡ false → IsLess (all_left s links new) (all_left s links d)
 
-round_less : (s : Setting) → StepsKeepTypes s → AnswersCalls s → (links : List ℕ) (d : Drill) → AreApart links → AllRun s links d → IsTyped d.marks → RoundLess s links d (after_round s links d)
+round_less : (s : Setting) → StepsKeepBytes s → AnswersCalls s → (links : List ℕ) (d : Drill) → AreApart links → AllRun s links d → IsByteDrill d → RoundLess s links d (after_round s links d)
 round_less s types answers [] d apart r t = record { not_more = inl refl; less = λ e. absurd (wrong e) }
   where
     wrong : true ≡ false → ⊥
@@ -489,13 +484,13 @@ all_long s (l ∷ links) d = omega (arith, length-append (work_left s d l) (all_
 Ends : Setting → List ℕ → Drill → Type 0
 Ends s links d = (rounds : ℕ) × (new : Drill) × Drains s links rounds d new
 
--- If the server has a reply to each call that waits, and steps keep marks of their types: a number of rounds, and nothing moves on any of the links.
-pub drain_ends : (s : Setting) (links : List ℕ) → AreApart links → StepsKeepTypes s → AnswersCalls s → (d : Drill) → AllRun s links d → IsTyped d.marks → (rounds : ℕ) × (new : Drill) × Drains s links rounds d new
+-- If the server has a reply to each call that waits, and steps keep what is written down bytes: a number of rounds, and nothing moves on any of the links.
+pub drain_ends : (s : Setting) (links : List ℕ) → AreApart links → StepsKeepBytes s → AnswersCalls s → (d : Drill) → AllRun s links d → IsByteDrill d → (rounds : ℕ) × (new : Drill) × Drains s links rounds d new
 unfolding Ends
 drain_ends s links apart types answers d r t = by_less (6 * length links) P step (all_left s links d) (all_long s links d) d refl r t
   where
     P : List ℕ → Type 0
-    P x = (d : Drill) → all_left s links d ≡ x → AllRun s links d → IsTyped d.marks → Ends s links d
+    P x = (d : Drill) → all_left s links d ≡ x → AllRun s links d → IsByteDrill d → Ends s links d
 
     step : (x : List ℕ) → length x ≡ 6 * length links → ((y : List ℕ) → length y ≡ 6 * length links → IsLess y x → P y) → P x
     step x long less d is r t = by (list_all (is_still s d) links) refl
@@ -524,12 +519,13 @@ range_all P most from zero h some le = tt
 range_all P most from (suc n) h some le = (h from some (omega (arith, le)), range_all P most (from + 1) n h (omega (arith, some)) (omega (arith, le)))
 
 pub drains_end : DrainsEnd
-drains_end server script is raw replies answers before after cut mid typed made =
+drains_end server script is raw replies answers before after cut mid made =
     let s = setting_of server script.opening in
-    let types = steps_keep_types s replies in
+    let types = steps_keep_bytes s replies in
     let clients = script.opening.clients in
     drain_ends s (links_of clients) (range_apart 1 clients (omega arith)) types answers mid
-    (range_all (λ (l : ℕ). IsRunning s l mid) clients 1 clients (λ l low high. script_runs server script is l (low, high) (raw l (low, high)) before after cut mid made) (omega arith) (omega arith)) typed
+    (range_all (λ (l : ℕ). IsRunning s l mid) clients 1 clients (λ l low high. script_runs server script is l (low, high) (raw l (low, high)) before after cut mid made) (omega arith) (omega arith))
+    (script_bytes server script is replies before after cut mid made)
 
 -- ===== if no outcome is due, a step that adds a mark moves something
 

@@ -19,8 +19,14 @@ pub mod LessDown
 pub mod LessSteps
 pub mod LessScripts
 pub mod KeptTypes
+pub mod ByteDrills
+pub mod TreeBytes
+pub mod DrillTrees
+pub mod ResultBytes
+pub mod PlainBytes
 pub mod LessRounds
 pub mod LessPlain
+pub mod SomeRuns
 pub mod OneRun
 pub mod LessDrains
 pub mod Told

@@ -38,7 +38,7 @@ use Rattle.nr_script.specs.declared.script.Line.TheVariants as lines
 use Rattle.nr_script.specs.Script.{ScriptLines, IsTypedCred, HasWordPosition, IsTypedLine, IsScript}
 use Rattle.nr_drill.specs.Drill.{SerialServer, Setting, Drill, Pipes, plain_of, now, unwritten, after_output, after_all_output, settled, pipes_of, with_pipes, with_mark, with_cred, appended, empty_pipes, cred_of, after_submit, after_feeding, after_feeding_up, after_up, waiting_call, after_answer, after_execution, after_work, after_calls, after_drop, after_raw, after_feeding_down, after_handing, after_done, after_dones, after_outcomes, after_down, answer_of_line, open_xid, after_giving_up, after_forget, after_taking_back, after_revoke, after_all_up, after_all_work, after_moves, after_round, after_opening, after_openings, start, links_of}
 use Rattle.nr_drill.specs.Follows.{after_line, Drains, Makes, MakeAll, Follows, setting_of, opened_drill}
-use Rattle.nr_drill.specs.InBytes.{RepliedMark, RepliedInBytes}
+use Rattle.nr_drill.specs.InBytes.{RepliedMark, RepliedInBytes, ExecutedMark}
 use Rattle.nr_script.proofs.ByteLists.{no_bytes_lem}
 use Rattle.nr_script.proofs.ByteLists.{AreOfBytes, items_bytes}
 use Rattle.nr_drill.proofs.ByteClients.{client_due}
@@ -74,7 +74,7 @@ with_cred_at_lem [] i c h g = tt
 with_cred_at_lem (x ∷ all) zero c h g = (g, h.1)
 with_cred_at_lem (x ∷ all) (suc i) c h g = (h.0, with_cred_at_lem all i c h.1 g)
 
-marked : (mark : Mark) (d : Drill) → TypedMark d.marks mark → IsTypedDrill d → IsTypedDrill (with_mark mark d)
+pub marked : (mark : Mark) (d : Drill) → TypedMark d.marks mark → IsTypedDrill d → IsTypedDrill (with_mark mark d)
 marked mark d t h = record { typed = AtEachMark_more TypedMark [] d.marks mark h.typed t; pipes = h.pipes; creds = h.creds }
 
 piped : (link : ℕ) (p : Pipes) (d : Drill) → PipesOfBytes p → IsTypedDrill d → IsTypedDrill (with_pipes link p d)
@@ -157,10 +157,10 @@ submit_mark link run call form submissions.Dropped f h c = tt
 
 -- ===== what each line keeps
 
--- A step that executes no call: it adds a mark at most.
+-- A step that executes no call: it adds a mark at most, which has no payload.
 pub data AddsQuiet (s : Setting) (old new : Drill) : Type 0 where
   Same : new.marks ≡ old.marks → AddsQuiet s old new
-  More : (mark : Mark) → entries_added (plain_of s.server) mark ≡ [] → new.marks ≡ old.marks ++ mark ∷ [] → AddsQuiet s old new
+  More : (mark : Mark) → entries_added (plain_of s.server) mark ≡ [] → ExecutedMark old.marks mark → new.marks ≡ old.marks ++ mark ∷ [] → AddsQuiet s old new
 
 abbrev pub executed : Setting → ℕ → ReadyCall → List ℕ → Drill → Drill
 executed s link call reply d = with_mark (marks.Execute link call.xid (now d) call.payload (length (journal (plain_of s.server) d.marks)) reply) d
@@ -173,15 +173,15 @@ pub record KeptBySteps (s : Setting) (P : Drill → Type 0) : Type 0 where
 
 output_quiet : (s : Setting) (link : ℕ) (side : Side) (bytes : List ℕ) (d : Drill) → AddsQuiet s d (after_output link side bytes d)
 output_quiet s link side [] d = Same refl
-output_quiet s link side (b ∷ bytes) d = More (marks.Wrote link side (b ∷ bytes)) refl refl
+output_quiet s link side (b ∷ bytes) d = More (marks.Wrote link side (b ∷ bytes)) refl tt refl
 
 fed_quiet : (s : Setting) (link : ℕ) (side : Side) (bytes : List ℕ) (rest : Pipes) (d : Drill) → AddsQuiet s d (after_feeding link side bytes rest d)
 fed_quiet s link side [] rest d = Same refl
-fed_quiet s link side (b ∷ bytes) rest d = More (marks.Fed link side (b ∷ bytes)) refl refl
+fed_quiet s link side (b ∷ bytes) rest d = More (marks.Fed link side (b ∷ bytes)) refl tt refl
 
 handing_quiet : (s : Setting) (link : ℕ) (c : Option CompletedCall) (d : Drill) → AddsQuiet s d (after_handing link c d)
 handing_quiet s link None d = Same refl
-handing_quiet s link (Some c) d = More (marks.Done link c.xid c.outcome) refl refl
+handing_quiet s link (Some c) d = More (marks.Done link c.xid c.outcome) refl tt refl
 
 all_output_keeps : (s : Setting) (P : Drill → Type 0) → KeptBySteps s P → (link : ℕ) (side : Side) (d : Drill) → P d → P (after_all_output s link side d)
 all_output_keeps s P k link side d h =
@@ -192,7 +192,7 @@ settled_keeps : (s : Setting) (P : Drill → Type 0) → KeptBySteps s P → (li
 unfolding settled
 settled_keeps s P k link d h = all_output_keeps s P k link Responder (after_all_output s link Initiator d) (all_output_keeps s P k link Initiator d h)
 
-up_keeps : (s : Setting) (P : Drill → Type 0) → KeptBySteps s P → (link n : ℕ) (d : Drill) → P d → P (after_up s link n d)
+pub up_keeps : (s : Setting) (P : Drill → Type 0) → KeptBySteps s P → (link n : ℕ) (d : Drill) → P d → P (after_up s link n d)
 unfolding after_up
 up_keeps s P k link n d h =
     let pipes = pipes_of link d in
@@ -224,7 +224,7 @@ execution_keeps : (s : Setting) (P : Drill → Type 0) → KeptBySteps s P → (
 execution_keeps s P k link None d next h = h
 execution_keeps s P k link (Some call) d next h = answer_keeps s P k link call (s.server.reply_to (journal (plain_of s.server) d.marks) (now d) call.payload) d next refl h
 
-work_keeps : (s : Setting) (P : Drill → Type 0) → KeptBySteps s P → (link : ℕ) (d : Drill) → P d → P (after_work s link d)
+pub work_keeps : (s : Setting) (P : Drill → Type 0) → KeptBySteps s P → (link : ℕ) (d : Drill) → P d → P (after_work s link d)
 unfolding after_work
 work_keeps s P k link d h = execution_keeps s P k link (waiting_call s link d.marks) d refl h
 
@@ -234,7 +234,7 @@ calls_keep s P k link (suc n) d h = calls_keep s P k link n (after_work s link d
 
 giving_up_keeps : (s : Setting) (P : Drill → Type 0) → KeptBySteps s P → (link : ℕ) (xid : Option ℕ) (d : Drill) → P d → P (after_giving_up link xid d)
 giving_up_keeps s P k link None d h = h
-giving_up_keeps s P k link (Some xid) d h = k.quiet d (with_mark (marks.Forget link xid) d) (More (marks.Forget link xid) refl refl) (marked (marks.Forget link xid) d tt) h
+giving_up_keeps s P k link (Some xid) d h = k.quiet d (with_mark (marks.Forget link xid) d) (More (marks.Forget link xid) refl tt refl) (marked (marks.Forget link xid) d tt) h
 
 forget_keeps : (s : Setting) (P : Drill → Type 0) → KeptBySteps s P → (link number : ℕ) (d : Drill) → P d → P (after_forget s link number d)
 unfolding after_forget
@@ -244,14 +244,14 @@ taking_back_keeps : (s : Setting) (P : Drill → Type 0) → KeptBySteps s P →
 taking_back_keeps s P k link None d h = h
 taking_back_keeps s P k link (Some xid) d h =
     let mark = marks.Revoke link xid (revoked_bytes (s.opened link) link d.marks xid) in
-    settled_keeps s P k link (with_mark mark d) (k.quiet d (with_mark mark d) (More mark refl refl) (marked mark d tt) h)
+    settled_keeps s P k link (with_mark mark d) (k.quiet d (with_mark mark d) (More mark refl tt refl) (marked mark d tt) h)
 
 revoke_keeps : (s : Setting) (P : Drill → Type 0) → KeptBySteps s P → (link number : ℕ) (d : Drill) → P d → P (after_revoke s link number d)
 unfolding after_revoke
 revoke_keeps s P k link number d h = taking_back_keeps s P k link (open_xid s link d.marks (answer_of_line link number d.marks)) d h
 
 submit_quiet : (s : Setting) (link : ℕ) (call : Call) (form : Form) (answer : Submission) (d : Drill) → AddsQuiet s d (with_mark (marks.Submit link call form answer) d)
-submit_quiet s link call form answer d = More (marks.Submit link call form answer) refl refl
+submit_quiet s link call form answer d = More (marks.Submit link call form answer) refl tt refl
 
 raw_quiet : (s : Setting) (link : ℕ) (side : Side) (bytes : List ℕ) (dropped : Bool) (d : Drill) → AddsQuiet s d (after_raw link side bytes dropped d)
 raw_quiet s link side bytes true d = Same refl
@@ -280,7 +280,7 @@ line_keeps s P k (lines.Tick seconds) d l h =
 line_keeps s P k (lines.Forget client number) d l h = forget_keeps s P k client number d h
 line_keeps s P k (lines.Revoke client number) d l h = revoke_keeps s P k client number d h
 line_keeps s P k (lines.Drop client) d l h =
-    k.quiet d (after_drop client d) (More (marks.Drop client) refl refl) (λ t. piped client empty_pipes (with_mark (marks.Drop client) d) (no_bytes_lem, no_bytes_lem) (marked (marks.Drop client) d tt t)) h
+    k.quiet d (after_drop client d) (More (marks.Drop client) refl tt refl) (λ t. piped client empty_pipes (with_mark (marks.Drop client) d) (no_bytes_lem, no_bytes_lem) (marked (marks.Drop client) d tt t)) h
 line_keeps s P k (lines.Raw client side bytes) d l h =
     let dropped = is_dropped client d.marks in
     k.quiet d (after_raw client side bytes dropped d) (raw_quiet s client side bytes dropped d) (raw_typed client side bytes dropped d l) h
@@ -319,7 +319,7 @@ pub lines_keep : (s : Setting) (P : Drill → Type 0) → KeptBySteps s P → (c
 lines_keep s P k clients [] old new l e h = subst P (sym e) h
 lines_keep s P k clients (line ∷ others) old new l e h = lines_keep s P k clients others e.0 new l.1 e.2 (made_keeps s P k clients line old e.0 l.0 e.1 h)
 
-openings_keep : (s : Setting) (P : Drill → Type 0) → KeptBySteps s P → (links : List ℕ) (d : Drill) → P d → P (after_openings s links d)
+pub openings_keep : (s : Setting) (P : Drill → Type 0) → KeptBySteps s P → (links : List ℕ) (d : Drill) → P d → P (after_openings s links d)
 unfolding after_opening
 openings_keep s P k [] d h = h
 openings_keep s P k (link ∷ links) d h =
@@ -347,7 +347,7 @@ no_creds : (clients : ℕ) → AllByRecursion IsTypedCred (replicate clients cre
 no_creds zero = tt
 no_creds (suc n) = (tt, no_creds n)
 
-start_typed : (clients : ℕ) → IsTypedDrill (start clients)
+pub start_typed : (clients : ℕ) → IsTypedDrill (start clients)
 start_typed clients = record { typed = tt; pipes = none_wait clients; creds = no_creds clients }
 
 -- ===== if replies are bytes
@@ -357,7 +357,7 @@ first_replied run mark h = AtEachMark_first RepliedMark [] run (mark ∷ []) h
 
 quiet_replied : (s : Setting) (old new : Drill) → AddsQuiet s old new → RepliedInBytes new.marks → RepliedInBytes old.marks
 quiet_replied s old new (Same is) h = subst RepliedInBytes is h
-quiet_replied s old new (More mark none is) h = first_replied old.marks mark (subst RepliedInBytes is h)
+quiet_replied s old new (More mark none other is) h = first_replied old.marks mark (subst RepliedInBytes is h)
 
 -- once all replies so far are bytes, a drill is of its types
 typed_if : (s : Setting) → KeptBySteps s (λ d. RepliedInBytes d.marks → IsTypedDrill d)

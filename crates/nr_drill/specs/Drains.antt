@@ -11,12 +11,12 @@ use Rattle.nr_reduce.specs.Served.{Served, next_call}
 use Rattle.nr_reduce.specs.Matched.{Matched}
 use Rattle.nr_laws.specs.Grant.{AcceptsByRule}
 use Rattle.nr_laws.specs.Typed.{IsTyped}
-use Rattle.nr_script.specs.declared.script.Opening.{Opening}
 use Rattle.nr_script.specs.declared.script.Line.{Line}
 use Rattle.nr_script.specs.Script.{ScriptLines, IsScript}
 use Rattle.nr_drill.specs.Drill.{SerialServer, Setting, Drill, plain_of, now, waiting_call, links_of, pipes_of, empty_pipes}
 use Rattle.nr_drill.specs.Follows.{Drains, MakeAll, setting_of, opened_drill}
 use Rattle.nr_drill.specs.Headline.{IsLink, HasNoRaw}
+use Rattle.nr_drill.specs.InBytes.{ExecutedInBytes}
 use Rattle.nr_drill.specs.WorkLeft.{DrainStep, after_step, work_left, IsLess}
 use Rattle.nr_drill.specs.DrainSteps.{Moves}
 
@@ -40,28 +40,28 @@ abbrev pub StepsLeaveLess : Type 0
 StepsLeaveLess = (s : Setting) (link : ℕ) (step : DrainStep) (old : Drill) → IsRunning s link old → Moves s link step old → IsTyped (after_step s link step old).marks →
     IsLess (work_left s (after_step s link step old) link) (work_left s old link)
 
--- what steps write down are of their types
-abbrev pub StepsKeepTypes : Setting → Type 0
-StepsKeepTypes s = (link : ℕ) (step : DrainStep) (d : Drill) → IsRunning s link d → IsTyped d.marks → IsTyped (after_step s link step d).marks
-
 -- the server has a reply to each call that waits
 abbrev pub AnswersCalls : Setting → Type 0
 AnswersCalls s = (link : ℕ) (d : Drill) (call : ReadyCall) → next_call (s.opened link) link d.marks ≡ Some call →
     (reply : List ℕ) × (s.server.reply_to (journal (plain_of s.server) d.marks) (now d) call.payload ≡ Some reply)
 
--- What the server replies to a call that waits is bytes, if what is written down so far is of its types. What a program replies is always so.
-abbrev pub AnswersInBytes : Setting → Type 0
-AnswersInBytes s = (link : ℕ) (d : Drill) (call : ReadyCall) (reply : List ℕ) → IsTyped d.marks → waiting_call s link d.marks ≡ Some call →
+-- what the server replies to a call that waits on a link of a drill is bytes
+abbrev pub AnswersInBytesAt : Setting → ℕ → Drill → Type 0
+AnswersInBytesAt s link d = (call : ReadyCall) (reply : List ℕ) → waiting_call s link d.marks ≡ Some call →
     s.server.reply_to (journal (plain_of s.server) d.marks) (now d) call.payload ≡ Some reply → IsBytes reply
 
--- so what each step of a drain writes down on a link that runs is of its types
-abbrev pub RepliesKeepTypes : Type 0
-RepliesKeepTypes = (server : SerialServer) (opening : Opening) → AnswersInBytes (setting_of server opening) → StepsKeepTypes (setting_of server opening)
+-- It is so on each link of each drill whose marks are of their types, and whose executed payloads are bytes.
+abbrev pub AnswersInBytes : Setting → Type 0
+AnswersInBytes s = (link : ℕ) (d : Drill) → IsTyped d.marks → ExecutedInBytes d.marks → AnswersInBytesAt s link d
+
+-- What a step of a drain writes down on a link that runs is of its types, if a reply to a call that waits there is bytes.
+abbrev pub StepsKeepTypes : Type 0
+StepsKeepTypes = (s : Setting) (link : ℕ) (step : DrainStep) (d : Drill) → IsRunning s link d → AnswersInBytesAt s link d → IsTyped d.marks → IsTyped (after_step s link step d).marks
 
 -- In a script that puts no bytes into pipes a drain ends, at each line: after a number of rounds nothing moves on any link.
 abbrev pub DrainsEnd : Type 0
 DrainsEnd = (server : SerialServer) (script : ScriptLines) → IsScript script → ((link : ℕ) → IsLink script link → HasNoRaw script link) →
     AnswersInBytes (setting_of server script.opening) → AnswersCalls (setting_of server script.opening) →
-    (before after : List Line) → script.lines ≡ before ++ after → (mid : Drill) → IsTyped mid.marks →
+    (before after : List Line) → script.lines ≡ before ++ after → (mid : Drill) →
     MakeAll (setting_of server script.opening) script.opening.clients before (opened_drill server script.opening) mid →
     (rounds : ℕ) × (new : Drill) × Drains (setting_of server script.opening) (links_of script.opening.clients) rounds mid new

@@ -1,16 +1,18 @@
 -- The laws of drills.
-use Rattle.std.specs.Prelude.{◌≡◌, List, length}
+use Rattle.std.specs.Prelude.{◌≡◌, ℕ, List, ◌++◌, length}
 use Rattle.nr_tree.specs.Tree.{Tree}
 use Rattle.nr_tree.specs.Sane.{IsSane}
+use Rattle.nr_tree.specs.Drill.{IsDrill}
 use Rattle.nr_reduce.specs.declared.mark.Mark.{Mark}
 use Rattle.nr_script.specs.declared.script.Opening.{Opening}
+use Rattle.nr_script.specs.declared.script.Line.{Line}
 use Rattle.nr_script.specs.Script.{ScriptLines, IsScript}
 use Rattle.nr_drill.specs.declared.report.Report.{Report}
-use Rattle.nr_drill.specs.Drill.{SerialServer}
-use Rattle.nr_drill.specs.Follows.{Follows, setting_of}
-use Rattle.nr_drill.specs.Drains.{AnswersCalls}
-use Rattle.nr_drill.specs.Headline.{IsDrillRun, Reports}
-use Rattle.nr_drill.specs.InBytes.{RepliedInBytes}
+use Rattle.nr_drill.specs.Drill.{SerialServer, Drill, links_of}
+use Rattle.nr_drill.specs.Follows.{Drains, MakeAll, Follows, setting_of, opened_drill}
+use Rattle.nr_drill.specs.Drains.{AnswersCalls, AnswersInBytes}
+use Rattle.nr_drill.specs.Headline.{IsLink, HasNoRaw, IsDrillRun, Reports}
+use Rattle.nr_drill.specs.InBytes.{RepliedInBytes, IsInBytes}
 use Rattle.nr_drill.specs.DrillSetup.{drill_setup, server_of}
 use Rattle.nr_drill.specs.Shown.{shown, text_of, summary, sums_of}
 
@@ -26,6 +28,38 @@ OneRun = (server : SerialServer) (script : ScriptLines) (run other : List Mark) 
 -- the plain server of a drill has a reply to each call that waits
 abbrev pub PlainServersAnswer : Type 0
 PlainServersAnswer = (tree : Tree) (opening : Opening) → AnswersCalls (setting_of (server_of (drill_setup tree opening)) opening)
+
+-- over a tree in bytes it replies in bytes
+abbrev pub PlainServersAnswerInBytes : Type 0
+PlainServersAnswerInBytes = (tree : Tree) (opening : Opening) → IsInBytes tree → AnswersInBytes (setting_of (server_of (drill_setup tree opening)) opening)
+
+-- the first tree of a drill is sane, and in bytes
+abbrev pub DrillTreesAreSane : Type 0
+DrillTreesAreSane = (tree : Tree) → IsDrill tree → IsSane tree
+
+abbrev pub DrillTreesAreInBytes : Type 0
+DrillTreesAreInBytes = (tree : Tree) → IsDrill tree → IsInBytes tree
+
+-- over a tree in bytes each reply of a run is bytes
+abbrev pub PlainRunsReplyInBytes : Type 0
+PlainRunsReplyInBytes = (tree : Tree) (script : ScriptLines) (run : List Mark) → IsInBytes tree → IsScript script → Follows (server_of (drill_setup tree script.opening)) script run → RepliedInBytes run
+
+-- Over a tree in bytes, in a script that puts no bytes into pipes, a drain ends, at each line.
+abbrev pub PlainDrainsEnd : Type 0
+PlainDrainsEnd = (tree : Tree) (script : ScriptLines) → IsInBytes tree → IsScript script → ((link : ℕ) → IsLink script link → HasNoRaw script link) →
+    (before after : List Line) → script.lines ≡ before ++ after → (mid : Drill) →
+    MakeAll (setting_of (server_of (drill_setup tree script.opening)) script.opening) script.opening.clients before (opened_drill (server_of (drill_setup tree script.opening)) script.opening) mid →
+    (rounds : ℕ) × (new : Drill) × Drains (setting_of (server_of (drill_setup tree script.opening)) script.opening) (links_of script.opening.clients) rounds mid new
+
+-- so such a script has a run
+abbrev pub ScriptsHaveRuns : Type 0
+ScriptsHaveRuns = (tree : Tree) (script : ScriptLines) → IsInBytes tree → IsScript script → ((link : ℕ) → IsLink script link → HasNoRaw script link) →
+    (run : List Mark) × Follows (server_of (drill_setup tree script.opening)) script run
+
+-- and over the first tree of a drill it has one, which is that of a drill
+abbrev pub DrillsHaveRuns : Type 0
+DrillsHaveRuns = (tree : Tree) (script : ScriptLines) → IsDrill tree → IsScript script → ((link : ℕ) → IsLink script link → HasNoRaw script link) →
+    (run : List Mark) × IsDrillRun (server_of (drill_setup tree script.opening)) script run
 
 -- what is printed of a run, and its sums, by its report
 pub record ReportsRun (server : SerialServer) (script : ScriptLines) (report : Report) : Type 0 where
