@@ -46,6 +46,8 @@ fn items_are_written_into_room(rt: HostRuntime) {
     let bytes = items_in_room(rt.alloc()).expect(&rt, "memory");
     same(&rt, 0, bytes.as_slice(), &ITEMS[..28]);
     same(&rt, 1, RoomWriter::new(rt.alloc()).finish().len(), 0);
+    let writer = Writer::with_capacity(rt.alloc(), 20).expect(&rt, "memory");
+    same(&rt, 3, writer.finish().len(), 0);
     same(
         &rt,
         2,

@@ -4,7 +4,8 @@ ghost use Rattle.std.specs.Prelude.{◌≡◌, ◌+◌, ◌^◌, ◌<◌, ◌≤
 ghost use Rattle.nr_header.specs.WithinLimits.{read_total};
 ghost use Rattle.nr_xdr.specs.Matching.{MatchesRead};
 ghost use Rattle.nr_header.specs.Reading.{optional_at, lists_after, is_allowed, other_position, entry_at, read_list_at, segments_at, chunk_at, write_list_at, reply_chunk_at, lists_at};
-ghost use Rattle.nr_header.specs.private.ListsRead.{lists_of, nothing_read};
+ghost use Rattle.nr_header.specs.Storage.{lists_of};
+ghost use Rattle.nr_header.specs.private.ListsRead.{nothing_read};
 ghost use Rattle.nr_header.specs.ReadInto.{no_lists};
 
 use crate::constants::{
@@ -203,7 +204,7 @@ impl Model for ListsRoom {
 
     ghost Value = { ChunkLists };
 
-    ghost use Rattle.nr_header.specs.private.ListsRead.{lists_of};
+    ghost use Rattle.nr_header.specs.Storage.{lists_of};
 
     ghost view = { λ r. lists_of r.held };
 }

@@ -7,7 +7,8 @@ ghost use Rattle.nr_xdr.specs.Fields.{word_at};
 ghost use Rattle.nr_xdr.specs.Matching.{MatchesValue};
 ghost use Rattle.nr_header.specs.Reading.{sums_pass, msg_body, nomsg_body, msg_at, nomsg_at, error_of, error_by, version1_of, body_by, in_lists, header_of};
 ghost use Rattle.nr_header.specs.Header.{error_body};
-ghost use Rattle.nr_header.specs.private.ListsRead.{lists_of, nothing_read, MatchesBody};
+ghost use Rattle.nr_header.specs.Storage.{lists_of};
+ghost use Rattle.nr_header.specs.private.ListsRead.{nothing_read, MatchesBody};
 ghost use Rattle.nr_header.specs.ReadInto.{no_lists, body_with, with_lists, lists_in};
 
 use crate::constants::{

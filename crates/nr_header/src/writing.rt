@@ -6,12 +6,17 @@ ghost use Rattle.nr_xdr.specs.Items.{encodings};
 ghost use Rattle.nr_header.specs.Header.{segment_items, entry_items, fixed_items, read_items, segments_items, chunk_items, write_items, reply_items, lists_items, body_items, lists_body, no_lists, error_body, ChunksFit, CanWriteHeader, header_encoding};
 ghost use Rattle.nr_header.specs.Slices.{lists_of_slices};
 
-use crate::constants::{ERR_CHUNK, ERR_VERS, ERROR, MSG, NOMSG, VERSION};
+use crate::constants::{
+    ERR_CHUNK, ERR_VERS, ERROR, HEADER_LEN_MIN, MSG, NOMSG, READ_SEGMENT_LEN, SEGMENT_LEN, VERSION,
+};
 use crate::header::{
     Body, Chunk, ChunkLists, Header, ListSlices, RdmaSegment, ReadSegment, TransportError,
 };
 use nr_xdr::{Memory, Octets, Writer};
 use std::alloc::Global;
+
+/// The room that is taken at first for a header: that of one with a segment in each of its lists. More is taken for a longer one.
+const WRITTEN_ROOM: usize = HEADER_LEN_MIN + READ_SEGMENT_LEN + 2 * (8 + SEGMENT_LEN);
 
 fn put_segment(writer: &mut Writer, segment: &RdmaSegment) -> Result<(), Memory>
     ensures { OnOk result (writer.new ≡ writer.old ++ encodings (segment_items segment.now [])) }
@@ -208,7 +213,7 @@ fn octets_with_lists(
     requires { ChunksFit (lists_of_slices lists) }
     ensures { IfOk result (λ o. o ≡ encodings (fixed_items xid VERSION credit kind (lists_items (lists_of_slices lists.entry)))) }
 {
-    let mut writer = Writer::new(alloc);
+    let mut writer = Writer::with_capacity(alloc, WRITTEN_ROOM)?;
     put_with_lists(&mut writer, xid, credit, kind, lists)?;
     Ok(writer.finish())
 }

@@ -2,7 +2,7 @@
 use Rattle.std.proofs.Common.{◌≡◌, ℕ, zero, suc, ◌+◌, ◌-◌, ◌≤◌, ◌<◌, arith, Bool, true, false, if◌then◌else◌, List, [], ◌∷◌, ◌++◌, length, take, drop, get_or, set, refl, sym, ap, subst, ◌∙◌, append-nil, append_assoc, length-append}
 use Rattle.std.proofs.lemmas.List.{take-append-le, drop-append-le, length-drop, take_all, drop_at, get_or-set_same, get_or_default}
 use Rattle.nr_marks.specs.declared.stores.Piece.{Piece}
-use Rattle.nr_marks.specs.private.Pieces.{Grows, IsWithin, Holds, bytes_in}
+use Rattle.nr_marks.specs.Pieces.{Grows, IsWithin, Holds, bytes_in}
 
 pub grows_same : (old : List (List ℕ)) → Grows old old
 grows_same old = record { more = λ k. []; is = λ k. sym (append-nil (get_or old k [])) }

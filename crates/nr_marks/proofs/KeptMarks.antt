@@ -9,8 +9,8 @@ use Rattle.nr_reduce.specs.declared.call.Outcome.TheVariants as outcomes
 use Rattle.nr_marks.specs.declared.kept.Kept.{Kept}
 use Rattle.nr_marks.specs.declared.kept.Kept.TheVariants as kinds
 use Rattle.nr_marks.specs.Views.{plain_submit}
-use Rattle.nr_marks.specs.private.Pieces.{Grows}
-use Rattle.nr_marks.specs.private.KeptMarks.{mark_of, IsKept, Keeps, marks_of, AreKept}
+use Rattle.nr_marks.specs.Pieces.{Grows}
+use Rattle.nr_marks.specs.KeptMarks.{mark_of, IsKept, Keeps, marks_of, AreKept}
 use Rattle.nr_marks.proofs.Growing.{within_grown, bytes_grown}
 
 pub kept_grown : (old new : List (List ℕ)) (k : Kept) → Grows old new → IsKept old k → IsKept new k

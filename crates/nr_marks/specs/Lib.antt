@@ -1,2 +1,3 @@
 pub mod Views
-pub mod private
+pub mod KeptMarks
+pub mod Pieces

@@ -6,8 +6,8 @@ ghost use Rattle.nr_reduce.specs.declared.call.Form.TheVariants as forms;
 ghost use Rattle.nr_reduce.specs.declared.call.Outcome.TheVariants as outcomes;
 ghost use Rattle.nr_reduce.specs.declared.call.Submission.TheVariants as submissions;
 ghost use Rattle.nr_reduce.specs.declared.mark.Mark.TheVariants as marks;
-ghost use Rattle.nr_marks.specs.private.Pieces.{Grows, Holds};
-ghost use Rattle.nr_marks.specs.private.KeptMarks.{Keeps};
+ghost use Rattle.nr_marks.specs.Pieces.{Grows, Holds};
+ghost use Rattle.nr_marks.specs.KeptMarks.{Keeps};
 
 use crate::kept::{Kept, KeptCall, KeptExecution};
 use crate::stores::{ByteStores, Cursor, Piece, REACH, before_end, store_of};

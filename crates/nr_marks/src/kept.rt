@@ -3,7 +3,7 @@
 ghost use Rattle.std.specs.Prelude.{◌≡◌, ℕ, List};
 ghost use Rattle.nr_marks.specs.declared.kept.Kept.TheVariants as kinds;
 ghost use Rattle.nr_marks.specs.Views.{mark_seen, submit_link};
-ghost use Rattle.nr_marks.specs.private.KeptMarks.{mark_of, IsKept};
+ghost use Rattle.nr_marks.specs.KeptMarks.{mark_of, IsKept};
 
 use crate::stores::{ByteStores, Piece};
 use nr_outside::Moment;

@@ -4,8 +4,8 @@ ghost use Rattle.std.specs.Prelude.{◌≡◌, ◌<◌, ◌^◌, ℕ, List, [], 
 ghost use Rattle.std.specs.Option.{option_to_list};
 ghost use Rattle.nr_reduce.specs.declared.mark.Mark.{Mark};
 ghost use Rattle.nr_marks.specs.Views.{mark_seen, submit_link};
-ghost use Rattle.nr_marks.specs.private.KeptMarks.{AreKept, marks_of};
-ghost use Rattle.nr_marks.specs.private.Pieces.{Grows};
+ghost use Rattle.nr_marks.specs.KeptMarks.{AreKept, marks_of};
+ghost use Rattle.nr_marks.specs.Pieces.{Grows};
 
 use crate::keeping::{keep, waits};
 use crate::kept::{Kept, MarkView, submit_link_of, view_of};
@@ -30,7 +30,7 @@ impl Model for MarkLog {
     ghost use Rattle.std.specs.Prelude.{List, ◌++◌};
     ghost use Rattle.std.specs.Option.{option_to_list};
     ghost use Rattle.nr_reduce.specs.declared.mark.Mark.{Mark};
-    ghost use Rattle.nr_marks.specs.private.KeptMarks.{AreKept, marks_of};
+    ghost use Rattle.nr_marks.specs.KeptMarks.{AreKept, marks_of};
 
     ghost Value = { List Mark };
 
@@ -49,7 +49,7 @@ pub struct MarkList {
 impl Model for MarkList {
     ghost use Rattle.std.specs.Prelude.{List};
     ghost use Rattle.nr_reduce.specs.declared.mark.Mark.{Mark};
-    ghost use Rattle.nr_marks.specs.private.KeptMarks.{AreKept, marks_of};
+    ghost use Rattle.nr_marks.specs.KeptMarks.{AreKept, marks_of};
 
     ghost Value = { List Mark };
 

@@ -1,7 +1,7 @@
 //! The bytes that marks refer to.
 
 ghost use Rattle.std.specs.Prelude.{◌≡◌, ◌+◌, ◌≤◌, ◌<◌, ℕ, List, [], ◌++◌, length, take, drop, get_or, IfOk, IfSome, IsTrue};
-ghost use Rattle.nr_marks.specs.private.Pieces.{Grows, IsWithin, Holds, bytes_in};
+ghost use Rattle.nr_marks.specs.Pieces.{Grows, IsWithin, Holds, bytes_in};
 
 use nr_wire::Side;
 use nr_xdr::{Memory, Octets};

@@ -242,13 +242,17 @@ pub fn write_call(alloc: Global, head: &CallHead, args: &[u8]) -> Result<Octets,
     Ok(octets)
 }
 
+/// The room that is taken at first for a head: that of one with a credential of AUTH_SYS without groups and with a short name of the
+/// machine. More is taken for a longer one.
+const HEAD_ROOM: usize = 80;
+
 /// The encoding of the head of a call of version 2, whose credential is borrowed: what [`write_call_of`] puts before the arguments.
 /// `args_at` is ignored.
 pub fn write_call_head(alloc: Global, target: CallTarget, cred: &Cred) -> Result<Octets, Memory>
     requires { CanWriteCred cred.now }
     ensures { IfOk result (λ o. o ≡ call_head (call_of_target target cred.now)) }
 {
-    let mut writer = Writer::new(alloc);
+    let mut writer = Writer::with_capacity(alloc, HEAD_ROOM)?;
     put_version2(alloc, &mut writer, target, cred)?;
     Ok(writer.finish())
 }

@@ -65,6 +65,9 @@ fn put_sys(
     put_numbers(writer, gids.as_slice())
 }
 
+/// The room that is taken at first for the body of AUTH_SYS: that of one without groups and with a short name of the machine.
+const BODY_ROOM: usize = 40;
+
 /// The body of AUTH_SYS.
 fn sys_octets(
     alloc: Global,
@@ -77,7 +80,7 @@ fn sys_octets(
     requires { length machine.now ≤ MACHINE_MAX }
     ensures { IfOk result (λ o. o ≡ encodings (sys_items stamp machine.now uid gid gids.now)) }
 {
-    let mut writer = Writer::new(alloc);
+    let mut writer = Writer::with_capacity(alloc, BODY_ROOM)?;
     put_sys(&mut writer, stamp, machine, uid, gid, gids)?;
     Ok(writer.finish())
 }

@@ -1,6 +1,6 @@
 //! Writing of items.
 
-ghost use Rattle.std.specs.Prelude.{◌≡◌, ◌^◌, ◌<◌, [], ◌++◌, length, take, OnOk, OnErr};
+ghost use Rattle.std.specs.Prelude.{◌≡◌, ◌^◌, ◌<◌, [], ◌++◌, length, take, IfOk, OnOk, OnErr};
 ghost use Rattle.nr_xdr.specs.Item.{encoding, word};
 ghost use Rattle.nr_xdr.specs.Item.Item.{Unsigned, Hyper, Boolean, Opaque, Fixed};
 
@@ -65,6 +65,15 @@ impl Writer {
         Writer {
             bytes: Vec::new(alloc),
         }
+    }
+
+    /// A writer with no bytes so far, which takes room for `capacity` bytes at once.
+    pub fn with_capacity(alloc: Global, capacity: usize) -> Result<Writer, Memory>
+        ensures { IfOk result (λ writer. writer ≡ []) }
+    {
+        Ok(Writer {
+            bytes: Vec::with_capacity(alloc, capacity)?,
+        })
     }
 
     /// An unsigned integer (RFC 4506 section 4.2).

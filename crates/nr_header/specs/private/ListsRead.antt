@@ -7,10 +7,6 @@ use Rattle.nr_header.specs.declared.fault.HeaderFault.{HeaderFault}
 use Rattle.nr_header.specs.declared.lists.ListsRead.{ListsRead}
 use Rattle.nr_header.specs.ReadInto.{body_with}
 
--- the lists that were read
-abbrev pub lists_of : ListsRead → ChunkLists
-lists_of r = record { read = r.read; write = r.write; reply = r.reply }
-
 -- room in which nothing was read
 abbrev pub nothing_read : ListsRead
 nothing_read = record { read = []; write = []; reply = None }

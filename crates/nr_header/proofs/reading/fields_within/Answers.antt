@@ -1,5 +1,5 @@
 use Rattle.std.proofs.Common.{arith}
-use Rattle.nr_header.specs.private.ListsRead.{lists_of}
+use Rattle.nr_header.specs.Storage.{lists_of}
 use Rattle.nr_header.proofs.Readings.{stream_within_room, limits_kept_in_room}
 use Rattle.nr_header.proofs.reading.fields_within.Goals as goal
 

@@ -1,7 +1,8 @@
 use Rattle.std.proofs.Common.{subst}
 use Rattle.nr_xdr.specs.Reading.{Cursor}
 use Rattle.nr_header.specs.Reading.{msg_at, nomsg_at, in_lists, version1_of}
-use Rattle.nr_header.specs.private.ListsRead.{lists_of, MatchesBody}
+use Rattle.nr_header.specs.Storage.{lists_of}
+use Rattle.nr_header.specs.private.ListsRead.{MatchesBody}
 use Rattle.nr_header.proofs.Faults.{body_is}
 use Rattle.nr_header.proofs.reading.version1.Goals as goal
 

@@ -1,4 +1,4 @@
-use Rattle.nr_marks.specs.private.Pieces.{Grows}
+use Rattle.nr_marks.specs.Pieces.{Grows}
 use Rattle.nr_marks.proofs.stores.ByteStores.reach.Given as goal
 
 abbrev pub invariant-loop-at : goal.invariant-loop-at

@@ -6,7 +6,7 @@ use Rattle.nr_reduce.specs.declared.mark.Mark.TheVariants as marks
 use Rattle.nr_marks.specs.declared.kept.Kept.{Kept}
 use Rattle.nr_marks.specs.declared.kept.Kept.TheVariants as kinds
 use Rattle.nr_marks.specs.Views.{plain_submit}
-use Rattle.nr_marks.specs.private.Pieces.{IsWithin, bytes_in}
+use Rattle.nr_marks.specs.Pieces.{IsWithin, bytes_in}
 
 -- the mark that is kept
 abbrev pub mark_of : List (List ℕ) → Kept → Mark

@@ -1,3 +1,0 @@
--- Definitions that only private code cites.
-pub mod Pieces
-pub mod KeptMarks
