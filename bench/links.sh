@@ -1,8 +1,10 @@
 #!/bin/sh
 # Real links over loopback: GETATTRs of `nfsrdma serve` beside raw round trips of the same bytes; READs and WRITEs of 32 KiB, one at a time
 # and with 16 outstanding, and `get` and `put` of 16 MiB, beside raw bytes one way; the server's processor time a GETATTR; the memory of a
-# server with a file of 16 MiB. Run by hand, at the top of the repository, once `rt run` has built nfsrdma and links_bench; or with the paths
-# of both programs. It needs a C compiler, for bench/echo.c. The least of several runs counts, of the two sides in turn.
+# server with a file of 16 MiB. Beside `get` and `put` it prints what has no part in the raw bytes: a new file's bytes written, an input read
+# into memory, and an input in memory sent in the passes of WRITEs, one at a time, to a server that keeps it. Run by hand, at the top of the
+# repository, once `rt run` has built nfsrdma and links_bench; or with the paths of both programs. It needs a C compiler, for bench/echo.c.
+# The least of several runs counts, of the two sides in turn.
 exec python3 - "${1:-crates/nfsrdma/out/nfsrdma}" "${2:-crates/links_bench/out/links_bench}" <<'PYTHON'
 import contextlib, os, re, socket, subprocess, sys, tempfile, time
 
@@ -53,9 +55,15 @@ def server(folder, connections):
 
 def raw(program, request, reply, *words):
     """The microseconds of a raw client, and the processor seconds of its server."""
+    return pair(program, ["serve", request, reply], words)
+
+
+def pair(program, server, client, stdin=None, stdout=None):
+    """The microseconds of a raw client with this input, and the processor seconds of a raw server with this output."""
     at = port()
-    child = subprocess.Popen([program, "serve", str(at), str(request), str(reply)])
-    micros = float(subprocess.run([program, words[0], str(at), *words[1:]], check=True, capture_output=True, text=True).stdout)
+    with_port = lambda words: [program, words[0], str(at), *map(str, words[1:])]
+    child = subprocess.Popen(with_port(server), stdout=stdout)
+    micros = float(subprocess.run(with_port(client), check=True, stdin=stdin, capture_output=True, text=True).stdout)
     return micros, used(child)[0]
 
 
@@ -97,14 +105,21 @@ def main(folder):
         note("server", (with_calls - result[0]) / TURNS * 1e6)
         note("raw 32 KiB", raw(echo, 1, 0, "send", str(CALLS * SIZE), str(SIZE))[0] / CALLS)
         note("raw 16 MiB", raw(echo, 1, 0, "send", str(FILE), str(SIZE))[0])
-        with server(folder, 6) as (address, result):
+        with open(f"{folder}/raw", "wb") as out:
+            note("raw into a file", pair(echo, ["save"], ["send", FILE, SIZE], stdout=out)[0])
+        with open(f"{folder}/file", "rb") as data:
+            note("raw put", pair(echo, ["store", SIZE], ["put", SIZE], stdin=data)[0])
+        with open(f"{folder}/file", "rb") as data:
+            note("hold", float(subprocess.run([echo, "hold"], check=True, stdin=data, capture_output=True, text=True).stdout))
+        with server(folder, 7) as (address, result):
             for what in ("read", "write"):
                 for outstanding in (1, 16):
                     note((what, outstanding), calls(address, what, CALLS, outstanding) / CALLS)
+            note("get into /dev/null", command([NFSRDMA, "get", address, "/", "/a"], stdout=subprocess.DEVNULL))
             with open(f"{folder}/back", "wb") as out:
-                note("get", command([NFSRDMA, "get", address, "/", "/a"], stdout=out))
+                note("get into a file", command([NFSRDMA, "get", address, "/", "/a"], stdout=out))
             with open(f"{folder}/file", "rb") as data:
-                note("put", command([NFSRDMA, "put", address, "/", "/b"], stdin=data))
+                note("put from a file", command([NFSRDMA, "put", address, "/", "/b"], stdin=data))
     print(f"a raw round trip of {CALL} and {REPLY} bytes: {least['turn']:.1f} microseconds; a GETATTR: {least['getattr']:.1f};"
           f" share {least['turn'] / least['getattr']:.2f} (goal 0.7)")
     print(f"the server's processor time: {least['echo server']:.1f} microseconds a raw round trip, {least['server']:.1f} a GETATTR:"
@@ -114,8 +129,11 @@ def main(folder):
             took = least[what, outstanding]
             print(f"{what.upper()} of 32 KiB, {outstanding} outstanding: {took:.1f} microseconds; raw bytes one way {least['raw 32 KiB']:.1f};"
                   f" share {least['raw 32 KiB'] / took:.2f} (goal {goal})")
-    for what in ("get", "put"):
-        print(f"{what} of 16 MiB: {least[what] / 1000:.1f} ms; raw bytes {least['raw 16 MiB'] / 1000:.1f}: {least[what] / least['raw 16 MiB']:.1f} times (goal 4)")
+    for what in ("get into /dev/null", "get into a file", "put from a file"):
+        print(f"{what}, 16 MiB: {least[what] / 1000:.1f} ms; raw bytes {least['raw 16 MiB'] / 1000:.1f}: {least[what] / least['raw 16 MiB']:.1f} times (goal 4)")
+    print(f"raw bytes into a file, 16 MiB: {least['raw into a file'] / 1000:.1f} ms: `get` takes {least['get into a file'] / least['raw into a file']:.1f} times that")
+    print(f"a file read into memory, 16 MiB: {least['hold'] / 1000:.1f} ms; that, and raw bytes in the passes of WRITEs into memory: {least['raw put'] / 1000:.1f} ms:"
+          f" `put` takes {least['put from a file'] / least['raw put']:.1f} times that")
     print(f"the greatest resident memory of a server with a file of 16 MiB: {least['memory'] / (1 << 20):.0f} MiB (goal 40)")
 
 

@@ -11,7 +11,7 @@ use nr_links::{Acceptor, Clock};
 use nr_outside::Failed;
 use nr_plain::Server;
 use nr_reduce::Sequence;
-use std::alloc::Global;
+use std::alloc::{AllocError, Global};
 
 /// The ends of connections, in order.
 pub type Ends = Sequence<ConnEnd>;
@@ -32,6 +32,17 @@ pub enum ServeFault {
     AcceptFault,
     /// Memory ran out. No connection was open.
     Memory,
+}
+
+/// The size of the block that `keep_memory` takes, in bytes.
+const KEPT: usize = 1 << 21;
+
+/// Takes a block of memory and gives it back, if there is one. It is not written, so it takes no page. From then on the allocator of the C
+/// library keeps up to twice its size of free memory, where it gave all but 128 KiB back to the system after each call, whose memory had to
+/// be mapped again at the next one.
+fn keep_memory(alloc: Global) {
+    let block: Result<Vec<u8>, AllocError> = Vec::with_capacity(alloc, KEPT);
+    drop(block);
 }
 
 /// Accepts a link, serves it to its end, and hangs it up.
@@ -116,6 +127,7 @@ pub fn serve<A: Acceptor, C: Clock>(
     ensures asked { A.asked acceptor.new ≡ A.asked acceptor.old }
     ensures listens { A.listens acceptor.new ≡ A.listens acceptor.old }
 {
+    keep_memory(alloc);
     let mut ends = Vec::new(alloc);
     'links: while (ends.len() as u64) < u64::from(connections) {
         match serve_one(alloc, acceptor, server, clock, credits, &mut ends) {
