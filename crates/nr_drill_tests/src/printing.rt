@@ -3,6 +3,7 @@
 use crate::compare::same;
 use nr_drill::{CallReport, CallState, LinkReport, LinkState, Report, shown, summary};
 use nr_link::End;
+use nr_marks::MarkLog;
 use nr_reduce::{Outcome, Refused, Sequence};
 use nr_regions::Denied;
 use nr_wire::Side;
@@ -101,9 +102,14 @@ static LINKS: [(LinkState, &[u8]); 5] = [
 ];
 
 /// A report of these calls and links, and of nothing else.
-fn report_of(alloc: Global, calls: Vec<CallReport>, links: Vec<LinkReport>) -> Report {
+fn report_of(
+    rt: &impl Abort,
+    alloc: Global,
+    calls: Vec<CallReport>,
+    links: Vec<LinkReport>,
+) -> Report {
     Report {
-        marks: Sequence::from_vec(Vec::new(alloc)),
+        marks: MarkLog::new(alloc).finish().expect(rt, "memory"),
         journal: Sequence::from_vec(Vec::new(alloc)),
         calls: Sequence::from_vec(calls),
         links: Sequence::from_vec(links),
@@ -123,7 +129,7 @@ fn push_call(rt: &impl Abort, alloc: Global, calls: &mut Vec<CallReport>, row: u
 fn shown_call(rt: &impl Abort, alloc: Global, row: usize) -> Vec<u8> {
     let mut calls = Vec::new(alloc);
     push_call(rt, alloc, &mut calls, row);
-    let report = report_of(alloc, calls, Vec::new(alloc));
+    let report = report_of(rt, alloc, calls, Vec::new(alloc));
     shown(alloc, &report).expect(rt, "memory").into_vec()
 }
 
@@ -132,7 +138,7 @@ fn shown_link(rt: &impl Abort, alloc: Global, state: LinkState) -> Vec<u8> {
     links
         .push(LinkReport { client: 1, state })
         .expect(rt, "memory");
-    let report = report_of(alloc, Vec::new(alloc), links);
+    let report = report_of(rt, alloc, Vec::new(alloc), links);
     shown(alloc, &report).expect(rt, "memory").into_vec()
 }
 
@@ -169,7 +175,7 @@ fn shown_all(rt: &impl Abort, alloc: Global) -> Vec<u8> {
         };
         links.push(link).expect(rt, "memory");
     }
-    let report = report_of(alloc, calls, links);
+    let report = report_of(rt, alloc, calls, links);
     shown(alloc, &report).expect(rt, "memory").into_vec()
 }
 
@@ -191,7 +197,7 @@ fn summed(rt: &impl Abort, alloc: Global) -> Vec<u8> {
     for row in 0..13 {
         push_call(rt, alloc, &mut calls, row);
     }
-    let report = report_of(alloc, calls, Vec::new(alloc));
+    let report = report_of(rt, alloc, calls, Vec::new(alloc));
     summary(alloc, &report).expect(rt, "memory").into_vec()
 }
 
