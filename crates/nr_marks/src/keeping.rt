@@ -41,9 +41,9 @@ fn keep_fed(
     let Cursor { fed, read } = stores.cursor(store);
     let bytes = stores.refer(alloc, store, (fed, fed), bytes)?;
     let fed = if bytes.store == store {
-        bytes.at.saturating_add(bytes.len)
+        bytes.at.saturating_add(bytes.len as usize)
     } else {
-        fed.saturating_add(bytes.len)
+        fed.saturating_add(bytes.len as usize)
     };
     stores.set_cursor(store, Cursor { fed, read });
     Ok(Some(Kept::Fed { link, side, bytes }))
@@ -53,7 +53,7 @@ fn keep_fed(
 fn keep_read(
     alloc: Global,
     stores: &mut ByteStores,
-    store: usize,
+    store: u32,
     bytes: &[u8],
 ) -> Result<Piece, Memory>
     ensures grows { Grows stores.old stores.new }
@@ -62,7 +62,7 @@ fn keep_read(
     let Cursor { fed, read } = stores.cursor(store);
     let piece = stores.refer(alloc, store, (read, before_end(fed, bytes.len())), bytes)?;
     if piece.store == store {
-        let read = piece.at.saturating_add(piece.len);
+        let read = piece.at.saturating_add(piece.len as usize);
         stores.set_cursor(store, Cursor { fed, read });
     }
     Ok(piece)
@@ -72,7 +72,7 @@ fn keep_read(
 fn keep_written(
     alloc: Global,
     stores: &mut ByteStores,
-    store: usize,
+    store: u32,
     bytes: &[u8],
 ) -> Result<Piece, Memory>
     ensures grows { Grows stores.old stores.new }

@@ -23,9 +23,9 @@ const LINKS: u32 = 16;
 /// `len` bytes of a store, from offset `at` on.
 #[derive(Clone, Copy)]
 pub(crate) struct Piece {
-    pub(crate) store: usize,
+    pub(crate) store: u32,
     pub(crate) at: usize,
-    pub(crate) len: usize,
+    pub(crate) len: u32,
 }
 
 /// How far a store was read: by the side that was fed its bytes, and by what was executed or handed over. They only say at which
@@ -54,14 +54,24 @@ impl Model for ByteStores {
 }
 
 /// The store of what a side of a link wrote. Store 0 has the bytes that are found nowhere else.
-pub(crate) fn store_of(link: u32, side: Side) -> usize {
+pub(crate) fn store_of(link: u32, side: Side) -> u32 {
     if link > LINKS {
         return 0;
     }
     match side {
-        Side::Initiator => 2 * link as usize + 1,
-        Side::Responder => 2 * link as usize + 2,
+        Side::Initiator => 2 * link + 1,
+        Side::Responder => 2 * link + 2,
     }
+}
+
+/// How many bytes there are, if a piece can have them. The bytes of a mark are fewer than 2^32.
+fn short_len(bytes: &[u8]) -> Option<u32>
+    ensures { IfSome result (λ len. len ≡ length bytes.now) }
+{
+    if bytes.len() > u32::MAX as usize {
+        return None;
+    }
+    Some(bytes.len() as u32)
 }
 
 /// Whether these bytes are at this offset of others.
@@ -108,34 +118,35 @@ impl ByteStores {
         requires { IsWithin self.now piece }
         ensures { result.now ≡ bytes_in self.now piece }
     {
-        if piece.store >= self.stores.len() {
+        let store = piece.store as usize;
+        if store >= self.stores.len() {
             return &[];
         }
-        let store = &self.stores[piece.store];
-        &store.as_slice()[piece.at..piece.at + piece.len]
+        let store = &self.stores[store];
+        &store.as_slice()[piece.at..piece.at + piece.len as usize]
     }
 
     /// How many bytes a store has.
-    pub(crate) fn len_of(&self, store: usize) -> usize {
-        match self.stores.get(store) {
+    pub(crate) fn len_of(&self, store: u32) -> usize {
+        match self.stores.get(store as usize) {
             Some(store) => store.len(),
             None => 0,
         }
     }
 
     /// How far a store was read.
-    pub(crate) fn cursor(&self, store: usize) -> Cursor {
-        match self.cursors.get(store) {
+    pub(crate) fn cursor(&self, store: u32) -> Cursor {
+        match self.cursors.get(store as usize) {
             Some(cursor) => *cursor,
             None => Cursor { fed: 0, read: 0 },
         }
     }
 
     /// Notes how far a store was read.
-    pub(crate) fn set_cursor(&mut self, store: usize, cursor: Cursor)
+    pub(crate) fn set_cursor(&mut self, store: u32, cursor: Cursor)
         ensures { self.new ≡ self.old }
     {
-        if let Some(slot) = self.cursors.get_mut(store) {
+        if let Some(slot) = self.cursors.get_mut(store as usize) {
             *slot = cursor;
         }
     }
@@ -185,21 +196,20 @@ impl ByteStores {
     }
 
     /// Appends bytes to a store that exists.
-    fn append_at(&mut self, store: usize, bytes: &[u8]) -> Result<Piece, Memory>
+    fn append_at(&mut self, store: u32, bytes: &[u8]) -> Result<Piece, Memory>
         ensures grows { Grows self.old self.new }
         ensures piece { IfOk result (λ piece. Holds self.new piece bytes.now) }
     {
-        if store >= self.stores.len() {
+        let Some(len) = short_len(bytes) else {
+            return Err(Memory);
+        };
+        if store as usize >= self.stores.len() {
             return Err(Memory);
         }
-        let own = &mut self.stores[store];
+        let own = &mut self.stores[store as usize];
         let at = own.len();
         own.extend_from_slice(bytes)?;
-        Ok(Piece {
-            store,
-            at,
-            len: bytes.len(),
-        })
+        Ok(Piece { store, at, len })
     }
 
     /// Appends bytes to a store.
@@ -207,30 +217,27 @@ impl ByteStores {
     pub(crate) fn append(
         &mut self,
         alloc: Global,
-        store: usize,
+        store: u32,
         bytes: &[u8],
     ) -> Result<Piece, Memory>
         ensures grows { Grows self.old self.new }
         ensures piece { IfOk result (λ piece. Holds self.new piece bytes.now) }
     {
-        self.reach(alloc, store)?;
+        self.reach(alloc, store as usize)?;
         self.append_at(store, bytes)
     }
 
     /// Looks for bytes in a store from an offset on.
-    fn find(&self, store: usize, from: usize, bytes: &[u8]) -> Option<Piece>
+    fn find(&self, store: u32, from: usize, bytes: &[u8]) -> Option<Piece>
         ensures { IfSome result (λ piece. Holds self.now piece bytes.now) }
     {
-        if store >= self.stores.len() {
+        let len = short_len(bytes)?;
+        if store as usize >= self.stores.len() {
             return None;
         }
-        let all = self.stores[store].as_slice();
+        let all = self.stores[store as usize].as_slice();
         match offset_of(all, from, bytes) {
-            Some(at) => Some(Piece {
-                store,
-                at,
-                len: bytes.len(),
-            }),
+            Some(at) => Some(Piece { store, at, len }),
             None => None,
         }
     }
@@ -240,7 +247,7 @@ impl ByteStores {
     pub(crate) fn refer(
         &mut self,
         alloc: Global,
-        store: usize,
+        store: u32,
         offsets: (usize, usize),
         bytes: &[u8],
     ) -> Result<Piece, Memory>
