@@ -13,6 +13,7 @@ use std::marker::Model;
 
 /// The message of a NULL call, and that of its reply.
 static CALL: [u8; 68] = [1; 68];
+
 static REPLY: [u8; 52] = [2; 52];
 
 /// An endpoint; at least as many bytes as it was fed, until it refuses some; how many pieces of the peer's stream it refused.

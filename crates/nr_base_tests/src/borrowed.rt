@@ -4,8 +4,9 @@ ghost use Rattle.nr_header.specs.Header.{ChunksFit};
 
 use crate::compare::{bytes_of, same};
 use nr_header::{
-    ChunkLists, InlineVec, ListSlices, ReadSegment, TransportError, header_len, lengths_of_headers,
-    read_list_len, reply_chunk_len, write_chunk_len, write_error, write_plain, write_with_lists,
+    ChunkLists, HeaderFields, InlineVec, ListSlices, ListsRoom, MessageKind, ReadSegment,
+    TransportError, header_len, lengths_of_headers, read_header_into, read_list_len,
+    reply_chunk_len, write_chunk_len, write_error, write_plain, write_with_lists,
     write_with_slices,
 };
 use nr_nfs_base::StatusUnion;
@@ -31,6 +32,30 @@ fn call_of_a_borrowed_credential(rt: HostRuntime) {
     let head = write_call_head(rt.alloc(), target, &cred).expect(&rt, "memory");
     let words = &[1, 0, 2, 100_003, 3, 4, 6, 0, 0, 0];
     same(&rt, 1, head.into_vec(), bytes_of(&rt, rt.alloc(), words));
+}
+
+// RFC 8166 section 4.3: RDMA_MSG with a write chunk of one segment of 5 bytes; its stream begins after 52 bytes.
+#[test]
+fn header_read_into_a_room(rt: HostRuntime) {
+    let words = &[9, 1, 16, 0, 0, 1, 1, 7, 5, 0, 0, 0, 0];
+    let bytes = bytes_of(&rt, rt.alloc(), words);
+    let mut room = ListsRoom::new();
+    let fields = read_header_into(bytes.as_slice(), &mut room);
+    let slices = room.as_slices();
+    let counts = (
+        slices.read.len(),
+        slices.write.len(),
+        slices.reply.is_some(),
+    );
+    same(&rt, 0, counts, (0, 1, false));
+    let kind = MessageKind::Msg { stream_at: 52 };
+    let want = HeaderFields {
+        xid: 9,
+        credit: 16,
+        kind,
+    };
+    same(&rt, 1, fields.ok(), Some(want));
+    drop(room);
 }
 
 // RFC 1813 section 3.3.6: status 0, no attributes, a count of 2, the end of the file, and the data.

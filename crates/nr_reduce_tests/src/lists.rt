@@ -79,7 +79,7 @@ static ANSWERS: [(bool, Lists, Lists, bool); 13] = [
 fn suits(rt: &impl Abort, alloc: Global, long: bool, offered: Lists, back: Lists) -> bool {
     let offered = lists_of(rt, alloc, offered.0, offered.1);
     let back = lists_of(rt, alloc, back.0, back.1);
-    let answer = answers_offer(long, &offered, &back);
+    let answer = answers_offer(long, offered.as_slices(), back.as_slices());
     drop(offered);
     drop(back);
     answer

@@ -59,7 +59,7 @@ fn answer_of(
     bytes: &[u8],
     down: u32,
 ) -> Option<(bool, usize, usize)> {
-    match answer_for(offer, NFS, 3, proc, bytes, down) {
+    match answer_for(offer.as_slices(), NFS, 3, proc, bytes, down) {
         Some(answer) => Some((answer.long, answer.stream.len(), answer.moved.len())),
         None => None,
     }
@@ -131,7 +131,7 @@ fn counts_of(
     offer: &ChunkLists,
     answer: Answer<'_>,
 ) -> (usize, bool) {
-    let lists = answer_lists(alloc, offer, answer).expect(rt, "memory");
+    let lists = answer_lists(alloc, offer.as_slices(), answer).expect(rt, "memory");
     let counts = (lists.write.len(), lists.reply.is_some());
     drop(lists);
     counts
@@ -141,14 +141,15 @@ fn counts_of(
 fn message_of(rt: &impl Abort, alloc: Global, offer: &ChunkLists, reply: &[u8]) -> Parts
     requires { ListsWithin offer.now }
 {
-    let Some(answer) = answer_for(offer, NFS, 3, 6, reply, 1024) else {
+    let slices = offer.as_slices();
+    let Some(answer) = answer_for(slices, NFS, 3, 6, reply, 1024) else {
         return None;
     };
     let (chunks, has_reply) = counts_of(rt, alloc, offer, answer);
-    let header = answer_header(alloc, 9, 16, offer, answer)
+    let header = answer_header(alloc, 9, 16, slices, answer)
         .expect(rt, "memory")
         .len();
-    let message = answer_message(alloc, 9, 16, offer, answer).expect(rt, "memory");
+    let message = answer_message(alloc, 9, 16, slices, answer).expect(rt, "memory");
     Some((message, (header, chunks, has_reply)))
 }
 
