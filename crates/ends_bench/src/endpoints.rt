@@ -1,6 +1,7 @@
 //! Two endpoints alone, over which two Sends go as long as those of a NULL call and of its reply.
 
 ghost use Rattle.std.specs.Prelude.{◌≡◌, ◌+◌, ◌≤◌, ◌<◌, ◌^◌, length, None, IfOk, IfSome, OnOk, OnErr};
+ghost use Rattle.std.specs.Bool.{OnTrue};
 ghost use Rattle.nr_outside.specs.Faults.{next_count};
 ghost use Rattle.nr_endpoint.specs.FedBytes.{fed_bytes};
 
@@ -39,7 +40,7 @@ impl Model for Peer {
 #[tactic(auto, using(nr_endpoint::proofs::FedBytes::fed_stands))]
 fn feed(endpoint: &mut Endpoint, piece: &[u8]) -> bool
     requires { fed_bytes endpoint.old.link + length piece.now ≤ 2 ^ 62 }
-    ensures { fed_bytes endpoint.new.link ≤ fed_bytes endpoint.old.link + length piece.now }
+    ensures { OnTrue result (fed_bytes endpoint.new.link ≤ fed_bytes endpoint.old.link + length piece.now) }
 {
     endpoint.feed(piece).is_ok()
 }
