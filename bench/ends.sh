@@ -1,5 +1,5 @@
 #!/bin/sh
-# Calls through both ends of a link and the plain server, one after the other: NULL; a WRITE and a READ of 32 KiB in form Auto, in copies
+# Calls through both ends of a link and the plain server, one after the other: NULL, beside two Sends through two endpoints alone; a WRITE and a READ of 32 KiB in form Auto, in copies
 # of 32 KiB of the same run (by processor time, and by cycles if perf is there), with 1 and with 64 credits; and, if there is a C compiler,
 # the bytes that are copied and cleared by the C library. Run by hand, at the top of the repository, once
 # `(cd crates/ends_bench && rt run -- write 2 16)` has built the program; or with the program's path as $1.
@@ -93,9 +93,10 @@ print(f"a NULL call: {least(seconds, ('null',), 10_000, 210_000, 7)['null'] * 1e
 for rounds in (10_000, 1_000_000):
     one = seconds('null', rounds, 16) / rounds * 1e6
     print(f'  of {rounds}: {one:.2f} microseconds')
-for credits in (1, 64):
-    one = least(seconds, ('null',), 10_000, 210_000, 5, credits)['null'] * 1e6
-    print(f'  with {credits} credits: {one:.2f} microseconds')
+for credits in (1, 16, 64):
+    used = least(seconds, ('sends', 'null'), 10_000, 210_000, 5, credits)
+    one, two = used['null'] * 1e6, used['sends'] * 1e6
+    print(f'  with {credits} credits: {one:.2f} microseconds; two Sends of the same lengths through two endpoints alone: {two:.3f}; {one / two:.1f} times (target 40)')
 report_counts('null')
 each = {what: used * 1e6 for what, used in least(seconds, LARGE, FEW, MANY, 9).items()}
 by_cycles = least(cycles, LARGE, FEW, MANY, 5)
