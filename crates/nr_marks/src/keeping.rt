@@ -10,13 +10,21 @@ ghost use Rattle.nr_marks.specs.Pieces.{Grows, Holds};
 ghost use Rattle.nr_marks.specs.KeptMarks.{Keeps};
 
 use crate::kept::{Kept, KeptCall, KeptExecution};
-use crate::stores::{ByteStores, Cursor, Piece, REACH, before_end, store_of};
+use crate::stores::{
+    ByteStores, Cursor, Piece, REACH, before_end, payload_slot, reply_slot, store_of,
+};
 use nr_outside::Moment;
 use nr_reduce::{Boxed, Call, Form, Mark, Outcome, Submission};
 use nr_rpc::Cred;
 use nr_wire::Side;
-use nr_xdr::Memory;
+use nr_xdr::{Memory, Octets};
 use std::alloc::Global;
+
+/// The bytes of a call head without a credential (RFC 5531 section 9).
+const CALL_HEAD: usize = 40;
+
+/// The bytes of the arguments of a WRITE before its data.
+const ARGS_START: usize = 32;
 
 /// The side that a side's bytes go to.
 fn peer(side: Side) -> Side {
@@ -49,7 +57,7 @@ fn keep_fed(
     Ok(Some(Kept::Fed { link, side, bytes }))
 }
 
-/// Keeps bytes that were found in what a side of a link was fed: the payload of a call, or a reply.
+/// Keeps the payload of a call, or a reply, that is looked for in what a side of a link was fed.
 fn keep_read(
     alloc: Global,
     stores: &mut ByteStores,
@@ -68,7 +76,7 @@ fn keep_read(
     Ok(piece)
 }
 
-/// Keeps bytes that a side of a link has just written, the arguments of a call, or a reply: in the last FPDU, or in the one before it.
+/// Keeps a reply that a server has just written: in the last FPDU, or in the one before it.
 fn keep_written(
     alloc: Global,
     stores: &mut ByteStores,
@@ -102,6 +110,54 @@ fn is_auto(form: &Form) -> bool
     }
 }
 
+/// Appends the call head that a client has just written to store 0, if the bytes after it are the first ones of these arguments.
+#[tactic(auto, using(crate::proofs::Growing::grows_same))]
+fn copy_head(alloc: Global, stores: &mut ByteStores, store: u32, args: &[u8]) -> Result<(), Memory>
+    ensures { Grows stores.old stores.new }
+{
+    if args.len() < ARGS_START {
+        return Ok(());
+    }
+    let from = before_end(stores.len_of(store), ARGS_START);
+    let Some(start) = stores.find(store, from, &args[..ARGS_START]) else {
+        return Ok(());
+    };
+    if start.at < CALL_HEAD {
+        return Ok(());
+    }
+    let head = Piece {
+        store: start.store,
+        at: start.at - CALL_HEAD,
+        len: CALL_HEAD as u32,
+    };
+    let head = Octets::from_slice(alloc, stores.bytes(head))?;
+    match stores.append(alloc, 0, head.as_slice()) {
+        Ok(_) => Ok(()),
+        Err(memory) => Err(memory),
+    }
+}
+
+/// Keeps the arguments of a call that was written just now. If they cross the link in parts, the call head is put before them, so that the
+/// payload is a piece too.
+#[tactic(auto, using(crate::proofs::Growing::grows_same, crate::proofs::Growing::grows_trans))]
+fn keep_args(
+    alloc: Global,
+    stores: &mut ByteStores,
+    link: u32,
+    args: &[u8],
+) -> Result<Piece, Memory>
+    ensures grows { Grows stores.old stores.new }
+    ensures piece { IfOk result (λ piece. Holds stores.new piece args.now) }
+{
+    let store = store_of(link, Side::Initiator);
+    let from = before_end(stores.len_of(store), args.len());
+    if let Some(piece) = stores.find(store, from, args) {
+        return Ok(piece);
+    }
+    copy_head(alloc, stores, store, args)?;
+    stores.append(alloc, 0, args)
+}
+
 /// Keeps an accepted call, if it has no credential and its form is Auto.
 #[tactic(auto, using(crate::proofs::Growing::grows_same))]
 fn keep_call(
@@ -121,8 +177,13 @@ fn keep_call(
     if !is_auto(form) {
         return Ok(None);
     }
-    let store = store_of(link, Side::Initiator);
-    let args = keep_written(alloc, stores, store, call.args.as_slice())?;
+    let args = keep_args(alloc, stores, link, call.args.as_slice())?;
+    let payload = Piece {
+        store: args.store,
+        at: args.at.saturating_sub(CALL_HEAD),
+        len: 0,
+    };
+    stores.note(payload_slot(link, xid), payload)?;
     let call = KeptCall {
         prog: call.prog,
         vers: call.vers,
@@ -137,7 +198,7 @@ fn keep_call(
 }
 
 /// Keeps an execution.
-#[tactic(auto, using(crate::proofs::Growing::grows_trans, crate::proofs::Growing::holds_grown))]
+#[tactic(auto, using(crate::proofs::Growing::grows_same, crate::proofs::Growing::grows_trans, crate::proofs::Growing::holds_grown))]
 fn keep_execution(
     alloc: Global,
     stores: &mut ByteStores,
@@ -150,9 +211,12 @@ fn keep_execution(
     ensures keeps { IfOk result (λ o. IfSome o (λ kept. Keeps stores.new kept (marks.Execute call.0 call.1 moment payload.now call.2 reply.now))) }
 {
     let (link, xid, place) = call;
-    let payload = keep_read(alloc, stores, store_of(link, Side::Initiator), payload)?;
+    let payload = match stores.noted(payload_slot(link, xid), payload) {
+        Some(payload) => payload,
+        None => keep_read(alloc, stores, store_of(link, Side::Initiator), payload)?,
+    };
     let reply = keep_written(alloc, stores, store_of(link, Side::Responder), reply)?;
-    stores.note_reply(link, xid, reply)?;
+    stores.note(reply_slot(link, xid), reply)?;
     let execution = KeptExecution {
         link,
         xid,
@@ -191,7 +255,7 @@ fn keep_done(
     ensures grows { Grows stores.old stores.new }
     ensures keeps { IfOk result (λ o. IfSome o (λ kept. Keeps stores.new kept (marks.Done link xid (outcomes.Reply reply.now)))) }
 {
-    let reply = match stores.reply(link, xid, reply) {
+    let reply = match stores.noted(reply_slot(link, xid), reply) {
         Some(reply) => reply,
         None => keep_read(alloc, stores, store_of(link, Side::Responder), reply)?,
     };

@@ -14,8 +14,8 @@ pub(crate) const REACH: usize = 128;
 /// An FPDU has fewer bytes than this after its payload.
 const TAIL: usize = 8;
 
-/// Executions of a link whose replies are looked for first.
-const REPLIES: usize = 16;
+/// The calls of a link whose payloads and replies are noted.
+const CALLS: usize = 16;
 
 /// The highest link that has stores of its own.
 const LINKS: u32 = 16;
@@ -41,8 +41,8 @@ pub(crate) struct Cursor {
 pub(crate) struct ByteStores {
     stores: Vec<Octets>,
     cursors: Vec<Cursor>,
-    // The replies of the last executions of each link, by their xids.
-    replies: Vec<Piece>,
+    // The payloads and the replies of the last calls of each link, by their slots.
+    noted: Vec<Piece>,
 }
 
 impl Model for ByteStores {
@@ -109,7 +109,7 @@ impl ByteStores {
         ByteStores {
             stores: Vec::new(alloc),
             cursors: Vec::new(alloc),
-            replies: Vec::new(alloc),
+            noted: Vec::new(alloc),
         }
     }
 
@@ -151,18 +151,18 @@ impl ByteStores {
         }
     }
 
-    /// Notes the reply to an xid of a link.
-    pub(crate) fn note_reply(&mut self, link: u32, xid: u32, reply: Piece) -> Result<(), Memory>
+    /// Notes a piece, to be looked for by its slot.
+    pub(crate) fn note(&mut self, slot: usize, piece: Piece) -> Result<(), Memory>
         ensures { self.new ≡ self.old }
     {
-        set_slot(&mut self.replies, slot_of(link, xid), reply)
+        set_slot(&mut self.noted, slot, piece)
     }
 
-    /// The piece of the reply to an xid of a link, if these are its bytes.
-    pub(crate) fn reply(&self, link: u32, xid: u32, bytes: &[u8]) -> Option<Piece>
+    /// A piece of these bytes from the offset on at which the piece that was noted begins, if they are found there.
+    pub(crate) fn noted(&self, slot: usize, bytes: &[u8]) -> Option<Piece>
         ensures { IfSome result (λ piece. Holds self.now piece bytes.now) }
     {
-        match self.replies.get(slot_of(link, xid)) {
+        match self.noted.get(slot) {
             Some(piece) => self.find(piece.store, piece.at, bytes),
             None => None,
         }
@@ -228,7 +228,7 @@ impl ByteStores {
     }
 
     /// Looks for bytes in a store from an offset on.
-    fn find(&self, store: u32, from: usize, bytes: &[u8]) -> Option<Piece>
+    pub(crate) fn find(&self, store: u32, from: usize, bytes: &[u8]) -> Option<Piece>
         ensures { IfSome result (λ piece. Holds self.now piece bytes.now) }
     {
         let len = short_len(bytes)?;
@@ -265,10 +265,15 @@ impl ByteStores {
     }
 }
 
-/// Which reply is noted for an xid of a link.
-fn slot_of(link: u32, xid: u32) -> usize {
+/// The slot of the payload of a call.
+pub(crate) fn payload_slot(link: u32, xid: u32) -> usize {
     let link = if link > LINKS { 0 } else { link as usize };
-    REPLIES * link + xid as usize % REPLIES
+    2 * (CALLS * link + xid as usize % CALLS)
+}
+
+/// The slot of the reply to a call.
+pub(crate) fn reply_slot(link: u32, xid: u32) -> usize {
+    payload_slot(link, xid).saturating_add(1)
 }
 
 /// Sets an element of a list, which is made longer if it is too short.
