@@ -1,4 +1,4 @@
-//! Two endpoints alone, over which two Sends go as long as those of a NULL call and of its reply.
+//! Two endpoints alone, and two Sends over them, which are as long as those of a NULL call and of its reply.
 
 ghost use Rattle.std.specs.Prelude.{◌≡◌, ◌+◌, ◌≤◌, ◌<◌, ◌^◌, length, None, IfOk, IfSome, OnOk, OnErr};
 ghost use Rattle.std.specs.Bool.{OnTrue};
@@ -12,12 +12,12 @@ use nr_wire::Side;
 use std::alloc::Global;
 use std::marker::Model;
 
-/// The message of a NULL call, and that of its reply.
+/// As many bytes as the message of a NULL call has, and as that of its reply has.
 static CALL: [u8; 68] = [1; 68];
 
 static REPLY: [u8; 52] = [2; 52];
 
-/// An endpoint; at least as many bytes as it was fed, until it refuses some; how many pieces of the peer's stream it refused.
+/// An endpoint; a bound on the bytes that it was fed, `None` once it refused some; how many pieces of the peer's stream it refused.
 #[derive(Drop)]
 struct Peer {
     endpoint: Endpoint,
@@ -148,7 +148,7 @@ fn pass(from: &mut Peer, to: &mut Peer, message: &[u8]) -> Option<()>
     if to.take() { Some(()) } else { None }
 }
 
-/// Two Sends so often, one each way, with this number of receives. Gives how many pairs were taken.
+/// Pairs of Sends, one each way. Gives how many pairs were taken, if all were.
 fn pass_all(client: &mut Peer, server: &mut Peer, rounds: u32) -> Option<u64> {
     client.drain(server);
     server.drain(client);
@@ -161,7 +161,7 @@ fn pass_all(client: &mut Peer, server: &mut Peer, rounds: u32) -> Option<u64> {
     Some(total)
 }
 
-/// Two endpoints, and so many pairs of Sends over them.
+/// This number of pairs of Sends over two endpoints with this number of receives each. Gives how many pairs were taken.
 pub fn sends(alloc: Global, rounds: u32, receives: u32) -> Option<u64> {
     let mut client = Peer::open(alloc, Side::Initiator, receives)?;
     let Some(mut server) = Peer::open(alloc, Side::Responder, receives) else {

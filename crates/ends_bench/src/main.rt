@@ -1,7 +1,7 @@
 //! A benchmark, run by hand: NULL calls, or WRITEs or READs of 32 KiB in form Auto, one after the other, through both ends of a link and the
 //! plain server. It prints how many calls, or how many bytes, the replies confirm. The arguments are `null`, `write` or `read`, or `copy` for
-//! copies of 32 KiB alone, or `sends` for two Sends as long as those of a NULL call, through two endpoints alone; their number; and the credits
-//! of both ends.
+//! copies of 32 KiB alone, or `sends` for two Sends, as long as those of a NULL call and of its reply, through two endpoints alone; their
+//! number; and the credits of both ends.
 #![tactic(auto)]
 
 mod client;
@@ -195,7 +195,7 @@ fn data(alloc: Global) -> Option<Vec<u8>> {
     Some(data)
 }
 
-/// Copies so often, each time others, and gives how many bytes.
+/// Copies this number of times, other bytes each time, and gives how many bytes.
 fn copied(rounds: u32, source: &mut Vec<u8>, target: &mut Vec<u8>) -> Option<u64> {
     let mut total: u64 = 0;
     for i in 0..rounds {
