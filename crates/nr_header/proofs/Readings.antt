@@ -1,5 +1,5 @@
 -- The stream of a header that is read, and the limits of its lists.
-use Rattle.std.proofs.Common.{◌≡◌, ℕ, List, ◌++◌, length, drop, Result, Ok, Err, sym, ap, subst, ◌∙◌, arith, length-append}
+use Rattle.std.proofs.Common.{◌≡◌, ℕ, List, ◌++◌, length, drop, Result, Ok, Err, refl, sym, ap, subst, ◌∙◌, arith, length-append}
 use Rattle.std.specs.Prelude.{IfOk}
 use Rattle.std.proofs.Math.Seq.{drop-append_seam}
 use Rattle.nr_xdr.specs.Item.{IsBytes}
@@ -10,7 +10,11 @@ use Rattle.nr_header.specs.declared.header.Header.{Header}
 use Rattle.nr_header.specs.declared.header.ChunkLists.{ChunkLists}
 use Rattle.nr_header.specs.declared.header.HeaderFields.{HeaderFields}
 use Rattle.nr_header.specs.Reading.{header_of}
-use Rattle.nr_header.specs.ReadInto.{body_with, with_lists}
+use Rattle.nr_header.specs.declared.header.MessageKind.{MessageKind}
+use Rattle.nr_header.specs.declared.header.MessageKind.TheVariants as kinds
+use Rattle.nr_header.specs.declared.header.TransportError.TheVariants as errors
+use Rattle.nr_header.specs.private.ListsRead.{HasOwnLists}
+use Rattle.nr_header.specs.ReadInto.{body_with, lists_in, lists_of_body, lists_read, with_lists}
 use Rattle.nr_header.specs.WithinLimits.{CanRead, StreamAt, IsMessage, StreamWithin, stream_after}
 use Rattle.nr_header.proofs.Messages.{header_is_found}
 
@@ -48,3 +52,13 @@ stream_within_room bytes lists (Err fault) fits is = tt
 pub limits_kept_in_room : (bytes : List ℕ) (lists : ChunkLists) (r : Result HeaderFields HeaderFault) → IsBytes bytes → with_lists lists r ≡ header_of bytes → IfOk r (λ f. CanRead (body_with f.kind lists) (stream_after (body_with f.kind lists) bytes))
 limits_kept_in_room bytes lists (Ok f) fits is = limits_kept bytes (with_lists lists (Ok f)) fits is
 limits_kept_in_room bytes lists (Err fault) fits is = tt
+
+own_lists : (kind : MessageKind) (lists : ChunkLists) → HasOwnLists kind lists → lists ≡ lists_of_body (body_with kind lists)
+own_lists (kinds.Msg stream_at) lists own = refl
+own_lists kinds.Nomsg lists own = refl
+own_lists (kinds.Error version (errors.Vers low high)) lists own = own
+own_lists (kinds.Error version errors.Chunk) lists own = own
+
+pub lists_in_room : (bytes : List ℕ) (lists : ChunkLists) (r : Result HeaderFields HeaderFault) → with_lists lists r ≡ header_of bytes → IfOk r (λ f. HasOwnLists f.kind lists) → IfOk r (λ _. lists ≡ lists_in bytes)
+lists_in_room bytes lists (Ok f) is own = own_lists f.kind lists own ∙ ap lists_read is
+lists_in_room bytes lists (Err fault) is own = tt

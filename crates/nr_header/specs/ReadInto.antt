@@ -1,5 +1,5 @@
 -- A header whose lists are read into a room.
-use Rattle.std.specs.Prelude.{ℕ, List, [], None, Result, Ok, Err}
+use Rattle.std.specs.Prelude.{ℕ, List, Result, Ok, Err}
 use Rattle.nr_header.specs.declared.header.ChunkLists.{ChunkLists}
 use Rattle.nr_header.specs.declared.header.Body.{Body}
 use Rattle.nr_header.specs.declared.header.Body.TheVariants.{Msg, Nomsg, ErrVers, ErrChunk}
@@ -8,12 +8,8 @@ use Rattle.nr_header.specs.declared.header.HeaderFields.{HeaderFields}
 use Rattle.nr_header.specs.declared.header.MessageKind.{MessageKind}
 use Rattle.nr_header.specs.declared.header.MessageKind.TheVariants as kinds
 use Rattle.nr_header.specs.declared.fault.HeaderFault.{HeaderFault}
-use Rattle.nr_header.specs.Header.{error_body}
+use Rattle.nr_header.specs.Header.{error_body, no_lists}
 use Rattle.nr_header.specs.Reading.{header_of}
-
--- no chunk
-abbrev pub no_lists : ChunkLists
-no_lists = record { read = []; write = []; reply = None }
 
 -- the body of a message of this kind with these lists
 abbrev pub body_with : MessageKind → ChunkLists → Body

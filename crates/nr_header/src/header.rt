@@ -60,7 +60,7 @@ pub struct ChunkLists {
     pub reply: Option<Chunk>,
 }
 
-/// The lists of chunks of a header that is written, borrowed (RFC 8166 section 3.4).
+/// The lists of chunks (RFC 8166 section 3.4), borrowed.
 #[derive(Clone, Copy)]
 pub struct ListSlices<'a> {
     /// The entries of the read list.
@@ -152,7 +152,7 @@ pub struct HeaderFields {
     pub xid: u32,
     /// The number of credits that a requester asks for or a responder grants.
     pub credit: u32,
-    /// What the message is, and where its stream begins.
+    /// What the message is, and the offset of its stream.
     pub kind: MessageKind,
 }
 

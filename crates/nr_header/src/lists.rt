@@ -6,7 +6,7 @@ ghost use Rattle.nr_xdr.specs.Matching.{MatchesRead};
 ghost use Rattle.nr_header.specs.Reading.{optional_at, lists_after, is_allowed, other_position, entry_at, read_list_at, segments_at, chunk_at, write_list_at, reply_chunk_at, lists_at};
 ghost use Rattle.nr_header.specs.Storage.{lists_of};
 ghost use Rattle.nr_header.specs.private.ListsRead.{nothing_read};
-ghost use Rattle.nr_header.specs.ReadInto.{no_lists};
+ghost use Rattle.nr_header.specs.Header.{no_lists};
 
 use crate::constants::{
     CHUNK_ROOM, CHUNK_SEGMENTS_MAX, READ_SEGMENTS_MAX, REPLY_SEGMENTS_MAX, WRITE_CHUNKS_MAX,

@@ -8,8 +8,9 @@ ghost use Rattle.nr_xdr.specs.Matching.{MatchesValue};
 ghost use Rattle.nr_header.specs.Reading.{sums_pass, msg_body, nomsg_body, msg_at, nomsg_at, error_of, error_by, version1_of, body_by, in_lists, header_of};
 ghost use Rattle.nr_header.specs.Header.{error_body};
 ghost use Rattle.nr_header.specs.Storage.{lists_of};
-ghost use Rattle.nr_header.specs.private.ListsRead.{nothing_read, MatchesBody};
-ghost use Rattle.nr_header.specs.ReadInto.{no_lists, body_with, with_lists, lists_in};
+ghost use Rattle.nr_header.specs.private.ListsRead.{nothing_read, HasOwnLists, IsListed, MatchesBody};
+ghost use Rattle.nr_header.specs.Header.{no_lists};
+ghost use Rattle.nr_header.specs.ReadInto.{body_with, with_lists, lists_in};
 
 use crate::constants::{
     ERR_CHUNK, ERR_VERS, ERROR, FIXED_LEN, MSG, NOMSG, PAYLOAD_MAX, VERSION, WRITE_SEGMENTS_MAX,
@@ -74,7 +75,8 @@ fn whole_error(bytes: &[u8]) -> Option<TransportError>
 
 /// RDMA_MSG with these lists, which end at `at` with `left` bytes after them.
 fn msg_found(room: &ListsRead, at: usize, left: usize) -> Result<MessageKind, DecodeError>
-    ensures { MatchesValue (λ f. body_with f (lists_of room.now)) result (msg_body (lists_of room.now) at left) }
+    ensures is { MatchesValue (λ f. body_with f (lists_of room.now)) result (msg_body (lists_of room.now) at left) }
+    ensures listed { IfOk result IsListed }
 {
     if sums_pass(room, left) {
         return Err(DecodeError { at });
@@ -86,7 +88,8 @@ fn msg_found(room: &ListsRead, at: usize, left: usize) -> Result<MessageKind, De
 #[tactic(auto, unfolding(crate::specs::Reading::msg_at))]
 fn msg(reader: &mut Reader<'_>, room: &mut ListsRead) -> Result<MessageKind, DecodeError>
     requires { room.old ≡ nothing_read }
-    ensures { MatchesValue (λ f. body_with f (lists_of room.new)) result (msg_at reader.old) }
+    ensures is { MatchesValue (λ f. body_with f (lists_of room.new)) result (msg_at reader.old) }
+    ensures listed { IfOk result IsListed }
 {
     lists(reader, false, room)?;
     msg_found(room, reader.at(), reader.rest().len())
@@ -94,7 +97,8 @@ fn msg(reader: &mut Reader<'_>, room: &mut ListsRead) -> Result<MessageKind, Dec
 
 /// RDMA_NOMSG with these lists, which end at `at` with `left` bytes after them.
 fn nomsg_found(room: &ListsRead, at: usize, left: usize) -> Result<MessageKind, DecodeError>
-    ensures { MatchesValue (λ f. body_with f (lists_of room.now)) result (nomsg_body (lists_of room.now) at left) }
+    ensures is { MatchesValue (λ f. body_with f (lists_of room.now)) result (nomsg_body (lists_of room.now) at left) }
+    ensures listed { IfOk result IsListed }
 {
     if sums_pass(room, 0) || left > 0 {
         return Err(DecodeError { at });
@@ -106,7 +110,8 @@ fn nomsg_found(room: &ListsRead, at: usize, left: usize) -> Result<MessageKind, 
 #[tactic(auto, unfolding(crate::specs::Reading::nomsg_at))]
 fn nomsg(reader: &mut Reader<'_>, room: &mut ListsRead) -> Result<MessageKind, DecodeError>
     requires { room.old ≡ nothing_read }
-    ensures { MatchesValue (λ f. body_with f (lists_of room.new)) result (nomsg_at reader.old) }
+    ensures is { MatchesValue (λ f. body_with f (lists_of room.new)) result (nomsg_at reader.old) }
+    ensures listed { IfOk result IsListed }
 {
     lists(reader, true, room)?;
     nomsg_found(room, reader.at(), reader.rest().len())
@@ -114,7 +119,8 @@ fn nomsg(reader: &mut Reader<'_>, room: &mut ListsRead) -> Result<MessageKind, D
 
 /// What was found; lists that fail are bad chunks.
 fn or_bad_chunks(found: Result<MessageKind, DecodeError>) -> Result<MessageKind, HeaderFault>
-    ensures { MatchResult found (λ read. result ≡ Ok read) (λ error. result ≡ Err (HeaderFault.BadChunks error.at)) }
+    ensures is { MatchResult found (λ read. result ≡ Ok read) (λ error. result ≡ Err (HeaderFault.BadChunks error.at)) }
+    ensures listed { IfOk found IsListed → IfOk result IsListed }
 {
     match found {
         Ok(read) => Ok(read),
@@ -132,7 +138,8 @@ fn version1(
 ) -> Result<MessageKind, HeaderFault>
     requires after { reader.old ≡ record { place = FIXED_LEN; rest = drop FIXED_LEN bytes.now } }
     requires room { room.old ≡ nothing_read }
-    ensures { MatchesBody (lists_of room.new) result (version1_of kind bytes.now) }
+    ensures is { MatchesBody (lists_of room.new) result (version1_of kind bytes.now) }
+    ensures listed { IfOk result IsListed }
 {
     match kind {
         MSG => or_bad_chunks(msg(reader, room)),
@@ -151,7 +158,8 @@ fn body(
     requires fixed { FIXED_LEN ≤ length bytes.now }
     requires after { reader.old ≡ record { place = FIXED_LEN; rest = drop FIXED_LEN bytes.now } }
     requires room { room.old ≡ nothing_read }
-    ensures { MatchesBody (lists_of room.new) result (body_by (error_by (word_at 12 bytes.now) bytes.now) (word_at 4 bytes.now) (word_at 12 bytes.now) bytes.now) }
+    ensures is { MatchesBody (lists_of room.new) result (body_by (error_by (word_at 12 bytes.now) bytes.now) (word_at 4 bytes.now) (word_at 12 bytes.now) bytes.now) }
+    ensures own { IfOk result (λ kind. HasOwnLists kind (lists_of room.new)) }
 {
     let (version, kind) = (word_at(bytes, 4), word_at(bytes, 12));
     if kind == ERROR {
@@ -197,6 +205,7 @@ fn fields(bytes: &[u8], room: &mut ListsRead) -> Result<HeaderFields, HeaderFaul
     requires room { room.old ≡ nothing_read }
     ensures is { with_lists (lists_of room.new) result ≡ header_of bytes.now }
     ensures words { IfOk result (λ fields. (fields.xid ≡ word_at 0 bytes.now) × (fields.credit ≡ word_at 8 bytes.now)) }
+    ensures own { IfOk result (λ fields. HasOwnLists fields.kind (lists_of room.new)) }
 {
     let mut reader = Reader::new(bytes);
     if reader.fixed(FIXED_LEN).is_err() {
@@ -217,6 +226,7 @@ fn fields_within(bytes: &[u8], room: &mut ListsRead) -> Result<HeaderFields, Hea
     requires room { room.old ≡ nothing_read }
     ensures is { with_lists (lists_of room.new) result ≡ header_of bytes.now }
     ensures words { IfOk result (λ fields. (fields.xid ≡ word_at 0 bytes.now) × (fields.credit ≡ word_at 8 bytes.now)) }
+    ensures lists { IfOk result (λ _. lists_of room.new ≡ lists_in bytes.now) }
     ensures stream { IfOk result (λ fields. StreamWithin (body_with fields.kind (lists_of room.new)) (length bytes.now)) }
     ensures limits { IfOk result (λ fields. CanRead (body_with fields.kind (lists_of room.new)) (stream_after (body_with fields.kind (lists_of room.new)) bytes.now)) }
 {
@@ -228,6 +238,8 @@ fn fields_within(bytes: &[u8], room: &mut ListsRead) -> Result<HeaderFields, Hea
 pub fn read_header_into(bytes: &[u8], room: &mut ListsRoom) -> Result<HeaderFields, HeaderFault>
     requires room { room.old ≡ no_lists }
     ensures exact { with_lists room.new result ≡ header_of bytes.now }
+    // The lists in the room are those of the message: none, if it is an error message.
+    ensures lists { IfOk result (λ _. room.new ≡ lists_in bytes.now) }
     // Its numbers are words of the message.
     ensures words { IfOk result (λ fields. (fields.xid ≡ word_at 0 bytes.now) × (fields.credit ≡ word_at 8 bytes.now)) }
     // Its stream lies within the message.

@@ -3,7 +3,7 @@
 ghost use Rattle.std.specs.Prelude.{◌≡◌, ◌≢◌, ℕ, ◌==◌, ◌<◌, ◌≤◌, length, drop, take, get_or, map, None, IfSome};
 ghost use Rattle.std.specs.List.{list_any};
 ghost use Rattle.nr_reduce.specs.ServerReads.{is_read};
-ghost use Rattle.nr_header.specs.ReadInto.{no_lists};
+ghost use Rattle.nr_header.specs.Header.{no_lists};
 ghost use Rattle.nr_responder.specs.Sound.{InBuffer};
 ghost use Rattle.nr_responder.specs.Views.{call_view, read_view};
 

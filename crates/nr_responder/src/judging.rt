@@ -2,7 +2,8 @@
 
 ghost use Rattle.std.specs.Prelude.{◌≡◌, ℕ, ◌≤◌, ◌^◌, length, map};
 ghost use Rattle.nr_header.specs.Constants.{FIXED_LEN};
-ghost use Rattle.nr_header.specs.ReadInto.{body_with, no_lists};
+ghost use Rattle.nr_header.specs.Header.{no_lists};
+ghost use Rattle.nr_header.specs.ReadInto.{body_with};
 ghost use Rattle.nr_header.specs.Slices.{lists_of_slices};
 ghost use Rattle.nr_header.specs.WithinLimits.{StreamWithin};
 ghost use Rattle.nr_reduce.specs.ServerState.{ServerState, next_stag};

@@ -3,7 +3,8 @@
 ghost use Rattle.std.specs.Prelude.{◌≡◌, ℕ, ◌+◌, ◌<◌, ◌≤◌, [], ◌∷◌, ◌++◌, take, map, Option, None, option_map, IfOk, IsOk, true, ◌⊎◌};
 ghost use Rattle.nr_link.specs.Limits.{send_max};
 ghost use Rattle.nr_header.specs.Constants.{FIXED_LEN};
-ghost use Rattle.nr_header.specs.ReadInto.{lists_in, no_lists};
+ghost use Rattle.nr_header.specs.Header.{no_lists};
+ghost use Rattle.nr_header.specs.ReadInto.{lists_in};
 ghost use Rattle.nr_endpoint.specs.Receives.{IsReceive};
 ghost use Rattle.nr_endpoint.specs.Calls.{after_call, IsStopReason};
 ghost use Rattle.nr_endpoint.specs.Calls.Call.{Stop, Send, OutOfMemory};
