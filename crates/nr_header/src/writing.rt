@@ -16,8 +16,10 @@ use nr_xdr::{Memory, Octets, Writer};
 use std::alloc::Global;
 
 /// The room that is taken at first for a header: that of one with a segment in each of its lists. More is taken for a longer one.
-const WRITTEN_ROOM: usize =
-    HEADER_LEN_MIN + READ_SEGMENT_LEN + (8 + SEGMENT_LEN) + (4 + SEGMENT_LEN);
+const WRITTEN_ROOM: usize = HEADER_LEN_MIN
+    + READ_SEGMENT_LEN
+    + (8 + SEGMENT_LEN)
+    + (4 + SEGMENT_LEN);
 
 fn put_segment(writer: &mut Writer, segment: &RdmaSegment) -> Result<(), Memory>
     ensures { OnOk result (writer.new ≡ writer.old ++ encodings (segment_items segment.now [])) }

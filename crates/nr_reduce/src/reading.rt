@@ -63,9 +63,13 @@ pub fn is_read_chunk_of(item: Option<Item>, read: &[ReadSegment]) -> bool
 }
 
 /// Whether the chunk of a read list at a position other than 0, if there is one, is that of the item of a call with this
-/// stream: at the item's position, and of its length, with or without its pad. Takes no memory.
+/// stream: at the item's position, and of its length, with or without its pad. If there is no such chunk, the stream isn't read.
+/// Takes no memory.
 pub fn is_read_chunk_of_item(stream: &[u8], read: &[ReadSegment]) -> bool
     ensures { result ≡ is_read_chunk_of_item stream.now read.now }
 {
-    is_read_chunk_of(call_item(stream), read)
+    match item_position(read) {
+        Some(position) => is_item(call_item(stream), position, total_at(position, read)),
+        None => true,
+    }
 }

@@ -1,6 +1,6 @@
 -- The verdict on a message, one question after the other.
 use Rattle.std.proofs.Common.{◌&&◌, ◌≡◌, ◌≢◌, ℕ, ◌+◌, ◌≤◌, Bool, true, false, not, ◌||◌, eqb, cond, List, [], ◌∷◌, length, drop, map, Option, Some, None, Result, Ok, Err, refl, sym, ap, subst, ◌∙◌, arith, inl, inr}
-use Rattle.std.specs.Prelude.{◌⊎◌}
+use Rattle.std.specs.Prelude.{◌⊎◌, IsOk}
 use Rattle.std.specs.List.{list_any, filter}
 use Rattle.std.proofs.lemmas.Bool.{ne_eqb, eq-eqb, le-ltb}
 use Rattle.nr_header.specs.Constants.{FIXED_LEN}
@@ -16,7 +16,7 @@ use Rattle.nr_header.specs.WithinLimits.{CanRead, ListsWithin, StreamWithin, rea
 use Rattle.nr_header.specs.Constants.{PAYLOAD_MAX}
 use Rattle.std.proofs.lemmas.List.{drop_all}
 use Rattle.nr_header.specs.Reading.{header_of, header_by, body_by, error_by}
-use Rattle.nr_header.specs.ReadInto.{lists_in, lists_of_body, lists_read}
+use Rattle.nr_header.specs.ReadInto.{lists_in}
 use Rattle.nr_xdr.specs.Fields.{word_at}
 use Rattle.nr_reduce.specs.Chunks.{is_read_chunk_of_item, item_position, total_at, positions}
 use Rattle.nr_reduce.specs.ServerState.{PendingCall, ServerState, is_pending, next_stag}
@@ -35,7 +35,7 @@ use Rattle.nr_responder.specs.declared.call.Pending.{Pending}
 use Rattle.nr_responder.specs.declared.heads.StreamHead.{StreamHead}
 use Rattle.nr_responder.specs.declared.judging.Judged.{Judged}
 use Rattle.nr_responder.specs.declared.judging.Judged.TheVariants as judged
-use Rattle.nr_responder.specs.Views.{call_view, call_with, inline_of, HasLists, HasStream, IsCall, IsListed, IsOfReads, Judges, JudgesBody, PutsLists, ReadsLists, brings_stream, fits_stream, reads_if}
+use Rattle.nr_responder.specs.Views.{call_view, call_with, inline_of, HasLists, HasStream, IsCall, IsOfReads, Judges, JudgesBody, PutsLists, brings_stream, fits_stream, reads_if}
 
 pub verdict_version : (k : ServerState) (m : List ℕ) → word_at 4 m ≢ 1 → verdict k m ≡ OtherVersion
 unfolding verdict
@@ -96,40 +96,36 @@ call_stream_lem k lists xid stream none few =
 pub header_verdict : (k : ServerState) (m : List ℕ) → word_at 4 m ≡ 1 → word_at 12 m ≢ 3 → word_at 12 m ≢ 4 → is_pending k (word_at 0 m) ≡ false → verdict k m ≡ by_header k m (header_of m)
 header_verdict k m is done error new = verdict_kinds k m is done error ∙ ap (λ (b : Bool). cond b (EndsLink 20) (by_header k m (header_of m))) new
 
--- the lists that are judged are those of the message
-pub lists_judged : (m : List ℕ) (h : Header) (lists : ChunkLists) (j : Judged) → header_of m ≡ Ok h → JudgesBody m h.body lists j → PutsLists m lists j
-lists_judged m h lists judged.Kind read b = absurd b
-lists_judged m h lists judged.Open read b = absurd b
-lists_judged m h lists judged.OtherVersion read b = absurd b
-lists_judged m h lists judged.BadChunks read b = tt
-lists_judged m h lists (judged.Call stream_at) read b = sym (ap lists_read read ∙ ap lists_of_body b.0)
-lists_judged m h lists (judged.Reads stream_at inline head) read b = by b.1.1
-  where
-    by : (h.body ≡ Msg lists stream_at) ⊎ ((h.body ≡ Nomsg lists) × (stream_at ≡ length m)) → lists ≡ lists_in m
-    by (inl msg) = sym (ap lists_read read ∙ ap lists_of_body msg)
-    by (inr nomsg) = sym (ap lists_read read ∙ ap lists_of_body nomsg.0)
+-- a call has the lists that were read
+pub puts_lists : (m : List ℕ) (lists : ChunkLists) (j : Judged) → lists ≡ lists_in m → PutsLists m lists j
+puts_lists m lists judged.Kind is = tt
+puts_lists m lists judged.Open is = tt
+puts_lists m lists judged.OtherVersion is = tt
+puts_lists m lists judged.BadChunks is = tt
+puts_lists m lists (judged.Call stream_at) is = is
+puts_lists m lists (judged.Reads stream_at inline head) is = is
 
 -- what is judged of a body is judged of its message
 pub body_judged : (k : ServerState) (m : List ℕ) (h : Header) (lists : ChunkLists) (j : Judged) → FIXED_LEN ≤ length m → word_at 4 m ≡ 1 → word_at 12 m ≢ 3 → word_at 12 m ≢ 4 → is_pending k (word_at 0 m) ≡ false →
-    next_stag k ≤ 4294967296 → header_of m ≡ Ok h → JudgesBody m h.body lists j → Judges k m j
-body_judged k m h lists j long is done error new few read judges = by j judges (lists_judged m h lists j read judges)
+    next_stag k ≤ 4294967296 → header_of m ≡ Ok h → lists ≡ lists_in m → JudgesBody m h.body lists j → Judges k m j
+body_judged k m h lists j long is done error new few read puts judges = by j judges
   where
     verdict_is : verdict k m ≡ by_body k h.xid m h.body
     verdict_is = header_verdict k m is done error new ∙ ap (by_header k m) read
 
-    by : (j : Judged) → JudgesBody m h.body lists j → PutsLists m lists j → Judges k m j
-    by judged.Kind b puts = absurd b
-    by judged.Open b puts = absurd b
-    by judged.OtherVersion b puts = absurd b
-    by judged.BadChunks b puts = verdict_is ∙ b k h.xid
-    by (judged.Call stream_at) b puts = subst (λ (l : ChunkLists). IsCall k m l stream_at) puts (record {
+    by : (j : Judged) → JudgesBody m h.body lists j → Judges k m j
+    by judged.Kind b = absurd b
+    by judged.Open b = absurd b
+    by judged.OtherVersion b = absurd b
+    by judged.BadChunks b = verdict_is ∙ b k h.xid
+    by (judged.Call stream_at) b = subst (λ (l : ChunkLists). IsCall k m l stream_at) puts (record {
       no_reads = b.1;
       own = new;
       pending =
           verdict_is ∙ ap (by_body k h.xid m) b.0 ∙ call_stream_lem k lists h.xid (drop stream_at m) b.1 few
           ∙ ap (λ (x : ℕ). MakesPending (record { number = k.received.sends + 1; xid = x; lists = lists; inline = Some (drop stream_at m) })) (header_xid m h long read);
     })
-    by (judged.Reads stream_at inline head) b puts = subst (λ (l : ChunkLists). IsOfReads k m l stream_at inline) puts (record {
+    by (judged.Reads stream_at inline head) b = subst (λ (l : ChunkLists). IsOfReads k m l stream_at inline) puts (record {
       some = b.0;
       own = new;
       needs = verdict_is ∙ b.1.0 k h.xid ∙ ap (λ (x : ℕ). by_need k (call_with (k.received.sends + 1) x lists (inline_of inline (drop stream_at m)))) (header_xid m h long read);
@@ -180,37 +176,30 @@ pub plain_lists_lem : (k : ServerState) (xid : ℕ) (lists : ChunkLists) (stream
 plain_lists_lem k xid lists stream none = λ i. record { number = k.received.sends + 1; xid = xid; lists = record { read = none i; write = lists.write; reply = lists.reply }; inline = Some stream }
 
 -- the lists and the stream of a call that is judged by its body
-has_lists : (m : List ℕ) (h : Header) (lists : ChunkLists) → header_of m ≡ Ok h → lists ≡ lists_in m → IsListed h.body → ListsWithin lists → HasLists m
-has_lists m h lists read puts listed within = record {
-  listed = subst ReadsLists (sym read) listed;
+has_lists : (m : List ℕ) (h : Header) (lists : ChunkLists) → header_of m ≡ Ok h → lists ≡ lists_in m → ListsWithin lists → HasLists m
+has_lists m h lists read puts within = record {
+  read = subst IsOk (sym read) refl;
   within = subst ListsWithin puts within;
 }
 
-pub has_stream : (m : List ℕ) (h : Header) (lists : ChunkLists) (j : Judged) → header_of m ≡ Ok h → JudgesBody m h.body lists j → StreamWithin h.body (length m) → CanRead h.body (stream_after h.body m) → HasStream m j
-has_stream m h lists judged.Kind read b within can = tt
-has_stream m h lists judged.Open read b within can = tt
-has_stream m h lists judged.OtherVersion read b within can = tt
-has_stream m h lists judged.BadChunks read b within can = tt
-has_stream m h lists (judged.Call stream_at) read b within can = (
-  subst (λ (x : Body). StreamWithin x (length m)) b.0 within,
-  has_lists m h lists read (lists_judged m h lists (judged.Call stream_at) read b) (subst IsListed (sym b.0) tt) (subst (λ (x : Body). CanRead x (stream_after x m)) b.0 can).0,
-)
-has_stream m h lists (judged.Reads stream_at inline head) read b within can = by b.1.1
+pub has_stream : (m : List ℕ) (h : Header) (lists : ChunkLists) (j : Judged) → header_of m ≡ Ok h → lists ≡ lists_in m → JudgesBody m h.body lists j → StreamWithin h.body (length m) → CanRead h.body (stream_after h.body m) → HasStream m j
+has_stream m h lists judged.Kind read puts b within can = tt
+has_stream m h lists judged.Open read puts b within can = tt
+has_stream m h lists judged.OtherVersion read puts b within can = tt
+has_stream m h lists judged.BadChunks read puts b within can = tt
+has_stream m h lists (judged.Call stream_at) read puts b within can =
+    (subst (λ (x : Body). StreamWithin x (length m)) b.0 within, has_lists m h lists read puts (subst (λ (x : Body). CanRead x (stream_after x m)) b.0 can).0)
+has_stream m h lists (judged.Reads stream_at inline head) read puts b within can = by b.1.1
   where
-    puts : lists ≡ lists_in m
-    puts = lists_judged m h lists (judged.Reads stream_at inline head) read b
-
     by : (h.body ≡ Msg lists stream_at) ⊎ ((h.body ≡ Nomsg lists) × (stream_at ≡ length m)) → (stream_at ≤ length m) × (HasLists m × (read_total (lists_in m).read ≤ PAYLOAD_MAX))
     by (inl msg) =
         let c : CanRead (Msg lists stream_at) (stream_after (Msg lists stream_at) m) = subst (λ (x : Body). CanRead x (stream_after x m)) msg can in
-        let all = c.2 in (
-          subst (λ (x : Body). StreamWithin x (length m)) msg within,
-          (has_lists m h lists read puts (subst IsListed (sym msg) tt) c.0, subst (λ (l : ChunkLists). read_total l.read ≤ PAYLOAD_MAX) puts (omega (arith, all))),
-        )
+        let all = c.2 in
+        (subst (λ (x : Body). StreamWithin x (length m)) msg within, (has_lists m h lists read puts c.0, subst (λ (l : ChunkLists). read_total l.read ≤ PAYLOAD_MAX) puts (omega (arith, all))))
     by (inr nomsg) =
         let c : CanRead (Nomsg lists) (stream_after (Nomsg lists) m) = subst (λ (x : Body). CanRead x (stream_after x m)) nomsg.0 can in
         let at = nomsg.1 in
-        (omega (arith, at), (has_lists m h lists read puts (subst IsListed (sym nomsg.0) tt) c.1, subst (λ (l : ChunkLists). read_total l.read ≤ PAYLOAD_MAX) puts c.2))
+        (omega (arith, at), (has_lists m h lists read puts c.1, subst (λ (l : ChunkLists). read_total l.read ≤ PAYLOAD_MAX) puts c.2))
 
 -- ---- A read list that is refused
 

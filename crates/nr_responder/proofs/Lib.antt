@@ -67,5 +67,4 @@ pub mod OutputLengths
 pub mod QueueBounds
 pub mod OutputBounds
 pub mod OutputSteps
-mod ReadAgain
 pub mod ReadHeads

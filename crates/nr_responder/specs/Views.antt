@@ -1,10 +1,8 @@
 -- What the code keeps, as the definitions of a run see it.
-use Rattle.std.specs.Prelude.{◌≡◌, ◌≢◌, ℕ, ◌+◌, ◌≤◌, ◌&&◌, Bool, true, false, List, [], length, take, drop, Option, None, Some, IfSome, Result, Ok, Err, ◌⊎◌}
+use Rattle.std.specs.Prelude.{◌≡◌, ◌≢◌, ℕ, ◌+◌, ◌≤◌, ◌&&◌, Bool, true, false, List, [], length, take, drop, Option, None, Some, IfSome, IsOk, ◌⊎◌}
 use Rattle.nr_header.specs.declared.header.ChunkLists.{ChunkLists}
-use Rattle.nr_header.specs.declared.fault.HeaderFault.{HeaderFault}
-use Rattle.nr_header.specs.declared.header.Header.{Header}
 use Rattle.nr_header.specs.declared.header.Body.{Body}
-use Rattle.nr_header.specs.declared.header.Body.TheVariants.{Msg, Nomsg, ErrVers, ErrChunk}
+use Rattle.nr_header.specs.declared.header.Body.TheVariants.{Msg, Nomsg}
 use Rattle.nr_header.specs.Reading.{header_of}
 use Rattle.nr_header.specs.ReadInto.{lists_in}
 use Rattle.nr_header.specs.Constants.{PAYLOAD_MAX}
@@ -64,20 +62,9 @@ Judges k message judged.BadChunks = verdict k message ≡ BadChunks
 Judges k message (judged.Call stream_at) = IsCall k message (lists_in message) stream_at
 Judges k message (judged.Reads stream_at inline head) = IsOfReads k message (lists_in message) stream_at inline
 
--- a header with lists: that of RDMA_MSG or RDMA_NOMSG
-abbrev pub IsListed : Body → Type 0
-IsListed (Msg lists stream_at) = Unit {0}
-IsListed (Nomsg lists) = Unit {0}
-IsListed (ErrVers version low high) = ⊥
-IsListed (ErrChunk version) = ⊥
-
-abbrev pub ReadsLists : Result Header HeaderFault → Type 0
-ReadsLists (Ok header) = IsListed header.body
-ReadsLists (Err fault) = ⊥
-
--- a message with lists that are within the limits
+-- a message that can be read, with lists that are within the limits
 pub record HasLists (message : List ℕ) : Type 0 where
-  pub listed : ReadsLists (header_of message)
+  pub read : IsOk (header_of message)
   pub within : ListsWithin (lists_in message)
 
 -- the lists of a message that makes a call

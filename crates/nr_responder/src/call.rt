@@ -15,9 +15,8 @@ use nr_rpc::CallTarget;
 use nr_xdr::Octets;
 use std::marker::Model;
 
-/// A call whose Send is complete, and which isn't answered. Its Send has this number, from 1 on. Its message is the first `len` bytes of
-/// its receive buffer, and has its chunk lists. If its stream is `inline`, it stands in the message from `stream_at` on. `room` is the room of its payload, while its
-/// chunks are read. `target` is what the head of its inline stream asks for, if that was read: `Some(None)` if it is of another RPC version.
+/// A call whose Send is complete, and which isn't answered. Its message is the first `len` bytes of its receive buffer, and has its chunk
+/// lists. If its stream is `inline`, it stands in the message from `stream_at` on; else it is read.
 #[derive(Drop)]
 pub struct Pending {
     /// The number of its Send, from 1 on.

@@ -1,4 +1,4 @@
-//! The head of a call's stream, which is read once.
+//! The head of a call's stream and its item, and how they are kept with a call.
 
 ghost use Rattle.std.specs.Prelude.{◌≡◌, drop, take, true};
 ghost use Rattle.nr_responder.specs.Sound.{InBuffer};

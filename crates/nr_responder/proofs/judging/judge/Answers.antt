@@ -31,7 +31,7 @@ returns-in-Ok-clause-judged c = λ k same few.
     let read : header_of c.args.message.now ≡ Ok h =
     sym c.in-Ok.ensures.exact ∙ ap (λ (l : ChunkLists). Ok (record { xid = c.in-Ok.fields.xid; credit = c.in-Ok.fields.credit; body = body_with c.in-Ok.fields.kind l })) (sym c.as_slices.ensures) in
     body_judged k c.args.message.now h lists c.judge_kind.result c.requires.fixed (sym c.word_at.ensures ∙ c.if-word_at-ne-VERSION.false) (λ e. c.if-kind-eq-DONE.false (c.word_at-kind.ensures ∙ e)) (λ e. c.if-kind-eq-ERROR.false (c.word_at-kind.ensures ∙ e))
-    (is_open_lem k c.args.calls.now (word_at 0 c.args.message.now) c.word_at-2.result false same c.word_at-2.ensures (sym c.has_xid.ensures ∙ c.if-has_xid.false)) few read c.judge_kind.ensures.body
+    (is_open_lem k c.args.calls.now (word_at 0 c.args.message.now) c.word_at-2.result false same c.word_at-2.ensures (sym c.has_xid.ensures ∙ c.if-has_xid.false)) few read (c.as_slices.ensures ∙ c.in-Ok.ensures.lists) c.judge_kind.ensures.body
 
 pub returns-in-Err-clause-judged : goal.returns-in-Err-clause-judged
 returns-in-Err-clause-judged c = λ k same few.
