@@ -16,7 +16,7 @@ Moves s link AllUp d = (pipes_of link d).up ≢ []
 Moves s link Work d = (after_work s link d).marks ≢ d.marks
 Moves s link AllDown d = (pipes_of link d).down ≢ []
 
--- these many rounds, before each of which something moves on a link
+-- this number of rounds, before each of which something moves on a link
 abbrev pub MakesRounds : Setting → List ℕ → ℕ → Drill → Drill → Type 0
 MakesRounds s links zero old new = new ≡ old
 MakesRounds s links (suc rounds) old new = (list_all (is_still s old) links ≡ false) × MakesRounds s links rounds (after_round s links old) new

@@ -34,14 +34,14 @@ pub enum ServeFault {
     Memory,
 }
 
-/// The size of the block that `keep_memory` takes, in bytes.
-const KEPT: usize = 1 << 21;
+/// The size of the block that `raise_trim_threshold` allocates, in bytes.
+const TRIM_BLOCK_LEN: usize = 1 << 21;
 
-/// Takes a block of memory and gives it back, if there is one. It is not written, so it takes no page. From then on the allocator of the C
-/// library keeps up to twice its size of free memory, where it gave all but 128 KiB back to the system after each call, whose memory had to
-/// be mapped again at the next one.
-fn keep_memory(alloc: Global) {
-    let block: Result<Vec<u8>, AllocError> = Vec::with_capacity(alloc, KEPT);
+/// Allocates a block and frees it, if there is memory for it. It is never written, so no page is mapped. The allocator of the GNU C library
+/// then keeps up to twice that size of free memory. Before, it returned all but 128 KiB of it to the system after each call, and had to map
+/// it again for the next one.
+fn raise_trim_threshold(alloc: Global) {
+    let block: Result<Vec<u8>, AllocError> = Vec::with_capacity(alloc, TRIM_BLOCK_LEN);
     drop(block);
 }
 
@@ -127,7 +127,7 @@ pub fn serve<A: Acceptor, C: Clock>(
     ensures asked { A.asked acceptor.new ≡ A.asked acceptor.old }
     ensures listens { A.listens acceptor.new ≡ A.listens acceptor.old }
 {
-    keep_memory(alloc);
+    raise_trim_threshold(alloc);
     let mut ends = Vec::new(alloc);
     'links: while (ends.len() as u64) < u64::from(connections) {
         match serve_one(alloc, acceptor, server, clock, credits, &mut ends) {

@@ -1,4 +1,4 @@
-//! The marks of a run in little memory: each byte that crossed a link is kept once.
+//! The marks of a run in little memory: most bytes that crossed a link are kept once.
 #![tactic(auto)]
 
 mod keeping;

@@ -15,8 +15,8 @@ use nr_xdr::Memory;
 use std::alloc::Global;
 use std::marker::Model;
 
-/// The marks of a run so far. Contracts see the list of the marks. Bytes that crossed a link are kept once: what a side was fed,
-/// payloads and replies refer to what a side wrote, if they are found there.
+/// The marks of a run so far. Contracts see the list of the marks. Most bytes that crossed a link are kept
+/// once: what a side was fed, payloads and replies refer to what a side wrote, if they are found there.
 #[derive(Drop)]
 pub struct MarkLog {
     alloc: Global,

@@ -168,7 +168,7 @@ impl ByteStores {
         }
     }
 
-    /// An empty store more.
+    /// Adds an empty store.
     fn add_store(&mut self, alloc: Global) -> Result<(), Memory>
         ensures { Grows self.old self.new }
     {
@@ -184,7 +184,7 @@ impl ByteStores {
         }
     }
 
-    /// Makes stores up to this one.
+    /// Adds empty stores until this one exists.
     #[tactic(auto, using(crate::proofs::Growing::grows_same, crate::proofs::Growing::grows_trans))]
     fn reach(&mut self, alloc: Global, store: usize) -> Result<(), Memory>
         ensures { Grows self.old self.new }
@@ -242,8 +242,8 @@ impl ByteStores {
         }
     }
 
-    #[tactic(auto, using(crate::proofs::Growing::grows_same))]
     /// Refers to bytes that a store has from one of two offsets on, or else appends them to store 0.
+    #[tactic(auto, using(crate::proofs::Growing::grows_same))]
     pub(crate) fn refer(
         &mut self,
         alloc: Global,

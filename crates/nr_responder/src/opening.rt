@@ -12,7 +12,7 @@ use nr_endpoint::{Endpoint, OPEN_READS_MAX, RemoteRead};
 use nr_xdr::{Memory, Octets};
 use std::alloc::Global;
 
-/// How many of these many reads are open.
+/// How many reads are open if there are this many.
 pub(crate) fn open_count(reads: usize) -> usize
     ensures { result ≡ min reads open_reads_max }
 {

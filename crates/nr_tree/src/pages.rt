@@ -120,7 +120,7 @@ fn put(pages: &mut Pages, offset: u64, piece: &[u8]) -> bool
     }
 }
 
-/// Copies a piece into the page that it lies in, which is kept. If all bytes of the page are 0 then, it goes.
+/// Copies a piece into the page that it lies in, which is kept. If all bytes of the page are 0 after that, the page is removed.
 fn put_or_remove(pages: &mut Pages, offset: u64, piece: &[u8])
     requires sized { AreSized pages.old.entries }
     requires kept { is_some (page pages.old.entries (offset / page_size)) ≡ true }
@@ -192,7 +192,7 @@ fn zero_bytes<'a>(len: usize) -> &'a [u8]
     &ZEROS[..len]
 }
 
-/// Puts zeros over the bytes from an offset on in its page, if it is kept. If all bytes of the page are 0 then, it goes.
+/// Puts zeros over the bytes from an offset on in its page, if it is kept. If all bytes of the page are 0 after that, the page is removed.
 fn clear_tail(pages: &mut Pages, from: u64)
     requires { AreSized pages.old.entries }
     ensures { ClearsTail pages.old.entries pages.new.entries from }
