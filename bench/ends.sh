@@ -1,7 +1,8 @@
 #!/bin/sh
-# Calls through both ends of a link and the plain server, one after the other: NULL, beside two Sends through two endpoints alone; a WRITE and a READ of 32 KiB in form Auto, in copies
-# of 32 KiB of the same run (by processor time, and by cycles if perf is there), with 1 and with 64 credits; and, if there is a C compiler,
-# the bytes that are copied and cleared by the C library. Run by hand, at the top of the repository, once
+# Calls through both ends of a link and the plain server, one after the other: NULL, beside two Sends through two endpoints alone; a WRITE
+# and a READ of 32 KiB in form Auto, in copies of 32 KiB of the same run (by processor time, and by cycles if perf is there), with 1 and with
+# 64 credits; and, if there is a C compiler, four copies of the data alone (bench/copies.c), and the bytes that the C library copies and
+# clears. Run by hand, at the top of the repository, once
 # `(cd crates/ends_bench && rt run -- write 2 16)` has built the program; or with the program's path as $1.
 exec python3 - "${1:-crates/ends_bench/out/ends_bench}" <<'END'
 import os, resource, shutil, subprocess, sys, tempfile
@@ -82,6 +83,17 @@ def counts():
             return [int(word) for word in done.stderr.split()]
         return {what: [(many - few) / 100 for few, many in zip(run(what, 10), run(what, 110))] for what in ('null', 'write', 'read')}
 
+def copies():
+    """The microseconds of one copy, and of the copies of a WRITE and of a READ alone, by bench/copies.c; nothing without a compiler."""
+    compiler = shutil.which('cc') or shutil.which('gcc')
+    source = 'bench/copies.c'
+    if compiler is None or not os.path.exists(source) or os.uname().machine != 'x86_64':
+        return None
+    with tempfile.TemporaryDirectory() as folder:
+        subprocess.run([compiler, '-O2', '-o', f'{folder}/copies', source], check=True)
+        runs = [[float(word) for word in subprocess.run([f'{folder}/copies'], capture_output=True, check=True).stdout.split()] for _ in range(3)]
+        return [min(each) for each in zip(*runs)]
+
 counted = counts()
 
 def report_counts(what):
@@ -101,6 +113,11 @@ report_counts('null')
 each = {what: used * 1e6 for what, used in least(seconds, LARGE, FEW, MANY, 9).items()}
 by_cycles = least(cycles, LARGE, FEW, MANY, 5)
 print(f"copying 32768 bytes: {each['copy']:.2f} microseconds")
+alone = copies()
+if alone is not None:
+    one, write, read = alone
+    print(f'four copies of the data and a clearing alone, by a C program: {write:.2f} microseconds as of a WRITE, {write / one:.1f} copies;'
+          f' {read:.2f} as of a READ, {read / one:.1f} copies')
 for what in ('write', 'read'):
     line = f"a {what.upper()} of 32768 bytes: {each[what]:.2f} microseconds, {each[what] / each['copy']:.1f} copies (target 6)"
     if by_cycles is not None:
