@@ -28,7 +28,7 @@ def each(what, size, rounds, times=5):
     return (some - none) / rounds * 1e6
 
 print('load', os.getloadavg()[0])
-for what, rounds in (('readdir', 100_000), ('readdirplus', 20_000), ('churn', 300_000), ('rename', 300_000), ('create', 100_000), ('directories', 300_000)):
+for what, rounds in (('readdir', 100_000), ('readdirplus', 20_000), ('churn', 300_000), ('rename', 300_000), ('create', 100_000), ('directories', 300_000), ('scattered_lookup', 300_000), ('scattered_churn', 300_000), ('scattered_rename', 300_000)):
     few, many = each(what, 100, rounds), each(what, 100_000, rounds)
     print(f'{what} at 100: {few:.2f} microseconds, at 100,000: {many:.2f}, {many / few:.2f} times')
 for size in (65_536, 16_777_216):

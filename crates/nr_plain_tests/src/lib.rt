@@ -27,6 +27,8 @@ mod making_calls;
 #[cfg(test)]
 mod no_space;
 #[cfg(test)]
+mod pages_of_calls;
+#[cfg(test)]
 mod raw_calls;
 #[cfg(test)]
 mod root_only;

@@ -14,6 +14,8 @@ const NOW: Moment = Moment {
 const ROOT: u64 = 1;
 
 /// The numbers of the procedures.
+const LOOKUP: u32 = 3;
+
 const READ: u32 = 6;
 
 const WRITE: u32 = 7;
@@ -86,6 +88,12 @@ fn named(alloc: Global, proc: u32, count: u32) -> Option<Octets> {
 pub(crate) fn create(alloc: Global, server: &mut Server, count: u32) -> Option<u64> {
     let mut payload = named(alloc, CREATE, count)?;
     payload.extend_from_slice(&[0; 28]).ok()?;
+    call(alloc, server, &payload)
+}
+
+/// Looks a file of the root up.
+pub(crate) fn lookup(alloc: Global, server: &mut Server, count: u32) -> Option<u64> {
+    let payload = named(alloc, LOOKUP, count)?;
     call(alloc, server, &payload)
 }
 

@@ -1,7 +1,8 @@
 //! A benchmark, run by hand: calls of the plain server alone. The arguments are what is called, a size, and how often:
 //! `readdir` and `readdirplus` list the last 100 files of a directory of that size. `churn` removes its oldest file and
 //! makes a new one, `rename` gives its oldest file a new name, `create` makes a new one; `directories` removes the
-//! oldest directory of a root of that many entries, half of them directories, and makes a new one. `read` and `write`
+//! oldest directory of a root of that many entries, half of them directories, and makes a new one. `scattered_churn` and
+//! `scattered_rename` do the same to files in no order, and `scattered_lookup` looks them up. `read` and `write`
 //! move 32 KiB at offsets of a file of that many bytes, `payloads` makes the payloads of such WRITEs alone, and `copy`
 //! copies 32 KiB at the same offsets from one buffer to another. `sparse` writes a byte at 1 MiB into each of that many
 //! files. It prints how many bytes the replies have.
@@ -9,7 +10,7 @@
 
 mod calls;
 
-use calls::{create, list, mkdir, read, remove, rename, rmdir, write, write_payload};
+use calls::{create, list, lookup, mkdir, read, remove, rename, rmdir, write, write_payload};
 use nr_nfs_base::{Time, Verifier};
 use nr_plain::Server;
 use nr_tree::Tree;
@@ -62,6 +63,8 @@ enum Change {
     Create,
     /// The oldest directory is removed, and a new one is made.
     Directories,
+    /// A file is looked up.
+    Lookup,
 }
 
 /// Changes the root: `old` is the oldest name in it, `new` one that it does not have.
@@ -77,6 +80,7 @@ fn changed(alloc: Global, server: &mut Server, change: Change, old: u32, new: u3
             rmdir(alloc, server, old)?;
             mkdir(alloc, server, new)
         }
+        Change::Lookup => lookup(alloc, server, old),
     }
 }
 
@@ -109,6 +113,56 @@ fn changes(
     let mut total: u64 = 0;
     for count in 0..rounds {
         let bytes = changed(alloc, server, change, count, names.saturating_add(count))?;
+        total = total.saturating_add(bytes);
+    }
+    Some(total)
+}
+
+/// The numbers from 0 on.
+fn numbers(alloc: Global, size: u32) -> Option<Vec<u32>> {
+    let mut numbers = Vec::new(alloc);
+    for number in 0..size {
+        numbers.push(number).ok()?;
+    }
+    Some(numbers)
+}
+
+/// Which of so many names a round is about, in no order.
+fn scattered_index(round: u32, size: u32) -> usize {
+    (u64::from(round) * 2_654_435_761 / 4_096)
+        .checked_rem(u64::from(size))
+        .unwrap_or(0) as usize
+}
+
+/// Changes a file whose name stands in a list, which then has the new one, or looks it up.
+fn change_listed(
+    alloc: Global,
+    server: &mut Server,
+    change: Change,
+    name: &mut u32,
+    new: u32,
+) -> Option<u64> {
+    let bytes = changed(alloc, server, change, *name, new)?;
+    if !matches!(change, Change::Lookup) {
+        *name = new;
+    }
+    Some(bytes)
+}
+
+/// Changes of files of the root in no order.
+fn scattered(
+    alloc: Global,
+    server: &mut Server,
+    change: Change,
+    size: u32,
+    rounds: u32,
+) -> Option<u64> {
+    fill(alloc, server, size)?;
+    let mut names = numbers(alloc, size)?;
+    let mut total: u64 = 0;
+    for round in 0..rounds {
+        let name = names.get_mut(scattered_index(round, size))?;
+        let bytes = change_listed(alloc, server, change, name, size.saturating_add(round))?;
         total = total.saturating_add(bytes);
     }
     Some(total)
@@ -196,11 +250,15 @@ fn change_named(word: &str) -> Option<Change> {
         "rename" => Some(Change::Rename),
         "create" => Some(Change::Create),
         "directories" => Some(Change::Directories),
+        "lookup" => Some(Change::Lookup),
         _ => None,
     }
 }
 
 fn measured(alloc: Global, server: &mut Server, what: &str, size: u32, rounds: u32) -> Option<u64> {
+    if let Some((_, what)) = what.split_once('_') {
+        return scattered(alloc, server, change_named(what)?, size, rounds);
+    }
     match change_named(what) {
         Some(change) => changes(alloc, server, change, size, rounds),
         None => listed_or_moved(alloc, server, what, size, rounds),
