@@ -1,4 +1,4 @@
-//! Calls that are given up, and links that are dropped, after each step of two scripts. What is printed was computed from the definitions of a
+//! Calls that are given up, and links that are dropped, after each step of three scripts. What is printed was computed from the definitions of a
 //! drill (conformance/).
 
 use crate::top::same_output;
@@ -9,7 +9,7 @@ use std::process::Abort;
 static ACTIONS: [&[u8]; 3] = [b"revoke 1 1\n", b"forget 1 1\n", b"drop 1\n"];
 
 /// What is printed.
-static PRINTED: [&[u8]; 13] = [
+static PRINTED: [&[u8]; 14] = [
     b"1 1 revoked 48454c4c4f\n\
 2 1 place 0 reply 0000000100000001000000000000000000000000000000000000000000000001000000000000000500000000000000000000000000\
 0000000000000100000001000001b60000000100000000000000000000000000000005000000000000000500000000000000000000000000000001000000\
@@ -76,6 +76,9 @@ journal 0\n",
 0000000005000000010000000568656c6c6f000000\n\
 link 1 dropped\n\
 journal 0\n",
+    b"1 1 revoked 68656c0000\n\
+link 1 dropped\n\
+journal 0\n",
 ];
 
 /// Two WRITEs in read chunks, executed in another order than they were asked: each step that follows the first line, and for each action
@@ -110,6 +113,19 @@ static SEGMENTS: [(&[u8], [usize; 3]); 5] = [
     (b"work 1\n", [7, 8, 9]),
     (b"down 1 24\n", [10, 8, 9]),
     (b"drain\n", [11, 11, 12]),
+];
+
+/// The same, with a step that takes the memory back before the data is there: what comes first stands.
+static TAKEN_BACK: [(&[u8], [usize; 3]); 6] = [
+    (
+        b"call 1 given:write=3,2 nfs 6 000000080000000000000002000000000000000000000005\n",
+        [7, 8, 9],
+    ),
+    (b"up 1 4096\n", [7, 8, 9]),
+    (b"work 1\n", [7, 8, 9]),
+    (b"down 1 24\n", [10, 8, 9]),
+    (b"revoke 1 1\n", [10, 10, 13]),
+    (b"drain\n", [10, 10, 13]),
 ];
 
 /// A script of a first line and these steps, with a line after the step of a number, and a drain at the end.
@@ -149,4 +165,5 @@ fn same_after_each(rt: &impl Abort, alloc: Global, first: &[u8], steps: &[(&[u8]
 fn calls_are_given_up_after_each_step(rt: HostRuntime) {
     same_after_each(&rt, rt.alloc(), b"clients 2 credits 1\n", &TWO_CLIENTS);
     same_after_each(&rt, rt.alloc(), b"clients 1 credits 1\n", &SEGMENTS);
+    same_after_each(&rt, rt.alloc(), b"clients 1 credits 1\n", &TAKEN_BACK);
 }

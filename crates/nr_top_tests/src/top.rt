@@ -368,12 +368,15 @@ const SEED: &[&str] = &[
     "nfsrdma",
     "drill",
     "--seed",
-    "14769",
+    "7",
     "--clients",
     "3",
     "--calls",
-    "100",
+    "2000",
 ];
+
+/// The call lines of that script.
+const CALLS: u64 = 2000;
 
 /// What a drill of a made script prints.
 fn line_of(rt: &impl Abort, alloc: Global) -> Vec<u8> {
@@ -405,12 +408,12 @@ fn a_made_script(rt: HostRuntime) {
     let again = line_of(&rt, rt.alloc());
     same(&rt, 0, again.as_slice(), line.as_slice());
     let line = str::from_utf8(line.as_slice()).expect(&rt, "text");
-    same(&rt, 1, number_after(&rt, line, "calls"), 100);
+    same(&rt, 1, number_after(&rt, line, "calls"), CALLS);
     let refused = number_after(&rt, line, "refused");
     same(
         &rt,
         2,
         number_after(&rt, line, "done"),
-        100 - refused.min(100),
+        CALLS - refused.min(CALLS),
     );
 }
