@@ -1,5 +1,5 @@
 -- The calls that were submitted, and the outcomes that were handed over, by what the contracts of a session say.
-use Rattle.std.specs.Prelude.{◌≡◌, ℕ, Bool, true, false, ◌⊎◌, List, [], ◌∷◌, ◌++◌, length, map, nat_lt, Option, None, Some, Result, Ok, Err, MatchBool}
+use Rattle.std.specs.Prelude.{ℕ, Bool, true, false, List, [], ◌∷◌, ◌++◌, length, map, nat_lt, Option, None, Some, Result, Ok, Err, MatchBool}
 use Rattle.std.specs.List.{flat_map}
 use mathlib.Core.Logic.{inl, inr}
 use Rattle.nr_outside.specs.Streams.{SinkAt, SourceAt}
