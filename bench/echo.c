@@ -5,8 +5,7 @@
  *     echo store PORT PIECE                takes one connection with the passes of WRITEs of PIECE bytes, and keeps their data
  *     echo turns PORT REQUEST REPLY COUNT  makes COUNT round trips, one after another
  *     echo send PORT BYTES PIECE           sends BYTES in pieces, and waits until the server has read them
- *     echo put PORT PIECE                  reads its input to the end, and sends it in the passes of WRITEs, one after another, to `store`
- *     echo hold                            reads its input to the end into memory
+ *     echo put PORT PIECE                  reads its input piece by piece, and sends each in the passes of a WRITE to `store`
  *
  * A WRITE has four passes: a Send of CALL bytes, a Read Request of REQUEST bytes back, the data, and a reply of ANSWER bytes back. The clients
  * print the microseconds that it took. */
@@ -124,23 +123,6 @@ static void store(int port, long piece)
     close(link);
 }
 
-/* Reads the input to its end into memory that doubles; answers its length. */
-static long hold(unsigned char **bytes)
-{
-    long len = 0, size = ROOM;
-    *bytes = malloc(size);
-    for (;;) {
-        if (size - len < ROOM)
-            *bytes = realloc(*bytes, size *= 2);
-        ssize_t n = read(0, *bytes + len, ROOM);
-        if (n < 0 || !*bytes)
-            fail("input");
-        if (n == 0)
-            return len;
-        len += n;
-    }
-}
-
 static int dial(int port)
 {
     struct sockaddr_in at = address(port);
@@ -178,19 +160,12 @@ int main(int count, char **words)
         store(atoi(words[2]), atol(words[3]));
         return 0;
     }
-    if (count == 2 && !strcmp(words[1], "hold")) {
-        unsigned char *bytes;
-        double begun = now();
-        hold(&bytes);
-        printf("%.0f\n", now() - begun);
-        return 0;
-    }
     if (count == 4 && !strcmp(words[1], "put")) {
         int link = dial(atoi(words[2]));
         long piece = atol(words[3]);
-        unsigned char *bytes;
+        unsigned char *bytes = malloc(piece);
         double begun = now();
-        for (long left = hold(&bytes); left >= piece; left -= piece, bytes += piece) {
+        while (read(0, bytes, piece) == piece) {
             write_all(link, CALL);
             if (!read_all(link, REQUEST))
                 fail("end");

@@ -1,8 +1,8 @@
 #!/bin/sh
 # Real links over loopback: GETATTRs of `nfsrdma serve` beside raw round trips of the same bytes; READs and WRITEs of 32 KiB, one at a time
 # and with 16 outstanding, and `get` and `put` of 16 MiB, beside raw bytes one way; the server's processor time a GETATTR; the memory of a
-# server with a file of 16 MiB. Beside `get` and `put` it prints what has no part in the raw bytes: a new file's bytes written, an input read
-# into memory, and an input in memory sent in the passes of WRITEs, one at a time, to a server that keeps it. Run by hand, at the top of the
+# server with a file of 16 MiB. Beside `get` and `put` it prints what has no part in the raw bytes: a new file's bytes written, and an input
+# read piece by piece and sent in the passes of WRITEs, one at a time, to a server that keeps it. Run by hand, at the top of the
 # repository, once `rt run` has built nfsrdma and links_bench; or with the paths of both programs. It needs a C compiler, for bench/echo.c.
 # The least of several runs counts, of the two sides in turn.
 exec python3 - "${1:-crates/nfsrdma/out/nfsrdma}" "${2:-crates/links_bench/out/links_bench}" <<'PYTHON'
@@ -109,8 +109,6 @@ def main(folder):
             note("raw into a file", pair(echo, ["save"], ["send", FILE, SIZE], stdout=out)[0])
         with open(f"{folder}/file", "rb") as data:
             note("raw put", pair(echo, ["store", SIZE], ["put", SIZE], stdin=data)[0])
-        with open(f"{folder}/file", "rb") as data:
-            note("hold", float(subprocess.run([echo, "hold"], check=True, stdin=data, capture_output=True, text=True).stdout))
         with server(folder, 7) as (address, result):
             for what in ("read", "write"):
                 for outstanding in (1, 16):
@@ -132,7 +130,7 @@ def main(folder):
     for what in ("get into /dev/null", "get into a file", "put from a file"):
         print(f"{what}, 16 MiB: {least[what] / 1000:.1f} ms; raw bytes {least['raw 16 MiB'] / 1000:.1f}: {least[what] / least['raw 16 MiB']:.1f} times (goal 4)")
     print(f"raw bytes into a file, 16 MiB: {least['raw into a file'] / 1000:.1f} ms: `get` takes {least['get into a file'] / least['raw into a file']:.1f} times that")
-    print(f"a file read into memory, 16 MiB: {least['hold'] / 1000:.1f} ms; that, and raw bytes in the passes of WRITEs into memory: {least['raw put'] / 1000:.1f} ms:"
+    print(f"a file read piece by piece, and sent in the passes of WRITEs into memory, 16 MiB: {least['raw put'] / 1000:.1f} ms:"
           f" `put` takes {least['put from a file'] / least['raw put']:.1f} times that")
     print(f"the greatest resident memory of a server with a file of 16 MiB: {least['memory'] / (1 << 20):.0f} MiB (goal 40)")
 

@@ -46,45 +46,37 @@ end_of_reply B client.OutputFault read gives = inr (gives, refl)
 end_of_reply B (client.Budget count) read gives = inr (gives, refl)
 end_of_reply B client.Memory read gives = inl refl
 
--- a request whose next call has no answer
-pub follows_unanswered : {A : Type 0} (request : List Outcome → Next A) (outcomes : List Outcome) (b c d : LinkBytes) (h i j : RequesterSide) (call : Call) (end : ClientEnd)
-    → MakesCalls request outcomes b c h i → request outcomes ≡ Calls call → Unanswered call c d i j end → Follows request b d h j (Err end)
-follows_unanswered {A} request outcomes b c d h i j call end made is unanswered =
-    record {
-      outcomes = outcomes;
-      between = c;
-      side = i;
-      made = made;
-      ends = subst (λ (next : Next A). EndsWith next c d i j (Err end)) (sym is) (end, (refl, unanswered));
-    }
+-- a request ends: its next call has no answer; or its last reply is read as an end, or memory ran out for that; or it has its result
+pub ends_unanswered : {A : Type 0} (request : List Outcome → Next A) (outcomes : List Outcome) (c d : LinkBytes) (i j : RequesterSide) (call : Call) (end : ClientEnd)
+    → request outcomes ≡ Calls call → Unanswered call c d i j end → EndsWith (request outcomes) c d i j (Err end)
+ends_unanswered {A} request outcomes c d i j call end is unanswered = subst (λ (next : Next A). EndsWith next c d i j (Err end)) (sym is) (end, (refl, unanswered))
 
--- a request whose last reply is read as an end, or for which memory ran out
-pub follows_answered : {A B : Type 0} (request : List Outcome → Next A) (outcomes : List Outcome) (b c : LinkBytes) (h i : RequesterSide) (end : ClientEnd) (read : Result B ClientEnd)
-    → MakesCalls request outcomes b c h i → Gives {A = B} (Err end) read → (read ≡ Err end → request outcomes ≡ Returns (Err end)) → Follows request b c h i (Err end)
-follows_answered {A} {B} request outcomes b c h i end read made gives then =
-    record {
-      outcomes = outcomes;
-      between = c;
-      side = i;
-      made = made;
-      ends = by (end_of_reply {A = B} A end read gives);
-    }
+pub ends_answered : {A B : Type 0} (request : List Outcome → Next A) (outcomes : List Outcome) (c : LinkBytes) (i : RequesterSide) (end : ClientEnd) (read : Result B ClientEnd)
+    → Gives {A = B} (Err end) read → (read ≡ Err end → request outcomes ≡ Returns (Err end)) → EndsWith (request outcomes) c c i i (Err end)
+ends_answered {A} {B} request outcomes c i end read gives then = by (end_of_reply {A = B} A end read gives)
   where
     by : (end ≡ client.Memory) ⊎ ((read ≡ Err end) × Gives {A = A} (Err end) (Err end)) → EndsWith (request outcomes) c c i i (Err end)
     by (inl memory) = subst (λ (e : ClientEnd). EndsWith (request outcomes) c c i i (Err e)) (sym memory) (memory_ends (request outcomes) c i)
     by (inr (is, same)) = subst (λ (next : Next A). EndsWith next c c i i (Err end)) (sym (then is)) (same, (refl, refl))
 
--- a request that has its result
+pub ends_done : {A : Type 0} (request : List Outcome → Next A) (outcomes : List Outcome) (c : LinkBytes) (i : RequesterSide) (result : Result A ClientEnd)
+    → request outcomes ≡ Returns result → Gives result result → EndsWith (request outcomes) c c i i result
+ends_done {A} request outcomes c i result is gives = subst (λ (next : Next A). EndsWith next c c i i result) (sym is) (gives, (refl, refl))
+
+-- all of such a request
+pub follows_unanswered : {A : Type 0} (request : List Outcome → Next A) (outcomes : List Outcome) (b c d : LinkBytes) (h i j : RequesterSide) (call : Call) (end : ClientEnd)
+    → MakesCalls request outcomes b c h i → request outcomes ≡ Calls call → Unanswered call c d i j end → Follows request b d h j (Err end)
+follows_unanswered request outcomes b c d h i j call end made is unanswered =
+    record { outcomes = outcomes; between = c; side = i; made = made; ends = ends_unanswered request outcomes c d i j call end is unanswered }
+
+pub follows_answered : {A B : Type 0} (request : List Outcome → Next A) (outcomes : List Outcome) (b c : LinkBytes) (h i : RequesterSide) (end : ClientEnd) (read : Result B ClientEnd)
+    → MakesCalls request outcomes b c h i → Gives {A = B} (Err end) read → (read ≡ Err end → request outcomes ≡ Returns (Err end)) → Follows request b c h i (Err end)
+follows_answered {A} {B} request outcomes b c h i end read made gives then =
+    record { outcomes = outcomes; between = c; side = i; made = made; ends = ends_answered {A = A} {B = B} request outcomes c i end read gives then }
+
 pub follows_done : {A : Type 0} (request : List Outcome → Next A) (outcomes : List Outcome) (b c : LinkBytes) (h i : RequesterSide) (result : Result A ClientEnd)
     → MakesCalls request outcomes b c h i → request outcomes ≡ Returns result → Gives result result → Follows request b c h i result
-follows_done {A} request outcomes b c h i result made is gives =
-    record {
-      outcomes = outcomes;
-      between = c;
-      side = i;
-      made = made;
-      ends = subst (λ (next : Next A). EndsWith next c c i i result) (sym is) (gives, (refl, refl));
-    }
+follows_done request outcomes b c h i result made is gives = record { outcomes = outcomes; between = c; side = i; made = made; ends = ends_done request outcomes c i result is gives }
 
 -- the end in place of a value
 abbrev pub end_in : {A : Type 0} → Result A ClientEnd → ClientEnd

@@ -1,33 +1,28 @@
 -- A file is written, one WRITE after another.
-use Rattle.std.proofs.Common.{◌≡◌, ℕ, ◌+◌, ◌<◌, ◌≤◌, List, [], ◌∷◌, ◌++◌, length, take, drop, Option, Some, None, IfSome, OnOk, Result, Ok, Err, inl, inr, ◌⊎◌, arith, refl, sym, ap, subst, ◌∙◌, append-nil}
-use Rattle.std.proofs.lemmas.Bool.{lt-ltb, le-ltb}
-use Rattle.std.proofs.lemmas.List.{length-append, length-drop, length-take, take-append-le}
+use Rattle.std.proofs.Common.{◌≡◌, ℕ, ◌+◌, ◌-◌, ◌<◌, ◌≤◌, ◌⊎◌, Bool, true, false, min, List, [], ◌∷◌, ◌++◌, length, take, drop, Option, Some, None, IfSome, Result, Ok, Err, inl, inr, arith, refl, sym, ap, subst, ◌∙◌, append-nil, append_assoc, take-append-drop}
+use Rattle.std.proofs.lemmas.Bool.{cases_lt, lt-ltb, le-ltb}
+use Rattle.std.proofs.lemmas.List.{length-append, length-take, length-take-le, take-take, take_all, take_at, drop_at, drop-take}
 use Rattle.std.proofs.lemmas.List.Sums.{fold-append}
-use Rattle.std.proofs.KnownBytes.{Appends-kept, Consumes-kept}
-use Rattle.std.specs.Io.KnownBytes.{IsAtEnd, Keeps}
+use Rattle.std.specs.Io.KnownBytes.{IsAtEnd}
 use Rattle.nr_nfs_base.specs.Limits.{transfer_max}
 use Rattle.nr_outside.specs.Content.{HandsOut}
+use Rattle.nr_outside.proofs.Moves.{HandsOut_append, HandsOut_nil}
 use Rattle.nr_reduce.specs.declared.call.Outcome.{Outcome}
 use Rattle.nr_requester.specs.RequesterState.{RequesterSide}
 use Rattle.nr_client.specs.declared.client_end.ClientEnd.{ClientEnd}
 use Rattle.nr_client.specs.declared.client_end.ClientEnd.TheVariants as client
-use Rattle.nr_client.specs.Calls.{Answers}
-use Rattle.nr_client.specs.Following.{Follows, MakesCalls, Unanswered}
+use Rattle.nr_client.specs.Following.{EndsWith, Follows, MakesCalls}
 use Rattle.nr_client.specs.Following.Next.{Calls, Returns}
 use Rattle.nr_client.specs.Requests.{Asks}
-use Rattle.nr_client.specs.Results.{Gives}
+use Rattle.nr_client.specs.Results.{Gives, IsOfCall}
 use Rattle.nr_client.specs.Transfers.{LinkBytes}
 use Rattle.nr_outside.specs.Whole.{input_max}
-use Rattle.nr_client.specs.Writing.{FileWrite, IsRead, WritesFile, after_write_reply, create_call, created_file, file_write, next_write, piece_at, with_count, with_handle, write_call, write_end, write_result, writing}
+use Rattle.nr_client.specs.Writing.{EndsWriting, FileWrite, IsRead, IsReadAhead, WritesFile, after_write_reply, create_call, created_file, file_write, next_write, piece_at, with_count, with_handle, write_call, write_end, write_result, writing}
+use Rattle.nr_client.specs.Writing.EndsWriting.{FollowsInput, InputFails}
 use Rattle.nr_client.specs.Writing.FileWrite.{Created, NotCreated}
-use Rattle.nr_client.specs.private.FileSteps.{FailsToWrite, IsComplete, IsEnough, WritesOn}
-use Rattle.nr_client.proofs.CallsMade.{calls_more, follows_answered, follows_asked, follows_done, follows_unanswered}
-
--- the file was created, and this number of bytes written
-pub record WriteSoFar (uid gid : ℕ) (dir name input : List ℕ) (b c : LinkBytes) (h i : RequesterSide) (file : List ℕ) (at : ℕ) : Type 0 where
-  pub outcomes : List Outcome
-  pub made : MakesCalls (writing uid gid dir name input) outcomes b c h i
-  pub state : file_write input outcomes ≡ Created file at
+use Rattle.nr_client.specs.private.FileSteps.{FailsToWrite, StreamsOn, StreamsSoFar, StreamsTo, WriteSoFar, WritesOn}
+use Rattle.nr_client.specs.private.InputWindows.{EndsAt, IsFull, IsReadyAt, MayFollow, TakesMore, WindowState, wanted_at}
+use Rattle.nr_client.proofs.CallsMade.{calls_more, ends_answered, ends_done, ends_unanswered, follows_asked}
 
 write_is : (uid gid : ℕ) (dir name input file : List ℕ) (at : ℕ) → at < length (take input_max input)
     → next_write uid gid dir name input (Created file at) ≡ Calls (write_call uid gid file at (piece_at input at))
@@ -56,7 +51,7 @@ counted uid gid dir name input b c h i file bytes at outcome read same so_far re
     let here : write_result (length (piece_at input at)) outcome ≡ read = ap (λ (l : List ℕ). write_result (length l) outcome) (sym same) ∙ reads in
     written_after input so_far.outcomes outcome (Created file at) so_far.state ∙ ap (with_count file at) here
 
-pub write_started : (uid gid : ℕ) (dir name input : List ℕ) (b c : LinkBytes) (h i : RequesterSide) (file : List ℕ)
+write_started : (uid gid : ℕ) (dir name input : List ℕ) (b c : LinkBytes) (h i : RequesterSide) (file : List ℕ)
     → Asks created_file (create_call uid gid dir name) b c h i (Ok file) → WriteSoFar uid gid dir name input b c h i file 0
 write_started uid gid dir name input b c h i file (inl (outcome, (answered, reads))) =
     record {
@@ -67,13 +62,13 @@ write_started uid gid dir name input b c h i file (inl (outcome, (answered, read
 write_started uid gid dir name input b c h i file (inr (inl (end, (is, rest)))) = absurd (cc)
 write_started uid gid dir name input b c h i file (inr (inr (is, rest))) = absurd (cc)
 
-pub create_failed : (uid gid : ℕ) (dir name input : List ℕ) (b c : LinkBytes) (h i : RequesterSide) (end : ClientEnd)
+create_failed : (uid gid : ℕ) (dir name input : List ℕ) (b c : LinkBytes) (h i : RequesterSide) (end : ClientEnd)
     → Asks {A = List ℕ} created_file (create_call uid gid dir name) b c h i (Err end) → Follows (writing uid gid dir name input) b c h i (Err end)
 create_failed uid gid dir name input b c h i end asked =
     follows_asked (writing uid gid dir name input) created_file b c h i (create_call uid gid dir name) end refl
     (λ outcome reads. ap (λ (r : Result (List ℕ) ClientEnd). next_write uid gid dir name input (with_handle r)) reads) asked
 
-pub write_stepped : (uid gid : ℕ) (dir name input : List ℕ) (b c d : LinkBytes) (h i j : RequesterSide) (file bytes : List ℕ) (at at' : ℕ)
+write_stepped : (uid gid : ℕ) (dir name input : List ℕ) (b c d : LinkBytes) (h i j : RequesterSide) (file bytes : List ℕ) (at at' : ℕ)
     → at < length (take input_max input) → bytes ≡ piece_at input at → WriteSoFar uid gid dir name input b c h i file at
     → WritesOn uid gid file bytes at at' c d i j → WriteSoFar uid gid dir name input b d h j file at'
 write_stepped uid gid dir name input b c d h i j file bytes at at' below same so_far on =
@@ -84,46 +79,65 @@ write_stepped uid gid dir name input b c d h i j file bytes at at' below same so
       state = counted uid gid dir name input b c h i file bytes at on.outcome (Ok on.count) same so_far on.reads ∙ ap (Created file) (sym on.offset);
     }
 
-pub write_failed : (uid gid : ℕ) (dir name input : List ℕ) (b c d : LinkBytes) (h i j : RequesterSide) (file bytes : List ℕ) (at : ℕ) (end : ClientEnd)
-    → at < length (take input_max input) → bytes ≡ piece_at input at → WriteSoFar uid gid dir name input b c h i file at
-    → FailsToWrite uid gid file bytes at c d i j end → Follows (writing uid gid dir name input) b d h j (Err end)
-write_failed uid gid dir name input b c d h i j file bytes at end below same so_far (inl unanswered) =
-    follows_unanswered (writing uid gid dir name input) so_far.outcomes b c d h i j (write_call uid gid file at bytes) end so_far.made
-    (next_call uid gid dir name input b c h i file bytes at below same so_far) unanswered
-write_failed uid gid dir name input b c d h i j file bytes at end below same so_far (inr (outcome, (answered, gives))) =
-    follows_answered (writing uid gid dir name input) (so_far.outcomes ++ outcome ∷ []) b d h j end (write_result (length bytes) outcome)
-    (calls_more (writing uid gid dir name input) so_far.outcomes b c d h i j (write_call uid gid file at bytes) outcome so_far.made
-    (next_call uid gid dir name input b c h i file bytes at below same so_far) answered) gives
-    (λ reads. ap (next_write uid gid dir name input) (counted uid gid dir name input b c h i file bytes at outcome (Err end) same so_far reads))
+-- ---- What a window has
 
-pub write_completed : (uid gid : ℕ) (dir name input : List ℕ) (b c : LinkBytes) (h i : RequesterSide) (file : List ℕ) (at : ℕ) (result : Result (Unit {0}) ClientEnd)
-    → length (take input_max input) ≤ at → WriteSoFar uid gid dir name input b c h i file at → write_end input ≡ result → Gives result result
-    → Follows (writing uid gid dir name input) b c h i result
-write_completed uid gid dir name input b c h i file at result above so_far is gives =
-    follows_done (writing uid gid dir name input) so_far.outcomes b c h i result so_far.made
-    (ap (next_write uid gid dir name input) so_far.state ∙ end_is uid gid dir name input file at above ∙ ap (λ (r : Result (Unit {0}) ClientEnd). Returns r) is) gives
+none_follows : (ended : Bool) (rest : List ℕ) → ended ≡ true → MayFollow ended rest → rest ≡ []
+none_follows true rest is may = may
+none_follows false rest is may = absurd (cc)
 
--- ---- The first bytes of an input
+wanted_below : (at : ℕ) → at < input_max → wanted_at at ≡ min transfer_max (input_max - at)
+wanted_below at below = rw (lt-ltb at input_max below) refl
 
--- its bytes up to the maximum are among those that were read
-pub kept_is : (bytes rest : List ℕ) → IsEnough bytes rest → take input_max (bytes ++ rest) ≡ take input_max bytes
-kept_is bytes rest (inl none) = ap (λ (l : List ℕ). take input_max (bytes ++ l)) none ∙ ap (take input_max) (append-nil bytes)
-kept_is bytes rest (inr beyond) = take-append-le input_max bytes rest (omega (arith, beyond))
+wanted_above : (at : ℕ) → input_max ≤ at → wanted_at at ≡ 1
+wanted_above at above = rw (le-ltb at input_max above) refl
 
--- all was written
-pub all_written : (bytes rest : List ℕ) → IsEnough bytes rest → length bytes ≤ input_max → write_end (bytes ++ rest) ≡ Ok tt
-all_written bytes rest (inl none) within =
-    let fits : length (bytes ++ rest) ≤ input_max = subst (λ (l : List ℕ). length (bytes ++ l) ≤ input_max) (sym none) (omega (arith, within, length-append bytes [])) in
-    rw (le-ltb input_max (length (bytes ++ rest)) fits) refl
-all_written bytes rest (inr beyond) within = absurd (omega (arith, beyond, within))
+wanted_some : (at : ℕ) → 0 < wanted_at at
+wanted_some at = by (cases_lt at input_max)
+  where
+    by : (at < input_max) ⊎ (input_max ≤ at) → 0 < wanted_at at
+    by (inl below) = omega (arith, below, wanted_below at below)
+    by (inr above) = omega (arith, wanted_above at above)
 
--- more came than the maximum
-pub more_came : (bytes rest : List ℕ) → input_max < length bytes → write_end (bytes ++ rest) ≡ Err (client.Budget input_max)
-more_came bytes rest beyond =
-    let above : input_max < length (bytes ++ rest) = omega (arith, beyond, length-append bytes rest) in
-    rw (lt-ltb input_max (length (bytes ++ rest)) above) refl
+wanted_within : (at : ℕ) → wanted_at at ≤ transfer_max
+wanted_within at = by (cases_lt at input_max)
+  where
+    by : (at < input_max) ⊎ (input_max ≤ at) → wanted_at at ≤ transfer_max
+    by (inl below) = omega (arith, below, wanted_below at below)
+    by (inr above) = omega (arith, wanted_above at above)
 
--- ---- The input
+take_twice : (m n : ℕ) (l : List ℕ) → take m (take n l) ≡ take (min m n) l
+take_twice m n l = by (cases_lt m n)
+  where
+    by : (m < n) ⊎ (n ≤ m) → take m (take n l) ≡ take (min m n) l
+    by (inl less) = let same : m ≡ min m n = omega arith in take-take m n l (omega arith) ∙ ap (λ (k : ℕ). take k l) same
+    by (inr above) =
+        let same : n ≡ min m n = omega arith in
+        let short : length (take n l) ≤ m = omega (arith, length-take n l) in
+        take_all m (take n l) short ∙ ap (λ (k : ℕ). take k l) same
+
+-- the front of what a window has, of the bytes from there on
+kept_is_front : (kept rest : List ℕ) (n : ℕ) (ended : Bool) → (length kept ≡ n) ⊎ (ended ≡ true) → length kept ≤ n → MayFollow ended rest → take n (kept ++ rest) ≡ kept
+kept_is_front kept rest n ended (inl full) within may = take_at kept rest n full
+kept_is_front kept rest n ended (inr end) within may =
+    ap (λ (l : List ℕ). take n (kept ++ l)) (none_follows ended rest end may) ∙ ap (take n) (append-nil kept) ∙ take_all n kept within
+
+-- is what a WRITE sends
+piece_is : (written kept rest : List ℕ) (at : ℕ) (ended : Bool) → length written ≡ at → at < input_max → (length kept ≡ wanted_at at) ⊎ (ended ≡ true) → length kept ≤ wanted_at at → MayFollow ended rest
+    → piece_at ((written ++ kept) ++ rest) at ≡ kept
+piece_is written kept rest at ended offset below full within may =
+    let sum : input_max ≡ at + (input_max - at) = omega arith in
+    let from : drop at ((written ++ kept) ++ rest) ≡ kept ++ rest = ap (drop at) (append_assoc written kept rest) ∙ drop_at written (kept ++ rest) at offset in
+    ap (λ (n : ℕ). take transfer_max (drop at (take n ((written ++ kept) ++ rest)))) sum
+    ∙ ap (take transfer_max) (drop-take at (input_max - at) ((written ++ kept) ++ rest) ∙ ap (take (input_max - at)) from)
+    ∙ take_twice transfer_max (input_max - at) (kept ++ rest)
+    ∙ ap (λ (n : ℕ). take n (kept ++ rest)) (sym (wanted_below at below))
+    ∙ kept_is_front kept rest (wanted_at at) ended full within may
+
+more_is_left : (written kept rest : List ℕ) (at : ℕ) → length written ≡ at → at < input_max → 0 < length kept → at < length (take input_max ((written ++ kept) ++ rest))
+more_is_left written kept rest at offset below some =
+    omega (arith, length-take input_max ((written ++ kept) ++ rest), length-append (written ++ kept) rest, length-append written kept)
+
+-- ---- The rest of an input
 
 -- what an input has left, if it is known
 abbrev pub known_rest : Option (List ℕ) → List ℕ
@@ -138,161 +152,297 @@ none_left : (left : Option (List ℕ)) → IsAtEnd left → known_rest left ≡ 
 none_left None end = refl
 none_left (Some left) end = end
 
-enough : (bytes : List ℕ) (left : Option (List ℕ)) → IsComplete bytes left → IsEnough bytes (known_rest left)
-enough bytes left (inl end) = inl (none_left left end)
-enough bytes left (inr beyond) = inr beyond
+rest_may_follow : (ended : Bool) (left : Option (List ℕ)) → EndsAt ended left → MayFollow ended (known_rest left)
+rest_may_follow true left ends = none_left left ends
+rest_may_follow false left ends = tt
 
-is_read : (result : Result (Unit {0}) ClientEnd) (handed rest : List ℕ) → OnOk result (length handed ≤ input_max)
-    → ((count : ℕ) → result ≡ Err (client.Budget count) → input_max < length handed) → IsEnough handed rest → IsRead result handed rest
-is_read (Ok done) handed rest within beyond (inl none) = none
-is_read (Ok done) handed rest within beyond (inr more) = absurd (omega (arith, within, more))
-is_read (Err client.DialFault) handed rest within beyond complete = tt
-is_read (Err (client.Link end)) handed rest within beyond complete = tt
-is_read (Err (client.Rpc kind code)) handed rest within beyond complete = tt
-is_read (Err (client.Mount status)) handed rest within beyond complete = tt
-is_read (Err (client.Nfs status)) handed rest within beyond complete = tt
-is_read (Err client.Chunk) handed rest within beyond complete = tt
-is_read (Err (client.Version low high)) handed rest within beyond complete = tt
-is_read (Err (client.BadReply at reason)) handed rest within beyond complete = tt
-is_read (Err (client.BadPath at)) handed rest within beyond complete = tt
-is_read (Err client.InputFault) handed rest within beyond complete = tt
-is_read (Err client.OutputFault) handed rest within beyond complete = tt
-is_read (Err (client.Budget count)) handed rest within beyond complete = beyond count refl
-is_read (Err client.Memory) handed rest within beyond complete = tt
+-- ---- What was written so far
 
--- the input was read, and written
-pub file_written : (uid gid : ℕ) (dir name : List ℕ) (b c : LinkBytes) (h i : RequesterSide) (left given left' given' : Option (List ℕ)) (bytes : List ℕ) (result : Result (Unit {0}) ClientEnd)
-    → HandsOut left given left' given' bytes → IsComplete bytes left'
-    → ((rest : List ℕ) → IsEnough bytes rest → Follows (writing uid gid dir name (bytes ++ rest)) b c h i result)
-    → OnOk result (length bytes ≤ input_max) → ((count : ℕ) → result ≡ Err (client.Budget count) → input_max < length bytes)
-    → WritesFile uid gid dir name b c h i left given left' given' result
-file_written uid gid dir name b c h i left given left' given' bytes result hands complete follows within beyond =
+-- the file was created
+pub streams_begin : (uid gid : ℕ) (dir name : List ℕ) (b c : LinkBytes) (h i : RequesterSide) (left given left' given' : Option (List ℕ)) (file : List ℕ) (w : WindowState)
+    → HandsOut left given left' given' w.kept → IsReadyAt 0 left' w → Asks created_file (create_call uid gid dir name) b c h i (Ok file) → StreamsSoFar uid gid dir name b c h i left given left' given' file 0 w
+streams_begin uid gid dir name b c h i left given left' given' file w hands ready asked =
     record {
-      handed = bytes;
-      rest = known_rest left';
+      written = [];
       hands_out = hands;
-      is_rest = rest_is_known left';
-      is_read = is_read result bytes (known_rest left') within beyond (enough bytes left' complete);
-      calls = inl (follows (known_rest left') (enough bytes left' complete));
+      offset = refl;
+      begins = λ rest may. let same : piece_at (w.kept ++ rest) 0 ≡ w.kept = piece_is [] w.kept rest 0 w.ended refl (omega arith) ready.full ready.within may in
+          let len : length (piece_at (w.kept ++ rest) 0) ≡ length w.kept = ap (λ (l : List ℕ). length l) same in omega (arith, len);
+      calls = λ rest may. write_started uid gid dir name (w.kept ++ rest) b c h i file asked;
     }
 
-pub file_written_by : (uid gid : ℕ) (dir name : List ℕ) (b c : LinkBytes) (h i : RequesterSide) (left given left' given' : Option (List ℕ)) (seen bytes : List ℕ) (result : Result (Unit {0}) ClientEnd)
-    → seen ≡ bytes → HandsOut left given left' given' bytes → IsComplete bytes left'
-    → ((rest : List ℕ) → IsEnough seen rest → Follows (writing uid gid dir name (seen ++ rest)) b c h i result)
-    → OnOk result (length seen ≤ input_max) → ((count : ℕ) → result ≡ Err (client.Budget count) → input_max < length seen)
-    → WritesFile uid gid dir name b c h i left given left' given' result
-file_written_by uid gid dir name b c h i left given left' given' seen bytes result same hands complete follows within beyond =
-    file_written uid gid dir name b c h i left given left' given' seen result
-    (subst (λ (l : List ℕ). HandsOut left given left' given' l) (sym same) hands) (subst (λ (l : List ℕ). IsComplete l left') (sym same) complete) follows within beyond
+-- a WRITE was answered
+streams_written : (uid gid : ℕ) (dir name : List ℕ) (b c d : LinkBytes) (h i j : RequesterSide) (left given left' given' : Option (List ℕ)) (file : List ℕ) (at count : ℕ) (w : WindowState)
+    → IsReadyAt at left' w → at < input_max → 0 < length w.kept → count ≤ length w.kept → WritesOn uid gid file w.kept at (at + count) c d i j
+    → StreamsSoFar uid gid dir name b c h i left given left' given' file at w
+    → StreamsSoFar uid gid dir name b d h j left given left' given' file (at + count) (record { kept = drop count w.kept; ended = w.ended })
+streams_written uid gid dir name b c d h i j left given left' given' file at count w ready below some within on s =
+    let same : (s.written ++ take count w.kept) ++ drop count w.kept ≡ s.written ++ w.kept =
+    append_assoc s.written (take count w.kept) (drop count w.kept) ∙ ap (λ (l : List ℕ). s.written ++ l) (take-append-drop count w.kept) in
+    record {
+      written = s.written ++ take count w.kept;
+      hands_out = subst (λ (l : List ℕ). HandsOut left given left' given' l) (sym same) s.hands_out;
+      offset = omega (arith, s.offset, length-append s.written (take count w.kept), length-take-le count w.kept within);
+      begins = λ rest may. subst (λ (l : List ℕ). length (piece_at (l ++ rest) 0) ≤ length l) (sym same) (s.begins rest may);
+      calls = λ rest may. subst (λ (l : List ℕ). WriteSoFar uid gid dir name (l ++ rest) b d h j file (at + count)) (sym same)
+          (write_stepped uid gid dir name ((s.written ++ w.kept) ++ rest) b c d h i j file w.kept at (at + count)
+          (more_is_left s.written w.kept rest at s.offset below some) (sym (piece_is s.written w.kept rest at w.ended s.offset below ready.full ready.within may)) (s.calls rest may) on);
+    }
 
--- the input was not read
-pub input_failed : (uid gid : ℕ) (dir name : List ℕ) (b : LinkBytes) (h : RequesterSide) (left given left' given' : Option (List ℕ)) (end : ClientEnd)
-    → (handed : List ℕ) × HandsOut left given left' given' handed → (end ≡ client.InputFault) ⊎ (end ≡ client.Memory)
-    → WritesFile uid gid dir name b b h h left given left' given' (Err end)
-input_failed uid gid dir name b h left given left' given' end (handed, hands) (inl is) =
-    subst (λ (e : ClientEnd). WritesFile uid gid dir name b b h h left given left' given' (Err e)) (sym is) (record {
-      handed = handed;
+-- more was read
+streams_filled : (uid gid : ℕ) (dir name : List ℕ) (b c : LinkBytes) (h i : RequesterSide) (left given left' given' left'' given'' : Option (List ℕ)) (file : List ℕ) (at wanted : ℕ) (w v : WindowState)
+    → TakesMore wanted left' given' left'' given'' w v → StreamsSoFar uid gid dir name b c h i left given left' given' file at w → StreamsSoFar uid gid dir name b c h i left given left'' given'' file at v
+streams_filled uid gid dir name b c h i left given left' given' left'' given'' file at wanted w v takes s =
+    let same : (s.written ++ w.kept) ++ takes.more ≡ s.written ++ v.kept = append_assoc s.written w.kept takes.more ∙ ap (λ (l : List ℕ). s.written ++ l) (sym takes.kept) in
+    let all : (rest : List ℕ) → (s.written ++ w.kept) ++ (takes.more ++ rest) ≡ (s.written ++ v.kept) ++ rest =
+    λ rest. sym (append_assoc (s.written ++ w.kept) takes.more rest) ∙ ap (λ (l : List ℕ). l ++ rest) same in
+    let len : length ((s.written ++ w.kept) ++ takes.more) ≡ length (s.written ++ v.kept) = ap (λ (l : List ℕ). length l) same in
+    record {
+      written = s.written;
+      hands_out = subst (λ (l : List ℕ). HandsOut left given left'' given'' l) same (HandsOut_append left given left' given' left'' given'' (s.written ++ w.kept) takes.more s.hands_out takes.hands_out);
+      offset = s.offset;
+      begins = λ rest may. subst (λ (l : List ℕ). length (piece_at l 0) ≤ length (s.written ++ v.kept)) (all rest)
+          (let first = s.begins (takes.more ++ rest) (takes.follows rest may) in omega (arith, first, len, length-append (s.written ++ w.kept) takes.more));
+      calls = λ rest may. subst (λ (l : List ℕ). WriteSoFar uid gid dir name l b c h i file at) (all rest) (s.calls (takes.more ++ rest) (takes.follows rest may));
+    }
+
+streams_on : (uid gid : ℕ) (file : List ℕ) (at count : ℕ) (w v : WindowState) (c d : LinkBytes) (i j : RequesterSide) (left given left' given' : Option (List ℕ))
+    → IsReadyAt at left w → at < input_max → 0 < length w.kept → count ≤ length w.kept → WritesOn uid gid file w.kept at (at + count) c d i j
+    → TakesMore (wanted_at (at + count)) left given left' given' (record { kept = drop count w.kept; ended = w.ended }) v
+    → StreamsOn uid gid file at (at + count) w v c d i j left given left' given'
+streams_on uid gid file at count w v c d i j left given left' given' ready below some within on takes dir name b h first first_given s =
+    streams_filled uid gid dir name b d h j first first_given left given left' given' file (at + count) (wanted_at (at + count)) (record { kept = drop count w.kept; ended = w.ended }) v takes
+    (streams_written uid gid dir name b c d h i j first first_given left given file at count w ready below some within on s)
+
+-- ---- The ends
+
+-- how far it was read
+read_ahead : (input : List ℕ) (outcomes : List Outcome) (file : List ℕ) (at : ℕ) (written kept : List ℕ) → file_write input outcomes ≡ Created file at → length written ≡ at → length kept ≤ transfer_max
+    → IsReadAhead (file_write input outcomes) (written ++ kept)
+read_ahead input outcomes file at written kept state offset within =
+    subst (λ (s : FileWrite). IsReadAhead s (written ++ kept)) (sym state) (omega (arith, length-append written kept))
+
+-- these outcomes, of those and more
+first_outcomes : (outcomes more : List Outcome) → take (length outcomes) (outcomes ++ more) ≡ outcomes
+first_outcomes outcomes more = take_at outcomes more (length outcomes) refl
+
+-- the calls so far, some more, and the end
+ends_after : (uid gid : ℕ) (dir name handed rest : List ℕ) (b c d : LinkBytes) (h i j : RequesterSide) (first more all : List Outcome) (result : Result (Unit {0}) ClientEnd)
+    → first ++ more ≡ all → MakesCalls (writing uid gid dir name (handed ++ rest)) all b c h i → EndsWith (writing uid gid dir name (handed ++ rest) all) c d i j result
+    → IsReadAhead (file_write (handed ++ rest) first) handed → EndsWriting uid gid dir name handed rest b d h j result
+ends_after uid gid dir name handed rest b c d h i j first more all result same made ends ahead =
+    FollowsInput (record { outcomes = all; between = c; side = i; made = made; ends = ends }) (length first)
+    (subst (λ (l : List Outcome). IsReadAhead (file_write (handed ++ rest) l) handed) (sym (ap (take (length first)) (sym same) ∙ first_outcomes first more)) ahead)
+
+-- a WRITE has no answer, or its answer no count
+write_failed : (uid gid : ℕ) (dir name handed rest : List ℕ) (b c d : LinkBytes) (h i j : RequesterSide) (file bytes : List ℕ) (at : ℕ) (end : ClientEnd)
+    → at < length (take input_max (handed ++ rest)) → bytes ≡ piece_at (handed ++ rest) at → (s : WriteSoFar uid gid dir name (handed ++ rest) b c h i file at)
+    → IsReadAhead (file_write (handed ++ rest) s.outcomes) handed → FailsToWrite uid gid file bytes at c d i j end → EndsWriting uid gid dir name handed rest b d h j (Err end)
+write_failed uid gid dir name handed rest b c d h i j file bytes at end below same s ahead (inl unanswered) =
+    ends_after uid gid dir name handed rest b c d h i j s.outcomes [] s.outcomes (Err end) (append-nil s.outcomes) s.made
+    (ends_unanswered (writing uid gid dir name (handed ++ rest)) s.outcomes c d i j (write_call uid gid file at bytes) end
+    (next_call uid gid dir name (handed ++ rest) b c h i file bytes at below same s) unanswered) ahead
+write_failed uid gid dir name handed rest b c d h i j file bytes at end below same s ahead (inr (outcome, (answered, gives))) =
+    let input : List ℕ = handed ++ rest in
+    ends_after uid gid dir name handed rest b d d h j j s.outcomes (outcome ∷ []) (s.outcomes ++ outcome ∷ []) (Err end) refl
+    (calls_more (writing uid gid dir name input) s.outcomes b c d h i j (write_call uid gid file at bytes) outcome s.made (next_call uid gid dir name input b c h i file bytes at below same s) answered)
+    (ends_answered (writing uid gid dir name input) (s.outcomes ++ outcome ∷ []) d j end (write_result (length bytes) outcome) gives
+    (λ reads. ap (next_write uid gid dir name input) (counted uid gid dir name input b c h i file bytes at outcome (Err end) same s reads))) ahead
+
+-- all was written
+write_completed : (uid gid : ℕ) (dir name handed rest : List ℕ) (b c : LinkBytes) (h i : RequesterSide) (file : List ℕ) (at : ℕ) (result : Result (Unit {0}) ClientEnd)
+    → length (take input_max (handed ++ rest)) ≤ at → (s : WriteSoFar uid gid dir name (handed ++ rest) b c h i file at) → IsReadAhead (file_write (handed ++ rest) s.outcomes) handed
+    → write_end (handed ++ rest) ≡ result → Gives result result → EndsWriting uid gid dir name handed rest b c h i result
+write_completed uid gid dir name handed rest b c h i file at result above s ahead is gives =
+    ends_after uid gid dir name handed rest b c c h i i s.outcomes [] s.outcomes result (append-nil s.outcomes) s.made
+    (ends_done (writing uid gid dir name (handed ++ rest)) s.outcomes c i result
+    (ap (next_write uid gid dir name (handed ++ rest)) s.state ∙ end_is uid gid dir name (handed ++ rest) file at above ∙ ap (λ (r : Result (Unit {0}) ClientEnd). Returns r) is) gives) ahead
+
+-- an end that a call has is none of the input
+read_of_call : (end : ClientEnd) (handed rest : List ℕ) → IsOfCall end → IsRead (Err end) handed rest
+read_of_call client.DialFault handed rest of = tt
+read_of_call (client.Link end) handed rest of = tt
+read_of_call (client.Rpc kind code) handed rest of = tt
+read_of_call (client.Mount status) handed rest of = tt
+read_of_call (client.Nfs status) handed rest of = tt
+read_of_call client.Chunk handed rest of = tt
+read_of_call (client.Version low high) handed rest of = tt
+read_of_call (client.BadReply at reason) handed rest of = tt
+read_of_call (client.BadPath at) handed rest of = tt
+read_of_call client.InputFault handed rest of = tt
+read_of_call client.OutputFault handed rest of = tt
+read_of_call (client.Budget count) handed rest of = absurd of
+read_of_call client.Memory handed rest of = tt
+
+-- so far, with what is left of the input
+streams_end : (uid gid : ℕ) (dir name : List ℕ) (b c d : LinkBytes) (h i j : RequesterSide) (left given left' given' : Option (List ℕ)) (file : List ℕ) (at : ℕ) (w : WindowState) (result : Result (Unit {0}) ClientEnd)
+    → EndsAt w.ended left' → (s : StreamsSoFar uid gid dir name b c h i left given left' given' file at w) → IsRead result (s.written ++ w.kept) (known_rest left')
+    → EndsWriting uid gid dir name (s.written ++ w.kept) (known_rest left') b d h j result → WritesFile uid gid dir name b d h j left given left' given' result
+streams_end uid gid dir name b c d h i j left given left' given' file at w result ends s read writes =
+    record {
+      handed = s.written ++ w.kept;
       rest = known_rest left';
+      hands_out = s.hands_out;
+      is_rest = rest_is_known left';
+      is_read = read;
+      begins = inr (s.begins (known_rest left') (rest_may_follow w.ended left' ends));
+      calls = writes;
+    }
+
+streams_failed : (uid gid : ℕ) (file : List ℕ) (at : ℕ) (w : WindowState) (c d : LinkBytes) (i j : RequesterSide) (left given : Option (List ℕ)) (end : ClientEnd)
+    → IsReadyAt at left w → at < input_max → 0 < length w.kept → IsOfCall end → FailsToWrite uid gid file w.kept at c d i j end → StreamsTo uid gid file at w c d i j left given left given (Err end)
+streams_failed uid gid file at w c d i j left given end ready below some of fails dir name b h first first_given s =
+    let rest : List ℕ = known_rest left in
+    let may : MayFollow w.ended rest = rest_may_follow w.ended left ready.ends in
+    streams_end uid gid dir name b c d h i j first first_given left given file at w (Err end) ready.ends s (read_of_call end (s.written ++ w.kept) rest of)
+    (write_failed uid gid dir name (s.written ++ w.kept) rest b c d h i j file w.kept at end
+    (more_is_left s.written w.kept rest at s.offset below some) (sym (piece_is s.written w.kept rest at w.ended s.offset below ready.full ready.within may)) (s.calls rest may)
+    (read_ahead ((s.written ++ w.kept) ++ rest) (s.calls rest may).outcomes file at s.written w.kept (s.calls rest may).state s.offset (omega (arith, ready.within, wanted_within at))) fails)
+
+-- a read failed after a WRITE
+streams_stopped : (uid gid : ℕ) (file : List ℕ) (at count : ℕ) (w v : WindowState) (c d : LinkBytes) (i j : RequesterSide) (left given left' given' : Option (List ℕ))
+    → IsReadyAt at left w → at < input_max → 0 < length w.kept → count ≤ length w.kept → WritesOn uid gid file w.kept at (at + count) c d i j
+    → TakesMore (wanted_at (at + count)) left given left' given' (record { kept = drop count w.kept; ended = w.ended }) v
+    → StreamsTo uid gid file at w c d i j left given left' given' (Err client.InputFault)
+streams_stopped uid gid file at count w v c d i j left given left' given' ready below some within on takes dir name b h first first_given before =
+    let s = streams_on uid gid file at count w v c d i j left given left' given' ready below some within on takes dir name b h first first_given before in
+    let ends : EndsAt v.ended left' = takes.ends ready.ends in
+    let rest : List ℕ = known_rest left' in
+    let may : MayFollow v.ended rest = rest_may_follow v.ended left' ends in
+    streams_end uid gid dir name b d d h j j first first_given left' given' file (at + count) v (Err client.InputFault) ends s tt
+    (InputFails (s.calls rest may).outcomes refl (s.calls rest may).made
+    (read_ahead ((s.written ++ v.kept) ++ rest) (s.calls rest may).outcomes file (at + count) s.written v.kept (s.calls rest may).state s.offset (omega (arith, takes.within, wanted_within (at + count)))))
+
+-- nothing is left in the window
+pub streams_done : (uid gid : ℕ) (file : List ℕ) (at : ℕ) (w : WindowState) (c : LinkBytes) (i : RequesterSide) (left given : Option (List ℕ))
+    → IsReadyAt at left w → length w.kept ≤ 0 → (dir name : List ℕ) (b : LinkBytes) (h : RequesterSide) (first first_given : Option (List ℕ))
+    → StreamsSoFar uid gid dir name b c h i first first_given left given file at w → WritesFile uid gid dir name b c h i first first_given left given (Ok tt)
+streams_done uid gid file at w c i left given ready none dir name b h first first_given s =
+    let rest : List ℕ = known_rest left in
+    let may : MayFollow w.ended rest = rest_may_follow w.ended left ready.ends in
+    let ended : w.ended ≡ true = at_end ready.full in
+    let no_rest : rest ≡ [] = none_follows w.ended rest ended may in
+    let len : length ((s.written ++ w.kept) ++ rest) ≡ at =
+    ap (λ (l : List ℕ). length ((s.written ++ w.kept) ++ l)) no_rest ∙ (omega (arith, none, s.offset, length-append (s.written ++ w.kept) [], length-append s.written w.kept)) in
+    streams_end uid gid dir name b c c h i i first first_given left given file at w (Ok tt) ready.ends s no_rest
+    (write_completed uid gid dir name (s.written ++ w.kept) rest b c h i file at (Ok tt)
+    (omega (arith, len, length-take input_max ((s.written ++ w.kept) ++ rest))) (s.calls rest may)
+    (read_ahead ((s.written ++ w.kept) ++ rest) (s.calls rest may).outcomes file at s.written w.kept (s.calls rest may).state s.offset (omega (arith, ready.within, wanted_within at)))
+    (fits ((s.written ++ w.kept) ++ rest) (omega (arith, len, ready.offset))) refl)
+  where
+    at_end : IsFull (wanted_at at) w → w.ended ≡ true
+    at_end (inl full) = absurd (omega (arith, full, none, wanted_some at))
+    at_end (inr ended) = ended
+
+    fits : (input : List ℕ) → length input ≤ input_max → write_end input ≡ Ok tt
+    fits input within = rw (le-ltb input_max (length input) within) refl
+
+-- one byte is left that is beyond the maximum
+pub streams_beyond : (uid gid : ℕ) (file : List ℕ) (at : ℕ) (w : WindowState) (c : LinkBytes) (i : RequesterSide) (left given : Option (List ℕ))
+    → IsReadyAt at left w → input_max ≤ at → 0 < length w.kept → (dir name : List ℕ) (b : LinkBytes) (h : RequesterSide) (first first_given : Option (List ℕ))
+    → StreamsSoFar uid gid dir name b c h i first first_given left given file at w → WritesFile uid gid dir name b c h i first first_given left given (Err (client.Budget input_max))
+streams_beyond uid gid file at w c i left given ready above some dir name b h first first_given s =
+    let rest : List ℕ = known_rest left in
+    let may : MayFollow w.ended rest = rest_may_follow w.ended left ready.ends in
+    let handed : input_max < length (s.written ++ w.kept) = omega (arith, above, some, s.offset, length-append s.written w.kept) in
+    streams_end uid gid dir name b c c h i i first first_given left given file at w (Err (client.Budget input_max)) ready.ends s handed
+    (write_completed uid gid dir name (s.written ++ w.kept) rest b c h i file at (Err (client.Budget input_max))
+    (omega (arith, above, length-take input_max ((s.written ++ w.kept) ++ rest))) (s.calls rest may)
+    (read_ahead ((s.written ++ w.kept) ++ rest) (s.calls rest may).outcomes file at s.written w.kept (s.calls rest may).state s.offset (omega (arith, ready.within, wanted_within at)))
+    (beyond ((s.written ++ w.kept) ++ rest) (omega (arith, handed, length-append (s.written ++ w.kept) rest))) refl)
+  where
+    beyond : (input : List ℕ) → input_max < length input → write_end input ≡ Err (client.Budget input_max)
+    beyond input more = rw (lt-ltb input_max (length input) more) refl
+
+-- ---- One turn of the loop, by what the functions give
+
+-- the count is within what the window has, and that was sent
+count_within : (piece kept : List ℕ) (count : ℕ) → piece ≡ kept → count ≤ length piece → count ≤ length kept
+count_within piece kept count same within = subst (λ (l : List ℕ). count ≤ length l) same within
+
+takes_by : (at count wanted : ℕ) (w m v : WindowState) (left given left' given' : Option (List ℕ)) → m ≡ record { kept = drop count w.kept; ended = w.ended } → wanted ≡ wanted_at (at + count)
+    → TakesMore wanted left given left' given' m v → TakesMore (wanted_at (at + count)) left given left' given' (record { kept = drop count w.kept; ended = w.ended }) v
+takes_by at count wanted w m v left given left' given' moved is takes =
+    subst (λ (n : ℕ). TakesMore n left given left' given' (record { kept = drop count w.kept; ended = w.ended }) v) is (subst (λ (x : WindowState). TakesMore wanted left given left' given' x v) moved takes)
+
+pub on_by : (uid gid : ℕ) (file piece : List ℕ) (at count wanted : ℕ) (w m v : WindowState) (c d : LinkBytes) (i j : RequesterSide) (left given left' given' : Option (List ℕ))
+    → IsReadyAt at left w → at < input_max → 0 < length w.kept → piece ≡ w.kept → count ≤ length piece → WritesOn uid gid file piece at (at + count) c d i j
+    → m ≡ record { kept = drop count w.kept; ended = w.ended } → wanted ≡ wanted_at (at + count) → TakesMore wanted left given left' given' m v
+    → StreamsOn uid gid file at (at + count) w v c d i j left given left' given'
+on_by uid gid file piece at count wanted w m v c d i j left given left' given' ready below some same within on moved is takes =
+    streams_on uid gid file at count w v c d i j left given left' given' ready below some (count_within piece w.kept count same within)
+    (subst (λ (l : List ℕ). WritesOn uid gid file l at (at + count) c d i j) same on) (takes_by at count wanted w m v left given left' given' moved is takes)
+
+pub stopped_by : (uid gid : ℕ) (file piece : List ℕ) (at count wanted : ℕ) (w m v : WindowState) (c d : LinkBytes) (i j : RequesterSide) (left given left' given' : Option (List ℕ))
+    → IsReadyAt at left w → at < input_max → 0 < length w.kept → piece ≡ w.kept → count ≤ length piece → WritesOn uid gid file piece at (at + count) c d i j
+    → m ≡ record { kept = drop count w.kept; ended = w.ended } → wanted ≡ wanted_at (at + count) → TakesMore wanted left given left' given' m v
+    → StreamsTo uid gid file at w c d i j left given left' given' (Err client.InputFault)
+stopped_by uid gid file piece at count wanted w m v c d i j left given left' given' ready below some same within on moved is takes =
+    streams_stopped uid gid file at count w v c d i j left given left' given' ready below some (count_within piece w.kept count same within)
+    (subst (λ (l : List ℕ). WritesOn uid gid file l at (at + count) c d i j) same on) (takes_by at count wanted w m v left given left' given' moved is takes)
+
+pub failed_by : (uid gid : ℕ) (file piece : List ℕ) (at : ℕ) (w : WindowState) (c d : LinkBytes) (i j : RequesterSide) (left given : Option (List ℕ)) (end : ClientEnd)
+    → IsReadyAt at left w → at < input_max → 0 < length w.kept → piece ≡ w.kept → IsOfCall end → FailsToWrite uid gid file piece at c d i j end → StreamsTo uid gid file at w c d i j left given left given (Err end)
+failed_by uid gid file piece at w c d i j left given end ready below some same of fails =
+    streams_failed uid gid file at w c d i j left given end ready below some of (subst (λ (l : List ℕ). FailsToWrite uid gid file l at c d i j end) same fails)
+
+-- ---- Before the file is created
+
+-- CREATE has no handle
+pub create_ended : (uid gid : ℕ) (dir name : List ℕ) (b c : LinkBytes) (h i : RequesterSide) (left given left' given' : Option (List ℕ)) (w : WindowState) (end : ClientEnd)
+    → HandsOut left given left' given' w.kept → IsReadyAt 0 left' w → IsOfCall end → Asks {A = List ℕ} created_file (create_call uid gid dir name) b c h i (Err end)
+    → WritesFile uid gid dir name b c h i left given left' given' (Err end)
+create_ended uid gid dir name b c h i left given left' given' w end hands ready of asked =
+    let rest : List ℕ = known_rest left' in
+    let may : MayFollow w.ended rest = rest_may_follow w.ended left' ready.ends in
+    let same : length (piece_at (w.kept ++ rest) 0) ≡ length w.kept = ap (λ (l : List ℕ). length l) (piece_is [] w.kept rest 0 w.ended refl (omega arith) ready.full ready.within may) in
+    record {
+      handed = w.kept;
+      rest = rest;
       hands_out = hands;
+      is_rest = rest_is_known left';
+      is_read = read_of_call end w.kept rest of;
+      begins = inr (omega (arith, same));
+      calls = FollowsInput (create_failed uid gid dir name (w.kept ++ rest) b c h i end asked) 0 (omega (arith, ready.within, wanted_within 0));
+    }
+
+-- what was read at first
+first_takes : (wanted : ℕ) (left given left' given' : Option (List ℕ)) (w v : WindowState) → wanted ≡ wanted_at 0 → w ≡ record { kept = []; ended = false } → TakesMore wanted left given left' given' w v
+    → TakesMore (wanted_at 0) left given left' given' (record { kept = []; ended = false }) v
+first_takes wanted left given left' given' w v is empty takes =
+    subst (λ (n : ℕ). TakesMore n left given left' given' (record { kept = []; ended = false }) v) is (subst (λ (x : WindowState). TakesMore wanted left given left' given' x v) empty takes)
+
+pub first_handed : (wanted : ℕ) (left given left' given' : Option (List ℕ)) (w v : WindowState) → wanted ≡ wanted_at 0 → w ≡ record { kept = []; ended = false } → TakesMore wanted left given left' given' w v
+    → HandsOut left given left' given' v.kept
+first_handed wanted left given left' given' w v is empty takes =
+    let first = first_takes wanted left given left' given' w v is empty takes in
+    subst (λ (l : List ℕ). HandsOut left given left' given' l) (sym first.kept) first.hands_out
+
+-- a read of the first bytes failed
+pub read_failed : (uid gid : ℕ) (dir name : List ℕ) (b : LinkBytes) (h : RequesterSide) (wanted : ℕ) (left given left' given' : Option (List ℕ)) (w v : WindowState)
+    → wanted ≡ wanted_at 0 → w ≡ record { kept = []; ended = false } → TakesMore wanted left given left' given' w v → WritesFile uid gid dir name b b h h left given left' given' (Err client.InputFault)
+read_failed uid gid dir name b h wanted left given left' given' w v is empty takes =
+    let first = first_takes wanted left given left' given' w v is empty takes in
+    let len : length v.kept ≡ length first.more = ap (λ (l : List ℕ). length l) first.kept in
+    record {
+      handed = first.more;
+      rest = known_rest left';
+      hands_out = first.hands_out;
       is_rest = rest_is_known left';
       is_read = tt;
-      calls = inr (refl, (refl, refl));
-    })
-input_failed uid gid dir name b h left given left' given' end (handed, hands) (inr is) =
-    subst (λ (e : ClientEnd). WritesFile uid gid dir name b b h h left given left' given' (Err e)) (sym is) (record {
-      handed = handed;
-      rest = known_rest left';
-      hands_out = hands;
-      is_rest = rest_is_known left';
+      begins = inl (refl, refl);
+      calls = InputFails [] refl (refl, refl) (omega (arith, len, first.within, wanted_within 0));
+    }
+
+-- there is no memory for a window
+pub no_window : (uid gid : ℕ) (dir name : List ℕ) (b : LinkBytes) (h : RequesterSide) (left given : Option (List ℕ)) → WritesFile uid gid dir name b b h h left given left given (Err client.Memory)
+no_window uid gid dir name b h left given =
+    record {
+      handed = [];
+      rest = known_rest left;
+      hands_out = HandsOut_nil left given;
+      is_rest = rest_is_known left;
       is_read = tt;
-      calls = inl (record {
-        outcomes = [];
-        between = b;
-        side = h;
-        made = (refl, refl);
-        ends = (client.Memory, (refl, inr (refl, (refl, refl))));
-      });
-    })
-
--- ---- Reading it
-
--- a read that failed
-pub hands_kept : (left given left' given' left'' given'' : Option (List ℕ)) (bytes : List ℕ) → HandsOut left given left' given' bytes → Keeps left' left'' → Keeps given' given''
-    → HandsOut left given left'' given'' bytes
-hands_kept left given left' given' left'' given'' bytes first kept kept_given =
-    record {
-      from_left = Consumes-kept left left' left'' bytes first.from_left kept;
-      to_given = Appends-kept given given' given'' bytes first.to_given kept_given;
+      begins = inl (refl, refl);
+      calls = FollowsInput (record { outcomes = []; between = b; side = h; made = (refl, refl); ends = (client.Memory, (refl, inr (refl, (refl, refl)))) }) 0 (omega arith);
     }
-
--- ---- The loop, by the bytes that are kept of an input
-
-pub step_by : (uid gid : ℕ) (dir name input kept : List ℕ) (b c d : LinkBytes) (h i j : RequesterSide) (file : List ℕ) (at at' : ℕ)
-    → take input_max input ≡ kept → at < length kept → WriteSoFar uid gid dir name input b c h i file at
-    → WritesOn uid gid file (take transfer_max (drop at kept)) at at' c d i j → WriteSoFar uid gid dir name input b d h j file at'
-step_by uid gid dir name input kept b c d h i j file at at' same below so_far on =
-    write_stepped uid gid dir name input b c d h i j file (take transfer_max (drop at kept)) at at'
-    (subst (λ (l : List ℕ). at < length l) (sym same) below) (ap (λ (l : List ℕ). take transfer_max (drop at l)) (sym same)) so_far on
-
-pub failed_by : (uid gid : ℕ) (dir name bytes rest kept : List ℕ) (b c d : LinkBytes) (h i j : RequesterSide) (file : List ℕ) (at : ℕ) (end : ClientEnd)
-    → kept ≡ take input_max bytes → IsEnough bytes rest → at < length kept
-    → WriteSoFar uid gid dir name (bytes ++ rest) b c h i file at
-    → FailsToWrite uid gid file (take transfer_max (drop at kept)) at c d i j end → Follows (writing uid gid dir name (bytes ++ rest)) b d h j (Err end)
-failed_by uid gid dir name bytes rest kept b c d h i j file at end is complete below so_far fails =
-    let same : take input_max (bytes ++ rest) ≡ kept = kept_is bytes rest complete ∙ sym is in
-    write_failed uid gid dir name (bytes ++ rest) b c d h i j file (take transfer_max (drop at kept)) at end
-    (subst (λ (l : List ℕ). at < length l) (sym same) below) (ap (λ (l : List ℕ). take transfer_max (drop at l)) (sym same)) so_far fails
-
-pub all_by : (uid gid : ℕ) (dir name bytes rest kept : List ℕ) (b c : LinkBytes) (h i : RequesterSide) (file : List ℕ) (at : ℕ)
-    → kept ≡ take input_max bytes → IsEnough bytes rest → length kept ≤ at → length bytes ≤ input_max
-    → WriteSoFar uid gid dir name (bytes ++ rest) b c h i file at → Follows (writing uid gid dir name (bytes ++ rest)) b c h i (Ok tt)
-all_by uid gid dir name bytes rest kept b c h i file at is complete above within so_far =
-    let same : take input_max (bytes ++ rest) ≡ kept = kept_is bytes rest complete ∙ sym is in
-    write_completed uid gid dir name (bytes ++ rest) b c h i file at (Ok tt) (subst (λ (l : List ℕ). length l ≤ at) (sym same) above) so_far
-    (all_written bytes rest complete within) refl
-
-pub beyond_by : (uid gid : ℕ) (dir name bytes rest kept : List ℕ) (b c : LinkBytes) (h i : RequesterSide) (file : List ℕ) (at : ℕ)
-    → kept ≡ take input_max bytes → IsEnough bytes rest → length kept ≤ at → input_max < length bytes
-    → WriteSoFar uid gid dir name (bytes ++ rest) b c h i file at → Follows (writing uid gid dir name (bytes ++ rest)) b c h i (Err (client.Budget input_max))
-beyond_by uid gid dir name bytes rest kept b c h i file at is complete above beyond so_far =
-    let same : take input_max (bytes ++ rest) ≡ kept = kept_is bytes rest complete ∙ sym is in
-    write_completed uid gid dir name (bytes ++ rest) b c h i file at (Err (client.Budget input_max)) (subst (λ (l : List ℕ). length l ≤ at) (sym same) above) so_far
-    (more_came bytes rest beyond) refl
-
--- ---- One WRITE, by the bytes that it sends
-
-pub writes_on : (uid gid : ℕ) (file piece bytes : List ℕ) (at at' count : ℕ) (b c : LinkBytes) (h i : RequesterSide) (outcome : Outcome)
-    → piece ≡ bytes → Answers b c h i (write_call uid gid file at piece) outcome → write_result (length piece) outcome ≡ Ok count → at' ≡ at + count
-    → WritesOn uid gid file bytes at at' b c h i
-writes_on uid gid file piece bytes at at' count b c h i outcome same answered reads goes =
-    record {
-      outcome = outcome;
-      count = count;
-      answered = subst (λ (l : List ℕ). Answers b c h i (write_call uid gid file at l) outcome) same answered;
-      reads = subst (λ (l : List ℕ). write_result (length l) outcome ≡ Ok count) same reads;
-      offset = goes;
-    }
-
-pub write_unanswered : (uid gid : ℕ) (file piece bytes : List ℕ) (at : ℕ) (b c : LinkBytes) (h i : RequesterSide) (end : ClientEnd)
-    → piece ≡ bytes → Unanswered (write_call uid gid file at piece) b c h i end → FailsToWrite uid gid file bytes at b c h i end
-write_unanswered uid gid file piece bytes at b c h i end same unanswered =
-    inl (subst (λ (l : List ℕ). Unanswered (write_call uid gid file at l) b c h i end) same unanswered)
-
-pub write_answered : (uid gid : ℕ) (file piece bytes : List ℕ) (at : ℕ) (b c : LinkBytes) (h i : RequesterSide) (end : ClientEnd) (outcome : Outcome)
-    → piece ≡ bytes → Answers b c h i (write_call uid gid file at piece) outcome → Gives {A = ℕ} (Err end) (write_result (length piece) outcome)
-    → FailsToWrite uid gid file bytes at b c h i end
-write_answered uid gid file piece bytes at b c h i end outcome same answered gives =
-    inr (
-      outcome,
-      (
-        subst (λ (l : List ℕ). Answers b c h i (write_call uid gid file at l) outcome) same answered,
-        subst (λ (l : List ℕ). Gives {A = ℕ} (Err end) (write_result (length l) outcome)) same gives,
-      ),
-    )
-
--- a count of what was sent stays within the bytes
-pub count_within : (bytes piece : List ℕ) (at count : ℕ) → at < length bytes → piece ≡ take transfer_max (drop at bytes) → count ≤ length piece → at + count ≤ length bytes
-count_within bytes piece at count below is within =
-    let n : length piece ≤ length (drop at bytes) =
-    subst (λ (l : List ℕ). length l ≤ length (drop at bytes)) (sym is) (omega (arith, length-take transfer_max (drop at bytes))) in
-    omega (arith, below, within, n, length-drop at bytes)

@@ -4,6 +4,7 @@ pub mod FileEnds
 pub mod FilePieces
 pub mod FileReading
 pub mod FileWriting
+pub mod InputWindows
 pub mod Listings
 pub mod Moves
 pub mod Outcomes

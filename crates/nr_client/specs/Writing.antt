@@ -1,5 +1,5 @@
 -- How a file is written: CREATE makes it, and WRITEs give it the bytes of an input, in order.
-use Rattle.std.specs.Prelude.{◌≡◌, ℕ, ◌+◌, ◌<◌, ◌||◌, ◌==◌, nat_lt, ⊤, if◌then◌else◌, ◌⊎◌, List, [], ◌++◌, length, take, drop, fold, Option, Some, None, IfSome, Result, Ok, Err}
+use Rattle.std.specs.Prelude.{◌≡◌, ℕ, ◌+◌, ◌<◌, ◌≤◌, ◌||◌, ◌==◌, nat_lt, ⊤, if◌then◌else◌, ◌⊎◌, List, [], ◌++◌, length, take, drop, fold, Option, Some, None, IfSome, Result, Ok, Err}
 use Rattle.nr_xdr.specs.Items.{encodings}
 use Rattle.nr_nfs_base.specs.Limits.{transfer_max}
 use Rattle.nr_nfs_base.specs.Procedures.{nfs_procedure_number, nfs_program, nfs_version}
@@ -23,7 +23,7 @@ use Rattle.nr_reduce.specs.declared.call.Outcome.{Outcome}
 use Rattle.nr_requester.specs.RequesterState.{RequesterSide}
 use Rattle.nr_client.specs.declared.client_end.ClientEnd.{ClientEnd}
 use Rattle.nr_client.specs.declared.client_end.ClientEnd.TheVariants as client
-use Rattle.nr_client.specs.Following.{Follows, Next}
+use Rattle.nr_client.specs.Following.{Follows, MakesCalls, Next}
 use Rattle.nr_client.specs.Following.Next.{Calls, Returns}
 use Rattle.nr_client.specs.Listing.{no_progress}
 use Rattle.nr_client.specs.Reading.{post_op_attr_len, results_offset}
@@ -130,13 +130,28 @@ IsRead (Ok done) handed rest = rest ≡ []
 IsRead (Err (client.Budget count)) handed rest = input_max < length handed
 IsRead (Err end) handed rest = ⊤
 
--- A file was written from an input: its calls were made in order, by all the bytes of the input, those that were read and the rest. Or the
--- input failed, and no call was made.
+-- How far an input may have been read, by what the replies so far say: at most one piece beyond the bytes that were written, and no further once a
+-- reply ended the request.
+abbrev pub IsReadAhead : FileWrite → List ℕ → Type 0
+IsReadAhead NotCreated handed = length handed ≤ transfer_max
+IsReadAhead (Created file at) handed = length handed ≤ at + transfer_max
+IsReadAhead (WriteEnds end) handed = ⊥
+
+-- How the calls end by which a file is written from an input, of which these bytes were read and these not. They follow from all its bytes and the
+-- replies, and some first replies had come when the last of the bytes were read. Or the first calls were made and answered, and then a read failed.
+pub data EndsWriting (uid gid : ℕ) (dir name handed rest : List ℕ) (b b' : LinkBytes) (h h' : RequesterSide) (result : Result (Unit {0}) ClientEnd) : Type 0 where
+  FollowsInput : (follows : Follows (writing uid gid dir name (handed ++ rest)) b b' h h' result) → (count : ℕ)
+      → IsReadAhead (file_write (handed ++ rest) (take count follows.outcomes)) handed → EndsWriting uid gid dir name handed rest b b' h h' result
+  InputFails : (outcomes : List Outcome) → result ≡ Err client.InputFault → MakesCalls (writing uid gid dir name (handed ++ rest)) outcomes b b' h h'
+      → IsReadAhead (file_write (handed ++ rest) outcomes) handed → EndsWriting uid gid dir name handed rest b b' h h' result
+
+-- A file was written from an input, which is all the bytes that were read and the rest. What the first WRITE sends was read before anything was done
+-- on the link.
 pub record WritesFile (uid gid : ℕ) (dir name : List ℕ) (b b' : LinkBytes) (h h' : RequesterSide) (left given left' given' : Option (List ℕ)) (result : Result (Unit {0}) ClientEnd) : Type 0 where
   pub handed : List ℕ
   pub rest : List ℕ
   pub hands_out : HandsOut left given left' given' handed
   pub is_rest : IfSome left' (λ known. rest ≡ known)
   pub is_read : IsRead result handed rest
-  pub calls : Follows (writing uid gid dir name (handed ++ rest)) b b' h h' result
-      ⊎ ((result ≡ Err client.InputFault) × ((b' ≡ b) × (h' ≡ h)))
+  pub begins : ((b' ≡ b) × (h' ≡ h)) ⊎ (length (piece_at (handed ++ rest) 0) ≤ length handed)
+  pub calls : EndsWriting uid gid dir name handed rest b b' h h' result

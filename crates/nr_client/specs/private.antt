@@ -3,3 +3,4 @@ pub mod Becomes
 pub mod Pieces
 pub mod FileSteps
 pub mod OpenReads
+pub mod InputWindows

@@ -8,6 +8,7 @@ mod calling;
 mod client_end;
 mod file_calls;
 mod file_results;
+mod input_window;
 mod limits;
 mod link;
 mod listing;

@@ -1,117 +1,57 @@
 //! A file is written from an input.
 
-ghost use Rattle.std.specs.Prelude.{Err, ◌≡◌, ◌<◌, ◌≤◌, ◌⊎◌, List, ℕ, [], ◌++◌, length, take, drop, OnOk, IfErr, OnErr};
+ghost use Rattle.std.specs.Prelude.{◌≡◌, ◌+◌, ◌<◌, ◌≤◌, List, ℕ, Option, length, IfOk, OnOk, IfErr, OnErr};
 ghost use Rattle.nr_nfs_base.specs.Limits.{transfer_max};
-ghost use Rattle.nr_client.specs.declared.client_end.ClientEnd.TheVariants as client;
 ghost use Rattle.nr_outside.specs.Content.{HandsOut};
 ghost use Rattle.nr_outside.specs.Whole.{input_max};
-ghost use Rattle.nr_client.specs.Following.{Follows};
 ghost use Rattle.nr_client.specs.Reading.{InputFaults};
 ghost use Rattle.nr_client.specs.Requests.{Asks, SinkFaults, SourceFaults};
 ghost use Rattle.nr_client.specs.Results.{IsOfCall};
 ghost use Rattle.nr_client.specs.Transfers.{link_bytes};
-ghost use Rattle.nr_client.specs.Writing.{WritesFile, create_call, created_file, writing};
-ghost use Rattle.nr_client.specs.private.FileSteps.{FailsToWrite, IsComplete, IsEnough, WritesOn};
+ghost use Rattle.nr_client.specs.Writing.{WritesFile, create_call, created_file};
+ghost use Rattle.nr_client.specs.private.FileSteps.{FailsToWrite, StreamsOn, StreamsTo, WritesOn};
+ghost use Rattle.nr_client.specs.private.InputWindows.{IsReadyAt, wanted_at};
 
 use crate::answer::outcome_of;
 use crate::client_end::ClientEnd;
 use crate::file_calls::{create_call, write_call};
 use crate::file_results::{created_in, written_in};
+use crate::input_window::InputWindow;
 use crate::link::Link;
 use nr_nfs_base::{Handle, Name, TRANSFER_MAX};
 use nr_outside::{INPUT_MAX, Sink, Source};
 use std::alloc::Global;
 
-/// The maximum number of bytes that one read of the input asks for.
-const INPUT_PIECE_MAX: usize = 65536;
-
-/// Reads an input to its end, or until more than the maximum came, through this buffer.
-fn read_through<N: Source>(
-    input: &mut N,
-    piece: &mut [u8],
-    bytes: &mut Vec<u8>,
-) -> Result<(), ClientEnd>
-    requires start { bytes.old.items ≡ [] }
-    requires room { 0 < length piece.old }
-    ensures handed { OnOk result (HandsOut (N.left input.old) (N.given input.old) (N.left input.new) (N.given input.new) bytes.new.items) }
-    ensures complete { OnOk result (IsComplete bytes.new.items (N.left input.new)) }
-    ensures err { OnErr result ((handed : List ℕ) × HandsOut (N.left input.old) (N.given input.old) (N.left input.new) (N.given input.new) handed) }
-    ensures faults { InputFaults result (N.faults input.old) (N.faults input.new) }
-    ensures cause { IfErr result (λ end. (end ≡ client.InputFault) ⊎ (end ≡ client.Memory)) }
+/// How many bytes of the input are wanted at this offset: what the next WRITE sends; at the maximum, one that tells that more came.
+fn wanted_at(at: usize) -> usize
+    ensures is { result ≡ wanted_at at }
+    ensures within { result ≤ transfer_max }
 {
-    while bytes.len() <= INPUT_MAX {
-        let n = match input.read(piece) {
-            Ok(n) => n,
-            Err(_) => return Err(ClientEnd::InputFault),
-        };
-        if n == 0 {
-            return Ok(());
-        }
-        match bytes.extend_from_slice(&piece[..n]) {
-            Ok(()) => {}
-            Err(_) => return Err(ClientEnd::Memory),
-        }
+    if at < INPUT_MAX {
+        (INPUT_MAX - at).min(TRANSFER_MAX as usize)
+    } else {
+        1
     }
-    Ok(())
 }
 
-/// Reads an input to its end, or until more than the maximum came.
-fn read_input<N: Source>(alloc: Global, input: &mut N, bytes: &mut Vec<u8>) -> Result<(), ClientEnd>
-    requires { bytes.old.items ≡ [] }
-    ensures handed { OnOk result (HandsOut (N.left input.old) (N.given input.old) (N.left input.new) (N.given input.new) bytes.new.items) }
-    ensures complete { OnOk result (IsComplete bytes.new.items (N.left input.new)) }
-    ensures err { OnErr result ((handed : List ℕ) × HandsOut (N.left input.old) (N.given input.old) (N.left input.new) (N.given input.new) handed) }
-    ensures faults { InputFaults result (N.faults input.old) (N.faults input.new) }
-    ensures cause { IfErr result (λ end. (end ≡ client.InputFault) ⊎ (end ≡ client.Memory)) }
-{
-    let Ok(mut piece) = vec![in alloc; 0u8; INPUT_PIECE_MAX] else {
-        return Err(ClientEnd::Memory);
-    };
-    let done = read_through(input, piece.as_mut_slice(), bytes);
-    drop(piece);
-    done
-}
-
-/// The first bytes, at most `max`.
-fn front(bytes: &[u8], max: usize) -> &[u8]
-    ensures is { result.now ≡ take max bytes.now }
-    ensures within { length result.now ≤ max }
-{
-    if bytes.len() <= max {
-        return bytes;
-    }
-    let (front, _) = bytes.split_at(max);
-    front
-}
-
-/// The bytes that a WRITE sends.
-fn next_piece(bytes: &[u8], at: usize) -> &[u8]
-    requires { at ≤ length bytes.now }
-    ensures is { result.now ≡ take transfer_max (drop at bytes.now) }
-    ensures within { length result.now ≤ transfer_max }
-{
-    let (_, rest) = bytes.split_at(at);
-    front(rest, TRANSFER_MAX as usize)
-}
-
-/// One WRITE, of the next bytes, as many as it moves.
-fn write_on<I: Source, O: Sink>(
+/// One WRITE. Gives how many bytes it wrote.
+fn write_piece<I: Source, O: Sink>(
     alloc: Global,
     link: &mut Link<I, O>,
     uid: u32,
     gid: u32,
     file: &Handle,
-    bytes: &[u8],
-    at: &mut usize,
-) -> Result<(), ClientEnd>
-    requires { at.old < length bytes.now }
-    ensures ok { OnOk result (WritesOn uid gid file.now (take transfer_max (drop at.old bytes.now)) at.old at.new
+    piece: &[u8],
+    at: usize,
+) -> Result<usize, ClientEnd>
+    requires { length piece.now ≤ transfer_max }
+    ensures ok { IfOk result (λ count. WritesOn uid gid file.now piece.now at (at + count)
         (link_bytes (I.left link.old.source) (I.given link.old.source) (O.taken link.old.sink) link.old.read)
         (link_bytes (I.left link.new.source) (I.given link.new.source) (O.taken link.new.sink) link.new.read)
         link.old.requester link.new.requester) }
-    ensures more { OnOk result (at.old < at.new) }
-    ensures within { OnOk result (at.new ≤ length bytes.now) }
-    ensures err { IfErr result (λ end. FailsToWrite uid gid file.now (take transfer_max (drop at.old bytes.now)) at.old
+    ensures more { IfOk result (λ count. 0 < count) }
+    ensures within { IfOk result (λ count. count ≤ length piece.now) }
+    ensures err { IfErr result (λ end. FailsToWrite uid gid file.now piece.now at
         (link_bytes (I.left link.old.source) (I.given link.old.source) (O.taken link.old.sink) link.old.read)
         (link_bytes (I.left link.new.source) (I.given link.new.source) (O.taken link.new.sink) link.new.read)
         link.old.requester link.new.requester end) }
@@ -119,8 +59,7 @@ fn write_on<I: Source, O: Sink>(
     ensures source_faults { SourceFaults result (I.faults link.old.source) (I.faults link.new.source) }
     ensures sink_faults { SinkFaults result (O.faults link.old.sink) (O.faults link.new.sink) }
 {
-    let piece = next_piece(bytes, *at);
-    let outcome = match outcome_of(link, write_call(alloc, uid, gid, file, *at as u64, piece)) {
+    let outcome = match outcome_of(link, write_call(alloc, uid, gid, file, at as u64, piece)) {
         Ok(outcome) => outcome,
         Err(end) => return Err(end),
     };
@@ -132,7 +71,80 @@ fn write_on<I: Source, O: Sink>(
         }
     };
     drop(outcome);
-    *at += written as usize;
+    Ok(written as usize)
+}
+
+/// One WRITE, of the bytes in the window. Those that it wrote leave the window, and the input is read until it is full again.
+fn write_next<I: Source, O: Sink, N: Source>(
+    alloc: Global,
+    link: &mut Link<I, O>,
+    uid: u32,
+    gid: u32,
+    file: &Handle,
+    window: &mut InputWindow,
+    input: &mut N,
+    at: &mut usize,
+) -> Result<(), ClientEnd>
+    requires below { at.old < input_max }
+    requires some { 0 < length window.old.kept }
+    requires ready { IsReadyAt at.old (N.left input.old) window.old }
+    ensures ready { OnOk result (IsReadyAt at.new (N.left input.new) window.new) }
+    ensures more { OnOk result (at.old < at.new) }
+    ensures ok { OnOk result (StreamsOn uid gid file.now at.old at.new window.old window.new
+        (link_bytes (I.left link.old.source) (I.given link.old.source) (O.taken link.old.sink) link.old.read)
+        (link_bytes (I.left link.new.source) (I.given link.new.source) (O.taken link.new.sink) link.new.read)
+        link.old.requester link.new.requester (N.left input.old) (N.given input.old) (N.left input.new) (N.given input.new)) }
+    ensures err { OnErr result (StreamsTo uid gid file.now at.old window.old
+        (link_bytes (I.left link.old.source) (I.given link.old.source) (O.taken link.old.sink) link.old.read)
+        (link_bytes (I.left link.new.source) (I.given link.new.source) (O.taken link.new.sink) link.new.read)
+        link.old.requester link.new.requester (N.left input.old) (N.given input.old) (N.left input.new) (N.given input.new) result) }
+    ensures input_faults { InputFaults result (N.faults input.old) (N.faults input.new) }
+    ensures source_faults { SourceFaults result (I.faults link.old.source) (I.faults link.new.source) }
+    ensures sink_faults { SinkFaults result (O.faults link.old.sink) (O.faults link.new.sink) }
+{
+    let count = match write_piece(alloc, link, uid, gid, file, window.kept(), *at) {
+        Ok(count) => count,
+        Err(end) => return Err(end),
+    };
+    window.discard(count);
+    *at += count;
+    match window.fill(input, wanted_at(*at)) {
+        Ok(()) => Ok(()),
+        Err(_) => Err(ClientEnd::InputFault),
+    }
+}
+
+/// Writes a file that is empty from an input, of which the first bytes are in the window.
+fn write_pieces<I: Source, O: Sink, N: Source>(
+    alloc: Global,
+    link: &mut Link<I, O>,
+    uid: u32,
+    gid: u32,
+    file: &Handle,
+    window: &mut InputWindow,
+    input: &mut N,
+) -> Result<(), ClientEnd>
+    requires { IsReadyAt 0 (N.left input.old) window.old }
+    ensures writes { StreamsTo uid gid file.now 0 window.old
+        (link_bytes (I.left link.old.source) (I.given link.old.source) (O.taken link.old.sink) link.old.read)
+        (link_bytes (I.left link.new.source) (I.given link.new.source) (O.taken link.new.sink) link.new.read)
+        link.old.requester link.new.requester (N.left input.old) (N.given input.old) (N.left input.new) (N.given input.new) result }
+    ensures input_faults { InputFaults result (N.faults input.old) (N.faults input.new) }
+    ensures source_faults { SourceFaults result (I.faults link.old.source) (I.faults link.new.source) }
+    ensures sink_faults { SinkFaults result (O.faults link.old.sink) (O.faults link.new.sink) }
+{
+    let mut at = 0;
+    'pieces: while at < INPUT_MAX && window.len() > 0 {
+        match write_next(alloc, link, uid, gid, file, window, input, &mut at) {
+            Ok(()) => {}
+            Err(end) => return Err(end),
+        }
+    }
+    if window.len() > 0 {
+        return Err(ClientEnd::Budget {
+            count: INPUT_MAX as u64,
+        });
+    }
     Ok(())
 }
 
@@ -160,23 +172,24 @@ fn create_over<I: Source, O: Sink>(
     created_in(alloc, &outcome)
 }
 
-/// Makes a file with the first bytes of an input, up to its maximum.
-fn write_bytes<I: Source, O: Sink>(
+/// Makes a file, and writes it from an input, of which the first bytes are in the window.
+fn write_window<I: Source, O: Sink, N: Source>(
     alloc: Global,
     link: &mut Link<I, O>,
     uid: u32,
     gid: u32,
     dir: &Handle,
     name: &Name,
-    bytes: &[u8],
+    window: &mut InputWindow,
+    input: &mut N,
 ) -> Result<(), ClientEnd>
-    ensures follows { (rest : List ℕ) → IsEnough bytes.now rest → Follows (writing uid gid dir.now name.now (bytes.now ++ rest))
+    requires { IsReadyAt 0 (N.left input.old) window.old }
+    ensures writes { (left given : Option (List ℕ)) → HandsOut left given (N.left input.old) (N.given input.old) window.old.kept
+        → WritesFile uid gid dir.now name.now
         (link_bytes (I.left link.old.source) (I.given link.old.source) (O.taken link.old.sink) link.old.read)
         (link_bytes (I.left link.new.source) (I.given link.new.source) (O.taken link.new.sink) link.new.read)
-        link.old.requester link.new.requester result }
-    ensures within { OnOk result (length bytes.now ≤ input_max) }
-    ensures beyond { (count : ℕ) → result ≡ Err (client.Budget count) → input_max < length bytes.now }
-    ensures faults { (count : ℕ) → InputFaults result count count }
+        link.old.requester link.new.requester left given (N.left input.new) (N.given input.new) result }
+    ensures input_faults { InputFaults result (N.faults input.old) (N.faults input.new) }
     ensures source_faults { SourceFaults result (I.faults link.old.source) (I.faults link.new.source) }
     ensures sink_faults { SinkFaults result (O.faults link.old.sink) (O.faults link.new.sink) }
 {
@@ -184,24 +197,9 @@ fn write_bytes<I: Source, O: Sink>(
         Ok(file) => file,
         Err(end) => return Err(end),
     };
-    let kept = front(bytes, INPUT_MAX);
-    let mut at = 0;
-    while at < kept.len() {
-        match write_on(alloc, link, uid, gid, &file, kept, &mut at) {
-            Ok(()) => {}
-            Err(end) => {
-                drop(file);
-                return Err(end);
-            }
-        }
-    }
+    let result = write_pieces(alloc, link, uid, gid, &file, window, input);
     drop(file);
-    if bytes.len() > INPUT_MAX {
-        return Err(ClientEnd::Budget {
-            count: INPUT_MAX as u64,
-        });
-    }
-    Ok(())
+    result
 }
 
 /// Writes a file from an input.
@@ -222,15 +220,17 @@ pub(crate) fn write_file_over<I: Source, O: Sink, N: Source>(
     ensures source_faults { SourceFaults result (I.faults link.old.source) (I.faults link.new.source) }
     ensures sink_faults { SinkFaults result (O.faults link.old.sink) (O.faults link.new.sink) }
 {
-    let mut bytes = Vec::new(alloc);
-    match read_input(alloc, input, &mut bytes) {
+    let Ok(mut window) = InputWindow::new(alloc) else {
+        return Err(ClientEnd::Memory);
+    };
+    match window.fill(input, wanted_at(0)) {
         Ok(()) => {}
-        Err(end) => {
-            drop(bytes);
-            return Err(end);
+        Err(_) => {
+            drop(window);
+            return Err(ClientEnd::InputFault);
         }
     }
-    let result = write_bytes(alloc, link, uid, gid, dir, name, bytes.as_slice());
-    drop(bytes);
+    let result = write_window(alloc, link, uid, gid, dir, name, &mut window, input);
+    drop(window);
     result
 }

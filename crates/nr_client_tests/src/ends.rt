@@ -480,7 +480,7 @@ client-hello mnt lookup-a getattr-a read-a read-rest|7|nfs 5;||he\n\
 get here / /a|\
 server-hello mounted found-a attributes-a read-2|\
 client-hello mnt lookup-a getattr-a read-a read-rest|4|link closed;||he\n\
-# A read of standard input fails: at once, and after 5 bytes. No file is made.\n\
+# A read of standard input fails: at once, and after 5 bytes, before the end is found. No file is made.\n\
 put here / /a|server-hello mounted created-a|client-hello mnt|9|input fault;|input 0\n\
 put here / /a|server-hello mounted created-a|client-hello mnt|9|input fault;|input 1\n\
 # The reason can't be written to standard error.\n\

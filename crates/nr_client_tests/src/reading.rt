@@ -163,7 +163,7 @@ fn file_byte(at: usize) -> u8 {
 }
 
 /// Appends bytes of the file.
-fn push_bytes(rt: &impl Abort, bytes: &mut Vec<u8>, from: usize, to: usize) {
+pub(crate) fn push_bytes(rt: &impl Abort, bytes: &mut Vec<u8>, from: usize, to: usize) {
     for at in from..to {
         bytes.push(file_byte(at)).expect(rt, "memory");
     }

@@ -198,9 +198,16 @@ fn same_texts(rt: &impl Abort, alloc: Global, row: usize, case: Case, out: &[u8]
 }
 
 /// Runs a client, and compares its status and what it prints and reports.
-fn same_run(rt: &impl Abort, alloc: Global, row: usize, case: Case, dial: &mut MemDialer) {
+fn same_run(
+    rt: &impl Abort,
+    alloc: Global,
+    row: usize,
+    case: Case,
+    input: &[u8],
+    dial: &mut MemDialer,
+) {
     let words = words(rt, alloc, case.line);
-    let mut input = source(rt, alloc, INPUT, faults(rt, alloc, case.fault, "input"));
+    let mut input = source(rt, alloc, input, faults(rt, alloc, case.fault, "input"));
     let mut out = MemSink::new(alloc, faults(rt, alloc, case.fault, "out"));
     let mut err = MemSink::new(alloc, faults(rt, alloc, case.fault, "err"));
     let status = run_client(
@@ -218,17 +225,22 @@ fn same_run(rt: &impl Abort, alloc: Global, row: usize, case: Case, dial: &mut M
 }
 
 /// Runs a client, and compares its status and what it prints, reports and sends.
-fn same_case(rt: &impl Abort, alloc: Global, row: usize, case: Case) {
+fn same_case(rt: &impl Abort, alloc: Global, row: usize, case: Case, input: &[u8]) {
     let mut dial = dialer(rt, alloc, case.received, case.fault);
-    same_run(rt, alloc, row, case, &mut dial);
+    same_run(rt, alloc, row, case, input, &mut dial);
     same_sent(rt, alloc, row, dial.ended().last(), case.sent);
+}
+
+/// Runs the clients of a text, each with this input.
+pub(crate) fn same_cases_of(rt: &impl Abort, alloc: Global, input: &[u8], text: &str) {
+    for (row, text) in text.lines().enumerate() {
+        if !text.starts_with('#') {
+            same_case(rt, alloc, row, read_case(rt, text), input);
+        }
+    }
 }
 
 /// Runs the clients of a text.
 pub(crate) fn same_cases(rt: &impl Abort, alloc: Global, text: &str) {
-    for (row, text) in text.lines().enumerate() {
-        if !text.starts_with('#') {
-            same_case(rt, alloc, row, read_case(rt, text));
-        }
-    }
+    same_cases_of(rt, alloc, INPUT, text);
 }

@@ -1,20 +1,19 @@
 -- A file is read, or written.
-use Rattle.std.proofs.Common.{◌≡◌, ℕ, ◌⊎◌, List, [], ◌∷◌, ◌++◌, Option, Result, Ok, Err, inl, inr, sym, ap, subst}
+use Rattle.std.proofs.Common.{ℕ, List, [], ◌∷◌, ◌++◌, Option, Result, Ok, sym, ap, subst}
 use Rattle.nr_requester.specs.RequesterState.{RequesterSide}
 use Rattle.nr_client.specs.declared.client_end.ClientEnd.{ClientEnd}
-use Rattle.nr_client.specs.declared.client_end.ClientEnd.TheVariants as client
-use Rattle.nr_client.specs.Following.{Follows}
 use Rattle.nr_client.specs.Reading.{EndsReading, LeadsBy, OpenRead, ReadStep, ReadingAt, ReadsFile, starts_at, xids_of}
 use Rattle.nr_client.specs.Reading.ReadStep.{MakesAlone, AsksAhead, TakesOldest}
 use Rattle.nr_client.specs.Reading.EndsReading.{EndsByReplies, OutputFails, NotAnswered, NotSubmitted, OldestForgotten}
 use Rattle.nr_client.specs.Transfers.{LinkBytes}
-use Rattle.nr_client.specs.Writing.{WritesFile, writing}
-use Rattle.nr_service_laws.specs.Exchanges.{giving_up, lost_by, read_exchanges, reading_end_exchanges, refused_by, step_exchanges, steps_exchanges, unanswered_exchanges, write_exchanges, write_exchanges_by}
+use Rattle.nr_client.specs.Writing.{EndsWriting, WritesFile, writing}
+use Rattle.nr_client.specs.Writing.EndsWriting.{FollowsInput, InputFails}
+use Rattle.nr_service_laws.specs.Exchanges.{giving_up, lost_by, made_exchanges, read_exchanges, reading_end_exchanges, refused_by, step_exchanges, steps_exchanges, unanswered_exchanges, write_exchanges, write_exchanges_by}
 use Rattle.nr_service_laws.specs.Exchanges.Exchange.{GivenUp}
 use Rattle.nr_service_laws.specs.SessionMarks.{HasDone}
 use Rattle.nr_service_laws.proofs.Extending.{does_both, does_none_at}
 use Rattle.nr_service_laws.proofs.OneCall.{does_answers, does_completes, does_forgets, does_giving_up, does_refuses, does_submits}
-use Rattle.nr_service_laws.proofs.SeveralCalls.{does_follows, does_unanswered}
+use Rattle.nr_service_laws.proofs.SeveralCalls.{does_any, does_follows, does_made, does_unanswered}
 
 does_step : (uid gid : ℕ) (file : List ℕ) (s t : ReadingAt) (step : ReadStep uid gid file s t)
     → HasDone {A = Unit {0}} (Ok tt) s.bytes t.bytes s.side t.side (step_exchanges uid gid file s t step)
@@ -51,11 +50,12 @@ does_reads uid gid file b c h i taken taken' given f =
     (does_steps uid gid file (starts_at b h) f.between f.last f.made)
     (does_giving_up given f.last.bytes c f.last.side f.side i (xids_of f.left) exchanges (does_reading_end uid gid file f.last f.left c f.side taken taken' given f.ends) f.forgets)
 
-does_writes_by : (uid gid : ℕ) (dir name input : List ℕ) (b c : LinkBytes) (h i : RequesterSide) (result : Result (Unit {0}) ClientEnd)
-    (w : Follows (writing uid gid dir name input) b c h i result ⊎ ((result ≡ Err client.InputFault) × ((c ≡ b) × (i ≡ h)))) → HasDone result b c h i (write_exchanges_by uid gid dir name input b c h i result w)
-does_writes_by uid gid dir name input b c h i result (inl follows) = does_follows (writing uid gid dir name input) b c h i result follows
-does_writes_by uid gid dir name input b c h i result (inr (is, same)) = does_none_at result b c h i same
+does_writes_by : (uid gid : ℕ) (dir name handed rest : List ℕ) (b c : LinkBytes) (h i : RequesterSide) (result : Result (Unit {0}) ClientEnd)
+    (w : EndsWriting uid gid dir name handed rest b c h i result) → HasDone result b c h i (write_exchanges_by uid gid dir name handed rest b c h i result w)
+does_writes_by uid gid dir name handed rest b c h i result (FollowsInput follows count ahead) = does_follows (writing uid gid dir name (handed ++ rest)) b c h i result follows
+does_writes_by uid gid dir name handed rest b c h i result (InputFails outcomes is made ahead) =
+    does_any result b c h i (made_exchanges (writing uid gid dir name (handed ++ rest)) outcomes b c h i made) (does_made (writing uid gid dir name (handed ++ rest)) outcomes b c h i made)
 
 pub does_writes : (uid gid : ℕ) (dir name : List ℕ) (b c : LinkBytes) (h i : RequesterSide) (left given left' given' : Option (List ℕ)) (result : Result (Unit {0}) ClientEnd)
     (w : WritesFile uid gid dir name b c h i left given left' given' result) → HasDone result b c h i (write_exchanges uid gid dir name b c h i left given left' given' result w)
-does_writes uid gid dir name b c h i left given left' given' result w = does_writes_by uid gid dir name (w.handed ++ w.rest) b c h i result w.calls
+does_writes uid gid dir name b c h i left given left' given' result w = does_writes_by uid gid dir name w.handed w.rest b c h i result w.calls

@@ -29,7 +29,8 @@ use Rattle.nr_client.specs.Results.{Gives}
 use Rattle.nr_client.specs.Steps.{IsLive}
 use Rattle.nr_client.specs.Transfers.{LinkBytes}
 use Rattle.nr_client.specs.Walking.{parent_next, walk_next}
-use Rattle.nr_client.specs.Writing.{writing}
+use Rattle.nr_client.specs.Writing.{EndsWriting, writing}
+use Rattle.nr_client.specs.Writing.EndsWriting.{FollowsInput, InputFails}
 use Rattle.nr_commands.specs.Commands.{Finds, FindsParent, IsSilent, Mounts, ReadsOut, Symlinks, WritesIn}
 use Rattle.nr_commands.specs.Sessions.{Fails, Part, Request, Requests, SessionAt, Text as Prints, Then}
 use Rattle.nr_service_laws.specs.ClientMarks.{StandsAt}
@@ -397,12 +398,12 @@ module _ (R : Call → Outcome → Type 0) (V : List ℕ → Type 0) (F : Client
       (reads_is R F uid gid file s.bytes s'.bytes s.requester s'.requester out.taken out'.taken done reads before opened link run (λ is. fault (output_rose done out.faults out'.faults counts.0 is))
       (reading_is R V F uid gid judge file holds) fine live are)
 
-  writes_is : (dir name input : List ℕ) (b c : LinkBytes) (h i : RequesterSide) (result : Result (Unit {0}) ClientEnd) (w : Follows (writing uid gid dir name input) b c h i result ⊎ ((result ≡ Err client.InputFault) × ((c ≡ b) × (i ≡ h))))
-      (before : List OpenRead) → (result ≡ Err client.InputFault → F client.InputFault) → AreJudged R before (write_exchanges_by uid gid dir name input b c h i result w).made → GivenIs Any F result c i
-  writes_is dir name input b c h i result (inl follows) before fault are =
-      follows_is R Any F (writing uid gid dir name input) b c h i result follows before (writing_is R V F uid gid judge dir name input) are
-  writes_is dir name input b c h i result (inr (is, same)) before fault are = subst (λ (r : Result (Unit {0}) ClientEnd). GivenIs Any F r c i) (sym is) (fault is)
+  writes_is : (dir name handed rest : List ℕ) (b c : LinkBytes) (h i : RequesterSide) (result : Result (Unit {0}) ClientEnd) (w : EndsWriting uid gid dir name handed rest b c h i result)
+      (before : List OpenRead) → (result ≡ Err client.InputFault → F client.InputFault) → AreJudged R before (write_exchanges_by uid gid dir name handed rest b c h i result w).made → GivenIs Any F result c i
+  writes_is dir name handed rest b c h i result (FollowsInput follows count ahead) before fault are =
+      follows_is R Any F (writing uid gid dir name (handed ++ rest)) b c h i result follows before (writing_is R V F uid gid judge dir name (handed ++ rest)) are
+  writes_is dir name handed rest b c h i result (InputFails outcomes is made ahead) before fault are = subst (λ (r : Result (Unit {0}) ClientEnd). GivenIs Any F r c i) (sym is) (fault is)
 
   pub writes_in_is : (dir name : List ℕ) (input input' : SourceAt) → (Rises input.faults input'.faults → F client.InputFault) → PartIs R Any F (WritesIn uid gid dir name input input') (tells_writes_in uid gid dir name input input')
   writes_in_is dir name input input' fault s s' text (done, ((writes, counts), silent)) before opened link run fine live are =
-      silent_is s' done text silent (writes_is dir name (writes.handed ++ writes.rest) s.bytes s'.bytes s.requester s'.requester done writes.calls before (λ is. fault (input_rose done input.faults input'.faults counts.0 is)) are)
+      silent_is s' done text silent (writes_is dir name writes.handed writes.rest s.bytes s'.bytes s.requester s'.requester done writes.calls before (λ is. fault (input_rose done input.faults input'.faults counts.0 is)) are)

@@ -16,7 +16,8 @@ use Rattle.nr_client.specs.Reading.EndsReading.{EndsByReplies, OutputFails, NotA
 use Rattle.nr_client.specs.Requests.{Asks, create_result, mnt_call, mnt_result, symlink_call}
 use Rattle.nr_client.specs.Transfers.{LinkBytes}
 use Rattle.nr_client.specs.Walking.{parent_next, walk_next}
-use Rattle.nr_client.specs.Writing.{writing}
+use Rattle.nr_client.specs.Writing.{EndsWriting, writing}
+use Rattle.nr_client.specs.Writing.EndsWriting.{FollowsInput, InputFails}
 use Rattle.nr_commands.specs.Commands.{Finds, FindsParent, IsSilent, Mounts, ReadsOut, Symlinks, WritesIn}
 use Rattle.nr_commands.specs.Sessions.{CountsFaults, Fails, Part, Request, Requests, SessionAt, Text as Prints, Then}
 use Rattle.nr_client.specs.Requests.{SinkFaults, SourceFaults}
@@ -79,12 +80,11 @@ reads_fine : (uid gid : ℕ) (file : List ℕ) (b c : LinkBytes) (h i : Requeste
 reads_fine uid gid file b c h i taken taken' given f are =
     reading_end_fine uid gid file f.last f.left c f.side taken taken' given f.ends (subst AreReplies (read_outcomes uid gid file b c h i taken taken' given f) are)
 
-writes_fine : (uid gid : ℕ) (dir name input : List ℕ) (b c : LinkBytes) (h i : RequesterSide) (result : Result (Unit {0}) ClientEnd)
-    (w : Follows (writing uid gid dir name input) b c h i result ⊎ ((result ≡ Err client.InputFault) × ((c ≡ b) × (i ≡ h))))
-    → AreReplies (outcomes_in (write_exchanges_by uid gid dir name input b c h i result w).made) → ResultCanFollowReplies result
-writes_fine uid gid dir name input b c h i result (inl follows) are =
-    follows_fine (writing uid gid dir name input) b c h i result follows (writing_fine uid gid dir name input) are
-writes_fine uid gid dir name input b c h i result (inr (is, same)) are = subst (λ (r : Result (Unit {0}) ClientEnd). ResultCanFollowReplies r) (sym is) tt
+writes_fine : (uid gid : ℕ) (dir name handed rest : List ℕ) (b c : LinkBytes) (h i : RequesterSide) (result : Result (Unit {0}) ClientEnd) (w : EndsWriting uid gid dir name handed rest b c h i result)
+    → AreReplies (outcomes_in (write_exchanges_by uid gid dir name handed rest b c h i result w).made) → ResultCanFollowReplies result
+writes_fine uid gid dir name handed rest b c h i result (FollowsInput follows count ahead) are =
+    follows_fine (writing uid gid dir name (handed ++ rest)) b c h i result follows (writing_fine uid gid dir name (handed ++ rest)) are
+writes_fine uid gid dir name handed rest b c h i result (InputFails outcomes is made ahead) are = subst (λ (r : Result (Unit {0}) ClientEnd). ResultCanFollowReplies r) (sym is) tt
 
 -- ---- Fault counts of two parts
 
@@ -185,4 +185,4 @@ part_reads_out uid gid file out out' s s' text (done, ((reads, counts), silent))
 pub part_writes_in : (uid gid : ℕ) (dir name : List ℕ) (input input' : SourceAt) → PartFine (WritesIn uid gid dir name input input') (tells_writes_in uid gid dir name input input')
 part_writes_in uid gid dir name input input' s s' text (done, ((writes, counts), silent)) are =
     silent_fine s s' done text silent counts.1
-    (writes_fine uid gid dir name (writes.handed ++ writes.rest) s.bytes s'.bytes s.requester s'.requester done writes.calls are)
+    (writes_fine uid gid dir name writes.handed writes.rest s.bytes s'.bytes s.requester s'.requester done writes.calls are)

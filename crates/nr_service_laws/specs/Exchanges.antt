@@ -1,5 +1,5 @@
 -- The calls that were submitted, and the outcomes that were handed over, by what the contracts of a session say.
-use Rattle.std.specs.Prelude.{◌≡◌, ℕ, Bool, true, false, ◌⊎◌, List, [], ◌∷◌, ◌++◌, length, map, nat_lt, Option, None, Some, Result, Ok, Err, MatchBool}
+use Rattle.std.specs.Prelude.{ℕ, Bool, true, false, List, [], ◌∷◌, ◌++◌, length, map, nat_lt, Option, None, Some, Result, Ok, Err, MatchBool}
 use Rattle.std.specs.List.{flat_map}
 use mathlib.Core.Logic.{inl, inr}
 use Rattle.nr_outside.specs.Streams.{SinkAt, SourceAt}
@@ -24,7 +24,8 @@ use Rattle.nr_client.specs.Reading.EndsReading.{EndsByReplies, OutputFails, NotA
 use Rattle.nr_client.specs.Requests.{Asks, create_result, getattr_call, getattr_result, mkdir_call, mnt_call, mnt_result, readlink_call, readlink_result, remove_call, remove_result, symlink_call}
 use Rattle.nr_client.specs.Transfers.{LinkBytes}
 use Rattle.nr_client.specs.Walking.{parent_next, walk_next}
-use Rattle.nr_client.specs.Writing.{WritesFile, writing}
+use Rattle.nr_client.specs.Writing.{EndsWriting, WritesFile, writing}
+use Rattle.nr_client.specs.Writing.EndsWriting.{FollowsInput, InputFails}
 use Rattle.nr_commands.specs.Commands.{Finds, FindsParent, Gets, Lists, MakesDirectory, MakesSymlink, Mounts, MountsAndPrints, Puts, ReadsLink, ReadsOut, Removes, Stats, Symlinks, WritesIn}
 use Rattle.nr_commands.specs.Printed.{attributes_text, handle_text, names_text, path_text}
 use Rattle.nr_commands.specs.Running.{text_of}
@@ -148,14 +149,16 @@ read_exchanges uid gid file b b' h h' taken taken' given f =
     (giving_up (reading_end_exchanges uid gid file f.last f.left b' f.side taken taken' given f.ends) (xids_of f.left))
 
 -- a file is written
-abbrev pub write_exchanges_by : (uid gid : ℕ) (dir name : List ℕ) (input : List ℕ) (b b' : LinkBytes) (h h' : RequesterSide) (result : Result (Unit {0}) ClientEnd)
-    → Follows (writing uid gid dir name input) b b' h h' result ⊎ ((result ≡ Err client.InputFault) × ((b' ≡ b) × (h' ≡ h))) → Exchanges
-write_exchanges_by uid gid dir name input b b' h h' result (inl follows) = followed_exchanges (writing uid gid dir name input) b b' h h' result follows
-write_exchanges_by uid gid dir name input b b' h h' result (inr failed) = none
+abbrev pub write_exchanges_by : (uid gid : ℕ) (dir name handed rest : List ℕ) (b b' : LinkBytes) (h h' : RequesterSide) (result : Result (Unit {0}) ClientEnd)
+    → EndsWriting uid gid dir name handed rest b b' h h' result → Exchanges
+write_exchanges_by uid gid dir name handed rest b b' h h' result (FollowsInput follows count ahead) =
+    followed_exchanges (writing uid gid dir name (handed ++ rest)) b b' h h' result follows
+write_exchanges_by uid gid dir name handed rest b b' h h' result (InputFails outcomes is made ahead) =
+    made_exchanges (writing uid gid dir name (handed ++ rest)) outcomes b b' h h' made
 
 abbrev pub write_exchanges : (uid gid : ℕ) (dir name : List ℕ) (b b' : LinkBytes) (h h' : RequesterSide) (left given left' given' : Option (List ℕ)) (result : Result (Unit {0}) ClientEnd)
     → WritesFile uid gid dir name b b' h h' left given left' given' result → Exchanges
-write_exchanges uid gid dir name b b' h h' left given left' given' result w = write_exchanges_by uid gid dir name (w.handed ++ w.rest) b b' h h' result w.calls
+write_exchanges uid gid dir name b b' h h' left given left' given' result w = write_exchanges_by uid gid dir name w.handed w.rest b b' h h' result w.calls
 
 -- ---- Parts of a command
 

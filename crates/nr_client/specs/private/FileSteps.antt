@@ -1,15 +1,16 @@
 -- The steps of writing a file.
-use Rattle.std.specs.Prelude.{◌≡◌, ℕ, ◌+◌, ◌<◌, ◌⊎◌, List, [], length, Option, Ok, Err}
-use Rattle.std.specs.Io.KnownBytes.{IsAtEnd}
+use Rattle.std.specs.Prelude.{◌≡◌, ℕ, ◌+◌, ◌≤◌, ◌⊎◌, List, ◌++◌, length, Option, Result, Ok, Err}
+use Rattle.nr_outside.specs.Content.{HandsOut}
 use Rattle.nr_reduce.specs.declared.call.Outcome.{Outcome}
 use Rattle.nr_requester.specs.RequesterState.{RequesterSide}
 use Rattle.nr_client.specs.declared.client_end.ClientEnd.{ClientEnd}
 use Rattle.nr_client.specs.Calls.{Answers}
-use Rattle.nr_client.specs.Following.{Unanswered}
+use Rattle.nr_client.specs.Following.{MakesCalls, Unanswered}
 use Rattle.nr_client.specs.Results.{Gives}
 use Rattle.nr_client.specs.Transfers.{LinkBytes}
-use Rattle.nr_outside.specs.Whole.{input_max}
-use Rattle.nr_client.specs.Writing.{write_call, write_result}
+use Rattle.nr_client.specs.Writing.{WritesFile, file_write, piece_at, write_call, write_result, writing}
+use Rattle.nr_client.specs.Writing.FileWrite.{Created}
+use Rattle.nr_client.specs.private.InputWindows.{MayFollow, WindowState}
 
 -- a WRITE of these bytes was answered
 pub record WritesOn (uid gid : ℕ) (file : List ℕ) (bytes : List ℕ) (at at' : ℕ) (b b' : LinkBytes) (h h' : RequesterSide) : Type 0 where
@@ -25,10 +26,28 @@ FailsToWrite uid gid file bytes at b b' h h' end =
     Unanswered (write_call uid gid file at bytes) b b' h h' end
     ⊎ ((outcome : Outcome) × (Answers b b' h h' (write_call uid gid file at bytes) outcome × Gives {A = ℕ} (Err end) (write_result (length bytes) outcome)))
 
--- these bytes are all of an input, or more than its maximum
-abbrev pub IsEnough : (bytes rest : List ℕ) → Type 0
-IsEnough bytes rest = (rest ≡ []) ⊎ (input_max < length bytes)
+-- the file was created, and this number of bytes written
+pub record WriteSoFar (uid gid : ℕ) (dir name input : List ℕ) (b c : LinkBytes) (h i : RequesterSide) (file : List ℕ) (at : ℕ) : Type 0 where
+  pub outcomes : List Outcome
+  pub made : MakesCalls (writing uid gid dir name input) outcomes b c h i
+  pub state : file_write input outcomes ≡ Created file at
 
--- An input was read to its end, or more than the maximum of it.
-abbrev pub IsComplete : List ℕ → Option (List ℕ) → Type 0
-IsComplete bytes left = IsAtEnd left ⊎ (input_max < length bytes)
+-- The first bytes of an input were written to a file, and the next are in the window. Whatever may follow them, the calls are those of all.
+pub record StreamsSoFar (uid gid : ℕ) (dir name : List ℕ) (b c : LinkBytes) (h i : RequesterSide) (left given left' given' : Option (List ℕ)) (file : List ℕ) (at : ℕ) (w : WindowState) : Type 0 where
+  pub written : List ℕ
+  pub hands_out : HandsOut left given left' given' (written ++ w.kept)
+  pub offset : length written ≡ at
+  pub begins : (rest : List ℕ) → MayFollow w.ended rest → length (piece_at ((written ++ w.kept) ++ rest) 0) ≤ length (written ++ w.kept)
+  pub calls : (rest : List ℕ) → MayFollow w.ended rest → WriteSoFar uid gid dir name ((written ++ w.kept) ++ rest) b c h i file at
+
+-- More was written so, whatever was written before.
+abbrev pub StreamsOn : (uid gid : ℕ) (file : List ℕ) (at at' : ℕ) (w w' : WindowState) (c d : LinkBytes) (i j : RequesterSide) (left given left' given' : Option (List ℕ)) → Type 0
+StreamsOn uid gid file at at' w w' c d i j left given left' given' =
+    (dir name : List ℕ) (b : LinkBytes) (h : RequesterSide) (first first_given : Option (List ℕ)) → StreamsSoFar uid gid dir name b c h i first first_given left given file at w
+    → StreamsSoFar uid gid dir name b d h j first first_given left' given' file at' w'
+
+-- The file was written, whatever was written before.
+abbrev pub StreamsTo : (uid gid : ℕ) (file : List ℕ) (at : ℕ) (w : WindowState) (c d : LinkBytes) (i j : RequesterSide) (left given left' given' : Option (List ℕ)) → Result (Unit {0}) ClientEnd → Type 0
+StreamsTo uid gid file at w c d i j left given left' given' result =
+    (dir name : List ℕ) (b : LinkBytes) (h : RequesterSide) (first first_given : Option (List ℕ)) → StreamsSoFar uid gid dir name b c h i first first_given left given file at w
+    → WritesFile uid gid dir name b d h j first first_given left' given' result

@@ -1,0 +1,13 @@
+use Rattle.std.proofs.Common.{refl, ◌∙◌}
+use Rattle.nr_client.proofs.InputWindows.{takes_none, takes_then}
+use Rattle.nr_client.proofs.input_window.InputWindow.fill.Goals as goal
+
+pub loop-self-init : goal.loop-self-init
+loop-self-init g c = (takes_none _ _ _ _ c.requires.below, refl)
+
+pub loop-self-preserved : goal.loop-self-preserved
+loop-self-preserved g c =
+    (takes_then _ _ _ _ _ _ _ _ _ _ c.loop-self.invariant.0 c.read_more.ensures.takes, c.in_ok-read_more.ensures.counted ∙ c.loop-self.invariant.1)
+
+pub returns-in_err-read_more-clause-takes : goal.returns-in_err-read_more-clause-takes
+returns-in_err-read_more-clause-takes g c = takes_then _ _ _ _ _ _ _ _ _ _ c.loop-self.invariant.0 c.read_more.ensures.takes

@@ -1,0 +1,136 @@
+//! A window over an input: the bytes that were read of it and are not written yet.
+
+ghost use Rattle.std.specs.Prelude.{◌≡◌, ◌+◌, ◌<◌, ◌≤◌, ◌⊎◌, ◌&&◌, [], true, false, not, nat_lt, length, take, drop, IfOk, OnOk, OnErr, MatchResult};
+ghost use Rattle.std.specs.Io.KnownBytes.{IsAtEnd};
+ghost use Rattle.nr_nfs_base.specs.Limits.{transfer_max};
+ghost use Rattle.nr_outside.specs.Content.{HandsOut};
+ghost use Rattle.nr_outside.specs.Faults.{Rises};
+ghost use Rattle.nr_client.specs.private.InputWindows.{IsFull, TakesMore};
+
+use nr_nfs_base::TRANSFER_MAX;
+use nr_outside::{Failed, Source};
+use nr_xdr::Memory;
+use std::alloc::Global;
+use std::marker::Model;
+
+/// The length of the buffer in bytes.
+const ROOM: usize = TRANSFER_MAX as usize;
+
+/// Bytes of an input that were read and are not written yet, at most as many as one WRITE moves. They stand at the front of one buffer.
+#[derive(Drop)]
+pub(crate) struct InputWindow {
+    room: Vec<u8>,
+    len: usize,
+    ended: bool,
+}
+
+impl Model for InputWindow {
+    ghost use Rattle.std.specs.Prelude.{◌≡◌, ◌≤◌, length, take};
+    ghost use Rattle.nr_nfs_base.specs.Limits.{transfer_max};
+    ghost use Rattle.nr_client.specs.private.InputWindows.{WindowState};
+
+    ghost Value = { WindowState };
+
+    ghost view = { λ w. record { kept = take w.len w.room.items; ended = w.ended } };
+
+    ghost invariant = { λ w. (length w.room.items ≡ transfer_max) × (w.len ≤ transfer_max) };
+}
+
+/// One read, into a part of a buffer.
+fn read_part<N: Source>(
+    input: &mut N,
+    room: &mut [u8],
+    start: usize,
+    end: usize,
+) -> Result<usize, Failed>
+    requires order { start ≤ end }
+    requires within { end ≤ length room.old }
+    ensures len { length room.new ≡ length room.old }
+    ensures front { take start room.new ≡ take start room.old }
+    ensures bound { IfOk result (λ n. start + n ≤ end) }
+    ensures handed { IfOk result (λ n. HandsOut (N.left input.old) (N.given input.old) (N.left input.new) (N.given input.new) (take n (drop start room.new))) }
+    ensures end { IfOk result (λ n. n ≡ 0 → start < end → IsAtEnd (N.left input.new)) }
+    ensures err { OnErr result (HandsOut (N.left input.old) (N.given input.old) (N.left input.new) (N.given input.new) []) }
+    ensures counted { MatchResult result
+        (λ _. N.faults input.new ≡ N.faults input.old) (λ _. Rises (N.faults input.old) (N.faults input.new)) }
+{
+    input.read(&mut room[start..end])
+}
+
+impl InputWindow {
+    /// A window over an input of which nothing was read.
+    pub(crate) fn new(alloc: Global) -> Result<InputWindow, Memory>
+        ensures { IfOk result (λ window. window ≡ record { kept = []; ended = false }) }
+    {
+        let room = vec![in alloc; 0u8; ROOM]?;
+        Ok(InputWindow {
+            room,
+            len: 0,
+            ended: false,
+        })
+    }
+
+    /// The bytes.
+    pub(crate) fn kept(&self) -> &[u8]
+        ensures is { result.now ≡ self.now.kept }
+        ensures within { length result.now ≤ transfer_max }
+    {
+        let (kept, _) = self.room.as_slice().split_at(self.len);
+        kept
+    }
+
+    /// How many bytes there are.
+    pub(crate) fn len(&self) -> usize
+        ensures { result ≡ length self.now.kept }
+    {
+        self.len
+    }
+
+    /// The first bytes leave, and the others move to the front.
+    pub(crate) fn discard(&mut self, count: usize)
+        requires { count ≤ length self.old.kept }
+        ensures { self.new ≡ record self.old { kept = drop count self.old.kept } }
+    {
+        let left = self.len - count;
+        self.room.copy_within(count..count + left, 0);
+        self.len = left;
+    }
+
+    /// Whether fewer bytes are there, of an input that has not ended.
+    fn lacks(&self, wanted: usize) -> bool
+        ensures { result ≡ (not self.now.ended && nat_lt (length self.now.kept) wanted) }
+    {
+        !self.ended && self.len < wanted
+    }
+
+    /// One read of the input.
+    fn read_more<N: Source>(&mut self, input: &mut N, wanted: usize) -> Result<(), Failed>
+        requires going { self.old.ended ≡ false }
+        requires below { length self.old.kept < wanted }
+        requires within { wanted ≤ transfer_max }
+        ensures takes { TakesMore wanted (N.left input.old) (N.given input.old) (N.left input.new) (N.given input.new) self.old self.new }
+        ensures more { OnOk result ((self.new.ended ≡ true) ⊎ (length self.old.kept < length self.new.kept)) }
+        ensures counted { MatchResult result
+            (λ _. N.faults input.new ≡ N.faults input.old) (λ _. Rises (N.faults input.old) (N.faults input.new)) }
+    {
+        let n = read_part(input, self.room.as_mut_slice(), self.len, wanted)?;
+        self.len += n;
+        self.ended = n == 0;
+        Ok(())
+    }
+
+    /// Reads the input until this number of bytes is there, or all that it has.
+    pub(crate) fn fill<N: Source>(&mut self, input: &mut N, wanted: usize) -> Result<(), Failed>
+        requires below { length self.old.kept ≤ wanted }
+        requires within { wanted ≤ transfer_max }
+        ensures takes { TakesMore wanted (N.left input.old) (N.given input.old) (N.left input.new) (N.given input.new) self.old self.new }
+        ensures full { OnOk result (IsFull wanted self.new) }
+        ensures counted { MatchResult result
+            (λ _. N.faults input.new ≡ N.faults input.old) (λ _. Rises (N.faults input.old) (N.faults input.new)) }
+    {
+        while self.lacks(wanted) {
+            self.read_more(input, wanted)?;
+        }
+        Ok(())
+    }
+}
