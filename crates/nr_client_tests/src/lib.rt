@@ -19,3 +19,5 @@ mod runs;
 mod servers;
 #[cfg(test)]
 mod sessions;
+#[cfg(test)]
+mod sockets;
