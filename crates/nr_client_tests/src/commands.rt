@@ -4,7 +4,7 @@ use crate::runs::same_cases;
 use crate::servers::same_server;
 
 /// Commands one after another, with one server. The first file of a new tree has number 2.
-static COMMANDS: &str = "\
+pub(crate) static COMMANDS: &str = "\
 # A file is made, and 5 bytes are written to it.\n\
 put here / /a|\
 server-hello mounted created-a \

@@ -20,4 +20,6 @@ mod servers;
 #[cfg(test)]
 mod sessions;
 #[cfg(test)]
+mod sockets;
+#[cfg(test)]
 mod writing;

@@ -200,7 +200,7 @@ fn file_dialer(rt: &impl Abort, alloc: Global) -> MemDialer {
 
 /// Gets the file, and gives the status.
 fn get_file(rt: &impl Abort, alloc: Global, dial: &mut MemDialer, out: &mut MemSink) -> u8 {
-    let words = words(rt, alloc, "get here / /a");
+    let words = words(rt, alloc, "get here / /a", "here");
     let mut input = source(rt, alloc, b"", Vec::new(alloc));
     let mut err = MemSink::new(alloc, Vec::new(alloc));
     run_client(alloc, words.as_slice(), &mut input, out, &mut err, dial)

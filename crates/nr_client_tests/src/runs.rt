@@ -7,8 +7,8 @@
 
 use crate::compare::same;
 use crate::pieces::piece;
-use nr_links::{LinkPlan, MemAcceptor, MemClock, MemDialer, MemLink};
-use nr_outside::{MemSink, MemSource, Moment};
+use nr_links::{Dialer, LinkPlan, MemAcceptor, MemClock, MemDialer, MemLink};
+use nr_outside::{MemSink, MemSource, Moment, Sink, Source};
 use nr_top::run;
 use std::alloc::Global;
 use std::process::Abort;
@@ -20,7 +20,7 @@ pub(crate) static MOMENTS: [Moment; 1] = [Moment {
 }];
 
 /// The input of each command; only `put` reads it.
-const INPUT: &[u8] = b"hello";
+pub(crate) const INPUT: &[u8] = b"hello";
 
 /// A row of a text.
 #[derive(Clone, Copy)]
@@ -118,11 +118,12 @@ pub(crate) fn dialer(rt: &impl Abort, alloc: Global, received: &str, fault: &str
     MemDialer::new(alloc, plans, faults(rt, alloc, fault, "dial"))
 }
 
-/// The words of a line, after the name of the program.
-pub(crate) fn words(rt: &impl Abort, alloc: Global, line: &str) -> Vec<String> {
+/// The words of a line, after the name of the program, with this address in place of `here`.
+pub(crate) fn words(rt: &impl Abort, alloc: Global, line: &str, addr: &str) -> Vec<String> {
     let mut words = Vec::new(alloc);
     push_word(rt, alloc, &mut words, "nfsrdma");
     for word in line.split_whitespace() {
+        let word = if word == "here" { addr } else { word };
         push_word(rt, alloc, &mut words, word);
     }
     words
@@ -147,13 +148,13 @@ pub(crate) fn source(
 }
 
 /// Runs a client, and gives its status.
-pub(crate) fn run_client(
+pub(crate) fn run_client<P: Source, Q: Sink, D: Dialer<Source = P, Sink = Q>>(
     alloc: Global,
     words: &[String],
     input: &mut MemSource,
     out: &mut MemSink,
     err: &mut MemSink,
-    dial: &mut MemDialer,
+    dial: &mut D,
 ) -> u8 {
     let mut accept = MemAcceptor::new(alloc, Vec::new(alloc), Vec::new(alloc));
     let mut clock = MemClock::new(&MOMENTS);
@@ -197,16 +198,17 @@ fn same_texts(rt: &impl Abort, alloc: Global, row: usize, case: Case, out: &[u8]
     same_text(rt, alloc, row, err, reported);
 }
 
-/// Runs a client, and compares its status and what it prints and reports.
-fn same_run(
+/// Runs a client that dials this address, with this input, and compares its status and what it prints and reports.
+pub(crate) fn same_run<P: Source, Q: Sink, D: Dialer<Source = P, Sink = Q>>(
     rt: &impl Abort,
     alloc: Global,
     row: usize,
     case: Case,
     input: &[u8],
-    dial: &mut MemDialer,
+    addr: &str,
+    dial: &mut D,
 ) {
-    let words = words(rt, alloc, case.line);
+    let words = words(rt, alloc, case.line, addr);
     let mut input = source(rt, alloc, input, faults(rt, alloc, case.fault, "input"));
     let mut out = MemSink::new(alloc, faults(rt, alloc, case.fault, "out"));
     let mut err = MemSink::new(alloc, faults(rt, alloc, case.fault, "err"));
@@ -227,7 +229,7 @@ fn same_run(
 /// Runs a client, and compares its status and what it prints, reports and sends.
 fn same_case(rt: &impl Abort, alloc: Global, row: usize, case: Case, input: &[u8]) {
     let mut dial = dialer(rt, alloc, case.received, case.fault);
-    same_run(rt, alloc, row, case, input, &mut dial);
+    same_run(rt, alloc, row, case, input, "here", &mut dial);
     same_sent(rt, alloc, row, dial.ended().last(), case.sent);
 }
 

@@ -2,20 +2,20 @@
 
 use crate::compare::same;
 use crate::runs::{MOMENTS, plan, read_case, same_sent, same_text, source, words};
-use nr_links::{MemAcceptor, MemClock, MemDialer, MemLink};
+use nr_links::{Acceptor, MemAcceptor, MemClock, MemDialer, MemLink};
 use nr_outside::{MemSink, MemSource};
 use nr_top::run;
 use std::alloc::Global;
 use std::process::Abort;
 
 /// Runs a server, and gives its status.
-fn run_server(
+pub(crate) fn run_server<A: Acceptor>(
     alloc: Global,
     words: &[String],
     input: &mut MemSource,
     out: &mut MemSink,
     err: &mut MemSink,
-    accept: &mut MemAcceptor,
+    accept: &mut A,
 ) -> u8 {
     let mut dial = MemDialer::new(alloc, Vec::new(alloc), Vec::new(alloc));
     let mut clock = MemClock::new(&MOMENTS);
@@ -30,7 +30,7 @@ fn same_report(
     accept: &mut MemAcceptor,
     printed: &str,
 ) {
-    let words = words(rt, alloc, "serve config");
+    let words = words(rt, alloc, "serve config", "here");
     let mut input = source(rt, alloc, config.as_bytes(), Vec::new(alloc));
     let mut out = MemSink::new(alloc, Vec::new(alloc));
     let mut err = MemSink::new(alloc, Vec::new(alloc));
@@ -72,7 +72,7 @@ fn same_links(rt: &impl Abort, alloc: Global, text: &str, links: &[MemLink]) {
     }
 }
 
-fn config(rt: &impl Abort, alloc: Global, connections: usize) -> String {
+pub(crate) fn config(rt: &impl Abort, alloc: Global, connections: usize) -> String {
     format!(in alloc;
         "listen = \"here\"\nexport = \"/\"\ncredits = 16\ncapacity = 1000000\nwrite_verifier = \"0000000000000001\"\nconnections = {connections}\n"
     ).expect(rt, "memory")

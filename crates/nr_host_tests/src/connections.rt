@@ -93,27 +93,158 @@ static ROWS: [Row; 14] = [
     (204, &[20, 92, 92], &[], &[1], "LinkWrite", 20, 1),
 ];
 
+/// Serves a connection, and compares how it ends, what its sink takes, and how many calls are executed.
+fn same_end(
+    rt: &impl Abort,
+    alloc: Global,
+    row: usize,
+    source: &mut MemSource,
+    writes: Vec<usize>,
+    want: (&str, &[u8], u32),
+) {
+    let (end, sent, executed) = want;
+    let mut sink = MemSink::new(alloc, writes);
+    let mut server = server(rt, alloc);
+    let mut clock = MemClock::new(&MOMENTS);
+    let got = serve_connection(alloc, source, &mut sink, &mut server, &mut clock, 1);
+    let text = format!(in alloc; "{got:?}").expect(rt, "memory");
+    same(rt, row, text.as_str(), end);
+    same(rt, row, sink.bytes() == sent, true);
+    same(rt, row, clock.now().seconds, executed);
+}
+
 fn ends(rt: &impl Abort, alloc: Global, row: usize, case: &Row) {
     let (most, sizes, reads, writes, end, sent, executed) = *case;
     let sizes = sizes.to_vec(alloc).expect(rt, "memory");
     let reads = reads.to_vec(alloc).expect(rt, "memory");
     let writes = writes.to_vec(alloc).expect(rt, "memory");
     let mut source = MemSource::new(bytes(rt, alloc, &SENT, most), sizes, reads);
-    let mut sink = MemSink::new(alloc, writes);
-    let mut server = server(rt, alloc);
-    let mut clock = MemClock::new(&MOMENTS);
-    let got = serve_connection(alloc, &mut source, &mut sink, &mut server, &mut clock, 1);
-    let text = format!(in alloc; "{got:?}").expect(rt, "memory");
-    same(rt, row, text.as_str() == end, true);
-    let want = bytes(rt, alloc, &ANSWERED, sent);
-    same(rt, row, sink.bytes() == want.as_slice(), true);
-    same(rt, row, clock.now().seconds, executed);
+    let sent = bytes(rt, alloc, &ANSWERED, sent);
+    let want = (end, sent.as_slice(), executed);
+    same_end(rt, alloc, row, &mut source, writes, want);
 }
 
 #[test]
 fn ends_of_connections(rt: HostRuntime) {
     for (row, case) in ROWS.iter().enumerate() {
         ends(&rt, rt.alloc(), row, case);
+    }
+}
+
+/// The hello of the client and that of the server; the FPDU of a WRITE of 5 bytes with a read chunk, under STag 1000; the server's Read Request
+/// for it; and NULL as the second call.
+const HELLO: [u32; 5] = [0x4d504120, 0x49442052, 0x65712046, 0x72616d65, 0x00010000];
+
+const REPLY_HELLO: [u32; 5] = [0x4d504120, 0x49442052, 0x65702046, 0x72616d65, 0x00010000];
+
+const WRITE: [u32; 37] = [
+    0x008e4143, 0, 0, 1, 0, 1, 1, 16, 0, 1, 72, 1000, 5, 0, 0, 0, 0, 0, 1, 0, 2, 100003, 3, 7, 0,
+    0, 0, 0, 8, 0, 2, 0, 0, 5, 2, 5, 0,
+];
+
+const READ_REQUEST: [u32; 13] = [0x002e4141, 0, 1, 1, 0, 1, 0, 0, 5, 1000, 0, 0, 0];
+
+const NULL: [u32; 23] = [
+    0x00564143, 0, 0, 2, 0, 2, 1, 16, 0, 0, 0, 0, 2, 0, 2, 100003, 3, 0, 0, 0, 0, 0, 0,
+];
+
+/// Words of a stream.
+type Part = &'static [u32];
+
+/// What the client sends, how the connection ends, and what the server sends. No call is executed.
+static STOPS: [(&[Part], &str, &[Part]); 10] = [
+    // The client's stream ends while a call waits for its read chunk.
+    (
+        &[&HELLO, &WRITE],
+        "Cut { at: 168, calls: 1 }",
+        &[&REPLY_HELLO, &READ_REQUEST],
+    ),
+    // The hello has another key, asks for markers, or has another revision.
+    (
+        &[&[0x4e504120, 0x49442052, 0x65712046, 0x72616d65, 0x00010000]],
+        "Protocol { end: Bad { at: 0, reason: 1 } }",
+        &[],
+    ),
+    (
+        &[&[0x4d504120, 0x49442052, 0x65712046, 0x72616d65, 0x80010000]],
+        "Protocol { end: Bad { at: 0, reason: 2 } }",
+        &[&[0x4d504120, 0x49442052, 0x65702046, 0x72616d65, 0x20010000]],
+    ),
+    (
+        &[&[0x4d504120, 0x49442052, 0x65712046, 0x72616d65, 0x00020000]],
+        "Protocol { end: Bad { at: 0, reason: 3 } }",
+        &[],
+    ),
+    // An ULPDU is too short. What comes after it is not executed.
+    (
+        &[&HELLO, &[0x00054143, 0, 0], &NULL],
+        "Protocol { end: Bad { at: 20, reason: 5 } }",
+        &[&REPLY_HELLO, &[0x00164147, 0, 2, 1, 0, 5, 0]],
+    ),
+    // The same in a frame that is not complete: it is not judged.
+    (
+        &[&HELLO, &[0x00054143, 0]],
+        "Cut { at: 28, calls: 0 }",
+        &[&REPLY_HELLO],
+    ),
+    // The response to the Read Request goes past its region, or has another STag.
+    (
+        &[&HELLO, &WRITE, &[0x0010c142, 1, 0, 4, 0x4c4c0000, 0], &NULL],
+        "Protocol { end: Denied { stag: 1, offset: 4, why: Bounds } }",
+        &[
+            &REPLY_HELLO,
+            &READ_REQUEST,
+            &[0x00164147, 0, 2, 1, 0, 102, 0],
+        ],
+    ),
+    (
+        &[&HELLO, &WRITE, &[0x0010c142, 2, 0, 0, 0x4c4c0000, 0]],
+        "Protocol { end: Denied { stag: 2, offset: 0, why: NoStag } }",
+        &[
+            &REPLY_HELLO,
+            &READ_REQUEST,
+            &[0x00164147, 0, 2, 1, 0, 101, 0],
+        ],
+    ),
+    // A second call comes while the one receive is in use.
+    (
+        &[&HELLO, &WRITE, &NULL],
+        "Protocol { end: NoBuffer { msn: 2 } }",
+        &[
+            &REPLY_HELLO,
+            &READ_REQUEST,
+            &[0x00164147, 0, 2, 1, 0, 104, 0],
+        ],
+    ),
+    // The client sends a Terminate.
+    (
+        &[&HELLO, &[0x00164147, 0, 2, 1, 0, 5, 0], &NULL],
+        "Protocol { end: Terminated { reason: 5 } }",
+        &[&REPLY_HELLO],
+    ),
+];
+
+fn joined(rt: &impl Abort, alloc: Global, parts: &[Part]) -> Vec<u8> {
+    let mut joined = Vec::new(alloc);
+    for part in parts {
+        for word in *part {
+            joined
+                .extend_from_slice(&word.to_be_bytes())
+                .expect(rt, "memory");
+        }
+    }
+    joined
+}
+
+#[test]
+fn stops_of_connections(rt: HostRuntime) {
+    let alloc = rt.alloc();
+    for (row, (sent, end, answered)) in STOPS.iter().enumerate() {
+        let sent = joined(&rt, alloc, *sent);
+        let mut source = MemSource::new(sent, Vec::new(alloc), Vec::new(alloc));
+        let answered = joined(&rt, alloc, *answered);
+        let want = (*end, answered.as_slice(), 0);
+        same_end(&rt, alloc, row, &mut source, Vec::new(alloc), want);
     }
 }
 

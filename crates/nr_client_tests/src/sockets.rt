@@ -1,0 +1,137 @@
+//! Clients and their server over TCP, the server in a thread of its own.
+
+ghost use Rattle.std.specs.Prelude.{None, true};
+
+use crate::commands::COMMANDS;
+use crate::compare::same;
+use crate::runs::{INPUT, read_case, same_run, same_text, words};
+use crate::servers::{config, run_server};
+use nr_links::{Acceptor, TcpAcceptor, TcpDialer, TcpSink, TcpSource};
+use nr_outside::{Failed, MemSink, MemSource};
+use std::alloc::Global;
+use std::net::{Net, TcpListener, TcpStream};
+use std::process::Abort;
+use std::thread;
+
+/// An acceptor that listens already, at a port that the system chose: `listen` leaves that as it is.
+#[derive(Drop)]
+struct Listening<N> {
+    inner: TcpAcceptor<N>,
+}
+
+impl<N: Net<Stream = TcpStream, Listener = TcpListener>> Acceptor for Listening<N> {
+    type Source = TcpSource;
+
+    type Sink = TcpSink;
+
+    ghost faults = { λ s. s.inner.faults };
+
+    ghost lost = { λ s. s.inner.lost };
+
+    ghost asked = { λ _. None };
+
+    ghost ended = { λ _. None };
+
+    ghost listens = { λ _. true };
+
+    fn listen(&mut self, _addr: &str) -> Result<(), Failed> {
+        Ok(())
+    }
+
+    fn accept(&mut self) -> Result<(TcpSource, TcpSink), Failed> {
+        self.inner.accept()
+    }
+
+    fn hang_up(&mut self, source: TcpSource, sink: TcpSink) {
+        self.inner.hang_up(source, sink)
+    }
+}
+
+/// A server, before it is run.
+#[derive(Drop)]
+struct Server<N> {
+    words: Vec<String>,
+    config: Vec<u8>,
+    accept: Listening<N>,
+}
+
+impl<N: Net<Stream = TcpStream, Listener = TcpListener> + Drop> Server<N> {
+    /// Its status, and what it prints and reports.
+    fn run(self, alloc: Global) -> (u8, MemSink, MemSink) {
+        let Server {
+            words,
+            config,
+            mut accept,
+        } = self;
+        let mut input = MemSource::new(config, Vec::new(alloc), Vec::new(alloc));
+        let mut out = MemSink::new(alloc, Vec::new(alloc));
+        let mut err = MemSink::new(alloc, Vec::new(alloc));
+        let status = run_server(
+            alloc,
+            words.as_slice(),
+            &mut input,
+            &mut out,
+            &mut err,
+            &mut accept,
+        );
+        (status, out, err)
+    }
+}
+
+/// A server of this many connections, and the address at which it listens.
+fn new_server<N: Net<Stream = TcpStream, Listener = TcpListener> + Drop>(
+    rt: &impl Abort,
+    alloc: Global,
+    net: N,
+    connections: usize,
+) -> (Server<N>, String) {
+    let mut inner = TcpAcceptor::new(net);
+    same(rt, 0, inner.listen("127.0.0.1:0").is_ok(), true);
+    let Some(port) = inner.port() else {
+        panic!(rt; "no port")
+    };
+    let config = config(rt, alloc, connections);
+    let server = Server {
+        words: words(rt, alloc, "serve config", "here"),
+        config: config.as_bytes().to_vec(alloc).expect(rt, "memory"),
+        accept: Listening { inner },
+    };
+    let addr = format!(in alloc; "127.0.0.1:{port}").expect(rt, "memory");
+    (server, addr)
+}
+
+/// Runs the first clients of a text, one after another, and compares their statuses and what they print and report.
+fn same_clients<N: Net<Stream = TcpStream, Listener = TcpListener>>(
+    rt: &impl Abort,
+    alloc: Global,
+    count: usize,
+    addr: &str,
+    dial: &mut TcpDialer<N>,
+) {
+    let mut at = 0;
+    for text in COMMANDS.lines() {
+        if !text.starts_with('#') && at < count {
+            same_run(rt, alloc, at, read_case(rt, text), INPUT, addr, dial);
+            at += 1;
+        }
+    }
+}
+
+/// How many of the clients are served, and what the server prints.
+static ROWS: [(usize, &str); 2] = [(3, "served 3 journal 2;"), (10, "served 10 journal 5;")];
+
+#[test]
+fn clients_while_their_server_runs(rt: HostRuntime) {
+    let alloc = rt.alloc();
+    for (count, printed) in ROWS.iter() {
+        let (server, addr) = new_server(&rt, alloc, rt, *count);
+        let Ok(server) = thread::spawn(&rt, move || server.run(alloc)) else {
+            panic!(rt; "no thread")
+        };
+        same_clients(&rt, alloc, *count, addr.as_str(), &mut TcpDialer::new(rt));
+        let (status, out, err) = server.join(&rt);
+        same(&rt, *count, u32::from(status), 0);
+        same_text(&rt, alloc, *count, out.bytes(), *printed);
+        same_text(&rt, alloc, *count, err.bytes(), "");
+    }
+}
