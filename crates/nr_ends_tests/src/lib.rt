@@ -4,10 +4,20 @@
 #![tactic(auto)]
 
 #[cfg(test)]
+mod accesses;
+#[cfg(test)]
 mod calls;
+#[cfg(test)]
+mod chunks;
 #[cfg(test)]
 mod compare;
 #[cfg(test)]
+mod given_up;
+#[cfg(test)]
+mod hellos;
+#[cfg(test)]
 mod link;
+#[cfg(test)]
+mod random;
 #[cfg(test)]
 mod words;
