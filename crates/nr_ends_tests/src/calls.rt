@@ -33,7 +33,7 @@ fn lengths(rt: &impl Abort, alloc: Global, lengths: &[u32]) -> Option<Lengths> {
     Some(Lengths::from_vec(lengths.to_vec(alloc).expect(rt, "memory")))
 }
 
-fn form(rt: &impl Abort, alloc: Global, way: Way) -> Form {
+pub(crate) fn form(rt: &impl Abort, alloc: Global, way: Way) -> Form {
     let mut offer = Offer {
         read_at: 72,
         read: None,
@@ -232,16 +232,44 @@ fn staged(rt: &impl Abort, alloc: Global, link: &mut TestLink) {
     let front = first_bytes(rt, alloc, &SENT, 91);
     same(rt, 1, link.feed_up(rt, front.as_slice()), Ok(()));
     same(rt, 2, link.counts(), [0, 1, 0, 0, 91, 1]);
+    let nothing: &[u8] = &[];
+    same(
+        rt,
+        2,
+        link.staged() == [Some(nothing), Some(front.as_slice())],
+        true,
+    );
     // The last byte of the first FPDU, and ten bytes of a second one.
     let more = first_bytes(rt, alloc, &[0x0000_5641, 0x4300_0000, 0], 11);
     same(rt, 3, link.feed_up(rt, more.as_slice()), Ok(()));
     same(rt, 4, link.counts(), [0, 1, 1, 1, 10, 82]);
 }
 
+/// The same of the client: 27 bytes of a reply. It has made four marks: a call, a Wrote and two pieces.
+fn client_staged(rt: &impl Abort, alloc: Global) {
+    let mut link = TestLink::open(rt, alloc, 1);
+    submit_null(rt, alloc, &mut link);
+    let mut sink = MemSink::new(alloc, Vec::new(alloc));
+    same(rt, 5, link.write_up(&mut sink), true);
+    let hello = bytes(rt, alloc, &HELLO_BACK);
+    same(rt, 6, link.feed_down(rt, hello.as_slice()), Ok(()));
+    let front = first_bytes(rt, alloc, &REPLY_FRONT, 27);
+    same(rt, 7, link.feed_down(rt, front.as_slice()), Ok(()));
+    let nothing: &[u8] = &[];
+    same(
+        rt,
+        8,
+        link.staged() == [Some(front.as_slice()), Some(nothing)],
+        true,
+    );
+    same(rt, 9, link.marks(), 4);
+}
+
 #[test]
 fn bytes_are_staged(rt: HostRuntime) {
     let mut link = TestLink::open(&rt, rt.alloc(), 1);
     staged(&rt, rt.alloc(), &mut link);
+    client_staged(&rt, rt.alloc());
 }
 
 /// A NULL call is submitted, and its ticket is dropped.

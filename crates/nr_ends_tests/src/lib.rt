@@ -20,4 +20,8 @@ mod link;
 #[cfg(test)]
 mod random;
 #[cfg(test)]
+mod refused;
+#[cfg(test)]
+mod vectors;
+#[cfg(test)]
 mod words;
