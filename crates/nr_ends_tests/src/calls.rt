@@ -4,9 +4,11 @@ ghost use Rattle.nr_requester.specs.OpenCalls.{KeepsTickets};
 
 use crate::compare::same;
 use crate::link::TestLink;
-use crate::words::{HELLO, REPLY_FRONT, REPLY_REST, SENT, bytes, call, payload, put, reply};
+use crate::words::{
+    HELLO, HELLO_BACK, REPLY_FRONT, REPLY_REST, SENT, bytes, call, payload, put, reply,
+};
 use nr_outside::MemSink;
-use nr_reduce::{Form, Lengths, Offer, Outcome};
+use nr_reduce::{Form, Lengths, Offer, Outcome, Refused};
 use nr_requester::{Done, Requester, Take};
 use nr_responder::Sent;
 use std::alloc::Global;
@@ -14,43 +16,89 @@ use std::process::Abort;
 
 /// How a call is sent.
 #[derive(Clone, Copy)]
-enum Way {
+pub(crate) enum Way {
     Auto,
     Inline,
     Chunk,
+    Long,
+    /// With a read chunk of segments of these lengths, from byte 72 on, where the data of a WRITE of a handle of 8 bytes begins.
+    Read(&'static [u32]),
+    /// With a write chunk of segments of these lengths.
+    Write(&'static [u32]),
     /// With a reply chunk of segments of these lengths.
     Reply(&'static [u32]),
 }
 
-fn form(rt: &impl Abort, alloc: Global, way: Way) -> Form {
+fn lengths(rt: &impl Abort, alloc: Global, lengths: &[u32]) -> Option<Lengths> {
+    Some(Lengths::from_vec(lengths.to_vec(alloc).expect(rt, "memory")))
+}
+
+pub(crate) fn form(rt: &impl Abort, alloc: Global, way: Way) -> Form {
+    let mut offer = Offer {
+        read_at: 72,
+        read: None,
+        write: None,
+        reply: None,
+    };
     match way {
-        Way::Auto => Form::Auto,
-        Way::Inline => Form::Inline,
-        Way::Chunk => Form::Chunk,
-        Way::Reply(lengths) => Form::Given(Offer {
-            read_at: 0,
-            read: None,
-            write: None,
-            reply: Some(Lengths::from_vec(lengths.to_vec(alloc).expect(rt, "memory"))),
-        }),
+        Way::Auto => return Form::Auto,
+        Way::Inline => return Form::Inline,
+        Way::Chunk => return Form::Chunk,
+        Way::Long => return Form::Long,
+        Way::Read(segments) => offer.read = lengths(rt, alloc, segments),
+        Way::Write(segments) => offer.write = lengths(rt, alloc, segments),
+        Way::Reply(segments) => offer.reply = lengths(rt, alloc, segments),
     }
+    Form::Given(offer)
 }
 
 /// How a call is sent, its procedure, its arguments, its results, and how the server answers.
-type Row = (Way, u32, &'static [u32], &'static [u32], Sent);
+pub(crate) type Row = (Way, u32, &'static [u32], &'static [u32], Sent);
 
-/// The file with handle 2; the results of a READ of 5 bytes, in whose reply the data goes by a write chunk; and results that go by a reply
-/// chunk of 16 segments.
-static ROWS: [Row; 5] = [
+/// The results of a READ of `hello`.
+const HELLO_READ: [u32; 7] = [0, 0, 5, 1, 5, 0x68656c6c, 0x6f000000];
+
+/// The arguments of a WRITE of nine bytes to the file with handle 2.
+const NINE: [u32; 11] = [8, 0, 2, 0, 0, 9, 2, 9, 0x61626364, 0x65666768, 0x69000000];
+
+/// The file has handle 2. A reply of 300 words of results has 1,224 bytes, more than a Send.
+pub(crate) static ROWS: [Row; 12] = [
     (Way::Auto, 0, &[], &[], Sent::Inline),
     (Way::Inline, 1, &[8, 0, 2], &[70], Sent::Inline),
+    // The data goes by a write chunk.
     (
         Way::Chunk,
         6,
         &[8, 0, 2, 0, 0, 5],
-        &[0, 0, 5, 1, 5, 0x68656c6c, 0x6f000000],
+        &HELLO_READ,
         Sent::Inline,
     ),
+    // A write chunk that is one byte too short.
+    (
+        Way::Write(&[4]),
+        6,
+        &[8, 0, 2, 0, 0, 5],
+        &HELLO_READ,
+        Sent::Chunk,
+    ),
+    (
+        Way::Write(&[3, 2]),
+        6,
+        &[8, 0, 2, 0, 0, 5],
+        &HELLO_READ,
+        Sent::Inline,
+    ),
+    // The data goes by a read chunk, of one segment and of nine.
+    (Way::Chunk, 7, &NINE, &[70], Sent::Inline),
+    (
+        Way::Read(&[1, 1, 1, 1, 1, 1, 1, 1, 1]),
+        7,
+        &NINE,
+        &[70],
+        Sent::Inline,
+    ),
+    // All of the call goes by a read chunk at position 0.
+    (Way::Long, 1, &[8, 0, 2], &[70], Sent::Inline),
     (
         Way::Reply(&[4, 4, 4, 4, 4, 4, 4, 4, 4, 4, 4, 4, 4, 4, 4, 4]),
         1,
@@ -58,8 +106,18 @@ static ROWS: [Row; 5] = [
         &[70],
         Sent::Inline,
     ),
-    // Results that the reply chunk doesn't hold, and no Send does: ERR_CHUNK.
-    (Way::Reply(&[4]), 1, &[8, 0, 2], &[0; 300], Sent::Chunk),
+    // A reply chunk of 16 segments, and two that hold the reply, or all but one byte of it.
+    (
+        Way::Reply(&[
+            77, 77, 77, 77, 77, 77, 77, 77, 77, 77, 77, 77, 77, 77, 77, 77,
+        ]),
+        1,
+        &[8, 0, 2],
+        &[7; 300],
+        Sent::Long,
+    ),
+    (Way::Reply(&[1224]), 1, &[8, 0, 2], &[7; 300], Sent::Long),
+    (Way::Reply(&[1223]), 1, &[8, 0, 2], &[7; 300], Sent::Chunk),
 ];
 
 /// Ends the test if a call wasn't answered so.
@@ -86,15 +144,27 @@ fn served(
     ensures { KeepsTickets link.old.state link.new.state }
 {
     let (reply, sent) = answer;
-    link.up(rt, alloc, size);
+    let _sent = link.up(rt, alloc, size);
+    // The data of some calls is read: by at most nine Read Requests, of which eight go first.
+    let _eight = link.down(rt, alloc, size);
+    let _read = link.up(rt, alloc, size);
+    let _ninth = link.down(rt, alloc, size);
+    let _rest = link.up(rt, alloc, size);
     let (conveyed, answered) = link.answer(rt, alloc, reply);
     same(rt, size, conveyed.as_slice() == payload, true);
     same(rt, size, answered, sent);
-    link.down(rt, alloc, size);
+    let _answer = link.down(rt, alloc, size);
 }
 
 /// One call through both ends, in pieces of this length.
-fn exchange(rt: &impl Abort, alloc: Global, link: &mut TestLink, xid: u32, size: usize, row: Row) {
+pub(crate) fn exchange(
+    rt: &impl Abort,
+    alloc: Global,
+    link: &mut TestLink,
+    xid: u32,
+    size: usize,
+    row: Row,
+) {
     let (way, proc, args, results, sent) = row;
     let reply = reply(rt, alloc, xid, results);
     let payload = payload(rt, alloc, xid, proc, args);
@@ -118,10 +188,10 @@ fn exchange(rt: &impl Abort, alloc: Global, link: &mut TestLink, xid: u32, size:
 }
 
 /// Both ends after their hellos.
-fn greeted(rt: &impl Abort, alloc: Global, credits: u32, size: usize) -> TestLink {
+pub(crate) fn greeted(rt: &impl Abort, alloc: Global, credits: u32, size: usize) -> TestLink {
     let mut link = TestLink::open(rt, alloc, credits);
-    link.up(rt, alloc, size);
-    link.down(rt, alloc, size);
+    let _hello = link.up(rt, alloc, size);
+    let _back = link.down(rt, alloc, size);
     link
 }
 
@@ -162,16 +232,44 @@ fn staged(rt: &impl Abort, alloc: Global, link: &mut TestLink) {
     let front = first_bytes(rt, alloc, &SENT, 91);
     same(rt, 1, link.feed_up(rt, front.as_slice()), Ok(()));
     same(rt, 2, link.counts(), [0, 1, 0, 0, 91, 1]);
+    let nothing: &[u8] = &[];
+    same(
+        rt,
+        2,
+        link.staged() == [Some(nothing), Some(front.as_slice())],
+        true,
+    );
     // The last byte of the first FPDU, and ten bytes of a second one.
     let more = first_bytes(rt, alloc, &[0x0000_5641, 0x4300_0000, 0], 11);
     same(rt, 3, link.feed_up(rt, more.as_slice()), Ok(()));
     same(rt, 4, link.counts(), [0, 1, 1, 1, 10, 82]);
 }
 
+/// The same of the client: 27 bytes of a reply. It has made four marks: a call, a Wrote and two pieces.
+fn client_staged(rt: &impl Abort, alloc: Global) {
+    let mut link = TestLink::open(rt, alloc, 1);
+    submit_null(rt, alloc, &mut link);
+    let mut sink = MemSink::new(alloc, Vec::new(alloc));
+    same(rt, 5, link.write_up(&mut sink), true);
+    let hello = bytes(rt, alloc, &HELLO_BACK);
+    same(rt, 6, link.feed_down(rt, hello.as_slice()), Ok(()));
+    let front = first_bytes(rt, alloc, &REPLY_FRONT, 27);
+    same(rt, 7, link.feed_down(rt, front.as_slice()), Ok(()));
+    let nothing: &[u8] = &[];
+    same(
+        rt,
+        8,
+        link.staged() == [Some(front.as_slice()), Some(nothing)],
+        true,
+    );
+    same(rt, 9, link.marks(), 4);
+}
+
 #[test]
 fn bytes_are_staged(rt: HostRuntime) {
     let mut link = TestLink::open(&rt, rt.alloc(), 1);
     staged(&rt, rt.alloc(), &mut link);
+    client_staged(&rt, rt.alloc());
 }
 
 /// A NULL call is submitted, and its ticket is dropped.
@@ -179,26 +277,52 @@ fn submit_null(rt: &impl Abort, alloc: Global, link: &mut TestLink) {
     drop(link.submit(rt, call(rt, alloc, 0, &[]), Form::Auto));
 }
 
-/// What a sink did not take is written later.
-fn drained(rt: &impl Abort, alloc: Global, link: &mut TestLink) {
-    submit_null(rt, alloc, link);
-    let failing = [0].to_vec(alloc).expect(rt, "memory");
-    let mut sink = MemSink::new(alloc, failing);
-    same(rt, 0, link.write_up(&mut sink), false);
-    same(rt, 1, sink.bytes().len(), 0);
-    same(rt, 2, link.write_up(&mut sink), true);
-    same(
-        rt,
-        3,
-        sink.bytes() == bytes(rt, alloc, &SENT).as_slice(),
-        true,
-    );
+/// Which write of a sink fails, and how many bytes it took before: none, or the hello.
+static FAILING: [(usize, usize); 2] = [(0, 0), (1, 20)];
+
+/// What a sink did not take is written later: what the client writes are its hello and a call.
+fn client_drained(rt: &impl Abort, alloc: Global, failing: usize, before: usize) {
+    let mut link = TestLink::open(rt, alloc, 16);
+    submit_null(rt, alloc, &mut link);
+    let hello = bytes(rt, alloc, &HELLO_BACK);
+    same(rt, 0, link.feed_down(rt, hello.as_slice()), Ok(()));
+    let mut sink = MemSink::new(alloc, [failing].to_vec(alloc).expect(rt, "memory"));
+    same(rt, 1, link.write_up(&mut sink), false);
+    same(rt, 2, sink.bytes().len(), before);
+    same(rt, 3, link.write_up(&mut sink), true);
+    let mut all = bytes(rt, alloc, &HELLO);
+    put(rt, &mut all, &SENT);
+    same(rt, 4, sink.bytes() == all.as_slice(), true);
+}
+
+/// The same of the server's hello and reply. The receive of the call is in use until all of the reply has left.
+fn server_drained(rt: &impl Abort, alloc: Global, failing: usize, before: usize) {
+    let mut link = TestLink::open(rt, alloc, 16);
+    let mut sent = bytes(rt, alloc, &HELLO);
+    put(rt, &mut sent, &SENT);
+    same(rt, 0, link.feed_up(rt, sent.as_slice()), Ok(()));
+    let reply = reply(rt, alloc, 1, &[]);
+    let (payload, answered) = link.answer(rt, alloc, reply.as_slice());
+    same(rt, 1, (payload.len(), answered), (40, Sent::Inline));
+    let mut sink = MemSink::new(alloc, [failing].to_vec(alloc).expect(rt, "memory"));
+    same(rt, 2, link.write_down(&mut sink), false);
+    same(rt, 3, sink.bytes().len(), before);
+    same(rt, 4, link.counts(), [0, 1, 0, 1, 0, 2]);
+    same(rt, 5, link.write_down(&mut sink), true);
+    same(rt, 6, link.counts(), [0, 1, 0, 0, 0, 2]);
+    let mut all = bytes(rt, alloc, &HELLO_BACK);
+    put(rt, &mut all, &REPLY_FRONT);
+    put(rt, &mut all, &[16]);
+    put(rt, &mut all, &REPLY_REST);
+    same(rt, 7, sink.bytes() == all.as_slice(), true);
 }
 
 #[test]
 fn a_drain_goes_on(rt: HostRuntime) {
-    let mut link = greeted(&rt, rt.alloc(), 16, 65536);
-    drained(&rt, rt.alloc(), &mut link);
+    for (failing, before) in &FAILING {
+        client_drained(&rt, rt.alloc(), *failing, *before);
+        server_drained(&rt, rt.alloc(), *failing, *before);
+    }
 }
 
 /// The credit word of a reply, and the credits that it grants.
@@ -214,7 +338,7 @@ fn reply_grants(
     grant: u32,
 ) {
     submit_null(rt, alloc, link);
-    link.up(rt, alloc, 65536);
+    let _sent = link.up(rt, alloc, 65536);
     let mut stream = bytes(rt, alloc, &REPLY_FRONT);
     put(rt, &mut stream, &[word]);
     put(rt, &mut stream, &REPLY_REST);
@@ -275,7 +399,20 @@ fn first_xid(rt: &impl Abort, alloc: Global) {
     same(rt, 2, client.end(), None);
 }
 
+/// After the call with the last xid no xid is left.
+fn last_xid(rt: &impl Abort, alloc: Global) {
+    let mut link = TestLink::open_at(rt, alloc, u32::MAX, 4);
+    let _hello = link.up(rt, alloc, 65536);
+    let _back = link.down(rt, alloc, 65536);
+    exchange(rt, alloc, &mut link, u32::MAX, 65536, ROWS[0]);
+    match link.refusal(call(rt, alloc, 0, &[]), Form::Auto) {
+        Some(Refused::Spent { left, need }) => same(rt, 0, (left, need), (0, 1)),
+        _ => panic!(rt; "not refused as spent"),
+    }
+}
+
 #[test]
-fn numbers_begin(rt: HostRuntime) {
+fn numbers_begin_and_end(rt: HostRuntime) {
     first_xid(&rt, rt.alloc());
+    last_xid(&rt, rt.alloc());
 }

@@ -4,10 +4,22 @@
 #![tactic(auto)]
 
 #[cfg(test)]
+mod accesses;
+#[cfg(test)]
 mod calls;
+#[cfg(test)]
+mod chunks;
 #[cfg(test)]
 mod compare;
 #[cfg(test)]
+mod given_up;
+#[cfg(test)]
+mod hellos;
+#[cfg(test)]
 mod link;
+#[cfg(test)]
+mod refused;
+#[cfg(test)]
+mod vectors;
 #[cfg(test)]
 mod words;

@@ -6,8 +6,8 @@ ghost use Rattle.nr_rpc.specs.Credential.{CanWriteCred};
 
 use nr_link::End;
 use nr_outside::MemSink;
-use nr_reduce::{Call, Form};
-use nr_requester::{Requester, Take, Ticket};
+use nr_reduce::{Call, Form, Refused};
+use nr_requester::{Buffers, Requester, Take, Ticket};
 use nr_responder::{Responder, Sent};
 use std::alloc::Global;
 use std::marker::Model;
@@ -64,12 +64,22 @@ fn with_piece(rt: &impl Abort, fed: u64, piece: &[u8]) -> u64
 impl TestLink {
     /// Two ends with this number of credits. No byte has moved.
     pub fn open(rt: &impl Abort, alloc: Global, credits: u32) -> TestLink {
+        TestLink::open_at(rt, alloc, 1, credits)
+    }
+
+    /// The same, with this first xid.
+    pub fn open_at(rt: &impl Abort, alloc: Global, first_xid: u32, credits: u32) -> TestLink {
         TestLink {
-            client: Requester::open(alloc, credits).expect(rt, "memory"),
+            client: Requester::open_at(alloc, first_xid, 1, credits).expect(rt, "memory"),
             server: Responder::open(alloc, credits).expect(rt, "memory"),
             fed_up: 0,
             fed_down: 0,
         }
+    }
+
+    /// Why the client and the server have ended, if they have.
+    pub fn ends(&self) -> (Option<End>, Option<End>) {
+        (self.client.end(), self.server.end())
     }
 
     /// Of the client: outstanding calls, credits granted; of the server: unanswered calls, receives in use, staged bytes, bytes wanted.
@@ -82,6 +92,19 @@ impl TestLink {
             self.server.staged(),
             self.server.wants(),
         ]
+    }
+
+    /// The bytes that each end staged, of the client and of the server.
+    pub fn staged(&self) -> [Option<&[u8]>; 2] {
+        [
+            self.client.staging().get(..self.client.staged()),
+            self.server.staging().get(..self.server.staged()),
+        ]
+    }
+
+    /// How many marks the client made.
+    pub fn marks(&self) -> u64 {
+        self.client.marks()
     }
 
     /// How many bytes both ends keep.
@@ -124,40 +147,58 @@ impl TestLink {
         self.server.drain_into(sink).is_ok()
     }
 
-    /// All that the client end has to write reaches the server end, in pieces of this length.
-    pub fn up(&mut self, rt: &impl Abort, alloc: Global, size: usize)
+    /// Feeds the server end bytes in pieces of this length, until it ends.
+    pub fn pieces_up(&mut self, rt: &impl Abort, bytes: &[u8], size: usize) -> Result<(), End>
+        ensures { self.new ≡ self.old }
+    {
+        check(rt, size > 0);
+        let mut rest = bytes;
+        'pieces: for _ in 0..bytes.len() {
+            if rest.is_empty() {
+                break;
+            }
+            let (piece, more) = rest.split_at(rest.len().min(size));
+            self.feed_up(rt, piece)?;
+            rest = more;
+        }
+        Ok(())
+    }
+
+    /// Feeds the client end bytes in pieces of this length, until it ends.
+    pub fn pieces_down(&mut self, rt: &impl Abort, bytes: &[u8], size: usize) -> Result<(), End>
+        ensures { KeepsTickets self.old.state self.new.state }
+    {
+        check(rt, size > 0);
+        let mut rest = bytes;
+        'pieces: for _ in 0..bytes.len() {
+            if rest.is_empty() {
+                break;
+            }
+            let (piece, more) = rest.split_at(rest.len().min(size));
+            self.feed_down(rt, piece)?;
+            rest = more;
+        }
+        Ok(())
+    }
+
+    /// All that the client end has to write reaches the server end, in pieces of this length. How many bytes these are.
+    pub fn up(&mut self, rt: &impl Abort, alloc: Global, size: usize) -> usize
         ensures { KeepsTickets self.old.state self.new.state }
     {
         let mut sink = MemSink::new(alloc, Vec::new(alloc));
         check(rt, self.write_up(&mut sink));
-        check(rt, size > 0);
-        let mut rest = sink.bytes();
-        'pieces: for _ in 0..rest.len() {
-            if rest.is_empty() {
-                break;
-            }
-            let (piece, more) = rest.split_at(rest.len().min(size));
-            check(rt, self.feed_up(rt, piece).is_ok());
-            rest = more;
-        }
+        check(rt, self.pieces_up(rt, sink.bytes(), size).is_ok());
+        sink.bytes().len()
     }
 
-    /// All that the server end may write reaches the client end, in pieces of this length.
-    pub fn down(&mut self, rt: &impl Abort, alloc: Global, size: usize)
+    /// All that the server end may write reaches the client end, in pieces of this length. How many bytes these are.
+    pub fn down(&mut self, rt: &impl Abort, alloc: Global, size: usize) -> usize
         ensures { KeepsTickets self.old.state self.new.state }
     {
         let mut sink = MemSink::new(alloc, Vec::new(alloc));
         check(rt, self.write_down(&mut sink));
-        check(rt, size > 0);
-        let mut rest = sink.bytes();
-        'pieces: for _ in 0..rest.len() {
-            if rest.is_empty() {
-                break;
-            }
-            let (piece, more) = rest.split_at(rest.len().min(size));
-            check(rt, self.feed_down(rt, piece).is_ok());
-            rest = more;
-        }
+        check(rt, self.pieces_down(rt, sink.bytes(), size).is_ok());
+        sink.bytes().len()
     }
 
     /// Submits a call, which is accepted.
@@ -168,6 +209,19 @@ impl TestLink {
         match self.client.submit(call, form) {
             Ok(ticket) => ticket,
             Err(_) => panic!(rt; "the call is refused"),
+        }
+    }
+
+    /// Why a call is refused. One that is accepted is forgotten.
+    pub fn refusal(&mut self, call: Call, form: Form) -> Option<Refused>
+        requires { CanWriteCred call.cred }
+    {
+        match self.client.submit(call, form) {
+            Ok(ticket) => {
+                self.client.forget(ticket);
+                None
+            }
+            Err((_call, refused)) => Some(refused),
         }
     }
 
@@ -190,6 +244,20 @@ impl TestLink {
         requires { is_some (open_call ticket self.old.state) ≡ true }
     {
         self.client.try_take(ticket)
+    }
+
+    /// Gives up the answer to a call.
+    pub fn forget(&mut self, ticket: Ticket)
+        requires { is_some (open_call ticket self.old.state) ≡ true }
+    {
+        self.client.forget(ticket);
+    }
+
+    /// Revokes the memory of a call.
+    pub fn revoke(&mut self, ticket: Ticket) -> (Call, Buffers)
+        requires { is_some (open_call ticket self.old.state) ≡ true }
+    {
+        self.client.revoke(ticket)
     }
 
     /// The client end alone.

@@ -12,6 +12,9 @@ use std::process::Abort;
 /// The client's hello (RFC 5044 section 7.1).
 pub static HELLO: [u32; 5] = [0x4d504120, 0x49442052, 0x65712046, 0x72616d65, 0x00010000];
 
+/// The server's.
+pub static HELLO_BACK: [u32; 5] = [0x4d504120, 0x49442052, 0x65702046, 0x72616d65, 0x00010000];
+
 /// The FPDU of a NULL call with XID 1 and 16 credits: a Send (RFC 5040 section 4.2) of an RDMA_MSG without chunks.
 pub static SENT: [u32; 23] = [
     0x00564143, 0, 0, 1, 0, 1, 1, 16, 0, 0, 0, 0, 1, 0, 2, 100003, 3, 0, 0, 0, 0, 0, 0,

@@ -1,0 +1,95 @@
+//! Calls that are given up, and their replies, which come later.
+
+ghost use Rattle.std.specs.Prelude.{◌≡◌};
+
+use crate::calls::{ROWS, exchange, greeted};
+use crate::compare::same;
+use crate::link::TestLink;
+use crate::words::{call, reply};
+use nr_link::End;
+use nr_outside::MemSink;
+use nr_reduce::Form;
+use nr_regions::Denied;
+use nr_requester::Buffers;
+use nr_responder::Sent;
+use std::alloc::Global;
+use std::process::Abort;
+
+/// The server executes a call of 40 bytes and its arguments, and queues the answer.
+fn executed(rt: &impl Abort, alloc: Global, link: &mut TestLink, results: &[u32])
+    ensures { link.new ≡ link.old }
+{
+    let reply = reply(rt, alloc, 1, results);
+    let (_payload, sent) = link.answer(rt, alloc, reply.as_slice());
+    same(rt, 0, sent, Sent::Inline);
+}
+
+/// The results of a READ of `hello`.
+static READ: [u32; 7] = [0, 0, 5, 1, 5, 0x68656c6c, 0x6f000000];
+
+/// A READ that is forgotten: its data is still placed, and its reply is dropped.
+fn forgotten(rt: &impl Abort, alloc: Global, size: usize) {
+    let mut link = greeted(rt, alloc, 16, size);
+    let ticket = link.submit(rt, call(rt, alloc, 6, &[8, 0, 2, 0, 0, 5]), Form::Chunk);
+    let _sent = link.up(rt, alloc, size);
+    link.forget(ticket);
+    executed(rt, alloc, &mut link, &READ);
+    same(rt, 1, link.counts(), [1, 1, 0, 1, 0, 2]);
+    // The RDMA Write of row 4 of 28 bytes, and a Send of a header of 52 bytes and a stream of 44.
+    same(rt, 2, link.down(rt, alloc, size), 28 + 120);
+    same(rt, 3, link.counts(), [0, 16, 0, 0, 0, 2]);
+    same(rt, 4, link.ends(), (None, None));
+    exchange(rt, alloc, &mut link, 2, size, ROWS[2]);
+}
+
+/// A NULL call that is revoked: its reply is dropped.
+fn revoked(rt: &impl Abort, alloc: Global, size: usize) {
+    let mut link = greeted(rt, alloc, 16, size);
+    let ticket = link.submit(rt, call(rt, alloc, 0, &[]), Form::Auto);
+    let (back, buffers) = link.revoke(ticket);
+    same(rt, 5, (back.proc, buffers.write.is_some()), (0, false));
+    let _sent = link.up(rt, alloc, size);
+    executed(rt, alloc, &mut link, &[]);
+    same(rt, 6, link.counts(), [1, 1, 0, 1, 0, 2]);
+    let _answer = link.down(rt, alloc, size);
+    same(rt, 7, link.counts(), [0, 16, 0, 0, 0, 2]);
+    exchange(rt, alloc, &mut link, 2, size, ROWS[2]);
+}
+
+/// The buffer of a write chunk is as it was registered.
+fn gone_back(rt: &impl Abort, buffers: &Buffers) {
+    match &buffers.write {
+        Some(buffer) => same(rt, 9, buffer.as_slice() == [0u8; 5].as_slice(), true),
+        None => panic!(rt; "no buffer"),
+    }
+}
+
+/// A READ that is revoked: its buffer goes back as it was registered, and its data, which comes then, ends the link.
+fn revoked_before_its_data(rt: &impl Abort, alloc: Global, size: usize) {
+    let mut link = greeted(rt, alloc, 16, size);
+    let ticket = link.submit(rt, call(rt, alloc, 6, &[8, 0, 2, 0, 0, 5]), Form::Chunk);
+    let _sent = link.up(rt, alloc, size);
+    executed(rt, alloc, &mut link, &READ);
+    let (back, buffers) = link.revoke(ticket);
+    same(rt, 8, back.proc, 6);
+    gone_back(rt, &buffers);
+    let mut sink = MemSink::new(alloc, Vec::new(alloc));
+    same(rt, 10, link.write_down(&mut sink), true);
+    let end = End::Denied {
+        stag: 1,
+        offset: 0,
+        why: Denied::NoStag,
+    };
+    same(rt, 11, link.pieces_down(rt, sink.bytes(), size), Err(end));
+    same(rt, 12, link.counts(), [1, 1, 0, 0, 0, 2]);
+    same(rt, 13, link.ends(), (Some(end), None));
+}
+
+#[test]
+fn late_replies(rt: HostRuntime) {
+    for size in [1, 65536] {
+        forgotten(&rt, rt.alloc(), size);
+        revoked(&rt, rt.alloc(), size);
+        revoked_before_its_data(&rt, rt.alloc(), size);
+    }
+}
