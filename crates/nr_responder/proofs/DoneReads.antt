@@ -332,7 +332,7 @@ with_read v r rest all after = by
 
 -- some call, if none is at hand
 pub no_call : Pending
-no_call = record { number = 0; xid = 0; buf = []; len = 0; stream_at = 0; inline = true; room = None; target = None; item = None }
+no_call = record { number = 0; xid = 0; buf = []; len = 0; stream_at = 0; inline = true; room = None; around = 0; target = None; item = None }
 
 pub call_is : (v : ResponderSide) (r : PendingRead) (calls : List Pending) (at kept : ℕ) (d : Pending) → v.calls ≡ map call_view calls → at < length calls → (get_or calls at d).number ≡ r.number → ((k : ℕ) (e : Pending) → k < at → (get_or calls k e).number ≢ r.number) →
     kept ≡ still_open r v.fetching.reads → IsOfCall v r kept at (call_view (get_or calls at d))

@@ -68,3 +68,5 @@ pub mod QueueBounds
 pub mod OutputBounds
 pub mod OutputSteps
 pub mod ReadHeads
+mod Windows
+mod BegunWindows

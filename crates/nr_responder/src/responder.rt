@@ -58,7 +58,7 @@ impl Model for Responder {
     ghost use Rattle.nr_responder.specs.Standing.{RepresentsSome};
     ghost use Rattle.nr_responder.specs.HeldBytes.{IsBounded};
 
-    ghost view = { λ r. record { side = state_of r.end; staging = r.end.endpoint.staging; rooms = rooms_of r.end.calls.items r.end.ready.items } };
+    ghost view = { λ r. record { side = state_of r.end; staging = r.end.endpoint.staging; rooms = rooms_of r.end.calls.items r.end.ready.items r.end.endpoint.outside } };
 
     // It stands for some marks, and what it keeps is within bounds.
     ghost invariant = { λ r. ServerEndInvariant r.end × (RepresentsSome (state_of r.end) × IsBounded (with_staging r.end)) };
