@@ -29,7 +29,7 @@ use Rattle.nr_responder.specs.ResponderState.{ResponderSide}
 use Rattle.nr_responder.specs.private.CallsRead.{chunk_positions, reading_call, reads_with, opened_with, sinks_from, sinks_of, with_registered}
 use Rattle.nr_responder.specs.private.Handling.{out}
 use Rattle.nr_responder.specs.private.Reading.{is_sink, opening, with_opened}
-use Rattle.nr_responder.specs.private.Starting.{BeginsReads, OpensReads, reads_more, with_room}
+use Rattle.nr_responder.specs.private.Starting.{BeginsReads, OpensReads, reads_more, with_around, with_room}
 use Rattle.nr_responder.specs.Rooms.{payload_room}
 use Rattle.nr_responder.specs.Sound.{AreFetched, AreHeldFrom, QueuesInvariant, HasOutside, HasRoom, HasWindow, InBuffer, SameInput, around_of, claims_of, payloads_of, state_of, xids_of}
 use Rattle.nr_responder.specs.Views.{call_view, read_view, sink_view}
@@ -216,6 +216,9 @@ kept_fetched e f old new calls sinks later link outside reads same h =
 
 pub in_buffer : (c : Pending) (room : ℕ) → InBuffer c → InBuffer (with_room c room)
 in_buffer c room h = record { buf = h.buf; len = h.len; at = h.at; lists = h.lists; target = h.target; item = h.item }
+
+pub around_in_buffer : (c : Pending) (around : ℕ) → InBuffer c → InBuffer (with_around c around)
+around_in_buffer c around h = record { buf = h.buf; len = h.len; at = h.at; lists = h.lists; target = h.target; item = h.item }
 
 started_link : (number : ℕ) (read : List ReadSegment) (chunks : List ℕ) (old new : List ReadEntry) (sinks later : List OpenSink) (before after : LinkSide) → BeginsReads number read chunks old new sinks later before after →
     (after.state.receive_queue ≡ before.state.receive_queue) × (after.state.send_queue.send_ends ≡ before.state.send_queue.send_ends)

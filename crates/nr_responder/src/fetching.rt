@@ -191,7 +191,6 @@ impl ServerEnd {
     }
 
     /// A call whose reads may begin, and whose payload is completed in the buffer of its sink.
-    #[tactic(none)]
     fn start_in_place(&mut self, call: Pending, chunks: &[u32], read: &[ReadSegment], start: usize)
         requires sound { ServerEndInvariantWith 1 self.old }
         requires live { self.old.endpoint.link.state.ended ≡ None }
