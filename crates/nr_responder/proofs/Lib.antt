@@ -70,3 +70,4 @@ pub mod OutputSteps
 pub mod ReadHeads
 mod Windows
 mod BegunWindows
+mod PlacedPayloads

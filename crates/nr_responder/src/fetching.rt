@@ -40,11 +40,21 @@ fn only_chunk(chunks: &[u32]) -> Option<u32>
     Some(chunks[0])
 }
 
+/// Whether all entries of a read list have this position.
+fn are_at(read: &[ReadSegment], position: u32) -> bool
+    ensures { result ≡ list_all (λ r. r.position == position) read.now }
+{
+    read.iter().all(|r| r.position == position)
+}
+
 /// Whether all entries of a read list have this position, which isn't 0.
 fn has_one_position(read: &[ReadSegment], position: u32) -> bool
     ensures { result ≡ true → (list_all (λ r. r.position == position) read.now ≡ true) × ((position ≢ 0) × (item_position read.now ≡ Some position)) }
 {
-    if position == 0 || !read.iter().all(|r| r.position == position) {
+    if position == 0 {
+        return false;
+    }
+    if !are_at(read, position) {
         return false;
     }
     match item_position(read) {

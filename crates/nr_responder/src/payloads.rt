@@ -1,7 +1,7 @@
 //! The payload of a call whose chunks are read (RFC 8166 section 3.4.5).
 
-ghost use Rattle.std.specs.Prelude.{◌≡◌, ℕ, ◌+◌, ◌*◌, ◌^◌, ◌<◌, ◌≤◌, length, take, drop, is_some, true, Some, None, IfErr, IfOk, IfSome, List, [], Option, option_map, slice_get, if◌then◌else◌};
-ghost use Rattle.nr_xdr.specs.Item.{IsBytes};
+ghost use Rattle.std.specs.Prelude.{◌≡◌, ℕ, ◌+◌, ◌*◌, ◌^◌, ◌<◌, ◌≤◌, ◌==◌, ◌||◌, length, take, drop, is_some, true, Some, None, IfErr, IfOk, IfSome, List, [], Option, option_map, slice_get, if◌then◌else◌};
+ghost use Rattle.nr_xdr.specs.Item.{IsBytes, pad_len};
 ghost use Rattle.nr_link.specs.Limits.{send_max};
 ghost use Rattle.nr_rpc.specs.Reading.{call_of, target_of};
 ghost use Rattle.nr_endpoint.specs.Calls.{IsStopReason};
@@ -84,6 +84,7 @@ pub(crate) fn in_place(
     ensures { whole of.Call stream.now (Some (take moved (drop item.pos buffer))) ≡ Some result }
 {
     let mut buffer = buffer;
+    are_bytes(buffer.as_slice());
     match rebuild_in_place(
         &mut buffer,
         &Of::Call,
@@ -114,16 +115,30 @@ fn judge_bytes(payload: &[u8], target: Option<CallTarget>, xid: u32) -> Option<u
     }
 }
 
-/// Why the link ends if this many bytes of the item of a call's stream were read: the item has another length, or the stream is no RPC call with
+/// Whether these are as many bytes as an item has, with or without its pad.
+fn has_length(len: u32, moved: &[u8]) -> bool
+    ensures { result ≡ (length moved.now == len || length moved.now == len + pad_len len) }
+{
+    let all = len as usize;
+    moved.len() == all || moved.len() == all + pad_len(all)
+}
+
+/// Elements of a byte slice are bytes. Only contracts speak of it.
+fn are_bytes(bytes: &[u8])
+    ensures { IsBytes bytes.now }
+{
+    let _bytes = bytes.len();
+}
+
+/// Why the link ends if these bytes of the item of a call's stream were read: the item has another length, or the stream is no RPC call with
 /// the call's xid.
-pub(crate) fn judge_in_place(call: &Pending, item: Item, moved: usize) -> Option<u32>
+pub(crate) fn judge_in_place(call: &Pending, item: Item, moved: &[u8]) -> Option<u32>
     requires call { InBuffer call.now }
     requires item { call.now.item ≡ Some (Some item) }
-    ensures verdict { (bytes : List ℕ) → IsBytes bytes → length bytes ≡ moved → JudgesPlaced (call_view call.now) (drop call.now.stream_at (take call.now.len call.now.buf)) bytes result }
+    ensures verdict { JudgesPlaced (call_view call.now) (drop call.now.stream_at (take call.now.len call.now.buf)) moved.now result }
     ensures reason { IfSome result (λ reason. IsStopReason reason × (5 ≤ reason)) }
 {
-    let len = item.len as usize;
-    if moved != len && moved != len + pad_len(len) {
+    if !has_length(item.len, moved) {
         return Some(REASON_HEAD);
     }
     let stream = stream_of(&call.buf, call.len, call.stream_at);

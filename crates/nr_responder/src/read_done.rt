@@ -274,6 +274,7 @@ impl ServerEnd {
         requires sound { ServerEndInvariant self.old }
         requires at { at < length self.old.calls.items }
         requires read { (d : Pending) → is_read (map read_view self.old.reads.items) (get_or self.old.calls.items at d).number ≡ true }
+        requires empty { (d : Pending) → (get_or self.old.calls.items at d).around ≡ 0 }
         requires room { (d : Pending) → IsRoom (get_or self.old.calls.items at d).room }
         ensures room { payload_room ≤ result }
         ensures call { (d : Pending) → call_view (get_or self.new.calls.items at d) ≡ call_view (get_or self.old.calls.items at d) }
@@ -333,7 +334,12 @@ impl ServerEnd {
         let _done = done;
         let call = &self.calls[at];
         let (item, place) = item_place(call, self.sinks.as_slice());
-        let moved = self.sinks[place].registration.len() as usize;
+        let moved = sink_bytes(
+            &self.endpoint,
+            self.sinks.as_slice(),
+            call.number,
+            item.pos as u32,
+        );
         match judge_in_place(call, item, moved) {
             None => self.ready_in_place(at, item, place, kept),
             Some(reason) => self.end_for(reason),
@@ -388,6 +394,7 @@ impl ServerEnd {
         requires few { length self.old.ready.items < length self.old.calls.items }
         requires fine { (d : Pending) → has_bad_chunk (state_of self.old) (call_view (get_or self.old.calls.items at d)) (read_view done) (map read_view self.old.reads.items) ≡ false }
         requires read { (d : Pending) → is_read (map read_view self.old.reads.items) (get_or self.old.calls.items at d).number ≡ true }
+        requires empty { (d : Pending) → (get_or self.old.calls.items at d).around ≡ 0 }
         requires room { (d : Pending) → IsRoom (get_or self.old.calls.items at d).room }
         ensures handled { HandlesRead (state_of self.old) (read_view done) (map read_view self.old.reads.items) (state_of self.new) }
         ensures sound { ServerEndInvariant self.new }
