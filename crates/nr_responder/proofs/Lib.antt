@@ -71,3 +71,4 @@ pub mod ReadHeads
 mod Windows
 mod BegunWindows
 mod PlacedPayloads
+mod PlacedReads

@@ -142,6 +142,7 @@ pub(crate) fn judge_in_place(call: &Pending, item: Item, moved: &[u8]) -> Option
         return Some(REASON_HEAD);
     }
     let stream = stream_of(&call.buf, call.len, call.stream_at);
+    are_bytes(stream);
     judge_bytes(stream, head_of(call, stream).target, call.xid)
 }
 

@@ -347,7 +347,6 @@ impl ServerEnd {
     }
 
     /// The call at this place, of which all is read, is ready with the payload that is completed in the buffer of its sink.
-    #[tactic(none)]
     fn ready_in_place(&mut self, at: usize, item: Item, place: usize, kept: usize)
         requires sound { ServerEndInvariant self.old }
         requires live { self.old.endpoint.link.state.ended ≡ None }

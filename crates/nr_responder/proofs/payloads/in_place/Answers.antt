@@ -19,4 +19,4 @@ pub in_front-requires-clause-target : goal.in_front-requires-clause-target
 in_front-requires-clause-target c =
     c.requires.target
     ∙ ap (λ (r : Result CallHead ℕ). target_of r)
-    (sym (whole_head c.args.stream.now (take c.args.moved (drop c.args.item.pos c.args.buffer)) _ (λ i. omega (arith, c.type_inv.stream i)) (IsBytes_take c.args.moved (drop c.args.item.pos c.args.buffer) (IsBytes_drop c.args.item.pos c.args.buffer (subst IsBytes c.as_slice.ensures.value c.are_bytes.ensures))) c.in-Ok.ensures.whole))
+    (sym (whole_head c.args.stream.now (take c.args.moved (drop c.args.item.pos c.args.buffer)) _ (λ i. omega (arith, c.type_inv.stream i)) (IsBytes_take c.args.moved (drop c.args.item.pos c.args.buffer) (IsBytes_drop c.args.item.pos c.args.buffer (subst IsBytes c.as_slice.ensures c.are_bytes.ensures))) c.in-Ok.ensures.whole))
