@@ -85,6 +85,15 @@ is_placed r p item place d w q held =
           ∙ ap (λ (o : Option SinkRegion). whole of.Call stream (Some (bytes_of_sink m o))) found;
     }
 
+-- what is judged is its payload
+pub placed_read : (r : ServerEnd) (p : Pending) (item : Item) (place : ℕ) (d : OpenSink) (given later : List OpenSink) (moved : List ℕ) → HasWindow r.endpoint.outside r.sinks.items p → IsPlaced given p item place → given ≡ r.sinks.items → later ≡ r.sinks.items →
+    AreHeldFrom r.endpoint.link.state.memory 0 (claims_of r.sinks.items) → moved ≡ sink_bytes r.endpoint.link.state.memory (map sink_view later) p.number item.pos → read_payload (state_of r) (call_view p) ≡ whole of.Call (drop p.stream_at (take p.len p.buf)) (Some moved)
+placed_read r p item place d given later moved w q same same_later held is =
+    let h : Placed r p item (get_or r.sinks.items place d) = is_placed r p item place d w (subst (λ (ss : List OpenSink). IsPlaced ss p item place) same q) held in
+    h.payload
+    ∙ ap (λ (bytes : List ℕ). whole of.Call (drop p.stream_at (take p.len p.buf)) (Some bytes))
+    (sym (is ∙ ap (λ (ss : List OpenSink). sink_bytes r.endpoint.link.state.memory (map sink_view ss) p.number item.pos) same_later ∙ h.bytes))
+
 -- all of the call is read: its sink is over
 pub placed_over : (calls given : List Pending) (reads given_reads : List ReadEntry) (k : OpenSink) (at : ℕ) (d : Pending) → at < length calls → k.number ≡ (get_or calls at d).number → is_read (map read_view reads) (get_or calls at d).number ≡ true → given ≡ calls → given_reads ≡ reads →
     is_sink_over (map call_view given) (map read_view given_reads) (sink_view k) ≡ true
