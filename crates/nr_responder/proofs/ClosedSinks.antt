@@ -132,7 +132,7 @@ pub closed_with : (calls : List PendingCall) (reads : List PendingRead) (sinks l
 closed_with calls reads sinks later at d l m lt over is link =
     let k = over_released calls reads sinks at d l.state.memory lt over in (
       (λ i. with_released (over_sinks calls reads (map sink_view (is i))) (link i))
-      ∙ ap (λ (n : RegisteredMemory). record { awaited = l.awaited; rest = l.rest; state = record l.state { memory = n } }) k.0,
+          ∙ ap (λ (n : RegisteredMemory). record { awaited = l.awaited; rest = l.rest; state = record l.state { memory = n } }) k.0,
       ap (λ (ss : List OpenSink). left_sinks calls reads (map sink_view ss)) is ∙ k.1,
     )
 

@@ -24,8 +24,8 @@ requests_ends (r ∷ reads) q = requests_ends reads (with_request r.sink r.at r.
 pub opened_closed_queues : (l m n : LinkSide) (opened : List PendingRead) (over : List SinkRegion) (calls : List Pending) (ready : List Ready) (used : List (List ℕ)) (a b c : ℕ) → m ≡ with_opened opened l → n ≡ with_released over m → QueuesInvariant 0 l.state calls ready used a b c → QueuesInvariant 0 n.state calls ready used a b c
 opened_closed_queues l m n opened over calls ready used a b c link closed h =
     sound_as 0 0 l.state n.state calls ready used a b c (omega arith) (ap (λ (x : LinkSide). x.state.receive_queue.lent) closed ∙ ap (λ (x : LinkSide). x.state.receive_queue.lent) link)
-        (ap (λ (x : LinkSide). x.state.receive_queue.receives) closed ∙ ap (λ (x : LinkSide). x.state.receive_queue.receives) link)
-        (ap (λ (x : LinkSide). x.state.send_queue.send_ends) closed ∙ ap (λ (x : LinkSide). x.state.send_queue.send_ends) link ∙ requests_ends opened l.state.send_queue) h
+    (ap (λ (x : LinkSide). x.state.receive_queue.receives) closed ∙ ap (λ (x : LinkSide). x.state.receive_queue.receives) link)
+    (ap (λ (x : LinkSide). x.state.send_queue.send_ends) closed ∙ ap (λ (x : LinkSide). x.state.send_queue.send_ends) link ∙ requests_ends opened l.state.send_queue) h
 
 pub opened_closed_sound : (e f g : EndpointState) (opened : List PendingRead) (over : List SinkRegion) (calls : List Pending) (ready : List Ready) (used : List (List ℕ)) (reads : List ReadEntry) (sinks left : List OpenSink) (a b c : ℕ) → f.link ≡ with_opened opened e.link → f.outside ≡ e.outside →
     g.link ≡ with_released over f.link → AreHeldFrom g.link.state.memory 0 (claims_of left) → All (λ s. s.registration.len ≤ PAYLOAD_MAX) left → ((n : ℕ) → HasOutside f n → HasOutside g n) → KeepsOutside f g → map sink_view left ≡ left_sinks (map call_view calls) (map read_view reads) (map sink_view sinks) →

@@ -23,7 +23,9 @@ use crate::answering::chunk_error;
 use crate::call::{OpenSink, Pending, ReadEntry, Ready, inline_item, is_read, lists_again};
 use crate::heads::head_of;
 use crate::opening::{open_count, open_reads, send_and_open};
-use crate::payloads::{in_place, inline_stream, judge_in_place, judge_payload, stream_alone, with_item};
+use crate::payloads::{
+    in_place, inline_stream, judge_in_place, judge_payload, stream_alone, with_item,
+};
 use crate::room::{Payload, Room};
 use crate::server_end::ServerEnd;
 use crate::sink_regions::{close_over, close_with, is_read_at, sink_bytes, sink_place};

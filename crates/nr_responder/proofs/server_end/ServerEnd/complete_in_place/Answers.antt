@@ -20,8 +20,7 @@ use Rattle.nr_responder.proofs.server_end.ServerEnd.complete_in_place.Goals as g
 
 pub item_place-place-requires-clause-window : goal.item_place-place-requires-clause-window
 item_place-place-requires-clause-window c =
-    let p : Pending = c.index-call.result.now in
-    (
+    let p : Pending = c.index-call.result.now in (
       c.args.self.now.endpoint.outside,
       subst (λ (ss : List OpenSink). HasWindow c.args.self.now.endpoint.outside ss p) (sym c.as_slice.ensures.value)
           (subst (λ (x : Pending). HasWindow c.args.self.now.endpoint.outside c.args.self.now.sinks.items x) (sym c.index-call.ensures) (c.requires.window p)),
