@@ -94,6 +94,12 @@ placed_read r p item place d given later moved w q same same_later held is =
     ∙ ap (λ (bytes : List ℕ). whole of.Call (drop p.stream_at (take p.len p.buf)) (Some bytes))
     (sym (is ∙ ap (λ (ss : List OpenSink). sink_bytes r.endpoint.link.state.memory (map sink_view ss) p.number item.pos) same_later ∙ h.bytes))
 
+pub placed_len : (r : ServerEnd) (p : Pending) (item : Item) (place : ℕ) (d : OpenSink) (given later : List OpenSink) (moved : List ℕ) → HasWindow r.endpoint.outside r.sinks.items p → IsPlaced given p item place → given ≡ r.sinks.items → later ≡ r.sinks.items →
+    AreHeldFrom r.endpoint.link.state.memory 0 (claims_of r.sinks.items) → moved ≡ sink_bytes r.endpoint.link.state.memory (map sink_view later) p.number item.pos → length moved ≡ (get_or r.sinks.items place d).registration.len
+placed_len r p item place d given later moved w q same same_later held is =
+    let h : Placed r p item (get_or r.sinks.items place d) = is_placed r p item place d w (subst (λ (ss : List OpenSink). IsPlaced ss p item place) same q) held in
+    ap (λ (bytes : List ℕ). length bytes) (is ∙ ap (λ (ss : List OpenSink). sink_bytes r.endpoint.link.state.memory (map sink_view ss) p.number item.pos) same_later ∙ h.bytes) ∙ h.held
+
 -- all of the call is read: its sink is over
 pub placed_over : (calls given : List Pending) (reads given_reads : List ReadEntry) (k : OpenSink) (at : ℕ) (d : Pending) → at < length calls → k.number ≡ (get_or calls at d).number → is_read (map read_view reads) (get_or calls at d).number ≡ true → given ≡ calls → given_reads ≡ reads →
     is_sink_over (map call_view given) (map read_view given_reads) (sink_view k) ≡ true
@@ -114,6 +120,23 @@ placed_buffer r p item k f moved buffer h outside memory len is =
       (λ i. take (count i) (drop (sym h.front i) (all i))) ∙ ap (λ (xs : List ℕ). take (length bytes) xs) (drop-append_seam h.outside.front (bytes ++ h.outside.rest)) ∙ take-append_seam bytes h.outside.rest,
       (let one = ap (λ (xs : List ℕ). length xs) all ∙ length-append h.outside.front (bytes ++ h.outside.rest) in let two = length-append bytes h.outside.rest in let size = h.size in omega (arith, one, two, size, count)),
     )
+
+-- the call at a place, with that buffer
+pub record InPlace (r : ServerEnd) (p : Pending) (item : Item) (k : OpenSink) (moved : ℕ) (buffer : List ℕ) : Type 0 where
+  pub call : Placed r p item k
+  pub bytes : take moved (drop item.pos buffer) ≡ bytes_in (held_region r.endpoint.link.state.memory k.registration.stag)
+  pub len : length buffer ≡ p.around + moved
+
+pub in_place : (r : ServerEnd) (at place moved : ℕ) (p : Pending) (item : Item) (d : OpenSink) (f : EndpointState) (opened : List PendingRead) (buffer : List ℕ) → ((x : Pending) → HasWindow r.endpoint.outside r.sinks.items (get_or r.calls.items at x)) →
+    ((x : Pending) → IsPlaced r.sinks.items (get_or r.calls.items at x) item place) → AreHeldFrom r.endpoint.link.state.memory 0 (claims_of r.sinks.items) → p ≡ get_or r.calls.items at p → f.link ≡ with_opened opened r.endpoint.link → f.outside ≡ r.endpoint.outside →
+    moved ≡ (get_or r.sinks.items place d).registration.len →
+    buffer ≡ buffer_around (get f.outside (get_or r.sinks.items place d).registration.stag) (bytes_in (held_region f.link.state.memory (get_or r.sinks.items place d).registration.stag)) → InPlace r p item (get_or r.sinks.items place d) moved buffer
+in_place r at place moved p item d f opened buffer window placed held same link outside len is =
+    let k : OpenSink = get_or r.sinks.items place d in
+    let h : Placed r p item k =
+    is_placed r p item place d (subst (λ (x : Pending). HasWindow r.endpoint.outside r.sinks.items x) (sym same) (window p)) (subst (λ (x : Pending). IsPlaced r.sinks.items x item place) (sym same) (placed p)) held in
+    let b = placed_buffer r p item k f moved buffer h outside (ap (λ (l : LinkSide). l.state.memory) link) len is in
+    record { call = h; bytes = b.0; len = b.1 }
 
 -- ---- What is made of the responder
 

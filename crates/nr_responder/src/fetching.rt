@@ -162,6 +162,26 @@ impl ServerEnd {
             self.run_out();
             return;
         }
+        self.start(call, chunks, read);
+    }
+
+    /// A call whose reads may begin: its payload is completed in the buffer of its sink if it can be.
+    fn start(&mut self, call: Pending, chunks: &[u32], read: &[ReadSegment])
+        requires sound { ServerEndInvariantWith 1 self.old }
+        requires live { self.old.endpoint.link.state.ended ≡ None }
+        requires call { InBuffer call }
+        requires empty { (call.around ≡ 0) × (call.room ≡ None) }
+        requires read { read.now ≡ (call_view call).lists.read }
+        requires reads { read_total read.now ≤ PAYLOAD_MAX }
+        requires chunks { chunks.now ≡ chunk_positions (call_view call).lists.read }
+        requires stags { self.old.endpoint.link.state.memory.next + length chunks.now ≤ 2 ^ 32 }
+        requires own { list_any (λ c. c.number == call.number) self.old.calls.items ≡ false }
+        requires fresh { is_read (map read_view self.old.reads.items) call.number ≡ true }
+        ensures started { (state_of self.new ≡ reading_call (state_of self.old) (call_view call)) ⊎ (state_of self.new ≡ out (state_of self.old)) }
+        ensures sound { ServerEndInvariant self.new }
+        ensures input { SameInput self.old.endpoint.link self.new.endpoint.link }
+        ensures staging { self.new.endpoint.staging ≡ self.old.endpoint.staging }
+    {
         match window_start(&call, self.sinks.as_slice(), chunks, read) {
             Some(start) => self.start_in_place(call, chunks, read, start),
             None => self.start_reads(call, chunks, read),

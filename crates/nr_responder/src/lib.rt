@@ -26,6 +26,7 @@ mod laws;
 mod messages;
 mod opening;
 mod payloads;
+mod placing;
 mod read_done;
 mod read_lists;
 mod registering;

@@ -1,38 +1,32 @@
 //! Reads that are done (RFC 8166 section 3.4.5): their call waits for more, is ready, is refused, or ends the link.
 
-ghost use Rattle.std.specs.Prelude.{◌≡◌, ◌≢◌, ℕ, ◌+◌, ◌<◌, ◌≤◌, List, [], ◌∷◌, ◌++◌, take, drop, true, false, All, ◌==◌, not, length, map, get_or, is_some, None, Some, IfSome, OnOk, OnErr};
-ghost use Rattle.std.specs.Ordering.{nat_cmp};
-ghost use Rattle.std.specs.FinMap.{FinMap};
-ghost use Rattle.nr_regions.specs.RegisteredMemory.{Outside};
+ghost use Rattle.std.specs.Prelude.{◌≡◌, ◌≢◌, ℕ, ◌+◌, ◌<◌, ◌≤◌, List, [], ◌∷◌, ◌++◌, take, drop, true, false, All, ◌==◌, not, length, map, get_or, None, IfSome, OnOk, OnErr};
 ghost use Rattle.std.specs.List.{filter};
 ghost use Rattle.nr_header.specs.Constants.{PAYLOAD_MAX};
 ghost use Rattle.nr_link.specs.Limits.{send_max};
 ghost use Rattle.nr_reduce.specs.Holds.{chunk_error};
 ghost use Rattle.nr_reduce.specs.ServerState.{PendingRead};
 ghost use Rattle.nr_reduce.specs.ServerReads.{is_read};
-ghost use Rattle.nr_reduce.specs.Chunks.{call_conveyed, call_stream, is_read_chunk_of_item, item_position, whole};
-ghost use Rattle.nr_reduce.specs.declared.item.Of.TheVariants as of;
+ghost use Rattle.nr_reduce.specs.Chunks.{call_conveyed, call_stream, is_read_chunk_of_item, item_position};
 ghost use Rattle.nr_responder.specs.private.Reading.{opening, sink_bytes, with_opened_after};
-ghost use Rattle.nr_responder.specs.private.ReadsDone.{has_bad_chunk, read_payload, reads_without, still_open, HandlesRead, NothingReady};
-ghost use Rattle.nr_responder.specs.private.DoneReads.{IsOfCall, IsPlaced, ReadsOn, ReadyMade};
+ghost use Rattle.nr_responder.specs.private.ReadsDone.{has_bad_chunk, reads_without, still_open, HandlesRead, NothingReady};
+ghost use Rattle.nr_responder.specs.private.DoneReads.{IsOfCall, ReadsOn, ReadyMade};
 ghost use Rattle.nr_responder.specs.Rooms.{payload_room};
-ghost use Rattle.nr_responder.specs.Sound.{claims_of, state_of, AreHeldFrom, HasSpace, HasWindow, InBuffer, IsRoom, ServerEndInvariant, SameInput};
+ghost use Rattle.nr_responder.specs.Sound.{claims_of, state_of, AreHeldFrom, HasSpace, InBuffer, IsRoom, ServerEndInvariant, SameInput};
 ghost use Rattle.nr_responder.specs.Views.{call_view, read_view, sink_view};
 
 use crate::answering::chunk_error;
-use crate::call::{OpenSink, Pending, ReadEntry, Ready, inline_item, is_read, lists_again};
+use crate::call::{OpenSink, Pending, ReadEntry, Ready, is_read, lists_again};
 use crate::heads::head_of;
 use crate::opening::{open_count, open_reads, send_and_open};
-use crate::payloads::{
-    in_place, inline_stream, judge_in_place, judge_payload, stream_alone, with_item,
-};
+use crate::payloads::{inline_stream, judge_payload, stream_alone, with_item};
 use crate::room::{Payload, Room};
 use crate::server_end::ServerEnd;
-use crate::sink_regions::{close_over, close_with, is_read_at, sink_bytes, sink_place};
+use crate::sink_regions::{close_over, is_read_at, sink_bytes};
 use nr_endpoint::Endpoint;
 use nr_header::ListsRoom;
-use nr_reduce::{Item, is_read_chunk_of_item, item_position};
-use nr_xdr::{Memory, Octets};
+use nr_reduce::{is_read_chunk_of_item, item_position};
+use nr_xdr::Memory;
 use std::alloc::Global;
 
 /// The place of the call whose Send has this number.
@@ -109,52 +103,6 @@ fn payload_read(
         }
         None => Some(stream_alone(room, stream, head.target)),
     }
-}
-
-/// The item of a call whose payload is completed in the buffer of its sink, and the place of that sink.
-fn item_place(call: &Pending, sinks: &[OpenSink]) -> (Item, usize)
-    requires call { InBuffer call.now }
-    requires window { (around : FinMap nat_cmp Outside) × HasWindow around sinks.now call.now }
-    ensures { IsPlaced sinks.now call.now result.0 result.1 }
-{
-    match inline_item(call) {
-        Some(item) => match sink_place(sinks, call.number, item.pos as u32) {
-            Some(place) => (item, place),
-            None => unreachable!(),
-        },
-        None => unreachable!(),
-    }
-}
-
-/// The payload of a call, completed in the buffer of its sink, whose region has `moved` bytes. The call keeps no more bytes for it.
-fn payload_in_place(call: &mut Pending, buffer: Octets, item: Item, moved: usize) -> Payload
-    requires call { InBuffer call.old }
-    requires item { (call.old.inline ≡ true) × (call.old.item ≡ Some (Some item)) }
-    requires within { call.old.stream_at + item.pos ≤ call.old.len }
-    requires room { call.old.len + moved + 3 ≤ call.old.stream_at + length buffer }
-    requires most { length buffer ≤ payload_room }
-    requires whole { is_some (whole of.Call (drop call.old.stream_at (take call.old.len call.old.buf)) (Some (take moved (drop item.pos buffer)))) ≡ true }
-    ensures payload { whole of.Call (drop call.old.stream_at (take call.old.len call.old.buf)) (Some (take moved (drop item.pos buffer))) ≡ Some result }
-    ensures call { call.new ≡ record call.old { around = 0 } }
-{
-    let payload = placed_payload(call, buffer, item, moved);
-    call.around = 0;
-    payload
-}
-
-/// The same, from a call that is read.
-fn placed_payload(call: &Pending, buffer: Octets, item: Item, moved: usize) -> Payload
-    requires call { InBuffer call.now }
-    requires item { (call.now.inline ≡ true) × (call.now.item ≡ Some (Some item)) }
-    requires within { call.now.stream_at + item.pos ≤ call.now.len }
-    requires room { call.now.len + moved + 3 ≤ call.now.stream_at + length buffer }
-    requires most { length buffer ≤ payload_room }
-    requires whole { is_some (whole of.Call (drop call.now.stream_at (take call.now.len call.now.buf)) (Some (take moved (drop item.pos buffer)))) ≡ true }
-    ensures { whole of.Call (drop call.now.stream_at (take call.now.len call.now.buf)) (Some (take moved (drop item.pos buffer))) ≡ Some result }
-{
-    let stream = inline_stream(call);
-    let target = head_of(call, stream).target;
-    in_place(buffer, stream, target, item, moved)
 }
 
 /// Takes the room of a call's payload out of it.
@@ -313,75 +261,6 @@ impl ServerEnd {
             self.complete_in_room(at, done, kept);
         } else {
             self.complete_in_place(at, done, kept);
-        }
-    }
-
-    /// The same, if its payload is completed in the buffer of its sink.
-    fn complete_in_place(&mut self, at: usize, done: ReadEntry, kept: usize)
-        requires sound { ServerEndInvariant self.old }
-        requires live { self.old.endpoint.link.state.ended ≡ None }
-        requires frame { 0 < self.old.endpoint.link.state.place }
-        requires at { at < length self.old.calls.items }
-        requires call { (d : Pending) → IsOfCall (state_of self.old) (read_view done) kept at (call_view (get_or self.old.calls.items at d)) }
-        requires few { length self.old.ready.items < length self.old.calls.items }
-        requires fine { (d : Pending) → has_bad_chunk (state_of self.old) (call_view (get_or self.old.calls.items at d)) (read_view done) (map read_view self.old.reads.items) ≡ false }
-        requires read { (d : Pending) → is_read (map read_view self.old.reads.items) (get_or self.old.calls.items at d).number ≡ true }
-        requires window { (d : Pending) → HasWindow self.old.endpoint.outside self.old.sinks.items (get_or self.old.calls.items at d) }
-        ensures handled { HandlesRead (state_of self.old) (read_view done) (map read_view self.old.reads.items) (state_of self.new) }
-        ensures sound { ServerEndInvariant self.new }
-        ensures input { SameInput self.old.endpoint.link self.new.endpoint.link }
-        ensures staging { self.new.endpoint.staging ≡ self.old.endpoint.staging }
-    {
-        // Only the contract speaks of it.
-        let _done = done;
-        let call = &self.calls[at];
-        let (item, place) = item_place(call, self.sinks.as_slice());
-        let moved = sink_bytes(
-            &self.endpoint,
-            self.sinks.as_slice(),
-            call.number,
-            item.pos as u32,
-        );
-        match judge_in_place(call, item, moved) {
-            None => self.ready_in_place(at, item, place, kept),
-            Some(reason) => self.end_for(reason),
-        }
-    }
-
-    /// The call at this place, of which all is read, is ready with the payload that is completed in the buffer of its sink.
-    fn ready_in_place(&mut self, at: usize, item: Item, place: usize, kept: usize)
-        requires sound { ServerEndInvariant self.old }
-        requires live { self.old.endpoint.link.state.ended ≡ None }
-        requires at { at < length self.old.calls.items }
-        requires few { length self.old.ready.items < length self.old.calls.items }
-        requires read { (d : Pending) → is_read (map read_view self.old.reads.items) (get_or self.old.calls.items at d).number ≡ true }
-        requires window { (d : Pending) → HasWindow self.old.endpoint.outside self.old.sinks.items (get_or self.old.calls.items at d) }
-        requires placed { (d : Pending) → IsPlaced self.old.sinks.items (get_or self.old.calls.items at d) item place }
-        requires whole { (d : Pending) → is_some (read_payload (state_of self.old) (call_view (get_or self.old.calls.items at d))) ≡ true }
-        ensures made { (d : Pending) (payload : List ℕ) → read_payload (state_of self.old) (call_view (get_or self.old.calls.items at d)) ≡ Some payload → ReadyMade (state_of self.old) kept (get_or self.old.calls.items at d).xid payload (state_of self.new) }
-        ensures sound { ServerEndInvariant self.new }
-        ensures input { SameInput self.old.endpoint.link self.new.endpoint.link }
-        ensures staging { self.new.endpoint.staging ≡ self.old.endpoint.staging }
-    {
-        self.endpoint.facts();
-        match open_reads(&mut self.endpoint, self.alloc, self.reads.as_slice(), kept) {
-            Err(_) => self.run_out(),
-            Ok(()) => {
-                let moved = self.sinks[place].registration.len() as usize;
-                let buffer = close_with(
-                    &mut self.endpoint,
-                    &mut self.sinks,
-                    place,
-                    self.calls.as_slice(),
-                    self.reads.as_slice(),
-                );
-                let xid = self.calls[at].xid;
-                let payload = payload_in_place(&mut self.calls[at], buffer, item, moved);
-                self.ready.push_back_reserved(Ready {
-                    xid,
-                    payload: Some(payload),
-                });
-            }
         }
     }
 

@@ -15,7 +15,7 @@ use Rattle.nr_responder.specs.Views.{call_view, read_view}
 use Rattle.nr_responder.proofs.Answered.{same_item}
 use Rattle.nr_responder.proofs.ClosedSinks.{no_sink}
 use Rattle.nr_responder.proofs.DoneReads.{ends_for, readies}
-use Rattle.nr_responder.proofs.PlacedReads.{placed_read}
+use Rattle.nr_responder.proofs.PlacedReads.{placed_len, placed_read}
 use Rattle.nr_responder.proofs.server_end.ServerEnd.complete_in_place.Goals as goal
 
 pub item_place-place-requires-clause-window : goal.item_place-place-requires-clause-window
@@ -36,6 +36,12 @@ ready_in_place-requires-clause-whole c = λ d.
     let ready : IsReadyWith (call_view p) (whole of.Call stream (Some c.sink_bytes-moved.result.now)) = c.in-None.ensures.verdict in
     ap (λ (x : Pending). is_some (read_payload (state_of c.args.self.now) (call_view x))) (same_item c.args.self.now.calls.items c.args.at p d c.requires.at ∙ sym c.index-call.ensures) ∙ ap is_some is ∙ ap is_some ready.is
 
+pub ready_in_place-requires-clause-moved : goal.ready_in_place-requires-clause-moved
+ready_in_place-requires-clause-moved c = λ d.
+    let p : Pending = c.index-call.result.now in
+    let w : HasWindow c.args.self.now.endpoint.outside c.args.self.now.sinks.items p = subst (λ (x : Pending). HasWindow c.args.self.now.endpoint.outside c.args.self.now.sinks.items x) (sym c.index-call.ensures) (c.requires.window p) in
+    placed_len c.args.self.now p c.item_place-place.result.0 c.item_place-place.result.1 d c.as_slice.result.now c.as_slice-2.result.now c.sink_bytes-moved.result.now w c.item_place-place.ensures c.as_slice.ensures.value c.as_slice-2.ensures.value c.requires.sound.1.held c.sink_bytes-moved.ensures.bytes
+
 pub returns-in-None-clause-handled : goal.returns-in-None-clause-handled
 returns-in-None-clause-handled c =
     let p : Pending = c.index-call.result.now in
@@ -49,8 +55,7 @@ returns-in-None-clause-handled c =
     readies v v (state_of c.ready_in_place.new.self) (read_view c.args.done) c.args.kept c.args.at (call_view p) ready.payload (subst (λ (x : Pending). IsOfCall v (read_view c.args.done) c.args.kept c.args.at (call_view x)) same (c.requires.call p))
     (subst (λ (x : Pending). has_bad_chunk v (call_view x) (read_view c.args.done) (map read_view c.args.self.now.reads.items) ≡ false) same (c.requires.fine p))
     (subst (λ (x : Pending). is_read (map read_view c.args.self.now.reads.items) x.number ≡ true) same (c.requires.read p)) (ap (by_payload (call_view p)) is ∙ ready.judged) refl
-    (subst (λ (x : Pending). ReadyMade v c.args.kept x.xid ready.payload (state_of c.ready_in_place.new.self)) same
-    (c.ready_in_place.ensures.made p ready.payload (ap (λ (x : Pending). read_payload v (call_view x)) same ∙ is ∙ ready.is)))
+    (c.ready_in_place.ensures.made p ready.payload (ap (λ (x : Pending). read_payload v (call_view x)) same ∙ is ∙ ready.is))
 
 pub returns-in-Some-clause-handled : goal.returns-in-Some-clause-handled
 returns-in-Some-clause-handled c =
