@@ -1,8 +1,8 @@
 -- The reads of a call begin whose payload is completed in the buffer of its sink.
-use Rattle.std.proofs.Common.{◌≡◌, ◌≢◌, ℕ, ◌+◌, ◌-◌, ◌<◌, ◌≤◌, Bool, true, false, cond, eqb, ◌&&◌, List, [], ◌∷◌, ◌++◌, length, take, drop, replicate, get_or, map, Option, Some, None, refl, sym, ap, subst, ◌∙◌, arith, append-nil}
+use Rattle.std.proofs.Common.{◌≡◌, ◌≢◌, ℕ, ◌+◌, ◌-◌, ◌≤◌, cond, ◌&&◌, List, [], ◌∷◌, ◌++◌, length, take, drop, replicate, get_or, map, Option, Some, None, refl, sym, ap, subst, ◌∙◌, arith, append-nil}
 use Rattle.std.specs.Prelude.{find}
 use Rattle.std.specs.Option.{option_or}
-use Rattle.std.specs.List.{AllByRecursion, list_all}
+use Rattle.std.specs.List.{AllByRecursion}
 use Rattle.std.specs.FinMap.{FinMap, get, insert}
 use Rattle.std.specs.Ordering.{nat_cmp}
 use Rattle.std.proofs.lemmas.Bool.{eq-eqb}
@@ -10,25 +10,22 @@ use Rattle.std.proofs.lemmas.List.{drop_all, drop-replicate, length-drop, length
 use Rattle.std.proofs.lemmas.List.Folds.{find-append}
 use Rattle.nr_header.specs.declared.header.ReadSegment.{ReadSegment}
 use Rattle.nr_regions.specs.declared.right.Right.TheVariants.{Sink}
-use Rattle.nr_regions.specs.RegisteredMemory.{Outside, RegisteredMemory, claim_of, outside_len, outside_window, window_bytes}
+use Rattle.nr_regions.specs.RegisteredMemory.{Outside, claim_of, outside_len, outside_window, window_bytes}
 use Rattle.nr_regions.proofs.Holding.{get_insert_here}
 use Rattle.nr_endpoint.specs.EndpointState.{EndpointState}
 use Rattle.nr_endpoint.specs.LinkState.{LinkSide}
 use Rattle.nr_endpoint.specs.Calls.{after_call}
 use Rattle.nr_endpoint.specs.Calls.Call.{Register}
-use Rattle.nr_link.specs.Limits.{send_max}
-use Rattle.nr_reduce.specs.Chunks.{item_position, total_at}
+use Rattle.nr_reduce.specs.Chunks.{item_position}
 use Rattle.nr_responder.specs.Fetching.{SinkRegion, open_sinks}
 use Rattle.nr_responder.specs.declared.call.Pending.{Pending}
 use Rattle.nr_responder.specs.declared.call.ReadEntry.{ReadEntry}
 use Rattle.nr_responder.specs.declared.call.OpenSink.{OpenSink}
 use Rattle.nr_responder.specs.private.CallsRead.{sink_buffer, sinks_from, with_registered}
 use Rattle.nr_responder.specs.private.Reading.{is_sink}
-use Rattle.nr_responder.specs.private.Starting.{BeginsOutside, BeginsReads, FitsWindow, reads_more, with_around}
-use Rattle.nr_responder.specs.Rooms.{payload_room}
+use Rattle.nr_responder.specs.private.Starting.{BeginsOutside, BeginsReads, FitsWindow, with_around}
 use Rattle.nr_responder.specs.Sound.{HasOutside, HasRoom, HasWindow, InBuffer, room_len}
 use Rattle.nr_responder.specs.Views.{call_view, read_view, sink_view}
-use Rattle.nr_responder.proofs.BegunReads.{window_apart}
 use Rattle.nr_responder.proofs.RegisteredSinks.{link_step, registered_kept, registered_next, sinks_step}
 use Rattle.nr_responder.proofs.Windows.{same_outside}
 

@@ -12,7 +12,7 @@ use Rattle.nr_reduce.specs.ServerMessages.{by_payload}
 use Rattle.nr_reduce.specs.ServerMessages.CallVerdict.{Refuses}
 use Rattle.nr_responder.specs.declared.call.Pending.{Pending}
 use Rattle.nr_responder.specs.private.CallsRead.{verdict_by}
-use Rattle.nr_responder.specs.private.DoneReads.{IsReadyWith, JudgesPlaced}
+use Rattle.nr_responder.specs.private.DoneReads.{JudgesPlaced}
 use Rattle.nr_responder.specs.Sound.{InBuffer}
 use Rattle.nr_responder.proofs.ReadHeads.{whole_head}
 

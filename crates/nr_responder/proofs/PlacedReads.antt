@@ -14,8 +14,8 @@ use Rattle.nr_endpoint.specs.EndpointState.{EndpointState}
 use Rattle.nr_endpoint.specs.LinkState.{LinkState, LinkSide}
 use Rattle.nr_reduce.specs.declared.item.Item.{Item}
 use Rattle.nr_reduce.specs.declared.item.Of.TheVariants as of
-use Rattle.nr_reduce.specs.Chunks.{call_conveyed, call_moved, call_stream, whole}
-use Rattle.nr_reduce.specs.ServerState.{PendingCall, PendingRead}
+use Rattle.nr_reduce.specs.Chunks.{call_stream, whole}
+use Rattle.nr_reduce.specs.ServerState.{PendingRead}
 use Rattle.nr_reduce.specs.ServerReads.{is_read, is_read_at}
 use Rattle.nr_responder.specs.declared.call.Pending.{Pending}
 use Rattle.nr_responder.specs.declared.call.Ready.{Ready}
@@ -24,7 +24,6 @@ use Rattle.nr_responder.specs.declared.call.OpenSink.{OpenSink}
 use Rattle.nr_responder.specs.declared.server_end.ServerEnd.{ServerEnd}
 use Rattle.nr_responder.specs.Fetching.{SinkRegion}
 use Rattle.nr_responder.specs.ResponderState.{ResponderSide}
-use Rattle.nr_responder.specs.Rooms.{payload_room}
 use Rattle.nr_responder.specs.private.DoneReads.{IsPlaced}
 use Rattle.nr_responder.specs.private.Reading.{bytes_of_sink, is_sink, is_sink_over, left_sinks, opening, over_sinks, sink_bytes, with_opened, with_released}
 use Rattle.nr_responder.specs.private.ReadsDone.{read_payload, reading_on}

@@ -7,7 +7,7 @@ use Rattle.std.proofs.lemmas.List.{drop_more}
 use Rattle.nr_header.specs.declared.header.ReadSegment.{ReadSegment}
 use Rattle.nr_regions.specs.declared.right.Right.{Right}
 use Rattle.nr_regions.specs.declared.right.Right.TheVariants.{Sink}
-use Rattle.nr_regions.specs.RegisteredMemory.{RegisteredMemory, Claim, IsHeld, Outside, after_register, claim_of, nothing_outside, outside_len}
+use Rattle.nr_regions.specs.RegisteredMemory.{RegisteredMemory, Claim, IsHeld, Outside, after_register, claim_of, outside_len}
 use Rattle.nr_regions.specs.Table.{IsTotal}
 use Rattle.nr_regions.proofs.Holding.{get_insert_other}
 use Rattle.nr_regions.proofs.Totals.{sound_register}

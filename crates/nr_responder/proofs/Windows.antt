@@ -1,5 +1,5 @@
 -- The calls whose payloads are completed in the buffers of their sinks keep them, and no other bytes are outside of regions.
-use Rattle.std.proofs.Common.{◌≡◌, ◌≢◌, ℕ, zero, suc, ◌+◌, ◌-◌, ◌*◌, ◌⊎◌, ◌<◌, ◌≤◌, Bool, true, false, not, cond, eqb, ◌||◌, ◌&&◌, List, [], ◌∷◌, ◌++◌, length, get_or, set, map, Option, Some, None, is_some, All, refl, sym, ap, subst, ◌∙◌, arith, inl, inr}
+use Rattle.std.proofs.Common.{◌≡◌, ◌≢◌, ℕ, zero, suc, ◌+◌, ◌-◌, ◌*◌, ◌⊎◌, ◌<◌, ◌≤◌, Bool, true, false, not, cond, eqb, ◌||◌, ◌&&◌, List, [], ◌∷◌, ◌++◌, length, get_or, set, map, Some, None, is_some, All, refl, sym, ap, subst, ◌∙◌, arith, inl, inr}
 use Rattle.std.specs.Prelude.{find, sum_by}
 use Rattle.std.specs.List.{AllByRecursion, list_any, remove}
 use Rattle.std.specs.FinMap.{FinMap, get}
@@ -9,7 +9,7 @@ use Rattle.std.proofs.lemmas.Bool.{cases_eq, eqb-true, eq-eqb}
 use Rattle.std.proofs.lemmas.List.Sums.{sum_by-append, sum_by-cons}
 use Rattle.nr_regions.proofs.Holding.{get_remove_other, release_here, release_other}
 use Rattle.nr_regions.proofs.Totals.{sound_release}
-use Rattle.nr_regions.specs.RegisteredMemory.{RegisteredMemory, Outside, Claim, IsHeld, after_release, held_region, outside_len}
+use Rattle.nr_regions.specs.RegisteredMemory.{RegisteredMemory, Outside, after_release, held_region, outside_len}
 use Rattle.nr_regions.specs.Table.{IsTotal}
 use Rattle.nr_endpoint.specs.EndpointState.{EndpointState}
 use Rattle.nr_reduce.specs.ServerState.{PendingCall, PendingRead}

@@ -1,9 +1,7 @@
-use Rattle.std.proofs.Common.{◌≡◌, ℕ, Bool, true, false, List, take, drop, Some, None, Result, is_some, sym, ap, subst, ◌∙◌, arith}
+use Rattle.std.proofs.Common.{◌≡◌, ℕ, true, false, take, drop, Result, is_some, sym, ap, subst, ◌∙◌, arith}
 use Rattle.nr_xdr.specs.Item.{IsBytes}
 use Rattle.nr_rpc.specs.declared.head.CallHead.{CallHead}
 use Rattle.nr_rpc.specs.Reading.{target_of}
-use Rattle.nr_reduce.specs.Chunks.{whole}
-use Rattle.nr_reduce.specs.declared.item.Of.TheVariants as of
 use Rattle.nr_responder.proofs.JoinedPayloads.{no_payload}
 use Rattle.nr_responder.proofs.ReadHeads.{whole_head}
 use Rattle.nr_reduce.proofs.ItemSearch.{IsBytes_take}

@@ -1,4 +1,4 @@
-use Rattle.std.proofs.Common.{◌≡◌, ℕ, Bool, List, take, drop, Some, refl, sym, ap, subst, ◌∙◌, arith}
+use Rattle.std.proofs.Common.{ℕ, List, take, drop, refl, sym, ap, subst, ◌∙◌, arith}
 use Rattle.nr_xdr.specs.Item.{IsBytes}
 use Rattle.nr_rpc.specs.Reading.{call_of}
 use Rattle.nr_responder.specs.Views.{call_view}

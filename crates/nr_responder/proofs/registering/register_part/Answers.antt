@@ -1,4 +1,4 @@
-use Rattle.std.proofs.Common.{◌≡◌, ◌+◌, ◌≤◌, ℕ, length, take, drop, ap, ◌∙◌, arith}
+use Rattle.std.proofs.Common.{◌+◌, ◌≤◌, drop, ap, ◌∙◌, arith}
 use Rattle.std.proofs.lemmas.List.{length-drop, length-take}
 use Rattle.nr_header.specs.Constants.{PAYLOAD_MAX}
 use Rattle.nr_regions.specs.RegisteredMemory.{Claim, outside_window, window_bytes}

@@ -1,4 +1,4 @@
-use Rattle.std.proofs.Common.{◌≤◌, List, map, sym, ap, subst, ◌∙◌, All}
+use Rattle.std.proofs.Common.{◌≤◌, List, map, sym, subst, ◌∙◌, All}
 use Rattle.nr_header.specs.Constants.{PAYLOAD_MAX}
 use Rattle.nr_responder.specs.declared.call.OpenSink.{OpenSink}
 use Rattle.nr_responder.specs.Views.{call_view, read_view}

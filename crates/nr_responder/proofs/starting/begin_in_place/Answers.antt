@@ -1,9 +1,7 @@
 use Rattle.std.proofs.Common.{◌≡◌, ℕ, ◌+◌, ◌≤◌, ◌∙◌, List, length, replicate, get_or, All, refl, sym, ap, subst, arith}
 use Rattle.std.proofs.lemmas.List.{length-replicate}
 use Rattle.nr_header.specs.Constants.{PAYLOAD_MAX}
-use Rattle.nr_regions.specs.RegisteredMemory.{Outside, RegisteredMemory}
-use Rattle.std.specs.FinMap.{FinMap, get}
-use Rattle.std.specs.Ordering.{nat_cmp}
+use Rattle.nr_regions.specs.RegisteredMemory.{RegisteredMemory}
 use Rattle.nr_endpoint.specs.LinkState.{LinkSide}
 use Rattle.nr_responder.specs.declared.call.OpenSink.{OpenSink}
 use Rattle.nr_responder.specs.Sound.{AreHeldFrom, claims_of}

@@ -1,14 +1,12 @@
-use Rattle.std.proofs.Common.{◌≡◌, ℕ, Bool, true, false, List, take, drop, get_or, map, Some, is_some, refl, sym, ap, subst, ◌∙◌}
+use Rattle.std.proofs.Common.{◌≡◌, ℕ, true, false, List, take, drop, get_or, map, Some, is_some, refl, sym, ap, subst, ◌∙◌}
 use Rattle.nr_reduce.specs.ServerMessages.{by_payload}
-use Rattle.nr_reduce.specs.ServerState.{PendingCall}
 use Rattle.nr_reduce.specs.ServerReads.{is_read}
 use Rattle.nr_reduce.specs.Chunks.{whole}
 use Rattle.nr_reduce.specs.declared.item.Of.TheVariants as of
 use Rattle.nr_responder.specs.declared.call.Pending.{Pending}
 use Rattle.nr_responder.specs.declared.call.OpenSink.{OpenSink}
 use Rattle.nr_responder.specs.ResponderState.{ResponderSide}
-use Rattle.nr_responder.specs.private.CallsRead.{ready_with_payload}
-use Rattle.nr_responder.specs.private.DoneReads.{IsOfCall, IsReadyWith, JudgesPlaced, ReadyMade}
+use Rattle.nr_responder.specs.private.DoneReads.{IsOfCall, IsReadyWith}
 use Rattle.nr_responder.specs.private.ReadsDone.{has_bad_chunk, read_payload}
 use Rattle.nr_responder.specs.Sound.{HasWindow, state_of}
 use Rattle.nr_responder.specs.Views.{call_view, read_view}

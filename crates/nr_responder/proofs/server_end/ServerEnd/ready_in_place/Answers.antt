@@ -1,17 +1,13 @@
-use Rattle.std.proofs.Common.{rules, ◌≡◌, ℕ, ◌+◌, ◌≤◌, Bool, true, List, [], ◌∷◌, ◌++◌, length, take, drop, get_or, set, map, Option, Some, is_some, refl, sym, ap, subst, ◌∙◌, arith, inl}
+use Rattle.std.proofs.Common.{◌≡◌, ℕ, true, List, [], ◌∷◌, ◌++◌, take, drop, get_or, map, Some, is_some, refl, sym, ap, subst, ◌∙◌, arith, inl}
 use Rattle.std.proofs.Math.Seq.{map-set_same}
 use Rattle.nr_reduce.specs.Chunks.{whole}
-use Rattle.nr_reduce.specs.ServerState.{PendingCall}
 use Rattle.nr_reduce.specs.ServerReads.{is_read}
 use Rattle.nr_reduce.specs.declared.item.Of.TheVariants as of
-use Rattle.nr_endpoint.specs.LinkState.{LinkSide}
 use Rattle.nr_responder.specs.declared.call.Pending.{Pending}
-use Rattle.nr_responder.specs.declared.call.ReadEntry.{ReadEntry}
 use Rattle.nr_responder.specs.declared.call.OpenSink.{OpenSink}
-use Rattle.nr_responder.specs.private.DoneReads.{IsPlaced, ReadyMade}
 use Rattle.nr_responder.specs.private.Reading.{left_sinks, opening, over_sinks, with_opened, with_released}
 use Rattle.nr_responder.specs.private.ReadsDone.{read_payload}
-use Rattle.nr_responder.specs.Sound.{HasWindow, InBuffer, state_of}
+use Rattle.nr_responder.specs.Sound.{InBuffer, state_of}
 use Rattle.nr_responder.specs.Views.{call_view, read_view, sink_view}
 use Rattle.nr_responder.proofs.Answered.{same_item}
 use Rattle.nr_responder.proofs.ClosedSinks.{no_sink}
