@@ -24,11 +24,11 @@ use Rattle.nr_responder.specs.declared.call.Ready.{Ready}
 use Rattle.nr_responder.specs.declared.call.ReadEntry.{ReadEntry}
 use Rattle.nr_responder.specs.declared.call.OpenSink.{OpenSink}
 use Rattle.nr_responder.specs.declared.server_end.ServerEnd.{ServerEnd}
-use Rattle.nr_responder.specs.Fetching.{SinkRegion, open_sinks}
+use Rattle.nr_responder.specs.Fetching.{SinkRegion, open_sinks, is_sink}
 use Rattle.nr_responder.specs.ResponderState.{ResponderSide}
 use Rattle.nr_responder.specs.private.CallsRead.{chunk_positions, reading_call, reads_with, opened_with, sinks_from, sinks_of, with_registered}
 use Rattle.nr_responder.specs.private.Handling.{out}
-use Rattle.nr_responder.specs.private.Reading.{is_sink, opening, with_opened}
+use Rattle.nr_responder.specs.private.Reading.{opening, with_opened}
 use Rattle.nr_responder.specs.private.Starting.{BeginsReads, OpensReads, reads_more, with_around, with_room}
 use Rattle.nr_responder.specs.Rooms.{payload_room}
 use Rattle.nr_responder.specs.Sound.{AreFetched, AreHeldFrom, QueuesInvariant, HasOutside, HasRoom, HasWindow, InBuffer, SameInput, around_of, claims_of, payloads_of, state_of, xids_of}

@@ -17,12 +17,11 @@ use Rattle.nr_endpoint.specs.LinkState.{LinkSide}
 use Rattle.nr_endpoint.specs.Calls.{after_call}
 use Rattle.nr_endpoint.specs.Calls.Call.{Register}
 use Rattle.nr_reduce.specs.Chunks.{item_position}
-use Rattle.nr_responder.specs.Fetching.{SinkRegion, open_sinks}
+use Rattle.nr_responder.specs.Fetching.{SinkRegion, open_sinks, is_sink}
 use Rattle.nr_responder.specs.declared.call.Pending.{Pending}
 use Rattle.nr_responder.specs.declared.call.ReadEntry.{ReadEntry}
 use Rattle.nr_responder.specs.declared.call.OpenSink.{OpenSink}
 use Rattle.nr_responder.specs.private.CallsRead.{sink_buffer, sinks_from, with_registered}
-use Rattle.nr_responder.specs.private.Reading.{is_sink}
 use Rattle.nr_responder.specs.private.Starting.{BeginsOutside, BeginsReads, FitsWindow, with_around}
 use Rattle.nr_responder.specs.Sound.{HasOutside, HasRoom, HasWindow, InBuffer, room_len}
 use Rattle.nr_responder.specs.Views.{call_view, read_view, sink_view}

@@ -22,10 +22,10 @@ use Rattle.nr_responder.specs.declared.call.Ready.{Ready}
 use Rattle.nr_responder.specs.declared.call.ReadEntry.{ReadEntry}
 use Rattle.nr_responder.specs.declared.call.OpenSink.{OpenSink}
 use Rattle.nr_responder.specs.declared.server_end.ServerEnd.{ServerEnd}
-use Rattle.nr_responder.specs.Fetching.{SinkRegion}
+use Rattle.nr_responder.specs.Fetching.{SinkRegion, is_sink}
 use Rattle.nr_responder.specs.ResponderState.{ResponderSide}
 use Rattle.nr_responder.specs.private.DoneReads.{IsPlaced}
-use Rattle.nr_responder.specs.private.Reading.{bytes_of_sink, is_sink, is_sink_over, left_sinks, opening, over_sinks, sink_bytes, with_opened, with_released}
+use Rattle.nr_responder.specs.private.Reading.{bytes_of_sink, is_sink_over, left_sinks, opening, over_sinks, sink_bytes, with_opened, with_released}
 use Rattle.nr_responder.specs.private.ReadsDone.{read_payload, reading_on}
 use Rattle.nr_responder.specs.Sound.{AreFetched, AreHeldFrom, HasOutside, HasRoom, HasWindow, InBuffer, KeepsOutside, QueuesInvariant, around_of, claims_of, payloads_of, room_len, state_of, xids_of}
 use Rattle.nr_responder.specs.Views.{call_view, inline_of, read_view, sink_view}

@@ -14,11 +14,11 @@ use Rattle.nr_regions.specs.Table.{IsTotal}
 use Rattle.nr_endpoint.specs.EndpointState.{EndpointState}
 use Rattle.nr_reduce.specs.ServerState.{PendingCall, PendingRead}
 use Rattle.nr_reduce.specs.ServerReads.{is_read}
-use Rattle.nr_responder.specs.Fetching.{SinkRegion}
+use Rattle.nr_responder.specs.Fetching.{SinkRegion, is_sink}
 use Rattle.nr_responder.specs.declared.call.Pending.{Pending}
 use Rattle.nr_responder.specs.declared.call.ReadEntry.{ReadEntry}
 use Rattle.nr_responder.specs.declared.call.OpenSink.{OpenSink}
-use Rattle.nr_responder.specs.private.Reading.{is_sink, is_sink_over, left_sinks}
+use Rattle.nr_responder.specs.private.Reading.{is_sink_over, left_sinks}
 use Rattle.nr_responder.specs.Rooms.{payload_room}
 use Rattle.nr_responder.specs.Sound.{AreHeldFrom, HasOutside, HasRoom, HasSpace, HasWindow, KeepsOutside, around_of, claims_of, room_len}
 use Rattle.nr_responder.specs.Views.{call_view, read_view, sink_view}

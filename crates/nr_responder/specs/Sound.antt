@@ -21,8 +21,7 @@ use Rattle.nr_endpoint.specs.LinkState.{LinkState, LinkSide}
 use Rattle.nr_link.specs.Limits.{send_max}
 use Rattle.nr_responder.specs.declared.call.Pending.{Pending}
 use Rattle.nr_responder.specs.declared.server_end.ServerEnd.{ServerEnd}
-use Rattle.nr_responder.specs.Fetching.{Fetching, SinkRegion}
-use Rattle.nr_responder.specs.private.Reading.{is_sink}
+use Rattle.nr_responder.specs.Fetching.{Fetching, SinkRegion, is_sink}
 use Rattle.nr_responder.specs.ResponderState.{ResponderSide, ResponderState, unsent}
 use Rattle.nr_responder.specs.Rooms.{payload_room}
 use Rattle.nr_responder.specs.Views.{call_view, read_view, sink_view, HasLists}

@@ -14,7 +14,8 @@ use Rattle.nr_responder.specs.private.CallsRead.{ready_with_payload}
 use Rattle.nr_responder.specs.ResponderState.{ResponderSide}
 use Rattle.nr_endpoint.specs.LinkState.{LinkState}
 use Rattle.nr_responder.specs.declared.server_end.ServerEnd.{ServerEnd}
-use Rattle.nr_responder.specs.private.Reading.{is_sink, opening, over_sinks, left_sinks}
+use Rattle.nr_responder.specs.Fetching.{is_sink}
+use Rattle.nr_responder.specs.private.Reading.{opening, over_sinks, left_sinks}
 use Rattle.nr_responder.specs.private.ReadsDone.{call_of_read, ended_as, reading_on, side_after_done, still_open}
 use Rattle.nr_responder.specs.Views.{call_view, read_view, sink_view}
 

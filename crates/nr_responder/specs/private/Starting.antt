@@ -14,9 +14,9 @@ use Rattle.nr_reduce.specs.ServerReads.{reads_from}
 use Rattle.nr_responder.specs.declared.call.Pending.{Pending}
 use Rattle.nr_responder.specs.declared.call.ReadEntry.{ReadEntry}
 use Rattle.nr_responder.specs.declared.call.OpenSink.{OpenSink}
-use Rattle.nr_responder.specs.Fetching.{open_sinks}
+use Rattle.nr_responder.specs.Fetching.{open_sinks, is_sink}
 use Rattle.nr_responder.specs.private.CallsRead.{sinks_from, with_registered}
-use Rattle.nr_responder.specs.private.Reading.{is_sink, opening, with_opened}
+use Rattle.nr_responder.specs.private.Reading.{opening, with_opened}
 use Rattle.nr_responder.specs.Sound.{HasOutside}
 use Rattle.nr_responder.specs.Views.{read_view, sink_view}
 

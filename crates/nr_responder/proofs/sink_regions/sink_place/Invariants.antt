@@ -1,6 +1,6 @@
 use Rattle.std.proofs.Common.{◌≡◌, drop}
 use Rattle.std.specs.Prelude.{find, map}
-use Rattle.nr_responder.specs.private.Reading.{is_sink}
+use Rattle.nr_responder.specs.Fetching.{is_sink}
 use Rattle.nr_responder.specs.Views.{sink_view}
 use Rattle.nr_responder.proofs.sink_regions.sink_place.Given as goal
 
