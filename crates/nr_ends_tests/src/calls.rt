@@ -218,6 +218,30 @@ fn calls_are_answered(rt: HostRuntime) {
     }
 }
 
+/// A WRITE of 5 bytes into the file with handle 2 (RFC 1813 section 3.3.7).
+static WRITE: [u32; 10] = [8, 0, 2, 0, 0, 5, 2, 5, 0x68656c6c, 0x6f000000];
+
+/// The data of a WRITE goes by a read chunk: while it is read the server keeps no room for the payload but the buffer of the sink.
+fn read_in_place(rt: &impl Abort, alloc: Global, link: &mut TestLink) {
+    let reply = reply(rt, alloc, 1, &[70]);
+    let payload = payload(rt, alloc, 1, 7, &WRITE);
+    let ticket = link.submit(rt, call(rt, alloc, 7, &WRITE), Form::Chunk);
+    link.up(rt, alloc, 65536);
+    // The staging buffer, the receives, a buffer for the stream of 72 bytes, the data and a pad, and a Read Request.
+    let [_, server] = link.held();
+    same(rt, 0, server, 65544 + 16 * 1024 + 80 + 52);
+    link.down(rt, alloc, 65536);
+    let answer = (reply.as_slice(), Sent::Inline);
+    served(rt, alloc, link, 65536, payload.as_slice(), answer);
+    is_answered(rt, 1, link.take(ticket), reply.as_slice(), Sent::Inline);
+}
+
+#[test]
+fn a_write_is_read_in_place(rt: HostRuntime) {
+    let mut link = greeted(&rt, rt.alloc(), 16, 65536);
+    read_in_place(&rt, rt.alloc(), &mut link);
+}
+
 /// The bytes of words up to some length.
 fn first_bytes(rt: &impl Abort, alloc: Global, words: &[u32], len: usize) -> Vec<u8> {
     let mut bytes = bytes(rt, alloc, words);

@@ -1,13 +1,20 @@
 -- The sinks that are over are released, and the others stay.
-use Rattle.std.proofs.Common.{◌≡◌, ℕ, zero, suc, ◌+◌, ◌<◌, ◌≤◌, Bool, true, false, not, cond, List, [], ◌∷◌, ◌++◌, length, take, drop, get_or, map, sym, ap, ◌∙◌, arith, append-nil}
+use Rattle.std.proofs.Common.{◌≡◌, ℕ, zero, suc, ◌+◌, ◌<◌, ◌≤◌, Bool, true, false, not, cond, List, [], ◌∷◌, ◌++◌, length, take, drop, get_or, map, None, sym, ap, ◌∙◌, ◌⊎◌, ◌≢◌, inl, inr, arith, append-nil}
 use Rattle.std.proofs.lemmas.List.{length-map, take_all, drop_all}
 use Rattle.std.specs.List.{remove}
+use Rattle.std.specs.FinMap.{FinMap, get, same_map, nat_cmp-IsAntisymmetric}
+use Rattle.std.specs.FinMap.{remove as remove_key}
+use Rattle.std.specs.Cmp.{nat_cmp_total}
+use Rattle.std.specs.Ordering.{nat_cmp}
+use Rattle.std.proofs.lemmas.Bool.{cases_eq}
+use Rattle.nr_regions.specs.RegisteredMemory.{Region, RegisteredMemory, after_release}
+use Rattle.nr_regions.proofs.Holding.{get_remove_here, get_remove_other}
 use Rattle.nr_endpoint.specs.LinkState.{LinkSide}
 use Rattle.nr_reduce.specs.ServerState.{PendingCall, PendingRead}
 use Rattle.nr_responder.specs.Fetching.{SinkRegion}
 use Rattle.nr_responder.specs.declared.call.OpenSink.{OpenSink}
 use Rattle.nr_responder.specs.Views.{sink_view}
-use Rattle.nr_responder.specs.private.Reading.{is_sink_over, left_sinks, over_sinks, with_released}
+use Rattle.nr_responder.specs.private.Reading.{is_sink_over, left_sinks, over_sinks, released, with_released}
 
 -- the sink at a place is over
 pub over_left : (calls : List PendingCall) (reads : List PendingRead) (sinks : List OpenSink) (at : ℕ) (d : OpenSink) → at < length sinks → is_sink_over calls reads (sink_view (get_or sinks at d)) ≡ true →
@@ -73,3 +80,62 @@ same_left calls reads sinks later at d l m lt over is link =
       ap (λ (ss : List OpenSink). left_at calls reads at (map sink_view ss)) is ∙ k.0,
       (λ i. over_at calls reads at (map sink_view (is i)) (link i)) ∙ ap (λ (ss : List SinkRegion). with_released ss l) (sym k.1),
     )
+
+-- ---- One sink is released before the others
+
+removed_twice : (m : FinMap nat_cmp Region) (a b q : ℕ) → get (remove_key (remove_key m a) b) q ≡ get (remove_key (remove_key m b) a) q
+removed_twice m a b q = by (cases_eq q b) (cases_eq q a)
+  where
+    gone : (n : FinMap nat_cmp Region) (k : ℕ) → q ≡ k → get (remove_key n k) q ≡ None
+    gone n k same = ap (λ (p : ℕ). get (remove_key n k) p) same ∙ get_remove_here n k
+
+    by : (q ≡ b) ⊎ (q ≢ b) → (q ≡ a) ⊎ (q ≢ a) → get (remove_key (remove_key m a) b) q ≡ get (remove_key (remove_key m b) a) q
+    by (inl last) (inl first) = gone (remove_key m a) b last ∙ sym (gone (remove_key m b) a first)
+    by (inl last) (inr other) = gone (remove_key m a) b last ∙ sym (get_remove_other (remove_key m b) a q other ∙ gone m b last)
+    by (inr other) (inl first) = get_remove_other (remove_key m a) b q other ∙ gone m a first ∙ sym (gone (remove_key m b) a first)
+    by (inr other) (inr others) = get_remove_other (remove_key m a) b q other ∙ get_remove_other m a q others ∙ sym (get_remove_other (remove_key m b) a q others ∙ get_remove_other m b q other)
+
+released_twice : (m : RegisteredMemory) (a b : ℕ) → after_release (after_release m a) b ≡ after_release (after_release m b) a
+unfolding after_release
+released_twice m a b =
+    ap (λ (h : FinMap nat_cmp Region). record { next = m.next; held = h })
+    (same_map nat_cmp_total nat_cmp-IsAntisymmetric (remove_key (remove_key m.held a) b) (remove_key (remove_key m.held b) a) (λ q. removed_twice m.held a b q))
+
+over_released : (calls : List PendingCall) (reads : List PendingRead) (sinks : List OpenSink) (at : ℕ) (d : OpenSink) (m : RegisteredMemory) → at < length sinks → is_sink_over calls reads (sink_view (get_or sinks at d)) ≡ true →
+    (released (over_sinks calls reads (map sink_view (remove sinks at))) (after_release m (get_or sinks at d).registration.stag) ≡ released (over_sinks calls reads (map sink_view sinks)) m)
+    × (left_sinks calls reads (map sink_view (remove sinks at)) ≡ left_sinks calls reads (map sink_view sinks))
+over_released calls reads [] at d m lt over = absurd (omega (arith, lt))
+over_released calls reads (s ∷ sinks) zero d m lt over = (
+  sym (ap (λ (b : Bool). released (cond b (sink_view s ∷ over_sinks calls reads (map sink_view sinks)) (over_sinks calls reads (map sink_view sinks))) m) over),
+  sym (ap (λ (b : Bool). cond (not b) (sink_view s ∷ left_sinks calls reads (map sink_view sinks)) (left_sinks calls reads (map sink_view sinks))) over),
+)
+over_released calls reads (s ∷ sinks) (suc at) d m lt over = by (λ n. over_released calls reads sinks at d n (omega (arith, lt)) over) (is_sink_over calls reads (sink_view s))
+  where
+    stag : ℕ
+    stag = (get_or sinks at d).registration.stag
+
+    fewer : List SinkRegion
+    fewer = over_sinks calls reads (map sink_view (remove sinks at))
+
+    all : List SinkRegion
+    all = over_sinks calls reads (map sink_view sinks)
+
+    by : ((n : RegisteredMemory) → (released fewer (after_release n stag) ≡ released all n) × (left_sinks calls reads (map sink_view (remove sinks at)) ≡ left_sinks calls reads (map sink_view sinks))) → (b : Bool) →
+        (released (cond b (sink_view s ∷ fewer) fewer) (after_release m stag) ≡ released (cond b (sink_view s ∷ all) all) m)
+        × (cond (not b) (sink_view s ∷ left_sinks calls reads (map sink_view (remove sinks at))) (left_sinks calls reads (map sink_view (remove sinks at))) ≡ cond (not b) (sink_view s ∷ left_sinks calls reads (map sink_view sinks)) (left_sinks calls reads (map sink_view sinks)))
+    by rest true = (ap (λ (n : RegisteredMemory). released fewer n) (released_twice m stag s.registration.stag) ∙ (rest (after_release m s.registration.stag)).0, (rest m).1)
+    by rest false = ((rest m).0, ap (λ (ss : List SinkRegion). sink_view s ∷ ss) (rest m).1)
+
+pub closed_with : (calls : List PendingCall) (reads : List PendingRead) (sinks later : List OpenSink) (at : ℕ) (d : OpenSink) (l m : LinkSide) → at < length sinks → is_sink_over calls reads (sink_view (get_or sinks at d)) ≡ true → later ≡ remove sinks at →
+    m ≡ with_released (sink_view (get_or sinks at d) ∷ []) l →
+    (with_released (over_sinks calls reads (map sink_view later)) m ≡ with_released (over_sinks calls reads (map sink_view sinks)) l) × (left_sinks calls reads (map sink_view later) ≡ left_sinks calls reads (map sink_view sinks))
+closed_with calls reads sinks later at d l m lt over is link =
+    let k = over_released calls reads sinks at d l.state.memory lt over in (
+      (λ i. with_released (over_sinks calls reads (map sink_view (is i))) (link i))
+          ∙ ap (λ (n : RegisteredMemory). record { awaited = l.awaited; rest = l.rest; state = record l.state { memory = n } }) k.0,
+      ap (λ (ss : List OpenSink). left_sinks calls reads (map sink_view ss)) is ∙ k.1,
+    )
+
+-- some sink, if none is at hand
+pub no_sink : OpenSink
+no_sink = record { number = 0; position = 0; registration = record { stag = 0; len = 0 } }

@@ -22,7 +22,7 @@ use Rattle.nr_responder.specs.Fetching.{Fetching}
 use Rattle.nr_responder.specs.ResponderState.{ResponderSide, unsent}
 use Rattle.nr_responder.specs.private.Handling.{IsServerOf, OrOut, out}
 use Rattle.nr_responder.specs.Keeping.{IsReadyOf, OwnNumbers, OwnReady, OwnXids}
-use Rattle.nr_responder.specs.Sound.{AreFetched, AreHeldFrom, QueuesInvariant, NothingOutside, claims_of, HasRoom, InBuffer, ServerEndInvariant, payloads_of, state_of, xids_of}
+use Rattle.nr_responder.specs.Sound.{AreFetched, AreHeldFrom, QueuesInvariant, HasOutside, KeepsOutside, around_of, claims_of, HasRoom, InBuffer, ServerEndInvariant, payloads_of, state_of, xids_of}
 use Rattle.nr_responder.specs.Views.{call_view, read_view, sink_view}
 use Rattle.nr_responder.specs.private.Reading.{opening}
 use Rattle.nr_responder.specs.private.DoneReads.{IsOfCall, ReadsOn, ReadyMade}
@@ -42,10 +42,14 @@ use Rattle.nr_header.specs.Constants.{PAYLOAD_MAX}
 use Rattle.nr_reduce.specs.Holds.{chunk_error}
 use Rattle.nr_responder.specs.Fetching.{SinkRegion}
 use Rattle.nr_responder.specs.declared.call.OpenSink.{OpenSink}
-use Rattle.nr_responder.specs.private.Reading.{with_opened_after, with_released}
+use Rattle.nr_responder.specs.private.Reading.{left_sinks, with_opened_after, with_released}
 use Rattle.nr_responder.specs.private.ReadsDone.{reads_without, side_after_done, with_sent}
 use Rattle.nr_responder.proofs.Answered.{get_view, same_item}
-use Rattle.nr_responder.proofs.HeldSinks.{fetched_as, same_outside}
+use Rattle.nr_responder.proofs.HeldSinks.{fetched_as}
+use Rattle.nr_responder.proofs.Windows.{around_removed, around_set, keeps_as, keeps_on, more_outside, rooms_closed, same_outside}
+use Rattle.std.specs.FinMap.{FinMap}
+use Rattle.std.specs.Ordering.{nat_cmp}
+use Rattle.nr_regions.specs.RegisteredMemory.{Outside, RegisteredMemory}
 use Rattle.nr_responder.proofs.ReadsGoOn.{requests_ends}
 use Rattle.nr_responder.proofs.Executed.{one_out_lem, without_call}
 use Rattle.nr_responder.proofs.Removed.{all_pushed_lem, all_removed, length_removed}
@@ -332,7 +336,7 @@ with_read v r rest all after = by
 
 -- some call, if none is at hand
 pub no_call : Pending
-no_call = record { number = 0; xid = 0; buf = []; len = 0; stream_at = 0; inline = true; room = None; target = None; item = None }
+no_call = record { number = 0; xid = 0; buf = []; len = 0; stream_at = 0; inline = true; room = None; around = 0; target = None; item = None }
 
 pub call_is : (v : ResponderSide) (r : PendingRead) (calls : List Pending) (at kept : ℕ) (d : Pending) → v.calls ≡ map call_view calls → at < length calls → (get_or calls at d).number ≡ r.number → ((k : ℕ) (e : Pending) → k < at → (get_or calls k e).number ≢ r.number) →
     kept ≡ still_open r v.fetching.reads → IsOfCall v r kept at (call_view (get_or calls at d))
@@ -390,8 +394,12 @@ any_filtered n m (x ∷ xs) none = by (any_filtered n m xs) (eqb x.number n) ref
     by rest false e false h = rest h
 
 -- fewer reads are left
-pub dropped_rooms : (m kept : ℕ) (reads later : List ReadEntry) (c : Pending) → map read_view later ≡ reads_without m kept (map read_view reads) → HasRoom reads c → HasRoom later c
-dropped_rooms m kept reads later c is room = λ left. room (by (list_any (λ r. eqb r.number c.number) (map read_view reads)) refl left)
+pub dropped_rooms : (around : FinMap nat_cmp Outside) (sinks : List OpenSink) (m kept : ℕ) (reads later : List ReadEntry) (c : Pending) → map read_view later ≡ reads_without m kept (map read_view reads) → HasRoom around sinks reads c → HasRoom around sinks later c
+dropped_rooms around sinks m kept reads later c is room = record {
+  space = λ left. room.space (by (list_any (λ r. eqb r.number c.number) (map read_view reads)) refl left);
+  apart = λ some. subst (λ (rs : List PendingRead). AllByRecursion (λ r. r.number ≡ c.number → r.position ≢ 0) rs) (sym is) (kept_each (λ r. r.number ≡ c.number → r.position ≢ 0) kept (map read_view reads) (room.apart some));
+  few = room.few;
+}
   where
     by : (b : Bool) → list_any (λ r. eqb r.number c.number) (map read_view reads) ≡ b → is_read (map read_view later) c.number ≡ false → not (list_any (λ r. eqb r.number c.number) (map read_view reads)) ≡ false
     by true e left = ap (λ (b : Bool). not b) e
@@ -401,10 +409,23 @@ dropped_rooms m kept reads later c is room = λ left. room (by (list_any (λ r. 
         ap (λ (rs : List PendingRead). list_any (λ r. eqb r.number c.number) rs) is ∙ any_append c.number (take kept (map read_view reads)) (filter (λ r. not (eqb r.number m)) (drop kept (map read_view reads))) s.0 (any_filtered c.number m (drop kept (map read_view reads)) s.1) in
         absurd (let two : true ≡ false = sym (ap (λ (b : Bool). not b) none) ∙ left in cc)
 
+    filtered_each : (P : PendingRead → Type 0) (rs : List PendingRead) → AllByRecursion P rs → AllByRecursion P (filter (λ r. not (eqb r.number m)) rs)
+    filtered_each P [] h = tt
+    filtered_each P (r ∷ rs) h = choose (filtered_each P rs h.1) (not (eqb r.number m))
+      where
+        choose : AllByRecursion P (filter (λ q. not (eqb q.number m)) rs) → (b : Bool) → AllByRecursion P (cond b (r ∷ filter (λ q. not (eqb q.number m)) rs) (filter (λ q. not (eqb q.number m)) rs))
+        choose rest true = (h.0, rest)
+        choose rest false = rest
+
+    kept_each : (P : PendingRead → Type 0) (n : ℕ) (rs : List PendingRead) → AllByRecursion P rs → AllByRecursion P (take n rs ++ filter (λ r. not (eqb r.number m)) (drop n rs))
+    kept_each P zero rs h = filtered_each P rs h
+    kept_each P (suc n) [] h = tt
+    kept_each P (suc n) (r ∷ rs) h = (h.0, kept_each P n rs h.1)
+
 pub dropped_fetched : (e f : EndpointState) (m kept : ℕ) (calls : List Pending) (reads later : List ReadEntry) (sinks : List OpenSink) → map read_view later ≡ reads_without m kept (map read_view reads) → f.link.state.memory ≡ e.link.state.memory → f.outside ≡ e.outside →
     AreFetched e calls reads sinks → AreFetched f calls later sinks
 dropped_fetched e f m kept calls reads later sinks is memory outside h =
-    fetched_as e f calls later sinks memory outside (record { held = h.held; short = h.short; rooms = λ k d lt. dropped_rooms m kept reads later (get_or calls k d) is (h.rooms k d lt); outside = h.outside })
+    fetched_as e f calls later sinks memory outside (record { held = h.held; short = h.short; rooms = λ k d lt. dropped_rooms e.outside sinks m kept reads later (get_or calls k d) is (h.rooms k d lt); outside = h.outside })
 
 -- the message of a call was queued, and its receive waits until that has left
 pub refused_sound : (s t : LinkState) (at : ℕ) (call : Pending) (calls later : List Pending) (ready : List Ready) (used after : List (List ℕ)) (a b c d e : ℕ) → t.receive_queue ≡ s.receive_queue → length t.send_queue.send_ends ≡ unsent s + 1 → at < length calls → InBuffer call → later ≡ remove calls at →
@@ -436,11 +457,11 @@ refused_link message opened over l m n sent closed = closed ∙ ap (λ (x : Link
 -- ---- The room of a payload is taken out of its call
 
 pub emptied : Pending → Pending
-emptied c = record { number = c.number; xid = c.xid; buf = c.buf; len = c.len; stream_at = c.stream_at; inline = c.inline; room = None; target = c.target; item = c.item }
+emptied c = record { number = c.number; xid = c.xid; buf = c.buf; len = c.len; stream_at = c.stream_at; inline = c.inline; room = None; around = c.around; target = c.target; item = c.item }
 
-pub emptied_sound : (r : ServerEnd) (at : ℕ) (c : Pending) (calls : List Pending) → calls ≡ set r.calls.items at c → InBuffer c → HasRoom r.reads.items c → ServerEndInvariant r →
+pub emptied_sound : (r : ServerEnd) (at : ℕ) (c : Pending) (calls : List Pending) → calls ≡ set r.calls.items at c → InBuffer c → HasRoom r.endpoint.outside r.sinks.items r.reads.items c → at < length r.calls.items → c.around ≡ (get_or r.calls.items at c).around → ServerEndInvariant r →
     QueuesInvariant 0 r.endpoint.link.state calls r.ready.items r.used.items (vec_capacity r.calls) (deque_capacity r.ready) (deque_capacity r.used) × AreFetched r.endpoint calls r.reads.items r.sinks.items
-emptied_sound r at c calls is whole room h =
+emptied_sound r at c calls is whole room lt same h =
     let count : length calls ≡ length r.calls.items = ap (λ (xs : List Pending). length xs) is ∙ length-set r.calls.items at c in (
       record {
         unsent_is = h.0.unsent_is;
@@ -452,7 +473,7 @@ emptied_sound r at c calls is whole room h =
         ready_fit = h.0.ready_fit;
         used_fit = h.0.used_fit;
       },
-      record { held = h.1.held; short = h.1.short; rooms = subst (λ (xs : List Pending). All (HasRoom r.reads.items) xs) (sym is) (All-set (HasRoom r.reads.items) r.calls.items at c room h.1.rooms); outside = h.1.outside },
+      record { held = h.1.held; short = h.1.short; rooms = subst (λ (xs : List Pending). All (HasRoom r.endpoint.outside r.sinks.items r.reads.items) xs) (sym is) (All-set (HasRoom r.endpoint.outside r.sinks.items r.reads.items) r.calls.items at c room h.1.rooms); outside = more_outside r.endpoint (around_of r.calls.items) (around_of calls) (let sum = around_set r.calls.items at c c lt in let set_is = ap (λ (cs : List Pending). around_of cs) is in omega (arith, sum, set_is, same)) h.1.outside },
     )
 
 -- ---- The first read
@@ -469,12 +490,15 @@ first_read v after reads later first r rest some is left reads_are h =
     let others : map read_view later ≡ rest = cc in
     with_read v r rest (map read_view reads) after (subst (λ (rs : List PendingRead). HandlesRead (without v rs) r rs after) others (subst (λ (q : PendingRead). HandlesRead (without v (map read_view later)) q (map read_view later) after) one h))
 
-pub refused_fetched : (e f g : EndpointState) (m kept at : ℕ) (message : List ℕ) (opened : List PendingRead) (calls left : List Pending) (reads later : List ReadEntry) (sinks left_open : List OpenSink) → map read_view later ≡ reads_without m kept (map read_view reads) → left ≡ remove calls at →
-    f.link ≡ with_opened_after message opened e.link → f.outside ≡ e.outside → AreHeldFrom g.link.state.memory 0 (claims_of left_open) → All (λ s. s.registration.len ≤ PAYLOAD_MAX) left_open → (NothingOutside f → NothingOutside g) →
-    AreFetched e calls reads sinks → AreFetched g left later left_open
-refused_fetched e f g m kept at message opened calls left reads later sinks left_open is left_is sent outside held short keeps h = record {
-  held = held;
-  short = short;
-  rooms = subst (λ (cs : List Pending). All (HasRoom later) cs) (sym left_is) (all_removed (HasRoom later) calls at (λ k d lt. dropped_rooms m kept reads later (get_or calls k d) is (h.rooms k d lt)));
-  outside = keeps (same_outside e f (ap (λ (l : LinkSide). l.state.memory.next) sent) outside h.outside);
-}
+pub refused_fetched : (e f g : EndpointState) (m kept at : ℕ) (d : Pending) (message : List ℕ) (opened : List PendingRead) (calls left : List Pending) (reads later : List ReadEntry) (sinks left_open : List OpenSink) → map read_view later ≡ reads_without m kept (map read_view reads) → at < length calls → (get_or calls at d).around ≡ 0 → left ≡ remove calls at →
+    f.link ≡ with_opened_after message opened e.link → f.outside ≡ e.outside → AreHeldFrom g.link.state.memory 0 (claims_of left_open) → All (λ s. s.registration.len ≤ PAYLOAD_MAX) left_open → ((n : ℕ) → HasOutside f n → HasOutside g n) → KeepsOutside f g →
+    map sink_view left_open ≡ left_sinks (map call_view left) (map read_view later) (map sink_view sinks) → AreFetched e calls reads sinks → AreFetched g left later left_open
+refused_fetched e f g m kept at d message opened calls left reads later sinks left_open is lt none left_is sent outside held short fewer keeps sinks_are h =
+    let memory : f.link.state.memory ≡ e.link.state.memory = ap (λ (l : LinkSide). l.state.memory) sent in
+    record {
+      held = held;
+      short = short;
+      rooms = rooms_closed e g left later sinks left_open (keeps_on e f g (keeps_as e f memory outside) keeps) sinks_are held
+          (subst (λ (cs : List Pending). All (HasRoom e.outside sinks later) cs) (sym left_is) (all_removed (HasRoom e.outside sinks later) calls at (λ k d lt. dropped_rooms e.outside sinks m kept reads later (get_or calls k d) is (h.rooms k d lt))));
+      outside = fewer (around_of left) (same_outside e f (around_of left) (ap (λ (m : RegisteredMemory). m.next) memory) outside (subst (λ (n : ℕ). HasOutside e n) (sym (ap (λ (cs : List Pending). around_of cs) left_is ∙ around_removed calls at d lt none)) h.outside));
+    }

@@ -7,8 +7,8 @@ use Rattle.nr_link.specs.Limits.{send_max}
 use Rattle.nr_responder.specs.Rooms.{payload_room}
 
 -- the receives that are lent are counted beside what the side of the link keeps
-pub held_sum : (result kept staging inside outside lent calls rooms : ℕ) → result ≡ kept + send_max * lent + rooms → kept ≡ staging + (inside + outside) → outside ≡ 0 → lent ≡ calls → result ≡ staging + inside + send_max * calls + rooms
-held_sum result kept staging inside outside lent calls rooms is all none same = omega (arith, is, all, none, same)
+pub held_sum : (result kept staging inside outside lent calls rooms : ℕ) → result ≡ kept + send_max * lent + rooms → kept ≡ staging + (inside + outside) → lent ≡ calls → result ≡ staging + inside + send_max * calls + (rooms + outside)
+held_sum result kept staging inside outside lent calls rooms is all same = omega (arith, is, all, same)
 
 -- one item more of a sum
 pub sum_step : {X : Type 0} (f : X → ℕ) (xs : List X) (i total all : ℕ) (d : X) → i < length xs → total + sum_by f (drop i xs) ≡ all → total + f (get_or xs i d) + sum_by f (drop (i + 1) xs) ≡ all
@@ -20,6 +20,6 @@ sum_step f xs i total all d lt so_far =
 pub sum_over : {X : Type 0} (f : X → ℕ) (xs : List X) (i total all : ℕ) → length xs ≤ i → total + sum_by f (drop i xs) ≡ all → total ≡ all
 sum_over f xs i total all le so_far = (let none : sum_by f (drop i xs) ≡ 0 = ap (λ ys. sum_by f ys) (drop_all i xs le) in omega (arith, so_far, none))
 
--- a room for each call, and one for each of those that are ready
-pub rooms_most : (all rooms payloads calls ready : ℕ) → all ≡ rooms + payloads → rooms ≤ payload_room * calls → payloads ≤ payload_room * ready → ready ≤ calls → all ≤ payload_room * (2 * calls)
-rooms_most all rooms payloads calls ready is of_calls of_ready few = omega (arith, is, of_calls, of_ready, few)
+-- a room for each call, in the buffer of its sink or not, and one for each of those that are ready
+pub rooms_most : (rooms payloads outside around calls ready : ℕ) → rooms + around ≤ payload_room * calls → payloads ≤ payload_room * ready → outside ≤ around → ready ≤ calls → rooms + payloads + outside ≤ payload_room * (2 * calls)
+rooms_most rooms payloads outside around calls ready of_calls of_ready of_sinks few = omega (arith, of_calls, of_ready, of_sinks, few)

@@ -12,7 +12,7 @@ use Rattle.std.specs.Ordering.{nat_cmp}
 use Rattle.std.proofs.lemmas.List.Elements.{All-nil}
 use Rattle.nr_regions.specs.RegisteredMemory.{RegisteredMemory, Outside, Claim, IsHeld, after_release, outside_len, outside_held, initial_memory}
 use Rattle.nr_regions.specs.Table.{IsTotal}
-use Rattle.nr_regions.proofs.Totals.{sound_initial, sound_release}
+use Rattle.nr_regions.proofs.Totals.{sound_initial}
 use Rattle.nr_wire.specs.declared.hello.Side.TheVariants.{Responder}
 use Rattle.nr_link.specs.declared.end.End.{End}
 use Rattle.nr_link.specs.declared.end.End.TheVariants as ends
@@ -26,16 +26,15 @@ use Rattle.nr_reduce.specs.ServerReads.{is_read}
 use Rattle.nr_responder.specs.declared.call.Pending.{Pending}
 use Rattle.nr_responder.specs.declared.call.ReadEntry.{ReadEntry}
 use Rattle.nr_responder.specs.declared.call.OpenSink.{OpenSink}
-use Rattle.nr_responder.specs.Sound.{AreFetched, AreHeldFrom, HasRoom, NothingOutside, claims_of}
+use Rattle.nr_responder.specs.Sound.{AreFetched, AreHeldFrom, HasOutside, HasRoom, around_of, claims_of}
+use Rattle.nr_responder.specs.Rooms.{payload_room}
+use Rattle.nr_responder.specs.Sound.{room_len}
 use Rattle.nr_responder.specs.Views.{read_view}
 use Rattle.nr_responder.proofs.Fed.{step_of}
 use Rattle.nr_responder.proofs.Handled.{step_counts}
 use Rattle.nr_responder.proofs.Posted.{memory_as}
 use Rattle.nr_responder.proofs.Removed.{all_removed, all_pushed_lem}
-
-pub same_outside : (e f : EndpointState) → f.link.state.memory.next ≡ e.link.state.memory.next → f.outside ≡ e.outside → NothingOutside e → NothingOutside f
-same_outside e f next is s =
-    subst (λ (n : ℕ). IsTotal outside_len n 0 f.outside) (sym next) (subst (λ (m : FinMap nat_cmp Outside). IsTotal outside_len e.link.state.memory.next 0 m) (sym is) s)
+use Rattle.nr_responder.proofs.Windows.{around_pushed, around_removed, less_outside, more_outside, same_outside}
 
 -- ---- The memory stays
 
@@ -43,8 +42,8 @@ pub fetched_as : (e f : EndpointState) (calls : List Pending) (reads : List Read
 fetched_as e f calls reads sinks memory outside h = record {
   held = subst (λ (m : RegisteredMemory). AreHeldFrom m 0 (claims_of sinks)) (sym memory) h.held;
   short = h.short;
-  rooms = h.rooms;
-  outside = same_outside e f (ap (λ (m : RegisteredMemory). m.next) memory) outside h.outside;
+  rooms = subst (λ (m : FinMap nat_cmp Outside). All (HasRoom m sinks reads) calls) (sym outside) h.rooms;
+  outside = same_outside e f (around_of calls) (ap (λ (m : RegisteredMemory). m.next) memory) outside h.outside;
 }
 
 -- ---- A step on a piece
@@ -73,8 +72,8 @@ pub fetched_step : (e f : EndpointState) (piece : List ℕ) (calls : List Pendin
 fetched_step e f piece calls reads sinks next is outside h = record {
   held = held_still e.link.state.memory f.link.state.memory 0 (claims_of sinks) (λ c held. stays_held e.link f.link piece c is held) next h.held;
   short = h.short;
-  rooms = h.rooms;
-  outside = same_outside e f next outside h.outside;
+  rooms = subst (λ (m : FinMap nat_cmp Outside). All (HasRoom m sinks reads) calls) (sym outside) h.rooms;
+  outside = same_outside e f (around_of calls) next outside h.outside;
 }
 
 -- the side ended, or ran out of memory, in a step
@@ -104,8 +103,12 @@ fetched_first e credits calls is none no_calls =
     record {
       held = omega (arith, next);
       short = All-nil _;
-      rooms = subst (λ (cs : List Pending). All (HasRoom []) cs) (sym no_calls) (All-nil _);
-      outside = subst (λ (n : ℕ). IsTotal outside_len n 0 e.outside) (sym next) (subst (λ (m : FinMap nat_cmp Outside). IsTotal outside_len 1 0 m) (sym none) (sound_initial outside_len 1 (omega arith)));
+      rooms = subst (λ (cs : List Pending). All (HasRoom e.outside [] []) cs) (sym no_calls) (All-nil _);
+      outside = record {
+        total = 0;
+        sum = subst (λ (n : ℕ). IsTotal outside_len n 0 e.outside) (sym next) (subst (λ (m : FinMap nat_cmp Outside). IsTotal outside_len 1 0 m) (sym none) (sound_initial outside_len 1 (omega arith)));
+        most = omega arith;
+      };
     }
 
 pub empty_fetched : (e : EndpointState) (calls : List Pending) (reads : List ReadEntry) (sinks : List OpenSink) → reads ≡ [] → sinks ≡ [] → AreFetched e calls [] [] → AreFetched e calls reads sinks
@@ -114,31 +117,35 @@ empty_fetched e calls reads sinks none no_sinks h =
 
 -- ---- Calls
 
-pub fetched_pushed : (e : EndpointState) (calls later : List Pending) (call : Pending) (reads : List ReadEntry) (sinks : List OpenSink) → HasRoom reads call → later ≡ calls ++ call ∷ [] → AreFetched e calls reads sinks → AreFetched e later reads sinks
+pub fetched_pushed : (e : EndpointState) (calls later : List Pending) (call : Pending) (reads : List ReadEntry) (sinks : List OpenSink) → HasRoom e.outside sinks reads call → later ≡ calls ++ call ∷ [] → AreFetched e calls reads sinks → AreFetched e later reads sinks
 fetched_pushed e calls later call reads sinks room is h = record {
   held = h.held;
   short = h.short;
-  rooms = subst (λ (cs : List Pending). All (HasRoom reads) cs) (sym is) (all_pushed_lem (HasRoom reads) calls call h.rooms room);
-  outside = h.outside;
+  rooms = subst (λ (cs : List Pending). All (HasRoom e.outside sinks reads) cs) (sym is) (all_pushed_lem (HasRoom e.outside sinks reads) calls call h.rooms room);
+  outside = more_outside e (around_of calls) (around_of later) (let more = around_pushed calls later call is in omega (arith, more)) h.outside;
 }
 
-pub fetched_removed : (e f : EndpointState) (at : ℕ) (calls later : List Pending) (reads : List ReadEntry) (sinks : List OpenSink) → f.link.state.memory ≡ e.link.state.memory → f.outside ≡ e.outside → later ≡ remove calls at →
+pub fetched_removed : (e f : EndpointState) (at : ℕ) (d : Pending) (calls later : List Pending) (reads : List ReadEntry) (sinks : List OpenSink) → f.link.state.memory ≡ e.link.state.memory → f.outside ≡ e.outside → at < length calls → (get_or calls at d).around ≡ 0 → later ≡ remove calls at →
     AreFetched e calls reads sinks → AreFetched f later reads sinks
-fetched_removed e f at calls later reads sinks memory outside is h =
+fetched_removed e f at d calls later reads sinks memory outside lt none is h =
     fetched_as e f later reads sinks memory outside (record {
       held = h.held;
       short = h.short;
-      rooms = subst (λ (cs : List Pending). All (HasRoom reads) cs) (sym is) (all_removed (HasRoom reads) calls at h.rooms);
-      outside = h.outside;
+      rooms = subst (λ (cs : List Pending). All (HasRoom e.outside sinks reads) cs) (sym is) (all_removed (HasRoom e.outside sinks reads) calls at h.rooms);
+      outside = subst (λ (n : ℕ). HasOutside e n) (sym (ap (λ (cs : List Pending). around_of cs) is ∙ around_removed calls at d lt none)) h.outside;
     })
 
 -- a call for which nothing is left to be read needs no room
-pub read_has_room : (reads : List ReadEntry) (c : Pending) → is_read (map read_view reads) c.number ≡ true → HasRoom reads c
-read_has_room reads c read = λ left. absurd (let two : true ≡ false = sym read ∙ left in cc)
+pub read_has_room : (around : FinMap nat_cmp Outside) (sinks : List OpenSink) (reads : List ReadEntry) (c : Pending) → is_read (map read_view reads) c.number ≡ true → c.around ≡ 0 → room_len c.room ≤ payload_room → HasRoom around sinks reads c
+read_has_room around sinks reads c read none few = record {
+  space = λ left. absurd (let two : true ≡ false = sym read ∙ left in cc);
+  apart = λ some. absurd (some none);
+  few = omega (arith, none, few);
+}
 
-pub no_outside : (e : EndpointState) → NothingOutside e → outside_held e.outside ≡ 0
+pub outside_most : (e : EndpointState) (n : ℕ) → HasOutside e n → outside_held e.outside ≤ n
 unfolding outside_held
-no_outside e s = sym s.bytes_are
+outside_most e n h = (let sum = h.sum.bytes_are in let most = h.most in omega (arith, sum, most))
 
 -- ---- A sink is released
 
@@ -182,10 +189,6 @@ not_there stag outside none =
       | inr ne ↦ get_remove_other outside stag q ne
     ])
 
-released_by : (next stag : ℕ) (outside : FinMap nat_cmp Outside) (o : Option Outside) → get outside stag ≡ o → IsTotal outside_len next 0 outside → IsTotal outside_len next 0 (remove_key outside stag)
-released_by next stag outside None there s = subst (λ (m : FinMap nat_cmp Outside). IsTotal outside_len next 0 m) (sym (not_there stag outside there)) s
-released_by next stag outside (Some x) there s = subst (λ (n : ℕ). IsTotal outside_len next n (remove_key outside stag)) (omega arith) (sound_release outside_len next 0 outside stag x s there)
-
 pub released_link : (l m : LinkSide) (s : SinkRegion) (stag : ℕ) → m ≡ after_call l (Release stag) → stag ≡ s.stag → m ≡ with_released (s ∷ []) l
 unfolding after_call
 released_link l m s stag is same = is ∙ ap (λ (n : ℕ). with_memory_of (after_release l.state.memory n) l) same
@@ -193,10 +196,12 @@ released_link l m s stag is same = is ∙ ap (λ (n : ℕ). with_memory_of (afte
     with_memory_of : RegisteredMemory → LinkSide → LinkSide
     with_memory_of m l = record { awaited = l.awaited; rest = l.rest; state = record l.state { memory = m } }
 
-pub released_outside : (e f : EndpointState) (stag : ℕ) → f.link.state.memory.next ≡ e.link.state.memory.next → f.outside ≡ remove_key e.outside stag → NothingOutside e → NothingOutside f
-released_outside e f stag next is s =
-    subst (λ (n : ℕ). IsTotal outside_len n 0 f.outside) (sym next)
-    (subst (λ (m : FinMap nat_cmp Outside). IsTotal outside_len e.link.state.memory.next 0 m) (sym is) (released_by e.link.state.memory.next stag e.outside (get e.outside stag) refl s))
+pub released_outside : (e f : EndpointState) (stag n : ℕ) → f.link.state.memory.next ≡ e.link.state.memory.next → f.outside ≡ remove_key e.outside stag → HasOutside e n → HasOutside f n
+released_outside e f stag n next is h = by (get e.outside stag) refl
+  where
+    by : (o : Option Outside) → get e.outside stag ≡ o → HasOutside f n
+    by None there = same_outside e f n next (is ∙ not_there stag e.outside there) h
+    by (Some o) there = less_outside e f stag n o next is there (more_outside e n (outside_len o + n) (omega arith) h)
 
 pub released_memory : (l m : LinkSide) (s : SinkRegion) → m ≡ with_released (s ∷ []) l → (m.state.memory ≡ after_release l.state.memory s.stag) × (m.state.memory.next ≡ l.state.memory.next)
 released_memory l m s is = (ap (λ (x : LinkSide). x.state.memory) is, ap (λ (x : LinkSide). x.state.memory.next) is ∙ release_next l.state.memory s.stag)

@@ -30,8 +30,8 @@ use Rattle.nr_reduce.proofs.MemorySteps.{holds_closed, received_one, offered_clo
 use Rattle.nr_reduce.proofs.OwnStags.{closed_length}
 use Rattle.nr_responder.specs.ResponderState.{unsent}
 use Rattle.nr_responder.specs.Keeping.{OwnNumbers, OwnXids, OwnReady, IsReadyOf, IsServer, LinkKeeps, QueueKeeps, later_responses}
-use Rattle.nr_responder.specs.Fetching.{SinkRegion, sink_of_region, open_if, open_sinks}
-use Rattle.nr_responder.specs.private.Reading.{is_sink, bytes_of_sink, sink_bytes, over_sinks, released, opening, with_requests}
+use Rattle.nr_responder.specs.Fetching.{SinkRegion, sink_of_region, open_if, open_sinks, is_sink}
+use Rattle.nr_responder.specs.private.Reading.{bytes_of_sink, sink_bytes, over_sinks, released, opening, with_requests}
 use Rattle.nr_responder.specs.private.ReadsDone.{side_after_done}
 use Rattle.nr_responder.proofs.Responses.{found_all}
 use Rattle.nr_responder.proofs.ReadEffects.{requested_has, requests_ends, opened_now}

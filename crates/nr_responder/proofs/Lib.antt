@@ -68,3 +68,7 @@ pub mod QueueBounds
 pub mod OutputBounds
 pub mod OutputSteps
 pub mod ReadHeads
+mod Windows
+mod BegunWindows
+mod PlacedPayloads
+mod PlacedReads

@@ -1,14 +1,15 @@
 -- A sink is registered: those that are held stay so.
 use Rattle.std.proofs.Common.{◌≡◌, ◌≢◌, ℕ, zero, suc, ◌+◌, ◌<◌, ◌^◌, List, [], ◌∷◌, ◌++◌, length, drop, get_or, map, All, refl, sym, ap, subst, ◌∙◌, arith, append_assoc}
 use Rattle.std.specs.List.{remove}
-use Rattle.std.specs.FinMap.{FinMap, insert}
+use Rattle.std.specs.FinMap.{FinMap, get, insert}
 use Rattle.std.specs.Ordering.{nat_cmp}
 use Rattle.std.proofs.lemmas.List.{drop_more}
 use Rattle.nr_header.specs.declared.header.ReadSegment.{ReadSegment}
 use Rattle.nr_regions.specs.declared.right.Right.{Right}
 use Rattle.nr_regions.specs.declared.right.Right.TheVariants.{Sink}
-use Rattle.nr_regions.specs.RegisteredMemory.{RegisteredMemory, Claim, IsHeld, Outside, after_register, claim_of, nothing_outside, outside_len}
+use Rattle.nr_regions.specs.RegisteredMemory.{RegisteredMemory, Claim, IsHeld, Outside, after_register, claim_of, outside_len}
 use Rattle.nr_regions.specs.Table.{IsTotal}
+use Rattle.nr_regions.proofs.Holding.{get_insert_other}
 use Rattle.nr_regions.proofs.Totals.{sound_register}
 use Rattle.nr_endpoint.specs.EndpointState.{EndpointState}
 use Rattle.nr_endpoint.specs.LinkState.{LinkSide}
@@ -19,7 +20,7 @@ use Rattle.nr_reduce.specs.OfferedRegions.{Region}
 use Rattle.nr_responder.specs.Fetching.{SinkRegion, open_sinks}
 use Rattle.nr_responder.specs.declared.call.OpenSink.{OpenSink}
 use Rattle.nr_responder.specs.private.CallsRead.{sink_buffer, sinks_from, with_registered}
-use Rattle.nr_responder.specs.Sound.{AreHeldFrom, NothingOutside, claims_of}
+use Rattle.nr_responder.specs.Sound.{AreHeldFrom, HasOutside, claims_of}
 use Rattle.nr_responder.specs.Views.{sink_view}
 
 one_call : (l : LinkSide) (call : Call) → after_calls l (call ∷ []) ≡ after_call l call
@@ -56,10 +57,16 @@ registered_held l m buf sinks later s is claim held later_is h =
     claims_more [] t = refl
     claims_more (x ∷ ss) t = ap (λ (cs : List Claim). x.registration ∷ cs) (claims_more ss t)
 
-pub registered_outside : (e f : EndpointState) (buf : List ℕ) → f.link ≡ after_call e.link (Register buf Sink) → f.outside ≡ insert e.outside e.link.state.memory.next nothing_outside → e.link.state.memory.next < 2 ^ 32 → NothingOutside e → NothingOutside f
-registered_outside e f buf is outside fits s =
-    subst (λ (n : ℕ). IsTotal outside_len n 0 f.outside) (sym (registered_next e.link f.link buf Sink is))
-    (subst (λ (m : FinMap nat_cmp Outside). IsTotal outside_len (e.link.state.memory.next + 1) 0 m) (sym outside) (sound_register outside_len e.link.state.memory.next 0 e.outside nothing_outside s fits (omega arith)))
+pub registered_outside : (e f : EndpointState) (buf : List ℕ) (o : Outside) (n : ℕ) → f.link ≡ after_call e.link (Register buf Sink) → f.outside ≡ insert e.outside e.link.state.memory.next o → e.link.state.memory.next < 2 ^ 32 → outside_len o < 2 ^ 64 → HasOutside e n → HasOutside f (n + outside_len o)
+registered_outside e f buf o n is outside fits small h = record {
+  total = h.total + outside_len o;
+  sum = subst (λ (k : ℕ). IsTotal outside_len k (h.total + outside_len o) f.outside) (sym (registered_next e.link f.link buf Sink is))
+      (subst (λ (m : FinMap nat_cmp Outside). IsTotal outside_len (e.link.state.memory.next + 1) (h.total + outside_len o) m) (sym outside) (sound_register outside_len e.link.state.memory.next h.total e.outside o h.sum fits small));
+  most = (let most = h.most in omega (arith, most));
+}
+
+pub registered_kept : (e f : EndpointState) (o : Outside) → f.outside ≡ insert e.outside e.link.state.memory.next o → (stag : ℕ) → stag < e.link.state.memory.next → get f.outside stag ≡ get e.outside stag
+registered_kept e f o outside = λ stag lt. ap (λ (m : FinMap nat_cmp Outside). get m stag) outside ∙ get_insert_other e.outside e.link.state.memory.next o stag (λ e. omega (arith, lt, e))
 
 -- ---- One of the chunks
 

@@ -1,5 +1,5 @@
 -- What a responder fetches of its client's memory for calls with a read list (RFC 8166 section 3.4.5).
-use Rattle.std.specs.Prelude.{◌≡◌, ℕ, ◌==◌, Bool, true, not, List, [], ◌∷◌, ◌++◌, length, drop, Option, None, Some}
+use Rattle.std.specs.Prelude.{◌≡◌, ℕ, ◌==◌, ◌&&◌, Bool, true, not, List, [], ◌∷◌, ◌++◌, length, drop, Option, None, Some}
 use Rattle.std.specs.List.{list_any}
 use Rattle.nr_header.specs.declared.header.ReadSegment.{ReadSegment}
 use Rattle.nr_reduce.specs.OfferedRegions.{Region}
@@ -18,6 +18,10 @@ pub record SinkRegion : Type 0 where
   pub position : ℕ
   pub stag : ℕ
   pub len : ℕ
+
+-- whether it is that of a call at a position
+abbrev pub is_sink : (number position : ℕ) → SinkRegion → Bool
+is_sink number position s = s.number == number && s.position == position
 
 abbrev pub sink_of_region : Region → SinkRegion
 sink_of_region r = record { number = r.call; position = r.position; stag = r.stag; len = length r.bytes }

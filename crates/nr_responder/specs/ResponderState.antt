@@ -1,6 +1,7 @@
 -- What contracts see of a responder: its side of the link; the calls that it has not answered, in the order of their Sends; the xids of
 -- those that wait to be executed, in the order in which they became ready; its credits; what it fetches; the whole staging buffer, which
--- begins with the bytes of the frame that isn't complete; and how many bytes the buffers have that it keeps for payloads of calls that are read.
+-- begins with the bytes of the frame that isn't complete; and how many bytes the buffers have that it keeps for payloads of calls that are
+-- read, with those of buffers outside their regions.
 use Rattle.std.specs.Prelude.{◌≡◌, ℕ, ◌+◌, ◌-◌, ◌*◌, max, List, [], ◌++◌, length, drop, Option}
 use Rattle.nr_wire.specs.declared.hello.Side.TheVariants.{Responder}
 use Rattle.nr_link.specs.declared.end.End.{End}
@@ -54,7 +55,7 @@ abbrev pub unsent : LinkState → ℕ
 unsent s = length s.send_queue.send_ends
 
 -- How many bytes all byte buffers have that are kept: the staging buffer, the receives, of which one is lent for each call that isn't answered
--- and for each Send that hasn't left, the regions, the output, and the buffers for payloads of calls that are read.
+-- and for each Send that hasn't left, the regions, the output, and the buffers for payloads of calls that are read, with the bytes outside of regions.
 abbrev pub bytes_held_by : ResponderState → ℕ
 bytes_held_by v = length v.staging + bytes_of v.side.link.state + send_max * (length v.side.calls + unsent v.side.link.state) + v.rooms
 

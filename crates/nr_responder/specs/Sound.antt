@@ -1,10 +1,15 @@
 -- What a responder keeps of its own, whatever the marks.
-use Rattle.std.specs.Prelude.{◌≡◌, ◌⊎◌, ℕ, ◌+◌, ◌≤◌, true, false, List, [], ◌∷◌, length, map, sum_by, Option, None, Some, IfSome, All, slice_get, take, drop, vec_capacity}
+use Rattle.std.specs.Prelude.{◌≡◌, ◌≢◌, ◌⊎◌, ℕ, ◌+◌, ◌≤◌, true, false, is_some, List, [], ◌∷◌, length, map, sum_by, find, Option, None, Some, IfSome, All, slice_get, take, drop, vec_capacity}
 use Rattle.std.specs.VecDeque.{deque_capacity}
-use Rattle.nr_regions.specs.RegisteredMemory.{Claim, RegisteredMemory, IsHeld, outside_len}
+use Rattle.std.specs.List.{AllByRecursion}
+use Rattle.std.specs.Ordering.{nat_cmp}
+use Rattle.std.specs.FinMap.{FinMap, get}
+use Rattle.nr_regions.specs.RegisteredMemory.{Claim, Outside, RegisteredMemory, IsHeld, held_region, outside_held, outside_len}
 use Rattle.nr_regions.specs.Table.{IsTotal}
 use Rattle.nr_rpc.specs.Reading.{call_of, target_of}
+use Rattle.nr_reduce.specs.declared.item.Item.{Item}
 use Rattle.nr_reduce.specs.Items.{call_item}
+use Rattle.nr_reduce.specs.Chunks.{item_position}
 use Rattle.nr_header.specs.Constants.{PAYLOAD_MAX}
 use Rattle.nr_reduce.specs.ServerReads.{is_read}
 use Rattle.nr_endpoint.specs.EndpointState.{EndpointState}
@@ -16,7 +21,7 @@ use Rattle.nr_endpoint.specs.LinkState.{LinkState, LinkSide}
 use Rattle.nr_link.specs.Limits.{send_max}
 use Rattle.nr_responder.specs.declared.call.Pending.{Pending}
 use Rattle.nr_responder.specs.declared.server_end.ServerEnd.{ServerEnd}
-use Rattle.nr_responder.specs.Fetching.{Fetching}
+use Rattle.nr_responder.specs.Fetching.{Fetching, SinkRegion, is_sink}
 use Rattle.nr_responder.specs.ResponderState.{ResponderSide, ResponderState, unsent}
 use Rattle.nr_responder.specs.Rooms.{payload_room}
 use Rattle.nr_responder.specs.Views.{call_view, read_view, sink_view, HasLists}
@@ -40,7 +45,7 @@ state_of r = record {
   fetching = fetching_of r.reads.items r.sinks.items r.ready.items;
 }
 
--- the bytes of the buffers of payloads: of calls that are read, and of those that are ready
+-- the bytes of the buffers of payloads: of calls that are read, and of those that are ready; and the bytes of buffers outside their regions
 abbrev pub room_len : Option ℕ → ℕ
 room_len None = 0
 room_len (Some room) = room
@@ -49,11 +54,11 @@ abbrev pub payload_len : Option (List ℕ) → ℕ
 payload_len None = 0
 payload_len (Some payload) = length payload
 
-abbrev pub rooms_of : List Pending → List Ready → ℕ
-rooms_of calls ready = sum_by (λ c. room_len c.room) calls + sum_by (λ q. payload_len q.payload) ready
+abbrev pub rooms_of : List Pending → List Ready → FinMap nat_cmp Outside → ℕ
+rooms_of calls ready outside = sum_by (λ c. room_len c.room) calls + sum_by (λ q. payload_len q.payload) ready + outside_held outside
 
 abbrev pub with_staging : ServerEnd → ResponderState
-with_staging r = record { side = state_of r; staging = r.endpoint.staging; rooms = rooms_of r.calls.items r.ready.items }
+with_staging r = record { side = state_of r; staging = r.endpoint.staging; rooms = rooms_of r.calls.items r.ready.items r.endpoint.outside }
 
 -- A pending call's message lies in its receive buffer, it has lists that are within the limits, and what its head asks for and its item are those of its
 -- stream.
@@ -88,9 +93,32 @@ abbrev pub IsRoom : Option ℕ → Type 0
 IsRoom None = ⊥
 IsRoom (Some room) = payload_room ≤ room
 
--- a call of which something is left to be read has the room of its payload
-abbrev pub HasRoom : List ReadEntry → Pending → Type 0
-HasRoom reads c = is_read (map read_view reads) c.number ≡ false → IsRoom c.room
+-- The payload of a call is completed in the buffer of its sink. Its stream stands in its message; the region begins at the position of the
+-- stream's item; and the bytes outside are as many as the stream's and a pad's.
+pub record HasWindow (around : FinMap nat_cmp Outside) (sinks : List OpenSink) (c : Pending) : Type 0 where
+  pub inline : c.inline ≡ true
+  pub item : Item
+  pub item_is : c.item ≡ Some (Some item)
+  pub position : item_position (call_view c).lists.read ≡ Some item.pos
+  pub within : c.stream_at + item.pos ≤ c.len
+  pub sink : SinkRegion
+  pub found : find (is_sink c.number item.pos) (map sink_view sinks) ≡ Some sink
+  pub outside : Outside
+  pub there : get around sink.stag ≡ Some outside
+  pub front : length outside.front ≡ item.pos
+  pub size : outside_len outside ≡ c.around
+  pub around_is : c.stream_at + c.around ≡ c.len + 3
+
+-- a call has the room of its payload, of its own or in the buffer of its sink
+pub record HasSpace (around : FinMap nat_cmp Outside) (sinks : List OpenSink) (c : Pending) : Type 0 where
+  pub room : c.around ≡ 0 → IsRoom c.room
+  pub window : c.around ≢ 0 → HasWindow around sinks c
+
+-- A call of which something is left to be read has that room; and no read at position 0, if it is in the buffer of its sink.
+pub record HasRoom (around : FinMap nat_cmp Outside) (sinks : List OpenSink) (reads : List ReadEntry) (c : Pending) : Type 0 where
+  pub space : is_read (map read_view reads) c.number ≡ false → HasSpace around sinks c
+  pub apart : c.around ≢ 0 → AllByRecursion (λ r. r.number ≡ c.number → r.position ≢ 0) (map read_view reads)
+  pub few : room_len c.room + c.around ≤ payload_room
 
 abbrev pub claims_of : List OpenSink → List Claim
 claims_of sinks = map (λ s. s.registration) sinks
@@ -100,16 +128,28 @@ abbrev pub AreHeldFrom : RegisteredMemory → ℕ → List Claim → Type 0
 AreHeldFrom m low [] = low ≤ m.next
 AreHeldFrom m low (c ∷ claims) = (low ≤ c.stag) × (IsHeld m c × AreHeldFrom m (c.stag + 1) claims)
 
--- no buffer has bytes outside its region
-abbrev pub NothingOutside : EndpointState → Type 0
-NothingOutside e = IsTotal outside_len e.link.state.memory.next 0 e.outside
+-- the bytes of buffers outside their regions are at most n
+pub record HasOutside (e : EndpointState) (n : ℕ) : Type 0 where
+  pub total : ℕ
+  pub sum : IsTotal outside_len e.link.state.memory.next total e.outside
+  pub most : total ≤ n
 
--- The sinks that are open are held, and none is longer than a payload; and each call that is read has the room of its payload.
+-- the bytes outside of each region that is still held are as they were
+abbrev pub KeepsOutside : (before after : EndpointState) → Type 0
+KeepsOutside before after = (stag : ℕ) → is_some (held_region after.link.state.memory stag) ≡ true →
+    (is_some (held_region before.link.state.memory stag) ≡ true) × (get after.outside stag ≡ get before.outside stag)
+
+-- how many bytes the buffers of sinks have for the payloads of calls
+abbrev pub around_of : List Pending → ℕ
+around_of calls = sum_by (λ c. c.around) calls
+
+-- The sinks that are open are held, and none is longer than a payload; each call that is read has the room of its payload; and no other bytes
+-- are outside of regions.
 pub record AreFetched (e : EndpointState) (calls : List Pending) (reads : List ReadEntry) (sinks : List OpenSink) : Type 0 where
   pub held : AreHeldFrom e.link.state.memory 0 (claims_of sinks)
   pub short : All (λ s. s.registration.len ≤ PAYLOAD_MAX) sinks
-  pub rooms : All (HasRoom reads) calls
-  pub outside : NothingOutside e
+  pub rooms : All (HasRoom e.outside sinks reads) calls
+  pub outside : HasOutside e (around_of calls)
 
 abbrev pub ServerEndInvariantWith : ℕ → ServerEnd → Type 0
 ServerEndInvariantWith n r =

@@ -1,9 +1,10 @@
 //! The calls that a responder has not answered.
 
-ghost use Rattle.std.specs.Prelude.{◌≡◌, ◌≢◌, ℕ, ◌==◌, ◌<◌, ◌≤◌, length, drop, take, get_or, map, None, IfSome};
+ghost use Rattle.std.specs.Prelude.{◌≡◌, ◌≢◌, ℕ, ◌==◌, ◌<◌, ◌≤◌, length, drop, take, get_or, map, None, Some, IfSome, true};
 ghost use Rattle.std.specs.List.{list_any};
 ghost use Rattle.nr_reduce.specs.ServerReads.{is_read};
 ghost use Rattle.nr_header.specs.Header.{no_lists};
+ghost use Rattle.nr_reduce.specs.declared.item.Item.{Item};
 ghost use Rattle.nr_responder.specs.Sound.{InBuffer};
 ghost use Rattle.nr_responder.specs.Views.{call_view, read_view};
 
@@ -33,6 +34,8 @@ pub struct Pending {
     pub inline: bool,
     /// The room of its payload, while its chunks are read.
     pub room: Option<Room>,
+    /// How many bytes the buffer of its sink has outside the region, if its payload is completed in that buffer; else 0.
+    pub around: usize,
     /// What the head of its inline stream asks for, once that was read: `Some(None)` if it is of another RPC version.
     pub target: Option<Option<CallTarget>>,
     /// The item of its inline stream, once that was looked for: `Some(None)` if it has none.
@@ -161,6 +164,20 @@ pub(crate) fn place_of(calls: &[Pending], xid: u32) -> Option<usize>
         }
     }
     None
+}
+
+/// The item of a call whose stream stands in its message, if it was found there.
+pub(crate) fn inline_item(call: &Pending) -> Option<Item>
+    ensures some { IfSome result (λ i. (call.now.inline ≡ true) × (call.now.item ≡ Some (Some i))) }
+    ensures none { result ≡ None → (i : Item) → call.now.inline ≡ true → call.now.item ≡ Some (Some i) → ⊥ }
+{
+    if !call.inline {
+        return None;
+    }
+    match call.item {
+        Some(item) => item,
+        None => None,
+    }
 }
 
 /// Puts the lists of a call's message into a room: that message was read before.

@@ -10,7 +10,8 @@
 //! changes nothing; and [`Responder::drain_into`] posts the receive of each answer that has left.
 //!
 //! The chunks of a call with a read list are read into regions of the responder (sinks), at most eight Read Requests at a time, before
-//! the call is ready (RFC 8166 section 3.4.5).
+//! the call is ready (RFC 8166 section 3.4.5). If its stream stands in its message and it has one chunk, its payload is completed in the
+//! buffer of that chunk's sink.
 //!
 //! A responder keeps neither marks nor bytes of the past. Each call says, for every list of marks that the value stood for, what it
 //! answers, and that the value stands for that list with the marks of the call.
@@ -26,6 +27,7 @@ mod laws;
 mod messages;
 mod opening;
 mod payloads;
+mod placing;
 mod read_done;
 mod read_lists;
 mod registering;

@@ -135,6 +135,7 @@ impl ServerEnd {
                     stream_at,
                     inline,
                     room: None,
+                    around: 0,
                     target: target_read(head),
                     item: item_read(head),
                 },
@@ -187,6 +188,7 @@ impl ServerEnd {
                     stream_at,
                     inline: true,
                     room: None,
+                    around: 0,
                     target: Some(target),
                     item: None,
                 };
@@ -199,7 +201,7 @@ impl ServerEnd {
     pub(crate) fn push(&mut self, call: Pending, payload: Option<Payload>)
         requires sound { ServerEndInvariantWith 1 self.old }
         requires call { InBuffer call }
-        requires room { HasRoom self.old.reads.items call }
+        requires room { HasRoom self.old.endpoint.outside self.old.sinks.items self.old.reads.items call }
         ensures pushed { (self.new.calls.items ≡ self.old.calls.items ++ call ∷ []) × (self.new.ready.items ≡ self.old.ready.items ++ record { xid = call.xid; payload = payload } ∷ []) }
         ensures same { (self.new.endpoint ≡ self.old.endpoint) × (self.new.credits ≡ self.old.credits) }
         ensures reads { (self.new.reads.items ≡ self.old.reads.items) × (self.new.sinks.items ≡ self.old.sinks.items) }

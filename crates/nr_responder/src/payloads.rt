@@ -1,6 +1,7 @@
 //! The payload of a call whose chunks are read (RFC 8166 section 3.4.5).
 
-ghost use Rattle.std.specs.Prelude.{◌≡◌, ℕ, ◌+◌, ◌*◌, ◌^◌, ◌<◌, ◌≤◌, length, Some, None, IfErr, IfOk, IfSome, List, [], Option, option_map, slice_get, if◌then◌else◌};
+ghost use Rattle.std.specs.Prelude.{◌≡◌, ℕ, ◌+◌, ◌*◌, ◌^◌, ◌<◌, ◌≤◌, ◌==◌, ◌||◌, length, take, drop, is_some, true, Some, None, IfErr, IfOk, IfSome, List, [], Option, option_map, slice_get, if◌then◌else◌};
+ghost use Rattle.nr_xdr.specs.Item.{IsBytes, pad_len};
 ghost use Rattle.nr_link.specs.Limits.{send_max};
 ghost use Rattle.nr_rpc.specs.Reading.{call_of, target_of};
 ghost use Rattle.nr_endpoint.specs.Calls.{IsStopReason};
@@ -10,6 +11,8 @@ ghost use Rattle.nr_reduce.specs.ServerState.{PendingCall};
 ghost use Rattle.nr_reduce.specs.ServerMessages.{by_payload};
 ghost use Rattle.nr_reduce.specs.ServerMessages.CallVerdict.{Refuses};
 ghost use Rattle.nr_responder.specs.private.CallsRead.{payload_at_once, verdict_by, verdict_of, IsStreamAlone};
+ghost use Rattle.nr_responder.specs.private.DoneReads.{JudgesPlaced};
+ghost use Rattle.nr_responder.specs.Rooms.{payload_room};
 ghost use Rattle.nr_responder.specs.Sound.{payloads_of, InBuffer};
 ghost use Rattle.nr_responder.specs.Answering.{IsPayload};
 ghost use Rattle.nr_reduce.specs.Items.{call_item};
@@ -21,9 +24,9 @@ use crate::room::{Payload, Room};
 use crate::server_end::stream_xid;
 use nr_header::ReadSegment;
 use nr_link::constants::{REASON_HEAD, REASON_XID};
-use nr_reduce::{Item, Of, item_position, rebuild_item_into};
+use nr_reduce::{Item, Of, item_position, rebuild_in_place, rebuild_item_into};
 use nr_rpc::CallTarget;
-use nr_xdr::Memory;
+use nr_xdr::{Memory, Octets, pad_len};
 use std::collections::VecDeque;
 
 /// A payload that is a stream alone, whose head asks for this.
@@ -64,10 +67,41 @@ pub(crate) fn with_item(
     }
 }
 
-/// Why the link ends if a call has this payload, whose head asks for this: it is no RPC call with this xid.
+/// Completes the payload of a stream with this item in the buffer that has the bytes of the item, of which there are `moved`, at its position.
+pub(crate) fn in_place(
+    buffer: Octets,
+    stream: &[u8],
+    target: Option<CallTarget>,
+    item: Item,
+    moved: usize,
+) -> Payload
+    requires item { call_item stream.now ≡ Some item }
+    requires target { target ≡ target_of (call_of stream.now) }
+    requires room { length stream.now + moved + 3 ≤ length buffer }
+    requires most { length buffer ≤ payload_room }
+    requires small { item.pos ≤ length stream.now }
+    requires whole { is_some (whole of.Call stream.now (Some (take moved (drop item.pos buffer)))) ≡ true }
+    ensures { whole of.Call stream.now (Some (take moved (drop item.pos buffer))) ≡ Some result }
+{
+    let mut buffer = buffer;
+    are_bytes(buffer.as_slice());
+    match rebuild_in_place(
+        &mut buffer,
+        &Of::Call,
+        Some(item),
+        stream,
+        item.pos as u32,
+        moved,
+    ) {
+        Ok(len) => Payload::in_front(buffer, len, target),
+        Err(_) => unreachable!(),
+    }
+}
+
+/// Why the link ends if a call has this payload, or another with the same head, and that asks for this: it is no RPC call with this xid.
 fn judge_bytes(payload: &[u8], target: Option<CallTarget>, xid: u32) -> Option<u32>
     requires { target ≡ target_of (call_of payload.now) }
-    ensures verdict { (c : PendingCall) → c.xid ≡ xid → by_payload c (Some payload.now) ≡ verdict_by c payload.now result }
+    ensures verdict { (c : PendingCall) (p : List ℕ) → c.xid ≡ xid → call_of p ≡ call_of payload.now → by_payload c (Some p) ≡ verdict_by c p result }
     ensures reason { IfSome result (λ reason. IsStopReason reason × (5 ≤ reason)) }
 {
     match stream_xid(payload, target) {
@@ -79,6 +113,37 @@ fn judge_bytes(payload: &[u8], target: Option<CallTarget>, xid: u32) -> Option<u
             None
         }
     }
+}
+
+/// Whether these are as many bytes as an item has, with or without its pad.
+fn has_length(len: u32, moved: &[u8]) -> bool
+    ensures { result ≡ (length moved.now == len || length moved.now == len + pad_len len) }
+{
+    let all = len as usize;
+    moved.len() == all || moved.len() == all + pad_len(all)
+}
+
+/// Elements of a byte slice are bytes. Only contracts speak of it.
+fn are_bytes(bytes: &[u8])
+    ensures { IsBytes bytes.now }
+{
+    let _bytes = bytes.len();
+}
+
+/// Why the link ends if these bytes of the item of a call's stream were read: the item has another length, or the stream is no RPC call with
+/// the call's xid.
+pub(crate) fn judge_in_place(call: &Pending, item: Item, moved: &[u8]) -> Option<u32>
+    requires call { InBuffer call.now }
+    requires item { call.now.item ≡ Some (Some item) }
+    ensures verdict { JudgesPlaced (call_view call.now) (drop call.now.stream_at (take call.now.len call.now.buf)) moved.now result }
+    ensures reason { IfSome result (λ reason. IsStopReason reason × (5 ≤ reason)) }
+{
+    if !has_length(item.len, moved) {
+        return Some(REASON_HEAD);
+    }
+    let stream = stream_of(&call.buf, call.len, call.stream_at);
+    are_bytes(stream);
+    judge_bytes(stream, head_of(call, stream).target, call.xid)
 }
 
 /// The payload of a call, or why the link ends: it is no RPC call with this xid.
@@ -155,7 +220,7 @@ pub(crate) fn first_payload(ready: &VecDeque<Ready>) -> Option<&Payload>
 }
 
 /// The payload of this call, which is the first that is ready, and what its head asks for, if that was read. `Err` if the payload is neither
-/// in the message nor read: no call is so.
+/// in the message nor read, or is still read: no call is so.
 pub(crate) fn ready_payload<'a>(
     ready: &'a VecDeque<Ready>,
     call: &'a Pending,
@@ -164,7 +229,11 @@ pub(crate) fn ready_payload<'a>(
     requires call { InBuffer call.now }
     ensures payload { IfOk result (λ s. (p : Option (List ℕ)) × ((slice_get (payloads_of ready.now.items) 0 ≡ Some p) × IsPayload (call_view call.now) p s.0.now)) }
     ensures target { IfOk result (λ s. IfSome s.1 (λ t. t ≡ target_of (call_of s.0.now))) }
+    ensures read { IfOk result (λ _. call.now.around ≡ 0) }
 {
+    if call.around != 0 {
+        return Err(Memory);
+    }
     if let Some(payload) = first_payload(ready) {
         return Ok((payload.as_slice(), Some(payload.target())));
     }

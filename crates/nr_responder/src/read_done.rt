@@ -12,7 +12,7 @@ ghost use Rattle.nr_responder.specs.private.Reading.{opening, sink_bytes, with_o
 ghost use Rattle.nr_responder.specs.private.ReadsDone.{has_bad_chunk, reads_without, still_open, HandlesRead, NothingReady};
 ghost use Rattle.nr_responder.specs.private.DoneReads.{IsOfCall, ReadsOn, ReadyMade};
 ghost use Rattle.nr_responder.specs.Rooms.{payload_room};
-ghost use Rattle.nr_responder.specs.Sound.{claims_of, state_of, AreHeldFrom, InBuffer, IsRoom, ServerEndInvariant, SameInput};
+ghost use Rattle.nr_responder.specs.Sound.{claims_of, state_of, AreHeldFrom, HasSpace, InBuffer, IsRoom, ServerEndInvariant, SameInput};
 ghost use Rattle.nr_responder.specs.Views.{call_view, read_view, sink_view};
 
 use crate::answering::chunk_error;
@@ -224,6 +224,7 @@ impl ServerEnd {
         requires sound { ServerEndInvariant self.old }
         requires at { at < length self.old.calls.items }
         requires read { (d : Pending) → is_read (map read_view self.old.reads.items) (get_or self.old.calls.items at d).number ≡ true }
+        requires empty { (d : Pending) → (get_or self.old.calls.items at d).around ≡ 0 }
         requires room { (d : Pending) → IsRoom (get_or self.old.calls.items at d).room }
         ensures room { payload_room ≤ result }
         ensures call { (d : Pending) → call_view (get_or self.new.calls.items at d) ≡ call_view (get_or self.old.calls.items at d) }
@@ -250,6 +251,30 @@ impl ServerEnd {
         requires few { length self.old.ready.items < length self.old.calls.items }
         requires fine { (d : Pending) → has_bad_chunk (state_of self.old) (call_view (get_or self.old.calls.items at d)) (read_view done) (map read_view self.old.reads.items) ≡ false }
         requires read { (d : Pending) → is_read (map read_view self.old.reads.items) (get_or self.old.calls.items at d).number ≡ true }
+        requires space { (d : Pending) → HasSpace self.old.endpoint.outside self.old.sinks.items (get_or self.old.calls.items at d) }
+        ensures handled { HandlesRead (state_of self.old) (read_view done) (map read_view self.old.reads.items) (state_of self.new) }
+        ensures sound { ServerEndInvariant self.new }
+        ensures input { SameInput self.old.endpoint.link self.new.endpoint.link }
+        ensures staging { self.new.endpoint.staging ≡ self.old.endpoint.staging }
+    {
+        if self.calls[at].around == 0 {
+            self.complete_in_room(at, done, kept);
+        } else {
+            self.complete_in_place(at, done, kept);
+        }
+    }
+
+    /// The same, if its payload is put together in a room of its own.
+    fn complete_in_room(&mut self, at: usize, done: ReadEntry, kept: usize)
+        requires sound { ServerEndInvariant self.old }
+        requires live { self.old.endpoint.link.state.ended ≡ None }
+        requires frame { 0 < self.old.endpoint.link.state.place }
+        requires at { at < length self.old.calls.items }
+        requires call { (d : Pending) → IsOfCall (state_of self.old) (read_view done) kept at (call_view (get_or self.old.calls.items at d)) }
+        requires few { length self.old.ready.items < length self.old.calls.items }
+        requires fine { (d : Pending) → has_bad_chunk (state_of self.old) (call_view (get_or self.old.calls.items at d)) (read_view done) (map read_view self.old.reads.items) ≡ false }
+        requires read { (d : Pending) → is_read (map read_view self.old.reads.items) (get_or self.old.calls.items at d).number ≡ true }
+        requires empty { (d : Pending) → (get_or self.old.calls.items at d).around ≡ 0 }
         requires room { (d : Pending) → IsRoom (get_or self.old.calls.items at d).room }
         ensures handled { HandlesRead (state_of self.old) (read_view done) (map read_view self.old.reads.items) (state_of self.new) }
         ensures sound { ServerEndInvariant self.new }
@@ -289,6 +314,7 @@ impl ServerEnd {
         requires at { at < length self.old.calls.items }
         requires call { (d : Pending) → IsOfCall (state_of self.old) (read_view done) kept at (call_view (get_or self.old.calls.items at d)) }
         requires few { length self.old.ready.items < length self.old.calls.items }
+        requires empty { (d : Pending) → (get_or self.old.calls.items at d).around ≡ 0 }
         requires bad { (d : Pending) → has_bad_chunk (state_of self.old) (call_view (get_or self.old.calls.items at d)) (read_view done) (map read_view self.old.reads.items) ≡ true }
         ensures handled { HandlesRead (state_of self.old) (read_view done) (map read_view self.old.reads.items) (state_of self.new) }
         ensures sound { ServerEndInvariant self.new }
@@ -327,7 +353,8 @@ impl ServerEnd {
         requires frame { 0 < self.old.endpoint.link.state.place }
         requires at { at < length self.old.calls.items }
         requires call { (d : Pending) → IsOfCall (state_of self.old) (read_view done) kept at (call_view (get_or self.old.calls.items at d)) }
-        requires room { (d : Pending) → IsRoom (get_or self.old.calls.items at d).room }
+        requires space { (d : Pending) → HasSpace self.old.endpoint.outside self.old.sinks.items (get_or self.old.calls.items at d) }
+        requires apart { (d : Pending) → (get_or self.old.calls.items at d).around ≢ 0 → done.position ≢ 0 }
         ensures handled { HandlesRead (state_of self.old) (read_view done) (map read_view self.old.reads.items) (state_of self.new) }
         ensures sound { ServerEndInvariant self.new }
         ensures input { SameInput self.old.endpoint.link self.new.endpoint.link }

@@ -118,7 +118,7 @@ pub(crate) fn push_reads(
 }
 
 /// A sink of this many zeros.
-fn sink_of_zeros(alloc: Global, len: usize) -> Result<Octets, Memory>
+pub(crate) fn sink_of_zeros(alloc: Global, len: usize) -> Result<Octets, Memory>
     ensures { IfOk result (λ o. o ≡ replicate len 0) }
 {
     let mut zeros = Vec::with_capacity(alloc, len)?;

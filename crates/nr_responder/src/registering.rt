@@ -1,15 +1,16 @@
 //! The sinks of a call are registered (RFC 8166 section 3.4.5).
 
-ghost use Rattle.std.specs.Prelude.{◌≡◌, ◌+◌, ◌^◌, ◌<◌, ◌≤◌, ◌++◌, [], ◌∷◌, length, map, All, vec_capacity};
+ghost use Rattle.std.specs.Prelude.{◌≡◌, ℕ, ◌+◌, ◌^◌, ◌<◌, ◌≤◌, ◌++◌, [], ◌∷◌, length, map, All, vec_capacity};
+ghost use Rattle.std.specs.FinMap.{get, insert};
 ghost use Rattle.nr_header.specs.Constants.{PAYLOAD_MAX};
 ghost use Rattle.nr_header.specs.WithinLimits.{read_total};
-ghost use Rattle.nr_regions.specs.RegisteredMemory.{claim_of};
+ghost use Rattle.nr_regions.specs.RegisteredMemory.{claim_of, outside_len, outside_window, window_bytes};
 ghost use Rattle.nr_regions.specs.declared.right.Right.TheVariants.{Sink};
 ghost use Rattle.nr_endpoint.specs.Calls.{after_call};
 ghost use Rattle.nr_endpoint.specs.Calls.Call.{Register};
 ghost use Rattle.nr_responder.specs.Fetching.{open_sinks};
 ghost use Rattle.nr_responder.specs.private.CallsRead.{sink_buffer, sinks_from, with_registered};
-ghost use Rattle.nr_responder.specs.Sound.{claims_of, AreHeldFrom, NothingOutside};
+ghost use Rattle.nr_responder.specs.Sound.{claims_of, AreHeldFrom, HasOutside};
 ghost use Rattle.nr_responder.specs.Views.{sink_view};
 
 use crate::call::OpenSink;
@@ -38,10 +39,47 @@ fn register_sink(
     ensures capacity { vec_capacity sinks.new ≡ vec_capacity sinks.old }
     ensures held { AreHeldFrom endpoint.new.link.state.memory 0 (claims_of sinks.new.items) }
     ensures short { All (λ s. s.registration.len ≤ PAYLOAD_MAX) sinks.new.items }
-    ensures outside { NothingOutside endpoint.old → NothingOutside endpoint.new }
+    ensures outside { (n : ℕ) → HasOutside endpoint.old n → HasOutside endpoint.new n }
+    ensures kept { (stag : ℕ) → stag < endpoint.old.link.state.memory.next → get endpoint.new.outside stag ≡ get endpoint.old.outside stag }
     ensures staging { endpoint.new.staging ≡ endpoint.old.staging }
 {
     match endpoint.register(buf, Right::Sink) {
+        Ok(registration) => sinks.push_reserved(OpenSink {
+            number,
+            position,
+            registration,
+        }),
+        Err(_) => unreachable!(),
+    }
+}
+
+/// Registers a part of a buffer as the sink of a chunk, under the next STag: its `len` bytes from `start` on. There is room for it.
+pub(crate) fn register_part(
+    endpoint: &mut Endpoint,
+    sinks: &mut Vec<OpenSink>,
+    number: u64,
+    position: u32,
+    buf: Octets,
+    window: (usize, usize),
+)
+    requires room { 0 < endpoint.old.room }
+    requires stags { endpoint.old.link.state.memory.next < 2 ^ 32 }
+    requires capacity { length sinks.old.items < vec_capacity sinks.old }
+    requires held { AreHeldFrom endpoint.old.link.state.memory 0 (claims_of sinks.old.items) }
+    requires short { All (λ s. s.registration.len ≤ PAYLOAD_MAX) sinks.old.items }
+    requires window { window.0 + window.1 ≤ length buf }
+    requires small { length buf < 2 ^ 64 }
+    requires len { window.1 ≤ PAYLOAD_MAX }
+    ensures link { endpoint.new.link ≡ after_call endpoint.old.link (Register (window_bytes window.0 window.1 buf) Sink) }
+    ensures sinks { sinks.new.items ≡ sinks.old.items ++ record { number = number; position = position; registration = claim_of endpoint.old.link.state.memory (window_bytes window.0 window.1 buf) } ∷ [] }
+    ensures held { AreHeldFrom endpoint.new.link.state.memory 0 (claims_of sinks.new.items) }
+    ensures short { All (λ s. s.registration.len ≤ PAYLOAD_MAX) sinks.new.items }
+    ensures outside { (n : ℕ) → HasOutside endpoint.old n → HasOutside endpoint.new (n + outside_len (outside_window window.0 window.1 buf)) }
+    ensures there { endpoint.new.outside ≡ insert endpoint.old.outside endpoint.old.link.state.memory.next (outside_window window.0 window.1 buf) }
+    ensures staging { endpoint.new.staging ≡ endpoint.old.staging }
+{
+    let (start, len) = window;
+    match endpoint.register_window(buf, start, len, Right::Sink) {
         Ok(registration) => sinks.push_reserved(OpenSink {
             number,
             position,
@@ -71,7 +109,8 @@ pub(crate) fn register_sinks(
     ensures sinks { map sink_view sinks.new.items ≡ map sink_view sinks.old.items ++ open_sinks (sinks_from number endpoint.old.link.state.memory.next read.now chunks.now) }
     ensures held { AreHeldFrom endpoint.new.link.state.memory 0 (claims_of sinks.new.items) }
     ensures short { All (λ s. s.registration.len ≤ PAYLOAD_MAX) sinks.new.items }
-    ensures outside { NothingOutside endpoint.old → NothingOutside endpoint.new }
+    ensures outside { (n : ℕ) → HasOutside endpoint.old n → HasOutside endpoint.new n }
+    ensures kept { (stag : ℕ) → stag < endpoint.old.link.state.memory.next → get endpoint.new.outside stag ≡ get endpoint.old.outside stag }
     ensures staging { endpoint.new.staging ≡ endpoint.old.staging }
 {
     let mut buffers = buffers;

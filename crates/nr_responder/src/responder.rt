@@ -58,7 +58,7 @@ impl Model for Responder {
     ghost use Rattle.nr_responder.specs.Standing.{RepresentsSome};
     ghost use Rattle.nr_responder.specs.HeldBytes.{IsBounded};
 
-    ghost view = { λ r. record { side = state_of r.end; staging = r.end.endpoint.staging; rooms = rooms_of r.end.calls.items r.end.ready.items } };
+    ghost view = { λ r. record { side = state_of r.end; staging = r.end.endpoint.staging; rooms = rooms_of r.end.calls.items r.end.ready.items r.end.endpoint.outside } };
 
     // It stands for some marks, and what it keeps is within bounds.
     ghost invariant = { λ r. ServerEndInvariant r.end × (RepresentsSome (state_of r.end) × IsBounded (with_staging r.end)) };
@@ -180,8 +180,8 @@ impl Responder {
     }
 
     /// How many bytes all byte buffers have that are kept: the staging buffer, the receives, the regions, the output, and the buffers of
-    /// payloads that are read or were. At most 262144 for each credit, and four times that. Lists of calls and their segments aren't
-    /// counted. Takes no memory.
+    /// payloads that are read or were, with the bytes of buffers outside their regions. At most 262144 for each credit, and four times that.
+    /// Lists of calls and their segments aren't counted. Takes no memory.
     pub fn held(&self) -> u128
         ensures is { result ≡ bytes_held_by self.now }
         ensures bound { result ≤ held_unit * (self.now.side.credits + 4) }

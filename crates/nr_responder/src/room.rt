@@ -59,7 +59,7 @@ impl Room {
     }
 }
 
-/// A payload that was put together. It keeps all of the room that was taken for it, and what its head asks for. Contracts see its bytes, of
+/// A payload that was put together, or completed in the buffer of its sink. It keeps all of the room that was taken for it, and what its head asks for. Contracts see its bytes, of
 /// which there are at most `payload_room`.
 #[derive(Drop)]
 pub struct Payload {
@@ -91,6 +91,21 @@ impl Payload {
         let _room = buffer.len();
         Payload {
             bytes: buffer.into_first(len),
+            target,
+        }
+    }
+
+    /// The payload that is the first `len` bytes of a byte string, whose head asks for this.
+    pub fn in_front(bytes: Octets, len: usize, target: Option<CallTarget>) -> Payload
+        requires room { length bytes ≤ payload_room }
+        requires len { len ≤ length bytes }
+        requires target { target ≡ target_of (call_of (take len bytes)) }
+        ensures { result ≡ take len bytes }
+    {
+        let mut bytes = bytes.into_vec();
+        bytes.truncate(len);
+        Payload {
+            bytes: Octets::from_vec(bytes),
             target,
         }
     }

@@ -1,15 +1,19 @@
 //! The regions into which calls are read (RFC 8166 section 3.4.5).
 
-ghost use Rattle.std.specs.Prelude.{◌≡◌, ℕ, ◌+◌, ◌<◌, ◌≤◌, ◌==◌, ◌&&◌, map, length, take, drop, get_or, ◌++◌, All, [], ◌∷◌};
+ghost use Rattle.std.specs.Prelude.{◌≡◌, ℕ, ◌+◌, ◌<◌, ◌≤◌, ◌==◌, ◌&&◌, map, find, length, take, drop, get_or, ◌++◌, All, [], ◌∷◌, Some, None, IfSome, true};
 ghost use Rattle.std.specs.List.{list_any, remove};
+ghost use Rattle.std.specs.FinMap.{get};
 ghost use Rattle.nr_header.specs.Constants.{PAYLOAD_MAX};
+ghost use Rattle.nr_regions.specs.RegisteredMemory.{Outside, buffer_around, bytes_in, held_region, outside_len};
 ghost use Rattle.nr_reduce.specs.ServerReads.{is_read_at};
+ghost use Rattle.nr_responder.specs.Fetching.{is_sink};
 ghost use Rattle.nr_responder.specs.private.Reading.{is_sink_over, left_sinks, over_sinks, sink_bytes, with_released};
-ghost use Rattle.nr_responder.specs.Sound.{claims_of, AreHeldFrom, NothingOutside};
+ghost use Rattle.nr_responder.specs.Sound.{claims_of, AreHeldFrom, HasOutside, KeepsOutside};
 ghost use Rattle.nr_responder.specs.Views.{call_view, read_view, sink_view};
 
 use crate::call::{OpenSink, Pending, ReadEntry, has_number, is_read};
 use nr_endpoint::Endpoint;
+use nr_xdr::Octets;
 
 /// The bytes of the sink of a call at a position; none if it has no sink there.
 pub(crate) fn sink_bytes<'a>(
@@ -30,6 +34,20 @@ pub(crate) fn sink_bytes<'a>(
         }
     }
     &[]
+}
+
+/// The place of the first sink of a call at a position.
+pub(crate) fn sink_place(sinks: &[OpenSink], number: u64, position: u32) -> Option<usize>
+    ensures some { IfSome result (λ at. (at < length sinks.now) × ((d : OpenSink) → find (is_sink number position) (map sink_view sinks.now) ≡ Some (sink_view (get_or sinks.now at d)))) }
+    ensures none { result ≡ None → find (is_sink number position) (map sink_view sinks.now) ≡ None }
+{
+    'sinks: for i in 0..sinks.len() {
+        let sink = &sinks[i];
+        if sink.number == number && sink.position == position {
+            return Some(i);
+        }
+    }
+    None
 }
 
 fn has_read_at(reads: &[ReadEntry], number: u64, position: u32) -> bool
@@ -57,18 +75,21 @@ fn is_sink_over(calls: &[Pending], reads: &[ReadEntry], sink: &OpenSink) -> bool
     is_read_at(reads, sink.number, sink.position)
 }
 
-/// Releases the sink at this place.
-fn release_at(endpoint: &mut Endpoint, sinks: &mut Vec<OpenSink>, at: usize)
+/// Releases the sink at this place, and gives its buffer.
+fn release_at(endpoint: &mut Endpoint, sinks: &mut Vec<OpenSink>, at: usize) -> Octets
     requires at { at < length sinks.old.items }
     requires held { AreHeldFrom endpoint.old.link.state.memory 0 (claims_of sinks.old.items) }
+    ensures bytes { (d : OpenSink) → result ≡ buffer_around (get endpoint.old.outside (get_or sinks.old.items at d).registration.stag) (bytes_in (held_region endpoint.old.link.state.memory (get_or sinks.old.items at d).registration.stag)) }
     ensures link { (d : OpenSink) → endpoint.new.link ≡ with_released (sink_view (get_or sinks.old.items at d) ∷ []) endpoint.old.link }
+    ensures less { (d : OpenSink) (o : Outside) (n : ℕ) → get endpoint.old.outside (get_or sinks.old.items at d).registration.stag ≡ Some o → HasOutside endpoint.old (outside_len o + n) → HasOutside endpoint.new n }
     ensures sinks { sinks.new.items ≡ remove sinks.old.items at }
     ensures held { AreHeldFrom endpoint.new.link.state.memory 0 (claims_of sinks.new.items) }
-    ensures outside { NothingOutside endpoint.old → NothingOutside endpoint.new }
+    ensures outside { (n : ℕ) → HasOutside endpoint.old n → HasOutside endpoint.new n }
+    ensures kept { KeepsOutside endpoint.old endpoint.new }
     ensures staging { endpoint.new.staging ≡ endpoint.old.staging }
 {
     let sink = sinks.remove(at);
-    let _ = endpoint.release(sink.registration);
+    endpoint.release_buffer(sink.registration)
 }
 
 /// Releases the sink at this place if it is over, and answers the place of the next one.
@@ -89,13 +110,14 @@ fn close_at(
     ensures count { length sinks.new.items + (at + 1) ≡ result + length sinks.old.items }
     ensures held { AreHeldFrom endpoint.new.link.state.memory 0 (claims_of sinks.new.items) }
     ensures short { All (λ s. s.registration.len ≤ PAYLOAD_MAX) sinks.new.items }
-    ensures outside { NothingOutside endpoint.old → NothingOutside endpoint.new }
+    ensures outside { (n : ℕ) → HasOutside endpoint.old n → HasOutside endpoint.new n }
+    ensures kept { KeepsOutside endpoint.old endpoint.new }
     ensures staging { endpoint.new.staging ≡ endpoint.old.staging }
 {
     if !is_sink_over(calls, reads, &sinks[at]) {
         return at + 1;
     }
-    release_at(endpoint, sinks, at);
+    let _ = release_at(endpoint, sinks, at);
     at
 }
 
@@ -112,11 +134,38 @@ pub(crate) fn close_over(
     ensures sinks { map sink_view sinks.new.items ≡ left_sinks (map call_view calls.now) (map read_view reads.now) (map sink_view sinks.old.items) }
     ensures held { AreHeldFrom endpoint.new.link.state.memory 0 (claims_of sinks.new.items) }
     ensures short { All (λ s. s.registration.len ≤ PAYLOAD_MAX) sinks.new.items }
-    ensures outside { NothingOutside endpoint.old → NothingOutside endpoint.new }
+    ensures outside { (n : ℕ) → HasOutside endpoint.old n → HasOutside endpoint.new n }
+    ensures kept { KeepsOutside endpoint.old endpoint.new }
     ensures staging { endpoint.new.staging ≡ endpoint.old.staging }
 {
     let mut at = 0;
     'sinks: for _ in 0..sinks.len() {
         at = close_at(endpoint, sinks, at, calls, reads);
     }
+}
+
+/// Releases the sink at this place, which is over, and the others that are over; and gives its buffer.
+pub(crate) fn close_with(
+    endpoint: &mut Endpoint,
+    sinks: &mut Vec<OpenSink>,
+    at: usize,
+    calls: &[Pending],
+    reads: &[ReadEntry],
+) -> Octets
+    requires at { at < length sinks.old.items }
+    requires over { (d : OpenSink) → is_sink_over (map call_view calls.now) (map read_view reads.now) (sink_view (get_or sinks.old.items at d)) ≡ true }
+    requires held { AreHeldFrom endpoint.old.link.state.memory 0 (claims_of sinks.old.items) }
+    requires short { All (λ s. s.registration.len ≤ PAYLOAD_MAX) sinks.old.items }
+    ensures bytes { (d : OpenSink) → result ≡ buffer_around (get endpoint.old.outside (get_or sinks.old.items at d).registration.stag) (bytes_in (held_region endpoint.old.link.state.memory (get_or sinks.old.items at d).registration.stag)) }
+    ensures link { endpoint.new.link ≡ with_released (over_sinks (map call_view calls.now) (map read_view reads.now) (map sink_view sinks.old.items)) endpoint.old.link }
+    ensures sinks { map sink_view sinks.new.items ≡ left_sinks (map call_view calls.now) (map read_view reads.now) (map sink_view sinks.old.items) }
+    ensures held { AreHeldFrom endpoint.new.link.state.memory 0 (claims_of sinks.new.items) }
+    ensures short { All (λ s. s.registration.len ≤ PAYLOAD_MAX) sinks.new.items }
+    ensures less { (d : OpenSink) (o : Outside) (n : ℕ) → get endpoint.old.outside (get_or sinks.old.items at d).registration.stag ≡ Some o → HasOutside endpoint.old (outside_len o + n) → HasOutside endpoint.new n }
+    ensures kept { KeepsOutside endpoint.old endpoint.new }
+    ensures staging { endpoint.new.staging ≡ endpoint.old.staging }
+{
+    let buffer = release_at(endpoint, sinks, at);
+    close_over(endpoint, sinks, calls, reads);
+    buffer
 }

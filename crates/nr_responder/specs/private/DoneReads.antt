@@ -1,11 +1,20 @@
 -- What the code makes of a responder as a read is done.
-use Rattle.std.specs.Prelude.{◌≡◌, ◌≢◌, ◌⊎◌, ℕ, List, [], ◌∷◌, map, Some, slice_get}
+use Rattle.std.specs.Prelude.{◌≡◌, ◌≢◌, ◌⊎◌, ℕ, ◌<◌, List, [], ◌∷◌, length, map, find, get_or, Option, None, Some, slice_get}
 use Rattle.nr_endpoint.specs.Calls.{after_call}
 use Rattle.nr_endpoint.specs.Calls.Call.{OutOfMemory}
 use Rattle.nr_reduce.specs.ServerState.{PendingCall, PendingRead}
+use Rattle.nr_reduce.specs.ServerMessages.{by_payload}
+use Rattle.nr_reduce.specs.ServerMessages.CallVerdict.{Refuses}
+use Rattle.nr_reduce.specs.Chunks.{whole}
+use Rattle.nr_reduce.specs.declared.item.Item.{Item}
+use Rattle.nr_reduce.specs.declared.item.Of.TheVariants as of
+use Rattle.nr_responder.specs.declared.call.Pending.{Pending}
+use Rattle.nr_responder.specs.declared.call.OpenSink.{OpenSink}
+use Rattle.nr_responder.specs.private.CallsRead.{ready_with_payload}
 use Rattle.nr_responder.specs.ResponderState.{ResponderSide}
 use Rattle.nr_endpoint.specs.LinkState.{LinkState}
 use Rattle.nr_responder.specs.declared.server_end.ServerEnd.{ServerEnd}
+use Rattle.nr_responder.specs.Fetching.{is_sink}
 use Rattle.nr_responder.specs.private.Reading.{opening, over_sinks, left_sinks}
 use Rattle.nr_responder.specs.private.ReadsDone.{call_of_read, ended_as, reading_on, side_after_done, still_open}
 use Rattle.nr_responder.specs.Views.{call_view, read_view, sink_view}
@@ -33,3 +42,22 @@ pub record IsOfCall (v : ResponderSide) (r : PendingRead) (kept at : ℕ) (c : P
   pub found : call_of_read v r ≡ Some c
   pub own : c.number ≡ r.number
   pub open_reads : kept ≡ still_open r v.fetching.reads
+
+-- ---- A payload that is completed in the buffer of its sink
+
+-- a call has this payload, and is ready with it
+pub record IsReadyWith (c : PendingCall) (o : Option (List ℕ)) : Type 0 where
+  pub payload : List ℕ
+  pub is : o ≡ Some payload
+  pub judged : by_payload c o ≡ ready_with_payload c payload
+
+-- the verdict on a call of whose stream these bytes of the item were read
+abbrev pub JudgesPlaced : PendingCall → (stream bytes : List ℕ) → Option ℕ → Type 0
+JudgesPlaced c stream bytes None = IsReadyWith c (whole of.Call stream (Some bytes))
+JudgesPlaced c stream bytes (Some reason) = by_payload c (whole of.Call stream (Some bytes)) ≡ Refuses reason
+
+-- the item of a call, and the place of its sink
+pub record IsPlaced (sinks : List OpenSink) (c : Pending) (item : Item) (place : ℕ) : Type 0 where
+  pub item_is : c.item ≡ Some (Some item)
+  pub within : place < length sinks
+  pub found : (d : OpenSink) → find (is_sink c.number item.pos) (map sink_view sinks) ≡ Some (sink_view (get_or sinks place d))

@@ -1,5 +1,5 @@
 -- Reads of a responder and the sink regions that they fill (RFC 8166 section 3.4.5).
-use Rattle.std.specs.Prelude.{ℕ, ◌==◌, ◌&&◌, Bool, not, if◌then◌else◌, List, [], ◌∷◌, ◌++◌, take, drop, find, Option, None, Some}
+use Rattle.std.specs.Prelude.{ℕ, ◌==◌, Bool, not, if◌then◌else◌, List, [], ◌∷◌, ◌++◌, take, drop, find, Option, None, Some}
 use Rattle.std.specs.List.{filter, list_any}
 use Rattle.nr_regions.specs.RegisteredMemory.{RegisteredMemory, bytes_in, held_region, after_release}
 use Rattle.nr_link.specs.Limits.{open_reads_max}
@@ -8,13 +8,10 @@ use Rattle.nr_endpoint.specs.declared.requests.RemoteRead.{RemoteRead}
 use Rattle.nr_endpoint.specs.LinkState.{LinkSide}
 use Rattle.nr_responder.specs.Keeping.{later_responses}
 use Rattle.nr_reduce.specs.ServerState.{PendingCall, PendingRead}
-use Rattle.nr_responder.specs.Fetching.{SinkRegion}
+use Rattle.nr_responder.specs.Fetching.{SinkRegion, is_sink}
 use Rattle.nr_reduce.specs.ServerReads.{is_read, is_read_at}
 
 -- the bytes of the sink of a call at a position, or none
-abbrev pub is_sink : (number position : ℕ) → SinkRegion → Bool
-is_sink number position s = s.number == number && s.position == position
-
 abbrev pub bytes_of_sink : RegisteredMemory → Option SinkRegion → List ℕ
 bytes_of_sink m None = []
 bytes_of_sink m (Some s) = bytes_in (held_region m s.stag)

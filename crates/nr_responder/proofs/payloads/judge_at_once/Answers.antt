@@ -29,7 +29,7 @@ returns-clause-alone c = λ none.
           stream_conveyed (call_view call) stream (Some stream) inline
           (alone_as stream c.stream_of-stream.result.now (call_view call).lists.read c.args.read.now c.is_stream_alone.result true c.stream_of-stream.ensures c.requires.read c.is_stream_alone.ensures c.if-not-is_stream_alone.false)
           ∙ ap (λ (s : List ℕ). by_payload (call_view call) (Some s)) (sym c.stream_of-stream.ensures)
-          ∙ c.judge_bytes.ensures.verdict (call_view call) refl
+          ∙ c.judge_bytes.ensures.verdict (call_view call) c.stream_of-stream.result.now refl refl
           ∙ (λ i. verdict_by (call_view call) (c.stream_of-stream.ensures i) (none i));
     }
 
@@ -41,4 +41,4 @@ returns-clause-ends c =
     (stream_conveyed (call_view call) stream (Some stream) (ap (λ (b : Bool). inline_of b stream) c.if-not-call.false)
     (alone_as stream c.stream_of-stream.result.now (call_view call).lists.read c.args.read.now c.is_stream_alone.result true c.stream_of-stream.ensures c.requires.read c.is_stream_alone.ensures c.if-not-is_stream_alone.false)
     ∙ ap (λ (s : List ℕ). by_payload (call_view call) (Some s)) (sym c.stream_of-stream.ensures)
-    ∙ c.judge_bytes.ensures.verdict (call_view call) refl)
+    ∙ c.judge_bytes.ensures.verdict (call_view call) c.stream_of-stream.result.now refl refl)

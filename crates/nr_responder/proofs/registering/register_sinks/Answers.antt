@@ -28,6 +28,7 @@ chunks-preserved c =
       count = (let so_far = c.chunks.invariant.count in let one = ap (λ (ss : List OpenSink). length ss) more ∙ length-append c.chunks.sinks.items (s ∷ []) in omega (arith, so_far, one));
       held = c.register_sink.ensures.held;
       short = c.register_sink.ensures.short;
-      outside = λ h. c.register_sink.ensures.outside (c.chunks.invariant.outside h);
+      outside = λ n h. c.register_sink.ensures.outside n (c.chunks.invariant.outside n h);
+      kept = λ stag lt. (let so_far = c.chunks.invariant.next in c.register_sink.ensures.kept stag (omega (arith, lt, so_far)) ∙ c.chunks.invariant.kept stag lt);
       staging = c.register_sink.ensures.staging ∙ c.chunks.invariant.staging;
     }

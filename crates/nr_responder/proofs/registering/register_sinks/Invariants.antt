@@ -1,9 +1,10 @@
-use Rattle.std.proofs.Common.{◌≡◌, ◌+◌, ◌≤◌, ◌++◌, length, map, drop, All}
+use Rattle.std.proofs.Common.{◌≡◌, ℕ, ◌+◌, ◌<◌, ◌≤◌, ◌++◌, length, map, drop, All}
 use Rattle.std.specs.Prelude.{vec_capacity}
+use Rattle.std.specs.FinMap.{get}
 use Rattle.nr_header.specs.Constants.{PAYLOAD_MAX}
 use Rattle.nr_responder.specs.Fetching.{open_sinks}
 use Rattle.nr_responder.specs.private.CallsRead.{sink_buffer, sinks_from, with_registered}
-use Rattle.nr_responder.specs.Sound.{AreHeldFrom, NothingOutside, claims_of}
+use Rattle.nr_responder.specs.Sound.{AreHeldFrom, HasOutside, claims_of}
 use Rattle.nr_responder.specs.Views.{sink_view}
 use Rattle.nr_responder.proofs.registering.register_sinks.Given as goal
 
@@ -19,6 +20,7 @@ invariant-chunks l = record {
   count : length l.sinks.items ≡ length l.fn.sinks.items + l.i;
   held : AreHeldFrom l.endpoint.link.state.memory 0 (claims_of l.sinks.items);
   short : All (λ s. s.registration.len ≤ PAYLOAD_MAX) l.sinks.items;
-  outside : NothingOutside l.fn.endpoint → NothingOutside l.endpoint;
+  outside : (n : ℕ) → HasOutside l.fn.endpoint n → HasOutside l.endpoint n;
+  kept : (stag : ℕ) → stag < l.fn.endpoint.link.state.memory.next → get l.endpoint.outside stag ≡ get l.fn.endpoint.outside stag;
   staging : l.endpoint.staging ≡ l.fn.endpoint.staging;
 }

@@ -1,8 +1,8 @@
-use Rattle.std.proofs.Common.{◌≡◌, ◌+◌, ◌≤◌, ◌++◌, length, take, drop, All}
+use Rattle.std.proofs.Common.{◌≡◌, ℕ, ◌+◌, ◌≤◌, ◌++◌, length, take, drop, All}
 use Rattle.std.specs.Prelude.{map}
 use Rattle.nr_header.specs.Constants.{PAYLOAD_MAX}
 use Rattle.nr_responder.specs.private.Reading.{left_sinks, over_sinks, with_released}
-use Rattle.nr_responder.specs.Sound.{AreHeldFrom, NothingOutside, claims_of}
+use Rattle.nr_responder.specs.Sound.{AreHeldFrom, HasOutside, KeepsOutside, claims_of}
 use Rattle.nr_responder.specs.Views.{call_view, read_view, sink_view}
 use Rattle.nr_responder.proofs.sink_regions.close_over.Given as goal
 
@@ -13,6 +13,7 @@ invariant-sinks l = record {
   count : length l.sinks.items + l.counter ≡ l.at + length l.fn.sinks.items;
   held : AreHeldFrom l.endpoint.link.state.memory 0 (claims_of l.sinks.items);
   short : All (λ s. s.registration.len ≤ PAYLOAD_MAX) l.sinks.items;
-  outside : NothingOutside l.fn.endpoint → NothingOutside l.endpoint;
+  outside : (n : ℕ) → HasOutside l.fn.endpoint n → HasOutside l.endpoint n;
+  kept : KeepsOutside l.fn.endpoint l.endpoint;
   staging : l.endpoint.staging ≡ l.fn.endpoint.staging;
 }

@@ -1,11 +1,13 @@
 use Rattle.std.proofs.Common.{◌≡◌, ◌≤◌, ◌∙◌, List, length, All, refl, sym, ap, subst, arith}
 use Rattle.nr_header.specs.Constants.{PAYLOAD_MAX}
-use Rattle.nr_regions.specs.RegisteredMemory.{RegisteredMemory}
+use Rattle.nr_regions.specs.RegisteredMemory.{Outside, RegisteredMemory}
+use Rattle.std.specs.FinMap.{FinMap, get}
+use Rattle.std.specs.Ordering.{nat_cmp}
 use Rattle.nr_endpoint.specs.LinkState.{LinkSide}
 use Rattle.nr_responder.specs.declared.call.OpenSink.{OpenSink}
 use Rattle.nr_responder.specs.Sound.{AreHeldFrom, claims_of}
 use Rattle.nr_responder.proofs.BegunReads.{begins_as, has_opened, HasOpened}
-use Rattle.nr_responder.proofs.HeldSinks.{same_outside}
+use Rattle.nr_responder.proofs.Windows.{same_outside}
 use Rattle.nr_responder.proofs.starting.begin_reads.Goals as goal
 
 pub take_memory-requires : goal.take_memory-requires
@@ -64,10 +66,16 @@ pub returns-in-Ok-open_new-clause-short : goal.returns-in-Ok-open_new-clause-sho
 returns-in-Ok-open_new-clause-short c = c.register_sinks.ensures.short
 
 pub returns-in-Ok-open_new-clause-outside : goal.returns-in-Ok-open_new-clause-outside
-returns-in-Ok-open_new-clause-outside c =
+returns-in-Ok-open_new-clause-outside c = λ n nothing.
     let h : HasOpened c.args.reads.now.items c.open_new.new.reads.items c.args.endpoint.now.link c.open_new.new.endpoint.link =
     has_opened c.args.number _ c.args.read.now c.args.chunks.now c.args.reads.now.items c.open_new.new.reads.items c.args.endpoint.now.link c.take_memory.new.endpoint.link c.open_new.new.endpoint.link c.take_memory.ensures.link c.in-Ok-open_new.ensures.ok in
-    c.register_sinks.ensures.outside (same_outside c.args.endpoint.now c.open_new.new.endpoint (ap (λ (m : RegisteredMemory). m.next) h.memory) (c.open_new.ensures.outside ∙ c.take_memory.ensures.outside) c.requires.nothing)
+    c.register_sinks.ensures.outside n (same_outside c.args.endpoint.now c.open_new.new.endpoint n (ap (λ (m : RegisteredMemory). m.next) h.memory) (c.open_new.ensures.outside ∙ c.take_memory.ensures.outside) nothing)
+
+pub returns-in-Ok-open_new-clause-kept : goal.returns-in-Ok-open_new-clause-kept
+returns-in-Ok-open_new-clause-kept c = λ stag lt.
+    let h : HasOpened c.args.reads.now.items c.open_new.new.reads.items c.args.endpoint.now.link c.open_new.new.endpoint.link =
+    has_opened c.args.number _ c.args.read.now c.args.chunks.now c.args.reads.now.items c.open_new.new.reads.items c.args.endpoint.now.link c.take_memory.new.endpoint.link c.open_new.new.endpoint.link c.take_memory.ensures.link c.in-Ok-open_new.ensures.ok in
+    c.register_sinks.ensures.kept stag (let next = ap (λ (m : RegisteredMemory). m.next) h.memory in omega (arith, lt, next)) ∙ ap (λ (m : FinMap nat_cmp Outside). get m stag) (c.open_new.ensures.outside ∙ c.take_memory.ensures.outside)
 
 pub returns-in-Ok-open_new-clause-staging : goal.returns-in-Ok-open_new-clause-staging
 returns-in-Ok-open_new-clause-staging c = c.register_sinks.ensures.staging ∙ c.open_new.ensures.staging ∙ c.take_memory.ensures.staging
@@ -84,8 +92,14 @@ pub returns-in-Err-open_new-clause-short : goal.returns-in-Err-open_new-clause-s
 returns-in-Err-open_new-clause-short c = subst (λ (ss : List OpenSink). All (λ (s : OpenSink). s.registration.len ≤ PAYLOAD_MAX) ss) (sym c.take_memory.ensures.sinks) c.requires.short
 
 pub returns-in-Err-open_new-clause-outside : goal.returns-in-Err-open_new-clause-outside
-returns-in-Err-open_new-clause-outside c =
-    same_outside c.args.endpoint.now c.open_new.new.endpoint (ap (λ (l : LinkSide). l.state.memory.next) (c.in-Err-open_new.ensures.err.0 ∙ c.take_memory.ensures.link)) (c.open_new.ensures.outside ∙ c.take_memory.ensures.outside) c.requires.nothing
+returns-in-Err-open_new-clause-outside c = λ n nothing.
+    same_outside c.args.endpoint.now c.open_new.new.endpoint n (ap (λ (l : LinkSide). l.state.memory.next) (c.in-Err-open_new.ensures.err.0 ∙ c.take_memory.ensures.link)) (c.open_new.ensures.outside ∙ c.take_memory.ensures.outside) nothing
+
+pub returns-in-Err-open_new-clause-kept : goal.returns-in-Err-open_new-clause-kept
+returns-in-Err-open_new-clause-kept c = λ stag lt. ap (λ (m : FinMap nat_cmp Outside). get m stag) (c.open_new.ensures.outside ∙ c.take_memory.ensures.outside)
+
+pub returns-in-Err-open_new-clause-outside_err : goal.returns-in-Err-open_new-clause-outside_err
+returns-in-Err-open_new-clause-outside_err c = c.open_new.ensures.outside ∙ c.take_memory.ensures.outside
 
 pub returns-in-Err-open_new-clause-staging : goal.returns-in-Err-open_new-clause-staging
 returns-in-Err-open_new-clause-staging c = c.open_new.ensures.staging ∙ c.take_memory.ensures.staging
@@ -102,7 +116,13 @@ pub returns-in-Err-clause-short : goal.returns-in-Err-clause-short
 returns-in-Err-clause-short c = subst (λ (ss : List OpenSink). All (λ (s : OpenSink). s.registration.len ≤ PAYLOAD_MAX) ss) (sym c.take_memory.ensures.sinks) c.requires.short
 
 pub returns-in-Err-clause-outside : goal.returns-in-Err-clause-outside
-returns-in-Err-clause-outside c = same_outside c.args.endpoint.now c.take_memory.new.endpoint (ap (λ (l : LinkSide). l.state.memory.next) c.take_memory.ensures.link) c.take_memory.ensures.outside c.requires.nothing
+returns-in-Err-clause-outside c = λ n nothing. same_outside c.args.endpoint.now c.take_memory.new.endpoint n (ap (λ (l : LinkSide). l.state.memory.next) c.take_memory.ensures.link) c.take_memory.ensures.outside nothing
+
+pub returns-in-Err-clause-kept : goal.returns-in-Err-clause-kept
+returns-in-Err-clause-kept c = λ stag lt. ap (λ (m : FinMap nat_cmp Outside). get m stag) c.take_memory.ensures.outside
+
+pub returns-in-Err-clause-outside_err : goal.returns-in-Err-clause-outside_err
+returns-in-Err-clause-outside_err c = c.take_memory.ensures.outside
 
 pub returns-in-Err-clause-staging : goal.returns-in-Err-clause-staging
 returns-in-Err-clause-staging c = c.take_memory.ensures.staging

@@ -1,13 +1,15 @@
-use Rattle.std.proofs.Common.{subst}
+use Rattle.std.proofs.Common.{ap, subst, arith}
 use Rattle.nr_responder.specs.private.CallsRead.{HasNoBytes}
 use Rattle.nr_responder.specs.private.Handling.FetchesCall.{EndsFor, IsComplete}
+use Rattle.nr_responder.specs.Sound.{room_len}
 use Rattle.nr_responder.proofs.Sounds.{sound_less}
 use Rattle.nr_responder.proofs.Begun.{pushed_view}
 use Rattle.nr_responder.proofs.HeldSinks.{read_has_room}
 use Rattle.nr_responder.proofs.server_end.ServerEnd.complete_at_once.Goals as goal
 
 pub push-requires-clause-room : goal.push-requires-clause-room
-push-requires-clause-room c = read_has_room c.args.self.now.reads.items c.args.call c.requires.fresh
+push-requires-clause-room c =
+    read_has_room c.args.self.now.endpoint.outside c.args.self.now.sinks.items c.args.self.now.reads.items c.args.call c.requires.fresh c.requires.empty.0 (let room = ap room_len c.requires.empty.1 in omega (arith, room))
 
 pub returns-in-None-clause-fetched : goal.returns-in-None-clause-fetched
 returns-in-None-clause-fetched c =

@@ -61,6 +61,7 @@ returns-in-Ok-clause-sound c =
           (ap (λ (l : LinkSide). l.state.receive_queue) c.close_over.ensures.link ∙ ap (λ (l : LinkSide). l.state.receive_queue) opened)
           (refused_ends message (opening c.args.kept reads) (over_sinks (map call_view c.as_slice-in-Ok.result.now) (map read_view c.as_slice-in-Ok-2.result.now) sinks) c.args.self.now.endpoint.link c.queue_refusal.new.endpoint.link c.close_over.new.endpoint.link opened c.close_over.ensures.link)
           c.requires.at whole c.remove-call.ensures.items c.requires.few (search rules) (search rules) (search rules) c.requires.sound.0,
-      refused_fetched c.args.self.now.endpoint c.queue_refusal.new.endpoint c.close_over.new.endpoint c.args.done.number c.args.kept c.args.at message (opening c.args.kept reads) c.args.self.now.calls.items c.remove-call.new.self.items c.args.self.now.reads.items c.drop_waiting.new.reads.items
-          c.args.self.now.sinks.items c.close_over.new.sinks.items c.drop_waiting.ensures c.remove-call.ensures.items opened c.queue_refusal.ensures.outside c.close_over.ensures.held c.close_over.ensures.short c.close_over.ensures.outside c.requires.sound.1,
+      refused_fetched c.args.self.now.endpoint c.queue_refusal.new.endpoint c.close_over.new.endpoint c.args.done.number c.args.kept c.args.at d message (opening c.args.kept reads) c.args.self.now.calls.items c.remove-call.new.self.items c.args.self.now.reads.items c.drop_waiting.new.reads.items
+          c.args.self.now.sinks.items c.close_over.new.sinks.items c.drop_waiting.ensures c.requires.at (c.requires.empty d) c.remove-call.ensures.items opened c.queue_refusal.ensures.outside c.close_over.ensures.held c.close_over.ensures.short c.close_over.ensures.outside c.close_over.ensures.kept
+          (c.close_over.ensures.sinks ∙ (λ i. left_sinks (map call_view (c.as_slice-in-Ok.ensures.value i)) (map read_view (c.as_slice-in-Ok-2.ensures.value i)) sinks)) c.requires.sound.1,
     )

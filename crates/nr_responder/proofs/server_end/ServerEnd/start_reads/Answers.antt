@@ -1,10 +1,13 @@
-use Rattle.std.proofs.Common.{◌∙◌, List, refl, ap, subst, arith, inl, inr}
+use Rattle.std.proofs.Common.{◌∙◌, ◌+◌, List, refl, ap, subst, arith, inl, inr}
 use Rattle.nr_header.specs.declared.header.ReadSegment.{ReadSegment}
 use Rattle.nr_endpoint.specs.LinkState.{LinkSide}
 use Rattle.nr_responder.specs.declared.server_end.ServerEnd.{ServerEnd}
-use Rattle.nr_responder.specs.private.Starting.{BeginsReads}
-use Rattle.nr_responder.specs.Sound.{SameInput, state_of}
-use Rattle.nr_responder.proofs.BegunReads.{call_fits, kept_fetched, started_fetched, started_input, started_is, started_sound, stopped_is}
+use Rattle.nr_responder.specs.private.Starting.{BeginsReads, with_room}
+use Rattle.nr_responder.specs.Sound.{SameInput, around_of, state_of}
+use Rattle.nr_responder.specs.Fetching.{open_sinks}
+use Rattle.nr_responder.specs.private.CallsRead.{sinks_from}
+use Rattle.nr_responder.proofs.Windows.{more_outside}
+use Rattle.nr_responder.proofs.BegunReads.{call_fits, in_buffer, kept_fetched, own_room, started_fetched, started_input, started_is, started_sound, stopped_is}
 use Rattle.nr_responder.proofs.Sounds.{sound_as}
 use Rattle.nr_responder.proofs.server_end.ServerEnd.start_reads.Goals as goal
 
@@ -16,9 +19,6 @@ begin_reads-requires-clause-held c = c.requires.sound.1.held
 
 pub begin_reads-requires-clause-short : goal.begin_reads-requires-clause-short
 begin_reads-requires-clause-short c = c.requires.sound.1.short
-
-pub begin_reads-requires-clause-nothing : goal.begin_reads-requires-clause-nothing
-begin_reads-requires-clause-nothing c = c.requires.sound.1.outside
 
 pub begin_reads-requires-clause-stags : goal.begin_reads-requires-clause-stags
 begin_reads-requires-clause-stags c = c.requires.stags
@@ -36,24 +36,26 @@ run_out-requires c = record {
     sound_as 1 0 c.args.self.now.endpoint.link.state c.begin_reads.new.endpoint.link.state c.args.self.now.calls.items c.args.self.now.ready.items c.args.self.now.used.items _ _ _ (omega arith)
         (ap (λ (l : LinkSide). l.state.receive_queue.lent) c.in-Err.ensures.err.0) (ap (λ (l : LinkSide). l.state.receive_queue.receives) c.in-Err.ensures.err.0)
         (ap (λ (l : LinkSide). l.state.send_queue.send_ends) c.in-Err.ensures.err.0) c.requires.sound.0,
-    kept_fetched c.begin_reads.new.endpoint c.args.self.now.reads.items c.begin_reads.new.reads.items c.args.self.now.calls.items c.begin_reads.new.sinks.items c.begin_reads.ensures.held c.begin_reads.ensures.short c.begin_reads.ensures.outside
-        c.in-Err.ensures.err.1.0 c.requires.sound.1.rooms,
+    kept_fetched c.args.self.now.endpoint c.begin_reads.new.endpoint c.args.self.now.reads.items c.begin_reads.new.reads.items c.args.self.now.calls.items c.args.self.now.sinks.items c.begin_reads.new.sinks.items c.in-Err.ensures.err.0 c.in-Err.ensures.outside_err
+        c.in-Err.ensures.err.1.0 c.in-Err.ensures.err.1.1 c.requires.sound.1,
   );
 }
 
 pub returns-in-Ok-clause-started : goal.returns-in-Ok-clause-started
 returns-in-Ok-clause-started c =
     let after : ServerEnd = record { endpoint = c.begin_reads.new.endpoint; calls = c.push_reading.new.calls; ready = c.args.self.now.ready; reads = c.begin_reads.new.reads; sinks = c.begin_reads.new.sinks; used = c.args.self.now.used; credits = c.args.self.now.credits; alloc = c.args.self.now.alloc } in
-    inl (started_is c.args.self.now after c.args.call c.in-Ok.room c.args.chunks.now c.requires.chunks
+    inl (started_is c.args.self.now after c.args.call (with_room c.args.call c.in-Ok.room) c.args.chunks.now refl c.requires.chunks
     (subst (λ (read : List ReadSegment). BeginsReads c.args.call.number read c.args.chunks.now c.args.self.now.reads.items c.begin_reads.new.reads.items c.args.self.now.sinks.items c.begin_reads.new.sinks.items c.args.self.now.endpoint.link c.begin_reads.new.endpoint.link) c.requires.read c.in-Ok.ensures.ok)
     c.push_reading.ensures.items refl refl)
 
 pub returns-in-Ok-clause-sound : goal.returns-in-Ok-clause-sound
 returns-in-Ok-clause-sound c = (
   started_sound c.args.call.number c.args.read.now c.args.chunks.now c.args.self.now.reads.items c.begin_reads.new.reads.items c.args.self.now.sinks.items c.begin_reads.new.sinks.items c.args.self.now.endpoint.link c.begin_reads.new.endpoint.link
-      c.args.self.now.calls.items c.push_reading.new.calls.items c.args.call c.in-Ok.room c.args.self.now.ready.items c.args.self.now.used.items _ _ _ _ c.in-Ok.ensures.ok c.requires.call c.push_reading.ensures.items c.push_reading.ensures.capacity c.requires.sound.0,
-  started_fetched c.begin_reads.new.endpoint c.args.self.now.reads.items c.begin_reads.new.reads.items c.args.call.number c.args.self.now.endpoint.link.state.memory.next c.args.read.now c.args.chunks.now c.args.self.now.calls.items c.push_reading.new.calls.items
-      c.args.call c.in-Ok.room c.begin_reads.new.sinks.items c.begin_reads.ensures.held c.begin_reads.ensures.short c.begin_reads.ensures.outside c.requires.own c.in-Ok.ensures.ok.reads c.in-Ok.ensures.room c.push_reading.ensures.items c.requires.sound.1.rooms,
+      c.args.self.now.calls.items c.push_reading.new.calls.items (with_room c.args.call c.in-Ok.room) c.args.self.now.ready.items c.args.self.now.used.items _ _ _ _ c.in-Ok.ensures.ok (in_buffer c.args.call c.in-Ok.room c.requires.call) c.push_reading.ensures.items c.push_reading.ensures.capacity c.requires.sound.0,
+  started_fetched c.args.self.now.endpoint c.begin_reads.new.endpoint c.args.self.now.reads.items c.begin_reads.new.reads.items c.args.call.number c.args.self.now.endpoint.link.state.memory.next c.args.read.now c.args.chunks.now c.args.self.now.calls.items c.push_reading.new.calls.items
+      (with_room c.args.call c.in-Ok.room) c.args.self.now.sinks.items c.begin_reads.new.sinks.items (open_sinks (sinks_from c.args.call.number c.args.self.now.endpoint.link.state.memory.next c.args.read.now c.args.chunks.now)) c.begin_reads.ensures.held c.begin_reads.ensures.short
+      (more_outside c.begin_reads.new.endpoint (around_of c.args.self.now.calls.items) (around_of c.args.self.now.calls.items + c.args.call.around) (omega arith) (c.begin_reads.ensures.outside (around_of c.args.self.now.calls.items) c.requires.sound.1.outside))
+      c.requires.own c.in-Ok.ensures.ok.reads c.in-Ok.ensures.ok.sinks_are c.begin_reads.ensures.kept (own_room c.begin_reads.new.endpoint.outside c.begin_reads.new.sinks.items c.begin_reads.new.reads.items c.args.call c.in-Ok.room c.requires.empty.0 c.in-Ok.ensures.room) c.push_reading.ensures.items c.requires.sound.1,
 )
 
 pub returns-in-Ok-clause-input : goal.returns-in-Ok-clause-input

@@ -1,10 +1,11 @@
-use Rattle.std.proofs.Common.{◌≡◌, ap, sym, subst, refl, ◌∙◌, set, get_or, List, map}
+use Rattle.std.proofs.Common.{◌≡◌, ap, sym, subst, refl, ◌∙◌, set, get_or, List, map, arith}
 use Rattle.std.proofs.Math.Seq.{map-set_same}
 use Rattle.nr_reduce.specs.ServerReads.{is_read}
 use Rattle.nr_reduce.specs.ServerState.{PendingCall}
 use Rattle.nr_responder.specs.declared.call.Pending.{Pending}
-use Rattle.nr_responder.specs.Sound.{InBuffer, fetching_of, xids_of}
+use Rattle.nr_responder.specs.Sound.{InBuffer, fetching_of, room_len, xids_of}
 use Rattle.nr_responder.specs.Views.{call_view, read_view}
+use Rattle.nr_responder.proofs.Answered.{same_item}
 use Rattle.nr_responder.proofs.DoneReads.{emptied_sound}
 use Rattle.nr_responder.proofs.HeldSinks.{read_has_room}
 use Rattle.nr_responder.proofs.server_end.ServerEnd.take_room_at.Goals as goal
@@ -18,9 +19,11 @@ returns-clause-same c =
 pub returns-clause-sound : goal.returns-clause-sound
 returns-clause-sound c =
     let d : Pending = c.index_mut.result.now in
+    let around : c.take_out_room.new.call.around ≡ (get_or c.args.self.now.calls.items c.args.at d).around = ap (λ (x : Pending). x.around) c.take_out_room.ensures.call ∙ ap (λ (x : Pending). x.around) c.index_mut.ensures.value in
     let whole : InBuffer d = subst InBuffer (sym c.index_mut.ensures.value) (c.requires.sound.0.bufs c.args.at d c.requires.at) in
     emptied_sound c.args.self.now c.args.at c.take_out_room.new.call (set c.args.self.now.calls.items c.args.at c.take_out_room.new.call) refl
     (subst InBuffer (sym c.take_out_room.ensures.call) (record { buf = whole.buf; len = whole.len; at = whole.at; lists = whole.lists; target = whole.target; item = whole.item }))
-    (read_has_room c.args.self.now.reads.items c.take_out_room.new.call
-    (ap (λ (x : Pending). is_read (map read_view c.args.self.now.reads.items) x.number) c.take_out_room.ensures.call ∙ ap (λ (x : Pending). is_read (map read_view c.args.self.now.reads.items) x.number) c.index_mut.ensures.value ∙ c.requires.read d))
-    c.requires.sound
+    (read_has_room c.args.self.now.endpoint.outside c.args.self.now.sinks.items c.args.self.now.reads.items c.take_out_room.new.call
+    (ap (λ (x : Pending). is_read (map read_view c.args.self.now.reads.items) x.number) c.take_out_room.ensures.call ∙ ap (λ (x : Pending). is_read (map read_view c.args.self.now.reads.items) x.number) c.index_mut.ensures.value ∙ c.requires.read d)
+    (around ∙ c.requires.empty d) (let none = ap (λ (x : Pending). room_len x.room) c.take_out_room.ensures.call in omega (arith, none)))
+    c.requires.at (around ∙ ap (λ (x : Pending). x.around) (same_item c.args.self.now.calls.items c.args.at c.take_out_room.new.call d c.requires.at)) c.requires.sound

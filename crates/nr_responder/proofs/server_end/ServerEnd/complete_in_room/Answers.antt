@@ -14,7 +14,7 @@ use Rattle.nr_responder.specs.private.Reading.{sink_bytes}
 use Rattle.nr_reduce.specs.ServerReads.{is_read}
 use Rattle.std.proofs.Common.{false, true}
 use Rattle.nr_responder.proofs.DoneReads.{ends_for, readies}
-use Rattle.nr_responder.proofs.server_end.ServerEnd.complete.Goals as goal
+use Rattle.nr_responder.proofs.server_end.ServerEnd.complete_in_room.Goals as goal
 
 pub returns-in-Ok-clause-handled : goal.returns-in-Ok-clause-handled
 returns-in-Ok-clause-handled c =
