@@ -18,6 +18,8 @@ mod hellos;
 #[cfg(test)]
 mod link;
 #[cfg(test)]
+mod random;
+#[cfg(test)]
 mod refused;
 #[cfg(test)]
 mod vectors;
