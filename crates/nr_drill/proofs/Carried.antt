@@ -787,11 +787,13 @@ pub follows_keeps : (server : SerialServer) (script : ScriptLines) (run : List M
     KeepsLaws script (parameters_of script.opening link) link run
 follows_keeps server script run is follows link within =
     let laws = follows_keeps_laws server script run is follows link within.0 within.1 in
+    let grant = submits_within (parameters_of script.opening link) link run laws.accepts in
     record {
       asked = laws.asked;
       served = laws.served;
       accepts = laws.accepts;
-      grant = submits_within (parameters_of script.opening link) link run laws.accepts;
+      grant = grant;
       handed = follows_hands server script run is follows link within;
       matched = λ raw. (follows_matches server script run is follows link within.0 within.1 raw).1;
+      kept = λ matched. record { client = laws.asked.each; server = laws.served.each; matched = matched; grant = grant };
     }

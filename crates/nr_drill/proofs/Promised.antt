@@ -96,7 +96,7 @@ follows_promises server script run is plain typed follows =
     let sofar : (link : ℕ) → IsLink script link → Matched link run → MatchedSoFar (parameters_of script.opening link) link run =
     (λ link within matched. so_far script (parameters_of script.opening link) link run (laws link within) matched) in
     let kept : (link : ℕ) → IsLink script link → Matched link run → KeepLaws (parameters_of script.opening link) link run =
-    (λ link within matched. record { client = (laws link within).asked.each; server = (laws link within).served.each; matched = matched; grant = (laws link within).grant }) in
+    (λ link within matched. (laws link within).kept matched) in
     let full : (link : ℕ) → IsLink script link → Matched link run → InFull (parameters_of script.opening link) link run =
     (λ link within matched. record { asked = (laws link within).asked; served = (laws link within).served; matched = matched; grant = (laws link within).grant }) in
     record {

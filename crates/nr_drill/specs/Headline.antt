@@ -30,6 +30,7 @@ use Rattle.nr_laws.specs.Payloads.{HasPlan}
 use Rattle.nr_laws.specs.PlainReplies.{HasPlainReply}
 use Rattle.nr_laws.specs.ChunkOutcomes.{HasChunkCause, IsAnswered}
 use Rattle.nr_laws.specs.Completion.{HaveCompleted, HasOutcome, IsAwaitedStill, NothingInTransit}
+use Rattle.nr_laws.specs.EndCauses.{KeepLaws}
 use Rattle.nr_laws.specs.Stays.{HasNoRevoke, AreConveyedOrRefused}
 use Rattle.nr_script.specs.declared.script.Line.{Line}
 use Rattle.nr_script.specs.declared.script.Line.TheVariants as lines
@@ -76,7 +77,8 @@ pub record EndsWithDrain (script : ScriptLines) (link : ℕ) : Type 0 where
 -- ===== one link
 
 -- Whatever the script, hostile bytes too: both ends keep their laws in full; each call is accepted by the client's rule, so within the grant;
--- each outcome that is due has been handed over; and if no line puts bytes into its pipes, each side receives what the other sent.
+-- each outcome that is due has been handed over; if no line puts bytes into its pipes, each side receives what the other sent; and if each does,
+-- both ends keep their laws together, of which the laws of a link speak.
 pub record KeepsLaws (script : ScriptLines) (opened : LinkParameters) (link : ℕ) (run : List Mark) : Type 0 where
   pub asked : Asked opened link run
   pub served : Served opened link run
@@ -84,6 +86,7 @@ pub record KeepsLaws (script : ScriptLines) (opened : LinkParameters) (link : �
   pub grant : KeepsGrant opened link run
   pub handed : outcomes_due opened link run ≡ []
   pub matched : HasNoRaw script link → Matched link run
+  pub kept : Matched link run → KeepLaws opened link run
 
 -- A call that completes: with the plain server's reply at its place in the one journal; else with Chunk, if its message is refused or its
 -- offer doesn't hold the reply; never with another version.
