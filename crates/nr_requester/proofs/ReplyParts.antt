@@ -1,5 +1,10 @@
 -- What a reply brings, for the code.
-use Rattle.std.proofs.Common.{◌≡◌, ℕ, ◌≤◌, Bool, true, false, cond, not, eqb, List, [], ◌∷◌, length, take, Option, None, Some, Ok, Err, refl, sym, ap, ◌∙◌, arith}
+use Rattle.std.proofs.Common.{◌≡◌, ℕ, ◌≤◌, Bool, true, false, cond, not, eqb, List, [], ◌++◌, append_assoc, length, take, drop, Option, Result, None, Some, Ok, Err, refl, sym, ap, ◌∙◌, arith}
+use Rattle.std.proofs.lemmas.List.{take-append-drop}
+use Rattle.nr_xdr.specs.Item.{IsBytes}
+use Rattle.nr_rpc.specs.Reading.{reply_of}
+use Rattle.nr_rpc.specs.declared.head.ReplyHead.{ReplyHead}
+use Rattle.nr_rpc.proofs.Replies.{reply_begins, begins_reply}
 use Rattle.nr_header.specs.declared.header.RdmaSegment.{RdmaSegment}
 use Rattle.nr_regions.specs.RegisteredMemory.{RegisteredMemory, Claim, IsHeld, held_region, live_region, bytes_in}
 use Rattle.nr_regions.proofs.Holding.{live_held}
@@ -8,8 +13,9 @@ use Rattle.nr_reduce.specs.declared.fault.Mismatch.TheVariants as mismatches
 use Rattle.nr_reduce.specs.declared.item.Item.{Item}
 use Rattle.nr_reduce.specs.declared.item.Of.{Of}
 use Rattle.nr_reduce.specs.declared.item.Of.TheVariants.{Reply as OfReply}
-use Rattle.nr_reduce.specs.Items.{item_of, restored_payload}
-use Rattle.nr_reduce.specs.Chunks.{chunk_total, joined_bytes, some_bytes, whole, whole_by}
+use Rattle.nr_reduce.specs.Items.{item_of, reply_item, results_item, results_of, restored_payload}
+use Rattle.nr_reduce.proofs.ItemSearch.{IsBytes_take, item_stands}
+use Rattle.nr_reduce.specs.Chunks.{chunk_total, joined_bytes, whole, whole_by}
 use Rattle.nr_reduce.specs.Cuts.{joined_by, rebuilt_of}
 use Rattle.nr_reduce.specs.KeptClient.{bytes_under}
 use Rattle.nr_reduce.proofs.Standing.{itself}
@@ -43,16 +49,55 @@ not_whole prog vers proc stream moved item why is e =
     by true same wrong = absurd cc
     by false same wrong = refl
 
-pub no_item : (prog vers proc : ℕ) (stream moved : List ℕ) → item_of (OfReply prog vers proc) stream ≡ None → whole (OfReply prog vers proc) stream (Some moved) ≡ None
-no_item prog vers proc stream moved is = ap (whole_by (OfReply prog vers proc) stream moved) is
-
-pub some_there : (moved : List ℕ) → (moved ≡ [] → ⊥) → some_bytes moved ≡ Some moved
-some_there [] never = absurd (never refl)
-some_there (b ∷ moved) never = refl
-
 -- the same of an item that is known to be a reply's
-pub parts_differ : (of : Of) (stream moved : List ℕ) (item : Item) (why : Mismatch) → (prog : ℕ) × ((vers : ℕ) × ((proc : ℕ) × (of ≡ OfReply prog vers proc))) → (moved ≡ [] → ⊥) → item_of of stream ≡ Some item → rebuilt_of of stream item.pos moved ≡ Err why →
-    whole of stream (some_bytes moved) ≡ None
-parts_differ of stream moved item why r some is e =
-    (λ i. whole (r.1.1.1 i) stream (some_there moved some i))
+pub parts_differ : (of : Of) (stream moved : List ℕ) (item : Item) (why : Mismatch) → (prog : ℕ) × ((vers : ℕ) × ((proc : ℕ) × (of ≡ OfReply prog vers proc))) → item_of of stream ≡ Some item → rebuilt_of of stream item.pos moved ≡ Err why →
+    whole of stream (Some moved) ≡ None
+parts_differ of stream moved item why r is e =
+    ap (λ (o : Of). whole o stream (Some moved)) r.1.1.1
     ∙ not_whole r.0 r.1.0 r.1.1.0 stream moved item why (ap (λ (o : Of). item_of o stream) (sym r.1.1.1) ∙ is) (ap (λ (o : Of). rebuilt_of o stream item.pos moved) (sym r.1.1.1) ∙ e)
+
+-- ---- The head of a reply that is put together
+
+-- bytes that begin with a head begin with it whatever follows them
+longer_head : (bytes more : List ℕ) (head : ReplyHead) → IsBytes bytes → reply_of bytes ≡ Ok head → reply_of (bytes ++ more) ≡ Ok head
+longer_head bytes more head fits is =
+    let begins = reply_begins bytes head fits is in
+    begins_reply (bytes ++ more) head (begins.0, begins.1 ++ more, begins.2, ap (λ (xs : List ℕ). xs ++ more) begins.3 ∙ append_assoc begins.0 begins.1 more)
+
+-- a stream without a head has no item
+pub headless : (of : Of) (stream : List ℕ) (at : ℕ) → (prog : ℕ) × ((vers : ℕ) × ((proc : ℕ) × (of ≡ OfReply prog vers proc))) → reply_of stream ≡ Err at → item_of of stream ≡ None
+unfolding reply_item
+headless of stream at r is =
+    ap (λ (o : Of). item_of o stream) r.1.1.1
+    ∙ ap (λ (read : Result ReplyHead ℕ). results_item r.0 r.1.0 r.1.1.0 stream (results_of read)) is
+
+-- a stream with an item has a head
+item_has_head : (prog vers proc : ℕ) (bytes : List ℕ) (item : Item) → item_of (OfReply prog vers proc) bytes ≡ Some item → (head : ReplyHead) × (reply_of bytes ≡ Ok head)
+unfolding reply_item
+item_has_head prog vers proc bytes item e = by (reply_of bytes) refl e
+  where
+    by : (r : Result ReplyHead ℕ) → reply_of bytes ≡ r → results_item prog vers proc bytes (results_of r) ≡ Some item → (head : ReplyHead) × (reply_of bytes ≡ Ok head)
+    by (Ok head) is e = (head, is)
+    by (Err at) is e = absurd cc
+
+-- the head stands before the item, so it stays when the item is put back
+restored_head : (prog vers proc : ℕ) (stream moved : List ℕ) (item : Item) (head : ReplyHead) → IsBytes stream → reply_of stream ≡ Ok head → item_of (OfReply prog vers proc) stream ≡ Some item →
+    reply_of (restored_payload item stream moved) ≡ Ok head
+unfolding restored_payload
+restored_head prog vers proc stream moved item head fits is has =
+    let front : List ℕ = take item.pos stream in
+    let stands = item_stands (OfReply prog vers proc) stream item fits has in
+    let bytes : IsBytes front = IsBytes_take item.pos stream fits in
+    let found = item_has_head prog vers proc front item stands.again in
+    let whole_stream : reply_of stream ≡ Ok found.0 = ap reply_of (sym (take-append-drop item.pos stream)) ∙ longer_head front (drop item.pos stream) found.0 bytes found.1 in
+    longer_head front _ found.0 bytes found.1 ∙ sym whole_stream ∙ is
+
+pub whole_head : (of : Of) (stream moved payload : List ℕ) (item : Item) (head : ReplyHead) → (prog : ℕ) × ((vers : ℕ) × ((proc : ℕ) × (of ≡ OfReply prog vers proc))) → IsBytes stream → reply_of stream ≡ Ok head → item_of of stream ≡ Some item →
+    whole of stream (Some moved) ≡ Some payload → reply_of payload ≡ Ok head
+whole_head of stream moved payload item head r fits is has brings =
+    let own : item_of (OfReply r.0 r.1.0 r.1.1.0) stream ≡ Some item = ap (λ (o : Of). item_of o stream) (sym r.1.1.1) ∙ has in
+    by (eqb (length moved) item.len) (sym (ap (whole_by (OfReply r.0 r.1.0 r.1.1.0) stream moved) own) ∙ ap (λ (o : Of). whole o stream (Some moved)) (sym r.1.1.1) ∙ brings) own
+  where
+    by : (b : Bool) → cond b (Some (restored_payload item stream moved)) None ≡ Some payload → item_of (OfReply r.0 r.1.0 r.1.1.0) stream ≡ Some item → reply_of payload ≡ Ok head
+    by true e own = let same : restored_payload item stream moved ≡ payload = cc in ap reply_of (sym same) ∙ restored_head r.0 r.1.0 r.1.1.0 stream moved item head fits is own
+    by false e own = absurd cc

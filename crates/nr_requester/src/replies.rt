@@ -1,10 +1,13 @@
 //! What a reply brings for its call, by its stream and its chunks (RFC 8166 section 3.4).
 
-ghost use Rattle.std.specs.Prelude.{◌≡◌, ℕ, ◌+◌, ◌^◌, ◌<◌, ◌≤◌, min, length, take, option_map, None, Some, MatchOption, IfOk, IfErr};
+ghost use Rattle.std.specs.Prelude.{◌≡◌, ℕ, ◌+◌, ◌^◌, ◌<◌, ◌≤◌, min, List, length, option_map, None, Some, Ok, MatchOption, IfSome, IfOk, IfErr};
+ghost use Rattle.nr_rpc.specs.Reading.{reply_of};
 ghost use Rattle.nr_reduce.specs.Chunks.{chunk_total, joined_bytes, reply_moved, reply_stream, some_bytes, whole};
 ghost use Rattle.nr_reduce.specs.ClientMessages.{reply_by_payload, reply_xid};
 ghost use Rattle.nr_reduce.specs.ClientMessages.ReplyVerdict.{GivesOutcome};
+ghost use Rattle.nr_reduce.specs.Items.{item_of};
 ghost use Rattle.nr_reduce.specs.KeptClient.{bytes_under};
+ghost use Rattle.nr_reduce.specs.ReplyParts.{IsReply};
 ghost use Rattle.nr_reduce.specs.declared.call.Call.{Call};
 ghost use Rattle.nr_reduce.specs.declared.call.Outcome.TheVariants as outcomes;
 ghost use Rattle.nr_reduce.specs.declared.item.Of.TheVariants.{Reply as OfReply};
@@ -14,9 +17,11 @@ ghost use Rattle.nr_requester.specs.Judged.{ComesBack, WriteComesBack, ReplyCome
 use crate::outstanding::OutstandingCall;
 use nr_header::{Chunk, RdmaSegment};
 use nr_link::constants::{REASON_CHUNKS, REASON_HEAD, REASON_XID};
-use nr_reduce::{Of, PayloadBuffer, item_of, rebuild_item_into};
+use nr_reduce::{
+    Item, Of, PayloadBuffer, ReplyParts, rebuild_item_into, reply_item_of, reply_parts,
+};
 use nr_regions::{Regions, Registration};
-use nr_rpc::{ReplyHead, read_reply};
+use nr_rpc::ReplyHead;
 
 /// What a message brings for its call: nothing, if the call's memory was revoked; a reply, whose payload is the first bytes of the
 /// call's room; or an error message (RFC 8166 section 4.5).
@@ -97,33 +102,6 @@ pub fn long_stream<'a>(
     }
 }
 
-/// Puts the payload of a stream, and of what moved beside it, into the front of a room, and gives its length; `None` if and only
-/// if they don't belong together. Takes no memory.
-fn payload_in(room: &mut PayloadBuffer, of: &Of, stream: &[u8], moved: &[u8]) -> Option<usize>
-    requires reply { (prog : ℕ) × ((vers : ℕ) × ((proc : ℕ) × (of.now ≡ OfReply prog vers proc))) }
-    requires room { length stream.now + length moved.now + 3 ≤ room.old.len }
-    requires few { room.old.len < 2 ^ 32 }
-    ensures payload { MatchOption result (whole of.now stream.now (some_bytes moved.now) ≡ None) (λ len. (whole of.now stream.now (some_bytes moved.now) ≡ Some (take len room.new.bytes)) × (len ≤ length room.new.bytes)) }
-    ensures len { room.new.len ≡ room.old.len }
-    ensures within { length room.new.bytes ≤ room.new.len }
-{
-    let _len = room.len();
-    if moved.is_empty() {
-        room.put(0, stream);
-        return Some(stream.len());
-    }
-    let Some(item) = item_of(of, stream) else {
-        return None;
-    };
-    match rebuild_item_into(room, of, Some(item), stream, item.pos as u32, moved) {
-        Ok(len) => {
-            let _room = room.len();
-            Some(len)
-        }
-        Err(_) => None,
-    }
-}
-
 fn reply_xid(head: &ReplyHead) -> u32
     ensures { result ≡ reply_xid head.now }
 {
@@ -135,20 +113,120 @@ fn reply_xid(head: &ReplyHead) -> u32
     }
 }
 
-/// Why the link ends by a payload, if it does: it has no reply head, or one of another xid.
-fn reply_fault(xid: u32, payload: &[u8]) -> Option<u32>
-    ensures { MatchOption result (reply_by_payload xid (Some payload.now) ≡ GivesOutcome xid (Some (outcomes.Reply payload.now))) (λ reason. Ends (reply_by_payload xid (Some payload.now)) reason) }
+/// Why the link ends by a reply with this head, if it does: it has another xid.
+fn xid_fault(xid: u32, head: &ReplyHead) -> Option<u32>
+    ensures { (payload : List ℕ) → reply_of payload ≡ Ok head.now → MatchOption result (reply_by_payload xid (Some payload) ≡ GivesOutcome xid (Some (outcomes.Reply payload))) (λ reason. Ends (reply_by_payload xid (Some payload)) reason) }
 {
-    match read_reply(payload) {
-        Err(_) => Some(REASON_HEAD),
-        Ok(head) => {
-            if reply_xid(&head) == xid {
-                None
-            } else {
-                Some(REASON_XID)
-            }
+    if reply_xid(head) == xid {
+        None
+    } else {
+        Some(REASON_XID)
+    }
+}
+
+/// What a reply brings if nothing moved beside its stream, which is then its payload; or why it ends the link.
+fn plain_found(xid: u32, room: &mut PayloadBuffer, stream: &[u8]) -> Result<Found, u32>
+    requires room { length stream.now ≤ room.old.len }
+    ensures ok { IfOk result (λ f. reply_by_payload xid (Some stream.now) ≡ GivesOutcome xid (outcome_by f room.new.bytes)) }
+    ensures within { IfOk result (λ f. LiesWithin f room.new.bytes) }
+    ensures err { IfErr result (λ reason. Ends (reply_by_payload xid (Some stream.now)) reason) }
+    ensures len { room.new.len ≡ room.old.len }
+    ensures bytes { length room.new.bytes ≤ room.new.len }
+{
+    let _len = room.len();
+    let Some(parts) = reply_parts(stream) else {
+        return Err(REASON_HEAD);
+    };
+    match xid_fault(xid, &parts.head) {
+        Some(reason) => Err(reason),
+        None => {
+            room.put(0, stream);
+            Ok(Found::Reply { len: stream.len() })
         }
     }
+}
+
+/// The item of a reply whose head was read.
+fn item_by_head(of: &Of, parts: ReplyParts<'_>) -> Option<Item>
+    requires reply { (prog : ℕ) × ((vers : ℕ) × ((proc : ℕ) × (of.now ≡ OfReply prog vers proc))) }
+    requires parts { IsReply parts }
+    ensures exact { result ≡ item_of of.now parts.entry.payload.now }
+    ensures inside { IfSome result (λ i. i.pos ≤ length parts.entry.payload.now) }
+{
+    match *of {
+        Of::Reply { prog, vers, proc } => reply_item_of(prog, vers, proc, parts),
+        Of::Call => None,
+    }
+}
+
+/// The head and the item of a reply's stream; `None` if and only if it has no item. The head is read once.
+fn head_and_item(of: &Of, stream: &[u8]) -> Option<(ReplyHead, Item)>
+    requires reply { (prog : ℕ) × ((vers : ℕ) × ((proc : ℕ) × (of.now ≡ OfReply prog vers proc))) }
+    ensures exact { MatchOption result (item_of of.now stream.now ≡ None) (λ h. (reply_of stream.now ≡ Ok h.0) × (item_of of.now stream.now ≡ Some h.1)) }
+    ensures inside { IfSome result (λ h. h.1.pos ≤ length stream.now) }
+{
+    let Some(parts) = reply_parts(stream) else {
+        return None;
+    };
+    match item_by_head(of, parts) {
+        Some(item) => Some((parts.head, item)),
+        None => None,
+    }
+}
+
+/// What a reply brings if these bytes moved beside its stream; or why it ends the link.
+fn reduced_found(
+    xid: u32,
+    room: &mut PayloadBuffer,
+    of: &Of,
+    stream: &[u8],
+    moved: &[u8],
+) -> Result<Found, u32>
+    requires reply { (prog : ℕ) × ((vers : ℕ) × ((proc : ℕ) × (of.now ≡ OfReply prog vers proc))) }
+    requires room { length stream.now + length moved.now + 3 ≤ room.old.len }
+    requires few { room.old.len < 2 ^ 32 }
+    ensures ok { IfOk result (λ f. reply_by_payload xid (whole of.now stream.now (Some moved.now)) ≡ GivesOutcome xid (outcome_by f room.new.bytes)) }
+    ensures within { IfOk result (λ f. LiesWithin f room.new.bytes) }
+    ensures err { IfErr result (λ reason. Ends (reply_by_payload xid (whole of.now stream.now (Some moved.now))) reason) }
+    ensures len { room.new.len ≡ room.old.len }
+    ensures bytes { length room.new.bytes ≤ room.new.len }
+{
+    let _old = room.len();
+    let Some((head, item)) = head_and_item(of, stream) else {
+        return Err(REASON_CHUNKS);
+    };
+    let rebuilt = rebuild_item_into(room, of, Some(item), stream, item.pos as u32, moved);
+    let _new = room.len();
+    let Ok(len) = rebuilt else {
+        return Err(REASON_CHUNKS);
+    };
+    match xid_fault(xid, &head) {
+        Some(reason) => Err(reason),
+        None => Ok(Found::Reply { len }),
+    }
+}
+
+/// What a reply with this stream, and what moved beside it, brings; or why it ends the link.
+fn payload_found(
+    xid: u32,
+    room: &mut PayloadBuffer,
+    of: &Of,
+    stream: &[u8],
+    moved: &[u8],
+) -> Result<Found, u32>
+    requires reply { (prog : ℕ) × ((vers : ℕ) × ((proc : ℕ) × (of.now ≡ OfReply prog vers proc))) }
+    requires room { length stream.now + length moved.now + 3 ≤ room.old.len }
+    requires few { room.old.len < 2 ^ 32 }
+    ensures ok { IfOk result (λ f. reply_by_payload xid (whole of.now stream.now (some_bytes moved.now)) ≡ GivesOutcome xid (outcome_by f room.new.bytes)) }
+    ensures within { IfOk result (λ f. LiesWithin f room.new.bytes) }
+    ensures err { IfErr result (λ reason. Ends (reply_by_payload xid (whole of.now stream.now (some_bytes moved.now))) reason) }
+    ensures len { room.new.len ≡ room.old.len }
+    ensures bytes { length room.new.bytes ≤ room.new.len }
+{
+    if moved.is_empty() {
+        return plain_found(xid, room, stream);
+    }
+    reduced_found(xid, room, of, stream, moved)
 }
 
 /// The item that a reply to a call has; `None` if and only if the call's memory was revoked.
@@ -183,12 +261,5 @@ pub fn reply_found(
     ensures same { SameCall call.old call.new }
 {
     let moved = moved(regions, &call.claims.write, written);
-    let Some(len) = payload_in(&mut call.room, of, stream, moved) else {
-        return Err(REASON_CHUNKS);
-    };
-    let (payload, _) = call.room.as_slice().split_at(len);
-    match reply_fault(call.xid, payload) {
-        Some(reason) => Err(reason),
-        None => Ok(Found::Reply { len }),
-    }
+    payload_found(call.xid, &mut call.room, of, stream, moved)
 }
