@@ -40,7 +40,7 @@ status_complete (client.Budget count) left is = inr (inr (inr (inr (inr (inl ref
 status_complete client.Memory left is = inr (inl refl)
 
 -- what was reported, if what reports has no fault
-reported_is : (due status : ℕ) (text : List ℕ) (err err' : SinkAt) → (Rises err.faults err'.faults → ⊥) → Reported due text status err err' → status ≡ due
+pub reported_is : (due status : ℕ) (text : List ℕ) (err err' : SinkAt) → (Rises err.faults err'.faults → ⊥) → Reported due text status err err' → status ≡ due
 reported_is due status text err err' calm (inl (is, writes)) = is
 reported_is due status text err err' calm (inr (is, cut)) = absurd (calm cut.rose)
 
