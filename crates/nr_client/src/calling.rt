@@ -42,6 +42,7 @@ fn wait_for_credit<I: Source, O: Sink>(
     ensures sink_count { SinkCount result (O.faults sink.old) (O.faults sink.new) }
 {
     while requester.outstanding() >= requester.grant() as usize {
+        requester.facts();
         match transfer(requester, source, sink, read, buf) {
             Ok(()) => {}
             Err(end) => return Err(end),
@@ -63,6 +64,7 @@ fn wait_for_answer<I: Source, O: Sink>(
     ticket: &Ticket,
 ) -> Result<(), CallEnd>
     requires fits { Fits requester.old read.old (length buf.old) }
+    requires open { is_some (open_call ticket.now requester.old.state) ≡ true }
     ensures fits { Fits requester.new read.new (length buf.new) }
     ensures there { OnOk result (is_some (found_answer ticket.now requester.new.state) ≡ true) }
     ensures ok { OnOk result (GoesOn (link_bytes (I.left source.old) (I.given source.old) (O.taken sink.old) read.old)

@@ -189,15 +189,32 @@ keeps_ended opened link run h i (xid ∷ xids) live (j, (forgets, rest)) =
     ∙ ap (λ e. e.ended) (client_still opened link xid run)
     ∙ sym live.stands.keeps.kept.keeps.ended
 
-cause_kept : (end : CallEnd) (b : LinkBytes) (h i : RequesterSide) → i.state.side.ended ≡ h.state.side.ended → CauseAt end b h → CauseAt end b i
+-- as many calls stay outstanding
+keeps_waiting : (opened : LinkParameters) (link : ℕ) (run : List Mark) (h i : RequesterSide) (xids : List ℕ) → IsLive opened link h run → ForgetsCalls xids h i
+    → length i.state.outstanding ≡ length h.state.outstanding
+unfolding calls_outstanding
+keeps_waiting opened link run h i [] live same = ap (λ (x : RequesterSide). length x.state.outstanding) same
+keeps_waiting opened link run h i (xid ∷ xids) live (j, (forgets, rest)) =
+    let next = forgets.0 opened link run live in
+    keeps_waiting opened link (run ++ marks.Forget link xid ∷ []) j i xids next rest
+    ∙ (counts_as_client opened link j (run ++ marks.Forget link xid ∷ []) next.stands).0
+    ∙ ap (λ e. length e.state.outstanding) (client_still opened link xid run)
+    ∙ sym (counts_as_client opened link h run live.stands).0
+
+-- both
+record KeepsCause (h i : RequesterSide) : Type 0 where
+  ended : i.state.side.ended ≡ h.state.side.ended
+  waiting : length i.state.outstanding ≡ length h.state.outstanding
+
+cause_kept : (end : CallEnd) (b : LinkBytes) (h i : RequesterSide) → KeepsCause h i → CauseAt end b h → CauseAt end b i
 cause_kept (calls.Ended end) b h i same (inl is) = inl is
-cause_kept (calls.Ended end) b h i same (inr is) = inr (same ∙ is)
-cause_kept calls.LinkRead b h i same (is, rest) = (same ∙ is, rest)
+cause_kept (calls.Ended end) b h i same (inr is) = inr (same.ended ∙ is)
+cause_kept calls.LinkRead b h i same (is, rest) = (same.ended ∙ is, rest)
 cause_kept calls.LinkWrite b h i same cause = tt
-cause_kept calls.Closed b h i same (is, rest) = (same ∙ is, rest)
+cause_kept calls.Closed b h i same (is, (at_end, (few, some))) = (same.ended ∙ is, (at_end, (few, subst (λ (k : ℕ). 0 < k) (sym same.waiting) some)))
 cause_kept (calls.Spent left_over need) b h i same cause = tt
 cause_kept (calls.TooLarge need room) b h i same cause = tt
-cause_kept (calls.Budget count) b h i same (is, rest) = (same ∙ is, rest)
+cause_kept (calls.Budget count) b h i same (is, rest) = (same.ended ∙ is, rest)
 cause_kept calls.Memory b h i same cause = tt
 
 ends_kept : (F : ClientEnd → Type 0) (end : ClientEnd) (b : LinkBytes) (h i : RequesterSide) → i.state.side.ended ≡ h.state.side.ended → EndsAs F end b h → EndsAs F end b i
@@ -315,7 +332,7 @@ reads_is R F uid gid file b c h i taken taken' given f before opened link run fa
     by last.ahead ((run ++ done.more) ++ last.more) last.stands end
   where
     by : (ahead : List ℕ) (all : List Mark) → StandsAt given opened link f.side ahead all → GivenIs Any F given c f.side → GivenIs Any F given c i
-    by ahead all (inl (stands, fed)) is = given_kept Any F given c f.side i (keeps_ended opened link all f.side i (xids_of f.left) stands f.forgets) is
+    by ahead all (inl (stands, fed)) is = given_kept Any F given c f.side i (record { ended = keeps_ended opened link all f.side i (xids_of f.left) stands f.forgets; waiting = keeps_waiting opened link all f.side i (xids_of f.left) stands f.forgets }) is
     by ahead all (inr (out, stands)) is = given_out Any F given c i out
 
 -- what each part gives, with the cause of its end

@@ -1,5 +1,5 @@
 -- Why a command has no answer to a call, by its session when its link is hung up.
-use Rattle.std.specs.Prelude.{◌≡◌, ⊤, ℕ, ◌<◌, ◌⊎◌, List, Option, None, Some, Result, Err}
+use Rattle.std.specs.Prelude.{◌≡◌, ⊤, ℕ, ◌<◌, ◌⊎◌, List, length, Option, None, Some, Result, Err}
 use Rattle.std.specs.Io.KnownBytes.{IsAtEnd}
 use Rattle.nr_outside.specs.Streams.{SinkAt, SourceAt}
 use Rattle.nr_outside.specs.declared.moment.Moment.{Moment}
@@ -31,7 +31,7 @@ abbrev pub CauseAt : CallEnd → LinkBytes → RequesterSide → Type 0
 CauseAt (calls.Ended end) b h = (end ≡ ends.Memory) ⊎ (h.state.side.ended ≡ Some end)
 CauseAt calls.LinkRead b h = (h.state.side.ended ≡ None) × (b.read < read_max)
 CauseAt calls.LinkWrite b h = ⊤
-CauseAt calls.Closed b h = (h.state.side.ended ≡ None) × (IsAtEnd b.left × (b.read < read_max))
+CauseAt calls.Closed b h = (h.state.side.ended ≡ None) × (IsAtEnd b.left × ((b.read < read_max) × (0 < length h.state.outstanding)))
 CauseAt (calls.Spent left_over need) b h = ⊤
 CauseAt (calls.TooLarge need room) b h = ⊤
 CauseAt (calls.Budget count) b h = (h.state.side.ended ≡ None) × ((count ≡ read_max) × (b.read ≡ read_max))

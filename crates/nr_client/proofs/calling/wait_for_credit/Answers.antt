@@ -1,6 +1,6 @@
 use Rattle.std.proofs.Common.{◌≤◌, length, arith, refl, inl, inr, ◌∙◌}
 use Rattle.nr_client.specs.Transfers.{link_bytes}
-use Rattle.nr_client.proofs.Turns.{ends_there, never_waits, no_turn, same_sink, same_source, started_with, turn_to, turns_compose}
+use Rattle.nr_client.proofs.Turns.{never_waits, no_turn, same_sink, same_source, started_with, turn_to, turns_compose}
 use Rattle.nr_client.proofs.calling.wait_for_credit.Goals as goal
 
 pub returns-in-Err-clause-err : goal.returns-in-Err-clause-err
@@ -77,7 +77,7 @@ returns-in-Err-write_due-clause-err g c =
     (link_bytes (g.I.Source.left c.loop-requester.source) (g.I.Source.given c.loop-requester.source) (g.O.Sink.taken c.loop-requester.sink) c.loop-requester.read)
     (link_bytes (g.I.Source.left c.loop-requester.source) (g.I.Source.given c.loop-requester.source) (g.O.Sink.taken c.write_due.new.sink) c.loop-requester.read)
     c.args.requester.now c.loop-requester.requester c.write_due.new.requester goes
-    (ends_there c.in-Err-write_due.end (link_bytes (g.I.Source.left c.loop-requester.source) (g.I.Source.given c.loop-requester.source) (g.O.Sink.taken c.loop-requester.sink) c.loop-requester.read)
-    (link_bytes (g.I.Source.left c.loop-requester.source) (g.I.Source.given c.loop-requester.source) (g.O.Sink.taken c.write_due.new.sink) c.loop-requester.read)
-    c.loop-requester.requester c.write_due.new.requester c.in-Err-write_due.ensures.drained
-    (c.in-Err-write_due.ensures.writes (g.I.Source.left c.loop-requester.source) (g.I.Source.given c.loop-requester.source) c.loop-requester.read))
+    (c.in-Err-write_due.ensures.writes (g.I.Source.left c.loop-requester.source) (g.I.Source.given c.loop-requester.source) c.loop-requester.read)
+
+pub transfer-requires-clause-waits : goal.transfer-requires-clause-waits
+transfer-requires-clause-waits g c = grind (arith, c.outstanding.ensures, c.grant.ensures, c.loop-requester-test.true, c.facts.ensures.granted.0)
