@@ -182,10 +182,10 @@ unfolding after_forget
 still_caused xid (calls.Ended end) left read h i is cause = ap (λ (x : RequesterSide). x.state.side.ended) is ∙ cause
 still_caused xid calls.LinkRead left read h i is cause = (ap (λ (x : RequesterSide). x.state.side.ended) is ∙ cause.0, cause.1)
 still_caused xid calls.LinkWrite left read h i is cause = tt
-still_caused xid calls.Closed left read h i is cause = (
-  ap (λ (x : RequesterSide). x.state.side.ended) is ∙ cause.0,
-  (cause.1.0, (cause.1.1.0, subst (λ (k : ℕ). 0 < k) (sym (ap (λ (x : RequesterSide). length x.state.outstanding) is ∙ length-map h.state.outstanding (forgotten_call xid))) cause.1.1.1)),
-)
+still_caused xid calls.Closed left read h i is cause =
+    let as_many = ap (λ (x : RequesterSide). length x.state.outstanding) is ∙ length-map h.state.outstanding (forgotten_call xid) in
+    let (ended, (at_end, (few, (some, none)))) = cause in
+    (ap (λ (x : RequesterSide). x.state.side.ended) is ∙ ended, (at_end, (few, (subst (λ (k : ℕ). 0 < k) (sym as_many) some, ap (λ (x : RequesterSide). queue_of x.state) is ∙ none))))
 still_caused xid (calls.Spent left_over need) left read h i is cause = absurd cause
 still_caused xid (calls.TooLarge need room) left read h i is cause = absurd cause
 still_caused xid (calls.Budget count) left read h i is cause = (ap (λ (x : RequesterSide). x.state.side.ended) is ∙ cause.0, cause.1)

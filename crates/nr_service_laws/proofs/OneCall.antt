@@ -23,7 +23,6 @@ use Rattle.nr_client.specs.declared.call_end.CallEnd.{CallEnd}
 use Rattle.nr_client.specs.declared.client_end.ClientEnd.{ClientEnd}
 use Rattle.nr_client.specs.declared.client_end.ClientEnd.TheVariants as client
 use Rattle.nr_client.specs.Calls.{Answers, Completes, Forgets, ForgetsCall, ForgetsCalls, GivesUp, NoneCame, RefusesToSubmit, Submits}
-use Rattle.nr_client.specs.declared.call_end.CallEnd.TheVariants as calls
 use Rattle.nr_client.specs.Steps.{HasWrittenAt, IsLeft, IsLive, WholeIfWrote, WritesFirst, WritesInFull, WritesInFullTo, WrittenIfFed}
 use Rattle.nr_client.specs.Transfers.{IsTransfer, LinkBytes, Moves}
 use Rattle.nr_client.proofs.Turns.{first_both, whole_both}
@@ -159,7 +158,7 @@ whole_given_up : {A : Type 0} (result : Result A ClientEnd) (opened : LinkParame
 whole_given_up result opened link run more m still (inl failed) = inl failed
 whole_given_up result opened link run more m still (inr whole) = inr (whole_still opened link run more m still whole)
 
-written_still : (opened : LinkParameters) (link xid : ℕ) (run : List Mark) → HasWritten opened link Initiator run → HasWritten opened link Initiator (run ++ marks.Forget link xid ∷ [])
+pub written_still : (opened : LinkParameters) (link xid : ℕ) (run : List Mark) → HasWritten opened link Initiator run → HasWritten opened link Initiator (run ++ marks.Forget link xid ∷ [])
 written_still opened link xid run written =
     sent_still link run (marks.Forget link xid) refl ∙ written
     ∙ sym (output_due_up_one opened link run (marks.Forget link xid) ∙ append-nil (output_due opened link Initiator run))
