@@ -1,7 +1,7 @@
 -- A call from its Submit to its answer or its end.
-use Rattle.std.proofs.Common.{◌≡◌, ℕ, true, false, is_some, List, [], ◌∷◌, ◌++◌, Option, Some, None, arith, inl, inr, ap, subst, sym, ◌∙◌}
-use Rattle.std.proofs.lemmas.List.{length-append, nil_from_length}
-use Rattle.nr_requester.specs.AfterCalls.{after_forget}
+use Rattle.std.proofs.Common.{◌≡◌, ◌<◌, ℕ, true, false, is_some, List, [], ◌∷◌, ◌++◌, length, Option, Some, None, arith, inl, inr, ap, subst, sym, ◌∙◌}
+use Rattle.std.proofs.lemmas.List.{length-append, length-map, nil_from_length}
+use Rattle.nr_requester.specs.AfterCalls.{after_forget, forgotten_call}
 use Rattle.nr_rpc.specs.Credential.{CanWriteCred}
 use Rattle.nr_reduce.specs.declared.call.Call.{Call}
 use Rattle.nr_reduce.specs.declared.call.Outcome.{Outcome}
@@ -45,7 +45,7 @@ hands_over xid h i a found on opened link run live =
 pub completes : (xid : ℕ) (outcome : Outcome) (b c : LinkBytes) (h i j : RequesterSide) → GoesOn b c h i → HandsOver xid outcome i j → Completes xid outcome b c h j
 completes xid outcome b c h i j goes over opened link run fine live =
     let one = goes opened link run fine live in
-    (one.moved, (one.bytes, (one.written, over opened link (run ++ one.moved) one.live)))
+    (one.moved, (one.bytes, (one.written, (one.whole, over opened link (run ++ one.moved) one.live))))
 
 -- it is forgotten
 forgotten_at : (xid : ℕ) (end : CallEnd) (h i : RequesterSide) (opened : LinkParameters) (link : ℕ) (ahead : List ℕ) (run : List Mark) → StandsOn h (λ link. marks.Forget link xid) i
@@ -74,10 +74,13 @@ forgets xid end b c h i j goes lacks on out is_open opened link run fine live =
         (
           one.written,
           (
-            one.all,
+            one.whole,
             (
-              none_at xid end i opened link one.ahead (run ++ one.moved) is_open lacks one.left,
-              forgotten_at xid end i j opened link one.ahead (run ++ one.moved) on out is_open one.left,
+              one.all,
+              (
+                none_at xid end i opened link one.ahead (run ++ one.moved) is_open lacks one.left,
+                forgotten_at xid end i j opened link one.ahead (run ++ one.moved) on out is_open one.left,
+              ),
             ),
           ),
         ),
@@ -99,6 +102,7 @@ submits call xid b c h i j writable started at_once goes sent = (
         bytes = one.bytes;
         at_once = λ credit. no_bytes link b c one.moved one.bytes (at_once credit);
         before = one.written;
+        whole = one.whole;
         live = submitted call xid i j opened link (run ++ one.moved) sent writable fine one.live;
       }),
 )
@@ -111,6 +115,7 @@ of_call call xid b c d h i opened link run ahead moved one more written = record
   bytes = moves_both link b c d ahead one.waits moved one.bytes more;
   at_once = one.at_once;
   before = one.before;
+  whole_before = one.whole;
   written = written;
 }
 
@@ -119,8 +124,8 @@ answers call xid outcome b c d h i j sent completed = (
   sent.0,
   λ opened link run fine live.
       (let one = sent.1 opened link run fine live in
-      let (moved, (moves, (written, done))) = completed opened link (run_to_submit run link call xid one.waits) fine one.live in
-      record { waits = one.waits; xid = xid; moved = moved; moves = of_call call xid b c d h i opened link run [] moved one moves written; live = done }),
+      let (moved, (moves, (written, (whole, done)))) = completed opened link (run_to_submit run link call xid one.waits) fine one.live in
+      record { waits = one.waits; xid = xid; moved = moved; moves = of_call call xid b c d h i opened link run [] moved one moves written; whole = whole; live = done }),
 )
 
 pub gives_up : (call : Call) (xid : ℕ) (end : CallEnd) (b c d : LinkBytes) (h i j : RequesterSide) → Submits b c h i call xid → Forgets xid end c d i j → LinkCause end d.left d.read j
@@ -130,13 +135,14 @@ gives_up call xid end b c d h i j sent forgotten cause =
       cause,
       λ opened link run fine live.
           (let one = sent.1 opened link run fine live in
-          let (moved, ahead, (moves, (written, (all, (none, left))))) = forgotten opened link (run_to_submit run link call xid one.waits) fine one.live in
+          let (moved, ahead, (moves, (written, (whole, (all, (none, left)))))) = forgotten opened link (run_to_submit run link call xid one.waits) fine one.live in
           record {
             waits = one.waits;
             xid = xid;
             moved = moved;
             ahead = ahead;
             moves = of_call call xid b c d h i opened link run ahead moved one moves written;
+            whole = whole;
             all = all;
             unanswered = none;
             left = left;
@@ -176,7 +182,10 @@ unfolding after_forget
 still_caused xid (calls.Ended end) left read h i is cause = ap (λ (x : RequesterSide). x.state.side.ended) is ∙ cause
 still_caused xid calls.LinkRead left read h i is cause = (ap (λ (x : RequesterSide). x.state.side.ended) is ∙ cause.0, cause.1)
 still_caused xid calls.LinkWrite left read h i is cause = tt
-still_caused xid calls.Closed left read h i is cause = (ap (λ (x : RequesterSide). x.state.side.ended) is ∙ cause.0, cause.1)
+still_caused xid calls.Closed left read h i is cause =
+    let as_many = ap (λ (x : RequesterSide). length x.state.outstanding) is ∙ length-map h.state.outstanding (forgotten_call xid) in
+    let (ended, (at_end, (few, (some, none)))) = cause in
+    (ap (λ (x : RequesterSide). x.state.side.ended) is ∙ ended, (at_end, (few, (subst (λ (k : ℕ). 0 < k) (sym as_many) some, ap (λ (x : RequesterSide). queue_of x.state) is ∙ none))))
 still_caused xid (calls.Spent left_over need) left read h i is cause = absurd cause
 still_caused xid (calls.TooLarge need room) left read h i is cause = absurd cause
 still_caused xid (calls.Budget count) left read h i is cause = (ap (λ (x : RequesterSide). x.state.side.ended) is ∙ cause.0, cause.1)

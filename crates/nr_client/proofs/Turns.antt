@@ -9,16 +9,20 @@ use Rattle.nr_reduce.specs.declared.mark.Mark.{Mark}
 use Rattle.nr_reduce.specs.declared.mark.Mark.TheVariants as marks
 use Rattle.nr_reduce.specs.declared.mark.LinkParameters.{LinkParameters}
 use Rattle.nr_reduce.specs.History.{bytes_sent}
-use Rattle.nr_reduce.specs.Run.{HasWritten}
+use Rattle.nr_reduce.specs.AtEachMark.{AtEachMark}
+use Rattle.nr_reduce.specs.Asked.{IsAll}
+use Rattle.nr_reduce.specs.Run.{HasWritten, output_due}
+use Rattle.nr_reduce.specs.Standing.{ClientRepresents}
+use Rattle.nr_reduce.proofs.Standing.{client_queue_lem}
 use Rattle.nr_requester.specs.AfterCalls.{after_drain}
-use Rattle.nr_requester.specs.RequesterState.{RequesterSide, queue_of}
+use Rattle.nr_requester.specs.RequesterState.{RequesterSide, queue_of, kept_client, input_kept}
 use Rattle.nr_requester.proofs.Queues.{written_writable}
 use Rattle.nr_requester.specs.Standing.{StandsOn}
 use Rattle.nr_requester.proofs.OwnLaw.{drain_keeps_law, drain_keeps_grant, piece_keeps_law}
 use Rattle.nr_client.specs.declared.call_end.CallEnd.{CallEnd}
 use Rattle.nr_client.specs.declared.call_end.CallEnd.TheVariants as calls
 use Rattle.nr_client.specs.Ending.{SinkCountAt, SourceCountAt}
-use Rattle.nr_client.specs.Steps.{FeedsOut, GoesOn, GoesTo, HasCreditLeft, HasWrittenAt, IsDrained, IsLeft, IsLive, Reads, ReadsTo, Writes, WritesFirst}
+use Rattle.nr_client.specs.Steps.{FeedsOut, GoesOn, GoesTo, HasCreditLeft, HasWrittenAt, IsDrained, IsLeft, IsLive, Reads, ReadsTo, WholeIfWrote, Writes, WritesFirst, WritesInFull, WritesInFullTo, WritesTo, WrittenIfFed}
 use Rattle.nr_client.specs.Transfers.{LinkBytes, link_bytes}
 use Rattle.nr_client.proofs.Moves.{moves_both, moves_fed, moves_none, moves_wrote, stays}
 
@@ -31,16 +35,29 @@ pub written_at : (end : CallEnd) (opened : LinkParameters) (link : ℕ) (run : L
 written_at end opened link run h (inl failed) live = inl failed
 written_at end opened link run h (inr none) live = inr (inr (written_now opened link run h none live))
 
--- output is written first by two lists of marks, one after another
+-- what is so of each mark of two lists, one after another
+pub each_both : (P : List Mark → Mark → Type 0) (run moved more : List Mark) → AtEachMark P run moved → AtEachMark P (run ++ moved) more → AtEachMark P run (moved ++ more)
+each_both P run [] more first second = subst (λ (r : List Mark). AtEachMark P r more) (append-nil run) second
+each_both P run (m ∷ moved) more first second =
+    (first.0, each_both P (run ++ m ∷ []) moved more first.1 (subst (λ (r : List Mark). AtEachMark P r more) (sym (append_assoc run (m ∷ []) moved)) second))
+
+-- output is written first by both
 pub first_both : (opened : LinkParameters) (link : ℕ) (run moved more : List Mark) → WritesFirst opened link run moved → WritesFirst opened link (run ++ moved) more → WritesFirst opened link run (moved ++ more)
-first_both opened link run [] more first second = subst (λ (r : List Mark). WritesFirst opened link r more) (append-nil run) second
-first_both opened link run (m ∷ moved) more first second =
-    (first.0, first_both opened link (run ++ m ∷ []) moved more first.1 (subst (λ (r : List Mark). WritesFirst opened link r more) (sym (append_assoc run (m ∷ []) moved)) second))
+first_both opened link run moved more first second = each_both (WrittenIfFed opened link) run moved more first second
+
+-- all of it is written by both, or by both up to an end
+pub whole_both : (opened : LinkParameters) (link : ℕ) (run moved more : List Mark) → WritesInFull opened link run moved → WritesInFull opened link (run ++ moved) more → WritesInFull opened link run (moved ++ more)
+whole_both opened link run moved more first second = each_both (WholeIfWrote opened link) run moved more first second
+
+whole_to_both : (end : CallEnd) (opened : LinkParameters) (link : ℕ) (run moved more : List Mark) → WritesInFull opened link run moved → WritesInFullTo end opened link (run ++ moved) more
+    → WritesInFullTo end opened link run (moved ++ more)
+whole_to_both end opened link run moved more first (inl failed) = inl failed
+whole_to_both end opened link run moved more first (inr second) = inr (whole_both opened link run moved more first second)
 
 -- nothing happens
 pub no_turn : (b : LinkBytes) (h : RequesterSide) → GoesOn b b h h
 no_turn b h opened link run fine live =
-    record { moved = []; bytes = stays link b; written = tt; live = subst (λ (all : List Mark). IsLive opened link h all) (sym (append-nil run)) live }
+    record { moved = []; bytes = stays link b; written = tt; whole = tt; live = subst (λ (all : List Mark). IsLive opened link h all) (sym (append-nil run)) live }
 
 pub turns_compose : (b c d : LinkBytes) (h i j : RequesterSide) → GoesOn b c h i → GoesOn c d i j → GoesOn b d h j
 turns_compose b c d h i j first second opened link run fine live =
@@ -50,6 +67,7 @@ turns_compose b c d h i j first second opened link run fine live =
       moved = one.moved ++ two.moved;
       bytes = moves_both link b c d [] one.moved two.moved one.bytes two.bytes;
       written = first_both opened link run one.moved two.moved one.written two.written;
+      whole = whole_both opened link run one.moved two.moved one.whole two.whole;
       live = subst (λ (all : List Mark). IsLive opened link j all) (append_assoc run one.moved two.moved) two.live;
     }
 
@@ -62,6 +80,7 @@ turn_to end b c d h i j first second opened link run fine live =
       ahead = two.ahead;
       bytes = moves_both link b c d two.ahead one.moved two.moved one.bytes two.bytes;
       written = first_both opened link run one.moved two.moved one.written two.written;
+      whole = whole_to_both end opened link run one.moved two.moved one.whole two.whole;
       all = subst (λ (all : List Mark). HasWrittenAt end opened link all) (append_assoc run one.moved two.moved) two.all;
       left = subst (λ (all : List Mark). IsLeft end opened link j two.ahead all) (append_assoc run one.moved two.moved) two.left;
     }
@@ -75,24 +94,60 @@ ends_there end b c h i drained goes opened link run fine live =
       ahead = [];
       bytes = one.bytes;
       written = one.written;
+      whole = inr one.whole;
       all = written_at end opened link (run ++ one.moved) i drained one.live;
       left = inl (one.live, refl);
     }
 
--- what is due is written
+-- a complete queue is all output that is due
+queue_is_due : (opened : LinkParameters) (link : ℕ) (run : List Mark) (h : RequesterSide) (n : ℕ) → n ≡ length (queue_of h.state) → IsLive opened link h run
+    → IsAll (bytes_sent link Initiator run ++ take n (queue_of h.state)) (output_due opened link Initiator run)
+queue_is_due opened link run h n all live =
+    let queue = queue_of h.state in
+    let parts : ClientRepresents opened link (kept_client h.state) (input_kept h) (take n queue ++ drop n queue) run =
+    subst (λ (q : List ℕ). ClientRepresents opened link (kept_client h.state) (input_kept h) q run) (sym (take-append-drop n queue)) live.stands.keeps.kept in
+    ((client_queue_lem opened link (kept_client h.state) (input_kept h) (take n queue) (drop n queue) run run).0 parts).1 (ap (λ (k : ℕ). drop k queue) all ∙ drop-length queue)
+
+-- a requester whose queue was written so far
+drained_live : (opened : LinkParameters) (link : ℕ) (run : List Mark) (h i : RequesterSide) (n : ℕ) → StandsOn h (λ link. marks.Wrote link Initiator (take n (queue_of h.state))) i
+    → IsLive opened link h run → IsLive opened link i (run ++ marks.Wrote link Initiator (take n (queue_of h.state)) ∷ [])
+drained_live opened link run h i n on live = record {
+  stands = on opened link run live.stands;
+  asked = drain_keeps_law opened link h run n live.stands live.asked;
+  granted = drain_keeps_grant opened link run (take n (queue_of h.state)) live.granted;
+}
+
+-- what is due is written, all of it
 pub writes : (taken taken' : Option (List ℕ)) (h i : RequesterSide) (n : ℕ) → Appends taken taken' (take n (queue_of h.state))
-    → StandsOn h (λ link. marks.Wrote link Initiator (take n (queue_of h.state))) i → Writes taken taken' h i
-writes taken taken' h i n takes on left given read opened link run fine live =
+    → StandsOn h (λ link. marks.Wrote link Initiator (take n (queue_of h.state))) i → n ≡ length (queue_of h.state) → Writes taken taken' h i
+writes taken taken' h i n takes on all left given read opened link run fine live =
     let bytes = take n (queue_of h.state) in
     record {
       moved = marks.Wrote link Initiator bytes ∷ [];
       bytes = moves_wrote link left given taken taken' read bytes takes;
       written = (tt, tt);
-      live = record {
-        stands = on opened link run live.stands;
-        asked = drain_keeps_law opened link h run n live.stands live.asked;
-        granted = drain_keeps_grant opened link run bytes live.granted;
-      };
+      whole = (queue_is_due opened link run h n all live, tt);
+      live = drained_live opened link run h i n on live;
+    }
+
+-- so it is up to an end
+pub writes_to : (end : CallEnd) (taken taken' : Option (List ℕ)) (h i : RequesterSide) → queue_of i.state ≡ [] → Writes taken taken' h i → WritesTo end taken taken' h i
+writes_to end taken taken' h i none writing left given read =
+    ends_there end (link_bytes left given taken read) (link_bytes left given taken' read) h i (inr none) (writing left given read)
+
+-- a write failed, after a part of it was written
+pub writes_part : (taken taken' : Option (List ℕ)) (h i : RequesterSide) (n : ℕ) → Appends taken taken' (take n (queue_of h.state))
+    → StandsOn h (λ link. marks.Wrote link Initiator (take n (queue_of h.state))) i → WritesTo calls.LinkWrite taken taken' h i
+writes_part taken taken' h i n takes on left given read opened link run fine live =
+    let bytes = take n (queue_of h.state) in
+    record {
+      moved = marks.Wrote link Initiator bytes ∷ [];
+      ahead = [];
+      bytes = moves_wrote link left given taken taken' read bytes takes;
+      written = (tt, tt);
+      whole = inl refl;
+      all = inl refl;
+      left = inl (drained_live opened link run h i n on live, refl);
     }
 
 -- after all that may be written nothing is left of it
@@ -117,6 +172,7 @@ reads_none left given left' given' read h hands taken opened link run fine live 
   moved = [];
   bytes = moves_none link left given left' given' taken read hands;
   written = tt;
+  whole = tt;
   live = subst (λ (all : List Mark). IsLive opened link h all) (sym (append-nil run)) live;
 }
 
@@ -131,6 +187,7 @@ reads left given left' given' read read' piece h i none hands counts on taken op
       bytes = moves_fed link left given left' given' taken read read' piece [] (subst (HandsOut left given left' given') (sym all) hands)
           (ap (λ (bytes : List ℕ). read + length bytes) all ∙ counts);
       written = (written_now opened link run h none live, tt);
+      whole = (tt, tt);
       live = record { stands = on opened link run live.stands; asked = kept.0; granted = kept.1 };
     }
 
@@ -147,6 +204,7 @@ reads_out left given left' given' read read' piece h i none hands counts out tak
       bytes = moves_fed link left given left' given' taken read read' (take n piece) (drop n piece) (subst (HandsOut left given left' given') (sym all) hands)
           (ap (λ (bytes : List ℕ). read + length bytes) all ∙ counts);
       written = (written_now opened link run h none live, tt);
+      whole = inr (tt, tt);
       all = inr (inl refl);
       left = inr (refl, record { stopped = _; stands = stops opened link run live.stands; asked = kept.0; granted = kept.1 });
     }

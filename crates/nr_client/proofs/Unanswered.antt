@@ -1,5 +1,5 @@
 -- A call that has no answer.
-use Rattle.std.proofs.Common.{◌≡◌, ◌≢◌, ℕ, inl, inr, Bool, true, false, cond, not, ◌||◌, eqb, List, [], ◌∷◌, map, Option, None, Some, is_some, refl, sym, ap, subst, ◌∙◌}
+use Rattle.std.proofs.Common.{◌≡◌, ◌≢◌, ◌<◌, ℕ, length, arith, inl, inr, Bool, true, false, cond, not, ◌||◌, eqb, List, [], ◌∷◌, map, Option, None, Some, is_some, refl, sym, ap, subst, ◌∙◌}
 use Rattle.std.specs.Prelude.{Contains}
 use Rattle.std.specs.List.{find, list_any}
 use Rattle.std.proofs.lemmas.Bool.{eq-eqb, ne_eqb}
@@ -10,11 +10,11 @@ use Rattle.nr_reduce.specs.OutcomesDue.{is_completed}
 use Rattle.nr_reduce.specs.Run.{client}
 use Rattle.nr_reduce.specs.Asked.{IsAwaited}
 use Rattle.nr_requester.specs.declared.answer.AnsweredCall.{AnsweredCall}
-use Rattle.nr_requester.specs.RequesterState.{RequesterSide}
+use Rattle.nr_requester.specs.RequesterState.{RequesterSide, StoredCall}
 use Rattle.nr_requester.specs.AfterCalls.{after_drain}
 use Rattle.nr_requester.specs.KeptAnswers.{is_due, completed_of}
 use Rattle.nr_requester.specs.Standing.{RequesterRepresents}
-use Rattle.nr_requester.specs.OpenCalls.{found_answer, open_call}
+use Rattle.nr_requester.specs.OpenCalls.{call_with, found_answer, open_call}
 use Rattle.nr_requester.proofs.DueAnswers.{Among, from_among, to_among, in_filter}
 use Rattle.nr_requester.proofs.OpenTickets.{open_is_awaited}
 use Rattle.nr_client.specs.declared.call_end.CallEnd.{CallEnd}
@@ -71,6 +71,14 @@ answers_after end h i j first (inr second) = inr (λ xid. second xid ∙ first x
 none_if : {A : Type 0} (o : Option A) → is_some o ≡ false → o ≡ None
 none_if None e = refl
 none_if (Some x) e = absurd cc
+
+-- a call without an answer is outstanding
+pub still_waits : (xid : ℕ) (h : RequesterSide) → is_some (open_call xid h.state) ≡ true → is_some (found_answer xid h.state) ≡ false → 0 < length h.state.outstanding
+still_waits xid h is_open none = by h.state.outstanding is_open
+  where
+    by : (calls : List StoredCall) → is_some (call_with (find (λ (c : StoredCall). eqb c.xid xid) calls) (found_answer xid h.state)) ≡ true → 0 < length calls
+    by [] open_is = absurd (let wrong : true ≡ false = sym open_is ∙ ap (λ (a : Option AnsweredCall). is_some (call_with None a)) (none_if (found_answer xid h.state) none) in cc)
+    by (c ∷ calls) open_is = omega arith
 
 pub lacks_after : (end : CallEnd) (xid : ℕ) (h i : RequesterSide) → is_some (found_answer xid h.state) ≡ false → AnswersNone end h i → LacksAnswer end xid i
 lacks_after end xid h i none (inl out) = inl out

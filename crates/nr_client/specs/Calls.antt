@@ -17,7 +17,7 @@ use Rattle.nr_requester.specs.RequesterState.{RequesterSide}
 use Rattle.nr_requester.specs.Answers.{answer_of}
 use Rattle.nr_requester.specs.Standing.{StandsOn}
 use Rattle.nr_client.specs.Ending.{LinkCause}
-use Rattle.nr_client.specs.Steps.{GoesTo, HasCreditLeft, HasWrittenAt, IsLeft, IsLive, IsOut, ReadsNone, WritesFirst}
+use Rattle.nr_client.specs.Steps.{GoesTo, HasCreditLeft, HasWrittenAt, IsLeft, IsLive, IsOut, ReadsNone, WritesFirst, WritesInFull, WritesInFullTo}
 use Rattle.nr_client.specs.Transfers.{LinkBytes, Moves}
 use Rattle.nr_client.specs.declared.call_end.CallEnd.{CallEnd}
 
@@ -30,11 +30,12 @@ abbrev pub run_of_call : List Mark → ℕ → Call → ℕ → (waits moved : L
 run_of_call run link call xid waits moved last = (run_to_submit run link call xid waits ++ moved) ++ last ∷ []
 
 -- The bytes that a call moves. Nothing is read before its Submit if a credit is left. Before bytes are fed all output is written, the call
--- itself after its Submit.
+-- itself after its Submit. Before its Submit each Wrote writes all output due.
 pub record MovesOfCall (opened : LinkParameters) (link : ℕ) (run : List Mark) (b b' : LinkBytes) (h : RequesterSide) (call : Call) (xid : ℕ) (ahead : List ℕ) (waits moved : List Mark) : Type 0 where
   pub bytes : Moves link b b' ahead (waits ++ moved)
   pub at_once : HasCreditLeft h → bytes_received link Initiator waits ≡ []
   pub before : WritesFirst opened link run waits
+  pub whole_before : WritesInFull opened link run waits
   pub written : WritesFirst opened link (run_to_submit run link call xid waits) moved
 
 -- The call was submitted, and no outcome of it was handed over yet: bytes moved while it waited for a credit, none of them read if one was left.
@@ -43,6 +44,7 @@ pub record IsSubmitted (opened : LinkParameters) (link : ℕ) (run : List Mark) 
   pub bytes : Moves link b b' [] waits
   pub at_once : HasCreditLeft h → bytes_received link Initiator waits ≡ []
   pub before : WritesFirst opened link run waits
+  pub whole : WritesInFull opened link run waits
   pub live : IsLive opened link h' (run_to_submit run link call xid waits)
 
 -- The call was submitted and answered with this outcome.
@@ -51,6 +53,7 @@ pub record IsAnswered (opened : LinkParameters) (link : ℕ) (run : List Mark) (
   pub xid : ℕ
   pub moved : List Mark
   pub moves : MovesOfCall opened link run b b' h call xid [] waits moved
+  pub whole : WritesInFull opened link (run_to_submit run link call xid waits) moved
   pub live : IsLive opened link h' (run_of_call run link call xid waits moved (marks.Done link xid outcome))
 
 -- By these marks no message brought an outcome of an xid; or memory ran out for a frame.
@@ -64,6 +67,7 @@ pub record IsForgotten (opened : LinkParameters) (link : ℕ) (run : List Mark) 
   pub moved : List Mark
   pub ahead : List ℕ
   pub moves : MovesOfCall opened link run b b' h call xid ahead waits moved
+  pub whole : WritesInFullTo end opened link (run_to_submit run link call xid waits) moved
   pub all : HasWrittenAt end opened link (run_to_submit run link call xid waits ++ moved)
   pub unanswered : NoneCame end opened link (run_to_submit run link call xid waits ++ moved) xid
   pub left : IsLeft end opened link h' ahead (run_of_call run link call xid waits moved (marks.Forget link xid))
@@ -107,13 +111,14 @@ HandsOver xid outcome h h' =
 abbrev pub Completes : ℕ → Outcome → (b b' : LinkBytes) (h h' : RequesterSide) → Type 0
 Completes xid outcome b b' h h' =
     (opened : LinkParameters) (link : ℕ) (run : List Mark) → IsOpened opened → IsLive opened link h run →
-    (moved : List Mark) × (Moves link b b' [] moved × (WritesFirst opened link run moved × IsLive opened link h' ((run ++ moved) ++ marks.Done link xid outcome ∷ [])))
+    (moved : List Mark) × (Moves link b b' [] moved × (WritesFirst opened link run moved × (WritesInFull opened link run moved
+    × IsLive opened link h' ((run ++ moved) ++ marks.Done link xid outcome ∷ []))))
 
 abbrev pub Forgets : ℕ → CallEnd → (b b' : LinkBytes) (h h' : RequesterSide) → Type 0
 Forgets xid end b b' h h' =
     (opened : LinkParameters) (link : ℕ) (run : List Mark) → IsOpened opened → IsLive opened link h run →
-    (moved : List Mark) × (ahead : List ℕ) × (Moves link b b' ahead moved × (WritesFirst opened link run moved × (HasWrittenAt end opened link (run ++ moved)
-    × (NoneCame end opened link (run ++ moved) xid × IsLeft end opened link h' ahead ((run ++ moved) ++ marks.Forget link xid ∷ [])))))
+    (moved : List Mark) × (ahead : List ℕ) × (Moves link b b' ahead moved × (WritesFirst opened link run moved × (WritesInFullTo end opened link run moved × (HasWrittenAt end opened link (run ++ moved)
+    × (NoneCame end opened link (run ++ moved) xid × IsLeft end opened link h' ahead ((run ++ moved) ++ marks.Forget link xid ∷ []))))))
 
 -- the call of an xid is forgotten, whether or not its answer has come
 abbrev pub ForgetsCall : ℕ → (h h' : RequesterSide) → Type 0

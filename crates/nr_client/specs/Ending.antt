@@ -1,5 +1,5 @@
 -- Why a call has no answer, and the fault counts then.
-use Rattle.std.specs.Prelude.{◌≡◌, ⊤, ℕ, ◌<◌, List, Option, None, Some, Result, Ok, Err}
+use Rattle.std.specs.Prelude.{◌≡◌, ⊤, ℕ, ◌<◌, List, [], length, Option, None, Some, Result, Ok, Err}
 use Rattle.std.specs.Io.KnownBytes.{IsAtEnd}
 use Rattle.nr_outside.specs.Faults.{Rises}
 use Rattle.nr_reduce.specs.declared.call.Call.{Call}
@@ -8,17 +8,18 @@ use Rattle.nr_reduce.specs.declared.call.Refused.{Refused}
 use Rattle.nr_reduce.specs.declared.call.Refused.TheVariants as refusals
 use Rattle.nr_reduce.specs.declared.call.Submission.TheVariants as submissions
 use Rattle.nr_links.specs.Limits.{read_max}
-use Rattle.nr_requester.specs.RequesterState.{RequesterSide}
+use Rattle.nr_requester.specs.RequesterState.{RequesterSide, queue_of}
 use Rattle.nr_requester.specs.Answers.{answer_of}
 use Rattle.nr_client.specs.declared.call_end.CallEnd.{CallEnd}
 use Rattle.nr_client.specs.declared.call_end.CallEnd.TheVariants as calls
 
--- The cause of an end of the link, by what the source has left, the number of bytes read and the requester.
+-- The cause of an end of the link, by what the source has left, the number of bytes read and the requester. The end of the source ends a call
+-- only while a call is outstanding, no message of whose xid came, and all that may be written is written.
 abbrev pub LinkCause : CallEnd → Option (List ℕ) → ℕ → RequesterSide → Type 0
 LinkCause (calls.Ended end) left read h = h.state.side.ended ≡ Some end
 LinkCause calls.LinkRead left read h = (h.state.side.ended ≡ None) × (read < read_max)
 LinkCause calls.LinkWrite left read h = ⊤
-LinkCause calls.Closed left read h = (h.state.side.ended ≡ None) × (IsAtEnd left × (read < read_max))
+LinkCause calls.Closed left read h = (h.state.side.ended ≡ None) × (IsAtEnd left × ((read < read_max) × ((0 < length h.state.outstanding) × (queue_of h.state ≡ []))))
 LinkCause (calls.Spent left_over need) left read h = ⊥
 LinkCause (calls.TooLarge need room) left read h = ⊥
 LinkCause (calls.Budget count) left read h = (h.state.side.ended ≡ None) × ((count ≡ read_max) × (read ≡ read_max))

@@ -5,11 +5,12 @@ use Rattle.nr_wire.specs.declared.hello.Side.TheVariants.{Initiator}
 use Rattle.nr_reduce.specs.declared.mark.LinkParameters.{LinkParameters}
 use Rattle.nr_reduce.specs.declared.mark.Mark.{Mark}
 use Rattle.nr_reduce.specs.declared.mark.Mark.TheVariants as marks
-use Rattle.nr_reduce.specs.Asked.{AskedSoFar}
+use Rattle.nr_reduce.specs.Asked.{AskedSoFar, IsAll}
 use Rattle.nr_reduce.specs.AtEachMark.{AtEachMark}
 use Rattle.nr_reduce.specs.Credits.{KeepsGrant}
+use Rattle.nr_reduce.specs.History.{bytes_sent}
 use Rattle.nr_reduce.specs.Opening.{IsOpened}
-use Rattle.nr_reduce.specs.Run.{HasWritten}
+use Rattle.nr_reduce.specs.Run.{HasWritten, output_due}
 use Rattle.nr_requester.specs.RequesterState.{RequesterSide, queue_of}
 use Rattle.nr_requester.specs.Standing.{RequesterRepresents, RequesterRunsOut}
 use Rattle.nr_requester.specs.Fed.{fed_bytes}
@@ -45,6 +46,19 @@ WrittenIfFed opened link run mark = ⊤
 abbrev pub WritesFirst : LinkParameters → ℕ → (run moved : List Mark) → Type 0
 WritesFirst opened link run moved = AtEachMark (WrittenIfFed opened link) run moved
 
+-- a mark that follows these and writes bytes of the client writes all its output that is due
+abbrev pub WholeIfWrote : LinkParameters → ℕ → List Mark → Mark → Type 0
+WholeIfWrote opened link run (marks.Wrote l Initiator bytes) = IsAll (bytes_sent link Initiator run ++ bytes) (output_due opened link Initiator run)
+WholeIfWrote opened link run mark = ⊤
+
+-- Each time that these marks, which follow a run, write bytes, they write all output of the client that is due.
+abbrev pub WritesInFull : LinkParameters → ℕ → (run moved : List Mark) → Type 0
+WritesInFull opened link run moved = AtEachMark (WholeIfWrote opened link) run moved
+
+-- so it is up to an end, unless a write failed
+abbrev pub WritesInFullTo : CallEnd → LinkParameters → ℕ → (run moved : List Mark) → Type 0
+WritesInFullTo end opened link run moved = (end ≡ calls.LinkWrite) ⊎ WritesInFull opened link run moved
+
 -- At an end of a call all output of the client is written, unless a write failed, or memory ran out for a frame.
 abbrev pub HasWrittenAt : CallEnd → LinkParameters → ℕ → List Mark → Type 0
 HasWrittenAt end opened link run = (end ≡ calls.LinkWrite) ⊎ ((end ≡ calls.Ended ends.Memory) ⊎ HasWritten opened link Initiator run)
@@ -54,6 +68,7 @@ pub record HasMoved (opened : LinkParameters) (link : ℕ) (run : List Mark) (b 
   pub moved : List Mark
   pub bytes : Moves link b b' [] moved
   pub written : WritesFirst opened link run moved
+  pub whole : WritesInFull opened link run moved
   pub live : IsLive opened link h' (run ++ moved)
 
 -- The same, up to an end.
@@ -62,6 +77,7 @@ pub record HasMovedTo (end : CallEnd) (opened : LinkParameters) (link : ℕ) (ru
   pub ahead : List ℕ
   pub bytes : Moves link b b' ahead moved
   pub written : WritesFirst opened link run moved
+  pub whole : WritesInFullTo end opened link run moved
   pub all : HasWrittenAt end opened link (run ++ moved)
   pub left : IsLeft end opened link h' ahead (run ++ moved)
 
@@ -87,6 +103,10 @@ IsDrained end h = (end ≡ calls.LinkWrite) ⊎ (queue_of h.state ≡ [])
 -- bytes are written, and none read
 abbrev pub Writes : (taken taken' : Option (List ℕ)) (h h' : RequesterSide) → Type 0
 Writes taken taken' h h' = (left given : Option (List ℕ)) (read : ℕ) → GoesOn (link_bytes left given taken read) (link_bytes left given taken' read) h h'
+
+-- the same, up to an end
+abbrev pub WritesTo : CallEnd → (taken taken' : Option (List ℕ)) (h h' : RequesterSide) → Type 0
+WritesTo end taken taken' h h' = (left given : Option (List ℕ)) (read : ℕ) → GoesTo end (link_bytes left given taken read) (link_bytes left given taken' read) h h'
 
 -- bytes are read and fed, and none written; the same, up to an end
 abbrev pub Reads : (left given left' given' : Option (List ℕ)) (read read' : ℕ) (h h' : RequesterSide) → Type 0

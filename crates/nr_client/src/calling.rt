@@ -1,6 +1,6 @@
 //! A call over a link.
 
-ghost use Rattle.std.specs.Prelude.{◌≡◌, ◌<◌, true, is_some, [], length, Option, List, ℕ, IfOk, IfErr, OnOk, OnErr};
+ghost use Rattle.std.specs.Prelude.{◌≡◌, ◌<◌, ◌≤◌, true, false, is_some, [], length, Option, List, ℕ, IfOk, IfErr, OnOk, OnErr};
 ghost use Rattle.nr_rpc.specs.Credential.{CanWriteCred};
 ghost use Rattle.nr_requester.specs.Fed.{fed_bytes};
 ghost use Rattle.nr_requester.specs.OpenCalls.{ClosesTicket, KeepsTickets, OpensTicket, found_answer, open_call};
@@ -15,6 +15,16 @@ use crate::transfer::{transfer, write_due};
 use nr_outside::{Sink, Source};
 use nr_reduce::{Call, Form, Outcome, Refused};
 use nr_requester::{Done, Requester, Take, Ticket};
+
+/// Whether no credit is left. Then a call is outstanding.
+fn lacks_credit(requester: &Requester) -> bool
+    ensures lacks { result ≡ true → requester.now.state.grant ≤ length requester.now.state.outstanding }
+    ensures waits { result ≡ true → 0 < length requester.now.state.outstanding }
+    ensures credit { result ≡ false → length requester.now.state.outstanding < requester.now.state.grant }
+{
+    requester.facts();
+    requester.outstanding() >= requester.grant() as usize
+}
 
 /// Writes and reads until a credit is left, and writes what is due. If one is left at first, nothing is read. Fails if the client's side has
 /// ended.
@@ -41,7 +51,7 @@ fn wait_for_credit<I: Source, O: Sink>(
     ensures source_count { SourceCount result (I.faults source.old) (I.faults source.new) }
     ensures sink_count { SinkCount result (O.faults sink.old) (O.faults sink.new) }
 {
-    while requester.outstanding() >= requester.grant() as usize {
+    while lacks_credit(requester) {
         match transfer(requester, source, sink, read, buf) {
             Ok(()) => {}
             Err(end) => return Err(end),
@@ -63,6 +73,7 @@ fn wait_for_answer<I: Source, O: Sink>(
     ticket: &Ticket,
 ) -> Result<(), CallEnd>
     requires fits { Fits requester.old read.old (length buf.old) }
+    requires open { is_some (open_call ticket.now requester.old.state) ≡ true }
     ensures fits { Fits requester.new read.new (length buf.new) }
     ensures there { OnOk result (is_some (found_answer ticket.now requester.new.state) ≡ true) }
     ensures ok { OnOk result (GoesOn (link_bytes (I.left source.old) (I.given source.old) (O.taken sink.old) read.old)

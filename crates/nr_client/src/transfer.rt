@@ -13,7 +13,7 @@ ghost use Rattle.nr_requester.specs.RequesterState.{queue_of};
 ghost use Rattle.nr_requester.specs.Standing.{StandsOn};
 ghost use Rattle.nr_client.specs.declared.call_end.CallEnd.TheVariants as calls;
 ghost use Rattle.nr_client.specs.Ending.{LinkCause, SinkCount, SourceCount};
-ghost use Rattle.nr_client.specs.Steps.{AnswersNone, FeedsOut, Fits, GoesOn, GoesTo, IsDrained, Reads, ReadsTo, Writes};
+ghost use Rattle.nr_client.specs.Steps.{AnswersNone, FeedsOut, Fits, GoesOn, GoesTo, IsDrained, Reads, ReadsTo, Writes, WritesTo};
 ghost use Rattle.nr_client.specs.Transfers.{link_bytes};
 
 use crate::call_end::CallEnd;
@@ -44,7 +44,8 @@ pub(crate) fn write_due<O: Sink>(requester: &mut Requester, sink: &mut O) -> Res
     ensures started { OnOk result (requester.old.state.side.ended ≡ None) }
     ensures drained { MatchResult result (λ _. queue_of requester.new.state ≡ []) (λ end. IsDrained end requester.new) }
     ensures credit { OnOk result ((length requester.new.state.outstanding ≡ length requester.old.state.outstanding) × (requester.new.state.grant ≡ requester.old.state.grant)) }
-    ensures writes { Writes (O.taken sink.old) (O.taken sink.new) requester.old requester.new }
+    ensures writes { MatchResult result (λ _. Writes (O.taken sink.old) (O.taken sink.new) requester.old requester.new)
+        (λ end. WritesTo end (O.taken sink.old) (O.taken sink.new) requester.old requester.new) }
     ensures cause { IfErr result (λ end. (left : Option (List ℕ)) (read : ℕ) → LinkCause end left read requester.new) }
     ensures answers { (xid : ℕ) → found_answer xid requester.new.state ≡ found_answer xid requester.old.state }
     ensures tickets { KeepsTickets requester.old.state requester.new.state }
@@ -89,6 +90,7 @@ fn read_piece<I: Source>(
 ) -> Result<(), CallEnd>
     requires live { requester.old.state.side.ended ≡ None }
     requires drained { queue_of requester.old.state ≡ [] }
+    requires waits { 0 < length requester.old.state.outstanding }
     requires fits { Fits requester.old read.old (length buf.old) }
     ensures fits { Fits requester.new read.new (length buf.new) }
     ensures more { OnOk result (read.old < read.new) }
@@ -119,7 +121,7 @@ fn read_piece<I: Source>(
     }
 }
 
-/// Writes what is due, then reads a piece of the server's stream and feeds it.
+/// Writes what is due, then reads a piece of the server's stream and feeds it, while a call is outstanding.
 pub(crate) fn transfer<I: Source, O: Sink>(
     requester: &mut Requester,
     source: &mut I,
@@ -127,6 +129,7 @@ pub(crate) fn transfer<I: Source, O: Sink>(
     read: &mut u64,
     buf: &mut [u8],
 ) -> Result<(), CallEnd>
+    requires waits { 0 < length requester.old.state.outstanding }
     requires fits { Fits requester.old read.old (length buf.old) }
     ensures fits { Fits requester.new read.new (length buf.new) }
     ensures more { OnOk result (read.old < read.new) }

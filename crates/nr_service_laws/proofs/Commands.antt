@@ -160,6 +160,7 @@ is_run opened link s s' addr before dialed after result exchanges opens closes d
       first = done.extends.first;
       written = done.written;
       lacks = done.lacks;
+      whole = done.whole;
       marks_are = done.extends.marks_are;
       calls = calls_are link done.more exchanges.made done.extends.marks_are;
       outcomes = outcomes_are link done.more exchanges.made done.extends.marks_are;

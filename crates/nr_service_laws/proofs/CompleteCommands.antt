@@ -10,6 +10,10 @@ use Rattle.nr_plain.specs.Added.{entries_of_call}
 use Rattle.nr_plain.specs.Replies.{plain_reply}
 use Rattle.nr_plain.specs.Setup.{Setup}
 use Rattle.nr_plain.proofs.PlainServers.{server_is_plain}
+use Rattle.std.specs.List.{AllByRecursion}
+use Rattle.nr_reduce.specs.Asked.{AskedSoFar}
+use Rattle.nr_reduce.specs.declared.mark.LinkParameters.{LinkParameters}
+use Rattle.nr_reduce.specs.declared.mark.Mark.{Mark}
 use Rattle.nr_client.specs.declared.call_end.CallEnd.TheVariants as calls
 use Rattle.nr_client.specs.declared.client_end.ClientEnd.{ClientEnd}
 use Rattle.nr_client.specs.declared.client_end.ClientEnd.TheVariants as client
@@ -18,14 +22,17 @@ use Rattle.nr_commands.specs.Running.Runs.{NotOpened, Opened}
 use Rattle.nr_commands.specs.Sessions.{CountsFaults, SessionAt}
 use Rattle.nr_reply_laws.specs.Replies.{AnyValue, HasResults, IsHandle, ListsOn}
 use Rattle.nr_reply_laws.proofs.Replies.{create_lem, getattr_lem, lookup_lem, mkdir_lem, mount_lem, read_lem, readdir_lem, readlink_lem, remove_lem, symlink_lem, write_lem}
-use Rattle.nr_service_laws.specs.CompleteCommands.{IsComplete, IsUndisturbed, OpensForCause, ResultHasCause, ServedCommandsComplete, ServedCommandsHaveCauses}
+use Rattle.nr_service_laws.specs.CompleteCommands.{IsComplete, IsUndisturbed, OpensForCause, ResultHasCause, IsServedPlainly, ServedCommandsComplete, ServedCommandsHaveCauses}
 use Rattle.nr_service_laws.specs.Exchanges.{tells_text}
-use Rattle.nr_service_laws.specs.ServedCommands.{IsClientSideOf}
+use Rattle.nr_service_laws.specs.ClientMarks.{IsOwn}
+use Rattle.nr_service_laws.specs.ServedLinks.{IsServedBy}
 use Rattle.nr_service_laws.proofs.EndCauses.{served_end_for_memory_lem}
 use Rattle.nr_service_laws.proofs.Judged.{Any, GoesOn, Judgement, ResultIs}
 use Rattle.nr_service_laws.proofs.JudgedCommands.{opened_is}
 use Rattle.nr_service_laws.proofs.JudgedParts.{GivenIs}
-use Rattle.nr_service_laws.proofs.ServedAnswers.{IsServedReply, exchanges_judged}
+use Rattle.nr_service_laws.proofs.NotClosed.{served_not_closed_lem}
+use Rattle.nr_service_laws.proofs.ServedAnswers.{IsPlainSide, IsServedReply, exchanges_judged}
+use Rattle.nr_service_laws.proofs.ServedLaws.{matched_by, side_of}
 use Rattle.nr_service_laws.proofs.ServedOutcomes.{served_commands_end_lem}
 
 -- ---- Replies of a plain server
@@ -123,21 +130,36 @@ opens_for_cause client.InputFault addr before after fails = absurd fails
 opens_for_cause client.OutputFault addr before after fails = absurd fails
 opens_for_cause (client.Budget count) addr before after fails = absurd fails
 
+by_server : (setup : Setup) (opened : LinkParameters) (link : ℕ) (run both : List Mark) → IsSane setup.tree → IsServedPlainly setup opened link run both
+    → IsServedBy (λ entries moment payload. plain_reply setup entries (length entries) moment payload) entries_of_call opened link run both
+by_server setup opened link run both sane served =
+    record { client_side = served.client_side; typed = served.typed; served = served.served; matched = served.matched; limits = server_is_plain setup sane; plain = served.plain }
+
+plain_side : (setup : Setup) (opened : LinkParameters) (link : ℕ) (run both : List Mark) → AllByRecursion (IsOwn link) run → AskedSoFar opened link run → IsServedPlainly setup opened link run both
+    → IsPlainSide setup opened link run both
+plain_side setup opened link run both own asked served = record {
+  client_side = served.client_side;
+  typed = served.typed;
+  matched = matched_by opened link run both own asked (record { client_side = served.client_side; served = served.served; matched = served.matched });
+  plain = served.plain;
+}
+
 pub served_commands_have_causes_lem : ServedCommandsHaveCauses
 served_commands_have_causes_lem setup opened link c before after input input' out out' result (NotOpened end is fails same_input same_out) sane session = opens_for_cause end c.addr before after fails
 served_commands_have_causes_lem setup opened link c before after input input' out out' result (Opened dialed s s' opens prints closes) sane session = λ ran both served.
     let I = Rises input.faults input'.faults in
     let O = Rises out.faults out'.faults in
     let made = (tells_text c.uid c.gid c.export c.action input input' out prints.written s s' prints.text prints.made).made in
-    let side : IsClientSideOf (λ entries moment payload. plain_reply setup entries (length entries) moment payload) entries_of_call opened link ran.run both =
-    record { client_side = served.client_side; typed = served.typed; matched = served.matched; limits = server_is_plain setup sane; plain = served.plain } in
+    let plain = plain_side setup opened link ran.run both ran.own ran.asked served in
+    let server = by_server setup opened link ran.run both sane served in
     has_cause result s s' input input' out out'
     (opened_is (IsServedReply setup) IsHandle (OwnEnd I O) c before dialed s s' input input' out out' result opens prints opened link (judged_plainly I O setup c.uid c.gid sane) (λ rose. rose) (λ rose. rose)
-    session.fine session.first_xid session.first_stag session.wished (exchanges_judged setup opened link ran.run both made sane served ran.marks_are))
+    session.fine session.first_xid session.first_stag session.wished (exchanges_judged setup opened link ran.run both made sane plain ran.marks_are))
     (served_commands_end_lem opened link c before after input input' out out' result (Opened dialed s s' opens prints closes) ran
-    (λ entries moment payload. plain_reply setup entries (length entries) moment payload) entries_of_call both side).0
+    (λ entries moment payload. plain_reply setup entries (length entries) moment payload) entries_of_call both
+    (side_of (λ entries moment payload. plain_reply setup entries (length entries) moment payload) entries_of_call opened link ran.run both server plain.matched)).0
     (served_end_for_memory_lem opened link c before after input input' out out' result (Opened dialed s s' opens prints closes) ran
-    (λ entries moment payload. plain_reply setup entries (length entries) moment payload) entries_of_call both session.fine side served.laws)
+    (λ entries moment payload. plain_reply setup entries (length entries) moment payload) entries_of_call both session.fine server)
 
 -- ---- If nothing fails
 
@@ -182,6 +204,9 @@ opens_complete (client.Budget count) before after is calm = absurd is
 pub served_commands_complete_lem : ServedCommandsComplete
 served_commands_complete_lem setup opened link c before after input input' out out' result (NotOpened end is fails same_input same_out) sane session = λ calm.
     is ∙ ap (λ (e : ClientEnd). Err e) (opens_complete end before after (opens_for_cause end c.addr before after fails) calm)
-served_commands_complete_lem setup opened link c before after input input' out out' result (Opened dialed s s' opens prints closes) sane session = λ ran both served calm.
-    complete_by result s s' input input' out out' calm
-    (served_commands_have_causes_lem setup opened link c before after input input' out out' result (Opened dialed s s' opens prints closes) sane session ran both served)
+served_commands_complete_lem setup opened link c before after input input' out out' result (Opened dialed s s' opens prints closes) sane session = λ ran both served calm. (
+  complete_by result s s' input input' out out' calm
+      (served_commands_have_causes_lem setup opened link c before after input input' out out' result (Opened dialed s s' opens prints closes) sane session ran both served),
+  served_not_closed_lem opened link c before after input input' out out' result (Opened dialed s s' opens prints closes) ran
+      (λ entries moment payload. plain_reply setup entries (length entries) moment payload) entries_of_call both session.fine (by_server setup opened link ran.run both sane served),
+)

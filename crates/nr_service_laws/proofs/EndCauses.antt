@@ -50,7 +50,7 @@ use Rattle.nr_service_laws.specs.Exchanges.Exchange.{Answered, Forgotten, GivenU
 use Rattle.nr_service_laws.proofs.Judged.{Any, GoesOn, Judgement, ResultIs, either_is}
 use Rattle.nr_service_laws.proofs.JudgedCommands.{opened_is}
 use Rattle.nr_service_laws.proofs.JudgedParts.{AreJudged, GivenIs}
-use Rattle.nr_service_laws.proofs.OpenLinks.{served_commands_stay_lem}
+use Rattle.nr_service_laws.proofs.ServedLaws.{served_not_ended_lem}
 
 -- ---- Any outcome is read as a value or as an end that is not of the link
 
@@ -205,9 +205,17 @@ for_memory result h end is opens (inl memory) = memory
 for_memory result h end is (inl stays) (inr ended) = absurd (some_is end h.state.side.ended stays ended)
 for_memory result h end is (inr out) (inr ended) = ap (end_in_link ends.Memory) (sym is ∙ out)
 
+not_failed : (result : Result (Unit {0}) ClientEnd) (h : RequesterSide) (end : End) → result ≡ Err (client.Link (calls.Ended end))
+    → (h.state.side.ended ≡ None) ⊎ ((result ≡ Err (client.Link (calls.Ended ends.Memory))) ⊎ (result ≡ Err (client.Link calls.LinkWrite)))
+    → (h.state.side.ended ≡ None) ⊎ (result ≡ Err (client.Link (calls.Ended ends.Memory)))
+not_failed result h end is (inl stays) = inl stays
+not_failed result h end is (inr (inl out)) = inr out
+not_failed result h end is (inr (inr failed)) = absurd (let wrong = sym is ∙ failed in cc)
+
 pub served_end_for_memory_lem : ServedCommandsEndForMemory
 served_end_for_memory_lem opened link c before after input input' out out' result (NotOpened end is fails same_input same_out) = tt
-served_end_for_memory_lem opened link c before after input input' out out' result (Opened dialed s s' opens prints closes) = λ ran reply_to adds both fine served laws end is.
+served_end_for_memory_lem opened link c before after input input' out out' result (Opened dialed s s' opens prints closes) = λ ran reply_to adds both fine served end is.
     for_memory result s'.requester end is
-    (served_commands_stay_lem opened link c before after input input' out out' result (Opened dialed s s' opens prints closes) ran reply_to adds both fine served laws)
+    (not_failed result s'.requester end is
+    (served_not_ended_lem opened link c before after input input' out out' result (Opened dialed s s' opens prints closes) ran reply_to adds both fine served))
     (ends_have_causes_lem c before after input input' out out' result (Opened dialed s s' opens prints closes) (calls.Ended end) is)

@@ -1,6 +1,8 @@
 -- The ends of parts of a command whose outcomes are judged call by call, each with its cause if a call has no answer.
-use Rattle.std.proofs.Common.{◌≡◌, ℕ, Bool, true, false, List, [], ◌∷◌, ◌++◌, length, Option, Result, Ok, Err, inl, inr, refl, sym, ap, subst, ◌∙◌}
+use Rattle.std.proofs.Common.{◌≡◌, ◌<◌, ℕ, arith, Bool, true, false, List, [], ◌∷◌, ◌++◌, length, Option, Result, Ok, Err, inl, inr, refl, sym, ap, subst, ◌∙◌}
 use Rattle.std.specs.Prelude.{◌⊎◌, MatchBool, nat_lt}
+use Rattle.std.proofs.lemmas.List.{length-append, nil_from_length}
+use Rattle.nr_wire.specs.declared.hello.Side.TheVariants.{Initiator}
 use Rattle.nr_outside.specs.Faults.{Rises}
 use Rattle.nr_outside.specs.Streams.{SinkAt, SourceAt}
 use Rattle.nr_nfs_base.specs.Limits.{link_target_max}
@@ -11,8 +13,12 @@ use Rattle.nr_reduce.specs.declared.call.Outcome.{Outcome}
 use Rattle.nr_reduce.specs.declared.mark.LinkParameters.{LinkParameters}
 use Rattle.nr_reduce.specs.declared.mark.Mark.{Mark}
 use Rattle.nr_reduce.specs.declared.mark.Mark.TheVariants as marks
+use Rattle.nr_reduce.specs.Credits.{calls_outstanding}
+use Rattle.nr_reduce.specs.History.{bytes_sent}
 use Rattle.nr_reduce.specs.Opening.{IsOpened}
-use Rattle.nr_requester.specs.RequesterState.{RequesterSide}
+use Rattle.nr_reduce.specs.Run.{output_due}
+use Rattle.nr_requester.specs.RequesterState.{RequesterSide, queue_of}
+use Rattle.nr_requester.proofs.Accepting.{counts_as_client}
 use Rattle.nr_client.specs.declared.call_end.CallEnd.{CallEnd}
 use Rattle.nr_client.specs.declared.call_end.CallEnd.TheVariants as calls
 use Rattle.nr_client.specs.declared.client_end.ClientEnd.{ClientEnd}
@@ -29,6 +35,7 @@ use Rattle.nr_client.specs.Results.{Gives}
 use Rattle.nr_client.specs.Steps.{IsLive}
 use Rattle.nr_client.specs.Transfers.{LinkBytes}
 use Rattle.nr_client.specs.Walking.{parent_next, walk_next}
+use Rattle.nr_client.proofs.Turns.{written_now}
 use Rattle.nr_client.specs.Writing.{EndsWriting, writing}
 use Rattle.nr_client.specs.Writing.EndsWriting.{FollowsInput, InputFails}
 use Rattle.nr_commands.specs.Commands.{Finds, FindsParent, IsSilent, Mounts, ReadsOut, Symlinks, WritesIn}
@@ -39,7 +46,7 @@ use Rattle.nr_service_laws.specs.Exchanges.{Exchange, Exchanges, Tells, asked_ex
 use Rattle.nr_service_laws.specs.Exchanges.Exchange.{Answered, Forgotten, GivenUp, HandedOver, Submitted}
 use Rattle.nr_service_laws.proofs.Judged.{Any, AreAnswers, Judgement, NextIs, RequestIs, ResultIs, IsReadEnd, answers_more, parent_is, reading_is, walk_is, writing_is}
 use Rattle.nr_service_laws.proofs.Files.{does_reading_end, does_steps}
-use Rattle.nr_service_laws.proofs.OneCall.{client_still}
+use Rattle.nr_service_laws.proofs.OneCall.{client_still, written_still}
 use Rattle.nr_service_laws.proofs.Parts.{Has, has_mounts}
 
 -- ---- Exchanges that are judged
@@ -189,18 +196,57 @@ keeps_ended opened link run h i (xid ∷ xids) live (j, (forgets, rest)) =
     ∙ ap (λ e. e.ended) (client_still opened link xid run)
     ∙ sym live.stands.keeps.kept.keeps.ended
 
-cause_kept : (end : CallEnd) (b : LinkBytes) (h i : RequesterSide) → i.state.side.ended ≡ h.state.side.ended → CauseAt end b h → CauseAt end b i
+-- as many calls stay outstanding
+keeps_waiting : (opened : LinkParameters) (link : ℕ) (run : List Mark) (h i : RequesterSide) (xids : List ℕ) → IsLive opened link h run → ForgetsCalls xids h i
+    → length i.state.outstanding ≡ length h.state.outstanding
+unfolding calls_outstanding
+keeps_waiting opened link run h i [] live same = ap (λ (x : RequesterSide). length x.state.outstanding) same
+keeps_waiting opened link run h i (xid ∷ xids) live (j, (forgets, rest)) =
+    let next = forgets.0 opened link run live in
+    keeps_waiting opened link (run ++ marks.Forget link xid ∷ []) j i xids next rest
+    ∙ (counts_as_client opened link j (run ++ marks.Forget link xid ∷ []) next.stands).0
+    ∙ ap (λ e. length e.state.outstanding) (client_still opened link xid run)
+    ∙ sym (counts_as_client opened link h run live.stands).0
+
+-- if all that may be written is written, it stays so
+none_left : (xs ys zs : List ℕ) → xs ++ ys ≡ zs → xs ≡ zs → ys ≡ []
+none_left xs ys zs all same = nil_from_length ys (let sum = ap length all in let both = length-append xs ys in let one = ap length same in omega (arith, sum, both, one))
+
+keeps_written : (opened : LinkParameters) (link : ℕ) (run : List Mark) (h i : RequesterSide) (xids : List ℕ) → IsLive opened link h run → ForgetsCalls xids h i
+    → queue_of h.state ≡ [] → queue_of i.state ≡ []
+keeps_written opened link run h i [] live same none = ap (λ (x : RequesterSide). queue_of x.state) same ∙ none
+keeps_written opened link run h i (xid ∷ xids) live (j, (forgets, rest)) none =
+    let next = forgets.0 opened link run live in
+    let more = run ++ marks.Forget link xid ∷ [] in
+    keeps_written opened link more j i xids next rest
+    (none_left (bytes_sent link Initiator more) (queue_of j.state) (output_due opened link Initiator more) next.stands.keeps.kept.output
+    (written_still opened link xid run (written_now opened link run h none live)))
+
+-- so a cause stays
+record KeepsCause (h i : RequesterSide) : Type 0 where
+  ended : i.state.side.ended ≡ h.state.side.ended
+  waiting : length i.state.outstanding ≡ length h.state.outstanding
+  written : queue_of h.state ≡ [] → queue_of i.state ≡ []
+
+keeps_cause : (opened : LinkParameters) (link : ℕ) (run : List Mark) (h i : RequesterSide) (xids : List ℕ) → IsLive opened link h run → ForgetsCalls xids h i → KeepsCause h i
+keeps_cause opened link run h i xids live forgets = record {
+  ended = keeps_ended opened link run h i xids live forgets;
+  waiting = keeps_waiting opened link run h i xids live forgets;
+  written = keeps_written opened link run h i xids live forgets;
+}
+
+cause_kept : (end : CallEnd) (b : LinkBytes) (h i : RequesterSide) → KeepsCause h i → CauseAt end b h → CauseAt end b i
 cause_kept (calls.Ended end) b h i same (inl is) = inl is
-cause_kept (calls.Ended end) b h i same (inr is) = inr (same ∙ is)
-cause_kept calls.LinkRead b h i same (is, rest) = (same ∙ is, rest)
+cause_kept (calls.Ended end) b h i same (inr is) = inr (same.ended ∙ is)
+cause_kept calls.LinkRead b h i same (is, rest) = (same.ended ∙ is, rest)
 cause_kept calls.LinkWrite b h i same cause = tt
-cause_kept calls.Closed b h i same (is, rest) = (same ∙ is, rest)
+cause_kept calls.Closed b h i same (is, (at_end, (few, (some, none)))) = (same.ended ∙ is, (at_end, (few, (subst (λ (k : ℕ). 0 < k) (sym same.waiting) some, same.written none))))
 cause_kept (calls.Spent left_over need) b h i same cause = tt
 cause_kept (calls.TooLarge need room) b h i same cause = tt
-cause_kept (calls.Budget count) b h i same (is, rest) = (same ∙ is, rest)
+cause_kept (calls.Budget count) b h i same (is, rest) = (same.ended ∙ is, rest)
 cause_kept calls.Memory b h i same cause = tt
 
-ends_kept : (F : ClientEnd → Type 0) (end : ClientEnd) (b : LinkBytes) (h i : RequesterSide) → i.state.side.ended ≡ h.state.side.ended → EndsAs F end b h → EndsAs F end b i
+ends_kept : (F : ClientEnd → Type 0) (end : ClientEnd) (b : LinkBytes) (h i : RequesterSide) → KeepsCause h i → EndsAs F end b h → EndsAs F end b i
 ends_kept F client.DialFault b h i same is = is
 ends_kept F (client.Link end) b h i same is = cause_kept end b h i same is
 ends_kept F (client.Rpc kind code) b h i same is = is
@@ -215,7 +261,7 @@ ends_kept F client.OutputFault b h i same is = is
 ends_kept F (client.Budget count) b h i same is = is
 ends_kept F client.Memory b h i same is = is
 
-given_kept : (V : Unit {0} → Type 0) (F : ClientEnd → Type 0) (given : Result (Unit {0}) ClientEnd) (b : LinkBytes) (h i : RequesterSide) → i.state.side.ended ≡ h.state.side.ended → GivenIs V F given b h → GivenIs V F given b i
+given_kept : (V : Unit {0} → Type 0) (F : ClientEnd → Type 0) (given : Result (Unit {0}) ClientEnd) (b : LinkBytes) (h i : RequesterSide) → KeepsCause h i → GivenIs V F given b h → GivenIs V F given b i
 given_kept V F (Ok value) b h i same is = is
 given_kept V F (Err end) b h i same is = ends_kept F end b h i same is
 
@@ -315,7 +361,7 @@ reads_is R F uid gid file b c h i taken taken' given f before opened link run fa
     by last.ahead ((run ++ done.more) ++ last.more) last.stands end
   where
     by : (ahead : List ℕ) (all : List Mark) → StandsAt given opened link f.side ahead all → GivenIs Any F given c f.side → GivenIs Any F given c i
-    by ahead all (inl (stands, fed)) is = given_kept Any F given c f.side i (keeps_ended opened link all f.side i (xids_of f.left) stands f.forgets) is
+    by ahead all (inl (stands, fed)) is = given_kept Any F given c f.side i (keeps_cause opened link all f.side i (xids_of f.left) stands f.forgets) is
     by ahead all (inr (out, stands)) is = given_out Any F given c i out
 
 -- what each part gives, with the cause of its end

@@ -12,9 +12,12 @@ pub mod ReplyParts
 pub mod ReplyCommands
 pub mod ServedOutcomes
 pub mod OpenLinks
+pub mod ClientLaws
+pub mod ServedLaws
 pub mod Judged
 pub mod JudgedParts
 pub mod JudgedCommands
 pub mod EndCauses
+pub mod NotClosed
 pub mod ServedAnswers
 pub mod CompleteCommands

@@ -23,10 +23,10 @@ use Rattle.nr_client.specs.declared.call_end.CallEnd.{CallEnd}
 use Rattle.nr_client.specs.declared.client_end.ClientEnd.{ClientEnd}
 use Rattle.nr_client.specs.declared.client_end.ClientEnd.TheVariants as client
 use Rattle.nr_client.specs.Calls.{Answers, Completes, Forgets, ForgetsCall, ForgetsCalls, GivesUp, NoneCame, RefusesToSubmit, Submits}
-use Rattle.nr_client.specs.Steps.{HasWrittenAt, IsLeft, IsLive, WritesFirst, WrittenIfFed}
+use Rattle.nr_client.specs.Steps.{HasWrittenAt, IsLeft, IsLive, WholeIfWrote, WritesFirst, WritesInFull, WritesInFullTo, WrittenIfFed}
 use Rattle.nr_client.specs.Transfers.{IsTransfer, LinkBytes, Moves}
-use Rattle.nr_client.proofs.Turns.{first_both}
-use Rattle.nr_service_laws.specs.ClientMarks.{AreMarksOf, IsOwn, IsWrittenAt, LacksOutcome, StandsAt, moves_bytes, without_bytes}
+use Rattle.nr_client.proofs.Turns.{first_both, whole_both}
+use Rattle.nr_service_laws.specs.ClientMarks.{AreMarksOf, IsOwn, IsWholeFor, IsWrittenAt, LacksOutcome, StandsAt, moves_bytes, without_bytes}
 use Rattle.nr_service_laws.specs.Exchanges.{Exchange, Exchanges, lost_by, refused_by, given_up_exchanges, giving_up, one}
 use Rattle.nr_service_laws.specs.Exchanges.Exchange.{Answered, Forgotten, GivenUp, HandedOver, Submitted}
 use Rattle.nr_service_laws.specs.SessionMarks.{Does, Extends, HasDone}
@@ -39,18 +39,19 @@ record Still (link : ℕ) (m : Mark) : Type 0 where
   wrote : written_at link Initiator m ≡ []
   stays : moves_bytes m ≡ false
   writes : (opened : LinkParameters) (run : List Mark) → WrittenIfFed opened link run m
+  whole : (opened : LinkParameters) (run : List Mark) → WholeIfWrote opened link run m
 
 abbrev submit_mark : ℕ → Call → ℕ → Mark
 submit_mark link call xid = marks.Submit link call forms.Auto (submissions.Accepted xid)
 
 still_submit : (link : ℕ) (call : Call) (xid : ℕ) → Still link (submit_mark link call xid)
-still_submit link call xid = record { own = refl; fed = refl; wrote = refl; stays = refl; writes = λ opened run. tt }
+still_submit link call xid = record { own = refl; fed = refl; wrote = refl; stays = refl; writes = λ opened run. tt; whole = λ opened run. tt }
 
 still_done : (link xid : ℕ) (outcome : Outcome) → Still link (marks.Done link xid outcome)
-still_done link xid outcome = record { own = refl; fed = refl; wrote = refl; stays = refl; writes = λ opened run. tt }
+still_done link xid outcome = record { own = refl; fed = refl; wrote = refl; stays = refl; writes = λ opened run. tt; whole = λ opened run. tt }
 
 still_forget : (link xid : ℕ) → Still link (marks.Forget link xid)
-still_forget link xid = record { own = refl; fed = refl; wrote = refl; stays = refl; writes = λ opened run. tt }
+still_forget link xid = record { own = refl; fed = refl; wrote = refl; stays = refl; writes = λ opened run. tt; whole = λ opened run. tt }
 
 -- ---- One mark more
 
@@ -134,7 +135,30 @@ all_marks run waits moved s l =
 
 -- ---- Output that was written
 
-written_still : (opened : LinkParameters) (link xid : ℕ) (run : List Mark) → HasWritten opened link Initiator run → HasWritten opened link Initiator (run ++ marks.Forget link xid ∷ [])
+whole_still : (opened : LinkParameters) (link : ℕ) (run more : List Mark) (m : Mark) → Still link m → WritesInFull opened link run more → WritesInFull opened link run (more ++ m ∷ [])
+whole_still opened link run more m still whole = whole_both opened link run more (m ∷ []) whole (still.whole opened (run ++ more), tt)
+
+whole_around : (opened : LinkParameters) (link : ℕ) (run waits moved : List Mark) (s l : Mark) → Still link s → Still link l → WritesInFull opened link run waits
+    → WritesInFull opened link ((run ++ waits) ++ s ∷ []) moved → WritesInFull opened link run (waits ++ s ∷ (moved ++ l ∷ []))
+whole_around opened link run waits moved s l is_s is_l first second =
+    whole_both opened link run waits (s ∷ (moved ++ l ∷ [])) first (is_s.whole opened (run ++ waits), whole_still opened link ((run ++ waits) ++ s ∷ []) moved l is_l second)
+
+whole_for : {A : Type 0} (end : CallEnd) (opened : LinkParameters) (link : ℕ) (run moved more : List Mark) → (WritesInFull opened link run moved → WritesInFull opened link run more)
+    → WritesInFullTo end opened link run moved → IsWholeFor {A = A} (Err (client.Link end)) opened link run more
+whole_for end opened link run moved more goes (inl failed) = inl (ap (λ (e : CallEnd). Err (client.Link e)) failed)
+whole_for end opened link run moved more goes (inr whole) = inr (goes whole)
+
+whole_around_for : {A : Type 0} (end : CallEnd) (opened : LinkParameters) (link : ℕ) (run waits moved : List Mark) (s l : Mark) → Still link s → Still link l → WritesInFull opened link run waits
+    → WritesInFullTo end opened link ((run ++ waits) ++ s ∷ []) moved → IsWholeFor {A = A} (Err (client.Link end)) opened link run (waits ++ s ∷ (moved ++ l ∷ []))
+whole_around_for end opened link run waits moved s l is_s is_l first (inl failed) = inl (ap (λ (e : CallEnd). Err (client.Link e)) failed)
+whole_around_for end opened link run waits moved s l is_s is_l first (inr second) = inr (whole_around opened link run waits moved s l is_s is_l first second)
+
+whole_given_up : {A : Type 0} (result : Result A ClientEnd) (opened : LinkParameters) (link : ℕ) (run more : List Mark) (m : Mark) → Still link m → IsWholeFor result opened link run more
+    → IsWholeFor result opened link run (more ++ m ∷ [])
+whole_given_up result opened link run more m still (inl failed) = inl failed
+whole_given_up result opened link run more m still (inr whole) = inr (whole_still opened link run more m still whole)
+
+pub written_still : (opened : LinkParameters) (link xid : ℕ) (run : List Mark) → HasWritten opened link Initiator run → HasWritten opened link Initiator (run ++ marks.Forget link xid ∷ [])
 written_still opened link xid run written =
     sent_still link run (marks.Forget link xid) refl ∙ written
     ∙ sym (output_due_up_one opened link run (marks.Forget link xid) ∙ append-nil (output_due opened link Initiator run))
@@ -194,6 +218,7 @@ does_answers value call outcome b c h i answers opened link run fine live =
       stands = inl (subst (λ (all : List Mark). IsLive opened link i all) (all_marks run is.waits is.moved s l) is.live, refl);
       written = tt;
       lacks = tt;
+      whole = inr (whole_around opened link run is.waits is.moved s l (still_submit link call is.xid) (still_done link is.xid outcome) is.moves.whole_before is.whole);
     }
 
 -- a call that was not submitted
@@ -208,6 +233,7 @@ does_refuses {A} call end b c h i refuses opened link run fine live =
       stands = stands_left {A = A} end opened link i is.ahead (run ++ is.moved) is.left;
       written = is.all;
       lacks = tt;
+      whole = whole_for {A = A} end opened link run is.moved is.moved (λ w. w) is.whole;
     }
 
 -- a call that has no answer
@@ -229,6 +255,7 @@ does_gives_up {A} call end b c h i (inr (cause, gone)) opened link run fine live
           (written_at_forget end opened link is.xid (((run ++ is.waits) ++ s ∷ []) ++ is.moved) is.all);
       lacks = subst (λ (all : List Mark). LacksOutcome (Some end) opened link all) (all_marks run is.waits is.moved s l)
           (lacks_at end opened link is.xid (((run ++ is.waits) ++ s ∷ []) ++ is.moved) is.unanswered);
+      whole = whole_around_for {A = A} end opened link run is.waits is.moved s l (still_submit link call is.xid) (still_forget link is.xid) is.moves.whole_before is.whole;
     }
 
 -- ---- READs of a file
@@ -246,6 +273,7 @@ does_submits value call xid b c h i submits opened link run fine live =
       stands = inl (subst (λ (all : List Mark). IsLive opened link i all) (append_assoc run is.waits (s ∷ [])) is.live, refl);
       written = tt;
       lacks = tt;
+      whole = inr (whole_still opened link run is.waits s (still_submit link call xid) is.whole);
     }
 
 pub does_completes : {A : Type 0} (value : A) (xid : ℕ) (outcome : Outcome) (b c : LinkBytes) (h i : RequesterSide) → Completes xid outcome b c h i
@@ -258,9 +286,10 @@ does_completes value xid outcome b c h i completes opened link run fine live =
       ahead = [];
       extends = extends_still opened link run b c [] [] (HandedOver xid outcome ∷ []) is.0 l (extends_moved opened link run b c [] is.0 is.1.0 is.1.1.0) (still_done link xid outcome)
           (xid, [], (refl, refl));
-      stands = inl (subst (λ (all : List Mark). IsLive opened link i all) (append_assoc run is.0 (l ∷ [])) is.1.1.1, refl);
+      stands = inl (subst (λ (all : List Mark). IsLive opened link i all) (append_assoc run is.0 (l ∷ [])) is.1.1.1.1, refl);
       written = tt;
       lacks = tt;
+      whole = inr (whole_still opened link run is.0 l (still_done link xid outcome) is.1.1.1.0);
     }
 
 pub does_forgets : {A : Type 0} (xid : ℕ) (end : CallEnd) (b c : LinkBytes) (h i : RequesterSide) → Forgets xid end b c h i
@@ -274,9 +303,10 @@ does_forgets {A} xid end b c h i forgets opened link run fine live =
       extends = extends_still opened link run b c is.1 [] (GivenUp xid ∷ []) is.0 l (extends_moved opened link run b c is.1 is.0 is.2.0 is.2.1.0) (still_forget link xid)
           (xid, [], (refl, refl));
       stands = stands_left {A = A} end opened link i is.1 (run ++ (is.0 ++ l ∷ []))
-          (subst (λ (all : List Mark). IsLeft end opened link i is.1 all) (append_assoc run is.0 (l ∷ [])) is.2.1.1.1.1);
-      written = subst (λ (all : List Mark). HasWrittenAt end opened link all) (append_assoc run is.0 (l ∷ [])) (written_at_forget end opened link xid (run ++ is.0) is.2.1.1.0);
-      lacks = subst (λ (all : List Mark). LacksOutcome (Some end) opened link all) (append_assoc run is.0 (l ∷ [])) (lacks_at end opened link xid (run ++ is.0) is.2.1.1.1.0);
+          (subst (λ (all : List Mark). IsLeft end opened link i is.1 all) (append_assoc run is.0 (l ∷ [])) is.2.1.1.1.1.1);
+      written = subst (λ (all : List Mark). HasWrittenAt end opened link all) (append_assoc run is.0 (l ∷ [])) (written_at_forget end opened link xid (run ++ is.0) is.2.1.1.1.0);
+      lacks = subst (λ (all : List Mark). LacksOutcome (Some end) opened link all) (append_assoc run is.0 (l ∷ [])) (lacks_at end opened link xid (run ++ is.0) is.2.1.1.1.1.0);
+      whole = whole_for {A = A} end opened link run is.0 (is.0 ++ l ∷ []) (λ w. whole_still opened link run is.0 l (still_forget link xid) w) is.2.1.1.0;
     }
 
 -- the calls of these xids are forgotten in the end
@@ -299,6 +329,7 @@ one_more_given_up result opened link run b c h i xid made unanswered lost forget
       written = subst (λ (all : List Mark). IsWrittenAt unanswered opened link all) (append_assoc run done.more (l ∷ []))
           (is_written_still unanswered opened link xid (run ++ done.more) done.written);
       lacks = subst (λ (all : List Mark). LacksOutcome lost opened link all) (append_assoc run done.more (l ∷ [])) (lacks_still lost opened link xid (run ++ done.more) done.lacks);
+      whole = whole_given_up result opened link run done.more l (still_forget link xid) done.whole;
     }
 
 all_given_up : {A : Type 0} (result : Result A ClientEnd) (opened : LinkParameters) (link : ℕ) (run : List Mark) (b c : LinkBytes) (h i : RequesterSide) (xids : List ℕ) (made : List Exchange) (unanswered lost : Option CallEnd)

@@ -66,7 +66,7 @@ received_more link run m = one_more (fed_at link Initiator) run m
 
 -- ---- The events of a client
 
-events_kept : (link : ℕ) (before kept rest : List Mark) → bytes_received link Initiator before ≡ bytes_received link Initiator kept
+pub events_kept : (link : ℕ) (before kept rest : List Mark) → bytes_received link Initiator before ≡ bytes_received link Initiator kept
     → events_from link Initiator before rest ≡ events_from link Initiator kept (filter (is_client_mark link) rest)
 events_kept link before kept [] same = refl
 events_kept link before kept (m ∷ rest) same =
@@ -99,7 +99,7 @@ client_kept opened link both =
 
 -- ---- What each mark is, if the client's marks are those of a command
 
-own_each : (Q : List Mark → Mark → Type 0) (link : ℕ) (before rest : List Mark) → ((earlier : List Mark) (m : Mark) → (is_client_mark link m ≡ true → IsOwn link m) → Q earlier m)
+pub own_each : (Q : List Mark → Mark → Type 0) (link : ℕ) (before rest : List Mark) → ((earlier : List Mark) (m : Mark) → (is_client_mark link m ≡ true → IsOwn link m) → Q earlier m)
     → AllByRecursion (IsOwn link) (filter (is_client_mark link) rest) → AtEachMark Q before rest
 own_each Q link before [] each all = tt
 own_each Q link before (m ∷ rest) each all = by (is_client_mark link m) refl all (λ later. own_each Q link (before ++ m ∷ []) rest each later)
@@ -109,7 +109,7 @@ own_each Q link before (m ∷ rest) each all = by (is_client_mark link m) refl a
     by true is own goes = (each before m (λ same. own.0), goes own.1)
     by false is own goes = (each before m (λ same. absurd (let wrong : true ≡ false = sym same ∙ is in cc)), goes own)
 
-not_revoked : (link : ℕ) (before : List Mark) (m : Mark) → (is_client_mark link m ≡ true → IsOwn link m) → NotRevokedMark link before m
+pub not_revoked : (link : ℕ) (before : List Mark) (m : Mark) → (is_client_mark link m ≡ true → IsOwn link m) → NotRevokedMark link before m
 not_revoked link before (marks.Revoke l xid bytes) own = λ same. own (eq-eqb l link same)
 not_revoked link before (marks.Wrote l side bytes) own = tt
 not_revoked link before (marks.Fed l side bytes) own = tt
@@ -120,7 +120,7 @@ not_revoked link before (marks.Lost l xid) own = tt
 not_revoked link before (marks.Forget l xid) own = tt
 not_revoked link before (marks.Drop l) own = tt
 
-conveyed : (opened : LinkParameters) (link : ℕ) (before : List Mark) (m : Mark) → (is_client_mark link m ≡ true → IsOwn link m) → ConveyedMark opened link before m
+pub conveyed : (opened : LinkParameters) (link : ℕ) (before : List Mark) (m : Mark) → (is_client_mark link m ≡ true → IsOwn link m) → ConveyedMark opened link before m
 conveyed opened link before (marks.Submit l call forms.Auto (submissions.Accepted xid)) own = λ same plan is. tt
 conveyed opened link before (marks.Submit l call forms.Inline (submissions.Accepted xid)) own = λ same plan is. tt
 conveyed opened link before (marks.Submit l call forms.Chunk (submissions.Accepted xid)) own = λ same plan is. tt
@@ -146,7 +146,7 @@ served_clients_stay_lem reply_to adds opened link run both is_opened own served 
     (own_each (ConveyedMark opened link) link [] both (conveyed opened link) owns) served.limits served.plain in
     ap (λ (r : List Mark). end_of_side opened link Initiator r) (sym served.client_side) ∙ sym (client_kept opened link both) ∙ stays.0
 
-requester_open : {A : Type 0} (result : Result A ClientEnd) (opened : LinkParameters) (link : ℕ) (h : RequesterSide) (ahead : List ℕ) (run : List Mark) → StandsAt result opened link h ahead run
+pub requester_open : {A : Type 0} (result : Result A ClientEnd) (opened : LinkParameters) (link : ℕ) (h : RequesterSide) (ahead : List ℕ) (run : List Mark) → StandsAt result opened link h ahead run
     → end_of_side opened link Initiator run ≡ None
     → (h.state.side.ended ≡ None) ⊎ (result ≡ Err (client.Link (calls.Ended ends.Memory)))
 unfolding end_of_side

@@ -17,8 +17,9 @@ use Rattle.nr_reduce.specs.ClientState.{call_payload}
 use Rattle.nr_reduce.specs.Matched.{IsPrefixOf}
 use Rattle.nr_laws.specs.MarkAt.{MarkAt}
 use Rattle.nr_laws.specs.Payloads.{HasPlan}
-use Rattle.nr_laws.specs.PlainLinks.{PlainReplyMark}
-use Rattle.nr_laws.specs.Typed.{TypedMark}
+use Rattle.nr_laws.specs.MatchedSoFar.{MatchedSoFar}
+use Rattle.nr_laws.specs.PlainLinks.{HasPlainReplies, PlainReplyMark}
+use Rattle.nr_laws.specs.Typed.{IsTyped, TypedMark}
 use Rattle.nr_laws.proofs.AutoReplies.{auto_has_replies}
 use Rattle.nr_laws.proofs.Basics.{some_is_lem}
 use Rattle.nr_laws.proofs.LaterMarks.{mark_later}
@@ -33,10 +34,9 @@ use Rattle.nr_plain.proofs.PlainServers.{server_is_plain}
 use Rattle.nr_client.specs.Reading.{OpenRead}
 use Rattle.nr_reply_laws.specs.Replies.{IsPlainReplyTo}
 use Rattle.nr_service_laws.specs.ClientMarks.{AreMarksOf, moves_bytes, without_bytes}
-use Rattle.nr_service_laws.specs.CompleteCommands.{IsServedPlainly}
 use Rattle.nr_service_laws.specs.Exchanges.{Exchange}
 use Rattle.nr_service_laws.specs.Exchanges.Exchange.{Answered, Forgotten, GivenUp, HandedOver, Submitted}
-use Rattle.nr_service_laws.specs.ServedCommands.{is_client_mark}
+use Rattle.nr_service_laws.specs.ServedCommands.{client_marks, is_client_mark}
 use Rattle.nr_service_laws.proofs.JudgedParts.{AreJudged, IsOf}
 
 -- ---- One mark before another
@@ -96,7 +96,14 @@ pub record IsServedReply (setup : Setup) (call : Call) (o : Outcome) : Type 0 wh
   pub replied : IsPlainReplyTo setup call o
   pub cred : CredFits call.cred
 
-module _ (setup : Setup) (sane : IsSane setup.tree) (opened : LinkParameters) (link : ℕ) (run both : List Mark) (served : IsServedPlainly setup opened link run both) where
+-- the client's side of a link that is matched so far, whose calls this plain server answers
+pub record IsPlainSide (setup : Setup) (opened : LinkParameters) (link : ℕ) (run both : List Mark) : Type 0 where
+  pub client_side : client_marks link both ≡ run
+  pub typed : IsTyped both
+  pub matched : MatchedSoFar opened link both
+  pub plain : HasPlainReplies (plain_server setup) link both
+
+module _ (setup : Setup) (sane : IsSane setup.tree) (opened : LinkParameters) (link : ℕ) (run both : List Mark) (served : IsPlainSide setup opened link run both) where
   replies_to : List Entry → Moment → List ℕ → Option (List ℕ)
   replies_to entries moment payload = plain_reply setup entries (length entries) moment payload
 
@@ -203,7 +210,7 @@ judged_from R link all judge (GivenUp number ∷ made) reads before later is the
     let one = marks.Forget link number ∷ [] in
     judged_from R link all judge made reads (before ++ one) rest (is ∙ ap (λ (l : List Mark). before ++ l) same ∙ sym (append_assoc before one rest)) (λ x c of. has_more before one (submit_of link c x) (there x c of)) more
 
-pub exchanges_judged : (setup : Setup) (opened : LinkParameters) (link : ℕ) (run both : List Mark) (made : List Exchange) → IsSane setup.tree → IsServedPlainly setup opened link run both → AreMarksOf link made (without_bytes run)
+pub exchanges_judged : (setup : Setup) (opened : LinkParameters) (link : ℕ) (run both : List Mark) (made : List Exchange) → IsSane setup.tree → IsPlainSide setup opened link run both → AreMarksOf link made (without_bytes run)
     → AreJudged (IsServedReply setup) [] made
 unfolding AllSubmitted
 exchanges_judged setup opened link run both made sane served are =

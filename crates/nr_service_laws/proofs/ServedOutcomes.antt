@@ -48,7 +48,7 @@ own_auto link l call forms.Long xid own = absurd own
 own_auto link l call (forms.Given offer) xid own = absurd own
 
 -- marks that are no client's are no outcomes
-others_none : (link : ℕ) (m : Mark) → is_client_mark link m ≡ false → completed_at link m ≡ []
+pub others_none : (link : ℕ) (m : Mark) → is_client_mark link m ≡ false → completed_at link m ≡ []
 others_none link (marks.Wrote l side bytes) is = refl
 others_none link (marks.Fed l side bytes) is = refl
 others_none link (marks.Submit l call form answer) is = refl
@@ -59,7 +59,7 @@ others_none link (marks.Forget l xid) is = refl
 others_none link (marks.Revoke l xid bytes) is = refl
 others_none link (marks.Drop l) is = refl
 
-kept_all : {A : Type 0} (f : Mark → List A) (p : Mark → Bool) (run : List Mark) → ((m : Mark) → p m ≡ false → f m ≡ []) → flat_map f run ≡ flat_map f (filter p run)
+pub kept_all : {A : Type 0} (f : Mark → List A) (p : Mark → Bool) (run : List Mark) → ((m : Mark) → p m ≡ false → f m ≡ []) → flat_map f run ≡ flat_map f (filter p run)
 kept_all f p [] none = refl
 kept_all {A} f p (m ∷ run) none = by (kept_all f p run none) (p m) refl
   where

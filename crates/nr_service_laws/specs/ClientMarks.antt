@@ -14,7 +14,7 @@ use Rattle.nr_client.specs.declared.client_end.ClientEnd.TheVariants as client
 use Rattle.nr_client.specs.declared.call_end.CallEnd.{CallEnd}
 use Rattle.nr_client.specs.declared.call_end.CallEnd.TheVariants as calls
 use Rattle.nr_client.specs.Calls.{NoneCame}
-use Rattle.nr_client.specs.Steps.{HasWrittenAt, IsLive, IsOut}
+use Rattle.nr_client.specs.Steps.{HasWrittenAt, IsLive, IsOut, WritesInFull}
 use Rattle.nr_service_laws.specs.Exchanges.{Exchange}
 use Rattle.nr_service_laws.specs.Exchanges.Exchange.{Answered, Forgotten, GivenUp, HandedOver, Submitted}
 
@@ -55,6 +55,10 @@ without_bytes run = filter (λ mark. not (moves_bytes mark)) run
 abbrev pub StandsAt : {A : Type 0} → Result A ClientEnd → LinkParameters → ℕ → RequesterSide → (ahead : List ℕ) → List Mark → Type 0
 StandsAt result opened link h ahead run =
     (IsLive opened link h run × (ahead ≡ [])) ⊎ ((result ≡ Err (client.Link (calls.Ended ends.Memory))) × IsOut opened link h run)
+
+-- Each time that these marks, which follow a run, write bytes, they write all output that is due, unless a write failed.
+abbrev pub IsWholeFor : {A : Type 0} → Result A ClientEnd → LinkParameters → ℕ → (run more : List Mark) → Type 0
+IsWholeFor result opened link run more = (result ≡ Err (client.Link calls.LinkWrite)) ⊎ WritesInFull opened link run more
 
 -- all output is written if a call has no answer, unless a write failed or memory ran out for a frame
 abbrev pub IsWrittenAt : Option CallEnd → LinkParameters → ℕ → List Mark → Type 0

@@ -22,7 +22,7 @@ use Rattle.nr_commands.specs.Running.{Runs}
 use Rattle.nr_commands.specs.Running.Runs.{NotOpened, Opened}
 use Rattle.nr_commands.specs.Sessions.{SessionAt}
 use Rattle.nr_service_laws.specs.Exchanges.{Exchanges, calls_in, outcomes_in, tells_text}
-use Rattle.nr_service_laws.specs.ClientMarks.{AreMarksOf, IsOwn, IsWrittenAt, LacksOutcome, StandsAt, without_bytes}
+use Rattle.nr_service_laws.specs.ClientMarks.{AreMarksOf, IsOwn, IsWholeFor, IsWrittenAt, LacksOutcome, StandsAt, without_bytes}
 
 -- known bytes of a new link are these later
 abbrev pub AreThen : (known known' : Option (List ℕ)) → List ℕ → Type 0
@@ -45,6 +45,8 @@ pub record IsCommandRun (opened : LinkParameters) (link : ℕ) (s s' : SessionAt
   -- each time that bytes are fed, all output was written before
   pub first : WritesFirst opened link [] run
   pub written : IsWrittenAt exchanges.unanswered opened link run
+  -- each Wrote writes all output that is due, unless a write failed
+  pub whole : IsWholeFor result opened link [] run
   -- no message had brought an outcome of a call that was forgotten as one without an answer
   pub lacks : LacksOutcome exchanges.lost opened link run
   -- its calls are submitted, handed over and forgotten as the requests say, in their order

@@ -1,14 +1,16 @@
 -- A command over a plain server that keeps its law is done, or ends for a cause that it has.
-use Rattle.std.specs.Prelude.{◌≡◌, ⊤, ℕ, List, Option, Result, Ok, Err}
+use Rattle.std.specs.Prelude.{◌≡◌, ⊤, ℕ, List, [], Option, Result, Ok, Err}
 use Rattle.std.specs.Io.KnownBytes.{IsAtEnd}
 use Rattle.nr_outside.specs.Faults.{Rises}
 use Rattle.nr_outside.specs.Streams.{SinkAt, SourceAt}
 use Rattle.nr_link.specs.declared.end.End.TheVariants as ends
 use Rattle.nr_reduce.specs.declared.mark.LinkParameters.{LinkParameters}
 use Rattle.nr_reduce.specs.declared.mark.Mark.{Mark}
+use Rattle.nr_reduce.specs.Asked.{IsAll}
+use Rattle.nr_reduce.specs.AtEachMark.{AtEachMark}
+use Rattle.nr_reduce.specs.Matched.{Matched}
 use Rattle.nr_reduce.specs.Opening.{IsOpened}
-use Rattle.nr_laws.specs.EndCauses.{KeepLaws}
-use Rattle.nr_laws.specs.MatchedSoFar.{MatchedSoFar}
+use Rattle.nr_reduce.specs.Served.{ServedMark}
 use Rattle.nr_laws.specs.PlainLinks.{HasPlainReplies}
 use Rattle.nr_laws.specs.Typed.{IsTyped}
 use Rattle.nr_tree.specs.Sane.{IsSane}
@@ -26,14 +28,15 @@ use Rattle.nr_commands.specs.Sessions.{SessionAt}
 use Rattle.nr_service_laws.specs.CommandRuns.{IsCommandRun}
 use Rattle.nr_service_laws.specs.Exchanges.{tells_text}
 use Rattle.nr_service_laws.specs.ServedCommands.{client_marks}
+use Rattle.nr_service_laws.specs.ServedLinks.{OwesNothing}
 
--- A run has both sides of a link, whose client has made these marks. Both keep their laws, the link is matched, and the plain server that was opened
--- with this setup answers its calls.
+-- A run has both sides of a link, whose client has made these marks. The server keeps its law with each Wrote in full, the link is matched, and the
+-- plain server that was opened with this setup answers its calls. Nothing is asked of what the client does.
 pub record IsServedPlainly (setup : Setup) (opened : LinkParameters) (link : ℕ) (run both : List Mark) : Type 0 where
   pub client_side : client_marks link both ≡ run
   pub typed : IsTyped both
-  pub matched : MatchedSoFar opened link both
-  pub laws : KeepLaws opened link both
+  pub served : AtEachMark (ServedMark IsAll opened link) [] both
+  pub matched : Matched link both
   pub plain : HasPlainReplies (plain_server setup) link both
 
 -- the client's side of the link is opened as a session opens it
@@ -121,7 +124,8 @@ abbrev pub CommandIsComplete : (setup : Setup) (opened : LinkParameters) (link :
 CommandIsComplete setup opened link c before after input input' out out' result (NotOpened end is fails same_input same_out) = (Rises before.faults after.faults → ⊥) → result ≡ Err client.Memory
 CommandIsComplete setup opened link c before after input input' out out' result (Opened dialed s s' opens prints closes) =
     (ran : IsCommandRun opened link s s' dialed.ended after.ended result (tells_text c.uid c.gid c.export c.action input input' out prints.written s s' prints.text prints.made)) →
-    (both : List Mark) → IsServedPlainly setup opened link ran.run both → IsUndisturbed s s' input input' out out' → IsComplete result s'.bytes.left
+    (both : List Mark) → IsServedPlainly setup opened link ran.run both → IsUndisturbed s s' input input' out out' →
+    IsComplete result s'.bytes.left × (OwesNothing opened link both → result ≡ Err (client.Link calls.Closed) → ⊥)
 
 abbrev pub ServedCommandsComplete : Type 0
 ServedCommandsComplete =

@@ -1,5 +1,5 @@
 -- Why a command has no answer to a call, by its session when its link is hung up.
-use Rattle.std.specs.Prelude.{◌≡◌, ⊤, ℕ, ◌<◌, ◌⊎◌, List, Option, None, Some, Result, Err}
+use Rattle.std.specs.Prelude.{◌≡◌, ⊤, ℕ, ◌<◌, ◌⊎◌, List, [], length, Option, None, Some, Result, Err}
 use Rattle.std.specs.Io.KnownBytes.{IsAtEnd}
 use Rattle.nr_outside.specs.Streams.{SinkAt, SourceAt}
 use Rattle.nr_outside.specs.declared.moment.Moment.{Moment}
@@ -10,8 +10,7 @@ use Rattle.nr_reduce.specs.declared.mark.Entry.{Entry}
 use Rattle.nr_reduce.specs.declared.mark.LinkParameters.{LinkParameters}
 use Rattle.nr_reduce.specs.declared.mark.Mark.{Mark}
 use Rattle.nr_reduce.specs.Opening.{IsOpened}
-use Rattle.nr_requester.specs.RequesterState.{RequesterSide}
-use Rattle.nr_laws.specs.EndCauses.{KeepLaws}
+use Rattle.nr_requester.specs.RequesterState.{RequesterSide, queue_of}
 use Rattle.nr_words.specs.Lines.{Text}
 use Rattle.nr_words.specs.declared.commands.Client.{Client}
 use Rattle.nr_client.specs.declared.call_end.CallEnd.{CallEnd}
@@ -24,14 +23,14 @@ use Rattle.nr_commands.specs.Running.{Runs}
 use Rattle.nr_commands.specs.Running.Runs.{NotOpened, Opened}
 use Rattle.nr_service_laws.specs.CommandRuns.{IsCommandRun}
 use Rattle.nr_service_laws.specs.Exchanges.{tells_text}
-use Rattle.nr_service_laws.specs.ServedCommands.{IsClientSideOf}
+use Rattle.nr_service_laws.specs.ServedLinks.{IsServedBy}
 
 -- The cause of an end, by what is known of the link's bytes and by its requester. A requester of which memory ran out may be in any state.
 abbrev pub CauseAt : CallEnd → LinkBytes → RequesterSide → Type 0
 CauseAt (calls.Ended end) b h = (end ≡ ends.Memory) ⊎ (h.state.side.ended ≡ Some end)
 CauseAt calls.LinkRead b h = (h.state.side.ended ≡ None) × (b.read < read_max)
 CauseAt calls.LinkWrite b h = ⊤
-CauseAt calls.Closed b h = (h.state.side.ended ≡ None) × (IsAtEnd b.left × (b.read < read_max))
+CauseAt calls.Closed b h = (h.state.side.ended ≡ None) × (IsAtEnd b.left × ((b.read < read_max) × ((0 < length h.state.outstanding) × (queue_of h.state ≡ []))))
 CauseAt (calls.Spent left_over need) b h = ⊤
 CauseAt (calls.TooLarge need room) b h = ⊤
 CauseAt (calls.Budget count) b h = (h.state.side.ended ≡ None) × ((count ≡ read_max) × (b.read ≡ read_max))
@@ -49,14 +48,14 @@ EndsHaveCauses =
     (c : Client Text) (before after : DialerAt) (input input' : SourceAt) (out out' : SinkAt) (result : Result (Unit {0}) ClientEnd)
     (runs : Runs c before after input input' out out' result) → HasCause c before after input input' out out' result runs
 
--- So a command over a link whose server keeps its law, and which is matched so far, ends with `Ended` only if memory ran out.
+-- So a command over a matched link whose server keeps its law with each Wrote in full ends with `Ended` only if memory ran out.
 abbrev pub EndsForMemory : (opened : LinkParameters) (link : ℕ) (c : Client Text) (before after : DialerAt) (input input' : SourceAt) (out out' : SinkAt) (result : Result (Unit {0}) ClientEnd)
     → (runs : Runs c before after input input' out out' result) → Type 0
 EndsForMemory opened link c before after input input' out out' result (NotOpened end is fails same_input same_out) = ⊤
 EndsForMemory opened link c before after input input' out out' result (Opened dialed s s' opens prints closes) =
     (ran : IsCommandRun opened link s s' dialed.ended after.ended result (tells_text c.uid c.gid c.export c.action input input' out prints.written s s' prints.text prints.made)) →
     (reply_to : List Entry → Moment → List ℕ → Option (List ℕ)) (adds : Moment → List ℕ → List ℕ → List Entry) (both : List Mark) →
-    IsOpened opened → IsClientSideOf reply_to adds opened link ran.run both → KeepLaws opened link both →
+    IsOpened opened → IsServedBy reply_to adds opened link ran.run both →
     (end : End) → result ≡ Err (client.Link (calls.Ended end)) → end ≡ ends.Memory
 
 abbrev pub ServedCommandsEndForMemory : Type 0

@@ -21,7 +21,7 @@ use Rattle.nr_client.specs.Writing.{WritesFile}
 use Rattle.nr_client.specs.Dialing.{DialerAt, session_credits}
 use Rattle.nr_commands.specs.Running.{Opens}
 use Rattle.nr_commands.specs.Sessions.{SessionAt}
-use Rattle.nr_service_laws.specs.ClientMarks.{AreMarksOf, IsOwn, IsWrittenAt, LacksOutcome, StandsAt, without_bytes}
+use Rattle.nr_service_laws.specs.ClientMarks.{AreMarksOf, IsOwn, IsWholeFor, IsWrittenAt, LacksOutcome, StandsAt, without_bytes}
 use Rattle.nr_service_laws.specs.Exchanges.{Exchange, Exchanges, and_then, asked_exchanges, followed_exchanges, outcomes_in, read_exchanges, write_exchanges}
 
 -- These marks follow a run. They are marks of the client of the link, have these exchanges, and bring its bytes from one moment to another.
@@ -39,6 +39,7 @@ pub record Does {A : Type 0} (result : Result A ClientEnd) (opened : LinkParamet
   pub ahead : List ℕ
   pub extends : Extends opened link run b b' ahead exchanges.made more
   pub stands : StandsAt result opened link h' ahead (run ++ more)
+  pub whole : IsWholeFor result opened link run more
   pub written : IsWrittenAt exchanges.unanswered opened link (run ++ more)
   pub lacks : LacksOutcome exchanges.lost opened link (run ++ more)
 

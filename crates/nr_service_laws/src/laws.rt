@@ -5,7 +5,7 @@ ghost use Rattle.nr_service_laws.specs.CommandRuns.{CommandsHaveARun};
 ghost use Rattle.nr_service_laws.specs.CompleteCommands.{ServedCommandsComplete, ServedCommandsHaveCauses};
 ghost use Rattle.nr_service_laws.specs.EndCauses.{EndsHaveCauses, ServedCommandsEndForMemory};
 ghost use Rattle.nr_service_laws.specs.ServedCommands.{ServedClientsHaveReplies, ServedCommandsExcludeEnds};
-ghost use Rattle.nr_service_laws.specs.ServedLinks.{ServedClientsStayOpen, ServedCommandsStayOpen};
+ghost use Rattle.nr_service_laws.specs.ServedLinks.{ServedClientsStayOpen, ServedCommandsAreNotClosed, ServedCommandsHaveNotEnded, ServedCommandsKeepLaws, ServedCommandsStayOpen};
 ghost use Rattle.nr_service_laws.specs.SessionMarks.{AsksHaveMarks, FollowsHaveMarks, FollowsOutcomes, MarksGoOn, ReadsHaveMarks, ReadsInOrder, SessionsBegin, WritesHaveMarks};
 
 /// A session that was opened stands for the empty list of marks, whatever its server is opened with.
@@ -56,20 +56,31 @@ pub fn served_commands_stay_open()
     ensures requesters { ServedCommandsStayOpen }
 {}
 
+/// A command over a matched link whose plain server keeps its law with each Wrote in full: `laws` gives that the client keeps its own so far, and with
+/// each Wrote in full unless a write failed. So its requester has not ended when the link is hung up, unless memory ran out for a frame or a write failed
+/// (`open`). If the server wrote all that it owes, and all that was written arrived, the command doesn't end with `Closed` (`not_closed`).
+pub fn commands_keep_the_law()
+    ensures laws { ServedCommandsKeepLaws }
+    ensures open { ServedCommandsHaveNotEnded }
+    ensures not_closed { ServedCommandsAreNotClosed }
+{}
+
 /// A command that opened a session, and ends since a call has no answer, has the cause of that end when its link is hung up, whatever its server
-/// replies: at `Closed` no known byte of the source is left, and the requester hasn't ended; at `Ended` it has ended for this reason, or memory ran out.
+/// replies: at `Closed` no known byte of the source is left, a call is outstanding, all output is written, and the requester hasn't ended; at `Ended` it
+/// has ended for this reason, or memory ran out.
 pub fn ends_have_causes()
     ensures { EndsHaveCauses }
 {}
 
-/// So a command over a link that is matched so far, both sides of which keep their laws with each Wrote in full, ends with `Ended` only if memory ran out.
+/// So a command over a matched link whose plain server keeps its law with each Wrote in full ends with `Ended` only if memory ran out.
 pub fn served_commands_end_for_memory()
     ensures { ServedCommandsEndForMemory }
 {}
 
 /// A command over a link of which `served_commands_end_for_memory` speaks, whose calls a plain server answers that was opened with a sane tree, is
 /// done or ends for a cause: `causes` gives that of each end. So if no fault count rises, it is done, or ends for a refusal of the server, a bad path, a
-/// limit or out of memory, unless the server ends its stream (`complete`).
+/// limit or out of memory, or its server ended its stream; and not for the last if the server wrote all that it owes, and all that was written arrived
+/// (`complete`).
 pub fn served_commands_complete()
     ensures causes { ServedCommandsHaveCauses }
     ensures complete { ServedCommandsComplete }

@@ -1,6 +1,7 @@
 -- The status of a command of a client whose server is a plain one that keeps its law.
 use Rattle.std.proofs.Common.{◌≡◌, ℕ, ltb, Bool, true, false, ◌||◌, List, Option, Result, Ok, Err, inl, inr, refl, sym, ap, subst, ◌∙◌, arith, ltb-false}
 use Rattle.std.specs.Prelude.{◌⊎◌, MatchBool}
+use Rattle.std.specs.Io.KnownBytes.{IsAtEnd}
 use Rattle.nr_outside.specs.Faults.{Rises}
 use Rattle.nr_outside.specs.Streams.{SinkAt}
 use Rattle.nr_client.specs.declared.call_end.CallEnd.TheVariants as calls
@@ -13,34 +14,48 @@ use Rattle.nr_top.specs.Clients.{ReportsEnd, link_status, status_of}
 use Rattle.nr_top.specs.Clients.ClientEnds.{Done, NotDone}
 use Rattle.nr_top.specs.Ends.{Reported}
 use Rattle.nr_top.specs.Statuses as statuses
-use Rattle.nr_top_laws.specs.CommandStatuses.{IsCompleteStatus, ServedCommandsHaveStatuses}
+use Rattle.nr_top_laws.specs.CommandStatuses.{IsAnsweredStatus, IsCompleteStatus, ServedCommandsHaveStatuses}
 
 -- ---- The status of an end
 
+status_by : (end : ClientEnd) (left : Option (List ℕ)) → IsComplete (Err end) left → IsAnsweredStatus (status_of end) ⊎ ((end ≡ client.Link calls.Closed) × IsAtEnd left)
+status_by client.DialFault left is = absurd is
+status_by (client.Link (calls.Ended end)) left is = inl (inr (inl (ap link_status is)))
+status_by (client.Link calls.LinkRead) left is = absurd is
+status_by (client.Link calls.LinkWrite) left is = absurd is
+status_by (client.Link calls.Closed) left is = inr (refl, is)
+status_by (client.Link (calls.Spent left_over need)) left is = inl (inr (inr (inr (inr (inr refl)))))
+status_by (client.Link (calls.TooLarge need room)) left is = inl (inr (inr (inr (inr (inr refl)))))
+status_by (client.Link (calls.Budget count)) left is = inl (inr (inr (inr (inr (inr refl)))))
+status_by (client.Link calls.Memory) left is = inl (inr (inl refl))
+status_by (client.Rpc kind code) left is = inl (inr (inr (inl refl)))
+status_by (client.Mount status) left is = inl (inr (inr (inl refl)))
+status_by (client.Nfs status) left is = inl (inr (inr (inr (inl refl))))
+status_by client.Chunk left is = absurd is
+status_by (client.Version low high) left is = absurd is
+status_by (client.BadReply at reason) left is = absurd is
+status_by (client.BadPath at) left is = inl (inr (inr (inr (inr (inl refl)))))
+status_by client.InputFault left is = absurd is
+status_by client.OutputFault left is = absurd is
+status_by (client.Budget count) left is = inl (inr (inr (inr (inr (inr refl)))))
+status_by client.Memory left is = inl (inr (inl refl))
+
 status_complete : (end : ClientEnd) (left : Option (List ℕ)) → IsComplete (Err end) left → IsCompleteStatus (status_of end) left
-status_complete client.DialFault left is = absurd is
-status_complete (client.Link (calls.Ended end)) left is = inr (inl (ap link_status is))
-status_complete (client.Link calls.LinkRead) left is = absurd is
-status_complete (client.Link calls.LinkWrite) left is = absurd is
-status_complete (client.Link calls.Closed) left is = inr (inr (inr (inr (inr (inr (refl, is))))))
-status_complete (client.Link (calls.Spent left_over need)) left is = inr (inr (inr (inr (inr (inl refl)))))
-status_complete (client.Link (calls.TooLarge need room)) left is = inr (inr (inr (inr (inr (inl refl)))))
-status_complete (client.Link (calls.Budget count)) left is = inr (inr (inr (inr (inr (inl refl)))))
-status_complete (client.Link calls.Memory) left is = inr (inl refl)
-status_complete (client.Rpc kind code) left is = inr (inr (inl refl))
-status_complete (client.Mount status) left is = inr (inr (inl refl))
-status_complete (client.Nfs status) left is = inr (inr (inr (inl refl)))
-status_complete client.Chunk left is = absurd is
-status_complete (client.Version low high) left is = absurd is
-status_complete (client.BadReply at reason) left is = absurd is
-status_complete (client.BadPath at) left is = inr (inr (inr (inr (inl refl))))
-status_complete client.InputFault left is = absurd is
-status_complete client.OutputFault left is = absurd is
-status_complete (client.Budget count) left is = inr (inr (inr (inr (inr (inl refl)))))
-status_complete client.Memory left is = inr (inl refl)
+status_complete end left is = by (status_by end left is)
+  where
+    by : IsAnsweredStatus (status_of end) ⊎ ((end ≡ client.Link calls.Closed) × IsAtEnd left) → IsCompleteStatus (status_of end) left
+    by (inl answered) = inl answered
+    by (inr (closed, at_end)) = inr (ap status_of closed, at_end)
+
+status_answered : (end : ClientEnd) (left : Option (List ℕ)) → IsComplete (Err end) left → (◌≡◌ {A = Result (Unit {0}) ClientEnd} (Err end) (Err (client.Link calls.Closed)) → ⊥) → IsAnsweredStatus (status_of end)
+status_answered end left is apart = by (status_by end left is)
+  where
+    by : IsAnsweredStatus (status_of end) ⊎ ((end ≡ client.Link calls.Closed) × IsAtEnd left) → IsAnsweredStatus (status_of end)
+    by (inl answered) = answered
+    by (inr (closed, at_end)) = absurd (apart (ap (λ (e : ClientEnd). Err e) closed))
 
 -- what was reported, if what reports has no fault
-reported_is : (due status : ℕ) (text : List ℕ) (err err' : SinkAt) → (Rises err.faults err'.faults → ⊥) → Reported due text status err err' → status ≡ due
+pub reported_is : (due status : ℕ) (text : List ℕ) (err err' : SinkAt) → (Rises err.faults err'.faults → ⊥) → Reported due text status err err' → status ≡ due
 reported_is due status text err err' calm (inl (is, writes)) = is
 reported_is due status text err err' calm (inr (is, cut)) = absurd (calm cut.rose)
 
@@ -82,9 +97,15 @@ served_commands_have_statuses_lem setup opened link c status dialer dialer' inpu
       input_reads = calm.input_reads;
       output_writes = calm.output_writes;
     } in
-    by (s'.bytes.left) (status_is end status err err' calm.error_writes reports)
-    (served_commands_complete_lem setup opened link c dialer dialer' input input' out out' (Err end) (Opened dialed s s' opens prints closes) sane session ran both served undisturbed)
+    let reported = status_is end status err err' calm.error_writes reports in
+    let complete = served_commands_complete_lem setup opened link c dialer dialer' input input' out out' (Err end) (Opened dialed s s' opens prints closes) sane session ran both served undisturbed in
+    (by s'.bytes.left reported complete.0, λ owes. answered s'.bytes.left reported complete.0 (complete.1 owes))
   where
     by : (left : Option (List ℕ)) → (status ≡ status_of end) ⊎ (status ≡ statuses.no_memory) → IsComplete (Err end) left → IsCompleteStatus status left
     by left (inl same) complete = subst (λ (n : ℕ). IsCompleteStatus n left) (sym same) (status_complete end left complete)
-    by left (inr same) complete = inr (inl same)
+    by left (inr same) complete = inl (inr (inl same))
+
+    answered : (left : Option (List ℕ)) → (status ≡ status_of end) ⊎ (status ≡ statuses.no_memory) → IsComplete (Err end) left
+        → (◌≡◌ {A = Result (Unit {0}) ClientEnd} (Err end) (Err (client.Link calls.Closed)) → ⊥) → IsAnsweredStatus status
+    answered left (inl same) complete apart = subst IsAnsweredStatus (sym same) (status_answered end left complete apart)
+    answered left (inr same) complete apart = inr (inl same)

@@ -1,1 +1,2 @@
 pub mod CommandStatuses
+pub mod ServerStatuses

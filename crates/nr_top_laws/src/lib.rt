@@ -1,8 +1,8 @@
-//! What holds of the statuses of the program, proved from the definitions of its runs and the laws of commands.
+//! What holds of the statuses of the program, proved from the definitions of its runs and the laws of commands and of servers.
 //!
-//! Nothing of it runs: its public function has the law as its contract.
+//! Nothing of it runs: each public function has a law as its contract.
 #![tactic(auto)]
 
 mod laws;
 
-pub use laws::served_commands_have_statuses;
+pub use laws::{served_commands_have_statuses, servers_have_statuses};

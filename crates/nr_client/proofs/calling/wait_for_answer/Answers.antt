@@ -1,6 +1,6 @@
-use Rattle.std.proofs.Common.{◌≡◌, false, is_some, arith, refl, ◌∙◌}
+use Rattle.std.proofs.Common.{◌≡◌, false, is_some, arith, refl, ap, ◌∙◌}
 use Rattle.nr_requester.specs.OpenCalls.{found_answer}
-use Rattle.nr_client.proofs.Unanswered.{lacks_after}
+use Rattle.nr_client.proofs.Unanswered.{lacks_after, still_waits}
 use Rattle.nr_client.specs.Transfers.{link_bytes}
 use Rattle.nr_client.proofs.Turns.{turns_compose, no_turn, turn_to, same_source, same_sink}
 use Rattle.nr_client.proofs.calling.wait_for_answer.Goals as goal
@@ -56,3 +56,9 @@ pub returns-in-Err-clause-unanswered : goal.returns-in-Err-clause-unanswered
 returns-in-Err-clause-unanswered g c =
     let none : is_some (found_answer c.args.ticket.now c.loop-requester.requester.state) ≡ false = grind (arith, c.has_outcome.ensures, c.loop-requester-test.true) in
     lacks_after c.in-Err.end c.args.ticket.now c.loop-requester.requester c.transfer.new.requester none c.in-Err.ensures.answers
+
+pub transfer-requires-clause-waits : goal.transfer-requires-clause-waits
+transfer-requires-clause-waits g c =
+    let (fits, tickets, sources, sinks, goes) = c.loop-requester.invariant in
+    let none : is_some (found_answer c.args.ticket.now c.loop-requester.requester.state) ≡ false = grind (arith, c.has_outcome.ensures, c.loop-requester-test.true) in
+    still_waits c.args.ticket.now c.loop-requester.requester (ap is_some (tickets c.args.ticket.now) ∙ c.requires.open) none

@@ -1,6 +1,6 @@
-use Rattle.std.proofs.Common.{◌≤◌, length, arith, refl, inl, inr, ◌∙◌}
+use Rattle.std.proofs.Common.{◌≤◌, length, arith, refl, inr, inl, ◌∙◌}
 use Rattle.nr_client.specs.Transfers.{link_bytes}
-use Rattle.nr_client.proofs.Turns.{ends_there, never_waits, no_turn, same_sink, same_source, started_with, turn_to, turns_compose}
+use Rattle.nr_client.proofs.Turns.{never_waits, no_turn, same_sink, same_source, started_with, turn_to, turns_compose}
 use Rattle.nr_client.proofs.calling.wait_for_credit.Goals as goal
 
 pub returns-in-Err-clause-err : goal.returns-in-Err-clause-err
@@ -14,7 +14,7 @@ returns-in-Err-clause-err g c =
 pub returns-in-Err-clause-at_once : goal.returns-in-Err-clause-at_once
 returns-in-Err-clause-at_once g c credit =
     let (fits, tickets, sources, sinks, at_once, started, goes) = c.loop-requester.invariant in
-    let none : c.loop-requester.requester.state.grant ≤ length c.loop-requester.requester.state.outstanding = grind (arith, c.outstanding.ensures, c.grant.ensures, c.loop-requester-test.true) in
+    let none : c.loop-requester.requester.state.grant ≤ length c.loop-requester.requester.state.outstanding = c.lacks_credit.ensures.lacks c.loop-requester-test.true in
     absurd (never_waits c.args.requester.now c.loop-requester.requester (at_once credit).0 credit none)
 
 pub returns-in-Err-clause-source_count : goal.returns-in-Err-clause-source_count
@@ -37,7 +37,7 @@ loop-requester-smaller g c =
 pub loop-requester-preserved : goal.loop-requester-preserved
 loop-requester-preserved g c =
     let (fits, tickets, sources, sinks, at_once, started, goes) = c.loop-requester.invariant in
-    let none : c.loop-requester.requester.state.grant ≤ length c.loop-requester.requester.state.outstanding = grind (arith, c.outstanding.ensures, c.grant.ensures, c.loop-requester-test.true) in (
+    let none : c.loop-requester.requester.state.grant ≤ length c.loop-requester.requester.state.outstanding = c.lacks_credit.ensures.lacks c.loop-requester-test.true in (
       c.in-Ok.ensures.fits,
       λ xid. c.in-Ok.ensures.tickets xid ∙ tickets xid,
       c.in-Ok.ensures.source_count ∙ sources,
@@ -77,7 +77,7 @@ returns-in-Err-write_due-clause-err g c =
     (link_bytes (g.I.Source.left c.loop-requester.source) (g.I.Source.given c.loop-requester.source) (g.O.Sink.taken c.loop-requester.sink) c.loop-requester.read)
     (link_bytes (g.I.Source.left c.loop-requester.source) (g.I.Source.given c.loop-requester.source) (g.O.Sink.taken c.write_due.new.sink) c.loop-requester.read)
     c.args.requester.now c.loop-requester.requester c.write_due.new.requester goes
-    (ends_there c.in-Err-write_due.end (link_bytes (g.I.Source.left c.loop-requester.source) (g.I.Source.given c.loop-requester.source) (g.O.Sink.taken c.loop-requester.sink) c.loop-requester.read)
-    (link_bytes (g.I.Source.left c.loop-requester.source) (g.I.Source.given c.loop-requester.source) (g.O.Sink.taken c.write_due.new.sink) c.loop-requester.read)
-    c.loop-requester.requester c.write_due.new.requester c.in-Err-write_due.ensures.drained
-    (c.in-Err-write_due.ensures.writes (g.I.Source.left c.loop-requester.source) (g.I.Source.given c.loop-requester.source) c.loop-requester.read))
+    (c.in-Err-write_due.ensures.writes (g.I.Source.left c.loop-requester.source) (g.I.Source.given c.loop-requester.source) c.loop-requester.read)
+
+pub transfer-requires-clause-waits : goal.transfer-requires-clause-waits
+transfer-requires-clause-waits g c = c.lacks_credit.ensures.waits c.loop-requester-test.true

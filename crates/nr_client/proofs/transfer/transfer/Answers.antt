@@ -1,15 +1,15 @@
-use Rattle.std.proofs.Common.{inr}
+use Rattle.std.proofs.Common.{◌<◌, ℕ, inr, subst, sym}
 use Rattle.nr_client.specs.Transfers.{link_bytes}
-use Rattle.nr_client.proofs.Turns.{ends_there, turns_compose, turn_to}
+use Rattle.nr_client.proofs.Turns.{turns_compose, turn_to}
 use Rattle.nr_client.proofs.Unanswered.{answers_after}
 use Rattle.nr_client.proofs.transfer.transfer.Goals as goal
 
 pub returns-in-Err-clause-err : goal.returns-in-Err-clause-err
 returns-in-Err-clause-err g c =
-    ends_there _ (link_bytes (g.I.Source.left c.args.source.now) (g.I.Source.given c.args.source.now) (g.O.Sink.taken c.args.sink.now) c.args.read.now)
-    (link_bytes (g.I.Source.left c.args.source.now) (g.I.Source.given c.args.source.now) (g.O.Sink.taken c.write_due.new.sink) c.args.read.now)
-    c.args.requester.now c.write_due.new.requester c.in-Err.ensures.drained
-    (c.in-Err.ensures.writes (g.I.Source.left c.args.source.now) (g.I.Source.given c.args.source.now) c.args.read.now)
+    c.in-Err.ensures.writes (g.I.Source.left c.args.source.now) (g.I.Source.given c.args.source.now) c.args.read.now
+
+pub read_piece-requires-clause-waits : goal.read_piece-requires-clause-waits
+read_piece-requires-clause-waits g c = subst (λ (k : ℕ). 0 < k) (sym c.in-Ok.ensures.credit.0) c.requires.waits
 
 pub returns-in-Ok-read_piece-clause-ok : goal.returns-in-Ok-read_piece-clause-ok
 returns-in-Ok-read_piece-clause-ok g c =

@@ -1,22 +1,23 @@
 use Rattle.std.proofs.Common.{refl, sym, inl, inr, ◌∙◌}
-use Rattle.nr_client.proofs.Turns.{drained_all, drained_credit, drained_end, writes}
+use Rattle.nr_client.proofs.Turns.{drained_all, drained_credit, drained_end, writes, writes_part, writes_to}
 use Rattle.nr_client.proofs.Unanswered.{drain_answers}
 use Rattle.nr_client.proofs.transfer.write_due.Goals as goal
 
 pub returns-in-Err-clause-writes : goal.returns-in-Err-clause-writes
 returns-in-Err-clause-writes g c =
     let (n, within, takes, is, on, out, all) = c.in-Err.ensures.taken in
-    writes (g.O.Sink.taken c.args.sink.now) (g.O.Sink.taken c.drain_into.new.sink) c.args.requester.now c.drain_into.new.self n takes on
+    writes_part (g.O.Sink.taken c.args.sink.now) (g.O.Sink.taken c.drain_into.new.sink) c.args.requester.now c.drain_into.new.self n takes on
 
 pub returns-in-None-clause-writes : goal.returns-in-None-clause-writes
 returns-in-None-clause-writes g c =
     let (n, within, takes, is, on, out, all) = c.in-Ok.ensures.taken in
-    writes (g.O.Sink.taken c.args.sink.now) (g.O.Sink.taken c.drain_into.new.sink) c.args.requester.now c.drain_into.new.self n takes on
+    writes (g.O.Sink.taken c.args.sink.now) (g.O.Sink.taken c.drain_into.new.sink) c.args.requester.now c.drain_into.new.self n takes on all
 
 pub returns-in-Some-clause-writes : goal.returns-in-Some-clause-writes
 returns-in-Some-clause-writes g c =
     let (n, within, takes, is, on, out, all) = c.in-Ok.ensures.taken in
-    writes (g.O.Sink.taken c.args.sink.now) (g.O.Sink.taken c.drain_into.new.sink) c.args.requester.now c.drain_into.new.self n takes on
+    writes_to _ (g.O.Sink.taken c.args.sink.now) (g.O.Sink.taken c.drain_into.new.sink) c.args.requester.now c.drain_into.new.self (drained_all c.args.requester.now c.drain_into.new.self n is all)
+    (writes (g.O.Sink.taken c.args.sink.now) (g.O.Sink.taken c.drain_into.new.sink) c.args.requester.now c.drain_into.new.self n takes on all)
 
 pub returns-in-Some-clause-cause : goal.returns-in-Some-clause-cause
 returns-in-Some-clause-cause g c left read = sym c.in-Some.ensures
