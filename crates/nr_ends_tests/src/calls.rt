@@ -5,11 +5,11 @@ ghost use Rattle.nr_requester.specs.OpenCalls.{KeepsTickets};
 use crate::compare::same;
 use crate::link::TestLink;
 use crate::words::{
-    HELLO, HELLO_BACK, REPLY_FRONT, REPLY_REST, SENT, bytes, call, payload, put, reply,
+    HELLO, HELLO_BACK, REPLY_FRONT, SENT, bytes, call, payload, put_reply, reply, stream,
 };
 use nr_outside::MemSink;
 use nr_reduce::{Form, Lengths, Offer, Outcome, Refused};
-use nr_requester::{Done, Requester, Take};
+use nr_requester::{Requester, Take};
 use nr_responder::Sent;
 use std::alloc::Global;
 use std::process::Abort;
@@ -121,10 +121,15 @@ pub(crate) static ROWS: [Row; 12] = [
 ];
 
 /// Ends the test if a call wasn't answered so.
-fn is_answered(rt: &impl Abort, size: usize, take: Take, reply: &[u8], sent: Sent) {
-    let Take::Done(Done { outcome, .. }) = take else {
-        panic!(rt; "pieces of {size}: no answer");
-    };
+pub(crate) fn is_answered(rt: &impl Abort, size: usize, take: Take, reply: &[u8], sent: Sent) {
+    match &take {
+        Take::Done(done) => is_outcome(rt, size, &done.outcome, reply, sent),
+        _ => panic!(rt; "pieces of {size}: no answer"),
+    }
+}
+
+/// Ends the test if the outcome of a call is another.
+fn is_outcome(rt: &impl Abort, size: usize, outcome: &Outcome, reply: &[u8], sent: Sent) {
     match outcome {
         Outcome::Reply(bytes) => same(rt, size, bytes.as_slice() == reply, true),
         Outcome::Chunk => same(rt, size, sent, Sent::Chunk),
@@ -209,6 +214,7 @@ fn all_rows(rt: &impl Abort, alloc: Global, link: &mut TestLink, size: usize) {
 fn answered(rt: &impl Abort, alloc: Global, size: usize) {
     let mut link = greeted(rt, alloc, 16, size);
     all_rows(rt, alloc, &mut link, size);
+    link.close();
 }
 
 #[test]
@@ -240,6 +246,7 @@ fn read_in_place(rt: &impl Abort, alloc: Global, link: &mut TestLink) {
 fn a_write_is_read_in_place(rt: HostRuntime) {
     let mut link = greeted(&rt, rt.alloc(), 16, 65536);
     read_in_place(&rt, rt.alloc(), &mut link);
+    link.close();
 }
 
 /// The bytes of words up to some length.
@@ -251,8 +258,7 @@ fn first_bytes(rt: &impl Abort, alloc: Global, words: &[u32], len: usize) -> Vec
 
 /// Of a frame that isn't complete 91 bytes are staged, and of the next one ten.
 fn staged(rt: &impl Abort, alloc: Global, link: &mut TestLink) {
-    let hello = bytes(rt, alloc, &HELLO);
-    same(rt, 0, link.feed_up(rt, hello.as_slice()), Ok(()));
+    same(rt, 0, link.words_up(rt, alloc, &HELLO, 65536), Ok(()));
     let front = first_bytes(rt, alloc, &SENT, 91);
     same(rt, 1, link.feed_up(rt, front.as_slice()), Ok(()));
     same(rt, 2, link.counts(), [0, 1, 0, 0, 91, 1]);
@@ -263,6 +269,10 @@ fn staged(rt: &impl Abort, alloc: Global, link: &mut TestLink) {
         link.staged() == [Some(nothing), Some(front.as_slice())],
         true,
     );
+    next_staged(rt, alloc, link);
+}
+
+fn next_staged(rt: &impl Abort, alloc: Global, link: &mut TestLink) {
     // The last byte of the first FPDU, and ten bytes of a second one.
     let more = first_bytes(rt, alloc, &[0x0000_5641, 0x4300_0000, 0], 11);
     same(rt, 3, link.feed_up(rt, more.as_slice()), Ok(()));
@@ -273,10 +283,20 @@ fn staged(rt: &impl Abort, alloc: Global, link: &mut TestLink) {
 fn client_staged(rt: &impl Abort, alloc: Global) {
     let mut link = TestLink::open(rt, alloc, 1);
     submit_null(rt, alloc, &mut link);
-    let mut sink = MemSink::new(alloc, Vec::new(alloc));
-    same(rt, 5, link.write_up(&mut sink), true);
-    let hello = bytes(rt, alloc, &HELLO_BACK);
-    same(rt, 6, link.feed_down(rt, hello.as_slice()), Ok(()));
+    let sent = stream(rt, alloc, &HELLO, &[]);
+    link.client_writes(rt, alloc, 5, sent.as_slice());
+    same(
+        rt,
+        6,
+        link.words_down(rt, alloc, &HELLO_BACK, 65536),
+        Ok(()),
+    );
+    reply_staged(rt, alloc, &mut link);
+    same(rt, 9, link.marks(), 4);
+    link.close();
+}
+
+fn reply_staged(rt: &impl Abort, alloc: Global, link: &mut TestLink) {
     let front = first_bytes(rt, alloc, &REPLY_FRONT, 27);
     same(rt, 7, link.feed_down(rt, front.as_slice()), Ok(()));
     let nothing: &[u8] = &[];
@@ -286,13 +306,13 @@ fn client_staged(rt: &impl Abort, alloc: Global) {
         link.staged() == [Some(front.as_slice()), Some(nothing)],
         true,
     );
-    same(rt, 9, link.marks(), 4);
 }
 
 #[test]
 fn bytes_are_staged(rt: HostRuntime) {
     let mut link = TestLink::open(&rt, rt.alloc(), 1);
     staged(&rt, rt.alloc(), &mut link);
+    link.close();
     client_staged(&rt, rt.alloc());
 }
 
@@ -308,37 +328,66 @@ static FAILING: [(usize, usize); 2] = [(0, 0), (1, 20)];
 fn client_drained(rt: &impl Abort, alloc: Global, failing: usize, before: usize) {
     let mut link = TestLink::open(rt, alloc, 16);
     submit_null(rt, alloc, &mut link);
-    let hello = bytes(rt, alloc, &HELLO_BACK);
-    same(rt, 0, link.feed_down(rt, hello.as_slice()), Ok(()));
+    same(
+        rt,
+        0,
+        link.words_down(rt, alloc, &HELLO_BACK, 65536),
+        Ok(()),
+    );
+    let all = stream(rt, alloc, &HELLO, &SENT);
+    client_goes_on(rt, alloc, &mut link, (failing, before), all.as_slice());
+    link.close();
+}
+
+fn client_goes_on(
+    rt: &impl Abort,
+    alloc: Global,
+    link: &mut TestLink,
+    row: (usize, usize),
+    all: &[u8],
+) {
+    let (failing, before) = row;
     let mut sink = MemSink::new(alloc, [failing].to_vec(alloc).expect(rt, "memory"));
     same(rt, 1, link.write_up(&mut sink), false);
     same(rt, 2, sink.bytes().len(), before);
     same(rt, 3, link.write_up(&mut sink), true);
-    let mut all = bytes(rt, alloc, &HELLO);
-    put(rt, &mut all, &SENT);
-    same(rt, 4, sink.bytes() == all.as_slice(), true);
+    same(rt, 4, sink.bytes() == all, true);
 }
 
 /// The same of the server's hello and reply. The receive of the call is in use until all of the reply has left.
 fn server_drained(rt: &impl Abort, alloc: Global, failing: usize, before: usize) {
     let mut link = TestLink::open(rt, alloc, 16);
-    let mut sent = bytes(rt, alloc, &HELLO);
-    put(rt, &mut sent, &SENT);
+    null_answered(rt, alloc, &mut link);
+    let mut all = bytes(rt, alloc, &HELLO_BACK);
+    put_reply(rt, &mut all, 16);
+    server_goes_on(rt, alloc, &mut link, (failing, before), all.as_slice());
+    link.close();
+}
+
+/// A server end is fed a NULL call after the hello, and answers it.
+fn null_answered(rt: &impl Abort, alloc: Global, link: &mut TestLink) {
+    let sent = stream(rt, alloc, &HELLO, &SENT);
     same(rt, 0, link.feed_up(rt, sent.as_slice()), Ok(()));
     let reply = reply(rt, alloc, 1, &[]);
-    let (payload, answered) = link.answer(rt, alloc, reply.as_slice());
-    same(rt, 1, (payload.len(), answered), (40, Sent::Inline));
+    let answered = link.answer_len(rt, alloc, reply.as_slice());
+    same(rt, 1, answered, (40, Sent::Inline));
+}
+
+fn server_goes_on(
+    rt: &impl Abort,
+    alloc: Global,
+    link: &mut TestLink,
+    row: (usize, usize),
+    all: &[u8],
+) {
+    let (failing, before) = row;
     let mut sink = MemSink::new(alloc, [failing].to_vec(alloc).expect(rt, "memory"));
     same(rt, 2, link.write_down(&mut sink), false);
     same(rt, 3, sink.bytes().len(), before);
     same(rt, 4, link.counts(), [0, 1, 0, 1, 0, 2]);
     same(rt, 5, link.write_down(&mut sink), true);
     same(rt, 6, link.counts(), [0, 1, 0, 0, 0, 2]);
-    let mut all = bytes(rt, alloc, &HELLO_BACK);
-    put(rt, &mut all, &REPLY_FRONT);
-    put(rt, &mut all, &[16]);
-    put(rt, &mut all, &REPLY_REST);
-    same(rt, 7, sink.bytes() == all.as_slice(), true);
+    same(rt, 7, sink.bytes() == all, true);
 }
 
 #[test]
@@ -363,10 +412,9 @@ fn reply_grants(
 ) {
     submit_null(rt, alloc, link);
     let _sent = link.up(rt, alloc, 65536);
-    let mut stream = bytes(rt, alloc, &REPLY_FRONT);
-    put(rt, &mut stream, &[word]);
-    put(rt, &mut stream, &REPLY_REST);
-    same(rt, row, link.feed_down(rt, stream.as_slice()), Ok(()));
+    let mut fed = Vec::new(alloc);
+    put_reply(rt, &mut fed, word);
+    same(rt, row, link.feed_down(rt, fed.as_slice()), Ok(()));
     let [outstanding, granted, ..] = link.counts();
     same(rt, row, (outstanding, granted), (0, grant as usize));
 }
@@ -376,6 +424,7 @@ fn credits_are_granted(rt: HostRuntime) {
     for (row, (word, grant)) in GRANTS.iter().enumerate() {
         let mut link = greeted(&rt, rt.alloc(), 16, 65536);
         reply_grants(&rt, rt.alloc(), &mut link, row, *word, *grant);
+        link.close();
     }
 }
 
@@ -429,6 +478,11 @@ fn last_xid(rt: &impl Abort, alloc: Global) {
     let _hello = link.up(rt, alloc, 65536);
     let _back = link.down(rt, alloc, 65536);
     exchange(rt, alloc, &mut link, u32::MAX, 65536, ROWS[0]);
+    no_xid_is_left(rt, alloc, &mut link);
+    link.close();
+}
+
+fn no_xid_is_left(rt: &impl Abort, alloc: Global, link: &mut TestLink) {
     match link.refusal(call(rt, alloc, 0, &[]), Form::Auto) {
         Some(Refused::Spent { left, need }) => same(rt, 0, (left, need), (0, 1)),
         _ => panic!(rt; "not refused as spent"),

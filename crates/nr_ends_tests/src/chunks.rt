@@ -1,11 +1,9 @@
 //! Calls at the limits of an offer, fed to a server end as bytes, with all that it writes; and nine reads, of which eight are open at a time.
 
-use crate::calls::greeted;
+use crate::calls::{Way, form, greeted};
 use crate::compare::same;
 use crate::link::TestLink;
 use crate::words::{HELLO, HELLO_BACK, bytes, call, put};
-use nr_outside::MemSink;
-use nr_reduce::{Form, Lengths, Offer};
 use nr_responder::Sent;
 use std::alloc::Global;
 use std::process::Abort;
@@ -66,11 +64,9 @@ fn server_writes(
     let (len, reply, sent) = answer;
     let mut link = TestLink::open(rt, alloc, 16);
     same(rt, size, link.pieces_up(rt, fed, size), Ok(()));
-    let (payload, answered) = link.answer(rt, alloc, reply);
-    same(rt, size, (payload.len(), answered), (len, sent));
-    let mut sink = MemSink::new(alloc, Vec::new(alloc));
-    same(rt, size, link.write_down(&mut sink), true);
-    same(rt, size, sink.bytes() == written, true);
+    same(rt, size, link.answer_len(rt, alloc, reply), (len, sent));
+    link.server_writes(rt, alloc, size, written);
+    link.close();
 }
 
 /// A READ of `hello`: four bytes go to the first segment of the first chunk, one to the second.
@@ -143,18 +139,20 @@ fn four_write_chunks_and_a_reply_chunk(rt: HostRuntime) {
     }
 }
 
-/// A WRITE of nine bytes whose read chunk has a segment for each: eight Read Requests go out, and the ninth once a response is complete.
+/// A WRITE of nine bytes is submitted, whose read chunk has a segment for each.
+fn submit_nine(rt: &impl Abort, alloc: Global, link: &mut TestLink) {
+    let args = [8, 0, 2, 0, 0, 9, 2, 9, 0x61626364, 0x65666768, 0x69000000];
+    drop(link.submit(
+        rt,
+        call(rt, alloc, 7, &args),
+        form(rt, alloc, Way::Read(&[1, 1, 1, 1, 1, 1, 1, 1, 1])),
+    ));
+}
+
+/// A read chunk of nine segments: eight Read Requests go out, and the ninth once a response is complete.
 fn nine_reads(rt: &impl Abort, alloc: Global, size: usize) {
     let mut link = greeted(rt, alloc, 16, size);
-    let args = [8, 0, 2, 0, 0, 9, 2, 9, 0x61626364, 0x65666768, 0x69000000];
-    let lengths = [1; 9].to_vec(alloc).expect(rt, "memory");
-    let offer = Offer {
-        read_at: 72,
-        read: Some(Lengths::from_vec(lengths)),
-        write: None,
-        reply: None,
-    };
-    drop(link.submit(rt, call(rt, alloc, 7, &args), Form::Given(offer)));
+    submit_nine(rt, alloc, &mut link);
     // The Send; eight Read Requests, and their responses of one byte; one more.
     same(rt, 0, link.up(rt, alloc, size), 340);
     same(rt, 1, link.down(rt, alloc, size), 8 * 52);
@@ -162,8 +160,9 @@ fn nine_reads(rt: &impl Abort, alloc: Global, size: usize) {
     same(rt, 3, link.counts(), [1, 1, 1, 1, 0, 2]);
     same(rt, 4, link.down(rt, alloc, size), 52);
     same(rt, 5, link.up(rt, alloc, size), 24);
-    let (payload, sent) = link.answer(rt, alloc, &[0; 24]);
-    same(rt, 6, (payload.len(), sent), (84, Sent::Inline));
+    let answered = link.answer_len(rt, alloc, &[0; 24]);
+    same(rt, 6, answered, (84, Sent::Inline));
+    link.close();
 }
 
 #[test]
