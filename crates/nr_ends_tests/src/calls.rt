@@ -122,7 +122,11 @@ pub(crate) static ROWS: [Row; 12] = [
 
 /// Ends the test if a call wasn't answered so.
 pub(crate) fn is_answered(rt: &impl Abort, size: usize, take: Take, reply: &[u8], sent: Sent) {
-    match &take {
+    is_done(rt, size, &take, reply, sent);
+}
+
+fn is_done(rt: &impl Abort, size: usize, take: &Take, reply: &[u8], sent: Sent) {
+    match take {
         Take::Done(done) => is_outcome(rt, size, &done.outcome, reply, sent),
         _ => panic!(rt; "pieces of {size}: no answer"),
     }
@@ -155,10 +159,25 @@ fn served(
     let _read = link.up(rt, alloc, size);
     let _ninth = link.down(rt, alloc, size);
     let _rest = link.up(rt, alloc, size);
-    let (conveyed, answered) = link.answer(rt, alloc, reply);
-    same(rt, size, conveyed.as_slice() == payload, true);
+    let answered = link.answer_to(rt, alloc, size, payload, reply);
     same(rt, size, answered, sent);
     let _answer = link.down(rt, alloc, size);
+}
+
+/// The server executes the call under this xid, of this procedure and with these arguments.
+fn call_served(
+    rt: &impl Abort,
+    alloc: Global,
+    link: &mut TestLink,
+    size: usize,
+    sent: (u32, u32, &[u32]),
+    answer: (&[u8], Sent),
+)
+    ensures { KeepsTickets link.old.state link.new.state }
+{
+    let (xid, proc, args) = sent;
+    let payload = payload(rt, alloc, xid, proc, args);
+    served(rt, alloc, link, size, payload.as_slice(), answer);
 }
 
 /// One call through both ends, in pieces of this length.
@@ -172,7 +191,6 @@ pub(crate) fn exchange(
 ) {
     let (way, proc, args, results, sent) = row;
     let reply = reply(rt, alloc, xid, results);
-    let payload = payload(rt, alloc, xid, proc, args);
     let ticket = link.submit(rt, call(rt, alloc, proc, args), form(rt, alloc, way));
     same(
         rt,
@@ -180,14 +198,8 @@ pub(crate) fn exchange(
         (ticket.xid(), link.has_outcome(&ticket)),
         (xid, false),
     );
-    served(
-        rt,
-        alloc,
-        link,
-        size,
-        payload.as_slice(),
-        (reply.as_slice(), sent),
-    );
+    let answer = (reply.as_slice(), sent);
+    call_served(rt, alloc, link, size, (xid, proc, args), answer);
     same(rt, size, link.has_outcome(&ticket), true);
     is_answered(rt, size, link.take(ticket), reply.as_slice(), sent);
 }
@@ -230,7 +242,6 @@ static WRITE: [u32; 10] = [8, 0, 2, 0, 0, 5, 2, 5, 0x68656c6c, 0x6f000000];
 /// The data of a WRITE goes by a read chunk: while it is read the server keeps no room for the payload but the buffer of the sink.
 fn read_in_place(rt: &impl Abort, alloc: Global, link: &mut TestLink) {
     let reply = reply(rt, alloc, 1, &[70]);
-    let payload = payload(rt, alloc, 1, 7, &WRITE);
     let ticket = link.submit(rt, call(rt, alloc, 7, &WRITE), Form::Chunk);
     link.up(rt, alloc, 65536);
     // The staging buffer, the receives, a buffer for the stream of 72 bytes, the data and a pad, and a Read Request.
@@ -238,7 +249,7 @@ fn read_in_place(rt: &impl Abort, alloc: Global, link: &mut TestLink) {
     same(rt, 0, server, 65544 + 16 * 1024 + 80 + 52);
     link.down(rt, alloc, 65536);
     let answer = (reply.as_slice(), Sent::Inline);
-    served(rt, alloc, link, 65536, payload.as_slice(), answer);
+    call_served(rt, alloc, link, 65536, (1, 7, &WRITE), answer);
     is_answered(rt, 1, link.take(ticket), reply.as_slice(), Sent::Inline);
 }
 
@@ -256,7 +267,7 @@ fn first_bytes(rt: &impl Abort, alloc: Global, words: &[u32], len: usize) -> Vec
     bytes
 }
 
-/// Of a frame that isn't complete 91 bytes are staged, and of the next one ten.
+/// Of a frame that isn't complete 91 bytes are staged, and of the next one ten. A piece is fed complete.
 fn staged(rt: &impl Abort, alloc: Global, link: &mut TestLink) {
     same(rt, 0, link.words_up(rt, alloc, &HELLO, 65536), Ok(()));
     let front = first_bytes(rt, alloc, &SENT, 91);
@@ -272,6 +283,7 @@ fn staged(rt: &impl Abort, alloc: Global, link: &mut TestLink) {
     next_staged(rt, alloc, link);
 }
 
+/// Of the next frame ten bytes are staged.
 fn next_staged(rt: &impl Abort, alloc: Global, link: &mut TestLink) {
     // The last byte of the first FPDU, and ten bytes of a second one.
     let more = first_bytes(rt, alloc, &[0x0000_5641, 0x4300_0000, 0], 11);
@@ -296,6 +308,7 @@ fn client_staged(rt: &impl Abort, alloc: Global) {
     link.close();
 }
 
+/// Of the reply 27 bytes are staged.
 fn reply_staged(rt: &impl Abort, alloc: Global, link: &mut TestLink) {
     let front = first_bytes(rt, alloc, &REPLY_FRONT, 27);
     same(rt, 7, link.feed_down(rt, front.as_slice()), Ok(()));
@@ -339,6 +352,7 @@ fn client_drained(rt: &impl Abort, alloc: Global, failing: usize, before: usize)
     link.close();
 }
 
+/// A sink fails at this write, before which it took so many bytes, and then takes all the rest.
 fn client_goes_on(
     rt: &impl Abort,
     alloc: Global,
@@ -373,6 +387,7 @@ fn null_answered(rt: &impl Abort, alloc: Global, link: &mut TestLink) {
     same(rt, 1, answered, (40, Sent::Inline));
 }
 
+/// The same of the server.
 fn server_goes_on(
     rt: &impl Abort,
     alloc: Global,
@@ -482,6 +497,7 @@ fn last_xid(rt: &impl Abort, alloc: Global) {
     link.close();
 }
 
+/// A call is refused, since no xid is left.
 fn no_xid_is_left(rt: &impl Abort, alloc: Global, link: &mut TestLink) {
     match link.refusal(call(rt, alloc, 0, &[]), Form::Auto) {
         Some(Refused::Spent { left, need }) => same(rt, 0, (left, need), (0, 1)),

@@ -69,6 +69,15 @@ fn server_writes(
     link.close();
 }
 
+/// Puts the RDMA Writes of the data and the Send of the answer to the READ.
+fn put_data_answer(rt: &impl Abort, written: &mut Vec<u8>) {
+    put(rt, written, &[0x0012c140, 11, 0, 7, 0x68656c6c, 0]);
+    put(rt, written, &[0x000fc140, 12, 0, 7, 0x6f000000, 0]);
+    put(rt, written, &[0x017a4143, 0, 0, 1, 0, 1, 1, 16, 0, 0]);
+    put_write_list(rt, written, [4, 1, 0, 0], [0; 4]);
+    put(rt, written, &[0, 1, 1, 0, 0, 0, 0, 0, 0, 5, 1, 5, 0]);
+}
+
 /// A READ of `hello`: four bytes go to the first segment of the first chunk, one to the second.
 fn data_goes(rt: &impl Abort, alloc: Global, size: usize) {
     let call = [1, 0, 2, 100003, 3, 6, 0, 0, 0, 0, 8, 0, 2, 0, 0, 5];
@@ -76,11 +85,7 @@ fn data_goes(rt: &impl Abort, alloc: Global, size: usize) {
     let words = [1, 1, 0, 0, 0, 0, 0, 0, 5, 1, 5, 0x68656c6c, 0x6f000000];
     let reply = bytes(rt, alloc, &words);
     let mut written = bytes(rt, alloc, &HELLO_BACK);
-    put(rt, &mut written, &[0x0012c140, 11, 0, 7, 0x68656c6c, 0]);
-    put(rt, &mut written, &[0x000fc140, 12, 0, 7, 0x6f000000, 0]);
-    put(rt, &mut written, &[0x017a4143, 0, 0, 1, 0, 1, 1, 16, 0, 0]);
-    put_write_list(rt, &mut written, [4, 1, 0, 0], [0; 4]);
-    put(rt, &mut written, &[0, 1, 1, 0, 0, 0, 0, 0, 0, 5, 1, 5, 0]);
+    put_data_answer(rt, &mut written);
     let answer = (64, reply.as_slice(), Sent::Inline);
     server_writes(rt, alloc, size, fed.as_slice(), answer, written.as_slice());
 }
@@ -108,6 +113,25 @@ fn put_writes(rt: &impl Abort, written: &mut Vec<u8>, reply: &[u8]) {
     }
 }
 
+/// Puts 300 words of results, which count up from 0.
+fn put_counting(rt: &impl Abort, reply: &mut Vec<u8>) {
+    for word in 0..300u32 {
+        put(rt, reply, &[word]);
+    }
+}
+
+/// Puts the RDMA Writes of a reply of 1,224 bytes, and the Send of the answer to the READDIR.
+fn put_reply_answer(rt: &impl Abort, written: &mut Vec<u8>, reply: &[u8]) {
+    put_writes(rt, written, reply);
+    put(rt, written, &[0x02524143, 0, 0, 1, 0, 1, 1, 16, 1, 0]);
+    put_write_list(rt, written, [0; 4], [0; 4]);
+    let lengths = [
+        100, 100, 100, 100, 100, 100, 100, 100, 100, 100, 100, 100, 24, 0, 0, 0,
+    ];
+    put_reply_chunk(rt, written, &lengths);
+    put(rt, written, &[0]);
+}
+
 /// A READDIR with a reply of 1,224 bytes: twelve segments of the reply chunk are filled, and 24 bytes go to the next one.
 fn reply_goes(rt: &impl Abort, alloc: Global, size: usize) {
     let call = [
@@ -115,18 +139,9 @@ fn reply_goes(rt: &impl Abort, alloc: Global, size: usize) {
     ];
     let fed = offering(rt, alloc, 0x029a4143, &call);
     let mut reply = bytes(rt, alloc, &[1, 1, 0, 0, 0, 0]);
-    for word in 0..300u32 {
-        put(rt, &mut reply, &[word]);
-    }
+    put_counting(rt, &mut reply);
     let mut written = bytes(rt, alloc, &HELLO_BACK);
-    put_writes(rt, &mut written, reply.as_slice());
-    put(rt, &mut written, &[0x02524143, 0, 0, 1, 0, 1, 1, 16, 1, 0]);
-    put_write_list(rt, &mut written, [0; 4], [0; 4]);
-    let lengths = [
-        100, 100, 100, 100, 100, 100, 100, 100, 100, 100, 100, 100, 24, 0, 0, 0,
-    ];
-    put_reply_chunk(rt, &mut written, &lengths);
-    put(rt, &mut written, &[0]);
+    put_reply_answer(rt, &mut written, reply.as_slice());
     let answer = (72, reply.as_slice(), Sent::Long);
     server_writes(rt, alloc, size, fed.as_slice(), answer, written.as_slice());
 }

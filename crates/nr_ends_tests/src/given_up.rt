@@ -83,6 +83,7 @@ enum GivenUp {
     RevokedBeforeItsData,
 }
 
+/// A call is given up so.
 fn given_up(rt: &impl Abort, alloc: Global, how: GivenUp, size: usize) {
     let mut link = greeted(rt, alloc, 16, size);
     match how {

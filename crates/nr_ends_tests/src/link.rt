@@ -311,6 +311,22 @@ impl TestLink {
         (payload.len(), sent)
     }
 
+    /// The answer to the next call that is ready. Ends the test if its payload is another.
+    pub fn answer_to(
+        &mut self,
+        rt: &impl Abort,
+        alloc: Global,
+        row: usize,
+        payload: &[u8],
+        reply: &[u8],
+    ) -> Sent
+        ensures { self.new ≡ self.old }
+    {
+        let (conveyed, sent) = self.answer(rt, alloc, reply);
+        same(rt, row, conveyed.as_slice() == payload, true);
+        sent
+    }
+
     /// Takes the answer to a call.
     pub fn take(&mut self, ticket: Ticket) -> Take
         requires { is_some (open_call ticket self.old.state) ≡ true }
