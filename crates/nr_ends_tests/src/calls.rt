@@ -9,7 +9,7 @@ use crate::words::{
 };
 use nr_outside::MemSink;
 use nr_reduce::{Form, Lengths, Offer, Outcome, Refused};
-use nr_requester::{Requester, Take};
+use nr_requester::{Remains, Requester, Take};
 use nr_responder::Sent;
 use std::alloc::Global;
 use std::process::Abort;
@@ -34,22 +34,25 @@ fn lengths(rt: &impl Abort, alloc: Global, lengths: &[u32]) -> Option<Lengths> {
 }
 
 pub(crate) fn form(rt: &impl Abort, alloc: Global, way: Way) -> Form {
-    let mut offer = Offer {
-        read_at: 72,
-        read: None,
-        write: None,
-        reply: None,
-    };
     match way {
-        Way::Auto => return Form::Auto,
-        Way::Inline => return Form::Inline,
-        Way::Chunk => return Form::Chunk,
-        Way::Long => return Form::Long,
-        Way::Read(segments) => offer.read = lengths(rt, alloc, segments),
-        Way::Write(segments) => offer.write = lengths(rt, alloc, segments),
-        Way::Reply(segments) => offer.reply = lengths(rt, alloc, segments),
+        Way::Auto => Form::Auto,
+        Way::Inline => Form::Inline,
+        Way::Chunk => Form::Chunk,
+        Way::Long => Form::Long,
+        Way::Read(segments) => given(lengths(rt, alloc, segments), None, None),
+        Way::Write(segments) => given(None, lengths(rt, alloc, segments), None),
+        Way::Reply(segments) => given(None, None, lengths(rt, alloc, segments)),
     }
-    Form::Given(offer)
+}
+
+/// An offer of these chunks, with the read chunk at byte 72.
+fn given(read: Option<Lengths>, write: Option<Lengths>, reply: Option<Lengths>) -> Form {
+    Form::Given(Offer {
+        read_at: 72,
+        read,
+        write,
+        reply,
+    })
 }
 
 /// How a call is sent, its procedure, its arguments, its results, and how the server answers.
@@ -267,7 +270,7 @@ fn first_bytes(rt: &impl Abort, alloc: Global, words: &[u32], len: usize) -> Vec
     bytes
 }
 
-/// Of a frame that isn't complete 91 bytes are staged, and of the next one ten. A piece is fed complete.
+/// Of a frame that isn't complete 91 bytes are staged, and of the next one ten.
 fn staged(rt: &impl Abort, alloc: Global, link: &mut TestLink) {
     same(rt, 0, link.words_up(rt, alloc, &HELLO, 65536), Ok(()));
     let front = first_bytes(rt, alloc, &SENT, 91);
@@ -455,17 +458,19 @@ fn awaiting(rt: &impl Abort, alloc: Global) -> Requester {
     link.into_client()
 }
 
+/// The procedure of the next call that goes back, and whether it has a buffer for a write chunk.
+fn next_back(remains: &mut Remains) -> Option<(u32, bool)> {
+    let (call, buffers) = remains.next()?;
+    Some((call.proc, buffers.write.is_some()))
+}
+
 /// A client end that is taken apart gives back what was not taken.
 fn gone_back(rt: &impl Abort, alloc: Global) {
     let mut remains = awaiting(rt, alloc).dismantle();
     for (row, (proc, writes)) in LEFT.iter().enumerate() {
-        let Some((call, buffers)) = remains.next() else {
-            panic!(rt; "row {row}: a call is missing");
-        };
-        same(rt, row, call.proc, *proc);
-        same(rt, row, buffers.write.is_some(), *writes);
+        same(rt, row, next_back(&mut remains), Some((*proc, *writes)));
     }
-    same(rt, 2, remains.next().is_none(), true);
+    same(rt, 2, next_back(&mut remains), None);
 }
 
 #[test]
@@ -475,21 +480,19 @@ fn calls_go_back(rt: HostRuntime) {
 
 /// The first xid is the one that was asked for.
 fn first_xid(rt: &impl Abort, alloc: Global) {
-    let mut client = Requester::open_at(alloc, 7, 3, 1).expect(rt, "memory");
-    match client.submit(call(rt, alloc, 0, &[]), Form::Auto) {
-        Ok(ticket) => {
-            same(rt, 0, ticket.xid(), 7);
-            client.forget(ticket);
-        }
-        Err(_) => panic!(rt; "refused"),
-    }
-    same(rt, 1, client.outstanding(), 1);
-    same(rt, 2, client.end(), None);
+    let mut link = TestLink::open_at(rt, alloc, 7, 3, 1);
+    let ticket = link.submit(rt, call(rt, alloc, 0, &[]), Form::Auto);
+    same(rt, 0, ticket.xid(), 7);
+    link.forget(ticket);
+    let [outstanding, ..] = link.counts();
+    same(rt, 1, outstanding, 1);
+    same(rt, 2, link.ends(), (None, None));
+    link.close();
 }
 
 /// After the call with the last xid no xid is left.
 fn last_xid(rt: &impl Abort, alloc: Global) {
-    let mut link = TestLink::open_at(rt, alloc, u32::MAX, 4);
+    let mut link = TestLink::open_at(rt, alloc, u32::MAX, 1, 4);
     let _hello = link.up(rt, alloc, 65536);
     let _back = link.down(rt, alloc, 65536);
     exchange(rt, alloc, &mut link, u32::MAX, 65536, ROWS[0]);

@@ -20,14 +20,19 @@ static REPLY_HANDLES: [u32; 16] = [
     51, 52, 53, 54, 55, 56, 57, 58, 59, 60, 61, 62, 63, 64, 65, 66,
 ];
 
+/// Puts segments with these handles and lengths, all at one offset.
+fn put_segments(rt: &impl Abort, bytes: &mut Vec<u8>, handles: &[u32], lengths: &[u32], at: u32) {
+    for (handle, length) in handles.iter().zip(lengths.iter()) {
+        put(rt, bytes, &[*handle, *length, 0, at]);
+    }
+}
+
 /// Puts the write list (RFC 8166 section 4.3.2): the lengths of the first chunk, and those of each other.
 fn put_write_list(rt: &impl Abort, bytes: &mut Vec<u8>, first: [u32; 4], others: [u32; 4]) {
     for (chunk, handles) in WRITE_HANDLES.iter().enumerate() {
         let lengths = if chunk == 0 { first } else { others };
         put(rt, bytes, &[1, 4]);
-        for (handle, length) in handles.iter().zip(lengths.iter()) {
-            put(rt, bytes, &[*handle, *length, 0, 7]);
-        }
+        put_segments(rt, bytes, handles, &lengths, 7);
     }
     put(rt, bytes, &[0]);
 }
@@ -35,9 +40,7 @@ fn put_write_list(rt: &impl Abort, bytes: &mut Vec<u8>, first: [u32; 4], others:
 /// Puts the reply chunk (RFC 8166 section 4.3.3) with these lengths.
 fn put_reply_chunk(rt: &impl Abort, bytes: &mut Vec<u8>, lengths: &[u32; 16]) {
     put(rt, bytes, &[1, 16]);
-    for (handle, length) in REPLY_HANDLES.iter().zip(lengths.iter()) {
-        put(rt, bytes, &[*handle, *length, 0, 9]);
-    }
+    put_segments(rt, bytes, &REPLY_HANDLES, lengths, 9);
 }
 
 /// The hello and a Send with this first word, of a call with these words (RFC 5531 section 9): its header offers all of the chunks.

@@ -82,13 +82,20 @@ fn gone_back(
 impl TestLink {
     /// Two ends with this number of credits. No byte has moved.
     pub fn open(rt: &impl Abort, alloc: Global, credits: u32) -> TestLink {
-        TestLink::open_at(rt, alloc, 1, credits)
+        TestLink::open_at(rt, alloc, 1, 1, credits)
     }
 
-    /// The same, with this first xid.
-    pub fn open_at(rt: &impl Abort, alloc: Global, first_xid: u32, credits: u32) -> TestLink {
+    /// The same, with this first xid and this first STag.
+    pub fn open_at(
+        rt: &impl Abort,
+        alloc: Global,
+        first_xid: u32,
+        first_stag: u32,
+        credits: u32,
+    ) -> TestLink {
+        check(rt, first_stag > 0);
         TestLink {
-            client: Requester::open_at(alloc, first_xid, 1, credits).expect(rt, "memory"),
+            client: Requester::open_at(alloc, first_xid, first_stag, credits).expect(rt, "memory"),
             server: Responder::open(alloc, credits).expect(rt, "memory"),
             fed_up: 0,
             fed_down: 0,
