@@ -7,7 +7,7 @@ ghost use Rattle.nr_requester.specs.OpenCalls.{open_call};
 use crate::calls::{ROWS, exchange, greeted};
 use crate::compare::same;
 use crate::link::TestLink;
-use crate::words::{HELLO, bytes, call, put};
+use crate::words::{HELLO, bytes, call, put, stream};
 use nr_link::End;
 use nr_outside::MemSink;
 use nr_reduce::{Form, Lengths, Offer};
@@ -135,8 +135,7 @@ fn offering_client(rt: &impl Abort, alloc: Global) -> TestLink {
     exchange(rt, alloc, &mut link, 1, 65536, ROWS[2]);
     drop(submit_three(rt, alloc, &mut link));
     let ticket = submit_three(rt, alloc, &mut link);
-    let (_call, buffers) = link.revoke(ticket);
-    same(rt, 0, buffers.reply.is_some(), true);
+    link.revoke(rt, 0, ticket, 1, Some([0u8; 8].as_slice()), true);
     link
 }
 
@@ -158,20 +157,34 @@ static RESPONSES: [&[u32]; 2] = [
     &[0x0012c142, 2, 0, 0, 3, 0],
 ];
 
+/// The server end is fed a WRITE, after a hello if it begins, and the response to its first read.
+fn feed_write(
+    rt: &impl Abort,
+    alloc: Global,
+    link: &mut TestLink,
+    hello: &[u32],
+    sent: &[u32],
+    response: &[u32],
+) {
+    let mut fed = stream(rt, alloc, hello, sent);
+    put(rt, &mut fed, response);
+    same(rt, 1, link.feed_up(rt, fed.as_slice()), Ok(()));
+}
+
+/// A sink takes all that the server end may write.
+fn written(rt: &impl Abort, alloc: Global, link: &mut TestLink) {
+    let mut sink = MemSink::new(alloc, Vec::new(alloc));
+    same(rt, 4, link.write_down(&mut sink), true);
+}
+
 /// A link whose server has the regions of its table.
 fn reading_server(rt: &impl Abort, alloc: Global) -> TestLink {
     let mut link = TestLink::open(rt, alloc, 16);
-    let mut fed = bytes(rt, alloc, &HELLO);
-    put(rt, &mut fed, SENDS[0]);
-    put(rt, &mut fed, RESPONSES[0]);
-    same(rt, 1, link.feed_up(rt, fed.as_slice()), Ok(()));
-    let (payload, sent) = link.answer(rt, alloc, &[0; 24]);
-    same(rt, 2, (payload.len(), sent), (80, Sent::Inline));
-    let mut fed = bytes(rt, alloc, SENDS[1]);
-    put(rt, &mut fed, RESPONSES[1]);
-    same(rt, 3, link.feed_up(rt, fed.as_slice()), Ok(()));
-    let mut sink = MemSink::new(alloc, Vec::new(alloc));
-    same(rt, 4, link.write_down(&mut sink), true);
+    feed_write(rt, alloc, &mut link, &HELLO, SENDS[0], RESPONSES[0]);
+    let answered = link.answer_len(rt, alloc, &[0; 24]);
+    same(rt, 2, answered, (80, Sent::Inline));
+    feed_write(rt, alloc, &mut link, &[], SENDS[1], RESPONSES[1]);
+    written(rt, alloc, &mut link);
     link
 }
 
@@ -183,6 +196,7 @@ fn client_row(rt: &impl Abort, alloc: Global, row: usize, size: usize, cells: Ro
     let fed = access(rt, alloc, kind, stag, to);
     let got = link.pieces_down(rt, fed.as_slice(), size);
     same(rt, row, got, fed_end(stag, to, why));
+    link.close();
 }
 
 /// The same of the server.
@@ -193,6 +207,7 @@ fn server_row(rt: &impl Abort, alloc: Global, row: usize, size: usize, cells: Ro
     let fed = access(rt, alloc, kind, stag, to);
     let got = link.pieces_up(rt, fed.as_slice(), size);
     same(rt, row, got, fed_end(stag, to, why));
+    link.close();
 }
 
 #[test]

@@ -5,11 +5,11 @@ ghost use Rattle.nr_requester.specs.OpenCalls.{KeepsTickets};
 use crate::compare::same;
 use crate::link::TestLink;
 use crate::words::{
-    HELLO, HELLO_BACK, REPLY_FRONT, REPLY_REST, SENT, bytes, call, payload, put, reply,
+    HELLO, HELLO_BACK, REPLY_FRONT, SENT, bytes, call, payload, put_reply, reply, stream,
 };
 use nr_outside::MemSink;
 use nr_reduce::{Form, Lengths, Offer, Outcome, Refused};
-use nr_requester::{Done, Requester, Take};
+use nr_requester::{Remains, Requester, Take};
 use nr_responder::Sent;
 use std::alloc::Global;
 use std::process::Abort;
@@ -34,22 +34,25 @@ fn lengths(rt: &impl Abort, alloc: Global, lengths: &[u32]) -> Option<Lengths> {
 }
 
 pub(crate) fn form(rt: &impl Abort, alloc: Global, way: Way) -> Form {
-    let mut offer = Offer {
-        read_at: 72,
-        read: None,
-        write: None,
-        reply: None,
-    };
     match way {
-        Way::Auto => return Form::Auto,
-        Way::Inline => return Form::Inline,
-        Way::Chunk => return Form::Chunk,
-        Way::Long => return Form::Long,
-        Way::Read(segments) => offer.read = lengths(rt, alloc, segments),
-        Way::Write(segments) => offer.write = lengths(rt, alloc, segments),
-        Way::Reply(segments) => offer.reply = lengths(rt, alloc, segments),
+        Way::Auto => Form::Auto,
+        Way::Inline => Form::Inline,
+        Way::Chunk => Form::Chunk,
+        Way::Long => Form::Long,
+        Way::Read(segments) => given(lengths(rt, alloc, segments), None, None),
+        Way::Write(segments) => given(None, lengths(rt, alloc, segments), None),
+        Way::Reply(segments) => given(None, None, lengths(rt, alloc, segments)),
     }
-    Form::Given(offer)
+}
+
+/// An offer of these chunks, with the read chunk at byte 72.
+fn given(read: Option<Lengths>, write: Option<Lengths>, reply: Option<Lengths>) -> Form {
+    Form::Given(Offer {
+        read_at: 72,
+        read,
+        write,
+        reply,
+    })
 }
 
 /// How a call is sent, its procedure, its arguments, its results, and how the server answers.
@@ -121,10 +124,19 @@ pub(crate) static ROWS: [Row; 12] = [
 ];
 
 /// Ends the test if a call wasn't answered so.
-fn is_answered(rt: &impl Abort, size: usize, take: Take, reply: &[u8], sent: Sent) {
-    let Take::Done(Done { outcome, .. }) = take else {
-        panic!(rt; "pieces of {size}: no answer");
-    };
+pub(crate) fn is_answered(rt: &impl Abort, size: usize, take: Take, reply: &[u8], sent: Sent) {
+    is_done(rt, size, &take, reply, sent);
+}
+
+fn is_done(rt: &impl Abort, size: usize, take: &Take, reply: &[u8], sent: Sent) {
+    match take {
+        Take::Done(done) => is_outcome(rt, size, &done.outcome, reply, sent),
+        _ => panic!(rt; "pieces of {size}: no answer"),
+    }
+}
+
+/// Ends the test if the outcome of a call is another.
+fn is_outcome(rt: &impl Abort, size: usize, outcome: &Outcome, reply: &[u8], sent: Sent) {
     match outcome {
         Outcome::Reply(bytes) => same(rt, size, bytes.as_slice() == reply, true),
         Outcome::Chunk => same(rt, size, sent, Sent::Chunk),
@@ -150,10 +162,25 @@ fn served(
     let _read = link.up(rt, alloc, size);
     let _ninth = link.down(rt, alloc, size);
     let _rest = link.up(rt, alloc, size);
-    let (conveyed, answered) = link.answer(rt, alloc, reply);
-    same(rt, size, conveyed.as_slice() == payload, true);
+    let answered = link.answer_to(rt, alloc, size, payload, reply);
     same(rt, size, answered, sent);
     let _answer = link.down(rt, alloc, size);
+}
+
+/// The server executes the call under this xid, of this procedure and with these arguments.
+fn call_served(
+    rt: &impl Abort,
+    alloc: Global,
+    link: &mut TestLink,
+    size: usize,
+    sent: (u32, u32, &[u32]),
+    answer: (&[u8], Sent),
+)
+    ensures { KeepsTickets link.old.state link.new.state }
+{
+    let (xid, proc, args) = sent;
+    let payload = payload(rt, alloc, xid, proc, args);
+    served(rt, alloc, link, size, payload.as_slice(), answer);
 }
 
 /// One call through both ends, in pieces of this length.
@@ -167,7 +194,6 @@ pub(crate) fn exchange(
 ) {
     let (way, proc, args, results, sent) = row;
     let reply = reply(rt, alloc, xid, results);
-    let payload = payload(rt, alloc, xid, proc, args);
     let ticket = link.submit(rt, call(rt, alloc, proc, args), form(rt, alloc, way));
     same(
         rt,
@@ -175,14 +201,8 @@ pub(crate) fn exchange(
         (ticket.xid(), link.has_outcome(&ticket)),
         (xid, false),
     );
-    served(
-        rt,
-        alloc,
-        link,
-        size,
-        payload.as_slice(),
-        (reply.as_slice(), sent),
-    );
+    let answer = (reply.as_slice(), sent);
+    call_served(rt, alloc, link, size, (xid, proc, args), answer);
     same(rt, size, link.has_outcome(&ticket), true);
     is_answered(rt, size, link.take(ticket), reply.as_slice(), sent);
 }
@@ -209,6 +229,7 @@ fn all_rows(rt: &impl Abort, alloc: Global, link: &mut TestLink, size: usize) {
 fn answered(rt: &impl Abort, alloc: Global, size: usize) {
     let mut link = greeted(rt, alloc, 16, size);
     all_rows(rt, alloc, &mut link, size);
+    link.close();
 }
 
 #[test]
@@ -224,7 +245,6 @@ static WRITE: [u32; 10] = [8, 0, 2, 0, 0, 5, 2, 5, 0x68656c6c, 0x6f000000];
 /// The data of a WRITE goes by a read chunk: while it is read the server keeps no room for the payload but the buffer of the sink.
 fn read_in_place(rt: &impl Abort, alloc: Global, link: &mut TestLink) {
     let reply = reply(rt, alloc, 1, &[70]);
-    let payload = payload(rt, alloc, 1, 7, &WRITE);
     let ticket = link.submit(rt, call(rt, alloc, 7, &WRITE), Form::Chunk);
     link.up(rt, alloc, 65536);
     // The staging buffer, the receives, a buffer for the stream of 72 bytes, the data and a pad, and a Read Request.
@@ -232,7 +252,7 @@ fn read_in_place(rt: &impl Abort, alloc: Global, link: &mut TestLink) {
     same(rt, 0, server, 65544 + 16 * 1024 + 80 + 52);
     link.down(rt, alloc, 65536);
     let answer = (reply.as_slice(), Sent::Inline);
-    served(rt, alloc, link, 65536, payload.as_slice(), answer);
+    call_served(rt, alloc, link, 65536, (1, 7, &WRITE), answer);
     is_answered(rt, 1, link.take(ticket), reply.as_slice(), Sent::Inline);
 }
 
@@ -240,6 +260,7 @@ fn read_in_place(rt: &impl Abort, alloc: Global, link: &mut TestLink) {
 fn a_write_is_read_in_place(rt: HostRuntime) {
     let mut link = greeted(&rt, rt.alloc(), 16, 65536);
     read_in_place(&rt, rt.alloc(), &mut link);
+    link.close();
 }
 
 /// The bytes of words up to some length.
@@ -251,8 +272,7 @@ fn first_bytes(rt: &impl Abort, alloc: Global, words: &[u32], len: usize) -> Vec
 
 /// Of a frame that isn't complete 91 bytes are staged, and of the next one ten.
 fn staged(rt: &impl Abort, alloc: Global, link: &mut TestLink) {
-    let hello = bytes(rt, alloc, &HELLO);
-    same(rt, 0, link.feed_up(rt, hello.as_slice()), Ok(()));
+    same(rt, 0, link.words_up(rt, alloc, &HELLO, 65536), Ok(()));
     let front = first_bytes(rt, alloc, &SENT, 91);
     same(rt, 1, link.feed_up(rt, front.as_slice()), Ok(()));
     same(rt, 2, link.counts(), [0, 1, 0, 0, 91, 1]);
@@ -263,6 +283,11 @@ fn staged(rt: &impl Abort, alloc: Global, link: &mut TestLink) {
         link.staged() == [Some(nothing), Some(front.as_slice())],
         true,
     );
+    next_staged(rt, alloc, link);
+}
+
+/// Of the next frame ten bytes are staged.
+fn next_staged(rt: &impl Abort, alloc: Global, link: &mut TestLink) {
     // The last byte of the first FPDU, and ten bytes of a second one.
     let more = first_bytes(rt, alloc, &[0x0000_5641, 0x4300_0000, 0], 11);
     same(rt, 3, link.feed_up(rt, more.as_slice()), Ok(()));
@@ -273,10 +298,21 @@ fn staged(rt: &impl Abort, alloc: Global, link: &mut TestLink) {
 fn client_staged(rt: &impl Abort, alloc: Global) {
     let mut link = TestLink::open(rt, alloc, 1);
     submit_null(rt, alloc, &mut link);
-    let mut sink = MemSink::new(alloc, Vec::new(alloc));
-    same(rt, 5, link.write_up(&mut sink), true);
-    let hello = bytes(rt, alloc, &HELLO_BACK);
-    same(rt, 6, link.feed_down(rt, hello.as_slice()), Ok(()));
+    let sent = stream(rt, alloc, &HELLO, &[]);
+    link.client_writes(rt, alloc, 5, sent.as_slice());
+    same(
+        rt,
+        6,
+        link.words_down(rt, alloc, &HELLO_BACK, 65536),
+        Ok(()),
+    );
+    reply_staged(rt, alloc, &mut link);
+    same(rt, 9, link.marks(), 4);
+    link.close();
+}
+
+/// Of the reply 27 bytes are staged.
+fn reply_staged(rt: &impl Abort, alloc: Global, link: &mut TestLink) {
     let front = first_bytes(rt, alloc, &REPLY_FRONT, 27);
     same(rt, 7, link.feed_down(rt, front.as_slice()), Ok(()));
     let nothing: &[u8] = &[];
@@ -286,13 +322,13 @@ fn client_staged(rt: &impl Abort, alloc: Global) {
         link.staged() == [Some(front.as_slice()), Some(nothing)],
         true,
     );
-    same(rt, 9, link.marks(), 4);
 }
 
 #[test]
 fn bytes_are_staged(rt: HostRuntime) {
     let mut link = TestLink::open(&rt, rt.alloc(), 1);
     staged(&rt, rt.alloc(), &mut link);
+    link.close();
     client_staged(&rt, rt.alloc());
 }
 
@@ -308,37 +344,68 @@ static FAILING: [(usize, usize); 2] = [(0, 0), (1, 20)];
 fn client_drained(rt: &impl Abort, alloc: Global, failing: usize, before: usize) {
     let mut link = TestLink::open(rt, alloc, 16);
     submit_null(rt, alloc, &mut link);
-    let hello = bytes(rt, alloc, &HELLO_BACK);
-    same(rt, 0, link.feed_down(rt, hello.as_slice()), Ok(()));
+    same(
+        rt,
+        0,
+        link.words_down(rt, alloc, &HELLO_BACK, 65536),
+        Ok(()),
+    );
+    let all = stream(rt, alloc, &HELLO, &SENT);
+    client_goes_on(rt, alloc, &mut link, (failing, before), all.as_slice());
+    link.close();
+}
+
+/// A sink fails at this write, before which it took so many bytes, and then takes all the rest.
+fn client_goes_on(
+    rt: &impl Abort,
+    alloc: Global,
+    link: &mut TestLink,
+    row: (usize, usize),
+    all: &[u8],
+) {
+    let (failing, before) = row;
     let mut sink = MemSink::new(alloc, [failing].to_vec(alloc).expect(rt, "memory"));
     same(rt, 1, link.write_up(&mut sink), false);
     same(rt, 2, sink.bytes().len(), before);
     same(rt, 3, link.write_up(&mut sink), true);
-    let mut all = bytes(rt, alloc, &HELLO);
-    put(rt, &mut all, &SENT);
-    same(rt, 4, sink.bytes() == all.as_slice(), true);
+    same(rt, 4, sink.bytes() == all, true);
 }
 
 /// The same of the server's hello and reply. The receive of the call is in use until all of the reply has left.
 fn server_drained(rt: &impl Abort, alloc: Global, failing: usize, before: usize) {
     let mut link = TestLink::open(rt, alloc, 16);
-    let mut sent = bytes(rt, alloc, &HELLO);
-    put(rt, &mut sent, &SENT);
+    null_answered(rt, alloc, &mut link);
+    let mut all = bytes(rt, alloc, &HELLO_BACK);
+    put_reply(rt, &mut all, 16);
+    server_goes_on(rt, alloc, &mut link, (failing, before), all.as_slice());
+    link.close();
+}
+
+/// A server end is fed a NULL call after the hello, and answers it.
+fn null_answered(rt: &impl Abort, alloc: Global, link: &mut TestLink) {
+    let sent = stream(rt, alloc, &HELLO, &SENT);
     same(rt, 0, link.feed_up(rt, sent.as_slice()), Ok(()));
     let reply = reply(rt, alloc, 1, &[]);
-    let (payload, answered) = link.answer(rt, alloc, reply.as_slice());
-    same(rt, 1, (payload.len(), answered), (40, Sent::Inline));
+    let answered = link.answer_len(rt, alloc, reply.as_slice());
+    same(rt, 1, answered, (40, Sent::Inline));
+}
+
+/// The same of the server.
+fn server_goes_on(
+    rt: &impl Abort,
+    alloc: Global,
+    link: &mut TestLink,
+    row: (usize, usize),
+    all: &[u8],
+) {
+    let (failing, before) = row;
     let mut sink = MemSink::new(alloc, [failing].to_vec(alloc).expect(rt, "memory"));
     same(rt, 2, link.write_down(&mut sink), false);
     same(rt, 3, sink.bytes().len(), before);
     same(rt, 4, link.counts(), [0, 1, 0, 1, 0, 2]);
     same(rt, 5, link.write_down(&mut sink), true);
     same(rt, 6, link.counts(), [0, 1, 0, 0, 0, 2]);
-    let mut all = bytes(rt, alloc, &HELLO_BACK);
-    put(rt, &mut all, &REPLY_FRONT);
-    put(rt, &mut all, &[16]);
-    put(rt, &mut all, &REPLY_REST);
-    same(rt, 7, sink.bytes() == all.as_slice(), true);
+    same(rt, 7, sink.bytes() == all, true);
 }
 
 #[test]
@@ -363,10 +430,9 @@ fn reply_grants(
 ) {
     submit_null(rt, alloc, link);
     let _sent = link.up(rt, alloc, 65536);
-    let mut stream = bytes(rt, alloc, &REPLY_FRONT);
-    put(rt, &mut stream, &[word]);
-    put(rt, &mut stream, &REPLY_REST);
-    same(rt, row, link.feed_down(rt, stream.as_slice()), Ok(()));
+    let mut fed = Vec::new(alloc);
+    put_reply(rt, &mut fed, word);
+    same(rt, row, link.feed_down(rt, fed.as_slice()), Ok(()));
     let [outstanding, granted, ..] = link.counts();
     same(rt, row, (outstanding, granted), (0, grant as usize));
 }
@@ -376,6 +442,7 @@ fn credits_are_granted(rt: HostRuntime) {
     for (row, (word, grant)) in GRANTS.iter().enumerate() {
         let mut link = greeted(&rt, rt.alloc(), 16, 65536);
         reply_grants(&rt, rt.alloc(), &mut link, row, *word, *grant);
+        link.close();
     }
 }
 
@@ -391,17 +458,19 @@ fn awaiting(rt: &impl Abort, alloc: Global) -> Requester {
     link.into_client()
 }
 
+/// The procedure of the next call that goes back, and whether it has a buffer for a write chunk.
+fn next_back(remains: &mut Remains) -> Option<(u32, bool)> {
+    let (call, buffers) = remains.next()?;
+    Some((call.proc, buffers.write.is_some()))
+}
+
 /// A client end that is taken apart gives back what was not taken.
 fn gone_back(rt: &impl Abort, alloc: Global) {
     let mut remains = awaiting(rt, alloc).dismantle();
     for (row, (proc, writes)) in LEFT.iter().enumerate() {
-        let Some((call, buffers)) = remains.next() else {
-            panic!(rt; "row {row}: a call is missing");
-        };
-        same(rt, row, call.proc, *proc);
-        same(rt, row, buffers.write.is_some(), *writes);
+        same(rt, row, next_back(&mut remains), Some((*proc, *writes)));
     }
-    same(rt, 2, remains.next().is_none(), true);
+    same(rt, 2, next_back(&mut remains), None);
 }
 
 #[test]
@@ -411,24 +480,28 @@ fn calls_go_back(rt: HostRuntime) {
 
 /// The first xid is the one that was asked for.
 fn first_xid(rt: &impl Abort, alloc: Global) {
-    let mut client = Requester::open_at(alloc, 7, 3, 1).expect(rt, "memory");
-    match client.submit(call(rt, alloc, 0, &[]), Form::Auto) {
-        Ok(ticket) => {
-            same(rt, 0, ticket.xid(), 7);
-            client.forget(ticket);
-        }
-        Err(_) => panic!(rt; "refused"),
-    }
-    same(rt, 1, client.outstanding(), 1);
-    same(rt, 2, client.end(), None);
+    let mut link = TestLink::open_at(rt, alloc, 7, 3, 1);
+    let ticket = link.submit(rt, call(rt, alloc, 0, &[]), Form::Auto);
+    same(rt, 0, ticket.xid(), 7);
+    link.forget(ticket);
+    let [outstanding, ..] = link.counts();
+    same(rt, 1, outstanding, 1);
+    same(rt, 2, link.ends(), (None, None));
+    link.close();
 }
 
 /// After the call with the last xid no xid is left.
 fn last_xid(rt: &impl Abort, alloc: Global) {
-    let mut link = TestLink::open_at(rt, alloc, u32::MAX, 4);
+    let mut link = TestLink::open_at(rt, alloc, u32::MAX, 1, 4);
     let _hello = link.up(rt, alloc, 65536);
     let _back = link.down(rt, alloc, 65536);
     exchange(rt, alloc, &mut link, u32::MAX, 65536, ROWS[0]);
+    no_xid_is_left(rt, alloc, &mut link);
+    link.close();
+}
+
+/// A call is refused, since no xid is left.
+fn no_xid_is_left(rt: &impl Abort, alloc: Global, link: &mut TestLink) {
     match link.refusal(call(rt, alloc, 0, &[]), Form::Auto) {
         Some(Refused::Spent { left, need }) => same(rt, 0, (left, need), (0, 1)),
         _ => panic!(rt; "not refused as spent"),

@@ -1,11 +1,9 @@
 //! Calls at the limits of an offer, fed to a server end as bytes, with all that it writes; and nine reads, of which eight are open at a time.
 
-use crate::calls::greeted;
+use crate::calls::{Way, form, greeted};
 use crate::compare::same;
 use crate::link::TestLink;
 use crate::words::{HELLO, HELLO_BACK, bytes, call, put};
-use nr_outside::MemSink;
-use nr_reduce::{Form, Lengths, Offer};
 use nr_responder::Sent;
 use std::alloc::Global;
 use std::process::Abort;
@@ -22,14 +20,19 @@ static REPLY_HANDLES: [u32; 16] = [
     51, 52, 53, 54, 55, 56, 57, 58, 59, 60, 61, 62, 63, 64, 65, 66,
 ];
 
+/// Puts segments with these handles and lengths, all at one offset.
+fn put_segments(rt: &impl Abort, bytes: &mut Vec<u8>, handles: &[u32], lengths: &[u32], at: u32) {
+    for (handle, length) in handles.iter().zip(lengths.iter()) {
+        put(rt, bytes, &[*handle, *length, 0, at]);
+    }
+}
+
 /// Puts the write list (RFC 8166 section 4.3.2): the lengths of the first chunk, and those of each other.
 fn put_write_list(rt: &impl Abort, bytes: &mut Vec<u8>, first: [u32; 4], others: [u32; 4]) {
     for (chunk, handles) in WRITE_HANDLES.iter().enumerate() {
         let lengths = if chunk == 0 { first } else { others };
         put(rt, bytes, &[1, 4]);
-        for (handle, length) in handles.iter().zip(lengths.iter()) {
-            put(rt, bytes, &[*handle, *length, 0, 7]);
-        }
+        put_segments(rt, bytes, handles, &lengths, 7);
     }
     put(rt, bytes, &[0]);
 }
@@ -37,9 +40,7 @@ fn put_write_list(rt: &impl Abort, bytes: &mut Vec<u8>, first: [u32; 4], others:
 /// Puts the reply chunk (RFC 8166 section 4.3.3) with these lengths.
 fn put_reply_chunk(rt: &impl Abort, bytes: &mut Vec<u8>, lengths: &[u32; 16]) {
     put(rt, bytes, &[1, 16]);
-    for (handle, length) in REPLY_HANDLES.iter().zip(lengths.iter()) {
-        put(rt, bytes, &[*handle, *length, 0, 9]);
-    }
+    put_segments(rt, bytes, &REPLY_HANDLES, lengths, 9);
 }
 
 /// The hello and a Send with this first word, of a call with these words (RFC 5531 section 9): its header offers all of the chunks.
@@ -66,11 +67,18 @@ fn server_writes(
     let (len, reply, sent) = answer;
     let mut link = TestLink::open(rt, alloc, 16);
     same(rt, size, link.pieces_up(rt, fed, size), Ok(()));
-    let (payload, answered) = link.answer(rt, alloc, reply);
-    same(rt, size, (payload.len(), answered), (len, sent));
-    let mut sink = MemSink::new(alloc, Vec::new(alloc));
-    same(rt, size, link.write_down(&mut sink), true);
-    same(rt, size, sink.bytes() == written, true);
+    same(rt, size, link.answer_len(rt, alloc, reply), (len, sent));
+    link.server_writes(rt, alloc, size, written);
+    link.close();
+}
+
+/// Puts the RDMA Writes of the data and the Send of the answer to the READ.
+fn put_data_answer(rt: &impl Abort, written: &mut Vec<u8>) {
+    put(rt, written, &[0x0012c140, 11, 0, 7, 0x68656c6c, 0]);
+    put(rt, written, &[0x000fc140, 12, 0, 7, 0x6f000000, 0]);
+    put(rt, written, &[0x017a4143, 0, 0, 1, 0, 1, 1, 16, 0, 0]);
+    put_write_list(rt, written, [4, 1, 0, 0], [0; 4]);
+    put(rt, written, &[0, 1, 1, 0, 0, 0, 0, 0, 0, 5, 1, 5, 0]);
 }
 
 /// A READ of `hello`: four bytes go to the first segment of the first chunk, one to the second.
@@ -80,11 +88,7 @@ fn data_goes(rt: &impl Abort, alloc: Global, size: usize) {
     let words = [1, 1, 0, 0, 0, 0, 0, 0, 5, 1, 5, 0x68656c6c, 0x6f000000];
     let reply = bytes(rt, alloc, &words);
     let mut written = bytes(rt, alloc, &HELLO_BACK);
-    put(rt, &mut written, &[0x0012c140, 11, 0, 7, 0x68656c6c, 0]);
-    put(rt, &mut written, &[0x000fc140, 12, 0, 7, 0x6f000000, 0]);
-    put(rt, &mut written, &[0x017a4143, 0, 0, 1, 0, 1, 1, 16, 0, 0]);
-    put_write_list(rt, &mut written, [4, 1, 0, 0], [0; 4]);
-    put(rt, &mut written, &[0, 1, 1, 0, 0, 0, 0, 0, 0, 5, 1, 5, 0]);
+    put_data_answer(rt, &mut written);
     let answer = (64, reply.as_slice(), Sent::Inline);
     server_writes(rt, alloc, size, fed.as_slice(), answer, written.as_slice());
 }
@@ -112,6 +116,25 @@ fn put_writes(rt: &impl Abort, written: &mut Vec<u8>, reply: &[u8]) {
     }
 }
 
+/// Puts 300 words of results, which count up from 0.
+fn put_counting(rt: &impl Abort, reply: &mut Vec<u8>) {
+    for word in 0..300u32 {
+        put(rt, reply, &[word]);
+    }
+}
+
+/// Puts the RDMA Writes of a reply of 1,224 bytes, and the Send of the answer to the READDIR.
+fn put_reply_answer(rt: &impl Abort, written: &mut Vec<u8>, reply: &[u8]) {
+    put_writes(rt, written, reply);
+    put(rt, written, &[0x02524143, 0, 0, 1, 0, 1, 1, 16, 1, 0]);
+    put_write_list(rt, written, [0; 4], [0; 4]);
+    let lengths = [
+        100, 100, 100, 100, 100, 100, 100, 100, 100, 100, 100, 100, 24, 0, 0, 0,
+    ];
+    put_reply_chunk(rt, written, &lengths);
+    put(rt, written, &[0]);
+}
+
 /// A READDIR with a reply of 1,224 bytes: twelve segments of the reply chunk are filled, and 24 bytes go to the next one.
 fn reply_goes(rt: &impl Abort, alloc: Global, size: usize) {
     let call = [
@@ -119,18 +142,9 @@ fn reply_goes(rt: &impl Abort, alloc: Global, size: usize) {
     ];
     let fed = offering(rt, alloc, 0x029a4143, &call);
     let mut reply = bytes(rt, alloc, &[1, 1, 0, 0, 0, 0]);
-    for word in 0..300u32 {
-        put(rt, &mut reply, &[word]);
-    }
+    put_counting(rt, &mut reply);
     let mut written = bytes(rt, alloc, &HELLO_BACK);
-    put_writes(rt, &mut written, reply.as_slice());
-    put(rt, &mut written, &[0x02524143, 0, 0, 1, 0, 1, 1, 16, 1, 0]);
-    put_write_list(rt, &mut written, [0; 4], [0; 4]);
-    let lengths = [
-        100, 100, 100, 100, 100, 100, 100, 100, 100, 100, 100, 100, 24, 0, 0, 0,
-    ];
-    put_reply_chunk(rt, &mut written, &lengths);
-    put(rt, &mut written, &[0]);
+    put_reply_answer(rt, &mut written, reply.as_slice());
     let answer = (72, reply.as_slice(), Sent::Long);
     server_writes(rt, alloc, size, fed.as_slice(), answer, written.as_slice());
 }
@@ -143,18 +157,20 @@ fn four_write_chunks_and_a_reply_chunk(rt: HostRuntime) {
     }
 }
 
-/// A WRITE of nine bytes whose read chunk has a segment for each: eight Read Requests go out, and the ninth once a response is complete.
+/// A WRITE of nine bytes is submitted, whose read chunk has a segment for each.
+fn submit_nine(rt: &impl Abort, alloc: Global, link: &mut TestLink) {
+    let args = [8, 0, 2, 0, 0, 9, 2, 9, 0x61626364, 0x65666768, 0x69000000];
+    drop(link.submit(
+        rt,
+        call(rt, alloc, 7, &args),
+        form(rt, alloc, Way::Read(&[1, 1, 1, 1, 1, 1, 1, 1, 1])),
+    ));
+}
+
+/// A read chunk of nine segments: eight Read Requests go out, and the ninth once a response is complete.
 fn nine_reads(rt: &impl Abort, alloc: Global, size: usize) {
     let mut link = greeted(rt, alloc, 16, size);
-    let args = [8, 0, 2, 0, 0, 9, 2, 9, 0x61626364, 0x65666768, 0x69000000];
-    let lengths = [1; 9].to_vec(alloc).expect(rt, "memory");
-    let offer = Offer {
-        read_at: 72,
-        read: Some(Lengths::from_vec(lengths)),
-        write: None,
-        reply: None,
-    };
-    drop(link.submit(rt, call(rt, alloc, 7, &args), Form::Given(offer)));
+    submit_nine(rt, alloc, &mut link);
     // The Send; eight Read Requests, and their responses of one byte; one more.
     same(rt, 0, link.up(rt, alloc, size), 340);
     same(rt, 1, link.down(rt, alloc, size), 8 * 52);
@@ -162,8 +178,9 @@ fn nine_reads(rt: &impl Abort, alloc: Global, size: usize) {
     same(rt, 3, link.counts(), [1, 1, 1, 1, 0, 2]);
     same(rt, 4, link.down(rt, alloc, size), 52);
     same(rt, 5, link.up(rt, alloc, size), 24);
-    let (payload, sent) = link.answer(rt, alloc, &[0; 24]);
-    same(rt, 6, (payload.len(), sent), (84, Sent::Inline));
+    let answered = link.answer_len(rt, alloc, &[0; 24]);
+    same(rt, 6, answered, (84, Sent::Inline));
+    link.close();
 }
 
 #[test]

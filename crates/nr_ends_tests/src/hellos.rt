@@ -4,7 +4,6 @@ use crate::compare::same;
 use crate::link::TestLink;
 use crate::words::{HELLO, HELLO_BACK, bytes};
 use nr_link::End;
-use nr_outside::MemSink;
 use std::alloc::Global;
 use std::process::Abort;
 
@@ -41,13 +40,12 @@ fn to_server(rt: &impl Abort, alloc: Global, row: usize, size: usize, fed: &[u8]
     let (_, reason, back) = cells;
     let mut link = TestLink::open(rt, alloc, 16);
     same(rt, row, link.pieces_up(rt, fed, size), fed_end(reason));
-    let mut sink = MemSink::new(alloc, Vec::new(alloc));
-    same(rt, row, link.write_down(&mut sink), true);
     let written = match back {
         Some(last) => hello_with(rt, alloc, &HELLO_BACK, last),
         None => Vec::new(alloc),
     };
-    same(rt, row, sink.bytes() == written.as_slice(), true);
+    link.server_writes(rt, alloc, row, written.as_slice());
+    link.close();
 }
 
 /// The same of the client end, which writes its own hello alone.
@@ -55,10 +53,9 @@ fn to_client(rt: &impl Abort, alloc: Global, row: usize, size: usize, fed: &[u8]
     let (_, reason, _) = cells;
     let mut link = TestLink::open(rt, alloc, 16);
     same(rt, row, link.pieces_down(rt, fed, size), fed_end(reason));
-    let mut sink = MemSink::new(alloc, Vec::new(alloc));
-    same(rt, row, link.write_up(&mut sink), true);
     let written = bytes(rt, alloc, &HELLO);
-    same(rt, row, sink.bytes() == written.as_slice(), true);
+    link.client_writes(rt, alloc, row, written.as_slice());
+    link.close();
 }
 
 fn hello_row(rt: &impl Abort, alloc: Global, row: usize, size: usize, cells: Row) {

@@ -4,6 +4,8 @@ ghost use Rattle.std.specs.Prelude.{◌≡◌, ◌≤◌, ◌+◌, ◌^◌, leng
 ghost use Rattle.nr_requester.specs.OpenCalls.{open_call, KeepsTickets, OpensTicket};
 ghost use Rattle.nr_rpc.specs.Credential.{CanWriteCred};
 
+use crate::compare::same;
+use crate::words::bytes;
 use nr_link::End;
 use nr_outside::MemSink;
 use nr_reduce::{Call, Form, Refused};
@@ -61,16 +63,39 @@ fn with_piece(rt: &impl Abort, fed: u64, piece: &[u8]) -> u64
     fed + piece.len() as u64
 }
 
+/// Ends the test if other buffers have gone back.
+fn gone_back(
+    rt: &impl Abort,
+    row: usize,
+    buffers: &Buffers,
+    write: Option<&[u8]>,
+    has_reply: bool,
+) {
+    let got = match &buffers.write {
+        Some(buffer) => Some(buffer.as_slice()),
+        None => None,
+    };
+    same(rt, row, got == write, true);
+    same(rt, row, buffers.reply.is_some(), has_reply);
+}
+
 impl TestLink {
     /// Two ends with this number of credits. No byte has moved.
     pub fn open(rt: &impl Abort, alloc: Global, credits: u32) -> TestLink {
-        TestLink::open_at(rt, alloc, 1, credits)
+        TestLink::open_at(rt, alloc, 1, 1, credits)
     }
 
-    /// The same, with this first xid.
-    pub fn open_at(rt: &impl Abort, alloc: Global, first_xid: u32, credits: u32) -> TestLink {
+    /// The same, with this first xid and this first STag.
+    pub fn open_at(
+        rt: &impl Abort,
+        alloc: Global,
+        first_xid: u32,
+        first_stag: u32,
+        credits: u32,
+    ) -> TestLink {
+        check(rt, first_stag > 0);
         TestLink {
-            client: Requester::open_at(alloc, first_xid, 1, credits).expect(rt, "memory"),
+            client: Requester::open_at(alloc, first_xid, first_stag, credits).expect(rt, "memory"),
             server: Responder::open(alloc, credits).expect(rt, "memory"),
             fed_up: 0,
             fed_down: 0,
@@ -181,6 +206,52 @@ impl TestLink {
         Ok(())
     }
 
+    /// Feeds the server end the bytes of words in pieces of this length, until it ends.
+    pub fn words_up(
+        &mut self,
+        rt: &impl Abort,
+        alloc: Global,
+        words: &[u32],
+        size: usize,
+    ) -> Result<(), End>
+        ensures { self.new ≡ self.old }
+    {
+        let fed = bytes(rt, alloc, words);
+        self.pieces_up(rt, fed.as_slice(), size)
+    }
+
+    /// Feeds the client end the bytes of words in pieces of this length, until it ends.
+    pub fn words_down(
+        &mut self,
+        rt: &impl Abort,
+        alloc: Global,
+        words: &[u32],
+        size: usize,
+    ) -> Result<(), End>
+        ensures { KeepsTickets self.old.state self.new.state }
+    {
+        let fed = bytes(rt, alloc, words);
+        self.pieces_down(rt, fed.as_slice(), size)
+    }
+
+    /// Ends the test if a sink doesn't take all that the client end has to write, or if these are other bytes.
+    pub fn client_writes(&mut self, rt: &impl Abort, alloc: Global, row: usize, written: &[u8])
+        ensures { KeepsTickets self.old.state self.new.state }
+    {
+        let mut sink = MemSink::new(alloc, Vec::new(alloc));
+        same(rt, row, self.write_up(&mut sink), true);
+        same(rt, row, sink.bytes() == written, true);
+    }
+
+    /// The same of the server end.
+    pub fn server_writes(&mut self, rt: &impl Abort, alloc: Global, row: usize, written: &[u8])
+        ensures { self.new ≡ self.old }
+    {
+        let mut sink = MemSink::new(alloc, Vec::new(alloc));
+        same(rt, row, self.write_down(&mut sink), true);
+        same(rt, row, sink.bytes() == written, true);
+    }
+
     /// All that the client end has to write reaches the server end, in pieces of this length. How many bytes these are.
     pub fn up(&mut self, rt: &impl Abort, alloc: Global, size: usize) -> usize
         ensures { KeepsTickets self.old.state self.new.state }
@@ -239,6 +310,30 @@ impl TestLink {
         }
     }
 
+    /// The length of the payload of the next call that is ready, and the answer to it.
+    pub fn answer_len(&mut self, rt: &impl Abort, alloc: Global, reply: &[u8]) -> (usize, Sent)
+        ensures { self.new ≡ self.old }
+    {
+        let (payload, sent) = self.answer(rt, alloc, reply);
+        (payload.len(), sent)
+    }
+
+    /// The answer to the next call that is ready. Ends the test if its payload is another.
+    pub fn answer_to(
+        &mut self,
+        rt: &impl Abort,
+        alloc: Global,
+        row: usize,
+        payload: &[u8],
+        reply: &[u8],
+    ) -> Sent
+        ensures { self.new ≡ self.old }
+    {
+        let (conveyed, sent) = self.answer(rt, alloc, reply);
+        same(rt, row, conveyed.as_slice() == payload, true);
+        sent
+    }
+
     /// Takes the answer to a call.
     pub fn take(&mut self, ticket: Ticket) -> Take
         requires { is_some (open_call ticket self.old.state) ≡ true }
@@ -253,12 +348,26 @@ impl TestLink {
         self.client.forget(ticket);
     }
 
-    /// Revokes the memory of a call.
-    pub fn revoke(&mut self, ticket: Ticket) -> (Call, Buffers)
+    /// Revokes the memory of a call. Ends the test if what goes back is another call, has another buffer for a write chunk, or one for a
+    /// reply chunk unless it should.
+    pub fn revoke(
+        &mut self,
+        rt: &impl Abort,
+        row: usize,
+        ticket: Ticket,
+        proc: u32,
+        write: Option<&[u8]>,
+        has_reply: bool,
+    )
         requires { is_some (open_call ticket self.old.state) ≡ true }
     {
-        self.client.revoke(ticket)
+        let (call, buffers) = self.client.revoke(ticket);
+        same(rt, row, call.proc, proc);
+        gone_back(rt, row, &buffers, write, has_reply);
     }
+
+    /// Lets the link go. A test ends with it, since each function that lets a link go takes it apart in the borrow checker's output.
+    pub fn close(self) {}
 
     /// The client end alone.
     pub fn into_client(self) -> Requester {

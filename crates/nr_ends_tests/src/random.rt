@@ -33,6 +33,7 @@ fn random_calls(rt: &impl Abort, alloc: Global, count: u32) {
     }
     same(rt, 0, link.counts(), [0, 16, 0, 0, 0, 2]);
     same(rt, 1, link.ends(), (None, None));
+    link.close();
 }
 
 #[test]

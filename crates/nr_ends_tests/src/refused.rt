@@ -3,7 +3,6 @@
 use crate::compare::same;
 use crate::link::TestLink;
 use crate::words::{HELLO, HELLO_BACK, bytes, put};
-use nr_outside::MemSink;
 use std::alloc::Global;
 use std::process::Abort;
 
@@ -50,6 +49,27 @@ fn put_send(rt: &impl Abort, bytes: &mut Vec<u8>, words: &[u32]) {
     put(rt, bytes, &[0]);
 }
 
+/// The server end is fed its peer's hello and a Send of these words.
+fn feed_send(
+    rt: &impl Abort,
+    alloc: Global,
+    link: &mut TestLink,
+    row: usize,
+    size: usize,
+    words: &[u32],
+) {
+    let mut fed = bytes(rt, alloc, &HELLO);
+    put_send(rt, &mut fed, words);
+    same(rt, row, link.pieces_up(rt, fed.as_slice(), size), Ok(()));
+}
+
+/// Ends the test if the server end writes something else than its hello and a Send of these words.
+fn writes_send(rt: &impl Abort, alloc: Global, link: &mut TestLink, row: usize, words: &[u32]) {
+    let mut written = bytes(rt, alloc, &HELLO_BACK);
+    put_send(rt, &mut written, words);
+    link.server_writes(rt, alloc, row, written.as_slice());
+}
+
 /// Ends the test if a server end that is fed a Send of these words writes something else than an error message of these.
 fn refuses(
     rt: &impl Abort,
@@ -60,17 +80,12 @@ fn refuses(
     message: &[u32],
 ) {
     let mut link = TestLink::open(rt, alloc, 16);
-    let mut fed = bytes(rt, alloc, &HELLO);
-    put_send(rt, &mut fed, words);
-    same(rt, row, link.pieces_up(rt, fed.as_slice(), size), Ok(()));
+    feed_send(rt, alloc, &mut link, row, size, words);
     // Its receive is in use until the error message has left.
     same(rt, row, link.counts(), [0, 1, 0, 1, 0, 2]);
-    let mut sink = MemSink::new(alloc, Vec::new(alloc));
-    same(rt, row, link.write_down(&mut sink), true);
+    writes_send(rt, alloc, &mut link, row, message);
     same(rt, row, link.counts(), [0, 1, 0, 0, 0, 2]);
-    let mut written = bytes(rt, alloc, &HELLO_BACK);
-    put_send(rt, &mut written, message);
-    same(rt, row, sink.bytes() == written.as_slice(), true);
+    link.close();
 }
 
 #[test]

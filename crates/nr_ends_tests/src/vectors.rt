@@ -1,14 +1,14 @@
 //! FPDUs spelled out in words, fed to both ends and written by them: a READ of `hello` through a write chunk, a WRITE of `HELLO` through a
 //! read chunk, and a Terminate.
 
-use crate::calls::{Way, form};
+ghost use Rattle.nr_requester.specs.OpenCalls.{KeepsTickets};
+
+use crate::calls::{Way, form, is_answered};
 use crate::compare::same;
 use crate::link::TestLink;
-use crate::words::{HELLO, HELLO_BACK, bytes, call, put};
+use crate::words::{HELLO, HELLO_BACK, bytes, call, stream};
 use nr_link::End;
-use nr_outside::MemSink;
-use nr_reduce::Outcome;
-use nr_requester::{Done, Take};
+use nr_responder::Sent;
 use std::alloc::Global;
 use std::process::Abort;
 
@@ -46,13 +46,6 @@ static BAD: [u32; 3] = [0x00054143, 0, 0];
 
 static TERMINATE: [u32; 7] = [0x00164147, 0, 2, 1, 0, 5, 0];
 
-/// The bytes of a hello and of an FPDU, or of several.
-fn stream(rt: &impl Abort, alloc: Global, hello: &[u32], frames: &[u32]) -> Vec<u8> {
-    let mut stream = bytes(rt, alloc, hello);
-    put(rt, &mut stream, frames);
-    stream
-}
-
 /// A link whose server was fed the hello and these FPDUs.
 fn fed_up(
     rt: &impl Abort,
@@ -69,35 +62,55 @@ fn fed_up(
 
 /// Ends the test if the server writes other FPDUs after its hello.
 fn server_writes(rt: &impl Abort, alloc: Global, link: &mut TestLink, frames: &[u32]) {
-    let mut sink = MemSink::new(alloc, Vec::new(alloc));
-    same(rt, 0, link.write_down(&mut sink), true);
     let written = stream(rt, alloc, &HELLO_BACK, frames);
-    same(rt, 1, sink.bytes() == written.as_slice(), true);
+    link.server_writes(rt, alloc, 1, written.as_slice());
 }
 
-fn server(rt: &impl Abort, alloc: Global, size: usize) {
+/// The server is fed the READ, and answers it.
+fn server_reads(rt: &impl Abort, alloc: Global, size: usize) {
     let mut link = fed_up(rt, alloc, size, &READ_SENT, Ok(()));
     let reply = bytes(rt, alloc, &READ_REPLY);
-    let (payload, _sent) = link.answer(rt, alloc, reply.as_slice());
-    same(rt, 2, payload.len(), 64);
+    let answered = link.answer_len(rt, alloc, reply.as_slice());
+    same(rt, 2, answered, (64, Sent::Inline));
     server_writes(rt, alloc, &mut link, &READ_ANSWER);
-    let mut link = fed_up(rt, alloc, size, &WRITE_SENT, Ok(()));
-    server_writes(rt, alloc, &mut link, &READ_REQUEST);
-    let response = bytes(rt, alloc, &READ_RESPONSE);
-    same(rt, 3, link.pieces_up(rt, response.as_slice(), size), Ok(()));
+    link.close();
+}
+
+/// The payload of the WRITE that the server executes ends with its data.
+fn data_is_written(rt: &impl Abort, alloc: Global, link: &mut TestLink) {
     let (payload, _sent) = link.answer(rt, alloc, &[0; 24]);
     let data = bytes(rt, alloc, &[5, 0x48454c4c, 0x4f000000]);
     same(rt, 4, payload.as_slice().ends_with(data.as_slice()), true);
+}
+
+/// The server is fed the WRITE, and reads its data.
+fn server_writes_data(rt: &impl Abort, alloc: Global, size: usize) {
+    let mut link = fed_up(rt, alloc, size, &WRITE_SENT, Ok(()));
+    server_writes(rt, alloc, &mut link, &READ_REQUEST);
+    same(
+        rt,
+        3,
+        link.words_up(rt, alloc, &READ_RESPONSE, size),
+        Ok(()),
+    );
+    data_is_written(rt, alloc, &mut link);
+    link.close();
+}
+
+/// The server ends for a frame.
+fn server_ends(rt: &impl Abort, alloc: Global, size: usize) {
     let end = End::Bad { at: 20, reason: 5 };
     let mut link = fed_up(rt, alloc, size, &BAD, Err(end));
     server_writes(rt, alloc, &mut link, &TERMINATE);
+    link.close();
 }
 
 /// Ends the test if the client writes other FPDUs, after its hello if that was not written before.
-fn client_writes(rt: &impl Abort, alloc: Global, link: &mut TestLink, written: &[u8]) {
-    let mut sink = MemSink::new(alloc, Vec::new(alloc));
-    same(rt, 5, link.write_up(&mut sink), true);
-    same(rt, 6, sink.bytes() == written, true);
+fn client_writes(rt: &impl Abort, alloc: Global, link: &mut TestLink, hello: &[u32], frames: &[u32])
+    ensures { KeepsTickets link.old.state link.new.state }
+{
+    let written = stream(rt, alloc, hello, frames);
+    link.client_writes(rt, alloc, 6, written.as_slice());
 }
 
 /// The client submits the READ, and takes its answer.
@@ -105,57 +118,59 @@ fn client_reads(rt: &impl Abort, alloc: Global, size: usize) {
     let mut link = TestLink::open(rt, alloc, 16);
     let read = call(rt, alloc, 6, &[8, 0, 2, 0, 0, 5]);
     let ticket = link.submit(rt, read, form(rt, alloc, Way::Write(&[5])));
-    let hello = bytes(rt, alloc, &HELLO_BACK);
-    same(rt, 7, link.pieces_down(rt, hello.as_slice(), size), Ok(()));
-    let mut sink = MemSink::new(alloc, Vec::new(alloc));
-    same(rt, 8, link.write_up(&mut sink), true);
-    let written = stream(rt, alloc, &HELLO, &READ_SENT);
-    same(rt, 9, sink.bytes() == written.as_slice(), true);
-    let answer = bytes(rt, alloc, &READ_ANSWER);
+    same(rt, 7, link.words_down(rt, alloc, &HELLO_BACK, size), Ok(()));
+    client_writes(rt, alloc, &mut link, &HELLO, &READ_SENT);
     same(
         rt,
         10,
-        link.pieces_down(rt, answer.as_slice(), size),
+        link.words_down(rt, alloc, &READ_ANSWER, size),
         Ok(()),
     );
     let reply = bytes(rt, alloc, &READ_REPLY);
-    let Take::Done(Done { outcome, .. }) = link.take(ticket) else {
-        panic!(rt; "no answer");
-    };
-    match outcome {
-        Outcome::Reply(got) => same(rt, 11, got.as_slice() == reply.as_slice(), true),
-        _ => panic!(rt; "no reply"),
-    }
+    is_answered(rt, 11, link.take(ticket), reply.as_slice(), Sent::Inline);
+    link.close();
 }
 
-/// The client submits the WRITE, and its memory is read; and it ends for a frame.
-fn client_writes_data(rt: &impl Abort, alloc: Global, size: usize) {
-    let mut link = TestLink::open(rt, alloc, 16);
+/// The client submits the WRITE.
+fn submit_write(rt: &impl Abort, alloc: Global, link: &mut TestLink) {
     let args = [8, 0, 2, 0, 0, 5, 2, 5, 0x48454c4c, 0x4f000000];
     drop(link.submit(
         rt,
         call(rt, alloc, 7, &args),
         form(rt, alloc, Way::Read(&[5])),
     ));
-    let fed = stream(rt, alloc, &HELLO_BACK, &READ_REQUEST);
-    let written = stream(rt, alloc, &HELLO, &WRITE_SENT);
-    let (hello, request) = fed.as_slice().split_at(fed.len().min(20));
-    same(rt, 12, link.pieces_down(rt, hello, size), Ok(()));
-    client_writes(rt, alloc, &mut link, written.as_slice());
-    same(rt, 13, link.pieces_down(rt, request, size), Ok(()));
-    let response = bytes(rt, alloc, &READ_RESPONSE);
-    client_writes(rt, alloc, &mut link, response.as_slice());
-    let bad = bytes(rt, alloc, &BAD);
+}
+
+/// The client submits the WRITE, and its memory is read; and it ends for a frame.
+fn client_writes_data(rt: &impl Abort, alloc: Global, size: usize) {
+    let mut link = TestLink::open(rt, alloc, 16);
+    submit_write(rt, alloc, &mut link);
+    same(
+        rt,
+        12,
+        link.words_down(rt, alloc, &HELLO_BACK, size),
+        Ok(()),
+    );
+    client_writes(rt, alloc, &mut link, &HELLO, &WRITE_SENT);
+    same(
+        rt,
+        13,
+        link.words_down(rt, alloc, &READ_REQUEST, size),
+        Ok(()),
+    );
+    client_writes(rt, alloc, &mut link, &[], &READ_RESPONSE);
     let end = End::Bad { at: 72, reason: 5 };
-    same(rt, 14, link.pieces_down(rt, bad.as_slice(), size), Err(end));
-    let terminate = bytes(rt, alloc, &TERMINATE);
-    client_writes(rt, alloc, &mut link, terminate.as_slice());
+    same(rt, 14, link.words_down(rt, alloc, &BAD, size), Err(end));
+    client_writes(rt, alloc, &mut link, &[], &TERMINATE);
+    link.close();
 }
 
 #[test]
 fn vectors(rt: HostRuntime) {
     for size in [1, 65536] {
-        server(&rt, rt.alloc(), size);
+        server_reads(&rt, rt.alloc(), size);
+        server_writes_data(&rt, rt.alloc(), size);
+        server_ends(&rt, rt.alloc(), size);
         client_reads(&rt, rt.alloc(), size);
         client_writes_data(&rt, rt.alloc(), size);
     }

@@ -23,7 +23,7 @@ pub static SENT: [u32; 23] = [
 /// The FPDU of the reply, before and after its credit word.
 pub static REPLY_FRONT: [u32; 7] = [0x00464143, 0, 0, 1, 0, 1, 1];
 
-pub static REPLY_REST: [u32; 11] = [0, 0, 0, 0, 1, 1, 0, 0, 0, 0, 0];
+static REPLY_REST: [u32; 11] = [0, 0, 0, 0, 1, 1, 0, 0, 0, 0, 0];
 
 /// Appends the bytes of some words (RFC 4506 section 4.1).
 pub fn put(rt: &impl Abort, bytes: &mut Vec<u8>, words: &[u32]) {
@@ -39,6 +39,20 @@ pub fn bytes(rt: &impl Abort, alloc: Global, words: &[u32]) -> Vec<u8> {
     let mut bytes = Vec::new(alloc);
     put(rt, &mut bytes, words);
     bytes
+}
+
+/// The bytes of a hello and of an FPDU, or of several.
+pub fn stream(rt: &impl Abort, alloc: Global, hello: &[u32], frames: &[u32]) -> Vec<u8> {
+    let mut stream = bytes(rt, alloc, hello);
+    put(rt, &mut stream, frames);
+    stream
+}
+
+/// Appends the FPDU of the reply to the NULL call, with this credit word.
+pub fn put_reply(rt: &impl Abort, bytes: &mut Vec<u8>, word: u32) {
+    put(rt, bytes, &REPLY_FRONT);
+    put(rt, bytes, &[word]);
+    put(rt, bytes, &REPLY_REST);
 }
 
 /// A call of NFS version 3 without a credential.
