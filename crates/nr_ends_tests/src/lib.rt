@@ -25,3 +25,5 @@ mod refused;
 mod vectors;
 #[cfg(test)]
 mod words;
+#[cfg(test)]
+mod xids;
