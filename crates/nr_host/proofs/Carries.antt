@@ -9,16 +9,15 @@ use Rattle.nr_outside.specs.declared.moment.Moment.{Moment}
 use Rattle.nr_endpoint.specs.LinkState.{initial_link}
 use Rattle.nr_wire.specs.declared.hello.Side.TheVariants.{Responder}
 use Rattle.nr_reduce.specs.declared.mark.Mark.{Mark}
-use Rattle.nr_reduce.specs.declared.mark.Entry.{Entry}
 use Rattle.nr_reduce.specs.declared.mark.LinkParameters.{LinkParameters}
 use Rattle.nr_reduce.specs.History.{bytes_received, bytes_sent}
-use Rattle.nr_reduce.specs.PlainJournal.{journal}
 use Rattle.nr_responder.specs.ResponderState.{ResponderSide, end_of, opened_side, queue}
 use Rattle.nr_responder.specs.Standing.{ResponderRepresents}
-use Rattle.nr_plain.specs.Stands.{PlainServerState, RepresentsJournal}
+use Rattle.nr_plain.specs.History.{Answered, Known, Over}
+use Rattle.nr_plain.proofs.PassCalls.{over_none}
 use Rattle.nr_host.specs.declared.conn_end.ConnEnd.{ConnEnd}
 use Rattle.nr_host.specs.declared.conn_end.ConnEnd.TheVariants as ends
-use Rattle.nr_host.specs.Connections.{Terms, Outside, Runs, SinkState, GivesAll, moments, added}
+use Rattle.nr_host.specs.Connections.{Terms, Outside, Runs, SinkState, GivesAll, answers_of, moments}
 use Rattle.nr_links.specs.Limits.{read_max}
 use Rattle.nr_host.specs.Ending.{AheadAt, FailedAt, IsCause, MoreAt, ReadAt}
 use Rattle.nr_host.specs.Steps.{AllQuiet, CarriesTo, EndsIdle, FeedEnds, FeedsTo, IsLive, IsServed, outside, sink_state}
@@ -26,31 +25,31 @@ use Rattle.nr_host.proofs.Idle.{facts}
 use Rattle.nr_host.proofs.Marks.{read_more}
 use Rattle.nr_host.proofs.Quiet.{quiet}
 
-module _ (credits : ℕ) (before : Outside) (left given left' given' : Option (List ℕ)) (sink : SinkState) (gave : Option (List Moment)) (kept : PlainServerState) (v : ResponderSide) (read : ℕ)
-    (piece : List ℕ) (carries : CarriesTo credits before (outside left given sink gave kept) v read) (hands : HandsOut left given left' given' piece) where
+module _ (credits : ℕ) (before : Outside) (left given left' given' : Option (List ℕ)) (sink : SinkState) (gave : Option (List Moment)) (known : Known) (v : ResponderSide) (read : ℕ)
+    (piece : List ℕ) (carries : CarriesTo credits before (outside left given sink gave known) v read) (hands : HandsOut left given left' given' piece) where
   abbrev terms : Terms
   terms = record { credits = credits; read = read + length piece }
 
-  waits : (link : ℕ) (run : List Mark) → IsLive (record { credits = credits; read = read }) link before (outside left given sink gave kept) [] run v
-      → IsLive terms link before (outside left' given' sink gave kept) (piece ++ []) run v
+  waits : (link : ℕ) (run : List Mark) → IsLive (record { credits = credits; read = read }) link before (outside left given sink gave known) [] run v
+      → IsLive terms link before (outside left' given' sink gave known) (piece ++ []) run v
   waits link run live = record {
-    runs = subst (λ (bytes : List ℕ). Runs terms link before (outside left' given' sink gave kept) bytes [] run) (sym (append-nil piece))
-        (read_more (record { credits = credits; read = read }) link before left given left' given' sink gave kept piece run live.runs hands);
+    runs = subst (λ (bytes : List ℕ). Runs terms link before (outside left' given' sink gave known) bytes [] run) (sym (append-nil piece))
+        (read_more (record { credits = credits; read = read }) link before left given left' given' sink gave known piece run live.runs hands);
     stands = live.stands;
   }
 
   -- a piece is read and fed
-  pub carry_on : (sink' : SinkState) (gave' : Option (List Moment)) (kept' : PlainServerState) (v' : ResponderSide)
-      → FeedsTo piece [] sink sink' gave gave' kept kept' v v' → CarriesTo credits before (outside left' given' sink' gave' kept') v' (read + length piece)
-  carry_on sink' gave' kept' v' feeds link =
+  pub carry_on : (sink' : SinkState) (gave' : Option (List Moment)) (known' : Known) (v' : ResponderSide)
+      → FeedsTo piece [] sink sink' gave gave' known known' v v' → CarriesTo credits before (outside left' given' sink' gave' known') v' (read + length piece)
+  carry_on sink' gave' known' v' feeds link =
       let (run, (live, quiet)) = carries link in
       feeds terms link before left' given' [] run (waits link run live) quiet
 
   -- the connection ends within the piece
-  pub carry_ends : (end : ConnEnd) (taken' : Option (List ℕ)) (faults' : ℕ) (failed : Bool) (gave' : Option (List Moment)) (kept' : PlainServerState)
-      → read + length piece ≤ read_max → FeedEnds end piece sink (sink_state taken' faults' failed) gave gave' kept kept' v
-      → IsServed credits before (outside left' given' (sink_state taken' faults' false) gave' kept') end
-  carry_ends end taken' faults' failed gave' kept' most feeds link =
+  pub carry_ends : (end : ConnEnd) (taken' : Option (List ℕ)) (faults' : ℕ) (failed : Bool) (gave' : Option (List Moment)) (known' : Known)
+      → read + length piece ≤ read_max → FeedEnds end piece sink (sink_state taken' faults' failed) gave gave' known known' v
+      → IsServed credits before (outside left' given' (sink_state taken' faults' false) gave' known') end
+  carry_ends end taken' faults' failed gave' known' most feeds link =
       let (run, (live, quiet)) = carries link in
       (read + length piece, (failed, feeds terms link before left' given' run most (waits link run live) quiet))
 
@@ -81,11 +80,11 @@ carried credits before now v read end carries ahead more most failed cause link 
     )
 
 -- a read that handed out nothing
-pub nothing_read : (credits : ℕ) (before : Outside) (left given left' given' : Option (List ℕ)) (sink : SinkState) (gave : Option (List Moment)) (kept : PlainServerState) (v : ResponderSide) (read : ℕ)
-    → CarriesTo credits before (outside left given sink gave kept) v read → HandsOut left given left' given' [] → CarriesTo credits before (outside left' given' sink gave kept) v (read + 0)
-nothing_read credits before left given left' given' sink gave kept v read carries hands link =
+pub nothing_read : (credits : ℕ) (before : Outside) (left given left' given' : Option (List ℕ)) (sink : SinkState) (gave : Option (List Moment)) (known : Known) (v : ResponderSide) (read : ℕ)
+    → CarriesTo credits before (outside left given sink gave known) v read → HandsOut left given left' given' [] → CarriesTo credits before (outside left' given' sink gave known) v (read + 0)
+nothing_read credits before left given left' given' sink gave known v read carries hands link =
     let (run, (live, quiet)) = carries link in
-    (run, (waits credits before left given left' given' sink gave kept v read [] carries hands link run live, quiet))
+    (run, (waits credits before left given left' given' sink gave known v read [] carries hands link run live, quiet))
 
 -- the read failed
 pub read_fails : (credits : ℕ) (before now : Outside) (v : ResponderSide) (read : ℕ) → CarriesTo credits before now v read → end_of v ≡ None → read < read_max → now.sink.failed ≡ false
@@ -129,17 +128,17 @@ sent_none : (link : ℕ) → bytes_sent link Responder [] ≡ []
 unfolding bytes_sent
 sent_none link = refl
 
-added_none : added [] ≡ []
-unfolding journal
-added_none = refl
+answers_none : answers_of [] ≡ []
+unfolding answers_of
+answers_none = refl
 
 -- a connection at its first byte
-abbrev pub first_outside : (left given taken : Option (List ℕ)) (faults : ℕ) (gave : Option (List Moment)) (kept : PlainServerState) → Outside
-first_outside left given taken faults gave kept = outside left given (sink_state taken faults false) gave kept
+abbrev pub first_outside : (left given taken : Option (List ℕ)) (faults : ℕ) (gave : Option (List Moment)) (known : Known) → Outside
+first_outside left given taken faults gave known = outside left given (sink_state taken faults false) gave known
 
-module _ (left given taken : Option (List ℕ)) (faults : ℕ) (gave : Option (List Moment)) (kept : PlainServerState) where
+module _ (left given taken : Option (List ℕ)) (faults : ℕ) (gave : Option (List Moment)) (known : Known) where
   abbrev first : Outside
-  first = first_outside left given taken faults gave kept
+  first = first_outside left given taken faults gave known
 
   begins : (credits link : ℕ) → Runs (record { credits = credits; read = 0 }) link first first [] [] []
   begins credits link = record {
@@ -149,10 +148,7 @@ module _ (left given taken : Option (List ℕ)) (faults : ℕ) (gave : Option (L
     served = λ opened granted. tt;
     quiet = λ opened granted. tt;
     frames = λ opened granted. tt;
-    over = λ s J stood. record {
-      stands = subst (λ (es : List Entry). RepresentsJournal s es kept) (sym (ap (λ (es : List Entry). J ++ es) added_none ∙ append-nil J)) stood;
-      each = tt;
-    };
+    over = subst (λ (calls : List Answered). Over known calls known) (sym answers_none) (over_none known);
     gave = gives_none gave;
     count = ap (λ (bytes : List ℕ). length bytes + 0) (received_none link);
   }

@@ -5,7 +5,6 @@ use Rattle.nr_links.specs.Moments.{Gives}
 use Rattle.nr_endpoint.specs.LinkState.{LinkSide}
 use Rattle.nr_reduce.specs.declared.mark.Mark.{Mark}
 use Rattle.nr_reduce.specs.declared.mark.Mark.TheVariants as marks
-use Rattle.nr_reduce.specs.declared.mark.Entry.{Entry}
 use Rattle.nr_reduce.specs.declared.mark.LinkParameters.{LinkParameters}
 use Rattle.nr_reduce.specs.Served.{IsExecuted}
 use Rattle.nr_responder.specs.declared.call.Sent.{Sent}
@@ -13,8 +12,7 @@ use Rattle.nr_responder.specs.Answering.{Answers, answer_to, message_for}
 use Rattle.nr_responder.specs.ResponderState.{ResponderSide, end_of}
 use Rattle.nr_responder.specs.Standing.{ResponderRepresents}
 use Rattle.nr_responder.proofs.Answered.{answer_link}
-use Rattle.nr_plain.specs.Setup.{Setup}
-use Rattle.nr_plain.specs.Stands.{PlainServerState, RepresentsJournal, ExecutesCall}
+use Rattle.nr_plain.specs.History.{Known, Executes, Finds}
 use Rattle.nr_host.specs.Connections.{Terms, Outside, Runs, SinkState}
 use Rattle.nr_host.specs.Steps.{IsLive, GoesOn, RunsOut, outside}
 use Rattle.nr_host.proofs.Marks.{executed, given_alone}
@@ -27,39 +25,38 @@ live_answered v v' xid reply sent a live =
     ∙ live
 
 -- what an executed call makes of the marks, if its reply is handed on as it is
-pub runs_on : (terms : Terms) (link : ℕ) (before : Outside) (left given : Option (List ℕ)) (sink : SinkState) (gave gave' : Option (List Moment)) (kept kept' : PlainServerState)
+pub runs_on : (terms : Terms) (link : ℕ) (before : Outside) (left given : Option (List ℕ)) (sink : SinkState) (gave gave' : Option (List Moment)) (known known' : Known)
     (ahead : List ℕ) (run : List Mark) (v : ResponderSide) (xid place : ℕ) (moment : Moment) (payload reply sent : List ℕ) → sent ≡ reply
-    → IsLive terms link before (outside left given sink gave kept) ahead run v
+    → IsLive terms link before (outside left given sink gave known) ahead run v
     → ((opened : LinkParameters) (l : ℕ) (r : List Mark) → ResponderRepresents opened l r v → IsExecuted opened l r xid payload)
     → Gives gave gave' moment
-    → ((s : Setup) (J : List Entry) → RepresentsJournal s J kept → ExecutesCall s J moment payload reply place kept')
-    → Runs terms link before (outside left given sink gave' kept') ahead [] (run ++ marks.Execute link xid moment payload place sent ∷ [])
-runs_on terms link before left given sink gave gave' kept kept' ahead run v xid place moment payload reply sent same live exact gives plain =
-    subst (λ (bytes : List ℕ). Runs terms link before (outside left given sink gave' kept') ahead [] (run ++ marks.Execute link xid moment payload place bytes ∷ []))
+    → Executes known known' moment payload reply place
+    → Runs terms link before (outside left given sink gave' known') ahead [] (run ++ marks.Execute link xid moment payload place sent ∷ [])
+runs_on terms link before left given sink gave gave' known known' ahead run v xid place moment payload reply sent same live exact gives done =
+    subst (λ (bytes : List ℕ). Runs terms link before (outside left given sink gave' known') ahead [] (run ++ marks.Execute link xid moment payload place bytes ∷ []))
     (sym same)
-    (executed terms link before left given sink gave gave' kept kept' ahead run xid place moment payload reply live.runs
-    (λ opened granted. exact opened link run (live.stands opened granted)) gives plain)
+    (executed terms link before left given sink gave gave' known known' ahead run xid place moment payload reply live.runs
+    (λ opened granted. exact opened link run (live.stands opened granted)) gives done)
 
 -- memory ran out before the call was executed
-pub out_before : (gave gave' : Option (List Moment)) (kept kept' : PlainServerState) (v : ResponderSide) (moment : Moment) → Gives gave gave' moment → kept' ≡ kept
-    → RunsOut gave gave' kept kept' v
-out_before gave gave' kept kept' v moment gives same terms link before left given sink ahead run live = (
+pub out_before : (gave gave' : Option (List Moment)) (known known' : Known) (v : ResponderSide) (moment : Moment) → Gives gave gave' moment → Finds known known'
+    → RunsOut gave gave' known known' v
+out_before gave gave' known known' v moment gives finds terms link before left given sink ahead run live = (
   run,
   moment ∷ [],
   (let one : length (moment ∷ []) ≤ 1 = omega arith in one),
-  subst (λ (k : PlainServerState). Runs terms link before (outside left given sink gave' k) ahead (moment ∷ []) run) (sym same)
-      (given_alone terms link before left given sink gave gave' kept ahead run moment live.runs gives),
+  given_alone terms link before left given sink gave gave' known known' ahead run moment live.runs gives finds,
 )
 
 -- one step after another
-pub steps_compose : (gave gave' gave'' : Option (List Moment)) (kept kept' kept'' : PlainServerState) (v v' v'' : ResponderSide)
-    → GoesOn gave gave' kept kept' v v' → GoesOn gave' gave'' kept' kept'' v' v'' → GoesOn gave gave'' kept kept'' v v''
-steps_compose gave gave' gave'' kept kept' kept'' v v' v'' first second terms link before left given sink ahead run live =
+pub steps_compose : (gave gave' gave'' : Option (List Moment)) (known known' known'' : Known) (v v' v'' : ResponderSide)
+    → GoesOn gave gave' known known' v v' → GoesOn gave' gave'' known' known'' v' v'' → GoesOn gave gave'' known known'' v v''
+steps_compose gave gave' gave'' known known' known'' v v' v'' first second terms link before left given sink ahead run live =
     let (run', live') = first terms link before left given sink ahead run live in
     second terms link before left given sink ahead run' live'
 
-pub leaves_by : (gave gave' gave'' : Option (List Moment)) (kept kept' kept'' : PlainServerState) (v v' : ResponderSide)
-    → GoesOn gave gave' kept kept' v v' → RunsOut gave' gave'' kept' kept'' v' → RunsOut gave gave'' kept kept'' v
-leaves_by gave gave' gave'' kept kept' kept'' v v' first second terms link before left given sink ahead run live =
+pub leaves_by : (gave gave' gave'' : Option (List Moment)) (known known' known'' : Known) (v v' : ResponderSide)
+    → GoesOn gave gave' known known' v v' → RunsOut gave' gave'' known' known'' v' → RunsOut gave gave'' known known'' v
+leaves_by gave gave' gave'' known known' known'' v v' first second terms link before left given sink ahead run live =
     let (run', live') = first terms link before left given sink ahead run live in
     second terms link before left given sink ahead run' live'

@@ -8,18 +8,15 @@ use Rattle.nr_links.specs.Moments.{Gives}
 use Rattle.nr_wire.specs.declared.hello.Side.TheVariants.{Responder}
 use Rattle.nr_reduce.specs.declared.mark.Mark.{Mark}
 use Rattle.nr_reduce.specs.declared.mark.Mark.TheVariants as marks
-use Rattle.nr_reduce.specs.declared.mark.Entry.{Entry}
 use Rattle.nr_reduce.specs.declared.mark.LinkParameters.{LinkParameters}
 use Rattle.nr_reduce.specs.History.{bytes_sent, bytes_received}
-use Rattle.nr_reduce.specs.PlainJournal.{journal, any_that_adds, entries_added}
 use Rattle.nr_reduce.specs.Matched.{IsPrefixOf}
 use Rattle.nr_reduce.specs.Run.{output_due}
 use Rattle.nr_reduce.specs.Served.{IsExecuted, ServedMark}
 use Rattle.nr_reduce.proofs.Standing.{AtEachMark_more, itself, one_more, received_one, sent_one}
-use Rattle.nr_plain.specs.Added.{entries_of_call}
-use Rattle.nr_plain.specs.Setup.{Setup}
-use Rattle.nr_plain.specs.Stands.{PlainServerState, RepresentsJournal, ExecutesCall}
-use Rattle.nr_host.specs.Connections.{Terms, Outside, Runs, SinkState, Takes, IsOwn, OverJournal, PlainMark, QuietMark, FrameMark, GivesAll, added, moments, moment_of}
+use Rattle.nr_plain.specs.History.{Answered, Executes, Finds, Known, Over}
+use Rattle.nr_plain.proofs.PassCalls.{over_executed, over_finds}
+use Rattle.nr_host.specs.Connections.{Terms, Outside, Runs, SinkState, Takes, IsOwn, QuietMark, FrameMark, GivesAll, answer_of, answers_of, moments, moment_of}
 use Rattle.nr_host.specs.Steps.{AllQuiet, outside}
 use Rattle.nr_host.proofs.Sinks.{TakesMore}
 
@@ -29,10 +26,6 @@ moments_one : (run : List Mark) (mark : Mark) → moments (run ++ mark ∷ []) �
 unfolding moments
 moments_one run mark = one_more moment_of run mark
 
-added_one : (run : List Mark) (mark : Mark) → added (run ++ mark ∷ []) ≡ added run ++ entries_added (any_that_adds entries_of_call) mark
-unfolding journal
-added_one run mark = one_more (entries_added (any_that_adds entries_of_call)) run mark
-
 gives_more : (before now after : Option (List Moment)) (given : List Moment) (moment : Moment) → GivesAll before now given → Gives now after moment → GivesAll before after (given ++ moment ∷ [])
 gives_more before now None given moment all one = tt
 gives_more before now (Some after) given moment all one =
@@ -41,38 +34,27 @@ gives_more before now (Some after) given moment all one =
     let (first, begun, all_is) = all' in
     (first, begun, is ∙ ap (λ (l : List Moment). l ++ moment ∷ []) all_is ∙ append_assoc first given (moment ∷ []))
 
--- what a mark that is no answer leaves of the journal
-over_same : (s : Setup) (J : List Entry) (run : List Mark) (mark : Mark) (kept : PlainServerState) → entries_added (any_that_adds entries_of_call) mark ≡ [] → PlainMark s J run mark
-    → OverJournal s J run kept → OverJournal s J (run ++ mark ∷ []) kept
-over_same s J run mark kept none plain over = record {
-  stands = subst (λ (es : List Entry). RepresentsJournal s (J ++ es) kept)
-      (sym (added_one run mark ∙ ap (λ (es : List Entry). added run ++ es) none ∙ append-nil (added run))) over.stands;
-  each = AtEachMark_more (PlainMark s J) [] run mark over.each plain;
-}
+answers_one : (run : List Mark) (mark : Mark) → answers_of (run ++ mark ∷ []) ≡ answers_of run ++ answer_of mark
+unfolding answers_of
+answers_one run mark = one_more answer_of run mark
 
-over_executed : (s : Setup) (J : List Entry) (link xid place : ℕ) (moment : Moment) (payload reply : List ℕ) (run : List Mark) (kept kept' : PlainServerState)
-    → OverJournal s J run kept → ExecutesCall s (J ++ added run) moment payload reply place kept'
-    → OverJournal s J (run ++ marks.Execute link xid moment payload place reply ∷ []) kept'
-over_executed s J link xid place moment payload reply run kept kept' over executes =
-    let mark : Mark = marks.Execute link xid moment payload place reply in
-    let es : List Entry = entries_of_call moment payload reply in
-    record {
-      stands = subst (λ (all : List Entry). RepresentsJournal s all kept')
-          (append_assoc J (added run) es ∙ ap (λ (l : List Entry). J ++ l) (sym (added_one run mark))) executes.stands;
-      each = AtEachMark_more (PlainMark s J) [] run mark over.each (executes.place_is, executes.replied);
-    }
+-- a mark that executes no call
+over_same : (before after : Known) (run : List Mark) (mark : Mark) → answer_of mark ≡ [] → Over before (answers_of run) after → Over before (answers_of (run ++ mark ∷ [])) after
+over_same before after run mark none over =
+    subst (λ (calls : List Answered). Over before calls after)
+    (sym (answers_one run mark ∙ ap (λ (calls : List Answered). answers_of run ++ calls) none ∙ append-nil (answers_of run))) over
 
 -- ---- One mark more
 
 -- a call is executed
-pub executed : (terms : Terms) (link : ℕ) (before : Outside) (left given : Option (List ℕ)) (sink : SinkState) (gave gave' : Option (List Moment)) (kept kept' : PlainServerState)
+pub executed : (terms : Terms) (link : ℕ) (before : Outside) (left given : Option (List ℕ)) (sink : SinkState) (gave gave' : Option (List Moment)) (known known' : Known)
     (ahead : List ℕ) (run : List Mark) (xid place : ℕ) (moment : Moment) (payload reply : List ℕ)
-    → Runs terms link before (outside left given sink gave kept) ahead [] run
+    → Runs terms link before (outside left given sink gave known) ahead [] run
     → ((opened : LinkParameters) → opened.granted ≡ terms.credits → IsExecuted opened link run xid payload)
     → Gives gave gave' moment
-    → ((s : Setup) (J : List Entry) → RepresentsJournal s J kept → ExecutesCall s J moment payload reply place kept')
-    → Runs terms link before (outside left given sink gave' kept') ahead [] (run ++ marks.Execute link xid moment payload place reply ∷ [])
-executed terms link before left given sink gave gave' kept kept' ahead run xid place moment payload reply r executes gives plain =
+    → Executes known known' moment payload reply place
+    → Runs terms link before (outside left given sink gave' known') ahead [] (run ++ marks.Execute link xid moment payload place reply ∷ [])
+executed terms link before left given sink gave gave' known known' ahead run xid place moment payload reply r executes gives done =
     let mark : Mark = marks.Execute link xid moment payload place reply in
     record {
       own = AtEachMark_more (λ earlier m. IsOwn link m) [] run mark r.own refl;
@@ -83,8 +65,8 @@ executed terms link before left given sink gave gave' kept kept' ahead run xid p
       served = λ opened same. AtEachMark_more (ServedMark IsPrefixOf opened link) [] run mark (r.served opened same) (λ l. executes opened same);
       quiet = λ opened same. AtEachMark_more (QuietMark opened link) [] run mark (r.quiet opened same) tt;
       frames = λ opened same. AtEachMark_more (FrameMark opened link) [] run mark (r.frames opened same) tt;
-      over = λ s J stood. over_executed s J link xid place moment payload reply run kept kept' (r.over s J stood)
-          (plain s (J ++ added run) (r.over s J stood).stands);
+      over = subst (λ (calls : List Answered). Over before.known calls known') (sym (answers_one run mark))
+          (over_executed before.known known known' moment payload reply place (answers_of run) r.over done);
       gave = subst (λ (ms : List Moment). GivesAll before.gave gave' ms)
           (sym (append-nil (moments (run ++ mark ∷ [])) ∙ moments_one run mark))
           (gives_more before.gave gave gave' (moments run) moment
@@ -93,18 +75,18 @@ executed terms link before left given sink gave gave' kept kept' ahead run xid p
     }
 
 -- a moment was given, and no call executed
-pub given_alone : (terms : Terms) (link : ℕ) (before : Outside) (left given : Option (List ℕ)) (sink : SinkState) (gave gave' : Option (List Moment)) (kept : PlainServerState)
+pub given_alone : (terms : Terms) (link : ℕ) (before : Outside) (left given : Option (List ℕ)) (sink : SinkState) (gave gave' : Option (List Moment)) (known known' : Known)
     (ahead : List ℕ) (run : List Mark) (moment : Moment)
-    → Runs terms link before (outside left given sink gave kept) ahead [] run → Gives gave gave' moment
-    → Runs terms link before (outside left given sink gave' kept) ahead (moment ∷ []) run
-given_alone terms link before left given sink gave gave' kept ahead run moment r gives = record {
+    → Runs terms link before (outside left given sink gave known) ahead [] run → Gives gave gave' moment → Finds known known'
+    → Runs terms link before (outside left given sink gave' known') ahead (moment ∷ []) run
+given_alone terms link before left given sink gave gave' known known' ahead run moment r gives finds = record {
   own = r.own;
   handed = r.handed;
   taken = r.taken;
   served = r.served;
   quiet = r.quiet;
   frames = r.frames;
-  over = r.over;
+  over = over_finds before.known known known' (answers_of run) r.over finds;
   gave = gives_more before.gave gave gave' (moments run) moment (subst (λ (ms : List Moment). GivesAll before.gave gave ms) (append-nil (moments run)) r.gave) gives;
   count = r.count;
 }
@@ -127,19 +109,19 @@ fed terms link before now piece ahead run r quiet frames =
       served = λ opened same. AtEachMark_more (ServedMark IsPrefixOf opened link) [] run mark (r.served opened same) tt;
       quiet = λ opened same. AtEachMark_more (QuietMark opened link) [] run mark (r.quiet opened same) (quiet opened same);
       frames = λ opened same. AtEachMark_more (FrameMark opened link) [] run mark (r.frames opened same) (frames opened same);
-      over = λ s J stood. over_same s J run mark now.kept refl tt (r.over s J stood);
+      over = over_same before.known now.known run mark refl r.over;
       gave = subst (λ (ms : List Moment). GivesAll before.gave now.gave (ms ++ []))
           (sym (moments_one run mark ∙ append-nil (moments run))) r.gave;
       count = (let before_it = r.count in let now_it = ap length received in omega (arith, before_it, now_it, length-append (bytes_received link Responder run) piece, length-append piece ahead));
     }
 
 -- bytes are written
-pub wrote : (terms : Terms) (link : ℕ) (before : Outside) (left given : Option (List ℕ)) (sink sink' : SinkState) (gave : Option (List Moment)) (kept : PlainServerState)
+pub wrote : (terms : Terms) (link : ℕ) (before : Outside) (left given : Option (List ℕ)) (sink sink' : SinkState) (gave : Option (List Moment)) (known : Known)
     (bytes ahead : List ℕ) (run : List Mark)
-    → Runs terms link before (outside left given sink gave kept) ahead [] run → TakesMore sink sink' bytes
+    → Runs terms link before (outside left given sink gave known) ahead [] run → TakesMore sink sink' bytes
     → ((opened : LinkParameters) → opened.granted ≡ terms.credits → IsPrefixOf (bytes_sent link Responder run ++ bytes) (output_due opened link Responder run))
-    → Runs terms link before (outside left given sink' gave kept) ahead [] (run ++ marks.Wrote link Responder bytes ∷ [])
-wrote terms link before left given sink sink' gave kept bytes ahead run r takes due =
+    → Runs terms link before (outside left given sink' gave known) ahead [] (run ++ marks.Wrote link Responder bytes ∷ [])
+wrote terms link before left given sink sink' gave known bytes ahead run r takes due =
     let mark : Mark = marks.Wrote link Responder bytes in
     let sent : bytes_sent link Responder (run ++ mark ∷ []) ≡ bytes_sent link Responder run ++ bytes =
     sent_one link Responder run mark ∙ rw (itself link) refl in
@@ -151,18 +133,18 @@ wrote terms link before left given sink sink' gave kept bytes ahead run r takes 
       served = λ opened same. AtEachMark_more (ServedMark IsPrefixOf opened link) [] run mark (r.served opened same) (λ l. due opened same);
       quiet = λ opened same. AtEachMark_more (QuietMark opened link) [] run mark (r.quiet opened same) tt;
       frames = λ opened same. AtEachMark_more (FrameMark opened link) [] run mark (r.frames opened same) tt;
-      over = λ s J stood. over_same s J run mark kept refl tt (r.over s J stood);
+      over = over_same before.known known run mark refl r.over;
       gave = subst (λ (ms : List Moment). GivesAll before.gave gave (ms ++ []))
           (sym (moments_one run mark ∙ append-nil (moments run))) r.gave;
       count = ap (λ (l : List ℕ). length l + length ahead) (received_one link Responder run mark ∙ append-nil (bytes_received link Responder run)) ∙ r.count;
     }
 
 -- bytes are read
-pub read_more : (terms : Terms) (link : ℕ) (before : Outside) (left given left' given' : Option (List ℕ)) (sink : SinkState) (gave : Option (List Moment)) (kept : PlainServerState)
+pub read_more : (terms : Terms) (link : ℕ) (before : Outside) (left given left' given' : Option (List ℕ)) (sink : SinkState) (gave : Option (List Moment)) (known : Known)
     (piece : List ℕ) (run : List Mark)
-    → Runs terms link before (outside left given sink gave kept) [] [] run → HandsOut left given left' given' piece
-    → Runs (record terms { read = terms.read + length piece }) link before (outside left' given' sink gave kept) piece [] run
-read_more terms link before left given left' given' sink gave kept piece run r hands = record {
+    → Runs terms link before (outside left given sink gave known) [] [] run → HandsOut left given left' given' piece
+    → Runs (record terms { read = terms.read + length piece }) link before (outside left' given' sink gave known) piece [] run
+read_more terms link before left given left' given' sink gave known piece run r hands = record {
   own = r.own;
   handed = HandsOut_append before.left before.given left given left' given' (bytes_received link Responder run) piece
       (subst (HandsOut before.left before.given left given) (append-nil (bytes_received link Responder run)) r.handed) hands;

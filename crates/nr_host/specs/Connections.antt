@@ -9,18 +9,13 @@ use Rattle.nr_wire.specs.declared.hello.Side.TheVariants.{Initiator, Responder}
 use Rattle.nr_link.specs.Frames.{frames_completed}
 use Rattle.nr_reduce.specs.declared.mark.Mark.{Mark}
 use Rattle.nr_reduce.specs.declared.mark.Mark.TheVariants as marks
-use Rattle.nr_reduce.specs.declared.mark.Entry.{Entry}
 use Rattle.nr_reduce.specs.declared.mark.LinkParameters.{LinkParameters}
 use Rattle.nr_reduce.specs.AtEachMark.{AtEachMark}
 use Rattle.nr_reduce.specs.History.{bytes_sent, bytes_received}
-use Rattle.nr_reduce.specs.PlainJournal.{journal, any_that_adds}
 use Rattle.nr_reduce.specs.Matched.{IsPrefixOf}
 use Rattle.nr_reduce.specs.Run.{HasWritten, server}
 use Rattle.nr_reduce.specs.Served.{ServedSoFar, next_call}
-use Rattle.nr_plain.specs.Added.{entries_of_call}
-use Rattle.nr_plain.specs.Replies.{plain_reply}
-use Rattle.nr_plain.specs.Setup.{Setup}
-use Rattle.nr_plain.specs.Stands.{PlainServerState, RepresentsJournal}
+use Rattle.nr_plain.specs.History.{Answered, Known, Over}
 
 -- the moments at which calls were executed, in order
 abbrev pub moment_of : Mark → List Moment
@@ -30,10 +25,6 @@ moment_of mark = []
 unfoldable pub moments : List Mark → List Moment
 moments run = flat_map moment_of run
 
--- the entries that they added to the journal, in order
-abbrev pub added : List Mark → List Entry
-added run = journal (any_that_adds entries_of_call) run
-
 -- a mark of the server's side of this link
 abbrev pub IsOwn : ℕ → Mark → Type 0
 IsOwn link (marks.Fed l Responder bytes) = l ≡ link
@@ -41,16 +32,13 @@ IsOwn link (marks.Wrote l Responder bytes) = l ≡ link
 IsOwn link (marks.Execute l xid moment payload place reply) = l ≡ link
 IsOwn link mark = ⊥
 
--- A call is answered as the plain server answers at its place: after the entries J and those that the marks before added.
-abbrev pub PlainMark : Setup → List Entry → List Mark → Mark → Type 0
-PlainMark s J before (marks.Execute l xid moment payload place reply) =
-    (place ≡ length (J ++ added before)) × (plain_reply s (J ++ added before) place moment payload ≡ Some reply)
-PlainMark s J before mark = ⊤
+-- the calls that were answered, in order
+abbrev pub answer_of : Mark → List Answered
+answer_of (marks.Execute l xid moment payload place reply) = record { moment = moment; payload = payload; place = place; reply = reply } ∷ []
+answer_of mark = []
 
--- a server that stood for the entries J executed the calls of these marks
-pub record OverJournal (s : Setup) (J : List Entry) (run : List Mark) (kept : PlainServerState) : Type 0 where
-  pub stands : RepresentsJournal s (J ++ added run) kept
-  pub each : AtEachMark (PlainMark s J) [] run
+unfoldable pub answers_of : List Mark → List Answered
+answers_of run = flat_map answer_of run
 
 -- all output that is due is written, and every call that became complete is executed
 pub record IsQuiet (opened : LinkParameters) (link : ℕ) (run : List Mark) : Type 0 where
@@ -88,13 +76,13 @@ abbrev pub GivesAll : Option (List Moment) → Option (List Moment) → List Mom
 GivesAll before None given = ⊤
 GivesAll before (Some after) given = (earlier : List Moment) × (before ≡ Some earlier) × (after ≡ earlier ++ given)
 
--- what is known of the source, the sink and the clock of a connection, and what its server keeps
+-- what is known of the source, the sink and the clock of a connection, and what its pass knows
 pub record Outside : Type 0 where
   pub left : Option (List ℕ)
   pub given : Option (List ℕ)
   pub sink : SinkState
   pub gave : Option (List Moment)
-  pub kept : PlainServerState
+  pub known : Known
 
 -- the credits that a connection grants, and how many bytes were read of it
 pub record Terms : Type 0 where
@@ -110,6 +98,6 @@ pub record Runs (terms : Terms) (link : ℕ) (before after : Outside) (ahead : L
   pub served : (opened : LinkParameters) → opened.granted ≡ terms.credits → ServedSoFar opened link run
   pub quiet : (opened : LinkParameters) → opened.granted ≡ terms.credits → AtEachMark (QuietMark opened link) [] run
   pub frames : (opened : LinkParameters) → opened.granted ≡ terms.credits → AtEachMark (FrameMark opened link) [] run
-  pub over : (s : Setup) (J : List Entry) → RepresentsJournal s J before.kept → OverJournal s J run after.kept
+  pub over : Over before.known (answers_of run) after.known
   pub gave : GivesAll before.gave after.gave (moments run ++ more)
   pub count : length (bytes_received link Responder run) + length ahead ≡ terms.read

@@ -1,48 +1,108 @@
--- Connections that a server serves one after another.
-use Rattle.std.specs.Prelude.{◌≡◌, ℕ, false, List, [], ◌∷◌, Option}
+-- Connections that a server serves, each beside the others or by itself.
+use Rattle.std.specs.Prelude.{◌≡◌, ℕ, ◌+◌, ◌⊎◌, false, List, [], ◌∷◌, ◌++◌, Option, None, Some, IfSome}
 use Rattle.nr_outside.specs.declared.moment.Moment.{Moment}
 use Rattle.nr_outside.specs.Faults.{Rises}
 use Rattle.nr_links.specs.Links.{EndedLink, LinkLog, CountsLost, EndsLink, IsNewLink, MakesLink}
-use Rattle.nr_plain.specs.Stands.{PlainServerState}
+use Rattle.nr_turnstile.specs.Rule.{Begins, in_order, longer}
+use Rattle.nr_plain.specs.History.{Known}
 use Rattle.nr_host.specs.Ending.{SinkCount, SourceCount}
 use Rattle.nr_host.specs.Steps.{IsServed, outside, sink_state}
 use Rattle.nr_host.specs.declared.conn_end.ConnEnd.{ConnEnd}
 use Rattle.nr_host.specs.declared.serving.ServeFault.{ServeFault}
 use Rattle.nr_host.specs.declared.serving.ServeFault.TheVariants as faults
 
--- A server between two connections: what is known of the links of its acceptor, how many of them were lost, the moments that its clock
--- gave, and what it keeps.
+-- A server between two connections: what is known of the links of its acceptor, how many of them were lost, how many jobs were started, and what its pass knows.
 pub record Between : Type 0 where
   pub ended : Option LinkLog
   pub lost : ℕ
-  pub gave : Option (List Moment)
-  pub kept : PlainServerState
+  pub started : ℕ
+  pub known : Known
 
-abbrev pub between : Option LinkLog → ℕ → Option (List Moment) → PlainServerState → Between
-between ended lost gave kept = record { ended = ended; lost = lost; gave = gave; kept = kept }
+abbrev pub between : Option LinkLog → ℕ → ℕ → Known → Between
+between ended lost started known = record { ended = ended; lost = lost; started = started; known = known }
 
--- A link was accepted, served to its end, and hung up. `opened` is the link as it was accepted, `closed` as it was hung up.
+-- a link was accepted, and its job started: it has a pass, a clock and the link of its own, of which nothing more is known
+pub record StartsLink (before after : Between) : Type 0 where
+  pub made : MakesLink before.ended after.ended
+  pub lost : after.lost ≡ before.lost
+  pub started : after.started ≡ before.started + 1
+  pub known : after.known ≡ before.known
+
+-- what a pass that was split from another knows
+abbrev pub split_off : Known → Known
+split_off known = record { seen = known.seen; mine = [] }
+
+-- a pass took in another one
+pub record JoinsPass (known own known' : Known) : Type 0 where
+  pub seen : known'.seen ≡ longer known.seen own.seen
+  pub begins : Begins known.seen known'.seen
+  pub own_begins : Begins own.seen known'.seen
+  pub mine : known'.mine ≡ in_order known.mine own.mine
+
+-- A link was accepted, served to its end by a pass of its own, and hung up. `opened` is the link as it was accepted, `closed` as it was hung up. Its clock
+-- had given nothing.
 pub record ServesLink (credits : ℕ) (before after : Between) (end : ConnEnd) : Type 0 where
   pub opened : EndedLink
   pub closed : EndedLink
   pub log : Option LinkLog
   pub source_faults : ℕ
   pub sink_faults : ℕ
+  pub gave : Option (List Moment)
+  pub gave' : Option (List Moment)
+  pub own : Known
   pub fresh : IsNewLink opened.given opened.taken 0 0
-  pub served : IsServed credits (outside opened.left opened.given (sink_state opened.taken 0 false) before.gave before.kept)
-      (outside closed.left closed.given (sink_state closed.taken sink_faults false) after.gave after.kept) end
+  pub new_clock : IfSome gave (λ given. given ≡ [])
+  pub served : IsServed credits (outside opened.left opened.given (sink_state opened.taken 0 false) gave (split_off before.known))
+      (outside closed.left closed.given (sink_state closed.taken sink_faults false) gave' own) end
   pub made : MakesLink before.ended log
   pub hung_up : EndsLink log after.ended closed
   pub lost : CountsLost source_faults sink_faults before.lost after.lost
   pub source_count : SourceCount end 0 source_faults
   pub sink_count : SinkCount end 0 sink_faults
+  pub started : after.started ≡ before.started
+  pub joins : JoinsPass before.known own after.known
 
--- links that ended so were served, one after another
-abbrev pub ServesAll : ℕ → Between → List ConnEnd → Between → Type 0
+-- one link
+abbrev pub TakesLink : ℕ → Between → Option ConnEnd → Between → Type 0
+TakesLink credits before None after = StartsLink before after
+TakesLink credits before (Some end) after = ServesLink credits before after end
+
+-- links that were taken so, one after another
+abbrev pub ServesAll : ℕ → Between → List (Option ConnEnd) → Between → Type 0
 ServesAll credits before [] after = after ≡ before
-ServesAll credits before (end ∷ ends) after = (mid : Between) × ServesLink credits before mid end × ServesAll credits mid ends after
+ServesAll credits before (link ∷ links) after = (mid : Between) × (TakesLink credits before link mid × ServesAll credits mid links after)
+
+-- the ends of those that were served here, in order
+abbrev pub end_of_link : Option ConnEnd → List ConnEnd
+end_of_link None = []
+end_of_link (Some end) = end ∷ []
+
+abbrev pub ends_of : List (Option ConnEnd) → List ConnEnd
+ends_of [] = []
+ends_of (link ∷ links) = end_of_link link ++ ends_of links
 
 -- the acceptor's fault count, if the server stopped early
 abbrev pub AcceptorCount : ServeFault → ℕ → ℕ → Type 0
 AcceptorCount faults.AcceptFault before after = Rises before after
 AcceptorCount faults.Memory before after = after ≡ before
+
+-- the fault count of a spawner: it rises if and only if it hands the job back
+abbrev pub HandsBack : Option ConnEnd → ℕ → ℕ → Type 0
+HandsBack None before after = after ≡ before
+HandsBack (Some end) before after = Rises before after
+
+-- links were taken so, and these are the ends of those that were served here
+pub record Serves (credits : ℕ) (before : Between) (ends : List ConnEnd) (after : Between) : Type 0 where
+  pub links : List (Option ConnEnd)
+  pub ends_are : ends_of links ≡ ends
+  pub all : ServesAll credits before links after
+
+-- one link more was taken
+pub record TakesOne (credits : ℕ) (before : Between) (ends ends' : List ConnEnd) (after : Between) : Type 0 where
+  pub link : Option ConnEnd
+  pub ends_are : ends' ≡ ends ++ end_of_link link
+  pub takes : TakesLink credits before link after
+
+-- no job was handed back, or the count of the spawner rose
+abbrev pub BackCount : List ConnEnd → ℕ → ℕ → Type 0
+BackCount ends before after = (ends ≡ []) ⊎ Rises before after

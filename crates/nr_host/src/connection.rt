@@ -7,6 +7,8 @@ ghost use Rattle.nr_outside.specs.Faults.{Rises};
 ghost use Rattle.nr_endpoint.specs.FedBytes.{fed_bytes};
 ghost use Rattle.nr_responder.specs.ResponderState.{end_of};
 ghost use Rattle.nr_links.specs.Limits.{piece_max, read_max};
+ghost use Rattle.nr_turnstile.specs.Passes.{Rests};
+ghost use Rattle.nr_plain.specs.History.{known_of};
 ghost use Rattle.nr_host.specs.Ending.{AheadAt, FailedAt, MoreAt, ReadAt, SinkCount, SourceCount};
 ghost use Rattle.nr_host.specs.Steps.{CarriesTo, EndsIdle, IsServed, outside, sink_state};
 
@@ -16,7 +18,9 @@ use nr_links::{Clock, PIECE_MAX, READ_MAX};
 use nr_outside::{Failed, Sink, Source};
 use nr_plain::Server;
 use nr_responder::Responder;
+use nr_turnstile::{Machine, Pass, Turnstile};
 use std::alloc::Global;
+use std::sync::Wait;
 
 /// The end of a connection whose client ended its stream, after this many bytes.
 fn at_end(responder: &Responder, read: u64) -> ConnEnd
@@ -56,11 +60,13 @@ fn read_part<I: Source>(source: &mut I, buf: &mut [u8], room: usize) -> Result<u
 }
 
 /// Reads the client's stream to its end through this buffer, and serves what is read.
-fn carry<I: Source, O: Sink, C: Clock>(
+fn carry<I: Source, O: Sink, C: Clock, R: Wait>(
+    rt: &R,
     alloc: Global,
     source: &mut I,
     sink: &mut O,
-    server: &mut Server,
+    shared: &Turnstile<Server>,
+    pass: &mut Pass<Server>,
     clock: &mut C,
     responder: &mut Responder,
     buf: &mut [u8],
@@ -68,11 +74,13 @@ fn carry<I: Source, O: Sink, C: Clock>(
     requires live { end_of responder.old.side ≡ None }
     requires fed { fed_bytes responder.old.side.link ≡ 0 }
     requires len { length buf.old ≡ piece_max }
+    requires rests { Rests shared.now pass.old }
+    ensures rests { Rests shared.now pass.new }
     ensures served { (credits : ℕ) → CarriesTo credits
-        (outside (I.left source.old) (I.given source.old) (sink_state (O.taken sink.old) (O.faults sink.old) false) (C.gave clock.old) server.old)
-        (outside (I.left source.old) (I.given source.old) (sink_state (O.taken sink.old) (O.faults sink.old) false) (C.gave clock.old) server.old) responder.old.side 0 →
-        IsServed credits (outside (I.left source.old) (I.given source.old) (sink_state (O.taken sink.old) (O.faults sink.old) false) (C.gave clock.old) server.old)
-        (outside (I.left source.new) (I.given source.new) (sink_state (O.taken sink.new) (O.faults sink.new) false) (C.gave clock.new) server.new) result }
+        (outside (I.left source.old) (I.given source.old) (sink_state (O.taken sink.old) (O.faults sink.old) false) (C.gave clock.old) (known_of pass.old))
+        (outside (I.left source.old) (I.given source.old) (sink_state (O.taken sink.old) (O.faults sink.old) false) (C.gave clock.old) (known_of pass.old)) responder.old.side 0 →
+        IsServed credits (outside (I.left source.old) (I.given source.old) (sink_state (O.taken sink.old) (O.faults sink.old) false) (C.gave clock.old) (known_of pass.old))
+        (outside (I.left source.new) (I.given source.new) (sink_state (O.taken sink.new) (O.faults sink.new) false) (C.gave clock.new) (known_of pass.new)) result }
     ensures source_count { SourceCount result (I.faults source.old) (I.faults source.new) }
     ensures sink_count { SinkCount result (O.faults sink.old) (O.faults sink.new) }
 {
@@ -89,7 +97,17 @@ fn carry<I: Source, O: Sink, C: Clock>(
         }
         read += n as u64;
         let (piece, _) = buf.split_at(n);
-        match feed_all(alloc, responder, server, clock, sink, &mut failed, piece) {
+        match feed_all(
+            rt,
+            alloc,
+            responder,
+            shared,
+            pass,
+            clock,
+            sink,
+            &mut failed,
+            piece,
+        ) {
             Ok(()) => {}
             Err(end) => return end,
         }
@@ -103,16 +121,20 @@ fn carry<I: Source, O: Sink, C: Clock>(
 /// Serves one connection to its end: reads the client's stream, feeds it frame by frame, and before the next frame executes
 /// each call that is complete and writes what is due. If a write fails, it still executes each call that was read, and reads no
 /// more. Grants this many credits.
-pub fn serve_connection<I: Source, O: Sink, C: Clock>(
+pub fn serve_connection<I: Source, O: Sink, C: Clock, R: Wait>(
+    rt: &R,
     alloc: Global,
     source: &mut I,
     sink: &mut O,
-    server: &mut Server,
+    shared: &Turnstile<Server>,
+    pass: &mut Pass<Server>,
     clock: &mut C,
     credits: u32,
 ) -> ConnEnd
-    ensures served { IsServed credits (outside (I.left source.old) (I.given source.old) (sink_state (O.taken sink.old) (O.faults sink.old) false) (C.gave clock.old) server.old)
-        (outside (I.left source.new) (I.given source.new) (sink_state (O.taken sink.new) (O.faults sink.new) false) (C.gave clock.new) server.new) result }
+    requires { Rests shared.now pass.old }
+    ensures rests { Rests shared.now pass.new }
+    ensures served { IsServed credits (outside (I.left source.old) (I.given source.old) (sink_state (O.taken sink.old) (O.faults sink.old) false) (C.gave clock.old) (known_of pass.old))
+        (outside (I.left source.new) (I.given source.new) (sink_state (O.taken sink.new) (O.faults sink.new) false) (C.gave clock.new) (known_of pass.new)) result }
     ensures source_count { SourceCount result (I.faults source.old) (I.faults source.new) }
     ensures sink_count { SinkCount result (O.faults sink.old) (O.faults sink.new) }
 {
@@ -123,10 +145,12 @@ pub fn serve_connection<I: Source, O: Sink, C: Clock>(
         return ConnEnd::Memory;
     };
     let end = carry(
+        rt,
         alloc,
         source,
         sink,
-        server,
+        shared,
+        pass,
         clock,
         &mut responder,
         buf.as_mut_slice(),

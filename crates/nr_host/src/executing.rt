@@ -4,32 +4,40 @@ ghost use Rattle.std.specs.Prelude.{◌≡◌, ◌⊎◌, None, [], OnOk, OnErr,
 ghost use Rattle.nr_endpoint.specs.FedBytes.{fed_bytes};
 ghost use Rattle.nr_responder.specs.ResponderState.{end_of};
 ghost use Rattle.nr_responder.specs.Sound.{IsNext};
+ghost use Rattle.nr_turnstile.specs.Passes.{Rests};
+ghost use Rattle.nr_plain.specs.History.{known_of};
 ghost use Rattle.nr_host.specs.Steps.{GoesOn, RunsOut};
 
 use nr_links::Clock;
-use nr_plain::Server;
+use nr_plain::{Server, execute};
 use nr_responder::{CallId, Responder};
+use nr_turnstile::{Machine, Pass, Turnstile};
 use nr_xdr::Memory;
 use std::alloc::Global;
+use std::sync::Wait;
 
-/// Executes the next call at the clock's moment, and queues its answer.
-pub(crate) fn execute_one<C: Clock>(
+/// Executes the next call at the clock's moment, under one turn, and queues its answer.
+pub(crate) fn execute_one<C: Clock, R: Wait>(
+    rt: &R,
     alloc: Global,
     responder: &mut Responder,
     call: CallId,
-    server: &mut Server,
+    shared: &Turnstile<Server>,
+    pass: &mut Pass<Server>,
     clock: &mut C,
 ) -> Result<(), Memory>
     requires live { end_of responder.old.side ≡ None }
+    requires rests { Rests shared.now pass.old }
     requires next { IsNext responder.old.side call }
+    ensures rests { Rests shared.now pass.new }
     ensures live { OnOk result (end_of responder.new.side ≡ None) }
     ensures fewer { OnOk result (responder.new.side.ready ≡ drop 1 responder.old.side.ready) }
     ensures fed { fed_bytes responder.new.side.link ≡ fed_bytes responder.old.side.link }
-    ensures ok { OnOk result (GoesOn (C.gave clock.old) (C.gave clock.new) server.old server.new responder.old.side responder.new.side) }
-    ensures err { OnErr result (RunsOut (C.gave clock.old) (C.gave clock.new) server.old server.new responder.old.side) }
+    ensures ok { OnOk result (GoesOn (C.gave clock.old) (C.gave clock.new) (known_of pass.old) (known_of pass.new) responder.old.side responder.new.side) }
+    ensures err { OnErr result (RunsOut (C.gave clock.old) (C.gave clock.new) (known_of pass.old) (known_of pass.new) responder.old.side) }
 {
     let moment = clock.now();
-    let Ok(reply) = server.execute(alloc, moment, responder.payload(&call)) else {
+    let Ok(reply) = execute(rt, alloc, shared, pass, moment, responder.payload(&call)) else {
         return Err(Memory);
     };
     match responder.answer(call, reply.payload.as_slice()) {

@@ -4,6 +4,8 @@ ghost use Rattle.std.specs.Prelude.{◌≡◌, ℕ, ◌+◌, ◌*◌, ◌≤◌,
 ghost use Rattle.nr_endpoint.specs.FedBytes.{fed_bytes};
 ghost use Rattle.nr_responder.specs.ResponderState.{end_of};
 ghost use Rattle.nr_links.specs.Limits.{piece_max};
+ghost use Rattle.nr_turnstile.specs.Passes.{Rests};
+ghost use Rattle.nr_plain.specs.History.{known_of};
 ghost use Rattle.nr_host.specs.Ending.{FailedAt, SinkCount, SourceCount};
 ghost use Rattle.nr_host.specs.Steps.{EndsAt, EndsWith, FaultsAt, FaultsFrom, FeedEnds, FeedsTo, GoesOn, GoesQuietly, RunsOut, sink_state};
 ghost use Rattle.nr_host.specs.declared.conn_end.ConnEnd.TheVariants as ends;
@@ -16,25 +18,31 @@ use nr_links::Clock;
 use nr_outside::Sink;
 use nr_plain::Server;
 use nr_responder::Responder;
+use nr_turnstile::{Machine, Pass, Turnstile};
 use nr_xdr::Memory;
 use std::alloc::Global;
+use std::sync::Wait;
 
 /// Executes all calls that are ready, and queues their answers.
-fn execute_ready<C: Clock>(
+fn execute_ready<C: Clock, R: Wait>(
+    rt: &R,
     alloc: Global,
     responder: &mut Responder,
-    server: &mut Server,
+    shared: &Turnstile<Server>,
+    pass: &mut Pass<Server>,
     clock: &mut C,
 ) -> Result<(), Memory>
     requires live { end_of responder.old.side ≡ None }
+    requires rests { Rests shared.now pass.old }
+    ensures rests { Rests shared.now pass.new }
     ensures live { OnOk result (end_of responder.new.side ≡ None) }
     ensures idle { OnOk result (responder.new.side.ready ≡ []) }
     ensures fed { OnOk result (fed_bytes responder.new.side.link ≡ fed_bytes responder.old.side.link) }
-    ensures ok { OnOk result (GoesOn (C.gave clock.old) (C.gave clock.new) server.old server.new responder.old.side responder.new.side) }
-    ensures err { OnErr result (RunsOut (C.gave clock.old) (C.gave clock.new) server.old server.new responder.old.side) }
+    ensures ok { OnOk result (GoesOn (C.gave clock.old) (C.gave clock.new) (known_of pass.old) (known_of pass.new) responder.old.side responder.new.side) }
+    ensures err { OnErr result (RunsOut (C.gave clock.old) (C.gave clock.new) (known_of pass.old) (known_of pass.new) responder.old.side) }
 {
     while let Some(call) = responder.next_ready() {
-        match execute_one(alloc, responder, call, server, clock) {
+        match execute_one(rt, alloc, responder, call, shared, pass, clock) {
             Ok(()) => {}
             Err(memory) => return Err(memory),
         }
@@ -43,25 +51,29 @@ fn execute_ready<C: Clock>(
 }
 
 /// Executes all calls that are ready, and writes what is due, or drops it once a write has failed.
-fn answer_all<O: Sink, C: Clock>(
+fn answer_all<O: Sink, C: Clock, R: Wait>(
+    rt: &R,
     alloc: Global,
     responder: &mut Responder,
-    server: &mut Server,
+    shared: &Turnstile<Server>,
+    pass: &mut Pass<Server>,
     clock: &mut C,
     sink: &mut O,
     failed: &mut bool,
 ) -> Result<(), Memory>
     requires live { end_of responder.old.side ≡ None }
+    requires rests { Rests shared.now pass.old }
+    ensures rests { Rests shared.now pass.new }
     ensures live { OnOk result (end_of responder.new.side ≡ None) }
     ensures fed { OnOk result (fed_bytes responder.new.side.link ≡ fed_bytes responder.old.side.link) }
     ensures ok { OnOk result (GoesQuietly (sink_state (O.taken sink.old) (O.faults sink.old) failed.old) (sink_state (O.taken sink.new) (O.faults sink.new) failed.new)
-        (C.gave clock.old) (C.gave clock.new) server.old server.new responder.old.side responder.new.side) }
+        (C.gave clock.old) (C.gave clock.new) (known_of pass.old) (known_of pass.new) responder.old.side responder.new.side) }
     ensures err { OnErr result (EndsWith ends.Memory (sink_state (O.taken sink.old) (O.faults sink.old) failed.old) (sink_state (O.taken sink.new) (O.faults sink.new) failed.new)
-        (C.gave clock.old) (C.gave clock.new) server.old server.new responder.old.side) }
+        (C.gave clock.old) (C.gave clock.new) (known_of pass.old) (known_of pass.new) responder.old.side) }
     ensures counted { FaultsFrom failed.old failed.new (O.faults sink.old) (O.faults sink.new) }
     ensures never_falls { O.faults sink.old ≤ O.faults sink.new }
 {
-    match execute_ready(alloc, responder, server, clock) {
+    match execute_ready(rt, alloc, responder, shared, pass, clock) {
         Ok(()) => {}
         Err(memory) => return Err(memory),
     }
@@ -92,25 +104,29 @@ fn stopped<O: Sink>(responder: &mut Responder, sink: &mut O, failed: &mut bool, 
 
 /// Feeds a piece frame by frame. Before the next frame all calls that are ready are executed, and what is due is written, or
 /// dropped once a write has failed.
-pub(crate) fn feed_all<O: Sink, C: Clock>(
+pub(crate) fn feed_all<O: Sink, C: Clock, R: Wait>(
+    rt: &R,
     alloc: Global,
     responder: &mut Responder,
-    server: &mut Server,
+    shared: &Turnstile<Server>,
+    pass: &mut Pass<Server>,
     clock: &mut C,
     sink: &mut O,
     failed: &mut bool,
     piece: &[u8],
 ) -> Result<(), ConnEnd>
     requires live { end_of responder.old.side ≡ None }
+    requires rests { Rests shared.now pass.old }
     requires written { failed.old ≡ false }
     requires len { length piece.now ≤ piece_max }
     requires room { fed_bytes responder.old.side.link + piece_max * length piece.now ≤ 2 ^ 62 }
+    ensures rests { Rests shared.now pass.new }
     ensures live { OnOk result (end_of responder.new.side ≡ None) }
     ensures fed { OnOk result (fed_bytes responder.new.side.link ≤ fed_bytes responder.old.side.link + piece_max * length piece.now) }
     ensures ok { OnOk result (FeedsTo piece.now [] (sink_state (O.taken sink.old) (O.faults sink.old) false) (sink_state (O.taken sink.new) (O.faults sink.new) failed.new)
-        (C.gave clock.old) (C.gave clock.new) server.old server.new responder.old.side responder.new.side) }
+        (C.gave clock.old) (C.gave clock.new) (known_of pass.old) (known_of pass.new) responder.old.side responder.new.side) }
     ensures err { IfErr result (λ end. FeedEnds end piece.now (sink_state (O.taken sink.old) (O.faults sink.old) false) (sink_state (O.taken sink.new) (O.faults sink.new) failed.new)
-        (C.gave clock.old) (C.gave clock.new) server.old server.new responder.old.side) }
+        (C.gave clock.old) (C.gave clock.new) (known_of pass.old) (known_of pass.new) responder.old.side) }
     ensures counted { FaultsAt failed.new (O.faults sink.old) (O.faults sink.new) }
     ensures count { IfErr result (λ end. SinkCount end (O.faults sink.old) (O.faults sink.new)) }
     ensures source { IfErr result (λ end. (count : ℕ) → SourceCount end count count) }
@@ -124,7 +140,7 @@ pub(crate) fn feed_all<O: Sink, C: Clock>(
             Err(end) => return Err(stopped(responder, sink, failed, end)),
         };
         let (_, rest) = left.split_at(n);
-        match answer_all(alloc, responder, server, clock, sink, failed) {
+        match answer_all(rt, alloc, responder, shared, pass, clock, sink, failed) {
             Ok(()) => {}
             Err(_) => return Err(ConnEnd::Memory),
         }

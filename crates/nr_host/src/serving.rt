@@ -1,17 +1,23 @@
 //! A server of several connections.
 
-ghost use Rattle.std.specs.Prelude.{◌≡◌, ◌<◌, List, [], ◌∷◌, ◌++◌, length, IfOk, IfErr, OnOk, OnErr, MatchResult};
+ghost use Rattle.std.specs.Prelude.{◌≡◌, ℕ, ◌+◌, ◌<◌, ◌≤◌, ◌^◌, ◌-◌, List, [], ◌∷◌, ◌++◌, length, IfOk, IfErr, OnOk, OnErr, MatchResult};
+ghost use Rattle.std.specs.Arc.{arc_value};
 ghost use Rattle.nr_outside.specs.Faults.{Rises};
+ghost use Rattle.nr_turnstile.specs.Passes.{Rests};
+ghost use Rattle.nr_plain.specs.History.{known_of};
 ghost use Rattle.nr_host.specs.declared.conn_end.ConnEnd.{ConnEnd};
-ghost use Rattle.nr_host.specs.Serving.{AcceptorCount, ServesAll, ServesLink, between};
+ghost use Rattle.nr_host.specs.Serving.{AcceptorCount, BackCount, HandsBack, Serves, TakesLink, TakesOne, between};
 
 use crate::conn_end::ConnEnd;
-use crate::connection::serve_connection;
+use crate::job::{Carried, ServeJob};
+use nr_jobs::{Job, Spawner};
 use nr_links::{Acceptor, Clock};
-use nr_outside::Failed;
 use nr_plain::Server;
 use nr_reduce::Sequence;
+use nr_turnstile::{Machine, Pass, Turnstile};
 use std::alloc::{AllocError, Global};
+use std::sync::{Arc, Wait};
+use std::thread::Threads;
 
 /// The ends of connections, in order.
 pub type Ends = Sequence<ConnEnd>;
@@ -19,7 +25,7 @@ pub type Ends = Sequence<ConnEnd>;
 /// What a server served.
 #[derive(Drop)]
 pub struct Ran {
-    /// How many connections were served beside the caller: none.
+    /// How many connections were served beside the caller.
     pub started: u64,
     /// How each other connection ended, in the order in which they were accepted.
     pub ends: Ends,
@@ -30,7 +36,7 @@ pub struct Ran {
 pub enum ServeFault {
     /// The acceptor failed: its fault count rose.
     AcceptFault,
-    /// Memory ran out. No connection was open.
+    /// Memory ran out.
     Memory,
 }
 
@@ -45,46 +51,104 @@ fn raise_trim_threshold(alloc: Global) {
     drop(block);
 }
 
-/// Accepts a link, serves it to its end, and hangs it up.
-fn serve_next<A: Acceptor, C: Clock>(
+/// Accepts a link and starts its job. If the job is handed back, runs it, takes in its pass, and hangs the link up.
+fn serve_next<A: Acceptor, C: Clock, P: Spawner, R: Threads + Wait + Copy + Drop + Send + 'static>(
+    rt: R,
     alloc: Global,
     acceptor: &mut A,
-    server: &mut Server,
-    clock: &mut C,
+    spawner: &mut P,
+    shared: &Arc<Turnstile<Server>, Global>,
+    pass: &mut Pass<Server>,
+    clock: &C,
     credits: u32,
-) -> Result<ConnEnd, Failed>
-    ensures served { IfOk result (λ end. ServesLink credits
-        (between (A.ended acceptor.old) (A.lost acceptor.old) (C.gave clock.old) server.old)
-        (between (A.ended acceptor.new) (A.lost acceptor.new) (C.gave clock.new) server.new) end) }
-    ensures err { OnErr result (between (A.ended acceptor.new) (A.lost acceptor.new) (C.gave clock.new) server.new
-        ≡ between (A.ended acceptor.old) (A.lost acceptor.old) (C.gave clock.old) server.old) }
+) -> Result<Option<ConnEnd>, ServeFault>
+where
+    A::Source: Drop + Send + 'static,
+    A::Sink: Drop + Send + 'static,
+    C: Drop + Send + 'static,
+    requires rests { Rests (arc_value shared.now) pass.old }
+    requires room { P.started spawner.old < 2 ^ 64 - 1 }
+    ensures rests { Rests (arc_value shared.now) pass.new }
+    ensures served { IfOk result (λ link. TakesLink credits
+        (between (A.ended acceptor.old) (A.lost acceptor.old) (P.started spawner.old) (known_of pass.old)) link
+        (between (A.ended acceptor.new) (A.lost acceptor.new) (P.started spawner.new) (known_of pass.new))) }
+    ensures err { OnErr result (between (A.ended acceptor.new) (A.lost acceptor.new) (P.started spawner.new) (known_of pass.new)
+        ≡ between (A.ended acceptor.old) (A.lost acceptor.old) (P.started spawner.old) (known_of pass.old)) }
+    ensures back { IfOk result (λ link. HandsBack link (P.faults spawner.old) (P.faults spawner.new)) }
+    ensures back_err { OnErr result (P.faults spawner.new ≡ P.faults spawner.old) }
+    ensures never_falls { P.faults spawner.old ≤ P.faults spawner.new }
     ensures counted { MatchResult result
-        (λ _. A.faults acceptor.new ≡ A.faults acceptor.old) (λ _. Rises (A.faults acceptor.old) (A.faults acceptor.new)) }
+        (λ _. A.faults acceptor.new ≡ A.faults acceptor.old) (λ fault. AcceptorCount fault (A.faults acceptor.old) (A.faults acceptor.new)) }
     ensures asked { A.asked acceptor.new ≡ A.asked acceptor.old }
     ensures listens { A.listens acceptor.new ≡ A.listens acceptor.old }
 {
-    let Ok((mut source, mut sink)) = acceptor.accept() else {
-        return Err(Failed);
+    let Ok(own) = Arc::try_clone(shared) else {
+        return Err(ServeFault::Memory);
     };
-    let end = serve_connection(alloc, &mut source, &mut sink, server, clock, credits);
+    let Ok((source, sink)) = acceptor.accept() else {
+        drop(own);
+        return Err(ServeFault::AcceptFault);
+    };
+    let job = ServeJob {
+        rt,
+        alloc,
+        source,
+        sink,
+        shared: own,
+        pass: shared.split(pass),
+        clock: clock.another(),
+        credits,
+    };
+    let Err(back) = spawner.start(rt, alloc, job) else {
+        return Ok(None);
+    };
+    let Carried {
+        source,
+        sink,
+        pass: other,
+        clock: used,
+        end,
+    } = back.run();
+    shared.join(pass, other);
+    drop(used);
     acceptor.hang_up(source, sink);
-    Ok(end)
+    Ok(Some(end))
 }
 
-/// Serves one link more, and notes its end. There is room for that first, so that no link is accepted in vain.
-fn serve_one<A: Acceptor, C: Clock>(
+/// Takes one link more, and counts its job, or notes its end if it was served here. There is room for that first, so that no link is
+/// accepted in vain.
+fn serve_one<A: Acceptor, C: Clock, P: Spawner, R: Threads + Wait + Copy + Drop + Send + 'static>(
+    rt: R,
     alloc: Global,
     acceptor: &mut A,
-    server: &mut Server,
-    clock: &mut C,
+    spawner: &mut P,
+    shared: &Arc<Turnstile<Server>, Global>,
+    pass: &mut Pass<Server>,
+    clock: &C,
     credits: u32,
+    started: &mut u64,
     ends: &mut Vec<ConnEnd>,
 ) -> Result<(), ServeFault>
-    ensures served { OnOk result ((end : ConnEnd) × (ends.new.items ≡ ends.old.items ++ end ∷ []) × ServesLink credits
-        (between (A.ended acceptor.old) (A.lost acceptor.old) (C.gave clock.old) server.old)
-        (between (A.ended acceptor.new) (A.lost acceptor.new) (C.gave clock.new) server.new) end) }
-    ensures err { OnErr result (between (A.ended acceptor.new) (A.lost acceptor.new) (C.gave clock.new) server.new
-        ≡ between (A.ended acceptor.old) (A.lost acceptor.old) (C.gave clock.old) server.old) }
+where
+    A::Source: Drop + Send + 'static,
+    A::Sink: Drop + Send + 'static,
+    C: Drop + Send + 'static,
+    requires rests { Rests (arc_value shared.now) pass.old }
+    requires room { P.started spawner.old < 2 ^ 64 - 1 }
+    requires count { started.old < 2 ^ 64 - 1 }
+    ensures rests { Rests (arc_value shared.now) pass.new }
+    ensures served { OnOk result (TakesOne credits
+        (between (A.ended acceptor.old) (A.lost acceptor.old) (P.started spawner.old) (known_of pass.old)) ends.old.items ends.new.items
+        (between (A.ended acceptor.new) (A.lost acceptor.new) (P.started spawner.new) (known_of pass.new))) }
+    ensures one { OnOk result (started.new + length ends.new.items ≡ started.old + length ends.old.items + 1) }
+    ensures started { OnOk result (P.started spawner.new + started.old ≡ P.started spawner.old + started.new) }
+    ensures err { OnErr result (between (A.ended acceptor.new) (A.lost acceptor.new) (P.started spawner.new) (known_of pass.new)
+        ≡ between (A.ended acceptor.old) (A.lost acceptor.old) (P.started spawner.old) (known_of pass.old)) }
+    ensures same { OnErr result (started.new ≡ started.old) }
+    ensures kept { OnErr result (ends.new.items ≡ ends.old.items) }
+    ensures back { OnOk result ((first : ℕ) → first ≤ P.faults spawner.old → BackCount ends.old.items first (P.faults spawner.old) → BackCount ends.new.items first (P.faults spawner.new)) }
+    ensures back_err { OnErr result (P.faults spawner.new ≡ P.faults spawner.old) }
+    ensures never_falls { P.faults spawner.old ≤ P.faults spawner.new }
     ensures counted { MatchResult result
         (λ _. A.faults acceptor.new ≡ A.faults acceptor.old) (λ fault. AcceptorCount fault (A.faults acceptor.old) (A.faults acceptor.new)) }
     ensures asked { A.asked acceptor.new ≡ A.asked acceptor.old }
@@ -93,35 +157,108 @@ fn serve_one<A: Acceptor, C: Clock>(
     if ends.reserve(1).is_err() {
         return Err(ServeFault::Memory);
     }
-    let Ok(end) = serve_next(alloc, acceptor, server, clock, credits) else {
-        return Err(ServeFault::AcceptFault);
+    let link = match serve_next(rt, alloc, acceptor, spawner, shared, pass, clock, credits) {
+        Ok(link) => link,
+        Err(fault) => return Err(fault),
     };
-    ends.push_reserved(end);
-    Ok(())
+    match link {
+        None => {
+            *started += 1;
+            Ok(())
+        }
+        Some(end) => {
+            ends.push_reserved(end);
+            Ok(())
+        }
+    }
 }
 
-/// Accepts `connections` connections and serves each to its end, one after another, whatever its end is. Each is granted `credits`
-/// (RFC 8166 section 3.3).
+/// Accepts `connections` links, and starts the job of each or serves it here. Answers how many jobs were started.
+fn take_links<A: Acceptor, C: Clock, P: Spawner, R: Threads + Wait + Copy + Drop + Send + 'static>(
+    rt: R,
+    alloc: Global,
+    acceptor: &mut A,
+    spawner: &mut P,
+    shared: &Arc<Turnstile<Server>, Global>,
+    pass: &mut Pass<Server>,
+    clock: &C,
+    credits: u32,
+    connections: u32,
+    ends: &mut Vec<ConnEnd>,
+) -> Result<u64, ServeFault>
+where
+    A::Source: Drop + Send + 'static,
+    A::Sink: Drop + Send + 'static,
+    C: Drop + Send + 'static,
+    requires rests { Rests (arc_value shared.now) pass.old }
+    requires room { P.started spawner.old < 2 ^ 63 }
+    requires none { ends.old.items ≡ [] }
+    ensures rests { Rests (arc_value shared.now) pass.new }
+    ensures served { Serves credits
+        (between (A.ended acceptor.old) (A.lost acceptor.old) (P.started spawner.old) (known_of pass.old)) ends.new.items
+        (between (A.ended acceptor.new) (A.lost acceptor.new) (P.started spawner.new) (known_of pass.new)) }
+    ensures all { IfOk result (λ started. (started + length ends.new.items ≡ connections) × (P.started spawner.new ≡ P.started spawner.old + started)) }
+    ensures fewer { OnErr result (P.started spawner.new + length ends.new.items < P.started spawner.old + connections) }
+    ensures back { BackCount ends.new.items (P.faults spawner.old) (P.faults spawner.new) }
+    ensures counted { MatchResult result
+        (λ _. A.faults acceptor.new ≡ A.faults acceptor.old) (λ fault. AcceptorCount fault (A.faults acceptor.old) (A.faults acceptor.new)) }
+    ensures asked { A.asked acceptor.new ≡ A.asked acceptor.old }
+    ensures listens { A.listens acceptor.new ≡ A.listens acceptor.old }
+{
+    let mut started = 0u64;
+    'links: while started + (ends.len() as u64) < u64::from(connections) {
+        match serve_one(
+            rt,
+            alloc,
+            acceptor,
+            spawner,
+            shared,
+            pass,
+            clock,
+            credits,
+            &mut started,
+            ends,
+        ) {
+            Ok(()) => {}
+            Err(fault) => return Err(fault),
+        }
+    }
+    Ok(started)
+}
+
+/// Accepts `connections` links. Each is served to its end, whatever its end is: in a job that the spawner starts, or, if the spawner hands it
+/// back, here. Each is granted `credits` (RFC 8166 section 3.3). Waits until all jobs have ended.
 ///
 /// # Errors
 ///
-/// [`ServeFault::AcceptFault`] if the acceptor failed, as it does before it listens; [`ServeFault::Memory`] if there is no memory to note
-/// another end. What was served until then stays.
-pub fn serve<A: Acceptor, C: Clock>(
+/// [`ServeFault::AcceptFault`] if the acceptor failed, as it does before it listens; [`ServeFault::Memory`] if there is no memory for another
+/// link or its end. What was served until then stays.
+pub fn serve<A: Acceptor, C: Clock, P: Spawner, R: Threads + Wait + Copy + Drop + Send + 'static>(
+    rt: R,
     alloc: Global,
     acceptor: &mut A,
-    server: &mut Server,
-    clock: &mut C,
+    spawner: &mut P,
+    shared: &Arc<Turnstile<Server>, Global>,
+    pass: &mut Pass<Server>,
+    clock: &C,
     credits: u32,
     connections: u32,
 ) -> Result<Ran, ServeFault>
-    ensures served { IfOk result (λ ran. ServesAll credits
-        (between (A.ended acceptor.old) (A.lost acceptor.old) (C.gave clock.old) server.old) ran.ends
-        (between (A.ended acceptor.new) (A.lost acceptor.new) (C.gave clock.new) server.new)) }
-    ensures all { IfOk result (λ ran. (ran.started ≡ 0) × (length ran.ends ≡ connections)) }
-    ensures err { IfErr result (λ fault. (ends : List ConnEnd) × (length ends < connections) × ServesAll credits
-        (between (A.ended acceptor.old) (A.lost acceptor.old) (C.gave clock.old) server.old) ends
-        (between (A.ended acceptor.new) (A.lost acceptor.new) (C.gave clock.new) server.new)) }
+where
+    A::Source: Drop + Send + 'static,
+    A::Sink: Drop + Send + 'static,
+    C: Drop + Send + 'static,
+    requires rests { Rests (arc_value shared.now) pass.old }
+    requires room { P.started spawner.old < 2 ^ 63 }
+    ensures rests { Rests (arc_value shared.now) pass.new }
+    ensures served { IfOk result (λ ran. Serves credits
+        (between (A.ended acceptor.old) (A.lost acceptor.old) (P.started spawner.old) (known_of pass.old)) ran.ends
+        (between (A.ended acceptor.new) (A.lost acceptor.new) (P.started spawner.new) (known_of pass.new))) }
+    ensures all { IfOk result (λ ran. (ran.started + length ran.ends ≡ connections) × (P.started spawner.new ≡ P.started spawner.old + ran.started)) }
+    ensures back { IfOk result (λ ran. BackCount ran.ends (P.faults spawner.old) (P.faults spawner.new)) }
+    ensures err { OnErr result ((ends : List ConnEnd) × ((P.started spawner.new + length ends < P.started spawner.old + connections) × Serves credits
+        (between (A.ended acceptor.old) (A.lost acceptor.old) (P.started spawner.old) (known_of pass.old)) ends
+        (between (A.ended acceptor.new) (A.lost acceptor.new) (P.started spawner.new) (known_of pass.new)))) }
     ensures counted { MatchResult result
         (λ _. A.faults acceptor.new ≡ A.faults acceptor.old) (λ fault. AcceptorCount fault (A.faults acceptor.old) (A.faults acceptor.new)) }
     ensures asked { A.asked acceptor.new ≡ A.asked acceptor.old }
@@ -129,14 +266,27 @@ pub fn serve<A: Acceptor, C: Clock>(
 {
     raise_trim_threshold(alloc);
     let mut ends = Vec::new(alloc);
-    'links: while (ends.len() as u64) < u64::from(connections) {
-        match serve_one(alloc, acceptor, server, clock, credits, &mut ends) {
-            Ok(()) => {}
-            Err(fault) => return Err(fault),
+    let taken = take_links(
+        rt,
+        alloc,
+        acceptor,
+        spawner,
+        shared,
+        pass,
+        clock,
+        credits,
+        connections,
+        &mut ends,
+    );
+    spawner.finish(&rt);
+    match taken {
+        Ok(started) => Ok(Ran {
+            started,
+            ends: Ends::from_vec(ends),
+        }),
+        Err(fault) => {
+            drop(ends);
+            Err(fault)
         }
     }
-    Ok(Ran {
-        started: 0,
-        ends: Ends::from_vec(ends),
-    })
 }

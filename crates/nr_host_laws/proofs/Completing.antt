@@ -18,8 +18,8 @@ use Rattle.nr_reduce.specs.Run.{server}
 use Rattle.nr_reduce.specs.ServerState.{PendingCall}
 use Rattle.nr_host_laws.proofs.Lawful.{keep_the_law, with_credits}
 use Rattle.nr_reduce.specs.Served.{Served}
-use Rattle.nr_plain.specs.Setup.{Setup}
-use Rattle.nr_plain.specs.Stands.{RepresentsJournal}
+use Rattle.nr_plain.specs.History.{Opening, history, setup_in}
+use Rattle.nr_host.specs.Serving.{split_off}
 use Rattle.nr_links.specs.Limits.{read_max}
 use Rattle.nr_links.specs.Links.{CountsLost, is_faulty}
 use Rattle.nr_host.specs.Connections.{Terms, Outside, Runs, TakesUntil, GivesAll, moments}
@@ -65,22 +65,23 @@ not_memory e = absurd cc
 abbrev terms_of : ℕ → ℕ → Terms
 terms_of credits read = record { credits = credits; read = read }
 
-module _ (credits : ℕ) (before after : Outside) (s : Setup) (J : List Entry) (stream : List ℕ) (stands : RepresentsJournal s J before.kept) (known : before.left ≡ Some stream)
-    (complete : IsCompleteStream credits s J stream) where
+module _ (credits : ℕ) (before after : Outside) (first : Opening) (J : List Entry) (stream : List ℕ) (stands : before.known.seen ≡ history first J) (known : before.left ≡ Some stream)
+    (complete : IsCompleteStream credits (setup_in first) J stream) where
   consumed : (read link : ℕ) (failed : Bool) (ahead : List ℕ) (more : List Moment) (run : List Mark) → Runs (terms_of credits read) link before (with_failed failed after) ahead more run
       → Consumes (Some stream) after.left (bytes_received link Responder run ++ ahead)
   consumed read link failed ahead more run r =
       subst (λ (l : Option (List ℕ)). Consumes l after.left (bytes_received link Responder run ++ ahead)) known r.handed.from_left
 
   made_by : (read link : ℕ) (failed : Bool) (ahead : List ℕ) (more : List Moment) (run : List Mark) → Runs (terms_of credits read) link before (with_failed failed after) ahead more run
-      → (opened : LinkParameters) → opened.granted ≡ credits → MayHaveMade s J opened link stream run
+      → (opened : LinkParameters) → opened.granted ≡ credits → MayHaveMade (setup_in first) J opened link stream run
   made_by read link failed ahead more run r opened same = record {
     own = r.own;
     begins = read_first after.left stream (bytes_received link Responder run) ahead (consumed read link failed ahead more run r);
     served = r.served opened same;
     quiet = r.quiet opened same;
     frames = r.frames opened same;
-    plain = (r.over s J stands).each;
+    more = (r.over first J stands).more;
+    plain = (r.over first J stands).placed;
   }
 
   -- a connection that read all of it, and is idle, has closed
@@ -88,7 +89,7 @@ module _ (credits : ℕ) (before after : Outside) (s : Setup) (J : List Entry) (
       → ahead ≡ [] → more ≡ [] → failed ≡ false
       → ((opened : LinkParameters) → opened.granted ≡ credits → IsIdle opened link run × IsAtEnd after.left)
       → ((opened : LinkParameters) → opened.granted ≡ credits → Served opened link run)
-      → ServesStream credits s J link before after stream
+      → ServesStream credits first J link before after stream
   closed read link failed ahead more run r none no_more fine idle served =
       let at : IsAtEnd after.left = (idle (with_credits credits) refl).1 in
       let all : (bytes_received link Responder run ≡ stream) × (after.left ≡ Some []) = read_all after.left stream (bytes_received link Responder run) ahead (consumed read link failed ahead more run r) none at in
@@ -101,7 +102,7 @@ module _ (credits : ℕ) (before after : Outside) (s : Setup) (J : List Entry) (
         taken = (subst (λ (f : Bool). TakesUntil f before.sink (sink_state after.sink.taken after.sink.faults f) (bytes_sent link Responder run)) fine r.taken).1;
         gave = subst (λ (l : List Moment). GivesAll before.gave after.gave l)
             (ap (λ (l : List Moment). moments run ++ l) no_more ∙ append-nil (moments run)) r.gave;
-        stands = (r.over s J stands).stands;
+        over = r.over first J stands;
         made = made_by read link failed ahead more run r;
         served = served;
         idle = λ opened same. (idle opened same).0;
@@ -135,20 +136,20 @@ module _ (credits : ℕ) (before after : Outside) (s : Setup) (J : List Entry) (
       by rest calls (inl more) = none_below (input_of Initiator (bytes_received 0 Responder e.run)).rest rest more
       by rest calls (inr more) = no_calls_below (server (with_credits credits) 0 e.run).state.calls calls more
 
-  closed_at : (end : ConnEnd) → end ≡ ends.Closed → IsServed credits before after end → (link : ℕ) → ServesStream credits s J link before after stream
+  closed_at : (end : ConnEnd) → end ≡ ends.Closed → IsServed credits before after end → (link : ℕ) → ServesStream credits first J link before after stream
   closed_at end is served link =
       let (read, (failed, (e, lawful))) = keep_the_law credits before after ends.Closed not_memory (subst (λ (c : ConnEnd). IsServed credits before after c) is served) link in
       closed read link failed e.ahead e.more e.run e.runs e.ahead_is e.more_is e.failed_is (λ opened same. ((e.cause opened same).0, (e.cause opened same).1.0)) lawful
 
-  completes_by : (end : ConnEnd) → IsServed credits before after end → (end ≡ ends.Memory) ⊎ (end ≡ ends.Closed) → Completes credits s J before after stream end
+  completes_by : (end : ConnEnd) → IsServed credits before after end → (end ≡ ends.Memory) ⊎ (end ≡ ends.Closed) → Completes credits first J before after stream end
   completes_by end served (inl memory) = inl memory
   completes_by end served (inr is) = inr (is, closed_at end is served)
 
 pub completes : ConnectionsComplete
-completes credits before after end source source' s J stream served sc kc quiet fine stands known complete =
+completes credits before after end source source' first J stream served sc kc quiet fine stands known complete =
     let (read, (failed, e)) = served 0 in
-    completes_by credits before after s J stream stands known complete end served
-    (by_end credits before after s J stream stands known complete end source source' sc kc quiet fine read failed e)
+    completes_by credits before after first J stream stands known complete end served
+    (by_end credits before after first J stream stands known complete end source source' sc kc quiet fine read failed e)
 
 -- ---- A link of `serve`
 
@@ -175,11 +176,11 @@ no_rise count none (inl more) = absurd (omega (arith, none, more))
 no_rise count none (inr last) = absurd (omega (arith, none, last))
 
 pub links_complete : LinksComplete
-links_complete credits before after end s J stream served fine stands known complete =
+links_complete credits before after end first J stream served fine stands known complete =
     let none : (served.source_faults ≡ 0) × (served.sink_faults ≡ 0) =
     no_fault served.source_faults served.sink_faults (not_lost served.source_faults served.sink_faults before.lost after.lost served.lost fine) in
     completes credits
-    (outside served.opened.left served.opened.given (sink_state served.opened.taken 0 false) before.gave before.kept)
-    (outside served.closed.left served.closed.given (sink_state served.closed.taken served.sink_faults false) after.gave after.kept)
-    end 0 served.source_faults s J stream served.served served.source_count served.sink_count
+    (outside served.opened.left served.opened.given (sink_state served.opened.taken 0 false) served.gave (split_off before.known))
+    (outside served.closed.left served.closed.given (sink_state served.closed.taken served.sink_faults false) served.gave' served.own)
+    end 0 served.source_faults first J stream served.served served.source_count served.sink_count
     (no_rise served.source_faults none.0) (no_rise served.sink_faults none.1) stands known complete

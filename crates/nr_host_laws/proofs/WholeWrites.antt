@@ -8,21 +8,19 @@ use Rattle.nr_link.specs.declared.end.End.{End}
 use Rattle.nr_link.specs.Frames.{frames_completed}
 use Rattle.nr_reduce.specs.declared.mark.Mark.{Mark}
 use Rattle.nr_reduce.specs.declared.mark.Mark.TheVariants as marks
-use Rattle.nr_reduce.specs.declared.mark.Entry.{Entry}
 use Rattle.nr_reduce.specs.declared.mark.LinkParameters.{LinkParameters}
 use Rattle.nr_reduce.specs.EndRules.{EndState, end_state_after, next_end_state, next_end_state_by, next_end_state_in, output_for, output_for_all, output_for_by, output_for_in}
 use Rattle.nr_reduce.specs.Events.{RunEvent, events_at, mark_events}
 use Rattle.nr_reduce.specs.Events.RunEvent.{CallExecuted, QueueWritten}
 use Rattle.nr_reduce.specs.History.{ExecutedCall, bytes_received, bytes_sent, fed_at, written_at}
-use Rattle.nr_reduce.specs.PlainJournal.{any_that_adds, entries_added, journal}
 use Rattle.nr_reduce.specs.Run.{output_due, server}
 use Rattle.nr_reduce.specs.Server.{execution_output, server_end, server_output, server_rules, server_state_after}
 use Rattle.nr_reduce.specs.ServerState.{ServerState}
 use Rattle.nr_reduce.proofs.CountedBytes.{server_bytes_written}
 use Rattle.nr_reduce.proofs.Standing.{itself, one_more, received_one, sent_one}
 use Rattle.nr_reduce.proofs.Steps.{ended_stays, output_due_down_one, server_one}
-use Rattle.nr_plain.specs.Added.{entries_of_call}
-use Rattle.nr_host.specs.Connections.{added, moment_of, moments}
+use Rattle.nr_plain.specs.History.{Answered}
+use Rattle.nr_host.specs.Connections.{answer_of, answers_of, moment_of, moments}
 
 -- ---- The server, but for what it has written
 
@@ -84,7 +82,7 @@ pub record IsSame (opened : LinkParameters) (link : ℕ) (run run' : List Mark) 
   pub due : output_due opened link Responder run' ≡ output_due opened link Responder run
   pub sent : bytes_sent link Responder run' ≡ bytes_sent link Responder run
   pub received : bytes_received link Responder run' ≡ bytes_received link Responder run
-  pub entries : added run' ≡ added run
+  pub answers : answers_of run' ≡ answers_of run
   pub times : moments run' ≡ moments run
 
 pub record IsBehind (opened : LinkParameters) (link : ℕ) (run run' : List Mark) (left : List ℕ) : Type 0 where
@@ -94,12 +92,12 @@ pub record IsBehind (opened : LinkParameters) (link : ℕ) (run run' : List Mark
   pub kept : (end : End) → (server opened link run).ended ≡ Some end → written ≡ (server opened link run).state.written
   pub sent : bytes_sent link Responder run' ++ left ≡ bytes_sent link Responder run
   pub received : bytes_received link Responder run' ≡ bytes_received link Responder run
-  pub entries : added run' ≡ added run
+  pub answers : answers_of run' ≡ answers_of run
   pub times : moments run' ≡ moments run
 
-added_more : (run : List Mark) (mark : Mark) → added (run ++ mark ∷ []) ≡ added run ++ entries_added (any_that_adds entries_of_call) mark
-unfolding journal
-added_more run mark = one_more (entries_added (any_that_adds entries_of_call)) run mark
+answers_more : (run : List Mark) (mark : Mark) → answers_of (run ++ mark ∷ []) ≡ answers_of run ++ answer_of mark
+unfolding answers_of
+answers_more run mark = one_more answer_of run mark
 
 moments_more : (run : List Mark) (mark : Mark) → moments (run ++ mark ∷ []) ≡ moments run ++ moment_of mark
 unfolding moments
@@ -124,7 +122,7 @@ module _ (opened : LinkParameters) (link : ℕ) where
     due = h.due;
     sent = append-nil (bytes_sent link Responder run') ∙ h.sent;
     received = h.received;
-    entries = h.entries;
+    answers = h.answers;
     times = h.times;
   }
 
@@ -138,7 +136,7 @@ module _ (opened : LinkParameters) (link : ℕ) where
         ∙ sym (output_due_down_one opened link run mark);
     sent = sent_one link Responder run' mark ∙ ap (λ (l : List ℕ). l ++ written_at link Responder mark) h.sent ∙ sym (sent_one link Responder run mark);
     received = received_one link Responder run' mark ∙ ap (λ (l : List ℕ). l ++ fed_at link Responder mark) h.received ∙ sym (received_one link Responder run mark);
-    entries = added_more run' mark ∙ ap (λ (l : List Entry). l ++ entries_added (any_that_adds entries_of_call) mark) h.entries ∙ sym (added_more run mark);
+    answers = answers_more run' mark ∙ ap (λ (l : List Answered). l ++ answer_of mark) h.answers ∙ sym (answers_more run mark);
     times = moments_more run' mark ∙ ap (λ (l : List Moment). l ++ moment_of mark) h.times ∙ sym (moments_more run mark);
   }
 
@@ -168,7 +166,7 @@ module _ (opened : LinkParameters) (link : ℕ) where
         sent = ap (λ (xs : List ℕ). xs ++ left) (sent_one link Responder run' mark ∙ append-nil (bytes_sent link Responder run')) ∙ h.sent
             ∙ sym (sent_one link Responder run mark ∙ append-nil (bytes_sent link Responder run));
         received = received_one link Responder run' mark ∙ ap (λ (xs : List ℕ). xs ++ fed_at link Responder mark) h.received ∙ sym (received_one link Responder run mark);
-        entries = added_more run' mark ∙ ap (λ (xs : List Entry). xs ++ entries_added (any_that_adds entries_of_call) mark) h.entries ∙ sym (added_more run mark);
+        answers = answers_more run' mark ∙ ap (λ (xs : List Answered). xs ++ answer_of mark) h.answers ∙ sym (answers_more run mark);
         times = moments_more run' mark ∙ ap (λ (xs : List Moment). xs ++ moment_of mark) h.times ∙ sym (moments_more run mark);
       }
 
@@ -193,7 +191,7 @@ module _ (opened : LinkParameters) (link : ℕ) where
         kept = kept;
         sent = sym (append_assoc (bytes_sent link Responder run') left bytes) ∙ ap (λ (xs : List ℕ). xs ++ bytes) h.sent ∙ sym sent;
         received = h.received ∙ sym (received_one link Responder run (marks.Wrote l Responder bytes) ∙ append-nil (bytes_received link Responder run));
-        entries = h.entries ∙ sym (added_more run (marks.Wrote l Responder bytes) ∙ append-nil (added run));
+        answers = h.answers ∙ sym (answers_more run (marks.Wrote l Responder bytes) ∙ append-nil (answers_of run));
         times = h.times ∙ sym (moments_more run (marks.Wrote l Responder bytes) ∙ append-nil (moments run));
       }
 
@@ -235,7 +233,7 @@ module _ (opened : LinkParameters) (link : ℕ) where
         due = due;
         sent = sent ∙ h.sent;
         received = received_one link Responder run' (marks.Wrote link Responder left) ∙ append-nil (bytes_received link Responder run') ∙ h.received;
-        entries = added_more run' (marks.Wrote link Responder left) ∙ append-nil (added run') ∙ h.entries;
+        answers = answers_more run' (marks.Wrote link Responder left) ∙ append-nil (answers_of run') ∙ h.answers;
         times = moments_more run' (marks.Wrote link Responder left) ∙ append-nil (moments run') ∙ h.times;
       }
 

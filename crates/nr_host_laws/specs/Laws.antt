@@ -22,19 +22,19 @@ use Rattle.nr_reduce.specs.Run.{server}
 use Rattle.nr_reduce.specs.Served.{Served}
 use Rattle.nr_laws.specs.Typed.{IsTyped}
 use Rattle.nr_plain.specs.Setup.{Setup}
-use Rattle.nr_plain.specs.Stands.{RepresentsJournal}
+use Rattle.nr_plain.specs.History.{Opening, history, setup_in}
 use Rattle.nr_host.specs.Connections.{Outside}
 use Rattle.nr_host.specs.Ending.{Ended, SinkCount, SourceCount}
-use Rattle.nr_host.specs.Serving.{Between, ServesLink}
+use Rattle.nr_host.specs.Serving.{Between, ServesLink, split_off}
 use Rattle.nr_host.specs.Steps.{IsServed, outside, sink_state, with_failed}
 use Rattle.nr_host.specs.declared.conn_end.ConnEnd.{ConnEnd}
 use Rattle.nr_host.specs.declared.conn_end.ConnEnd.TheVariants as ends
 use Rattle.nr_host_laws.specs.Streams.{IsCompleteStream, ServesStream}
 
 -- `Closed`, after all of the stream, whatever number the link has in the marks; or memory ran out
-abbrev pub Completes : ℕ → Setup → List Entry → (before after : Outside) → List ℕ → ConnEnd → Type 0
-Completes credits s J before after stream end =
-    (end ≡ ends.Memory) ⊎ ((end ≡ ends.Closed) × ((link : ℕ) → ServesStream credits s J link before after stream))
+abbrev pub Completes : ℕ → Opening → List Entry → (before after : Outside) → List ℕ → ConnEnd → Type 0
+Completes credits first J before after stream end =
+    (end ≡ ends.Memory) ⊎ ((end ≡ ends.Closed) × ((link : ℕ) → ServesStream credits first J link before after stream))
 
 -- A connection that doesn't run out of memory has marks, as the clause `served` of `serve_connection` says, of which the law of a link's
 -- server holds in full: each Wrote writes all that is due.
@@ -48,21 +48,21 @@ ConnectionsKeepTheLaw =
 -- of the sink.
 abbrev pub ConnectionsComplete : Type 0
 ConnectionsComplete =
-    (credits : ℕ) (before after : Outside) (end : ConnEnd) (source source' : ℕ) (s : Setup) (J : List Entry) (stream : List ℕ) →
+    (credits : ℕ) (before after : Outside) (end : ConnEnd) (source source' : ℕ) (first : Opening) (J : List Entry) (stream : List ℕ) →
     IsServed credits before after end → SourceCount end source source' → SinkCount end before.sink.faults after.sink.faults →
     (Rises source source' → ⊥) → (Rises before.sink.faults after.sink.faults → ⊥) →
-    RepresentsJournal s J before.kept → before.left ≡ Some stream → IsCompleteStream credits s J stream →
-    Completes credits s J before after stream end
+    before.known.seen ≡ history first J → before.left ≡ Some stream → IsCompleteStream credits (setup_in first) J stream →
+    Completes credits first J before after stream end
 
 -- A link of `serve`. The count of lost links doesn't rise.
 abbrev pub LinksComplete : Type 0
 LinksComplete =
-    (credits : ℕ) (before after : Between) (end : ConnEnd) (s : Setup) (J : List Entry) (stream : List ℕ) (served : ServesLink credits before after end) →
+    (credits : ℕ) (before after : Between) (end : ConnEnd) (first : Opening) (J : List Entry) (stream : List ℕ) (served : ServesLink credits before after end) →
     (Rises before.lost after.lost → ⊥) →
-    RepresentsJournal s J before.kept → served.opened.left ≡ Some stream → IsCompleteStream credits s J stream →
-    Completes credits s J
-    (outside served.opened.left served.opened.given (sink_state served.opened.taken 0 false) before.gave before.kept)
-    (outside served.closed.left served.closed.given (sink_state served.closed.taken served.sink_faults false) after.gave after.kept) stream end
+    before.known.seen ≡ history first J → served.opened.left ≡ Some stream → IsCompleteStream credits (setup_in first) J stream →
+    Completes credits first J
+    (outside served.opened.left served.opened.given (sink_state served.opened.taken 0 false) served.gave (split_off before.known))
+    (outside served.closed.left served.closed.given (sink_state served.closed.taken served.sink_faults false) served.gave' served.own) stream end
 
 -- A client that sends nothing, or its hello alone, sends a complete stream, whatever the server stands for.
 abbrev pub StreamsWithoutCalls : Type 0
@@ -72,7 +72,7 @@ StreamsWithoutCalls = (credits : ℕ) (s : Setup) (J : List Entry) → IsComplet
 -- if what is written down as bytes are bytes.
 abbrev pub SendsAreAnswered : Type 0
 SendsAreAnswered =
-    (credits : ℕ) (s : Setup) (J : List Entry) (link : ℕ) (before after : Outside) (stream : List ℕ) (served : ServesStream credits s J link before after stream) →
+    (credits : ℕ) (first : Opening) (J : List Entry) (link : ℕ) (before after : Outside) (stream : List ℕ) (served : ServesStream credits first J link before after stream) →
     (opened : LinkParameters) → opened.granted ≡ credits → IsTyped served.run →
     items_written is_send_item (length (hello_due opened link Responder served.run)) (length (bytes_sent link Responder served.run)) (items_due opened link Responder served.run)
     ≡ (server opened link served.run).state.received.sends

@@ -12,21 +12,22 @@ use Rattle.nr_reduce.specs.Matched.{IsPrefixOf}
 use Rattle.nr_reduce.specs.Run.{server}
 use Rattle.nr_reduce.specs.Served.{Served, ServedSoFar}
 use Rattle.nr_plain.specs.Setup.{Setup}
-use Rattle.nr_plain.specs.Stands.{RepresentsJournal}
+use Rattle.nr_plain.specs.History.{AllPlaced, Opening, OverHistory, setup_in}
 use Rattle.nr_links.specs.Limits.{read_max}
-use Rattle.nr_host.specs.Connections.{Outside, IsOwn, IsQuiet, PlainMark, QuietMark, FrameMark, GivesAll, added, moments}
+use Rattle.nr_host.specs.Connections.{Outside, IsOwn, IsQuiet, QuietMark, FrameMark, GivesAll, answers_of, moments}
 use Rattle.nr_host.specs.Ending.{IsIdle}
 
 -- Marks that a connection may have made when it has read the first bytes of this stream, or all: it fed them frame by frame, and executed
 -- each call that was complete, and wrote what was due, before the next frame. Each call was answered as the plain server answers at its
--- place, after the entries J.
+-- place in a journal that begins with the entries J, and goes on with its own and those of others.
 pub record MayHaveMade (s : Setup) (J : List Entry) (opened : LinkParameters) (link : ℕ) (stream : List ℕ) (run : List Mark) : Type 0 where
   pub own : AtEachMark (λ earlier mark. IsOwn link mark) [] run
   pub begins : IsPrefixOf (bytes_received link Responder run) stream
   pub served : ServedSoFar opened link run
   pub quiet : AtEachMark (QuietMark opened link) [] run
   pub frames : AtEachMark (FrameMark opened link) [] run
-  pub plain : AtEachMark (PlainMark s J) [] run
+  pub more : List Entry
+  pub plain : AllPlaced s (J ++ more) (length J) (answers_of run)
 
 -- A client's stream that a server which grants these credits reads to its end, after the entries J: it has fewer bytes than the maximum,
 -- ends the server's side at none of them, and ends at no byte or after complete frames, when each call that it asks for can be answered.
@@ -40,17 +41,17 @@ pub record IsCompleteStream (credits : ℕ) (s : Setup) (J : List Entry) (stream
       (server opened link run).state.calls ≡ []
 
 -- A connection served such a stream: it read and fed all of it and nothing else, the sink took all that was written, which is all that was
--- due, each call was executed at the moment that the clock gave and answered, and the server stands for the journal with their entries. The
+-- due, each call was executed at the moment that the clock gave and answered, at its place in the one journal that the pass has then seen. The
 -- law of a link's server holds in full: each Wrote writes all that is due.
-pub record ServesStream (credits : ℕ) (s : Setup) (J : List Entry) (link : ℕ) (before after : Outside) (stream : List ℕ) : Type 0 where
+pub record ServesStream (credits : ℕ) (first : Opening) (J : List Entry) (link : ℕ) (before after : Outside) (stream : List ℕ) : Type 0 where
   pub run : List Mark
   pub fed : bytes_received link Responder run ≡ stream
   pub left : after.left ≡ Some []
   pub given : Appends before.given after.given stream
   pub taken : Appends before.sink.taken after.sink.taken (bytes_sent link Responder run)
   pub gave : GivesAll before.gave after.gave (moments run)
-  pub stands : RepresentsJournal s (J ++ added run) after.kept
-  pub made : (opened : LinkParameters) → opened.granted ≡ credits → MayHaveMade s J opened link stream run
+  pub over : OverHistory first J before.known.mine (answers_of run) after.known
+  pub made : (opened : LinkParameters) → opened.granted ≡ credits → MayHaveMade (setup_in first) J opened link stream run
   pub served : (opened : LinkParameters) → opened.granted ≡ credits → Served opened link run
   pub idle : (opened : LinkParameters) → opened.granted ≡ credits → IsIdle opened link run
   pub answered : (opened : LinkParameters) → opened.granted ≡ credits → (server opened link run).state.calls ≡ []

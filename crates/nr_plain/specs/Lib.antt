@@ -8,3 +8,4 @@ pub mod JournalLaws
 pub mod ReplySizes
 pub mod ReplyLaws
 pub mod private
+pub mod History

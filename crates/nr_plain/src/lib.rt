@@ -25,10 +25,13 @@ mod entry;
 mod fault;
 mod journal_laws;
 mod laws;
+mod machine;
 mod mount;
+mod noted;
 mod procedure;
 mod reading;
 mod server;
+mod turns;
 
 pub use entry::entry_of_call;
 pub use fault::Fault;
@@ -40,4 +43,6 @@ pub use laws::{
     auto_offers_hold_their_replies, changes_fit_every_offer, replies_are_within_their_limit,
     replies_begin_with_the_xid, server_is_plain,
 };
+pub use noted::Noted;
 pub use server::{Reply, Server};
+pub use turns::{execute, journal_len, share};

@@ -98,7 +98,9 @@ impl Server {
 
     /// How many entries the journal has.
     pub fn journal_len(&self) -> u64
-        ensures { (s : Setup) (J : List Entry) → RepresentsJournal s J self.now → result ≡ length J }
+        ensures len { (s : Setup) (J : List Entry) → RepresentsJournal s J self.now → result ≡ length J }
+        // Each entry costs at least 64, and the capacity is below 2^63.
+        ensures below { result < 2 ^ 60 }
     {
         self.count
     }

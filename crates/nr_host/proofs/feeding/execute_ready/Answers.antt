@@ -1,18 +1,20 @@
+use Rattle.nr_plain.specs.History.{known_of}
 use Rattle.std.proofs.Common.{◌∙◌}
 use Rattle.nr_host.proofs.Executions.{steps_compose, leaves_by}
 use Rattle.nr_host.proofs.feeding.execute_ready.Goals as goal
 
 pub loop-call-preserved : goal.loop-call-preserved
 loop-call-preserved g c =
-    let (on, same, goes) = c.loop-call.invariant in (
+    let (rests, on, same, goes) = c.loop-call.invariant in (
+      c.execute_one.ensures.rests,
       c.in-Ok.ensures.live,
       c.in-Ok.ensures.fed ∙ same,
-      steps_compose (g.C.Clock.gave c.args.clock.now) (g.C.Clock.gave c.loop-call.clock) (g.C.Clock.gave c.execute_one.new.clock) c.args.server.now c.loop-call.server c.execute_one.new.server
+      steps_compose (g.C.Clock.gave c.args.clock.now) (g.C.Clock.gave c.loop-call.clock) (g.C.Clock.gave c.execute_one.new.clock) (known_of c.args.pass.now) (known_of c.loop-call.pass) (known_of c.execute_one.new.pass)
           c.args.responder.now.side c.loop-call.responder.side c.execute_one.new.responder.side goes c.in-Ok.ensures.ok,
     )
 
 pub returns-in-Err-clause-err : goal.returns-in-Err-clause-err
 returns-in-Err-clause-err g c =
-    let (on, same, goes) = c.loop-call.invariant in
-    leaves_by (g.C.Clock.gave c.args.clock.now) (g.C.Clock.gave c.loop-call.clock) (g.C.Clock.gave c.execute_one.new.clock) c.args.server.now c.loop-call.server c.execute_one.new.server
+    let (rests, on, same, goes) = c.loop-call.invariant in
+    leaves_by (g.C.Clock.gave c.args.clock.now) (g.C.Clock.gave c.loop-call.clock) (g.C.Clock.gave c.execute_one.new.clock) (known_of c.args.pass.now) (known_of c.loop-call.pass) (known_of c.execute_one.new.pass)
     c.args.responder.now.side c.loop-call.responder.side goes c.in-Err.ensures.err

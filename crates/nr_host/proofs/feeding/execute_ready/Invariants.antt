@@ -1,3 +1,5 @@
+use Rattle.nr_turnstile.specs.Passes.{Rests}
+use Rattle.nr_plain.specs.History.{known_of}
 use Rattle.std.proofs.Common.{◌≡◌, None, length}
 use Rattle.nr_endpoint.specs.FedBytes.{fed_bytes}
 use Rattle.nr_responder.specs.ResponderState.{end_of}
@@ -6,9 +8,10 @@ use Rattle.nr_host.proofs.feeding.execute_ready.Given as goal
 
 abbrev pub invariant-loop-call : goal.invariant-loop-call
 invariant-loop-call g l =
-    (end_of l.responder.side ≡ None)
+    Rests l.shared l.pass
+    × (end_of l.responder.side ≡ None)
     × (fed_bytes l.responder.side.link ≡ fed_bytes l.initial.responder.side.link)
-    × GoesOn (g.C.Clock.gave l.initial.clock) (g.C.Clock.gave l.clock) l.initial.server l.server l.initial.responder.side l.responder.side
+    × GoesOn (g.C.Clock.gave l.initial.clock) (g.C.Clock.gave l.clock) (known_of l.initial.pass) (known_of l.pass) l.initial.responder.side l.responder.side
 
 abbrev pub decreases-loop-call : goal.decreases-loop-call
 decreases-loop-call g l = length l.responder.side.ready
