@@ -257,6 +257,7 @@ where
         (between (A.ended acceptor.new) (A.lost acceptor.new) (P.started spawner.new) (pass_view pass.new))) }
     ensures all { IfOk result (λ ran. (ran.started + length ran.ends ≡ connections) × (P.started spawner.new ≡ P.started spawner.old + ran.started)) }
     ensures back { IfOk result (λ ran. BackCount ran.ends (P.faults spawner.old) (P.faults spawner.new)) }
+    ensures ended { P.ended spawner.new ≡ P.started spawner.new }
     ensures err { OnErr result ((ends : List ConnEnd) × ((P.started spawner.new + length ends < P.started spawner.old + connections) × Serves credits
         (between (A.ended acceptor.old) (A.lost acceptor.old) (P.started spawner.old) (pass_view pass.old)) ends
         (between (A.ended acceptor.new) (A.lost acceptor.new) (P.started spawner.new) (pass_view pass.new)))) }
