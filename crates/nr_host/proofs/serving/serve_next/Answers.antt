@@ -1,4 +1,5 @@
 use Rattle.std.proofs.Common.{◌≡◌, ℕ, false, refl, sym, ap, subst, ◌∙◌}
+use Rattle.std.proofs.lemmas.Option.{IfSome_then}
 use Rattle.nr_links.specs.Links.{CountsLost, ended_link}
 use Rattle.nr_turnstile.specs.Rule.{Begins, in_order, longer}
 use Rattle.nr_turnstile.specs.Passes.{mine_of, seen_by, view_of}
@@ -29,7 +30,7 @@ returns-clause-served g c =
       own = pass_view r.pass;
       fresh = record { nothing_given = fresh.nothing_given; nothing_taken = fresh.nothing_taken; no_source_fault = refl; no_sink_fault = refl };
       told = c.in-Ok-accept.ensures.told;
-      numbered = IfSome-weaker (g.A.Acceptor.ended c.args.acceptor.now) _ _ (λ log made. made ∙ sym c.in-Ok-accept.ensures.numbered.source) c.in-Ok-accept.ensures.numbered.counts;
+      numbered = IfSome_then (g.A.Acceptor.ended c.args.acceptor.now) c.in-Ok-accept.ensures.numbered.counts (λ log made. made ∙ sym c.in-Ok-accept.ensures.numbered.source);
       same_number = c.run-source.ensures.source_link ∙ ap (λ j. link j.source) back;
       new_clock = c.another.ensures;
       served = subst (λ (k : PassView). IsServed c.args.credits (outside (left source) (given source) (sink_state (taken sink) 0 false) (g.C.Clock.gave c.another.result) k) after r.end)
