@@ -20,9 +20,12 @@ entry_by : (b : Bool) (x y : TaggedEntry) (e : Entry) → x.entry ≡ e → y.en
 entry_by true x y e p q = p
 entry_by false x y e p q = q
 
+tagged_is : (client xid : ℕ) (e : Entry) → (tagged client xid e).entry ≡ e
+tagged_is client xid e = entry_by (client == 0) (record { entry = e; client = 0; xid = 0 }) (record { entry = e; client = client; xid = xid }) e refl refl
+
 tagged_alone : (client xid : ℕ) (es : List Entry) → entries_alone (map (tagged client xid) es) ≡ es
 tagged_alone client xid [] = refl
-tagged_alone client xid (e ∷ es) = λ i. entry_by (client == 0) _ _ e refl refl i ∷ tagged_alone client xid es i
+tagged_alone client xid (e ∷ es) = λ i. tagged_is client xid e i ∷ tagged_alone client xid es i
 
 pub history_length : (first : Opening) (J : List Entry) (h : List HistoryEntry) → IsHistory first J h → length h ≡ suc (length J)
 history_length first J h i =
@@ -37,11 +40,11 @@ history_grows first J h client xid es i = record {
 }
 
 -- the entries that a history has after its first
-tagged_in : HistoryEntry → List TaggedEntry
+abbrev tagged_in : HistoryEntry → List TaggedEntry
 tagged_in (Opened first) = []
 tagged_in (Added t) = t ∷ []
 
-all_tagged_in : List HistoryEntry → List TaggedEntry
+abbrev all_tagged_in : List HistoryEntry → List TaggedEntry
 all_tagged_in [] = []
 all_tagged_in (x ∷ h) = tagged_in x ++ all_tagged_in h
 
