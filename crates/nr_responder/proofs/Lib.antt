@@ -1,3 +1,4 @@
+pub mod AnswerMessages
 pub mod Answered
 pub mod Begun
 pub mod CallsAtOnce

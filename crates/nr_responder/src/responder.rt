@@ -145,14 +145,12 @@ impl Responder {
     }
 
     /// Queues the answer to the next call: RDMA Writes into what it offered and one Send, or ERR_CHUNK if its offer doesn't hold the reply
-    /// (RFC 8166 sections 3.4.6, 3.5). An `Err` changes nothing and gives the call back: memory ran out, or the reply has more than 65536
-    /// bytes.
+    /// (RFC 8166 sections 3.4.6, 3.5). The reply has at most 65536 bytes. An `Err` changes nothing and gives the call back: memory ran out.
     pub fn answer(&mut self, call: CallId, reply: &[u8]) -> Result<Sent, (CallId, Memory)>
         requires live { end_of self.old.side ≡ None }
         requires next { IsNext self.old.side call }
+        requires short { length reply.now ≤ sent_reply_max }
         ensures answers { IfOk result (λ sent. Answers self.old.side self.new.side call reply.now sent) }
-        // A longer reply is refused.
-        ensures short { IfOk result (λ _. length reply.now ≤ sent_reply_max) }
         ensures stands { OnOk result ((opened : LinkParameters) (link : ℕ) (run : List Mark) (moment : Moment) (payload : List ℕ) (place : ℕ) → ResponderRepresents opened link run self.old.side →
             IsExecuted opened link run call payload → ResponderRepresents opened link (run ++ marks.Execute link call moment payload place reply.now ∷ []) self.new.side) }
         ensures err { OnErr result (self.new ≡ self.old) }
