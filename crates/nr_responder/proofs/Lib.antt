@@ -21,6 +21,7 @@ pub mod Handled
 pub mod Held
 pub mod HeldSinks
 pub mod Judged
+pub mod KeptLists
 pub mod LastResponses
 pub mod ListedReads
 pub mod Marks

@@ -24,7 +24,7 @@ ghost use Rattle.nr_regions.specs.RegisteredMemory.{bytes_held};
 ghost use Rattle.nr_reduce.specs.Plans.{one_if};
 ghost use Rattle.nr_reduce.specs.Run.{server};
 ghost use Rattle.nr_reduce.specs.ServerState.{receives_in_use};
-ghost use Rattle.nr_responder.specs.HeldBytes.{held_unit, sent_reply_max};
+ghost use Rattle.nr_responder.specs.HeldBytes.{held_unit, sent_reply_max, ListsFit};
 ghost use Rattle.nr_responder.specs.ResponderState.{bytes_held_by, end_of, may_write, opened_side, unsent, KeepsStaging};
 ghost use Rattle.nr_responder.specs.Rooms.{payload_room};
 ghost use Rattle.nr_responder.specs.Sound.{IsNext};
@@ -187,6 +187,8 @@ impl Responder {
         ensures rooms { self.now.rooms ≤ payload_room * (2 * length self.now.side.calls) }
         // The regions: the payload of each of these calls, and for each Read Request that may be open.
         ensures regions { bytes_held self.now.side.link.state.memory ≤ PAYLOAD_MAX * (length self.now.side.calls + open_reads_max) }
+        // Lists, whose bytes aren't counted, have a maximum number of elements.
+        ensures lists { ListsFit self.now.side }
     {
         self.end.held()
     }
