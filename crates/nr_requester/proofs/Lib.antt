@@ -43,7 +43,6 @@ pub mod Unsent
 pub mod RegionBounds
 pub mod OutsideBounds
 pub mod HeldBounds
-pub mod KeptLists
 pub mod Lost
 pub mod OpenTickets
 pub mod Tickets

@@ -18,7 +18,7 @@ use Rattle.nr_reduce.specs.declared.call.Call.{Call}
 use Rattle.nr_reduce.specs.declared.call.Outcome.{Outcome}
 use Rattle.nr_reduce.specs.declared.call.Outcome.TheVariants as outcomes
 use Rattle.nr_reduce.specs.declared.outline.Plan.{Plan}
-use Rattle.nr_reduce.specs.Limits.{credits_max, given_max}
+use Rattle.nr_reduce.specs.Limits.{given_max}
 use Rattle.nr_reduce.specs.Plans.{total}
 use Rattle.nr_reduce.specs.Chunks.{chunk_total}
 use Rattle.nr_requester.specs.declared.outstanding.OutstandingCall.{OutstandingCall}
@@ -84,15 +84,6 @@ rooms_bytes (c ∷ calls) = reply_room c.offered + rooms_bytes calls
 -- the answers.
 unfoldable pub bytes_held_by : RequesterState → ℕ
 bytes_held_by r = FPDU_MAX + bytes_of r.side + calls_bytes r.outstanding + rooms_bytes r.outstanding + answers_bytes r.answered
-
--- ---- Lists
-
--- How long the lists are that a requester keeps, whose bytes aren't counted: its outstanding calls; the Sends that haven't left, of which each is of
--- such a call; and the Read Responses that it owes. The answers that weren't taken are as many as their owner left.
-pub record ListsFit (r : RequesterState) : Type 0 where
-  pub calls : length r.outstanding ≤ credits_max
-  pub sends : length r.side.send_queue.send_ends ≤ length r.outstanding
-  pub responses : length r.side.send_queue.response_ends ≤ open_reads_max
 
 -- ---- Bounds
 

@@ -3,7 +3,7 @@
 ghost use Rattle.std.specs.Prelude.{◌≡◌, ℕ, ◌+◌, ◌*◌, ◌^◌, ◌≤◌, length, map, max};
 ghost use Rattle.std.specs.List.{AllByRecursion};
 ghost use Rattle.nr_reduce.specs.Limits.{credits_max};
-ghost use Rattle.nr_requester.specs.HeldBytes.{cred_bytes, call_bytes, stored_bytes, calls_bytes, rooms_bytes, outcome_bytes, buffer_len, answer_bytes, answers_bytes, AnswerFits, CallFits, bytes_held_by, held_unit, ListsFit};
+ghost use Rattle.nr_requester.specs.HeldBytes.{cred_bytes, call_bytes, stored_bytes, calls_bytes, rooms_bytes, outcome_bytes, buffer_len, answer_bytes, answers_bytes, AnswerFits, CallFits, bytes_held_by, held_unit};
 ghost use Rattle.nr_requester.specs.Views.{stored_view};
 
 use crate::answer::AnsweredCall;
@@ -111,8 +111,6 @@ impl Requester {
     pub fn held(&self) -> u128
         ensures is { result ≡ bytes_held_by self.now.state }
         ensures bound { result ≤ held_unit * (max self.now.state.wished (length self.now.state.outstanding) + length self.now.state.answered + 4) }
-        // Lists, whose bytes aren't counted, have a maximum number of elements.
-        ensures lists { ListsFit self.now.state }
     {
         self.endpoint.facts();
         self.endpoint.held()

@@ -5,7 +5,6 @@ use Rattle.nr_requester.specs.RequesterState.{RequesterSide}
 use Rattle.nr_requester.specs.Views.{stored_view}
 use Rattle.nr_requester.specs.HeldBytes.{calls_bytes, rooms_bytes, answers_bytes, held_unit}
 use Rattle.nr_requester.proofs.HeldBounds.{held_is, held_bound, held_most}
-use Rattle.nr_requester.proofs.KeptLists.{lists_fit}
 use Rattle.nr_requester.proofs.requester.Requester.held.Goals as goal
 
 pub overflow_add-result : goal.overflow_add-result
@@ -51,8 +50,3 @@ returns-clause-bound c =
     let small : c.answers_bytes.result ≤ held_unit * length i.answered.items = omega (arith, c.answers_bytes.ensures.small, ap (λ (xs : List AnsweredCall). length xs) c.as_slice-3.ensures.value) in
     held_most i.wished _ c.answers_bytes.result i.outstanding.items i.answered.items c.args.self.now (ap (λ (h : RequesterSide). h.state.wished) (sym c.self.view_is)) (ap (λ (h : RequesterSide). h.state.outstanding) (sym c.self.view_is))
     (ap (λ (h : RequesterSide). h.state.answered) (sym c.self.view_is)) bound small
-
-pub returns-clause-lists : goal.returns-clause-lists
-returns-clause-lists c =
-    let i = c.self.inside in
-    lists_fit i.endpoint i.first_xid i.next_xid i.sent i.wished i.first_xid i.next_xid i.grant i.outstanding.items i.answered.items c.args.self.now.state (ap (λ (h : RequesterSide). h.state) c.self.view_is) c.self.invariant.1.0 c.self.invariant.0.few
