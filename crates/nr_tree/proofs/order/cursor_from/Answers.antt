@@ -1,4 +1,4 @@
-use Rattle.std.proofs.Common.{◌++◌, ◌∙◌, ℕ, List, ◌∷◌, length, ap, sym, arith}
+use Rattle.std.proofs.Common.{◌++◌, ◌∙◌, ℕ, List, length, ap, sym, arith}
 use Rattle.std.proofs.lemmas.List.{length-drop}
 use Rattle.std.specs.List.{concat}
 use Rattle.nr_tree.specs.private.Blocks.{IndexBlock, lists}

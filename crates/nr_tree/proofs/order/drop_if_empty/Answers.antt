@@ -1,4 +1,4 @@
-use Rattle.std.proofs.Common.{◌≡◌, ◌<◌, ℕ, List, length, get_or, subst, ap, sym, ◌∙◌, arith}
+use Rattle.std.proofs.Common.{◌≡◌, ◌<◌, List, length, get_or, subst, ap, sym, ◌∙◌, arith}
 use Rattle.std.specs.List.{concat}
 use Rattle.nr_tree.specs.private.Blocks.{IndexBlock, no_block, lists, AreRoomy, IsAround}
 use Rattle.nr_tree.proofs.Joined.{block_at, emptied, not_emptied, roomy_remove, same_emptied}

@@ -1,4 +1,4 @@
-use Rattle.std.proofs.Common.{◌≡◌, ℕ, ◌-◌, ◌+◌, ◌≤◌, ◌<◌, List, [], length, get_or, subst, sym, ap, ◌∙◌, arith}
+use Rattle.std.proofs.Common.{◌≡◌, ℕ, ◌-◌, ◌+◌, ◌≤◌, ◌<◌, length, subst, sym, ◌∙◌, arith}
 use Rattle.nr_tree.specs.private.Blocks.{IndexBlock, lists}
 use Rattle.nr_tree.proofs.Blocks.{IsSearched, search_begins, searched_within, search_goes_on, search_ends}
 use Rattle.nr_tree.proofs.Joined.{block_at, list_is, lists_long}

@@ -1,4 +1,4 @@
-use Rattle.std.proofs.Common.{◌-◌, ◌≤◌, ◌<◌, ℕ, List, length, subst, sym, arith, ltb-true, ltb-false}
+use Rattle.std.proofs.Common.{◌-◌, ◌≤◌, ◌<◌, length, subst, sym, arith, ltb-true, ltb-false}
 use Rattle.nr_tree.specs.private.Blocks.{IndexBlock, block_max}
 use Rattle.nr_tree.proofs.Joined.{last_found, last_full, last_has}
 use Rattle.nr_tree.proofs.order.has_room.Goals as goal

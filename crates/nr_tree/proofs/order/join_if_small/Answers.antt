@@ -1,4 +1,4 @@
-use Rattle.std.proofs.Common.{◌+◌, ◌≤◌, ◌<◌, ℕ, List, length, get_or, subst, arith}
+use Rattle.std.proofs.Common.{◌+◌, ◌≤◌, ◌<◌, List, length, get_or, subst, arith}
 use Rattle.nr_tree.specs.private.Blocks.{IndexBlock, no_block, joined_max}
 use Rattle.nr_tree.proofs.Joined.{joined_all, large_all, room_at}
 use Rattle.nr_tree.proofs.order.join_if_small.Goals as goal
