@@ -1,5 +1,5 @@
 -- A server that is opened, and its links.
-use Rattle.std.proofs.Common.{◌≡◌, ℕ, ◌+◌, List, [], Option, Result, Ok, Err, length, inl, inr, sym, ap, subst, ◌∙◌}
+use Rattle.std.proofs.Common.{◌≡◌, ℕ, ◌+◌, List, [], Option, Result, Ok, Err, length, inl, inr, refl, sym, ap, subst, ◌∙◌}
 use Rattle.std.specs.Prelude.{MatchResult}
 use Rattle.nr_outside.specs.declared.moment.Moment.{Moment}
 use Rattle.nr_outside.specs.Faults.{Rises}
@@ -11,7 +11,6 @@ use Rattle.nr_reduce.specs.declared.mark.Entry.{Entry}
 use Rattle.nr_plain.specs.History.{IsHistory, IsOpenedBy, OnlyOthersAdded, Opening, PassView, setup_in}
 use Rattle.nr_plain.specs.Setup.{Setup}
 use Rattle.nr_plain.specs.Stands.{PlainServerState}
-use Rattle.nr_plain.specs.declared.noted.HistoryEntry.{HistoryEntry}
 use Rattle.nr_words.specs.declared.settings.Settings.{Settings}
 use Rattle.nr_words.specs.Lines.{Text}
 use Rattle.nr_host.specs.declared.conn_end.ConnEnd.{ConnEnd}
@@ -34,7 +33,7 @@ shares settings gave gave' kept view opens (first, (is, empty)) = record {
     gave = opens.gave;
     setup = ap (λ (k : PlainServerState). record { tree = k.tree; parameters = k.parameters }) is ∙ same opens.stands.tree opens.stands.parameters;
   };
-  empty = empty;
+  empty = record { entries = []; is = empty; journal = refl };
 }
   where
     s : Setup
@@ -46,12 +45,13 @@ shares settings gave gave' kept view opens (first, (is, empty)) = record {
 -- it listened, and then took links
 pub links_served : (settings : Settings Text) (before mid after : AcceptorAt) (spawner spawner' : SpawnerAt) (view view' : PassView) (ends : List ConnEnd)
     → Asks before.asked mid.asked settings.listen → mid.ended ≡ before.ended → mid.lost ≡ before.lost → after.asked ≡ mid.asked
-    → host.Serves settings.credits (host.between mid.ended mid.lost spawner.started view) ends (host.between after.ended after.lost spawner'.started view')
+    → host.Serves settings.credits (host.between mid.ended mid.lost spawner.started view) ends (host.between after.ended after.lost spawner'.started view') → spawner'.ended ≡ spawner'.started
     → ServesLinks settings before after spawner spawner' view view' ends
-links_served settings before mid after spawner spawner' view view' ends asks ended lost same all = record {
+links_served settings before mid after spawner spawner' view view' ends asks ended lost same all waited = record {
   listens = subst (λ (a : Option (List (List ℕ))). Asks before.asked a settings.listen) (sym same) asks;
   serves = subst (λ (n : ℕ). host.Serves settings.credits (host.between before.ended n spawner.started view) ends (host.between after.ended after.lost spawner'.started view')) lost
       (subst (λ (log : Option LinkLog). host.Serves settings.credits (host.between log mid.lost spawner.started view) ends (host.between after.ended after.lost spawner'.started view')) ended all);
+  waited = waited;
 }
 
 -- why it served fewer
@@ -61,7 +61,7 @@ serve_fault faults.Memory before mid after same is = is ∙ same
 
 module _ (settings : Settings Text) (before after : AcceptorAt) (spawner spawner' : SpawnerAt) (gave gave' : Option (List Moment)) (view view' : PassView) (opens : OpensShared settings gave gave' view) where
   serves_by : (ends : List ConnEnd) → ServesLinks settings before after spawner spawner' view view' ends → Serves settings before after spawner spawner' gave gave' ends opens.first view'
-  serves_by ends links = record { opened = view; opens = opens.opens; empty = opens.empty; listens = links.listens; serves = links.serves }
+  serves_by ends links = record { opened = view; opens = opens.opens; empty = opens.empty; listens = links.listens; serves = links.serves; waited = links.waited }
 
   -- all links were served, and its own pass had one turn more
   pub serves_all : (last : PassView) → ServesLinksOf settings before after spawner spawner' view view' → OnlyOthersAdded view' last → ServesConnections settings before after spawner spawner' gave gave'

@@ -32,13 +32,14 @@ pub record AcceptorAt : Type 0 where
 abbrev pub acceptor_at : Option (List (List ℕ)) → Option LinkLog → ℕ → ℕ → AcceptorAt
 acceptor_at asked ended lost faults = record { asked = asked; ended = ended; lost = lost; faults = faults }
 
--- what is known of a spawner: how many jobs it started, and its fault count, which rises if it hands one back
+-- what is known of a spawner: how many jobs it started, how many of them have ended, and its fault count, which rises if it hands one back
 pub record SpawnerAt : Type 0 where
   pub started : ℕ
+  pub ended : ℕ
   pub faults : ℕ
 
-abbrev pub spawner_at : ℕ → ℕ → SpawnerAt
-spawner_at started faults = record { started = started; faults = faults }
+abbrev pub spawner_at : ℕ → ℕ → ℕ → SpawnerAt
+spawner_at started ended faults = record { started = started; ended = ended; faults = faults }
 
 -- A server was opened at the moment that the clock gave, as the configuration asks for.
 pub record Opens (settings : Settings Text) (before after : Option (List Moment)) (first : Opening) : Type 0 where
@@ -47,13 +48,15 @@ pub record Opens (settings : Settings Text) (before after : Option (List Moment)
   pub setup : setup_in first ≡ setup_of settings moment
 
 -- A server was opened so, and listened at the address of the configuration. Links were taken then: the spawner started the job of each, or it was
--- served here, and these are the ends of those. The server's own pass had seen no entry of the journal at first. This is what it knows at last.
+-- served here, and these are the ends of those. All jobs that were started have ended. The server's own pass had seen no entry of the journal at
+-- first, and this is what it knows at last.
 pub record Serves (settings : Settings Text) (before after : AcceptorAt) (spawner spawner' : SpawnerAt) (gave gave' : Option (List Moment)) (ends : List ConnEnd) (first : Opening) (view : PassView) : Type 0 where
   pub opened : PassView
   pub opens : Opens settings gave gave' first
   pub empty : IsHistory first [] opened.seen
   pub listens : Asks before.asked after.asked settings.listen
   pub serves : host.Serves settings.credits (host.between before.ended before.lost spawner.started opened) ends (host.between after.ended after.lost spawner'.started view)
+  pub waited : spawner'.ended ≡ spawner'.started
 
 -- what is printed at the end: the number of connections, and the length of the journal
 unfoldable pub served_text : ℕ → ℕ → List ℕ

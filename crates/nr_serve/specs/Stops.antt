@@ -124,6 +124,7 @@ pub record OpensShared (settings : Settings Text) (before after : Option (List M
 pub record ServesLinks (settings : Settings Text) (before after : AcceptorAt) (spawner spawner' : SpawnerAt) (view view' : PassView) (ends : List ConnEnd) : Type 0 where
   pub listens : Asks before.asked after.asked settings.listen
   pub serves : host.Serves settings.credits (host.between before.ended before.lost spawner.started view) ends (host.between after.ended after.lost spawner'.started view')
+  pub waited : spawner'.ended ≡ spawner'.started
 
 -- all of them
 pub record ServesLinksOf (settings : Settings Text) (before after : AcceptorAt) (spawner spawner' : SpawnerAt) (view view' : PassView) : Type 0 where

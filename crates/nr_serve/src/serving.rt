@@ -112,8 +112,8 @@ where
     requires room { P.started spawn.old < 2 ^ 63 }
     ensures rests { Rests (arc_value shared.now) pass.new }
     ensures served { MatchResult result
-        (λ _. ServesLinksOf (config_settings config.now) (acceptor_at (A.asked accept.old) (A.ended accept.old) (A.lost accept.old) (A.faults accept.old)) (acceptor_at (A.asked accept.new) (A.ended accept.new) (A.lost accept.new) (A.faults accept.new)) (spawner_at (P.started spawn.old) (P.faults spawn.old)) (spawner_at (P.started spawn.new) (P.faults spawn.new)) (pass_view pass.old) (pass_view pass.new))
-        (λ stop. LinksStopped stop (config_settings config.now) (acceptor_at (A.asked accept.old) (A.ended accept.old) (A.lost accept.old) (A.faults accept.old)) (acceptor_at (A.asked accept.new) (A.ended accept.new) (A.lost accept.new) (A.faults accept.new)) (spawner_at (P.started spawn.old) (P.faults spawn.old)) (spawner_at (P.started spawn.new) (P.faults spawn.new)) (pass_view pass.old) (pass_view pass.new)) }
+        (λ _. ServesLinksOf (config_settings config.now) (acceptor_at (A.asked accept.old) (A.ended accept.old) (A.lost accept.old) (A.faults accept.old)) (acceptor_at (A.asked accept.new) (A.ended accept.new) (A.lost accept.new) (A.faults accept.new)) (spawner_at (P.started spawn.old) (P.ended spawn.old) (P.faults spawn.old)) (spawner_at (P.started spawn.new) (P.ended spawn.new) (P.faults spawn.new)) (pass_view pass.old) (pass_view pass.new))
+        (λ stop. LinksStopped stop (config_settings config.now) (acceptor_at (A.asked accept.old) (A.ended accept.old) (A.lost accept.old) (A.faults accept.old)) (acceptor_at (A.asked accept.new) (A.ended accept.new) (A.lost accept.new) (A.faults accept.new)) (spawner_at (P.started spawn.old) (P.ended spawn.old) (P.faults spawn.old)) (spawner_at (P.started spawn.new) (P.ended spawn.new) (P.faults spawn.new)) (pass_view pass.old) (pass_view pass.new)) }
 {
     match accept.listen(config.listen.as_str()) {
         Ok(()) => {}
@@ -177,8 +177,8 @@ where
     requires ranges { InRanges (config_settings config.now) }
     requires room { P.started spawn.old < 2 ^ 63 }
     ensures { MatchResult result
-        (λ _. ServesAndPrints (config_settings config.now) (sink_at (O.taken out.old) (O.faults out.old)) (sink_at (O.taken out.new) (O.faults out.new)) (acceptor_at (A.asked accept.old) (A.ended accept.old) (A.lost accept.old) (A.faults accept.old)) (acceptor_at (A.asked accept.new) (A.ended accept.new) (A.lost accept.new) (A.faults accept.new)) (spawner_at (P.started spawn.old) (P.faults spawn.old)) (spawner_at (P.started spawn.new) (P.faults spawn.new)) (C.gave clock.old) (C.gave clock.new))
-        (λ stop. StopsServing stop (config_settings config.now) (sink_at (O.taken out.old) (O.faults out.old)) (sink_at (O.taken out.new) (O.faults out.new)) (acceptor_at (A.asked accept.old) (A.ended accept.old) (A.lost accept.old) (A.faults accept.old)) (acceptor_at (A.asked accept.new) (A.ended accept.new) (A.lost accept.new) (A.faults accept.new)) (spawner_at (P.started spawn.old) (P.faults spawn.old)) (spawner_at (P.started spawn.new) (P.faults spawn.new)) (C.gave clock.old) (C.gave clock.new)) }
+        (λ _. ServesAndPrints (config_settings config.now) (sink_at (O.taken out.old) (O.faults out.old)) (sink_at (O.taken out.new) (O.faults out.new)) (acceptor_at (A.asked accept.old) (A.ended accept.old) (A.lost accept.old) (A.faults accept.old)) (acceptor_at (A.asked accept.new) (A.ended accept.new) (A.lost accept.new) (A.faults accept.new)) (spawner_at (P.started spawn.old) (P.ended spawn.old) (P.faults spawn.old)) (spawner_at (P.started spawn.new) (P.ended spawn.new) (P.faults spawn.new)) (C.gave clock.old) (C.gave clock.new))
+        (λ stop. StopsServing stop (config_settings config.now) (sink_at (O.taken out.old) (O.faults out.old)) (sink_at (O.taken out.new) (O.faults out.new)) (acceptor_at (A.asked accept.old) (A.ended accept.old) (A.lost accept.old) (A.faults accept.old)) (acceptor_at (A.asked accept.new) (A.ended accept.new) (A.lost accept.new) (A.faults accept.new)) (spawner_at (P.started spawn.old) (P.ended spawn.old) (P.faults spawn.old)) (spawner_at (P.started spawn.new) (P.ended spawn.new) (P.faults spawn.new)) (C.gave clock.old) (C.gave clock.new)) }
 {
     let (shared, pass) = match open_shared(alloc, clock, config) {
         Ok(opened) => opened,
@@ -219,10 +219,10 @@ where
     ensures { MatchResult result
         (λ _. Done (source_at (I.left input.old) (I.given input.old) (I.faults input.old)) (source_at (I.left input.new) (I.given input.new) (I.faults input.new))
         (sink_at (O.taken out.old) (O.faults out.old)) (sink_at (O.taken out.new) (O.faults out.new))
-        (acceptor_at (A.asked accept.old) (A.ended accept.old) (A.lost accept.old) (A.faults accept.old)) (acceptor_at (A.asked accept.new) (A.ended accept.new) (A.lost accept.new) (A.faults accept.new)) (spawner_at (P.started spawn.old) (P.faults spawn.old)) (spawner_at (P.started spawn.new) (P.faults spawn.new)) (C.gave clock.old) (C.gave clock.new))
+        (acceptor_at (A.asked accept.old) (A.ended accept.old) (A.lost accept.old) (A.faults accept.old)) (acceptor_at (A.asked accept.new) (A.ended accept.new) (A.lost accept.new) (A.faults accept.new)) (spawner_at (P.started spawn.old) (P.ended spawn.old) (P.faults spawn.old)) (spawner_at (P.started spawn.new) (P.ended spawn.new) (P.faults spawn.new)) (C.gave clock.old) (C.gave clock.new))
         (λ stop. Stopped stop (source_at (I.left input.old) (I.given input.old) (I.faults input.old)) (source_at (I.left input.new) (I.given input.new) (I.faults input.new))
         (sink_at (O.taken out.old) (O.faults out.old)) (sink_at (O.taken out.new) (O.faults out.new))
-        (acceptor_at (A.asked accept.old) (A.ended accept.old) (A.lost accept.old) (A.faults accept.old)) (acceptor_at (A.asked accept.new) (A.ended accept.new) (A.lost accept.new) (A.faults accept.new)) (spawner_at (P.started spawn.old) (P.faults spawn.old)) (spawner_at (P.started spawn.new) (P.faults spawn.new)) (C.gave clock.old) (C.gave clock.new)) }
+        (acceptor_at (A.asked accept.old) (A.ended accept.old) (A.lost accept.old) (A.faults accept.old)) (acceptor_at (A.asked accept.new) (A.ended accept.new) (A.lost accept.new) (A.faults accept.new)) (spawner_at (P.started spawn.old) (P.ended spawn.old) (P.faults spawn.old)) (spawner_at (P.started spawn.new) (P.ended spawn.new) (P.faults spawn.new)) (C.gave clock.old) (C.gave clock.new)) }
 {
     let config = match read_settings(alloc, input) {
         Ok(config) => config,

@@ -53,9 +53,9 @@ where
     requires room { S.started spawn.old < 2 ^ 63 }
     ensures { CommandEnds (plain_command command.now) result
         (outside (source_at (I.left input.old) (I.given input.old) (I.faults input.old)) (sink_at (O.taken out.old) (O.faults out.old)) (sink_at (E.taken err.old) (E.faults err.old))
-        (dialer_at (D.asked dial.old) (D.ended dial.old) (D.lost dial.old) (D.faults dial.old)) (acceptor_at (A.asked accept.old) (A.ended accept.old) (A.lost accept.old) (A.faults accept.old)) (spawner_at (S.started spawn.old) (S.faults spawn.old)) (C.gave clock.old))
+        (dialer_at (D.asked dial.old) (D.ended dial.old) (D.lost dial.old) (D.faults dial.old)) (acceptor_at (A.asked accept.old) (A.ended accept.old) (A.lost accept.old) (A.faults accept.old)) (spawner_at (S.started spawn.old) (S.ended spawn.old) (S.faults spawn.old)) (C.gave clock.old))
         (outside (source_at (I.left input.new) (I.given input.new) (I.faults input.new)) (sink_at (O.taken out.new) (O.faults out.new)) (sink_at (E.taken err.new) (E.faults err.new))
-        (dialer_at (D.asked dial.new) (D.ended dial.new) (D.lost dial.new) (D.faults dial.new)) (acceptor_at (A.asked accept.new) (A.ended accept.new) (A.lost accept.new) (A.faults accept.new)) (spawner_at (S.started spawn.new) (S.faults spawn.new)) (C.gave clock.new)) }
+        (dialer_at (D.asked dial.new) (D.ended dial.new) (D.lost dial.new) (D.faults dial.new)) (acceptor_at (A.asked accept.new) (A.ended accept.new) (A.lost accept.new) (A.faults accept.new)) (spawner_at (S.started spawn.new) (S.ended spawn.new) (S.faults spawn.new)) (C.gave clock.new)) }
 {
     match command {
         Command::Client { client } => run_client(alloc, client, dial, input, out, err),
@@ -125,9 +125,9 @@ where
     requires { S.started spawn.old < 2 ^ 63 }
     ensures { RunEnds (map string_bytes words.now) result
         (outside (source_at (I.left input.old) (I.given input.old) (I.faults input.old)) (sink_at (O.taken out.old) (O.faults out.old)) (sink_at (E.taken err.old) (E.faults err.old))
-        (dialer_at (D.asked dial.old) (D.ended dial.old) (D.lost dial.old) (D.faults dial.old)) (acceptor_at (A.asked accept.old) (A.ended accept.old) (A.lost accept.old) (A.faults accept.old)) (spawner_at (S.started spawn.old) (S.faults spawn.old)) (C.gave clock.old))
+        (dialer_at (D.asked dial.old) (D.ended dial.old) (D.lost dial.old) (D.faults dial.old)) (acceptor_at (A.asked accept.old) (A.ended accept.old) (A.lost accept.old) (A.faults accept.old)) (spawner_at (S.started spawn.old) (S.ended spawn.old) (S.faults spawn.old)) (C.gave clock.old))
         (outside (source_at (I.left input.new) (I.given input.new) (I.faults input.new)) (sink_at (O.taken out.new) (O.faults out.new)) (sink_at (E.taken err.new) (E.faults err.new))
-        (dialer_at (D.asked dial.new) (D.ended dial.new) (D.lost dial.new) (D.faults dial.new)) (acceptor_at (A.asked accept.new) (A.ended accept.new) (A.lost accept.new) (A.faults accept.new)) (spawner_at (S.started spawn.new) (S.faults spawn.new)) (C.gave clock.new)) }
+        (dialer_at (D.asked dial.new) (D.ended dial.new) (D.lost dial.new) (D.faults dial.new)) (acceptor_at (A.asked accept.new) (A.ended accept.new) (A.lost accept.new) (A.faults accept.new)) (spawner_at (S.started spawn.new) (S.ended spawn.new) (S.faults spawn.new)) (C.gave clock.new)) }
 {
     match read_words(alloc, words) {
         Ok(command) => dispatch(

@@ -60,7 +60,7 @@ where
         (sink_at (O.taken out.old) (O.faults out.old)) (sink_at (O.taken out.new) (O.faults out.new))
         (sink_at (E.taken err.old) (E.faults err.old)) (sink_at (E.taken err.new) (E.faults err.new))
         (acceptor_at (A.asked accept.old) (A.ended accept.old) (A.lost accept.old) (A.faults accept.old)) (acceptor_at (A.asked accept.new) (A.ended accept.new) (A.lost accept.new) (A.faults accept.new))
-        (spawner_at (P.started spawn.old) (P.faults spawn.old)) (spawner_at (P.started spawn.new) (P.faults spawn.new)) (C.gave clock.old) (C.gave clock.new) }
+        (spawner_at (P.started spawn.old) (P.ended spawn.old) (P.faults spawn.old)) (spawner_at (P.started spawn.new) (P.ended spawn.new) (P.faults spawn.new)) (C.gave clock.old) (C.gave clock.new) }
 {
     match serve_config(rt, alloc, input, out, accept, clock, spawn) {
         Ok(()) => DONE,
