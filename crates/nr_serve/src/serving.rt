@@ -161,7 +161,13 @@ fn print_served<O: Sink>(
 
 /// Opens a server, serves the connections of the configuration, and prints that.
 #[tactic(none)]
-fn serve_by<O: Sink, A: Acceptor, C: Clock, P: Spawner, R: Threads + Wait + Copy + Drop + Send + 'static>(
+fn serve_by<
+    O: Sink,
+    A: Acceptor,
+    C: Clock,
+    P: Spawner,
+    R: Threads + Wait + Copy + Drop + Send + 'static,
+>(
     rt: R,
     alloc: Global,
     out: &mut O,
@@ -202,7 +208,14 @@ where
 /// [`ServeStop`] says why it stopped. Nothing is printed then, but for [`ServeStop::Output`], at which a proper prefix of the
 /// line may be. What was served until then stays.
 #[tactic(none)]
-pub fn serve_config<I: Source, O: Sink, A: Acceptor, C: Clock, P: Spawner, R: Threads + Wait + Copy + Drop + Send + 'static>(
+pub fn serve_config<
+    I: Source,
+    O: Sink,
+    A: Acceptor,
+    C: Clock,
+    P: Spawner,
+    R: Threads + Wait + Copy + Drop + Send + 'static,
+>(
     rt: R,
     alloc: Global,
     input: &mut I,
