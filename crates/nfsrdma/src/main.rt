@@ -1,8 +1,9 @@
-//! The program: it opens the streams of its process, a dialer and an acceptor over TCP and the system's clock, and hands them
-//! to [`nr_top::run`], or to [`nr_top::refuse`] if it can't have its arguments. The input of the command `serve` is the file of
-//! its configuration.
+//! The program: it opens the streams of its process, a dialer and an acceptor over TCP, the system's clock and a spawner of threads,
+//! and hands them to [`nr_top::run`], or to [`nr_top::refuse`] if it can't have its arguments. The input of the command `serve` is the
+//! file of its configuration.
 #![tactic(auto)]
 
+use nr_jobs::ThreadSpawner;
 use nr_links::{SystemClock, TcpAcceptor, TcpDialer};
 use nr_outside::{StdSink, StdSource};
 use nr_top::{refuse, run};
@@ -56,7 +57,11 @@ fn run_with(rt: HostRuntime, arguments: &[String]) -> u8 {
     let mut dial = TcpDialer::new(rt);
     let mut accept = TcpAcceptor::new(rt);
     let mut clock = SystemClock::new(rt);
+    let Ok(mut spawn) = ThreadSpawner::new(rt.alloc()) else {
+        return refuse(&mut err, true);
+    };
     run(
+        rt,
         rt.alloc(),
         arguments,
         &mut input,
@@ -65,6 +70,7 @@ fn run_with(rt: HostRuntime, arguments: &[String]) -> u8 {
         &mut dial,
         &mut accept,
         &mut clock,
+        &mut spawn,
     )
 }
 
