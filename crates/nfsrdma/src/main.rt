@@ -13,6 +13,9 @@ use std::io::{ErrorKind, Read};
 use std::process::ExitCode;
 use std::{env, io};
 
+/// How many connections are served in threads at a time. Each takes two descriptors, and a process often may have 1024.
+const THREADS: u64 = 512;
+
 /// An input. The first read of a file that can't be opened fails.
 #[derive(Drop)]
 enum Input<S, F> {
@@ -57,7 +60,7 @@ fn run_with(rt: HostRuntime, arguments: &[String]) -> u8 {
     let mut dial = TcpDialer::new(rt);
     let mut accept = TcpAcceptor::new(rt);
     let mut clock = SystemClock::new(rt);
-    let Ok(mut spawn) = ThreadSpawner::new(rt.alloc()) else {
+    let Ok(mut spawn) = ThreadSpawner::new(rt.alloc(), THREADS) else {
         return refuse(&mut err, true);
     };
     run(

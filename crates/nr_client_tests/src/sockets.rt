@@ -34,6 +34,8 @@ impl<N: Net<Stream = TcpStream, Listener = TcpListener>> Acceptor for Listening<
 
     ghost ended = { λ _. None };
 
+    ghost next = { λ s. s.inner.next };
+
     ghost listens = { λ _. true };
 
     fn listen(&mut self, _addr: &str) -> Result<(), Failed> {
@@ -68,7 +70,7 @@ impl<N: Net<Stream = TcpStream, Listener = TcpListener> + Drop> Server<N> {
         let mut input = MemSource::new(config, Vec::new(alloc), Vec::new(alloc));
         let mut out = MemSink::new(alloc, Vec::new(alloc));
         let mut err = MemSink::new(alloc, Vec::new(alloc));
-        let mut spawn = ThreadSpawner::new(alloc).expect(&rt, "memory");
+        let mut spawn = ThreadSpawner::new(alloc, 512).expect(&rt, "memory");
         let status = run_server(
             &rt,
             alloc,

@@ -274,10 +274,10 @@ pub(crate) fn plan(rt: &impl Abort, alloc: Global) -> LinkPlan {
     }
 }
 
-/// A link over which the client sends its hello and a NULL call, twice.
-pub(crate) fn two_plans(rt: &impl Abort, alloc: Global) -> Vec<LinkPlan> {
+/// This many links, over each of which the client sends its hello and a NULL call.
+pub(crate) fn plans(rt: &impl Abort, alloc: Global, count: usize) -> Vec<LinkPlan> {
     let mut plans = Vec::new(alloc);
-    for _ in 0..2 {
+    for _ in 0..count {
         plans.push(plan(rt, alloc)).expect(rt, "memory");
     }
     plans
@@ -287,7 +287,7 @@ pub(crate) fn two_plans(rt: &impl Abort, alloc: Global) -> Vec<LinkPlan> {
 #[test]
 fn two_connections(rt: HostRuntime) {
     let alloc = rt.alloc();
-    let mut acceptor = MemAcceptor::new(alloc, two_plans(&rt, alloc), Vec::new(alloc));
+    let mut acceptor = MemAcceptor::new(alloc, plans(&rt, alloc, 2), Vec::new(alloc));
     same(&rt, 0, acceptor.listen("here").is_ok(), true);
     let (shared, mut pass) = shared(&rt, alloc);
     let mut spawner = HandBack::new();
