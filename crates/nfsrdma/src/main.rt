@@ -13,8 +13,9 @@ use std::io::{ErrorKind, Read};
 use std::process::ExitCode;
 use std::{env, io};
 
-/// How many connections are served in threads at a time. Each takes two descriptors, and a process often may have 1024.
-const THREADS: u64 = 512;
+/// How many connections are served in threads at a time. Each takes two descriptors, and a process often may have 1024: at this
+/// number there are enough for one more, for the listener and for the standard streams.
+const THREADS: u64 = 500;
 
 /// An input. The first read of a file that can't be opened fails.
 #[derive(Drop)]
