@@ -70,7 +70,7 @@ impl<N: Net<Stream = TcpStream, Listener = TcpListener> + Drop> Server<N> {
         let mut input = MemSource::new(config, Vec::new(alloc), Vec::new(alloc));
         let mut out = MemSink::new(alloc, Vec::new(alloc));
         let mut err = MemSink::new(alloc, Vec::new(alloc));
-        let mut spawn = ThreadSpawner::new(alloc, 512).expect(&rt, "memory");
+        let mut spawn = ThreadSpawner::new(alloc, 500).expect(&rt, "memory");
         let status = run_server(
             &rt,
             alloc,
