@@ -1,9 +1,9 @@
 //! Calls that are given up, and links that are dropped, after each step of three scripts. What is printed was computed from the definitions of a
 //! drill (conformance/).
 
+use crate::host::Host;
 use crate::top::same_output;
 use std::alloc::Global;
-use std::process::Abort;
 
 /// What is done after a step.
 static ACTIONS: [&[u8]; 3] = [b"revoke 1 1\n", b"forget 1 1\n", b"drop 1\n"];
@@ -130,7 +130,7 @@ static TAKEN_BACK: [(&[u8], [usize; 3]); 6] = [
 
 /// A script of a first line and these steps, with a line after the step of a number, and a drain at the end.
 fn script_with(
-    rt: &impl Abort,
+    rt: &impl Host,
     alloc: Global,
     first: &[u8],
     steps: &[(&[u8], [usize; 3])],
@@ -149,7 +149,7 @@ fn script_with(
 }
 
 /// Each action after each step.
-fn same_after_each(rt: &impl Abort, alloc: Global, first: &[u8], steps: &[(&[u8], [usize; 3])]) {
+fn same_after_each(rt: &impl Host, alloc: Global, first: &[u8], steps: &[(&[u8], [usize; 3])]) {
     for (at, (_, texts)) in steps.iter().enumerate() {
         for (action, text) in ACTIONS.iter().zip(texts.iter()) {
             let script = script_with(rt, alloc, first, steps, at, action);

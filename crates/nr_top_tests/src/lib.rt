@@ -17,6 +17,8 @@ mod forms;
 #[cfg(test)]
 mod given_up;
 #[cfg(test)]
+mod host;
+#[cfg(test)]
 mod server_ends;
 #[cfg(test)]
 mod top;

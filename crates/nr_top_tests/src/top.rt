@@ -1,6 +1,8 @@
 //! Tests of nr_top.
 
 use crate::compare::same;
+use crate::host::Host;
+use nr_jobs::HandBack;
 use nr_links::{MemAcceptor, MemClock, MemDialer};
 use nr_outside::{MemSink, MemSource, Moment};
 use nr_top::{refuse, run};
@@ -239,6 +241,7 @@ static MOMENTS: [Moment; 1] = [Moment {
 
 /// Runs the program without any link.
 fn run_over(
+    rt: &impl Host,
     alloc: Global,
     arguments: &[String],
     input: &mut MemSource,
@@ -248,7 +251,9 @@ fn run_over(
     let mut dial = MemDialer::new(alloc, Vec::new(alloc), Vec::new(alloc));
     let mut accept = MemAcceptor::new(alloc, Vec::new(alloc), Vec::new(alloc));
     let mut clock = MemClock::new(&MOMENTS);
+    let mut spawn = HandBack::new();
     run(
+        *rt,
         alloc,
         arguments,
         input,
@@ -257,12 +262,13 @@ fn run_over(
         &mut dial,
         &mut accept,
         &mut clock,
+        &mut spawn,
     )
 }
 
 /// Runs the program, and compares its status and what it wrote.
 fn same_run(
-    rt: &impl Abort,
+    rt: &impl Host,
     alloc: Global,
     row: usize,
     arguments: &[String],
@@ -274,14 +280,14 @@ fn same_run(
     let mut input = source(rt, alloc, input, reads);
     let mut out = sink(rt, alloc, writes);
     let mut err = sink(rt, alloc, texts);
-    let status = run_over(alloc, arguments, &mut input, &mut out, &mut err);
+    let status = run_over(rt, alloc, arguments, &mut input, &mut out, &mut err);
     drop(input);
     same(rt, row, (status, out.bytes(), err.bytes()), want);
 }
 
 /// Runs a script, and compares what is printed.
 pub(crate) fn same_output(
-    rt: &impl Abort,
+    rt: &impl Host,
     alloc: Global,
     row: usize,
     script: &[u8],
@@ -316,7 +322,7 @@ fn words_that_are_no_line(rt: HostRuntime) {
         let mut input = source(&rt, rt.alloc(), Vec::new(rt.alloc()), &[]);
         let mut out = sink(&rt, rt.alloc(), &[]);
         let mut err = sink(&rt, rt.alloc(), &[]);
-        let got = run_over(rt.alloc(), &words, &mut input, &mut out, &mut err);
+        let got = run_over(&rt, rt.alloc(), &words, &mut input, &mut out, &mut err);
         drop(input);
         let (out, err) = (out.bytes(), err.bytes());
         let empty = (printed.is_empty(), reported.is_empty());
@@ -350,7 +356,7 @@ static LENGTHS: [(usize, u8, &[u8]); 2] = [
 ];
 
 /// Runs the program on this number of bytes `x`, and compares.
-fn long_run(rt: &impl Abort, alloc: Global, row: usize, len: usize, want: (u8, &[u8], &[u8])) {
+fn long_run(rt: &impl Host, alloc: Global, row: usize, len: usize, want: (u8, &[u8], &[u8])) {
     let arguments = strings(rt, alloc, DRILL);
     let input = vec![in alloc; b'x'; len].expect(rt, "memory");
     same_run(rt, alloc, row, &arguments, input, NONE, want);
@@ -379,12 +385,12 @@ const SEED: &[&str] = &[
 const CALLS: u64 = 2000;
 
 /// What a drill of a made script prints.
-fn line_of(rt: &impl Abort, alloc: Global) -> Vec<u8> {
+fn line_of(rt: &impl Host, alloc: Global) -> Vec<u8> {
     let arguments = strings(rt, alloc, SEED);
     let mut input = source(rt, alloc, Vec::new(alloc), &[]);
     let mut out = sink(rt, alloc, &[]);
     let mut err = sink(rt, alloc, &[]);
-    let status = run_over(alloc, &arguments, &mut input, &mut out, &mut err);
+    let status = run_over(rt, alloc, &arguments, &mut input, &mut out, &mut err);
     drop(input);
     same(rt, 0, (status, err.bytes()), (DONE, b"".as_slice()));
     out.bytes().to_vec(alloc).expect(rt, "memory")
