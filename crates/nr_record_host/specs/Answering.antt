@@ -1,0 +1,45 @@
+-- What the answer to one record makes of sink, clock and server.
+use Rattle.std.specs.Prelude.{◌≡◌, ℕ, ◌⊎◌, true, false, List, Option, is_ok}
+use Rattle.std.specs.Io.KnownBytes.{Appends}
+use Rattle.nr_outside.specs.Faults.{Rises}
+use Rattle.nr_outside.specs.declared.moment.Moment.{Moment}
+use Rattle.nr_links.specs.Moments.{Gives}
+use Rattle.nr_record.specs.Records.{fragment}
+use Rattle.nr_reduce.specs.Matched.{IsPrefixOf}
+use Rattle.nr_reduce.specs.declared.mark.Entry.{Entry}
+use Rattle.nr_rpc.specs.Reading.{call_of}
+use Rattle.nr_plain.specs.Setup.{Setup}
+use Rattle.nr_plain.specs.History.{Known}
+use Rattle.nr_record_host.specs.RecordRuns.{Answered}
+use Rattle.nr_record_host.specs.declared.answering.Stop.{Stop}
+use Rattle.nr_record_host.specs.declared.answering.Stop.TheVariants as stops
+
+-- a call was executed at a moment that the clock gave
+abbrev pub ExecutesOne : (gave gave' : Option (List Moment)) (known known' : Known) → Answered → Type 0
+ExecutesOne gave gave' known known' x =
+    Gives gave gave' x.moment × ((s : Setup) (J : List Entry) → RepresentsJournal s J known → ExecutesCall s J x.moment x.payload x.reply x.place known')
+
+-- and its reply was written
+abbrev pub AnswersCall : List ℕ → (taken taken' : Option (List ℕ)) (gave gave' : Option (List Moment)) (known known' : Known) → Type 0
+AnswersCall call taken taken' gave gave' known known' =
+    (x : Answered) × ((x.payload ≡ call) × (ExecutesOne gave gave' known known' x × Appends taken taken' (fragment true x.reply)))
+
+-- or some of it, from the front
+abbrev pub BreaksOff : List ℕ → (taken taken' : Option (List ℕ)) (gave gave' : Option (List Moment)) (known known' : Known) → Type 0
+BreaksOff call taken taken' gave gave' known known' =
+    (x : Answered) × ((x.payload ≡ call) × (ExecutesOne gave gave' known known' x
+    × ((part : List ℕ) × (IsPrefixOf part (fragment true x.reply) × Appends taken taken' part))))
+
+-- the clock gave a moment, and nothing was executed
+abbrev pub ExecutesNone : (taken taken' : Option (List ℕ)) (gave gave' : Option (List Moment)) (known known' : Known) → Type 0
+ExecutesNone taken taken' gave gave' known known' = (m : Moment) × (Gives gave gave' m × ((known' ≡ known) × (taken' ≡ taken)))
+
+abbrev pub StopsAt : Stop → List ℕ → (taken taken' : Option (List ℕ)) (gave gave' : Option (List Moment)) (known known' : Known) → Type 0
+StopsAt stops.NotCall call taken taken' gave gave' known known' = ExecutesNone taken taken' gave gave' known known' × (is_ok (call_of call) ≡ false)
+StopsAt stops.LinkWrite call taken taken' gave gave' known known' = BreaksOff call taken taken' gave gave' known known'
+StopsAt stops.Memory call taken taken' gave gave' known known' =
+    ExecutesNone taken taken' gave gave' known known' ⊎ BreaksOff call taken taken' gave gave' known known'
+
+abbrev pub CountAt : Stop → ℕ → ℕ → Type 0
+CountAt stops.LinkWrite before after = Rises before after
+CountAt _ before after = after ≡ before
