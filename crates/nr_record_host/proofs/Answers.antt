@@ -5,25 +5,23 @@ use Rattle.std.proofs.KnownBytes.{Appends-nil}
 use Rattle.nr_outside.specs.declared.moment.Moment.{Moment}
 use Rattle.nr_links.specs.Moments.{Gives}
 use Rattle.nr_record.specs.Records.{fragment}
-use Rattle.nr_reduce.specs.declared.mark.Entry.{Entry}
-use Rattle.nr_plain.specs.Setup.{Setup}
-use Rattle.nr_plain.specs.History.{Known}
+use Rattle.nr_plain.specs.History.{Executes, Known}
 use Rattle.nr_record_host.specs.Answering.{AnswersCall, BreaksOff}
 
 module _ (call : List ℕ) (taken taken' : Option (List ℕ)) (gave gave' : Option (List Moment)) (known known' : Known) (moment : Moment) (place : ℕ) (reply : List ℕ)
-    (gives : Gives gave gave' moment) (executes : (s : Setup) (J : List Entry) → RepresentsJournal s J known → ExecutesCall s J moment call reply place known') where
+    (gives : Gives gave gave' moment) (executes : Executes known known' moment call reply place) where
   module _ (bytes : List ℕ) (bytes_are : bytes ≡ fragment true reply) where
     pub answered : Appends taken taken' bytes → AnswersCall call taken taken' gave gave' known known'
     answered appends =
-        (record { call = call; moment = moment; place = place; reply = reply }, (refl, ((gives, executes), subst (Appends taken taken') bytes_are appends)))
+        (record { payload = call; moment = moment; place = place; reply = reply }, (refl, ((gives, executes), subst (Appends taken taken') bytes_are appends)))
 
     pub broken : (n : ℕ) × (n < length bytes) × Appends taken taken' (take n bytes) → BreaksOff call taken taken' gave gave' known known'
     broken (n, short, appends) = (
-      record { call = call; moment = moment; place = place; reply = reply },
+      record { payload = call; moment = moment; place = place; reply = reply },
       (refl, ((gives, executes), (take n bytes, (subst (λ (all : List ℕ). (rest : List ℕ) × (take n bytes ++ rest ≡ all)) bytes_are (drop n bytes, take-append-drop n bytes), appends)))),
     )
 
 module _ (call : List ℕ) (taken : Option (List ℕ)) (gave gave' : Option (List Moment)) (known known' : Known) (moment : Moment) (place : ℕ) (reply : List ℕ)
-    (gives : Gives gave gave' moment) (executes : (s : Setup) (J : List Entry) → RepresentsJournal s J known → ExecutesCall s J moment call reply place known') where
+    (gives : Gives gave gave' moment) (executes : Executes known known' moment call reply place) where
   pub unwritten : BreaksOff call taken taken gave gave' known known'
-  unwritten = (record { call = call; moment = moment; place = place; reply = reply }, (refl, ((gives, executes), ([], ((fragment true reply, refl), Appends-nil taken)))))
+  unwritten = (record { payload = call; moment = moment; place = place; reply = reply }, (refl, ((gives, executes), ([], ((fragment true reply, refl), Appends-nil taken)))))

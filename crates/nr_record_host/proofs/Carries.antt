@@ -12,8 +12,8 @@ use Rattle.nr_record.specs.declared.fault.RecordFault.{RecordFault}
 use Rattle.nr_record.specs.declared.fault.RecordFault.TheVariants as faults
 use Rattle.nr_record.proofs.Above.{bad_above}
 use Rattle.nr_record.proofs.Unique.{begun_none}
-use Rattle.nr_plain.specs.History.{Known}
-use Rattle.nr_record_host.specs.RecordRuns.{AllAnswered, Around, Answered, IsRecordsServed, Serves, around, written}
+use Rattle.nr_plain.specs.History.{Answered, Known}
+use Rattle.nr_record_host.specs.RecordRuns.{AllAnswered, Around, IsRecordsServed, Serves, around, written}
 use Rattle.nr_record_host.specs.RecordSteps.{AnswerEnds, AnswersAll, CarriesTo, EndsStream, HasRead, IsAnswered, IsLive, IsPlace, PieceEnds, TakesIn, end_at_fault}
 use Rattle.nr_record_host.specs.declared.record_end.RecordEnd.{RecordEnd}
 use Rattle.nr_record_host.specs.declared.record_end.RecordEnd.TheVariants as ends

@@ -9,9 +9,9 @@ use Rattle.nr_record.proofs.Above.{none_above}
 use Rattle.nr_record.proofs.Begun.{records_encoded}
 use Rattle.nr_reduce.specs.Matched.{IsPrefixOf}
 use Rattle.nr_rpc.specs.Reading.{call_of}
-use Rattle.nr_plain.specs.History.{Known}
+use Rattle.nr_plain.specs.History.{Answered, Known}
 use Rattle.nr_record_host.specs.Answering.{AnswersCall, BreaksOff, ExecutesNone, StopsAt}
-use Rattle.nr_record_host.specs.RecordRuns.{AllAnswered, Around, Answered, IsNoCall, IsRecordCause, IsRecordsServed, MoreAt, REASON_CALL, Serves, TookAt, UnreadAt, around, calls, written}
+use Rattle.nr_record_host.specs.RecordRuns.{AllAnswered, Around, IsNoCall, IsRecordCause, IsRecordsServed, MoreAt, REASON_CALL, Serves, TookAt, UnreadAt, around, calls, written}
 use Rattle.nr_record_host.specs.RecordSteps.{AnswerEnds, AnswersAll, AnswersOn, HasRead, IsAnswered, IsPlace, end_at}
 use Rattle.nr_record_host.specs.declared.answering.Stop.{Stop}
 use Rattle.nr_record_host.specs.declared.answering.Stop.TheVariants as stops

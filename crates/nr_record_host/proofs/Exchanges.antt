@@ -4,7 +4,8 @@ use Rattle.std.specs.List.{AllByRecursion}
 use Rattle.std.proofs.lemmas.List.{length-append}
 use Rattle.nr_outside.specs.declared.moment.Moment.{Moment}
 use Rattle.nr_record.specs.Records.{Cut, content, contents, fragment}
-use Rattle.nr_record_host.specs.RecordRuns.{Answered, calls, moments, written}
+use Rattle.nr_plain.specs.History.{Answered}
+use Rattle.nr_record_host.specs.RecordRuns.{calls, moments, written}
 
 pub contents_end : (cuts : List Cut) (c : Cut) → contents (cuts ++ c ∷ []) ≡ contents cuts ++ content c ∷ []
 contents_end [] c = refl

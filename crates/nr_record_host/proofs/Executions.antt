@@ -6,22 +6,11 @@ use Rattle.nr_outside.specs.Content.{HandsOut}
 use Rattle.nr_outside.proofs.Moves.{HandsOut_append, HandsOut_nil}
 use Rattle.nr_outside.specs.declared.moment.Moment.{Moment}
 use Rattle.nr_links.specs.Moments.{Gives}
-use Rattle.nr_reduce.specs.declared.mark.Entry.{Entry}
-use Rattle.nr_plain.specs.Replies.{plain_reply}
-use Rattle.nr_plain.specs.Setup.{Setup}
-use Rattle.nr_plain.specs.History.{Known}
+use Rattle.nr_plain.specs.History.{Answered, Finds, Known}
+use Rattle.nr_plain.proofs.PassCalls.{over_executed, over_finds, over_none}
 use Rattle.nr_record_host.specs.Answering.{ExecutesOne}
-use Rattle.nr_record_host.specs.RecordRuns.{Alone, Around, Answered, Executes, GivesAll, Serves, around, entries_added, moments}
+use Rattle.nr_record_host.specs.RecordRuns.{Around, GivesAll, Serves, around, moments}
 use Rattle.nr_record_host.proofs.Exchanges.{moments_end}
-
-executes_more : (s : Setup) (J after : List Entry) (xs : List Answered) (x : Answered) → Executes Alone s J xs after → x.place ≡ length after
-    → plain_reply s after x.place x.moment x.payload ≡ Some x.reply → Executes Alone s J (xs ++ x ∷ []) (after ++ entries_added x)
-executes_more s J after [] x e place reply =
-    let same : after ≡ J ++ [] = e ∙ sym (append-nil J) in
-    ([], (refl, (place ∙ ap length same, (subst (λ (es : List Entry). plain_reply s es x.place x.moment x.payload ≡ Some x.reply) same reply, ap (λ (es : List Entry). es ++ entries_added x) same))))
-executes_more s J after (y ∷ xs) x e place reply =
-    let (others, (alone, (at, (replied, rest)))) = e in
-    (others, (alone, (at, (replied, executes_more s ((J ++ others) ++ entries_added y) after xs x rest place reply))))
 
 gives_more : (before now after : Option (List Moment)) (given : List Moment) (moment : Moment) → GivesAll before now given → Gives now after moment → GivesAll before after (given ++ moment ∷ [])
 gives_more before now None given moment all one = tt
@@ -43,20 +32,17 @@ module _ (before : Around) (left given taken taken' : Option (List ℕ)) (gave g
   serves_more x part (gives, executes) more = record {
     handed = s.handed;
     taken = Appends-trans before.taken taken taken' took part s.taken more;
-    over = λ setup J stood.
-        let (after, (run, stands)) = s.over setup J stood in
-        let e : ExecutesCall setup after x.moment x.payload x.reply x.place known' = executes setup after stands in
-        (after ++ entries_added x, (executes_more setup J after xs x run e.place_is e.replied, e.stands));
+    over = over_executed before.known known known' x.moment x.payload x.reply x.place xs s.over executes;
     gave = subst (GivesAll before.gave gave') (sym (append-nil (moments (xs ++ x ∷ [])) ∙ moments_end xs x))
         (gives_more before.gave gave gave' (moments xs) x.moment (subst (GivesAll before.gave gave) (append-nil (moments xs)) s.gave) gives);
   }
 
   -- a moment was given, and nothing was executed
-  pub serves_none : (m : Moment) → Gives gave gave' m → known' ≡ known → taken' ≡ taken → Serves before (around left given taken' gave' known') bytes xs (m ∷ []) took
+  pub serves_none : (m : Moment) → Gives gave gave' m → Finds known known' → taken' ≡ taken → Serves before (around left given taken' gave' known') bytes xs (m ∷ []) took
   serves_none m gives found taken_is = record {
     handed = s.handed;
     taken = subst (λ (o : Option (List ℕ)). Appends before.taken o took) (sym taken_is) s.taken;
-    over = λ setup J stood. let (after, (run, stands)) = s.over setup J stood in (after, (run, subst (RepresentsJournal setup after) (sym found) stands));
+    over = over_finds before.known known known' xs s.over found;
     gave = gives_more before.gave gave gave' (moments xs) m (subst (GivesAll before.gave gave) (append-nil (moments xs)) s.gave) gives;
   }
 
@@ -76,6 +62,6 @@ pub serves_nothing : (before : Around) → Serves before before [] [] [] []
 serves_nothing before = record {
   handed = HandsOut_nil before.left before.given;
   taken = Appends-nil before.taken;
-  over = λ setup J stood. (J, (refl, stood));
+  over = over_none before.known;
   gave = gives_none before.gave;
 }

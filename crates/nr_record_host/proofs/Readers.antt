@@ -11,7 +11,8 @@ use Rattle.nr_record.specs.RecordsState.{IsAt, IsState, RecordsState, Represents
 use Rattle.nr_record.proofs.Begun.{all_fit}
 use Rattle.nr_record.proofs.Lists.{all_end, encodings_end}
 use Rattle.nr_record.proofs.Unique.{begun_none, one_encoding}
-use Rattle.nr_record_host.specs.RecordRuns.{BeginsAt, Answered, calls}
+use Rattle.nr_plain.specs.History.{Answered}
+use Rattle.nr_record_host.specs.RecordRuns.{BeginsAt, calls}
 use Rattle.nr_record_host.specs.RecordSteps.{HasRead}
 use Rattle.nr_record_host.proofs.Exchanges.{all_after, calls_end, contents_end, length_calls, length_contents, length_end}
 
@@ -141,7 +142,7 @@ none_unread k stream taken s e = by_fault k.fault e s.state where
   by_fault f is h = (subst (λ (o : Option RecordFault). IsState o k s.begun s.partial s.unread (length (encodings s.cuts ++ fragments s.begun))) is h).0
 
 -- an encoding has bytes, so no bytes encode no records
-encoding_some : (c : Cut) → 0 < length (encoding c)
+pub encoding_some : (c : Cut) → 0 < length (encoding c)
 encoding_some c =
     omega (arith, length-append (fragments c.before) (fragment true c.last), length-append (header true (length c.last)) c.last, length_word (2 ^ 31 * bit true + length c.last))
 

@@ -1,4 +1,4 @@
--- What the answer to one record makes of sink, clock and server.
+-- What the answer to one record makes of sink, clock and pass.
 use Rattle.std.specs.Prelude.{◌≡◌, ℕ, ◌⊎◌, true, false, List, Option, is_ok}
 use Rattle.std.specs.Io.KnownBytes.{Appends}
 use Rattle.nr_outside.specs.Faults.{Rises}
@@ -6,18 +6,15 @@ use Rattle.nr_outside.specs.declared.moment.Moment.{Moment}
 use Rattle.nr_links.specs.Moments.{Gives}
 use Rattle.nr_record.specs.Records.{fragment}
 use Rattle.nr_reduce.specs.Matched.{IsPrefixOf}
-use Rattle.nr_reduce.specs.declared.mark.Entry.{Entry}
 use Rattle.nr_rpc.specs.Reading.{call_of}
-use Rattle.nr_plain.specs.Setup.{Setup}
-use Rattle.nr_plain.specs.History.{Known}
-use Rattle.nr_record_host.specs.RecordRuns.{Answered}
+use Rattle.nr_plain.specs.History.{Answered, Executes, Finds, Known}
 use Rattle.nr_record_host.specs.declared.answering.Stop.{Stop}
 use Rattle.nr_record_host.specs.declared.answering.Stop.TheVariants as stops
 
 -- a call was executed at a moment that the clock gave
 abbrev pub ExecutesOne : (gave gave' : Option (List Moment)) (known known' : Known) → Answered → Type 0
 ExecutesOne gave gave' known known' x =
-    Gives gave gave' x.moment × ((s : Setup) (J : List Entry) → RepresentsJournal s J known → ExecutesCall s J x.moment x.payload x.reply x.place known')
+    Gives gave gave' x.moment × Executes known known' x.moment x.payload x.reply x.place
 
 -- and its reply was written
 abbrev pub AnswersCall : List ℕ → (taken taken' : Option (List ℕ)) (gave gave' : Option (List Moment)) (known known' : Known) → Type 0
@@ -32,7 +29,7 @@ BreaksOff call taken taken' gave gave' known known' =
 
 -- the clock gave a moment, and nothing was executed
 abbrev pub ExecutesNone : (taken taken' : Option (List ℕ)) (gave gave' : Option (List Moment)) (known known' : Known) → Type 0
-ExecutesNone taken taken' gave gave' known known' = (m : Moment) × (Gives gave gave' m × ((known' ≡ known) × (taken' ≡ taken)))
+ExecutesNone taken taken' gave gave' known known' = (m : Moment) × (Gives gave gave' m × (Finds known known' × (taken' ≡ taken)))
 
 abbrev pub StopsAt : Stop → List ℕ → (taken taken' : Option (List ℕ)) (gave gave' : Option (List Moment)) (known known' : Known) → Type 0
 StopsAt stops.NotCall call taken taken' gave gave' known known' = ExecutesNone taken taken' gave gave' known known' × (is_ok (call_of call) ≡ false)

@@ -1,6 +1,6 @@
--- A connection over record-marked TCP (RFC 5531 section 11): the calls that it executed, and what they say of its source, its sink, its
--- clock and its server; and how it ends, and why.
-use Rattle.std.specs.Prelude.{◌≡◌, ⊤, ℕ, ◌+◌, ◌<◌, ◌≤◌, ◌⊎◌, true, false, List, [], ◌∷◌, ◌++◌, length, take, drop, Option, None, Some, is_ok}
+-- A connection over record-marked TCP (RFC 5531 section 11): the calls that were answered, and what they say of its source, its sink, its
+-- clock and its pass; and how it ends, and why.
+use Rattle.std.specs.Prelude.{◌≡◌, ⊤, ℕ, ◌<◌, ◌≤◌, ◌⊎◌, true, false, List, [], ◌∷◌, ◌++◌, length, Option, None, Some, is_ok}
 use Rattle.std.specs.Io.KnownBytes.{Appends, IsAtEnd}
 use Rattle.nr_outside.specs.Content.{HandsOut}
 use Rattle.nr_outside.specs.Faults.{Rises}
@@ -11,12 +11,8 @@ use Rattle.nr_record.specs.Records.{IsAboveAt, RecordsEncode, fragment}
 use Rattle.nr_record.specs.RecordsState.{IsFaultOf}
 use Rattle.nr_record.specs.declared.fault.RecordFault.TheVariants as faults
 use Rattle.nr_reduce.specs.Matched.{IsPrefixOf}
-use Rattle.nr_reduce.specs.declared.mark.Entry.{Entry}
 use Rattle.nr_rpc.specs.Reading.{call_of}
-use Rattle.nr_plain.specs.Added.{entries_of_call}
-use Rattle.nr_plain.specs.Replies.{plain_reply}
-use Rattle.nr_plain.specs.Setup.{Setup}
-use Rattle.nr_plain.specs.History.{Known}
+use Rattle.nr_plain.specs.History.{Answered, Known, Over}
 use Rattle.nr_record_host.specs.declared.record_end.RecordEnd.{RecordEnd}
 use Rattle.nr_record_host.specs.declared.record_end.RecordEnd.TheVariants as ends
 
@@ -24,15 +20,9 @@ use Rattle.nr_record_host.specs.declared.record_end.RecordEnd.TheVariants as end
 abbrev pub REASON_CALL : ℕ
 REASON_CALL = 27
 
--- ===== calls
+-- ===== calls that were answered, in order
 
--- a call that was executed: its record, the moment, its place in the journal, and its reply
-pub record Answered : Type 0 where
-  pub call : List ℕ
-  pub moment : Moment
-  pub place : ℕ
-  pub reply : List ℕ
-
+-- their records
 abbrev pub calls : List Answered → List (List ℕ)
 calls [] = []
 calls (x ∷ xs) = x.payload ∷ calls xs
@@ -46,35 +36,9 @@ abbrev pub written : List Answered → List ℕ
 written [] = []
 written (x ∷ xs) = fragment true x.reply ++ written xs
 
--- what a call added to the journal
-abbrev pub entries_added : Answered → List Entry
-entries_added x = entries_of_call x.moment x.payload x.reply
-
--- Which entries of others may come between two of these calls: none, if the connection has the server to itself; any, if it takes turns.
-abbrev pub Alone : List Entry → Type 0
-Alone others = others ≡ []
-
-abbrev pub Anyone : List Entry → Type 0
-Anyone others = ⊤
-
--- From the journal J on these calls were executed, each over the journal at its moment; `after` is the journal after the last.
-abbrev pub Executes : (List Entry → Type 0) → Setup → List Entry → List Answered → List Entry → Type 0
-Executes Others s J [] after = after ≡ J
-Executes Others s J (x ∷ xs) after =
-    (others : List Entry) × (Others others × ((x.place ≡ length (J ++ others)) × ((plain_reply s (J ++ others) x.place x.moment x.payload ≡ Some x.reply)
-    × Executes Others s ((J ++ others) ++ entries_added x) xs after)))
-
--- Seen from a journal that has them all: the places don't fall and lie between these two, each reply is that of the plain server at its
--- place, and what a call added stands there.
-abbrev pub InHistory : Setup → List Entry → (first last : ℕ) → List Answered → Type 0
-InHistory s H first last [] = first ≤ last
-InHistory s H first last (x ∷ xs) =
-    (first ≤ x.place) × ((plain_reply s H x.place x.moment x.payload ≡ Some x.reply)
-    × ((entries_added x ≡ take (length (entries_added x)) (drop x.place H)) × InHistory s H (x.place + length (entries_added x)) last xs))
-
 -- ===== the connection
 
--- what is known of the source, the sink and the clock of a connection, and what its server keeps
+-- what is known of the source, the sink and the clock of a connection, and what its pass knows of the server's history
 pub record Around : Type 0 where
   pub left : Option (List ℕ)
   pub given : Option (List ℕ)
@@ -90,11 +54,12 @@ abbrev pub GivesAll : Option (List Moment) → Option (List Moment) → List Mom
 GivesAll before None given = ⊤
 GivesAll before (Some after) given = (earlier : List Moment) × (before ≡ Some earlier) × (after ≡ earlier ++ given)
 
--- The source handed out these bytes, these calls were executed, the clock gave their moments and `more`, and the sink took these bytes.
+-- The source handed out these bytes, these calls were executed by the pass, each under a turn, the clock gave their moments and `more`, and
+-- the sink took these bytes.
 pub record Serves (before after : Around) (bytes : List ℕ) (xs : List Answered) (more : List Moment) (took : List ℕ) : Type 0 where
   pub handed : HandsOut before.left before.given after.left after.given bytes
   pub taken : Appends before.taken after.taken took
-  pub over : (s : Setup) (J : List Entry) → RepresentsJournal s J before.kept → (J' : List Entry) × (Executes Alone s J xs J' × RepresentsJournal s J' after.kept)
+  pub over : Over before.known xs after.known
   pub gave : GivesAll before.gave after.gave (moments xs ++ more)
 
 -- ===== its end

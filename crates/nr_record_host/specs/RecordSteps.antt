@@ -7,8 +7,8 @@ use Rattle.nr_record.specs.Records.{Cut, Fits, contents, encodings}
 use Rattle.nr_record.specs.declared.fault.RecordFault.{RecordFault}
 use Rattle.nr_record.specs.declared.fault.RecordFault.TheVariants as faults
 use Rattle.nr_record.specs.RecordsState.{RecordsState, RepresentsStream}
-use Rattle.nr_plain.specs.History.{Known}
-use Rattle.nr_record_host.specs.RecordRuns.{Around, Answered, IsRecordsServed, REASON_CALL, Serves, around, calls, written}
+use Rattle.nr_plain.specs.History.{Answered, Known}
+use Rattle.nr_record_host.specs.RecordRuns.{Around, IsRecordsServed, REASON_CALL, Serves, around, calls, written}
 use Rattle.nr_record_host.specs.declared.answering.Stop.{Stop}
 use Rattle.nr_record_host.specs.declared.answering.Stop.TheVariants as stops
 use Rattle.nr_record_host.specs.declared.record_end.RecordEnd.{RecordEnd}

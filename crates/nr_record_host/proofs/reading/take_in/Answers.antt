@@ -1,5 +1,6 @@
 use Rattle.std.proofs.Common.{◌≡◌, Some, sym, subst, ◌∙◌}
 use Rattle.nr_record.specs.RecordsState.{kept}
+use Rattle.nr_plain.specs.History.{known_of}
 use Rattle.nr_record_host.specs.RecordSteps.{PieceEnds}
 use Rattle.nr_record_host.specs.declared.record_end.RecordEnd.{RecordEnd}
 use Rattle.nr_record_host.proofs.Carries.{fault_kept, piece_ends, piece_fault, piece_taken}

@@ -2,6 +2,7 @@ use Rattle.std.proofs.Common.{◌≡◌, ◌+◌, ◌<◌, ◌≤◌, ℕ, lengt
 use Rattle.nr_outside.specs.Content.{HandsOut}
 use Rattle.nr_links.specs.Limits.{read_max}
 use Rattle.nr_record.specs.RecordsState.{kept}
+use Rattle.nr_plain.specs.History.{known_of}
 use Rattle.nr_record_host.specs.RecordRuns.{around}
 use Rattle.nr_record_host.specs.RecordSteps.{CarriesTo}
 use Rattle.nr_record_host.proofs.Carries.{carry_ends, carry_on, read_ends, read_enough, read_fails}
@@ -9,7 +10,7 @@ use Rattle.nr_record_host.proofs.serving.carry.Goals as goal
 
 pub returns-in-Err-clause-served : goal.returns-in-Err-clause-served
 returns-in-Err-clause-served g c begins =
-    let (live, most, len, fed, faults, sinks, carries) = c.loop-read.invariant in
+    let (rests, live, most, len, fed, faults, sinks, carries) = c.loop-read.invariant in
     let less : c.loop-read.read < read_max = omega (arith, c.loop-read-test.true) in
     read_fails (around (g.I.Source.left c.args.source.now) (g.I.Source.given c.args.source.now) (g.O.Sink.taken c.args.sink.now) (g.C.Clock.gave c.args.clock.now) (known_of c.args.pass.now))
     (g.I.Source.left c.loop-read.source) (g.I.Source.given c.loop-read.source) (g.I.Source.left c.read_part.new.source) (g.I.Source.given c.read_part.new.source) (g.O.Sink.taken c.loop-read.sink) (g.C.Clock.gave c.loop-read.clock) (known_of c.loop-read.pass) (kept c.loop-read.records) c.loop-read.read (carries begins)
@@ -17,7 +18,7 @@ returns-in-Err-clause-served g c begins =
 
 pub returns-then-n-eq0-clause-served : goal.returns-then-n-eq0-clause-served
 returns-then-n-eq0-clause-served g c begins =
-    let (live, most, len, fed, faults, sinks, carries) = c.loop-read.invariant in
+    let (rests, live, most, len, fed, faults, sinks, carries) = c.loop-read.invariant in
     let less : c.loop-read.read < read_max = omega (arith, c.loop-read-test.true) in
     let none = subst (λ (k : ℕ). HandsOut (g.I.Source.left c.loop-read.source) (g.I.Source.given c.loop-read.source) (g.I.Source.left c.read_part.new.source) (g.I.Source.given c.read_part.new.source) (take k c.read_part.new.buf)) c.if-n-eq0.true c.in-Ok.ensures.handed in
     read_ends (around (g.I.Source.left c.args.source.now) (g.I.Source.given c.args.source.now) (g.O.Sink.taken c.args.sink.now) (g.C.Clock.gave c.args.clock.now) (known_of c.args.pass.now))
@@ -26,7 +27,7 @@ returns-then-n-eq0-clause-served g c begins =
 
 pub returns-in-Err-take_in-clause-served : goal.returns-in-Err-take_in-clause-served
 returns-in-Err-take_in-clause-served g c begins =
-    let (live, most, len, fed, faults, sinks, carries) = c.loop-read.invariant in
+    let (rests, live, most, len, fed, faults, sinks, carries) = c.loop-read.invariant in
     let hands = subst (HandsOut (g.I.Source.left c.loop-read.source) (g.I.Source.given c.loop-read.source) (g.I.Source.left c.read_part.new.source) (g.I.Source.given c.read_part.new.source)) (sym c.split_at.ensures.front) c.in-Ok.ensures.handed in
     let bound = c.in-Ok.ensures.bound in
     let more = c.loop-read-test.true in
@@ -39,7 +40,7 @@ returns-in-Err-take_in-clause-served g c begins =
 
 pub returns-clause-served : goal.returns-clause-served
 returns-clause-served g c begins =
-    let (live, most, len, fed, faults, sinks, carries) = c.loop-read.invariant in
+    let (rests, live, most, len, fed, faults, sinks, carries) = c.loop-read.invariant in
     let all : c.loop-read.read ≡ read_max = omega (arith, most, c.loop-read-test.false) in
     read_enough (around (g.I.Source.left c.args.source.now) (g.I.Source.given c.args.source.now) (g.O.Sink.taken c.args.sink.now) (g.C.Clock.gave c.args.clock.now) (known_of c.args.pass.now))
     (g.I.Source.left c.loop-read.source) (g.I.Source.given c.loop-read.source) (g.I.Source.left c.loop-read.source) (g.I.Source.given c.loop-read.source) (g.O.Sink.taken c.loop-read.sink) (g.C.Clock.gave c.loop-read.clock) (known_of c.loop-read.pass) (kept c.loop-read.records) c.loop-read.read (carries begins)
@@ -47,7 +48,7 @@ returns-clause-served g c begins =
 
 pub loop-read-preserved : goal.loop-read-preserved
 loop-read-preserved g c =
-    let (live, most, len, fed, faults, sinks, carries) = c.loop-read.invariant in
+    let (rests, live, most, len, fed, faults, sinks, carries) = c.loop-read.invariant in
     let bound = c.in-Ok.ensures.bound in
     let more = c.loop-read-test.true in
     let front = c.split_at.ensures.front_len in
@@ -55,6 +56,7 @@ loop-read-preserved g c =
     let hands = subst (HandsOut (g.I.Source.left c.loop-read.source) (g.I.Source.given c.loop-read.source) (g.I.Source.left c.read_part.new.source) (g.I.Source.given c.read_part.new.source)) (sym c.split_at.ensures.front) c.in-Ok.ensures.handed in
     let counts = c.take_in.ensures.count in
     let count : c.loop-read.read + length c.split_at.result.0.now ≡ c.loop-read.read + c.in-Ok.n = ap (λ (k : ℕ). c.loop-read.read + k) front in (
+      c.take_in.ensures.rests,
       c.in-Ok-take_in.ensures.fault,
       omega (arith, bound, more, room, most),
       c.read_part.ensures.len ∙ len,

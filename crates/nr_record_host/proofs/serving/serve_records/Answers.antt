@@ -1,4 +1,5 @@
 use Rattle.nr_record.specs.RecordsState.{kept}
+use Rattle.nr_plain.specs.History.{known_of}
 use Rattle.nr_record_host.specs.RecordRuns.{around}
 use Rattle.nr_record_host.proofs.Carries.{begins_with, out_at_once}
 use Rattle.nr_record_host.proofs.serving.serve_records.Goals as goal
