@@ -3,7 +3,7 @@
 ghost use Rattle.std.specs.Prelude.{◌≡◌, ℕ, false};
 ghost use Rattle.std.specs.Arc.{arc_value};
 ghost use Rattle.nr_turnstile.specs.Passes.{Rests};
-ghost use Rattle.nr_plain.specs.History.{known_of};
+ghost use Rattle.nr_plain.specs.History.{pass_view};
 ghost use Rattle.nr_host.specs.Ending.{SinkCount, SourceCount};
 ghost use Rattle.nr_host.specs.Steps.{IsServed, outside, sink_state};
 
@@ -51,8 +51,8 @@ impl<
 
     fn run(self) -> Carried<I, O, C>
         ensures rests { Rests (arc_value self.shared) result.pass }
-        ensures served { IsServed self.credits (outside (I.left self.source) (I.given self.source) (sink_state (O.taken self.sink) (O.faults self.sink) false) (C.gave self.clock) (known_of self.pass))
-            (outside (I.left result.source) (I.given result.source) (sink_state (O.taken result.sink) (O.faults result.sink) false) (C.gave result.clock) (known_of result.pass)) result.end }
+        ensures served { IsServed self.credits (outside (I.left self.source) (I.given self.source) (sink_state (O.taken self.sink) (O.faults self.sink) false) (C.gave self.clock) (pass_view self.pass))
+            (outside (I.left result.source) (I.given result.source) (sink_state (O.taken result.sink) (O.faults result.sink) false) (C.gave result.clock) (pass_view result.pass)) result.end }
         ensures source_count { SourceCount result.end (I.faults self.source) (I.faults result.source) }
         ensures sink_count { SinkCount result.end (O.faults self.sink) (O.faults result.sink) }
     {
