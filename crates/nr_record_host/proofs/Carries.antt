@@ -12,9 +12,9 @@ use Rattle.nr_record.specs.declared.fault.RecordFault.{RecordFault}
 use Rattle.nr_record.specs.declared.fault.RecordFault.TheVariants as faults
 use Rattle.nr_record.proofs.Above.{bad_above}
 use Rattle.nr_record.proofs.Unique.{begun_none}
-use Rattle.nr_plain.specs.History.{Answered, Known}
+use Rattle.nr_plain.specs.History.{Answered, PassView}
 use Rattle.nr_record_host.specs.RecordRuns.{AllAnswered, Around, IsRecordsServed, Serves, around, written}
-use Rattle.nr_record_host.specs.RecordSteps.{AnswerEnds, AnswersAll, CarriesTo, EndsStream, HasRead, IsAnswered, IsLive, IsPlace, PieceEnds, TakesIn, end_at_fault}
+use Rattle.nr_record_host.specs.private.RecordSteps.{AnswerEnds, AnswersAll, CarriesTo, EndsStream, HasRead, IsAnswered, IsLive, IsPlace, PieceEnds, TakesIn, end_at_fault}
 use Rattle.nr_record_host.specs.declared.record_end.RecordEnd.{RecordEnd}
 use Rattle.nr_record_host.specs.declared.record_end.RecordEnd.TheVariants as ends
 use Rattle.nr_record_host.proofs.Executions.{serves_nothing, serves_read}
@@ -33,7 +33,7 @@ some (suc n) other = omega arith
 
 -- the fault that was answered is the one that is known
 pub fault_kept : {A : Type 0} (k : RecordsState) (result : Result A RecordFault) (fault : RecordFault) → IfErr result (λ (f : RecordFault). k.fault ≡ Some f) → result ≡ Err fault → k.fault ≡ Some fault
-fault_kept {A} k result fault known is = subst (λ (r : Result A RecordFault). IfErr r (λ (f : RecordFault). k.fault ≡ Some f)) is known
+fault_kept {A} k result fault view is = subst (λ (r : Result A RecordFault). IfErr r (λ (f : RecordFault). k.fault ≡ Some f)) is view
 
 module _ (k k1 : RecordsState) (piece : List ℕ) (feeds : (stream : List ℕ) (n : ℕ) → RepresentsStream k stream n → RepresentsStream k1 (stream ++ piece) n) where
   live_fed : (before now : Around) (stream : List ℕ) → IsLive before now k stream piece → IsLive before now k1 (stream ++ piece) []
@@ -43,23 +43,23 @@ module _ (k k1 : RecordsState) (piece : List ℕ) (feeds : (stream : List ℕ) (
     serves = still_nothing before now (stream ++ piece) live.exchanges [] (written live.exchanges) live.serves;
   }
 
-  pub piece_taken : (k' : RecordsState) (taken taken' : Option (List ℕ)) (gave gave' : Option (List Moment)) (known known' : Known)
-      → AnswersAll k1 k' taken taken' gave gave' known known' → TakesIn piece k k' taken taken' gave gave' known known'
-  piece_taken k' taken taken' gave gave' known known' answers before left given stream live =
-      answers before left given (stream ++ piece) (live_fed before (around left given taken gave known) stream live)
+  pub piece_taken : (k' : RecordsState) (taken taken' : Option (List ℕ)) (gave gave' : Option (List Moment)) (view view' : PassView)
+      → AnswersAll k1 k' taken taken' gave gave' view view' → TakesIn piece k k' taken taken' gave gave' view view'
+  piece_taken k' taken taken' gave gave' view view' answers before left given stream live =
+      answers before left given (stream ++ piece) (live_fed before (around left given taken gave view) stream live)
 
-  pub piece_ends : (end : RecordEnd) (taken taken' : Option (List ℕ)) (gave gave' : Option (List Moment)) (known known' : Known)
-      → AnswerEnds end k1 taken taken' gave gave' known known' → PieceEnds end piece k taken taken' gave gave' known known'
-  piece_ends end taken taken' gave gave' known known' ends before left given stream within live =
-      ends before left given (stream ++ piece) within (live_fed before (around left given taken gave known) stream live)
+  pub piece_ends : (end : RecordEnd) (taken taken' : Option (List ℕ)) (gave gave' : Option (List Moment)) (view view' : PassView)
+      → AnswerEnds end k1 taken taken' gave gave' view view' → PieceEnds end piece k taken taken' gave gave' view view'
+  piece_ends end taken taken' gave gave' view view' ends before left given stream within live =
+      ends before left given (stream ++ piece) within (live_fed before (around left given taken gave view) stream live)
 
   -- a record is above the limit, and those before it were answered
-  pub piece_bad : (k' : RecordsState) (at reason : ℕ) (taken taken' : Option (List ℕ)) (gave gave' : Option (List Moment)) (known known' : Known)
-      → AnswersAll k1 k' taken taken' gave gave' known known' → k'.fault ≡ Some (faults.Bad at reason) → PieceEnds (ends.Bad at reason) piece k taken taken' gave gave' known known'
-  piece_bad k' at reason taken taken' gave gave' known known' answers bad before left given stream within live =
+  pub piece_bad : (k' : RecordsState) (at reason : ℕ) (taken taken' : Option (List ℕ)) (gave gave' : Option (List Moment)) (view view' : PassView)
+      → AnswersAll k1 k' taken taken' gave gave' view view' → k'.fault ≡ Some (faults.Bad at reason) → PieceEnds (ends.Bad at reason) piece k taken taken' gave gave' view view'
+  piece_bad k' at reason taken taken' gave gave' view view' answers bad before left given stream within live =
       let all : List ℕ = stream ++ piece in
-      let after = around left given taken' gave' known' in
-      let a = answers before left given all (live_fed before (around left given taken gave known) stream live) in
+      let after = around left given taken' gave' view' in
+      let a = answers before left given all (live_fed before (around left given taken gave view) stream live) in
       let xs = a.live.exchanges in
       let h = a.live.read in
       ended before after (ends.Bad at reason) k' all xs [] (written xs) h (nothing_ahead before after all xs [] (written xs) a.live.serves) within tt refl
@@ -67,21 +67,21 @@ module _ (k k1 : RecordsState) (piece : List ℕ) (feeds : (stream : List ℕ) (
       (inl (ap contents (none_more k' all xs h a.all), bad_above k' all (length xs) at reason h.stands bad))
 
   -- memory ran out
-  pub piece_out : (k' : RecordsState) (taken taken' : Option (List ℕ)) (gave gave' : Option (List Moment)) (known known' : Known)
-      → AnswersAll k1 k' taken taken' gave gave' known known' → PieceEnds ends.Memory piece k taken taken' gave gave' known known'
-  piece_out k' taken taken' gave gave' known known' answers before left given stream within live =
+  pub piece_out : (k' : RecordsState) (taken taken' : Option (List ℕ)) (gave gave' : Option (List Moment)) (view view' : PassView)
+      → AnswersAll k1 k' taken taken' gave gave' view view' → PieceEnds ends.Memory piece k taken taken' gave gave' view view'
+  piece_out k' taken taken' gave gave' view view' answers before left given stream within live =
       let all : List ℕ = stream ++ piece in
-      let after = around left given taken' gave' known' in
-      let a = answers before left given all (live_fed before (around left given taken gave known) stream live) in
+      let after = around left given taken' gave' view' in
+      let a = answers before left given all (live_fed before (around left given taken gave view) stream live) in
       let xs = a.live.exchanges in
       ended before after ends.Memory k' all xs [] (written xs) a.live.read (nothing_ahead before after all xs [] (written xs) a.live.serves) within tt
       ([], append-nil (written xs)) (let none : 0 ≤ 1 = omega arith in none) tt
 
   -- one of the two
-  pub piece_fault : (k' : RecordsState) (fault : RecordFault) (taken taken' : Option (List ℕ)) (gave gave' : Option (List Moment)) (known known' : Known)
-      → AnswersAll k1 k' taken taken' gave gave' known known' → k'.fault ≡ Some fault → PieceEnds (end_at_fault fault) piece k taken taken' gave gave' known known'
-  piece_fault k' (faults.Bad at reason) taken taken' gave gave' known known' answers is = piece_bad k' at reason taken taken' gave gave' known known' answers is
-  piece_fault k' faults.Memory taken taken' gave gave' known known' answers is = piece_out k' taken taken' gave gave' known known' answers
+  pub piece_fault : (k' : RecordsState) (fault : RecordFault) (taken taken' : Option (List ℕ)) (gave gave' : Option (List Moment)) (view view' : PassView)
+      → AnswersAll k1 k' taken taken' gave gave' view view' → k'.fault ≡ Some fault → PieceEnds (end_at_fault fault) piece k taken taken' gave gave' view view'
+  piece_fault k' (faults.Bad at reason) taken taken' gave gave' view view' answers is = piece_bad k' at reason taken taken' gave gave' view view' answers is
+  piece_fault k' faults.Memory taken taken' gave gave' view view' answers is = piece_out k' taken taken' gave gave' view view' answers
 
 -- ---- read after read
 
@@ -95,37 +95,37 @@ begins_with first k stands = record {
   count = refl;
 }
 
-module _ (first : Around) (left given left' given' taken : Option (List ℕ)) (gave : Option (List Moment)) (known : Known) (k : RecordsState) (read : ℕ)
-    (carries : CarriesTo first (around left given taken gave known) k read) where
+module _ (first : Around) (left given left' given' taken : Option (List ℕ)) (gave : Option (List Moment)) (view : PassView) (k : RecordsState) (read : ℕ)
+    (carries : CarriesTo first (around left given taken gave view) k read) where
   -- bytes were read, and not fed
-  live_read : (piece : List ℕ) → HandsOut left given left' given' piece → IsLive first (around left' given' taken gave known) k carries.stream piece
+  live_read : (piece : List ℕ) → HandsOut left given left' given' piece → IsLive first (around left' given' taken gave view) k carries.stream piece
   live_read piece hands =
       let l = carries.answered.live in
       record {
         exchanges = l.exchanges;
         read = l.read;
-        serves = serves_read first left given left' given' taken gave known carries.stream piece l.exchanges (written l.exchanges)
-            (nothing_ahead first (around left given taken gave known) carries.stream l.exchanges [] (written l.exchanges) l.serves) hands;
+        serves = serves_read first left given left' given' taken gave view carries.stream piece l.exchanges (written l.exchanges)
+            (nothing_ahead first (around left given taken gave view) carries.stream l.exchanges [] (written l.exchanges) l.serves) hands;
       }
 
   count_more : (piece : List ℕ) → length (carries.stream ++ piece) ≡ read + length piece
   count_more piece = length-append carries.stream piece ∙ ap (λ (n : ℕ). n + length piece) carries.count
 
-  pub carry_on : (piece : List ℕ) → HandsOut left given left' given' piece → (k' : RecordsState) (taken' : Option (List ℕ)) (gave' : Option (List Moment)) (known' : Known)
-      → TakesIn piece k k' taken taken' gave gave' known known' → CarriesTo first (around left' given' taken' gave' known') k' (read + length piece)
-  carry_on piece hands k' taken' gave' known' takes = record {
+  pub carry_on : (piece : List ℕ) → HandsOut left given left' given' piece → (k' : RecordsState) (taken' : Option (List ℕ)) (gave' : Option (List Moment)) (view' : PassView)
+      → TakesIn piece k k' taken taken' gave gave' view view' → CarriesTo first (around left' given' taken' gave' view') k' (read + length piece)
+  carry_on piece hands k' taken' gave' view' takes = record {
     stream = carries.stream ++ piece;
     answered = takes first left' given' carries.stream (live_read piece hands);
     count = count_more piece;
   }
 
-  pub carry_ends : (piece : List ℕ) → HandsOut left given left' given' piece → (end : RecordEnd) (taken' : Option (List ℕ)) (gave' : Option (List Moment)) (known' : Known)
-      → read + length piece ≤ read_max → PieceEnds end piece k taken taken' gave gave' known known' → IsRecordsServed first (around left' given' taken' gave' known') end
-  carry_ends piece hands end taken' gave' known' most ends =
+  pub carry_ends : (piece : List ℕ) → HandsOut left given left' given' piece → (end : RecordEnd) (taken' : Option (List ℕ)) (gave' : Option (List Moment)) (view' : PassView)
+      → read + length piece ≤ read_max → PieceEnds end piece k taken taken' gave gave' view view' → IsRecordsServed first (around left' given' taken' gave' view') end
+  carry_ends piece hands end taken' gave' view' most ends =
       ends first left' given' carries.stream (subst (λ (n : ℕ). n ≤ read_max) (sym (count_more piece)) most) (live_read piece hands)
 
   -- no byte was read
-  nothing_read : HandsOut left given left' given' [] → IsAnswered first (around left' given' taken gave known) k carries.stream
+  nothing_read : HandsOut left given left' given' [] → IsAnswered first (around left' given' taken gave view) k carries.stream
   unfolding live_read
   nothing_read hands =
       let l = carries.answered.live in
@@ -138,21 +138,21 @@ module _ (first : Around) (left given left' given' taken : Option (List ℕ)) (g
   within less = omega (arith, less, carries.count)
 
   -- the read failed
-  pub read_fails : HandsOut left given left' given' [] → k.fault ≡ None → read < read_max → IsRecordsServed first (around left' given' taken gave known) ends.LinkRead
+  pub read_fails : HandsOut left given left' given' [] → k.fault ≡ None → read < read_max → IsRecordsServed first (around left' given' taken gave view) ends.LinkRead
   read_fails hands none less =
       let a = nothing_read hands in
       let xs = a.live.exchanges in
       let h = a.live.read in
-      let after = around left' given' taken gave known in
+      let after = around left' given' taken gave view in
       ended first after ends.LinkRead k carries.stream xs [] (written xs) h (nothing_ahead first after carries.stream xs [] (written xs) a.live.serves)
       (omega (arith, within less)) (none_unread k carries.stream (length xs) h.stands none) refl refl
       (all_answered k carries.stream xs h none a.all, within less)
 
   -- the client ended its stream
   pub read_ends : (end : RecordEnd) → HandsOut left given left' given' [] → IsAtEnd left' → k.fault ≡ None → read < read_max
-      → (at : ℕ) × (IsPlace k at × EndsStream end read at) → IsRecordsServed first (around left' given' taken gave known) end
+      → (at : ℕ) × (IsPlace k at × EndsStream end read at) → IsRecordsServed first (around left' given' taken gave view) end
   read_ends end hands over none less (at, (place, how)) = by_end end how where
-    a : IsAnswered first (around left' given' taken gave known) k carries.stream
+    a : IsAnswered first (around left' given' taken gave view) k carries.stream
     a = nothing_read hands
 
     xs : List Answered
@@ -172,7 +172,7 @@ module _ (first : Around) (left given left' given' taken : Option (List ℕ)) (g
     count = omega (arith, carries.count, at_is, ap length h.stands.stream_is, ap length unread, length-append (read_in h.stands) h.stands.unread, length-append (encodings h.stands.cuts) (rest_in h.stands))
 
     after : Around
-    after = around left' given' taken gave known
+    after = around left' given' taken gave view
 
     serves : Serves first after carries.stream xs [] (written xs)
     serves = nothing_ahead first after carries.stream xs [] (written xs) a.live.serves
@@ -196,11 +196,11 @@ module _ (first : Around) (left given left' given' taken : Option (List ℕ)) (g
     by_end ends.Memory e = absurd e
 
   -- the maximum was read
-  pub read_enough : k.fault ≡ None → read ≡ read_max → IsRecordsServed first (around left given taken gave known) (ends.Budget read)
+  pub read_enough : k.fault ≡ None → read ≡ read_max → IsRecordsServed first (around left given taken gave view) (ends.Budget read)
   read_enough none all =
       let l = carries.answered.live in
       let xs = l.exchanges in
-      let now = around left given taken gave known in
+      let now = around left given taken gave view in
       let same : length carries.stream ≡ read_max = carries.count ∙ all in
       ended first now (ends.Budget read) k carries.stream xs [] (written xs) l.read (nothing_ahead first now carries.stream xs [] (written xs) l.serves)
       (omega (arith, same)) (none_unread k carries.stream (length xs) l.read.stands none) refl refl

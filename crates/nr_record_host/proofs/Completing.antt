@@ -65,7 +65,7 @@ has_head front call more all = (all_after HasCallHead front (call ∷ more) all)
 module _ (before after : Around) (cuts : List Cut) (left_is : before.left ≡ Some (encodings cuts)) (within : AllByRecursion IsContentInLimit cuts) (heads : AllByRecursion HasCallHead (contents cuts))
     (few : length (encodings cuts) < read_max) where
   module _ (end : RecordEnd) (s : IsRecordsServed before after end) where
-    read : List ℕ
+    abbrev read : List ℕ
     read = s.stream ++ s.unread
 
     consumed : (rest : List ℕ) × ((after.left ≡ Some rest) × (encodings cuts ≡ read ++ rest))

@@ -13,7 +13,7 @@ use Rattle.nr_record.proofs.Lists.{all_end, encodings_end}
 use Rattle.nr_record.proofs.Unique.{begun_none, one_encoding}
 use Rattle.nr_plain.specs.History.{Answered}
 use Rattle.nr_record_host.specs.RecordRuns.{BeginsAt, calls}
-use Rattle.nr_record_host.specs.RecordSteps.{HasRead}
+use Rattle.nr_record_host.specs.private.RecordSteps.{HasRead}
 use Rattle.nr_record_host.proofs.Exchanges.{all_after, calls_end, contents_end, length_calls, length_contents, length_end}
 
 -- A stream begins with these encodings, and is these others and a rest: the first are the first of the others.

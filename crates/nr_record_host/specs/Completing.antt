@@ -1,5 +1,5 @@
 -- A record connection that was served completely.
-use Rattle.std.specs.Prelude.{◌≡◌, ⊤, ⊥, ℕ, true, List, [], is_ok}
+use Rattle.std.specs.Prelude.{◌≡◌, ⊤, ℕ, true, List, [], is_ok}
 use Rattle.nr_rpc.specs.Reading.{call_of}
 use Rattle.nr_plain.specs.History.{Answered}
 use Rattle.nr_record_host.specs.RecordRuns.{Around, Serves, calls, written}

@@ -12,13 +12,17 @@ use Rattle.nr_record.specs.RecordsState.{IsFaultOf}
 use Rattle.nr_record.specs.declared.fault.RecordFault.TheVariants as faults
 use Rattle.nr_reduce.specs.Matched.{IsPrefixOf}
 use Rattle.nr_rpc.specs.Reading.{call_of}
-use Rattle.nr_plain.specs.History.{Answered, Known, Over}
+use Rattle.nr_plain.specs.History.{Answered, PassView, Over}
 use Rattle.nr_record_host.specs.declared.record_end.RecordEnd.{RecordEnd}
 use Rattle.nr_record_host.specs.declared.record_end.RecordEnd.TheVariants as ends
 
 -- the reason for which a record without a call head ends a connection
 abbrev pub REASON_CALL : ℕ
 REASON_CALL = 27
+
+-- the number of the client at the other end, with which its entries stand in the server's history: none is told over TCP with record marks
+abbrev pub NO_CLIENT : ℕ
+NO_CLIENT = 0
 
 -- ===== calls that were answered, in order
 
@@ -44,10 +48,10 @@ pub record Around : Type 0 where
   pub given : Option (List ℕ)
   pub taken : Option (List ℕ)
   pub gave : Option (List Moment)
-  pub known : Known
+  pub view : PassView
 
-abbrev pub around : (left given taken : Option (List ℕ)) → Option (List Moment) → Known → Around
-around left given taken gave known = record { left = left; given = given; taken = taken; gave = gave; known = known }
+abbrev pub around : (left given taken : Option (List ℕ)) → Option (List Moment) → PassView → Around
+around left given taken gave view = record { left = left; given = given; taken = taken; gave = gave; view = view }
 
 -- a clock gave these moments, in order, if it is known what it gave
 abbrev pub GivesAll : Option (List Moment) → Option (List Moment) → List Moment → Type 0
@@ -59,7 +63,7 @@ GivesAll before (Some after) given = (earlier : List Moment) × (before ≡ Some
 pub record Serves (before after : Around) (bytes : List ℕ) (xs : List Answered) (more : List Moment) (took : List ℕ) : Type 0 where
   pub handed : HandsOut before.left before.given after.left after.given bytes
   pub taken : Appends before.taken after.taken took
-  pub over : Over before.known xs after.known
+  pub over : Over before.view xs after.view
   pub gave : GivesAll before.gave after.gave (moments xs ++ more)
 
 -- ===== its end

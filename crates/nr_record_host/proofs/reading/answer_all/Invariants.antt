@@ -1,8 +1,8 @@
 use Rattle.std.proofs.Common.{◌≡◌, length}
 use Rattle.nr_record.specs.RecordsState.{kept}
 use Rattle.nr_turnstile.specs.Passes.{Rests}
-use Rattle.nr_plain.specs.History.{known_of}
-use Rattle.nr_record_host.specs.RecordSteps.{AnswersOn, IsPlace}
+use Rattle.nr_plain.specs.History.{pass_view}
+use Rattle.nr_record_host.specs.private.RecordSteps.{AnswersOn, IsPlace}
 use Rattle.nr_record_host.proofs.reading.answer_all.Given as goal
 
 abbrev pub invariant-loop-call : goal.invariant-loop-call
@@ -13,7 +13,7 @@ invariant-loop-call g l =
     × (g.O.Sink.faults l.sink ≡ g.O.Sink.faults l.initial.sink)
     × IsPlace (kept l.records) l.at
     × AnswersOn (kept l.initial.records) (kept l.records) (g.O.Sink.taken l.initial.sink) (g.O.Sink.taken l.sink)
-    (g.C.Clock.gave l.initial.clock) (g.C.Clock.gave l.clock) (known_of l.initial.pass) (known_of l.pass)
+    (g.C.Clock.gave l.initial.clock) (g.C.Clock.gave l.clock) (pass_view l.initial.pass) (pass_view l.pass)
 
 abbrev pub decreases-loop-call : goal.decreases-loop-call
 decreases-loop-call g l = length (kept l.records).waiting

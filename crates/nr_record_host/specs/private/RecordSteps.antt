@@ -7,7 +7,7 @@ use Rattle.nr_record.specs.Records.{Cut, Fits, contents, encodings}
 use Rattle.nr_record.specs.declared.fault.RecordFault.{RecordFault}
 use Rattle.nr_record.specs.declared.fault.RecordFault.TheVariants as faults
 use Rattle.nr_record.specs.RecordsState.{RecordsState, RepresentsStream}
-use Rattle.nr_plain.specs.History.{Answered, Known}
+use Rattle.nr_plain.specs.History.{Answered, PassView}
 use Rattle.nr_record_host.specs.RecordRuns.{Around, IsRecordsServed, REASON_CALL, Serves, around, calls, written}
 use Rattle.nr_record_host.specs.declared.answering.Stop.{Stop}
 use Rattle.nr_record_host.specs.declared.answering.Stop.TheVariants as stops
@@ -35,33 +35,33 @@ pub record IsAnswered (before now : Around) (k : RecordsState) (stream : List �
   pub all : length live.exchanges ≡ length live.read.stands.cuts
 
 -- a step that reads nothing goes on from any calls to some more
-abbrev pub AnswersOn : (k k' : RecordsState) (taken taken' : Option (List ℕ)) (gave gave' : Option (List Moment)) (known known' : Known) → Type 0
-AnswersOn k k' taken taken' gave gave' known known' =
-    (before : Around) (left given : Option (List ℕ)) (stream : List ℕ) → IsLive before (around left given taken gave known) k stream [] →
-    IsLive before (around left given taken' gave' known') k' stream []
+abbrev pub AnswersOn : (k k' : RecordsState) (taken taken' : Option (List ℕ)) (gave gave' : Option (List Moment)) (view view' : PassView) → Type 0
+AnswersOn k k' taken taken' gave gave' view view' =
+    (before : Around) (left given : Option (List ℕ)) (stream : List ℕ) → IsLive before (around left given taken gave view) k stream [] →
+    IsLive before (around left given taken' gave' view') k' stream []
 
 -- until all complete records are answered
-abbrev pub AnswersAll : (k k' : RecordsState) (taken taken' : Option (List ℕ)) (gave gave' : Option (List Moment)) (known known' : Known) → Type 0
-AnswersAll k k' taken taken' gave gave' known known' =
-    (before : Around) (left given : Option (List ℕ)) (stream : List ℕ) → IsLive before (around left given taken gave known) k stream [] →
-    IsAnswered before (around left given taken' gave' known') k' stream
+abbrev pub AnswersAll : (k k' : RecordsState) (taken taken' : Option (List ℕ)) (gave gave' : Option (List Moment)) (view view' : PassView) → Type 0
+AnswersAll k k' taken taken' gave gave' view view' =
+    (before : Around) (left given : Option (List ℕ)) (stream : List ℕ) → IsLive before (around left given taken gave view) k stream [] →
+    IsAnswered before (around left given taken' gave' view') k' stream
 
 -- or it ends the connection
-abbrev pub AnswerEnds : RecordEnd → (k : RecordsState) (taken taken' : Option (List ℕ)) (gave gave' : Option (List Moment)) (known known' : Known) → Type 0
-AnswerEnds end k taken taken' gave gave' known known' =
-    (before : Around) (left given : Option (List ℕ)) (stream : List ℕ) → length stream ≤ read_max → IsLive before (around left given taken gave known) k stream [] →
-    IsRecordsServed before (around left given taken' gave' known') end
+abbrev pub AnswerEnds : RecordEnd → (k : RecordsState) (taken taken' : Option (List ℕ)) (gave gave' : Option (List Moment)) (view view' : PassView) → Type 0
+AnswerEnds end k taken taken' gave gave' view view' =
+    (before : Around) (left given : Option (List ℕ)) (stream : List ℕ) → length stream ≤ read_max → IsLive before (around left given taken gave view) k stream [] →
+    IsRecordsServed before (around left given taken' gave' view') end
 
 -- a piece is fed, and all complete records are answered
-abbrev pub TakesIn : (piece : List ℕ) (k k' : RecordsState) (taken taken' : Option (List ℕ)) (gave gave' : Option (List Moment)) (known known' : Known) → Type 0
-TakesIn piece k k' taken taken' gave gave' known known' =
-    (before : Around) (left given : Option (List ℕ)) (stream : List ℕ) → IsLive before (around left given taken gave known) k stream piece →
-    IsAnswered before (around left given taken' gave' known') k' (stream ++ piece)
+abbrev pub TakesIn : (piece : List ℕ) (k k' : RecordsState) (taken taken' : Option (List ℕ)) (gave gave' : Option (List Moment)) (view view' : PassView) → Type 0
+TakesIn piece k k' taken taken' gave gave' view view' =
+    (before : Around) (left given : Option (List ℕ)) (stream : List ℕ) → IsLive before (around left given taken gave view) k stream piece →
+    IsAnswered before (around left given taken' gave' view') k' (stream ++ piece)
 
-abbrev pub PieceEnds : RecordEnd → (piece : List ℕ) (k : RecordsState) (taken taken' : Option (List ℕ)) (gave gave' : Option (List Moment)) (known known' : Known) → Type 0
-PieceEnds end piece k taken taken' gave gave' known known' =
+abbrev pub PieceEnds : RecordEnd → (piece : List ℕ) (k : RecordsState) (taken taken' : Option (List ℕ)) (gave gave' : Option (List Moment)) (view view' : PassView) → Type 0
+PieceEnds end piece k taken taken' gave gave' view view' =
     (before : Around) (left given : Option (List ℕ)) (stream : List ℕ) → length (stream ++ piece) ≤ read_max →
-    IsLive before (around left given taken gave known) k stream piece → IsRecordsServed before (around left given taken' gave' known') end
+    IsLive before (around left given taken gave view) k stream piece → IsRecordsServed before (around left given taken' gave' view') end
 
 -- a connection was served so far, and this many bytes were read of it
 pub record CarriesTo (before now : Around) (k : RecordsState) (read : ℕ) : Type 0 where
