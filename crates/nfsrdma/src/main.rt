@@ -69,6 +69,11 @@ fn run_with(rt: HostRuntime, arguments: &[String]) -> u8 {
 }
 
 fn main(rt: HostRuntime) -> ExitCode {
+    // If a standard stream is closed, the next file or socket takes its number, and what is printed or read goes over a link.
+    // These handles take the numbers that are free, and keep them to the end. Reading a folder fails, and so does writing it.
+    let _first = File::open(&rt, "/");
+    let _second = File::open(&rt, "/");
+    let _third = File::open(&rt, "/");
     match arguments(&rt) {
         Ok(arguments) => ExitCode::from(run_with(rt, arguments.as_slice())),
         Err(error) => {
