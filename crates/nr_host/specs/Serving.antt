@@ -2,7 +2,7 @@
 use Rattle.std.specs.Prelude.{◌≡◌, ℕ, ◌+◌, ◌⊎◌, false, List, [], ◌∷◌, ◌++◌, Option, None, Some, IfSome}
 use Rattle.nr_outside.specs.declared.moment.Moment.{Moment}
 use Rattle.nr_outside.specs.Faults.{Rises}
-use Rattle.nr_links.specs.Links.{EndedLink, LinkLog, CountsLost, EndsLink, IsNewLink, MakesLink}
+use Rattle.nr_links.specs.Links.{EndedLink, LinkLog, CountsLost, EndsLink, IsNewLink, IsTold, MakesLink}
 use Rattle.nr_turnstile.specs.Rule.{Begins, in_order, longer}
 use Rattle.nr_plain.specs.History.{PassView}
 use Rattle.nr_host.specs.Ending.{SinkCount, SourceCount}
@@ -41,8 +41,8 @@ pub record JoinsPass (view own view' : PassView) : Type 0 where
   pub own_begins : Begins own.seen view'.seen
   pub mine : view'.mine ≡ in_order view.mine own.mine
 
--- A link was accepted, served to its end by a pass of its own, and hung up. `opened` is the link as it was accepted,
--- `closed` as it was hung up. Its clock had given nothing.
+-- A link was accepted, served to its end by a pass of its own, and hung up: its source, and the sink that has the same number. `opened` is the link
+-- as it was accepted, `closed` as it was hung up. Its clock had given nothing.
 pub record ServesLink (credits : ℕ) (before after : Between) (end : ConnEnd) : Type 0 where
   pub opened : EndedLink
   pub closed : EndedLink
@@ -53,6 +53,9 @@ pub record ServesLink (credits : ℕ) (before after : Between) (end : ConnEnd) :
   pub gave' : Option (List Moment)
   pub own : PassView
   pub fresh : IsNewLink opened.given opened.taken 0 0
+  pub told : IsTold log opened.given opened.left opened.taken
+  pub numbered : IfSome before.ended (λ log. log.made ≡ opened.number)
+  pub same_number : closed.number ≡ opened.number
   pub new_clock : IfSome gave (λ given. given ≡ [])
   pub served : IsServed credits (outside opened.left opened.given (sink_state opened.taken 0 false) gave (split_off before.view))
       (outside closed.left closed.given (sink_state closed.taken sink_faults false) gave' own) end

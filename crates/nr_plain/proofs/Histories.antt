@@ -12,7 +12,7 @@ use Rattle.nr_turnstile.specs.Rule.{Begins, Earlier, places_from}
 use Rattle.nr_plain.specs.declared.history_entry.HistoryEntry.{HistoryEntry}
 use Rattle.nr_plain.specs.declared.history_entry.HistoryEntry.TheVariants.{Opened, Added}
 use Rattle.nr_plain.specs.declared.history_entry.TaggedEntry.{TaggedEntry}
-use Rattle.nr_plain.specs.History.{Opening, setup_in, tagged, entries_alone, added, history, IsHistory, StandsFor, closes_none, AddsOne, AddsNone, xid_in, entries_added, first_added, entry_to_append, PassView, OnlyOthersAdded, ExecutesAt}
+use Rattle.nr_plain.specs.History.{Opening, setup_in, tagged, entries_alone, additions, history, IsHistory, StandsFor, closes_none, AddsOne, AddsNone, xid_in, entries_added, first_added, entry_to_append, PassView, OnlyOthersAdded, ExecutesAt}
 
 -- ===== histories and their entries
 
@@ -20,39 +20,42 @@ entry_by : (b : Bool) (x y : TaggedEntry) (e : Entry) → x.entry ≡ e → y.en
 entry_by true x y e p q = p
 entry_by false x y e p q = q
 
+tagged_is : (client xid : ℕ) (e : Entry) → (tagged client xid e).entry ≡ e
+tagged_is client xid e = entry_by (client == 0) (record { entry = e; client = 0; xid = 0 }) (record { entry = e; client = client; xid = xid }) e refl refl
+
 tagged_alone : (client xid : ℕ) (es : List Entry) → entries_alone (map (tagged client xid) es) ≡ es
 tagged_alone client xid [] = refl
-tagged_alone client xid (e ∷ es) = λ i. entry_by (client == 0) _ _ e refl refl i ∷ tagged_alone client xid es i
+tagged_alone client xid (e ∷ es) = λ i. tagged_is client xid e i ∷ tagged_alone client xid es i
 
 pub history_length : (first : Opening) (J : List Entry) (h : List HistoryEntry) → IsHistory first J h → length h ≡ suc (length J)
 history_length first J h i =
     ap length i.is ∙ ap suc (length-map i.entries (λ (t : TaggedEntry). Added t) ∙ sym (length-map i.entries (λ (t : TaggedEntry). t.entry)) ∙ ap length i.journal)
 
-pub history_grows : (first : Opening) (J : List Entry) (h : List HistoryEntry) (client xid : ℕ) (es : List Entry) → IsHistory first J h → IsHistory first (J ++ es) (h ++ added (map (tagged client xid) es))
+pub history_grows : (first : Opening) (J : List Entry) (h : List HistoryEntry) (client xid : ℕ) (es : List Entry) → IsHistory first J h → IsHistory first (J ++ es) (h ++ additions (map (tagged client xid) es))
 history_grows first J h client xid es i = record {
   entries = i.entries ++ map (tagged client xid) es;
-  is = ap (λ (l : List HistoryEntry). l ++ added (map (tagged client xid) es)) i.is
+  is = ap (λ (l : List HistoryEntry). l ++ additions (map (tagged client xid) es)) i.is
       ∙ ap (λ (l : List HistoryEntry). Opened first ∷ l) (sym (map-append (λ (t : TaggedEntry). Added t) i.entries (map (tagged client xid) es)));
   journal = map-append (λ (t : TaggedEntry). t.entry) i.entries (map (tagged client xid) es) ∙ (λ j. i.journal j ++ tagged_alone client xid es j);
 }
 
 -- the entries that a history has after its first
-added_in : HistoryEntry → List TaggedEntry
-added_in (Opened first) = []
-added_in (Added t) = t ∷ []
+abbrev tagged_in : HistoryEntry → List TaggedEntry
+tagged_in (Opened first) = []
+tagged_in (Added t) = t ∷ []
 
-all_added_in : List HistoryEntry → List TaggedEntry
-all_added_in [] = []
-all_added_in (x ∷ h) = added_in x ++ all_added_in h
+abbrev all_tagged_in : List HistoryEntry → List TaggedEntry
+all_tagged_in [] = []
+all_tagged_in (x ∷ h) = tagged_in x ++ all_tagged_in h
 
-all_of_added : (T : List TaggedEntry) → all_added_in (added T) ≡ T
+all_of_added : (T : List TaggedEntry) → all_tagged_in (additions T) ≡ T
 all_of_added [] = refl
 all_of_added (t ∷ T) = ap (λ (l : List TaggedEntry). t ∷ l) (all_of_added T)
 
-all_append : (xs ys : List HistoryEntry) → all_added_in (xs ++ ys) ≡ all_added_in xs ++ all_added_in ys
+all_append : (xs ys : List HistoryEntry) → all_tagged_in (xs ++ ys) ≡ all_tagged_in xs ++ all_tagged_in ys
 all_append [] ys = refl
 all_append (x ∷ xs) ys =
-    ap (λ (l : List TaggedEntry). added_in x ++ l) (all_append xs ys) ∙ sym (append_assoc (added_in x) (all_added_in xs) (all_added_in ys))
+    ap (λ (l : List TaggedEntry). tagged_in x ++ l) (all_append xs ys) ∙ sym (append_assoc (tagged_in x) (all_tagged_in xs) (all_tagged_in ys))
 
 opening_of : HistoryEntry → Option Opening
 opening_of (Opened first) = Some first
@@ -66,9 +69,9 @@ same_opening : (f g : Opening) (S T : List TaggedEntry) (more : List HistoryEntr
 unfolding opening_in opening_of
 same_opening f g S T more e = same_Some g f (ap opening_in e)
 
-later : (f g : Opening) (S T : List TaggedEntry) (more : List HistoryEntry) → history g T ≡ history f S ++ more → T ≡ S ++ all_added_in more
+later : (f g : Opening) (S T : List TaggedEntry) (more : List HistoryEntry) → history g T ≡ history f S ++ more → T ≡ S ++ all_tagged_in more
 later f g S T more e =
-    sym (all_of_added T) ∙ ap all_added_in e ∙ all_append (history f S) more ∙ ap (λ (l : List TaggedEntry). l ++ all_added_in more) (all_of_added S)
+    sym (all_of_added T) ∙ ap all_tagged_in e ∙ all_append (history f S) more ∙ ap (λ (l : List TaggedEntry). l ++ all_tagged_in more) (all_of_added S)
 
 pub begins_itself : (xs : List HistoryEntry) → Begins xs xs
 begins_itself xs = ([], sym (append-nil xs))
@@ -88,10 +91,10 @@ pub found : (first : Opening) (J : List Entry) (seen seen' : List HistoryEntry) 
 found first J seen seen' kept i (more, begins) (g, (K, (i', stands))) =
     let e : history g i'.entries ≡ history first i.entries ++ more = sym i'.is ∙ begins ∙ ap (λ (l : List HistoryEntry). l ++ more) i.is in
     let same : g ≡ first = same_opening first g i.entries i'.entries more e in
-    let all : i'.entries ≡ i.entries ++ all_added_in more = later first g i.entries i'.entries more e in
-    let others : List Entry = entries_alone (all_added_in more) in
+    let all : i'.entries ≡ i.entries ++ all_tagged_in more = later first g i.entries i'.entries more e in
+    let others : List Entry = entries_alone (all_tagged_in more) in
     let journal : K ≡ J ++ others =
-    sym i'.journal ∙ ap entries_alone all ∙ map-append (λ (t : TaggedEntry). t.entry) i.entries (all_added_in more) ∙ ap (λ (l : List Entry). l ++ others) i.journal in
+    sym i'.journal ∙ ap entries_alone all ∙ map-append (λ (t : TaggedEntry). t.entry) i.entries (all_tagged_in more) ∙ ap (λ (l : List Entry). l ++ others) i.journal in
     record {
       others = others;
       is = record { entries = i'.entries; is = i'.is ∙ ap (λ (f : Opening). history f i'.entries) same; journal = i'.journal ∙ journal };
@@ -119,9 +122,9 @@ none_added view first J i = record {
 }
 
 -- the entry that is appended is the one that the call adds
-appended : (client : ℕ) (m : Moment) (payload reply : List ℕ) → AddsOne m payload reply → entry_to_append client m payload reply ∷ [] ≡ added (entries_added client m payload reply)
+appended : (client : ℕ) (m : Moment) (payload reply : List ℕ) → AddsOne m payload reply → entry_to_append client m payload reply ∷ [] ≡ additions (entries_added client m payload reply)
 appended client m payload reply (entry, one) =
-    ap (λ (es : List Entry). first_added (map (tagged client (xid_in payload)) es) ∷ []) one ∙ sym (ap (λ (es : List Entry). added (map (tagged client (xid_in payload)) es)) one)
+    ap (λ (es : List Entry). first_added (map (tagged client (xid_in payload)) es) ∷ []) one ∙ sym (ap (λ (es : List Entry). additions (map (tagged client (xid_in payload)) es)) one)
 
 module _ (before at after : PassView) (kept kept' : PlainServerState) (client : ℕ) (m : Moment) (payload reply : List ℕ) (place : ℕ) (begins : Begins before.seen at.seen) (own : at.mine ≡ before.mine) (stands : StandsFor kept at.seen)
     (executes : (s : Setup) (J : List Entry) → RepresentsJournal s J kept → ExecutesCall s J m payload reply place kept') where
@@ -137,7 +140,7 @@ module _ (before at after : PassView) (kept kept' : PlainServerState) (client : 
         found_is = f.is;
         place_is = x.place_is;
         replied = x.replied;
-        seen = same ∙ sym (append-nil at.seen) ∙ ap (λ (es : List Entry). at.seen ++ added (map (tagged client (xid_in payload)) es)) (sym none);
+        seen = same ∙ sym (append-nil at.seen) ∙ ap (λ (es : List Entry). at.seen ++ additions (map (tagged client (xid_in payload)) es)) (sym none);
         mine_is = same_own ∙ own ∙ sym (append-nil before.mine) ∙ ap (λ (es : List Entry). before.mine ++ places_from (suc place) (length es)) (sym none);
       }
 

@@ -39,11 +39,11 @@ abbrev pub entries_alone : List TaggedEntry → List Entry
 entries_alone T = map (λ (t : TaggedEntry). t.entry) T
 
 -- a server that was opened so, and what was added to its journal since
-abbrev pub added : List TaggedEntry → List HistoryEntry
-added T = map (λ (t : TaggedEntry). Added t) T
+abbrev pub additions : List TaggedEntry → List HistoryEntry
+additions T = map (λ (t : TaggedEntry). Added t) T
 
 abbrev pub history : Opening → List TaggedEntry → List HistoryEntry
-history first T = Opened first ∷ added T
+history first T = Opened first ∷ additions T
 
 -- the history of a server that was opened so and has this journal, whoever added its entries
 pub record IsHistory (first : Opening) (J : List Entry) (h : List HistoryEntry) : Type 0 where
@@ -124,7 +124,7 @@ pub record ExecutesAt (first : Opening) (J : List Entry) (before after : PassVie
   pub found_is : IsHistory first (J ++ others) found
   pub place_is : place ≡ length (J ++ others)
   pub replied : plain_reply (setup_in first) (J ++ others) place m payload ≡ Some reply
-  pub seen : after.seen ≡ found ++ added (entries_added client m payload reply)
+  pub seen : after.seen ≡ found ++ additions (entries_added client m payload reply)
   pub mine_is : after.mine ≡ before.mine ++ places_from (suc place) (length (entries_of_call m payload reply))
 
 abbrev pub Executes : (before after : PassView) → (client : ℕ) → Moment → (payload reply : List ℕ) → (place : ℕ) → Type 0

@@ -1,4 +1,5 @@
-use Rattle.std.proofs.Common.{◌≡◌, ℕ, false, refl, ap, subst, ◌∙◌}
+use Rattle.std.proofs.Common.{◌≡◌, ℕ, false, refl, sym, ap, subst, ◌∙◌}
+use Rattle.std.proofs.lemmas.Option.{IfSome_then}
 use Rattle.nr_links.specs.Links.{CountsLost, ended_link}
 use Rattle.nr_turnstile.specs.Rule.{Begins, in_order, longer}
 use Rattle.nr_turnstile.specs.Passes.{mine_of, seen_by, view_of}
@@ -12,15 +13,15 @@ use Rattle.nr_host.proofs.serving.serve_next.Goals as goal
 
 pub returns-clause-served : goal.returns-clause-served
 returns-clause-served g c =
-    let left = g.A.Source.Source.left in let given = g.A.Source.Source.given in let taken = g.A.Sink.Sink.taken in
+    let link = g.A.Source.LinkSource.link in let left = g.A.Source.Source.left in let given = g.A.Source.Source.given in let taken = g.A.Sink.Sink.taken in
     let source = c.in-Ok-accept.source in let sink = c.in-Ok-accept.sink in let r = c.run-source.result in
     let fresh = c.in-Ok-accept.ensures.fresh in
     let back = c.in-Err.ensures.back in
     let after = outside (left r.source) (given r.source) (sink_state (taken r.sink) (g.A.Sink.Sink.faults r.sink) false) (g.C.Clock.gave r.clock) (pass_view r.pass) in
     let same : view_of c.split.new.pass ≡ view_of c.args.pass.now = ap (λ m. m.0) c.split.ensures.unchanged.1 in
     record {
-      opened = ended_link (given source) (left source) (taken sink);
-      closed = ended_link (given r.source) (left r.source) (taken r.sink);
+      opened = ended_link (link source) (given source) (left source) (taken sink);
+      closed = ended_link (link r.source) (given r.source) (left r.source) (taken r.sink);
       log = g.A.Acceptor.ended c.accept.new.self;
       source_faults = g.A.Source.Source.faults r.source;
       sink_faults = g.A.Sink.Sink.faults r.sink;
@@ -28,6 +29,9 @@ returns-clause-served g c =
       gave' = g.C.Clock.gave r.clock;
       own = pass_view r.pass;
       fresh = record { nothing_given = fresh.nothing_given; nothing_taken = fresh.nothing_taken; no_source_fault = refl; no_sink_fault = refl };
+      told = c.in-Ok-accept.ensures.told;
+      numbered = IfSome_then (g.A.Acceptor.ended c.args.acceptor.now) c.in-Ok-accept.ensures.numbered.counts (λ log made. made ∙ sym c.in-Ok-accept.ensures.numbered.source);
+      same_number = c.run-source.ensures.source_link ∙ ap (λ j. link j.source) back;
       new_clock = c.another.ensures;
       served = subst (λ (k : PassView). IsServed c.args.credits (outside (left source) (given source) (sink_state (taken sink) 0 false) (g.C.Clock.gave c.another.result) k) after r.end)
           (ap (λ (v : View HistoryEntry). view_of_pass v) c.split.ensures.new.1)
@@ -48,3 +52,10 @@ returns-clause-served g c =
         mine = c.join.ensures.joined.3 ∙ ap (λ (v : View HistoryEntry). in_order v.mine (mine_of r.pass)) same;
       };
     }
+
+pub hang_up-requires-clause-same : goal.hang_up-requires-clause-same
+hang_up-requires-clause-same g c =
+    let link = g.A.Source.LinkSource.link in
+    let numbered = c.in-Ok-accept.ensures.numbered in
+    let back = c.in-Err.ensures.back in
+    c.run-source.ensures.source_link ∙ ap (λ j. link j.source) back ∙ numbered.source ∙ sym numbered.sink ∙ sym (ap (λ j. g.A.Sink.LinkSink.link j.sink) back) ∙ sym c.run-source.ensures.sink_link
