@@ -1,7 +1,8 @@
 //! Cases of a run of the program: its words, its input, what it prints and reports, and its status.
 //!
 //! `run WORDS` gives the words after the program's name. Then `< TEXT` is a line of the input, `> TEXT` one of the output, `! TEXT` one
-//! of the error stream, each with a newline; `<| TEXT`, `>| TEXT` and `!| TEXT` have none. `status N` is the status, else 0.
+//! of the error stream, each with a newline; `<| TEXT`, `>| TEXT` and `!| TEXT` have none. `byte N` is a byte of the input, and
+//! `fill COUNT N` that byte COUNT times. `status N` is the status, else 0.
 //! `more STREAM` says that only the beginning is written here, of the `output` or of the `report`, which is the error stream.
 //! `fails STREAM N` says that the call N of a stream fails, from 0, of the `input` too. A run has no network.
 
@@ -120,6 +121,15 @@ impl Run {
         Ok(())
     }
 
+    /// Bytes of the input that are all the same.
+    fn fill(&mut self, count: &str, byte: &str) -> Result<(), CaseFault> {
+        let byte = u8::try_from(number(byte)?).map_err(|_| CaseFault::Format)?;
+        for _ in 0..number(count)? {
+            self.input.push(byte)?;
+        }
+        Ok(())
+    }
+
     /// Takes a line of the case.
     pub fn line(&mut self, key: &str, text: &str) -> Result<(), CaseFault> {
         match key {
@@ -129,6 +139,11 @@ impl Run {
             "!" => put_line(&mut self.report.text, text),
             ">|" => Ok(self.output.text.extend_from_slice(text.as_bytes())?),
             "!|" => Ok(self.report.text.extend_from_slice(text.as_bytes())?),
+            "byte" => self.fill("1", text),
+            "fill" => {
+                let (count, byte) = parted(text);
+                self.fill(count, byte)
+            }
             "more" => self.more(text),
             "status" => {
                 self.status = u8::try_from(number(text)?).map_err(|_| CaseFault::Format)?;
