@@ -203,8 +203,9 @@ impl Calls {
             "notcall" => Ok(self.refusal() == Some(first)),
             "place" => Ok(self.place() == Some(first)),
             "length" => Ok(self.reply().len() as u64 == first),
-            "journal" => Ok(self.server.journal_len() == first
-                && self.server.journal_cost() == number(second)?),
+            "journal" => Ok(
+                self.server.journal_len() == first && self.server.journal_cost() == number(second)?,
+            ),
             _ => Err(CaseFault::Format),
         }
     }

@@ -6,6 +6,8 @@ use crate::runs::{Done, Run};
 use crate::words::parted;
 use std::alloc::Global;
 use std::io::{self, Write};
+use std::sync::Wait;
+use std::thread::Threads;
 
 /// Why a file's cases can't all be tried.
 #[derive(Clone, Copy, Debug)]
@@ -67,7 +69,8 @@ fn run_of(alloc: Global, words: &str, lines: &str) -> Result<Run, CaseFault> {
 }
 
 /// Tries a case of a run, and writes its line.
-fn try_run<W: Write>(
+fn try_run<W: Write, R: Threads + Wait + Copy + Drop + Send + 'static>(
+    rt: R,
     alloc: Global,
     title: &str,
     words: &str,
@@ -78,7 +81,7 @@ fn try_run<W: Write>(
         Ok(run) => run,
         Err(fault) => return write_fault(fault, title, "a line", out),
     };
-    let (done, wanted) = run.make(alloc);
+    let (done, wanted) = run.make(rt, alloc);
     if wanted.is_met(&done) {
         writeln!(out, "ok {title}")?;
         return Ok(());
@@ -164,7 +167,12 @@ fn try_calls<W: Write>(
 }
 
 /// Tries a case, and writes its line.
-fn try_case<W: Write>(alloc: Global, case: &str, out: &mut W) -> Result<(), Stop> {
+fn try_case<W: Write, R: Threads + Wait + Copy + Drop + Send + 'static>(
+    rt: R,
+    alloc: Global,
+    case: &str,
+    out: &mut W,
+) -> Result<(), Stop> {
     let (title, body) = match case.split_once('\n') {
         Some(parts) => parts,
         None => (case, ""),
@@ -172,16 +180,21 @@ fn try_case<W: Write>(alloc: Global, case: &str, out: &mut W) -> Result<(), Stop
     let (first, lines) = first_line(body);
     let (key, text) = parted(first);
     match key {
-        "run" => try_run(alloc, title, text, lines, out),
+        "run" => try_run(rt, alloc, title, text, lines, out),
         "server" => try_calls(alloc, title, text, lines, out),
         _ => write_fault(CaseFault::Format, title, first, out),
     }
 }
 
 /// Tries the cases of a file.
-pub fn try_cases<W: Write>(alloc: Global, file: &str, out: &mut W) -> Result<(), Stop> {
+pub fn try_cases<W: Write, R: Threads + Wait + Copy + Drop + Send + 'static>(
+    rt: R,
+    alloc: Global,
+    file: &str,
+    out: &mut W,
+) -> Result<(), Stop> {
     for case in file.split("\ncase ").skip(1) {
-        try_case(alloc, case, out)?;
+        try_case(rt, alloc, case, out)?;
     }
     Ok(())
 }

@@ -33,7 +33,7 @@ fn try_file<W: Write>(rt: &HostRuntime, name: &str, out: &mut W) -> Result<(), S
         return Ok(());
     };
     match str::from_utf8(bytes.as_slice()) {
-        Ok(text) => try_cases(rt.alloc(), text, out),
+        Ok(text) => try_cases(*rt, rt.alloc(), text, out),
         Err(_) => {
             writeln!(out, "no text in {name}")?;
             Ok(())

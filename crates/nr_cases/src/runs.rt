@@ -1,16 +1,20 @@
 //! Cases of a run of the program: its words, its input, what it prints and reports, and its status.
 //!
 //! `run WORDS` gives the words after the program's name. Then `< TEXT` is a line of the input, `> TEXT` one of the output, `! TEXT` one
-//! of the error stream, each with a newline; `<| TEXT`, `>| TEXT` and `!| TEXT` have none. `status N` is the status, else 0.
+//! of the error stream, each with a newline; `<| TEXT`, `>| TEXT` and `!| TEXT` have none. `byte N` is a byte of the input,
+//! `fill COUNT N` that byte COUNT times, and `times COUNT TEXT` a line of it COUNT times. `status N` is the status, else 0.
 //! `more STREAM` says that only the beginning is written here, of the `output` or of the `report`, which is the error stream.
 //! `fails STREAM N` says that the call N of a stream fails, from 0, of the `input` too. A run has no network.
 
 use crate::fault::CaseFault;
 use crate::words::{number, parted};
+use nr_jobs::HandBack;
 use nr_links::{MemAcceptor, MemClock, MemDialer};
 use nr_outside::{MemSink, MemSource, Moment};
 use nr_top::run;
 use std::alloc::Global;
+use std::sync::Wait;
+use std::thread::Threads;
 
 /// The moments of the clock.
 static MOMENTS: [Moment; 1] = [Moment {
@@ -120,6 +124,23 @@ impl Run {
         Ok(())
     }
 
+    /// Bytes of the input that are all the same.
+    fn fill(&mut self, count: &str, byte: &str) -> Result<(), CaseFault> {
+        let byte = u8::try_from(number(byte)?).map_err(|_| CaseFault::Format)?;
+        for _ in 0..number(count)? {
+            self.input.push(byte)?;
+        }
+        Ok(())
+    }
+
+    /// A line of the input that stands there several times.
+    fn times(&mut self, count: &str, text: &str) -> Result<(), CaseFault> {
+        for _ in 0..number(count)? {
+            put_line(&mut self.input, text)?;
+        }
+        Ok(())
+    }
+
     /// Takes a line of the case.
     pub fn line(&mut self, key: &str, text: &str) -> Result<(), CaseFault> {
         match key {
@@ -129,6 +150,15 @@ impl Run {
             "!" => put_line(&mut self.report.text, text),
             ">|" => Ok(self.output.text.extend_from_slice(text.as_bytes())?),
             "!|" => Ok(self.report.text.extend_from_slice(text.as_bytes())?),
+            "byte" => self.fill("1", text),
+            "fill" => {
+                let (count, byte) = parted(text);
+                self.fill(count, byte)
+            }
+            "times" => {
+                let (count, line) = parted(text);
+                self.times(count, line)
+            }
             "more" => self.more(text),
             "status" => {
                 self.status = u8::try_from(number(text)?).map_err(|_| CaseFault::Format)?;
@@ -141,7 +171,8 @@ impl Run {
 }
 
 /// Runs the program without a network.
-fn run_over(
+fn run_over<R: Threads + Wait + Copy + Drop + Send + 'static>(
+    rt: R,
     alloc: Global,
     words: &[String],
     input: &mut MemSource,
@@ -151,7 +182,9 @@ fn run_over(
     let mut dial = MemDialer::new(alloc, Vec::new(alloc), Vec::new(alloc));
     let mut accept = MemAcceptor::new(alloc, Vec::new(alloc), Vec::new(alloc));
     let mut clock = MemClock::new(&MOMENTS);
+    let mut spawn = HandBack::new();
     run(
+        rt,
         alloc,
         words,
         input,
@@ -160,6 +193,7 @@ fn run_over(
         &mut dial,
         &mut accept,
         &mut clock,
+        &mut spawn,
     )
 }
 
@@ -182,7 +216,11 @@ impl Wanted {
 
 impl Run {
     /// Makes the run.
-    pub fn make(self, alloc: Global) -> (Done, Wanted) {
+    pub fn make<R: Threads + Wait + Copy + Drop + Send + 'static>(
+        self,
+        rt: R,
+        alloc: Global,
+    ) -> (Done, Wanted) {
         let Run {
             words,
             input,
@@ -202,6 +240,7 @@ impl Run {
         let mut output = MemSink::new(alloc, failing_output);
         let mut report = MemSink::new(alloc, failing_report);
         let status = run_over(
+            rt,
             alloc,
             words.as_slice(),
             &mut input,

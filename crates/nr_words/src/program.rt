@@ -10,10 +10,15 @@ use clap::{Arg, Command};
 use std::alloc::{AllocError, Global};
 
 const ADDR_HELP: &str = "The server's host and port, as 127.0.0.1:20049";
+
 const EXPORT_HELP: &str = "The path that the server exports, as its configuration has it";
+
 const PATH_HELP: &str = "A path from the export's root, its names separated by slashes";
+
 const TARGET_HELP: &str = "The path that the symbolic link holds; it is not looked up";
-const CONFIG_HELP: &str = "A TOML file: listen, export, credits, capacity, connections, write_verifier, and maybe record";
+
+const CONFIG_HELP: &str =
+    "A TOML file: listen, export, credits, capacity, connections, write_verifier, and maybe record";
 
 /// A required positional, and what `--help` says of it.
 fn positional<'a>(alloc: Global, name: &'a str, help: &'a str) -> Arg<'a>
