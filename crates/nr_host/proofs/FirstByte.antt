@@ -9,12 +9,12 @@ use Rattle.nr_endpoint.specs.LinkState.{initial_link}
 use Rattle.nr_wire.specs.declared.hello.Side.TheVariants.{Responder}
 use Rattle.nr_responder.specs.ResponderState.{end_of, opened_side}
 use Rattle.nr_responder.proofs.Opened.{opened_lives, opened_stands_lem}
-use Rattle.nr_plain.specs.History.{PassView}
+use Rattle.nr_plain.specs.History.{Answered, Over, PassView}
 use Rattle.nr_record_host.specs.RecordRuns.{Around, IsRecordsServed, around}
 use Rattle.nr_record_host.specs.declared.record_end.RecordEnd.{RecordEnd}
-use Rattle.nr_host.specs.Connections.{Outside, SinkState}
+use Rattle.nr_host.specs.Connections.{Outside, SinkState, answers_of}
 use Rattle.nr_host.specs.Ending.{Ended}
-use Rattle.nr_host.specs.LinkServing.{IsKindFor, IsKindOf, ServesLinkBy}
+use Rattle.nr_host.specs.LinkServing.{IsKindFor, IsKindOf, IsLinkServed, ServesLinkBy}
 use Rattle.nr_host.specs.Steps.{CarriesTo, IsServed, outside, sink_state, with_failed}
 use Rattle.nr_host.specs.declared.conn_end.ConnEnd.{ConnEnd}
 use Rattle.nr_host.specs.declared.conn_end.ConnEnd.TheVariants as ends
@@ -164,3 +164,12 @@ kind_is byte held left inner after end is kept kind = by_left left inner (subst 
   by_left (Some []) (Some l) k = absurd (let n = ap length k in omega (arith, n))
   by_left (Some (x ∷ rest)) None k = absurd k
   by_left (Some (x ∷ rest)) (Some l) k = inl (subst (λ (b : ℕ). IsKindOf b end) (first x rest l k) kind)
+
+-- ---- what its pass did
+
+pub over_link : (credits : ℕ) (records : Bool) (before after : Outside) (end : LinkEnd) → IsLinkServed credits records before after end
+    → (calls : List Answered) × Over before.view calls after.view
+over_link credits false before after (link_ends.Rdma end) s = let (read, (failed, e)) = s 0 in (answers_of e.run, e.runs.over)
+over_link credits false before after (link_ends.Record end) s = absurd s
+over_link credits true before after (link_ends.Rdma end) (held, (s, kind)) = let (read, (failed, e)) = s 0 in (answers_of e.run, e.runs.over)
+over_link credits true before after (link_ends.Record end) (held, (s, kind)) = (s.exchanges, s.serves.over)
