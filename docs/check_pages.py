@@ -5,9 +5,9 @@
 A page docs/crates/NAME.md has to name, in backticks or in a code block, each public call of the crate NAME: each
 function that its lib.rt makes public, and each public method; and each edit of its must-fail/. "Stands on" has the
 crates of crates.txt; a source file in backticks is one of the crate, and a name before "(FILE; .." stands in that file
-of its specs/. Tests and benchmarks have a heading each in tests.md and benches.md. Each name in backticks on any page has to be there: a word of
-the code (on a crate's page of that crate, of those that it stands on or that stand on it), a file, a crate, a script;
-but for the first column of a table from names before to names now.
+of its specs/. Tests and benchmarks have a heading each in tests.md and benches.md; the page of nr_laws is LAWS.md. Each
+name in backticks on any page has to be there: a word of the code (on a crate's page of that crate, of those that it
+stands on or that stand on it), a file, a crate, a script.
 Lines have at most 160 characters, prose 120, table cells 40 words; links lead to a file; the words of CONTRIBUTING's
 house list stand in no prose. WIRE.md has a row for each reason and each other word of a Terminate.
 Exit status: 0, or 1 with a line for each difference."""
@@ -32,10 +32,10 @@ HOUSE = (
     (r'\b[Ww]ants? (?:of )?memory\b', 'want of memory: write out of memory'),
 )
 # words in backticks that are no names of the project: of the kit and of std, and placeholders
-OTHER = {'Display', 'malloc', 'realloc', 'incremental', 'newer', 'csv', 'md', 'Lts', 'oantt', 'NAME', 'NAME_inner', 'MOD', 'FN', 'fattr3'}
+OTHER = {'c6c6f000000', 'TITLE', 'WORDS', 'AT', 'Display', 'malloc', 'realloc', 'incremental', 'newer', 'csv', 'md', 'Lts', 'oantt', 'NAME', 'NAME_inner', 'MOD', 'FN', 'fattr3'}
 PLACEHOLDER = re.compile(r'^P_\w+$')
-# the script that renames, whose lists have names that are gone
-OLD_NAMES = os.path.join(ROOT, 'docs', 'maintaining', 'rename') + os.sep
+# the pages of crates that stand at the top of docs/
+OWN_PAGES = {'nr_laws': 'docs/LAWS.md'}
 # what is a command, or text that is printed
 WORD = re.compile(r"[A-Za-z_][A-Za-z0-9_']*")
 SHELL = re.compile(r'^(rt|python3|find|git|cd|printf|grep) |^\.|^--|[{}=<>|"$]|\bC X\b')
@@ -147,7 +147,7 @@ def words_beside(crates: list[str]) -> set[str]:
     for folder in ('bench', 'conformance', 'docs', 'drills', '.ci', '.'):
         for path in glob.glob(os.path.join(ROOT, folder, '**' if folder != '.' else '*'), recursive=folder != '.'):
             words |= {os.path.basename(path), os.path.splitext(os.path.basename(path))[0]}
-            if path.endswith(('.py', '.sh', '.json', '.txt')) and not path.startswith(OLD_NAMES):
+            if path.endswith(('.py', '.sh', '.json', '.txt')):
                 words |= set(WORD.findall(read(path)))
     return words
 
@@ -167,22 +167,10 @@ def vocabularies(crates: list[str]) -> dict[str, set[str]]:
     return out
 
 
-def old_names(text: str) -> set[tuple[int, str]]:
-    """The names of the first column of a table from names before to names now, with their lines."""
-    out: set[tuple[int, str]] = set()
-    inside = False
-    for n, line in enumerate(text.splitlines(), 1):
-        inside = line.startswith('|') and (inside or line.startswith('| before | now |'))
-        if inside:
-            out |= {(n, x) for x in re.findall(r'`([^`]+)`', line.split('|')[1])}
-    return out
-
-
 def check_names(page: str, text: str, words: set[str]) -> list[str]:
     out: list[str] = []
-    gone = old_names(text)
     for n, span in spans(text):
-        if (n, span) in gone or SHELL.search(span) or ' ' in span.strip() and not re.match(r'^[\w:]+ [\w:]+$', span):
+        if SHELL.search(span) or ' ' in span.strip() and not re.match(r'^[\w:]+ [\w:]+$', span):
             continue
         for word in WORD.findall(span):
             stem = word.strip("'_.")
@@ -253,7 +241,7 @@ def check_crates(crates: list[str]) -> list[str]:
     shared = {'_tests': 'tests.md', '_bench': 'benches.md'}
     for crate in crates:
         kind = next((k for k in shared if crate.endswith(k)), None)
-        page = 'docs/crates/%s' % (shared[kind] if kind else crate + '.md')
+        page = OWN_PAGES.get(crate, 'docs/crates/%s' % (shared[kind] if kind else crate + '.md'))
         if not os.path.exists(os.path.join(ROOT, page)):
             out.append('%s: no page of the crate %s' % (page, crate))
             continue

@@ -1,7 +1,7 @@
-//! Tests of what is printed of a drill (`nr_drill`): each state of a call and of a link, and the line of sums, whose texts were
-//! written by hand.
+//! Tests of what no run of the program shows of drills: a script that is made from a seed (`nr_script`), whose numbers were worked out
+//! by hand, and what crossed a link (`nr_drill`, `nr_marks`). What is printed of a drill is in `nr_cases`.
 //!
-//! They stand in a crate of their own, above the crate that they test, since a crate with tests is proved twice.
+//! They stand in a crate of their own, above the crates that they test, since a crate with tests is proved twice.
 #![tactic(auto)]
 
 #[cfg(test)]
@@ -9,4 +9,4 @@ mod compare;
 #[cfg(test)]
 mod logs;
 #[cfg(test)]
-mod printing;
+mod making;

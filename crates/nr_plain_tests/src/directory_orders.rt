@@ -4,10 +4,18 @@
 use crate::calls::{answered, called, put, put_number};
 use crate::compare::same;
 use crate::links_max::name;
-use crate::root_only::opened;
+use nr_nfs_base::{Time, Verifier};
 use nr_plain::Server;
+use nr_tree::Tree;
+use nr_xdr::Octets;
 use std::alloc::Global;
 use std::process::Abort;
+
+/// When the root is made.
+const MADE: Time = Time {
+    seconds: 7,
+    nanoseconds: 9,
+};
 
 /// How many entries are made first.
 const SIZE: u32 = 10_000;
@@ -37,6 +45,13 @@ fn next_place(order: Order, place: usize, len: usize) -> usize {
         Order::Newest => len.saturating_sub(1),
         Order::Third => place.wrapping_add(2).checked_rem(len).unwrap_or(0),
     }
+}
+
+/// A server whose tree is a root alone, with the export `/`.
+fn opened(rt: &impl Abort, alloc: Global) -> Server {
+    let tree = Tree::root_only(alloc, MADE).expect(rt, "memory");
+    let export = Octets::from_slice(alloc, b"/").expect(rt, "memory");
+    Server::open(tree, 1 << 40, Verifier { number: 1 }, export)
 }
 
 /// Makes a call about a name in the root, and gives the reply.

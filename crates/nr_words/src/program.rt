@@ -9,12 +9,23 @@ use clap::builder::ValueParser;
 use clap::{Arg, Command};
 use std::alloc::{AllocError, Global};
 
-/// A required positional.
-fn positional<'a>(alloc: Global, name: &'a str) -> Arg<'a>
+const ADDR_HELP: &str = "The server's host and port, as 127.0.0.1:20049";
+
+const EXPORT_HELP: &str = "The path that the server exports, as its configuration has it";
+
+const PATH_HELP: &str = "A path from the export's root, its names separated by slashes";
+
+const TARGET_HELP: &str = "The path that the symbolic link holds; it is not looked up";
+
+const CONFIG_HELP: &str =
+    "A TOML file: listen, export, credits, capacity, connections, write_verifier, and maybe record";
+
+/// A required positional, and what `--help` says of it.
+fn positional<'a>(alloc: Global, name: &'a str, help: &'a str) -> Arg<'a>
     ensures rule { rule_of result ≡ positional_rule name.entry.now }
     ensures local { result.global ≡ false }
 {
-    Arg::new(alloc, name).required(true)
+    Arg::new(alloc, name).required(true).help(help)
 }
 
 /// An option with a number.
@@ -37,10 +48,11 @@ fn add_positional<'a>(
     alloc: Global,
     command: Command<'a>,
     name: &'a str,
+    help: &'a str,
 ) -> Result<Command<'a>, AllocError>
     ensures { IfOk result (AddsRule command.entry (positional_rule name.entry.now)) }
 {
-    command.arg(positional(alloc, name))
+    command.arg(positional(alloc, name, help))
 }
 
 /// A command with one more option.
@@ -59,8 +71,8 @@ fn add_number<'a>(
 fn client<'a>(alloc: Global, name: &'a str, about: &'a str) -> Result<Command<'a>, AllocError>
     ensures { IfOk result (Builds (client_app name.entry.now)) }
 {
-    let command = add_positional(alloc, named(alloc, name, about), "ADDR")?;
-    let command = add_positional(alloc, command, "EXPORT")?;
+    let command = add_positional(alloc, named(alloc, name, about), "ADDR", ADDR_HELP)?;
+    let command = add_positional(alloc, command, "EXPORT", EXPORT_HELP)?;
     let uid = ValueParser::Signed(0, ID_MAX as i64);
     let command = add_number(alloc, command, "uid", uid)?;
     let gid = ValueParser::Signed(0, ID_MAX as i64);
@@ -72,21 +84,21 @@ fn with_path<'a>(alloc: Global, name: &'a str, about: &'a str) -> Result<Command
     ensures { IfOk result (Builds (path_app name.entry.now)) }
 {
     let command = client(alloc, name, about)?;
-    add_positional(alloc, command, "PATH")
+    add_positional(alloc, command, "PATH", PATH_HELP)
 }
 
 fn link<'a>(alloc: Global) -> Result<Command<'a>, AllocError>
     ensures { IfOk result (Builds link_app) }
 {
     let command = with_path(alloc, "ln", "Makes a symbolic link")?;
-    add_positional(alloc, command, "TARGET")
+    add_positional(alloc, command, "TARGET", TARGET_HELP)
 }
 
 fn serve<'a>(alloc: Global) -> Result<Command<'a>, AllocError>
     ensures { IfOk result (Builds serve_app) }
 {
     let command = named(alloc, "serve", "Serves a tree in memory");
-    add_positional(alloc, command, "CONFIG")
+    add_positional(alloc, command, "CONFIG", CONFIG_HELP)
 }
 
 fn drill<'a>(alloc: Global) -> Result<Command<'a>, AllocError>

@@ -40,6 +40,20 @@ impl From<AllocError> for WordsFault {
     }
 }
 
+/// What clap says of words that it refuses, without its tips: paragraphs that begin with `  tip:`, and guess what was meant.
+fn without_tips(alloc: Global, said: &str) -> Result<String, AllocError> {
+    let mut kept = String::new(alloc);
+    for paragraph in said.split("\n\n") {
+        if !paragraph.starts_with("  tip:") {
+            if !kept.is_empty() {
+                kept.push_str("\n\n")?;
+            }
+            kept.push_str(paragraph)?;
+        }
+    }
+    Ok(kept)
+}
+
 /// An error of clap as a fault.
 fn fault_of_error(alloc: Global, error: &Error) -> WordsFault
     ensures { IsFaultOf (kind_of error.now) result }
@@ -53,9 +67,11 @@ fn fault_of_error(alloc: Global, error: &Error) -> WordsFault
         Err(_) => return WordsFault::Memory,
     };
     if matches!(kind, ErrorKind::DisplayHelp | ErrorKind::DisplayVersion) {
-        WordsFault::Asked { text }
-    } else {
-        WordsFault::Refused { text }
+        return WordsFault::Asked { text };
+    }
+    match without_tips(alloc, text.as_str()) {
+        Ok(text) => WordsFault::Refused { text },
+        Err(_) => WordsFault::Memory,
     }
 }
 
