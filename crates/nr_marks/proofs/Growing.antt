@@ -1,5 +1,6 @@
 -- What grows keeps its pieces.
 use Rattle.std.proofs.Common.{◌≡◌, ℕ, zero, suc, ◌+◌, ◌-◌, ◌≤◌, ◌<◌, arith, Bool, true, false, if◌then◌else◌, List, [], ◌∷◌, ◌++◌, length, take, drop, get_or, set, refl, sym, ap, subst, ◌∙◌, append-nil, append_assoc, length-append}
+use Rattle.std.specs.Prelude.{Result, Ok, Err, OnOk}
 use Rattle.std.proofs.lemmas.List.{take-append-le, drop-append-le, length-drop, take_all, drop_at, get_or-set_same, get_or_default}
 use Rattle.nr_marks.specs.declared.stores.Piece.{Piece}
 use Rattle.std.proofs.lemmas.List.Sums.{sum_by-set, sum_by_push}
@@ -92,6 +93,10 @@ holds_write old store at len own new bytes there lt at_end all is =
     (ap (λ (xs : List ℕ). set old store xs) (is ∙ ap (λ xs. xs ++ bytes) own_is))
 
 -- ===== how many bytes the stores have
+
+pub if_any : {T E : Type 0} (r : Result T E) (P : Type 0) → P → OnOk r P
+if_any (Ok x) P h = h
+if_any (Err e) P h = tt
 
 pub stored_is : (old new : List (List ℕ)) → new ≡ old → stored_len new ≡ stored_len old
 stored_is old new e = ap stored_len e
