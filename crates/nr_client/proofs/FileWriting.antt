@@ -17,7 +17,7 @@ use Rattle.nr_client.specs.Requests.{Asks}
 use Rattle.nr_client.specs.Results.{Gives, IsOfCall}
 use Rattle.nr_client.specs.Transfers.{LinkBytes}
 use Rattle.nr_outside.specs.Whole.{input_max}
-use Rattle.nr_client.specs.Writing.{EndsWriting, FileWrite, IsRead, IsReadAhead, WritesFile, after_write_reply, create_call, created_file, file_write, next_write, piece_at, with_count, with_handle, write_call, write_end, write_result, writing}
+use Rattle.nr_client.specs.Writing.{EndsWriting, FileWrite, IsRead, IsReadAhead, StopsAtFault, WritesFile, after_write_reply, create_call, created_file, file_write, next_write, piece_at, with_count, with_handle, write_call, write_end, write_result, writing}
 use Rattle.nr_client.specs.Writing.EndsWriting.{FollowsInput, InputFails}
 use Rattle.nr_client.specs.Writing.FileWrite.{Created, NotCreated}
 use Rattle.nr_client.specs.private.FileSteps.{FailsToWrite, StreamsOn, StreamsSoFar, StreamsTo, WriteSoFar, WritesOn}
@@ -446,3 +446,37 @@ no_window uid gid dir name b h left given =
       begins = inl (refl, refl);
       calls = FollowsInput (record { outcomes = []; between = b; side = h; made = (refl, refl); ends = (client.Memory, (refl, inr (refl, (refl, refl)))) }) 0 (omega arith);
     }
+
+-- ---- A read of the input that failed
+
+pub call_stops : {N : Type 0} (faults : N → ℕ) (left given : N → Option (List ℕ)) (before after : N) (end : ClientEnd) → IsOfCall end → StopsAtFault faults left given (Err end) before after
+call_stops faults left given before after client.DialFault of = tt
+call_stops faults left given before after (client.Link end) of = tt
+call_stops faults left given before after (client.Rpc kind code) of = tt
+call_stops faults left given before after (client.Mount status) of = tt
+call_stops faults left given before after (client.Nfs status) of = tt
+call_stops faults left given before after client.Chunk of = tt
+call_stops faults left given before after (client.Version low high) of = tt
+call_stops faults left given before after (client.BadReply at reason) of = tt
+call_stops faults left given before after (client.BadPath at) of = tt
+call_stops faults left given before after client.InputFault of = absurd of
+call_stops faults left given before after client.OutputFault of = tt
+call_stops faults left given before after (client.Budget count) of = tt
+call_stops faults left given before after client.Memory of = tt
+
+-- after reads at which its fault count stood still
+pub stops_after : {N : Type 0} (faults : N → ℕ) (left given : N → Option (List ℕ)) (result : Result (Unit {0}) ClientEnd) (before middle after : N) → faults middle ≡ faults before → StopsAtFault faults left given result middle after → StopsAtFault faults left given result before after
+stops_after faults left given (Ok done) before middle after same stops = tt
+stops_after faults left given (Err client.DialFault) before middle after same stops = tt
+stops_after faults left given (Err (client.Link end)) before middle after same stops = tt
+stops_after faults left given (Err (client.Rpc kind code)) before middle after same stops = tt
+stops_after faults left given (Err (client.Mount status)) before middle after same stops = tt
+stops_after faults left given (Err (client.Nfs status)) before middle after same stops = tt
+stops_after faults left given (Err client.Chunk) before middle after same stops = tt
+stops_after faults left given (Err (client.Version low high)) before middle after same stops = tt
+stops_after faults left given (Err (client.BadReply at reason)) before middle after same stops = tt
+stops_after faults left given (Err (client.BadPath at)) before middle after same stops = tt
+stops_after faults left given (Err client.InputFault) before middle after same stops = record { failed = stops.failed; unrisen = stops.unrisen ∙ same; nothing = stops.nothing }
+stops_after faults left given (Err client.OutputFault) before middle after same stops = tt
+stops_after faults left given (Err (client.Budget count)) before middle after same stops = tt
+stops_after faults left given (Err client.Memory) before middle after same stops = tt

@@ -22,7 +22,7 @@ use Rattle.nr_requester.proofs.OwnLaw.{drain_keeps_law, drain_keeps_grant, piece
 use Rattle.nr_client.specs.declared.call_end.CallEnd.{CallEnd}
 use Rattle.nr_client.specs.declared.call_end.CallEnd.TheVariants as calls
 use Rattle.nr_client.specs.Ending.{SinkCountAt, SourceCountAt}
-use Rattle.nr_client.specs.Steps.{FeedsOut, GoesOn, GoesTo, HasCreditLeft, HasWrittenAt, IsDrained, IsLeft, IsLive, Reads, ReadsTo, WholeIfWrote, Writes, WritesFirst, WritesInFull, WritesInFullTo, WritesTo, WrittenIfFed}
+use Rattle.nr_client.specs.Steps.{FeedsOut, GoesOn, GoesTo, HasCreditLeft, HasWrittenAt, IsCutShort, IsDrained, IsLeft, IsLive, Reads, ReadsTo, WholeIfWrote, Writes, WritesFirst, WritesInFull, WritesInFullTo, WritesTo, WrittenIfFed}
 use Rattle.nr_client.specs.Transfers.{LinkBytes, link_bytes}
 use Rattle.nr_client.proofs.Moves.{moves_both, moves_fed, moves_none, moves_wrote, stays}
 
@@ -49,9 +49,20 @@ first_both opened link run moved more first second = each_both (WrittenIfFed ope
 pub whole_both : (opened : LinkParameters) (link : ℕ) (run moved more : List Mark) → WritesInFull opened link run moved → WritesInFull opened link (run ++ moved) more → WritesInFull opened link run (moved ++ more)
 whole_both opened link run moved more first second = each_both (WholeIfWrote opened link) run moved more first second
 
+-- a Wrote that falls short, after marks that write in full
+pub cut_after : (opened : LinkParameters) (link : ℕ) (run moved more : List Mark) → WritesInFull opened link run moved → IsCutShort opened link (run ++ moved) more → IsCutShort opened link run (moved ++ more)
+cut_after opened link run moved more whole cut = record {
+  first = moved ++ cut.first;
+  bytes = cut.bytes;
+  last = cut.last;
+  parts = ap (λ (l : List Mark). moved ++ l) cut.parts ∙ sym (append_assoc moved cut.first (marks.Wrote link Initiator cut.bytes ∷ cut.last));
+  whole = whole_both opened link run moved cut.first whole cut.whole;
+  none_after = cut.none_after;
+}
+
 whole_to_both : (end : CallEnd) (opened : LinkParameters) (link : ℕ) (run moved more : List Mark) → WritesInFull opened link run moved → WritesInFullTo end opened link (run ++ moved) more
     → WritesInFullTo end opened link run (moved ++ more)
-whole_to_both end opened link run moved more first (inl failed) = inl failed
+whole_to_both end opened link run moved more first (inl failed) = inl (failed.0, cut_after opened link run moved more first failed.1)
 whole_to_both end opened link run moved more first (inr second) = inr (whole_both opened link run moved more first second)
 
 -- nothing happens
@@ -145,7 +156,7 @@ writes_part taken taken' h i n takes on left given read opened link run fine liv
       ahead = [];
       bytes = moves_wrote link left given taken taken' read bytes takes;
       written = (tt, tt);
-      whole = inl refl;
+      whole = inl (refl, record { first = []; bytes = bytes; last = []; parts = refl; whole = tt; none_after = tt });
       all = inl refl;
       left = inl (drained_live opened link run h i n on live, refl);
     }

@@ -1,8 +1,8 @@
 -- What a dialer did if no session was opened.
-use Rattle.std.specs.Prelude.{◌≡◌, ℕ, List, Option}
+use Rattle.std.specs.Prelude.{◌≡◌, ℕ, List, Option, IfSome}
 use Rattle.nr_outside.specs.Faults.{Rises}
 use Rattle.nr_links.specs.Asked.{Asks}
-use Rattle.nr_links.specs.Links.{CountsLost, EndsLink, IsNewLink, LinkLog, MakesLink, ended_link}
+use Rattle.nr_links.specs.Links.{CountsLost, EndsLink, IsNewLink, IsTold, LinkLog, MakesLink, ended_link}
 use Rattle.nr_client.specs.declared.client_end.ClientEnd.{ClientEnd}
 use Rattle.nr_client.specs.declared.client_end.ClientEnd.TheVariants as client
 
@@ -32,13 +32,16 @@ pub record HangsUpNew (addr : List ℕ) (before after : DialerAt) : Type 0 where
   pub asked : Asks before.asked after.asked addr
   pub log : Option LinkLog
   pub made : MakesLink before.ended log
+  pub number : ℕ
+  pub counts : IfSome before.ended (λ known. known.made ≡ number)
   pub given : Option (List ℕ)
   pub left : Option (List ℕ)
   pub taken : Option (List ℕ)
   pub source_faults : ℕ
   pub sink_faults : ℕ
   pub fresh : IsNewLink given taken source_faults sink_faults
-  pub ended : EndsLink log after.ended (ended_link given left taken)
+  pub told : IsTold log given left taken
+  pub ended : EndsLink log after.ended (ended_link number given left taken)
   pub lost : CountsLost source_faults sink_faults before.lost after.lost
   pub unfailing : after.faults ≡ before.faults
 

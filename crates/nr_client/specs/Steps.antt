@@ -1,5 +1,6 @@
 -- What a step of a call makes of the marks that a requester stands for.
 use Rattle.std.specs.Prelude.{◌≡◌, ⊤, ℕ, ◌<◌, ◌≤◌, ◌⊎◌, List, [], ◌∷◌, ◌++◌, length, take, Option, None}
+use Rattle.std.specs.List.{AllByRecursion}
 use Rattle.nr_link.specs.declared.end.End.TheVariants as ends
 use Rattle.nr_wire.specs.declared.hello.Side.TheVariants.{Initiator}
 use Rattle.nr_reduce.specs.declared.mark.LinkParameters.{LinkParameters}
@@ -55,9 +56,23 @@ WholeIfWrote opened link run mark = ⊤
 abbrev pub WritesInFull : LinkParameters → ℕ → (run moved : List Mark) → Type 0
 WritesInFull opened link run moved = AtEachMark (WholeIfWrote opened link) run moved
 
--- so it is up to an end, unless a write failed
+-- a mark that writes nothing
+abbrev pub WritesNothing : Mark → Type 0
+WritesNothing (marks.Wrote l side bytes) = ⊥
+WritesNothing mark = ⊤
+
+-- Of these marks, which follow a run, the last Wrote may fall short: each before it writes all output of the client that is due.
+pub record IsCutShort (opened : LinkParameters) (link : ℕ) (run moved : List Mark) : Type 0 where
+  pub first : List Mark
+  pub bytes : List ℕ
+  pub last : List Mark
+  pub parts : moved ≡ first ++ marks.Wrote link Initiator bytes ∷ last
+  pub whole : WritesInFull opened link run first
+  pub none_after : AllByRecursion WritesNothing last
+
+-- so it is up to an end, where only the Wrote may fall short whose write failed
 abbrev pub WritesInFullTo : CallEnd → LinkParameters → ℕ → (run moved : List Mark) → Type 0
-WritesInFullTo end opened link run moved = (end ≡ calls.LinkWrite) ⊎ WritesInFull opened link run moved
+WritesInFullTo end opened link run moved = ((end ≡ calls.LinkWrite) × IsCutShort opened link run moved) ⊎ WritesInFull opened link run moved
 
 -- At an end of a call all output of the client is written, unless a write failed, or memory ran out for a frame.
 abbrev pub HasWrittenAt : CallEnd → LinkParameters → ℕ → List Mark → Type 0

@@ -130,23 +130,24 @@ IsRead (Ok done) handed rest = rest ≡ []
 IsRead (Err (client.Budget count)) handed rest = input_max < length handed
 IsRead (Err end) handed rest = ⊤
 
--- How far an input may have been read, by what the replies so far say: at most one piece beyond the bytes that were written, and no further once a
--- reply ended the request.
+-- By these replies an input of which these bytes were read was not read too far: at most one piece beyond the bytes that were written, and the replies
+-- didn't end the request.
 abbrev pub IsReadAhead : FileWrite → List ℕ → Type 0
 IsReadAhead NotCreated handed = length handed ≤ transfer_max
 IsReadAhead (Created file at) handed = length handed ≤ at + transfer_max
 IsReadAhead (WriteEnds end) handed = ⊥
 
 -- How the calls end by which a file is written from an input, of which these bytes were read and these not. They follow from all its bytes and the
--- replies, and some first replies had come when the last of the bytes were read. Or the first calls were made and answered, and then a read failed.
+-- replies, and by some first of the replies the bytes were not read too far. Or the first calls were made and answered, and then a read failed. When
+-- each read of the input was made, between which calls, isn't said.
 pub data EndsWriting (uid gid : ℕ) (dir name handed rest : List ℕ) (b b' : LinkBytes) (h h' : RequesterSide) (result : Result (Unit {0}) ClientEnd) : Type 0 where
   FollowsInput : (follows : Follows (writing uid gid dir name (handed ++ rest)) b b' h h' result) → (count : ℕ)
       → IsReadAhead (file_write (handed ++ rest) (take count follows.outcomes)) handed → EndsWriting uid gid dir name handed rest b b' h h' result
   InputFails : (outcomes : List Outcome) → result ≡ Err client.InputFault → MakesCalls (writing uid gid dir name (handed ++ rest)) outcomes b b' h h'
       → IsReadAhead (file_write (handed ++ rest) outcomes) handed → EndsWriting uid gid dir name handed rest b b' h h' result
 
--- A file was written from an input, which is all the bytes that were read and the rest. What the first WRITE sends was read before anything was done
--- on the link.
+-- A file was written from an input, which is all the bytes that were read and the rest. If anything was done on the link, what the first WRITE sends
+-- was read, before or after it.
 pub record WritesFile (uid gid : ℕ) (dir name : List ℕ) (b b' : LinkBytes) (h h' : RequesterSide) (left given left' given' : Option (List ℕ)) (result : Result (Unit {0}) ClientEnd) : Type 0 where
   pub handed : List ℕ
   pub rest : List ℕ
@@ -155,3 +156,16 @@ pub record WritesFile (uid gid : ℕ) (dir name : List ℕ) (b b' : LinkBytes) (
   pub is_read : IsRead result handed rest
   pub begins : ((b' ≡ b) × (h' ≡ h)) ⊎ (length (piece_at (handed ++ rest) 0) ≤ length handed)
   pub calls : EndsWriting uid gid dir name handed rest b b' h h' result
+
+-- ---- A read of the input that failed
+
+-- Nothing was read of a source once a read of it had failed: while its fault count stood still, it came to what it has at last.
+pub record IsStopped {N : Type 0} (faults : N → ℕ) (left given : N → Option (List ℕ)) (before after : N) : Type 0 where
+  pub failed : N
+  pub unrisen : faults failed ≡ faults before
+  pub nothing : HandsOut (left failed) (given failed) (left after) (given after) []
+
+-- so it is of an input that ends a request
+abbrev pub StopsAtFault : {N : Type 0} → (faults : N → ℕ) → (left given : N → Option (List ℕ)) → Result (Unit {0}) ClientEnd → (before after : N) → Type 0
+StopsAtFault faults left given (Err client.InputFault) before after = IsStopped faults left given before after
+StopsAtFault faults left given result before after = ⊤

@@ -5,6 +5,7 @@ ghost use Rattle.std.specs.Io.KnownBytes.{IsAtEnd};
 ghost use Rattle.nr_nfs_base.specs.Limits.{transfer_max};
 ghost use Rattle.nr_outside.specs.Content.{HandsOut};
 ghost use Rattle.nr_outside.specs.Faults.{Rises};
+ghost use Rattle.nr_client.specs.Writing.{IsStopped};
 ghost use Rattle.nr_client.specs.private.InputWindows.{IsFull, TakesMore};
 
 use nr_nfs_base::TRANSFER_MAX;
@@ -110,6 +111,7 @@ impl InputWindow {
         requires within { wanted ≤ transfer_max }
         ensures takes { TakesMore wanted (N.left input.old) (N.given input.old) (N.left input.new) (N.given input.new) self.old self.new }
         ensures more { OnOk result ((self.new.ended ≡ true) ⊎ (length self.old.kept < length self.new.kept)) }
+        ensures nothing { OnErr result (HandsOut (N.left input.old) (N.given input.old) (N.left input.new) (N.given input.new) []) }
         ensures counted { MatchResult result
             (λ _. N.faults input.new ≡ N.faults input.old) (λ _. Rises (N.faults input.old) (N.faults input.new)) }
     {
@@ -119,12 +121,13 @@ impl InputWindow {
         Ok(())
     }
 
-    /// Reads the input until this number of bytes is there, or all that it has.
+    /// Reads the input until this number of bytes is there, or all that it has. Once a read fails, nothing more is read.
     pub(crate) fn fill<N: Source>(&mut self, input: &mut N, wanted: usize) -> Result<(), Failed>
         requires below { length self.old.kept ≤ wanted }
         requires within { wanted ≤ transfer_max }
         ensures takes { TakesMore wanted (N.left input.old) (N.given input.old) (N.left input.new) (N.given input.new) self.old self.new }
         ensures full { OnOk result (IsFull wanted self.new) }
+        ensures stops { OnErr result (IsStopped N.faults N.left N.given input.old input.new) }
         ensures counted { MatchResult result
             (λ _. N.faults input.new ≡ N.faults input.old) (λ _. Rises (N.faults input.old) (N.faults input.new)) }
     {

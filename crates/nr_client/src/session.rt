@@ -1,9 +1,9 @@
 //! A session of a client: requests of a user over one link.
 
-ghost use Rattle.std.specs.Prelude.{◌≡◌, ℕ, [], OnOk, IfOk, IfErr};
+ghost use Rattle.std.specs.Prelude.{◌≡◌, ℕ, [], OnOk, IfOk, IfErr, IfSome};
 ghost use Rattle.nr_nfs_base.specs.declared.attributes.Attributes.{Attributes};
 ghost use Rattle.nr_links.specs.Asked.{Asks as AsksFor};
-ghost use Rattle.nr_links.specs.Links.{CountsLost, EndsLink, HasOpenLink, IsNewLink, MakesLink, ended_link};
+ghost use Rattle.nr_links.specs.Links.{CountsLost, EndsLink, HasOpenLink, IsNewLink, IsTold, MakesLink, ended_link};
 ghost use Rattle.nr_reduce.specs.declared.mark.LinkParameters.{LinkParameters};
 ghost use Rattle.nr_requester.specs.AfterCalls.{opened_as};
 ghost use Rattle.nr_requester.specs.Standing.{RequesterRepresents};
@@ -13,7 +13,7 @@ ghost use Rattle.nr_client.specs.Dialing.{OpenFails, dialer_at, session_credits}
 ghost use Rattle.nr_client.specs.Requests.{Asks, SinkFaults, SourceFaults, create_result, getattr_call, getattr_result, lookup_call, lookup_result, mkdir_call, mnt_call, mnt_result, readlink_call, readlink_result, remove_call, remove_result, symlink_call};
 ghost use Rattle.nr_client.specs.Reading.{InputFaults, OutputFaults, ReadsFile};
 ghost use Rattle.nr_client.specs.Transfers.{link_bytes};
-ghost use Rattle.nr_client.specs.Writing.{WritesFile};
+ghost use Rattle.nr_client.specs.Writing.{StopsAtFault, WritesFile};
 ghost use Rattle.nr_client.specs.Walking.{parent_next, walk_next};
 
 use crate::asking::{ask_nfs, mount_over};
@@ -28,7 +28,7 @@ use crate::requests::{
 };
 use crate::walking::{walk_over, walk_to_parent_over};
 use crate::write_file::write_file_over;
-use nr_links::Dialer;
+use nr_links::{Dialer, LinkNumber, LinkSink, LinkSource, NumberedSink, NumberedSource};
 use nr_nfs_base::{Attributes, Handle, MountPath, Name, Path, WccData};
 use nr_nfs_res::{CreateOk, LookupOk, ReadlinkOk};
 use nr_outside::{Sink, Source};
@@ -56,18 +56,21 @@ impl<I, O> Model for Session<I, O> {
     ghost view = { λ s. record { link = s.link; uid = s.uid; gid = s.gid } };
 }
 
-impl<I: Source, O: Sink> Session<I, O> {
+impl<P: LinkSource, Q: LinkSink, N: LinkNumber> Session<NumberedSource<P, N>, NumberedSink<Q, N>> {
     /// A session of a user over a link to this address. `DialFault` if the dialer failed. If memory runs out, the link is hung up as it was made.
-    pub fn open<D: Dialer<Source = I, Sink = O>>(
+    pub fn open<D: Dialer<Source = P, Sink = Q>>(
         alloc: Global,
         dialer: &mut D,
         addr: &str,
         uid: u32,
         gid: u32,
-    ) -> Result<Session<I, O>, ClientEnd>
+    ) -> Result<Session<NumberedSource<P, N>, NumberedSink<Q, N>>, ClientEnd>
+        requires { D.next dialer.old ≡ N.number }
         ensures asked { OnOk result (AsksFor (D.asked dialer.old) (D.asked dialer.new) addr.now) }
         ensures made { OnOk result (MakesLink (D.ended dialer.old) (D.ended dialer.new)) }
-        ensures fresh { IfOk result (λ s. IsNewLink (I.given s.link.source) (O.taken s.link.sink) (I.faults s.link.source) (O.faults s.link.sink)) }
+        ensures counts { OnOk result (IfSome (D.ended dialer.old) (λ log. log.made ≡ N.number)) }
+        ensures fresh { IfOk result (λ s. IsNewLink (P.given s.link.source.source) (Q.taken s.link.sink.sink) (P.faults s.link.source.source) (Q.faults s.link.sink.sink)) }
+        ensures told { IfOk result (λ s. IsTold (D.ended dialer.new) (P.given s.link.source.source) (P.left s.link.source.source) (Q.taken s.link.sink.sink)) }
         ensures state { IfOk result (λ s. (s.link.requester ≡ opened_as 1 1 session_credits s.link.requester.staging) × ((s.link.read ≡ 0) × ((s.uid ≡ uid) × (s.gid ≡ gid)))) }
         ensures stands { IfOk result (λ s. (opened : LinkParameters) (link : ℕ) → opened.first_xid ≡ 1 → opened.first_stag ≡ 1 → opened.wished ≡ session_credits → RequesterRepresents opened link s.link.requester []) }
         ensures err { IfErr result (λ end. OpenFails end addr.now (dialer_at (D.asked dialer.old) (D.ended dialer.old) (D.lost dialer.old) (D.faults dialer.old))
@@ -79,6 +82,8 @@ impl<I: Source, O: Sink> Session<I, O> {
             Ok(link) => link,
             Err(_) => return Err(ClientEnd::DialFault),
         };
+        let source = NumberedSource::new(source);
+        let sink = NumberedSink::new(sink);
         match Link::open(alloc, source, sink, CREDITS) {
             Ok(link) => Ok(Session {
                 alloc,
@@ -87,18 +92,18 @@ impl<I: Source, O: Sink> Session<I, O> {
                 gid,
             }),
             Err((source, sink)) => {
-                dialer.hang_up(source, sink);
+                dialer.hang_up(source.into_inner(), sink.into_inner());
                 Err(ClientEnd::Memory)
             }
         }
     }
 
     /// Ends the session: its link, which this dialer made, is hung up. It can't fail, and takes no memory.
-    pub fn close<D: Dialer<Source = I, Sink = O>>(self, dialer: &mut D)
+    pub fn close<D: Dialer<Source = P, Sink = Q>>(self, dialer: &mut D)
         requires { HasOpenLink (D.ended dialer.old) }
         ensures ended { EndsLink (D.ended dialer.old) (D.ended dialer.new)
-            (ended_link (I.given self.link.source) (I.left self.link.source) (O.taken self.link.sink)) }
-        ensures lost { CountsLost (I.faults self.link.source) (O.faults self.link.sink) (D.lost dialer.old) (D.lost dialer.new) }
+            (ended_link N.number (P.given self.link.source.source) (P.left self.link.source.source) (Q.taken self.link.sink.sink)) }
+        ensures lost { CountsLost (P.faults self.link.source.source) (Q.faults self.link.sink.sink) (D.lost dialer.old) (D.lost dialer.new) }
         ensures asked { D.asked dialer.new ≡ D.asked dialer.old }
         ensures faults { D.faults dialer.new ≡ D.faults dialer.old }
     {
@@ -109,9 +114,11 @@ impl<I: Source, O: Sink> Session<I, O> {
             gid: _gid,
         } = self;
         let (source, sink) = link.into_link();
-        dialer.hang_up(source, sink);
+        dialer.hang_up(source.into_inner(), sink.into_inner());
     }
+}
 
+impl<I: Source, O: Sink> Session<I, O> {
     /// The file handle of the root of an export (MNT, RFC 1813 section 5.2.1).
     pub fn mount(&mut self, export: &MountPath) -> Result<Handle, ClientEnd>
         ensures asks { Asks mnt_result (mnt_call self.old.uid self.old.gid export.now)
@@ -304,6 +311,8 @@ impl<I: Source, O: Sink> Session<I, O> {
             (link_bytes (I.left self.new.link.source) (I.given self.new.link.source) (O.taken self.new.link.sink) self.new.link.read)
             self.old.link.requester self.new.link.requester (N.left input.old) (N.given input.old) (N.left input.new) (N.given input.new) result }
         ensures input_faults { InputFaults result (N.faults input.old) (N.faults input.new) }
+        // Once a read of the input failed, nothing more is read of it.
+        ensures input_stops { StopsAtFault N.faults N.left N.given result input.old input.new }
         ensures user { (self.new.uid ≡ self.old.uid) × (self.new.gid ≡ self.old.gid) }
         ensures source_faults { SourceFaults result (I.faults self.old.link.source) (I.faults self.new.link.source) }
         ensures sink_faults { SinkFaults result (O.faults self.old.link.sink) (O.faults self.new.link.sink) }

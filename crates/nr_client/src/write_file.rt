@@ -8,7 +8,7 @@ ghost use Rattle.nr_client.specs.Reading.{InputFaults};
 ghost use Rattle.nr_client.specs.Requests.{Asks, SinkFaults, SourceFaults};
 ghost use Rattle.nr_client.specs.Results.{IsOfCall};
 ghost use Rattle.nr_client.specs.Transfers.{link_bytes};
-ghost use Rattle.nr_client.specs.Writing.{WritesFile, create_call, created_file};
+ghost use Rattle.nr_client.specs.Writing.{StopsAtFault, WritesFile, create_call, created_file};
 ghost use Rattle.nr_client.specs.private.FileSteps.{FailsToWrite, StreamsOn, StreamsTo, WritesOn};
 ghost use Rattle.nr_client.specs.private.InputWindows.{IsReadyAt, wanted_at};
 
@@ -99,6 +99,7 @@ fn write_next<I: Source, O: Sink, N: Source>(
         (link_bytes (I.left link.new.source) (I.given link.new.source) (O.taken link.new.sink) link.new.read)
         link.old.requester link.new.requester (N.left input.old) (N.given input.old) (N.left input.new) (N.given input.new) result) }
     ensures input_faults { InputFaults result (N.faults input.old) (N.faults input.new) }
+    ensures input_stops { StopsAtFault N.faults N.left N.given result input.old input.new }
     ensures source_faults { SourceFaults result (I.faults link.old.source) (I.faults link.new.source) }
     ensures sink_faults { SinkFaults result (O.faults link.old.sink) (O.faults link.new.sink) }
 {
@@ -130,6 +131,7 @@ fn write_pieces<I: Source, O: Sink, N: Source>(
         (link_bytes (I.left link.new.source) (I.given link.new.source) (O.taken link.new.sink) link.new.read)
         link.old.requester link.new.requester (N.left input.old) (N.given input.old) (N.left input.new) (N.given input.new) result }
     ensures input_faults { InputFaults result (N.faults input.old) (N.faults input.new) }
+    ensures input_stops { StopsAtFault N.faults N.left N.given result input.old input.new }
     ensures source_faults { SourceFaults result (I.faults link.old.source) (I.faults link.new.source) }
     ensures sink_faults { SinkFaults result (O.faults link.old.sink) (O.faults link.new.sink) }
 {
@@ -190,6 +192,7 @@ fn write_window<I: Source, O: Sink, N: Source>(
         (link_bytes (I.left link.new.source) (I.given link.new.source) (O.taken link.new.sink) link.new.read)
         link.old.requester link.new.requester left given (N.left input.new) (N.given input.new) result }
     ensures input_faults { InputFaults result (N.faults input.old) (N.faults input.new) }
+    ensures input_stops { StopsAtFault N.faults N.left N.given result input.old input.new }
     ensures source_faults { SourceFaults result (I.faults link.old.source) (I.faults link.new.source) }
     ensures sink_faults { SinkFaults result (O.faults link.old.sink) (O.faults link.new.sink) }
 {
@@ -217,6 +220,7 @@ pub(crate) fn write_file_over<I: Source, O: Sink, N: Source>(
         (link_bytes (I.left link.new.source) (I.given link.new.source) (O.taken link.new.sink) link.new.read)
         link.old.requester link.new.requester (N.left input.old) (N.given input.old) (N.left input.new) (N.given input.new) result }
     ensures input_faults { InputFaults result (N.faults input.old) (N.faults input.new) }
+    ensures input_stops { StopsAtFault N.faults N.left N.given result input.old input.new }
     ensures source_faults { SourceFaults result (I.faults link.old.source) (I.faults link.new.source) }
     ensures sink_faults { SinkFaults result (O.faults link.old.sink) (O.faults link.new.sink) }
 {

@@ -7,8 +7,8 @@
 
 use crate::compare::same;
 use crate::pieces::piece;
-use nr_links::{Dialer, LinkPlan, MemAcceptor, MemClock, MemDialer, MemLink};
-use nr_outside::{MemSink, MemSource, Moment, Sink, Source};
+use nr_links::{Dialer, LinkPlan, LinkSink, LinkSource, MemAcceptor, MemClock, MemDialer, MemLink};
+use nr_outside::{MemSink, MemSource, Moment};
 use nr_top::run;
 use std::alloc::Global;
 use std::process::Abort;
@@ -148,7 +148,7 @@ pub(crate) fn source(
 }
 
 /// Runs a client, and gives its status.
-pub(crate) fn run_client<P: Source, Q: Sink, D: Dialer<Source = P, Sink = Q>>(
+pub(crate) fn run_client<P: LinkSource, Q: LinkSink, D: Dialer<Source = P, Sink = Q>>(
     alloc: Global,
     words: &[String],
     input: &mut MemSource,
@@ -199,7 +199,7 @@ fn same_texts(rt: &impl Abort, alloc: Global, row: usize, case: Case, out: &[u8]
 }
 
 /// Runs a client that dials this address, with this input, and compares its status and what it prints and reports.
-pub(crate) fn same_run<P: Source, Q: Sink, D: Dialer<Source = P, Sink = Q>>(
+pub(crate) fn same_run<P: LinkSource, Q: LinkSink, D: Dialer<Source = P, Sink = Q>>(
     rt: &impl Abort,
     alloc: Global,
     row: usize,

@@ -3,11 +3,16 @@
 use crate::compare::same;
 use crate::runs::{dialer, same_sent};
 use nr_client::Session;
-use nr_links::Counted;
+use nr_links::{Counted, NumberedSink, NumberedSource};
 use nr_nfs_base::{Handle, Name};
 use nr_outside::{MemSink, MemSource};
 use std::alloc::Global;
+use std::marker::Brand;
 use std::process::Abort;
+
+/// The first session over a new dialer.
+type FirstSession =
+    Session<NumberedSource<Counted<MemSource>, Brand>, NumberedSink<Counted<MemSink>, Brand>>;
 
 /// LOOKUP of `a` in file 1 is the first call.
 static SENT: &str = "\
@@ -31,7 +36,7 @@ server-hello \
 fn found(
     rt: &impl Abort,
     alloc: Global,
-    session: &mut Session<Counted<MemSource>, Counted<MemSink>>,
+    session: &mut FirstSession,
 ) -> usize {
     let root = Handle::from_slice(alloc, &[0, 0, 0, 0, 0, 0, 0, 1]).expect(rt, "memory");
     let name = Name::from_slice(alloc, b"a").expect(rt, "memory");
@@ -44,7 +49,7 @@ fn found(
 #[test]
 fn a_name_that_is_looked_up(rt: HostRuntime) {
     let mut dial = dialer(&rt, rt.alloc(), RECEIVED, "");
-    let Ok(mut session) = Session::open(rt.alloc(), &mut dial, "here", 0, 0) else {
+    let Ok(mut session) = FirstSession::open(rt.alloc(), &mut dial, "here", 0, 0) else {
         panic!(rt; "no session")
     };
     let len = found(&rt, rt.alloc(), &mut session);

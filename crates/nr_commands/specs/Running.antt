@@ -1,8 +1,8 @@
 -- A command of a client, from its words to its end.
-use Rattle.std.specs.Prelude.{◌≡◌, ℕ, List, [], Result, Ok, Err}
+use Rattle.std.specs.Prelude.{◌≡◌, ℕ, List, [], IfSome, Result, Ok, Err}
 use Rattle.nr_outside.specs.Streams.{SinkAt, SourceAt, Writes, WritesSome}
 use Rattle.nr_links.specs.Asked.{Asks as AsksFor}
-use Rattle.nr_links.specs.Links.{CountsLost, EndsLink, IsNewLink, MakesLink, ended_link}
+use Rattle.nr_links.specs.Links.{CountsLost, EndsLink, IsNewLink, IsTold, MakesLink, ended_link}
 use Rattle.nr_reduce.specs.declared.mark.LinkParameters.{LinkParameters}
 use Rattle.nr_requester.specs.AfterCalls.{opened_as}
 use Rattle.nr_requester.specs.Standing.{RequesterRepresents}
@@ -16,10 +16,13 @@ use Rattle.nr_client.specs.Dialing.{DialerAt, OpenFails, session_credits}
 use Rattle.nr_commands.specs.Commands.{Gets, Lists, MakesDirectory, MakesSymlink, MountsAndPrints, Puts, ReadsLink, Removes, Stats}
 use Rattle.nr_commands.specs.Sessions.{Part, SessionAt}
 
--- A session was opened over a new link to this address. Its requester has made no marks.
+-- A session was opened over a new link to this address, of this number. Its requester has made no marks.
 pub record Opens (addr : List ℕ) (before after : DialerAt) (s : SessionAt) : Type 0 where
   pub asks : AsksFor before.asked after.asked addr
   pub makes : MakesLink before.ended after.ended
+  pub number : ℕ
+  pub counts : IfSome before.ended (λ log. log.made ≡ number)
+  pub told : IsTold after.ended s.bytes.given s.bytes.left s.bytes.taken
   pub fresh : IsNewLink s.bytes.given s.bytes.taken s.source_faults s.sink_faults
   pub nothing_read : s.bytes.read ≡ 0
   pub requester : s.requester ≡ opened_as 1 1 session_credits s.requester.staging
@@ -27,9 +30,9 @@ pub record Opens (addr : List ℕ) (before after : DialerAt) (s : SessionAt) : T
   pub none_lost : after.lost ≡ before.lost
   pub unfailing : after.faults ≡ before.faults
 
--- It was closed: its link was hung up.
-pub record Closes (s : SessionAt) (before after : DialerAt) : Type 0 where
-  pub ends : EndsLink before.ended after.ended (ended_link s.bytes.given s.bytes.left s.bytes.taken)
+-- It was closed: its link, of this number, was hung up.
+pub record Closes (number : ℕ) (s : SessionAt) (before after : DialerAt) : Type 0 where
+  pub ends : EndsLink before.ended after.ended (ended_link number s.bytes.given s.bytes.left s.bytes.taken)
   pub lost : CountsLost s.source_faults s.sink_faults before.lost after.lost
   pub asked : after.asked ≡ before.asked
   pub unfailing : after.faults ≡ before.faults
@@ -64,5 +67,5 @@ pub record Prints (c : Client Text) (s s' : SessionAt) (input input' : SourceAt)
 -- A command was done, up to its result: no session was opened; or one was, its requests were made, and it was closed.
 pub data Runs (c : Client Text) (before after : DialerAt) (input input' : SourceAt) (out out' : SinkAt) (result : Result (Unit {0}) ClientEnd) : Type 0 where
   NotOpened : (end : ClientEnd) → result ≡ Err end → OpenFails end c.addr before after → input' ≡ input → out' ≡ out → Runs c before after input input' out out' result
-  Opened : (dialed : DialerAt) → (s s' : SessionAt) → Opens c.addr before dialed s → Prints c s s' input input' out out' result → Closes s' dialed after →
+  Opened : (dialed : DialerAt) → (s s' : SessionAt) → (opens : Opens c.addr before dialed s) → Prints c s s' input input' out out' result → Closes opens.number s' dialed after →
       Runs c before after input input' out out' result

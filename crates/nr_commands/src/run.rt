@@ -1,5 +1,6 @@
 //! A command, from its words to its end.
 
+ghost use Rattle.std.specs.Prelude.{◌≡◌};
 ghost use Rattle.nr_outside.specs.Streams.{sink_at, source_at};
 ghost use Rattle.nr_words.specs.Lines.{plain_action, plain_client};
 ghost use Rattle.nr_client.specs.Dialing.{dialer_at};
@@ -11,11 +12,12 @@ use crate::texts::{
     list_text, make_directory, make_link, mount_text, read_link_text, remove, stat_text,
 };
 use nr_client::{ClientEnd, Session};
-use nr_links::Dialer;
+use nr_links::{Dialer, LinkNumber, LinkSink, LinkSource, NumberedSink, NumberedSource};
 use nr_outside::{Sink, Source, write_whole};
 use nr_words::{Action, Client};
 use nr_xdr::Octets;
 use std::alloc::Global;
+use std::marker::Brand;
 
 /// Makes the requests of a command, and gives the text that it prints.
 fn text_of<P: Source, Q: Sink, N: Source, K: Sink>(
@@ -59,26 +61,29 @@ fn print<O: Sink>(out: &mut O, text: Result<Octets, ClientEnd>) -> Result<(), Cl
     }
 }
 
-/// Runs a command of a client: opens a session, makes the requests of the command, closes the session, and prints its text. Without a result
-/// no text is printed. `put` takes the bytes of the file from `input`; `get` writes those that came to `out` as they come.
-///
-/// # Errors
-///
-/// [`ClientEnd`] says why the command was not done; `InputFault` if a read of `input` failed, `OutputFault` if a write to `out` did.
-pub fn run_command<P: Source, Q: Sink, D: Dialer<Source = P, Sink = Q>, N: Source, K: Sink>(
+/// Runs a command of a client over the next link of a dialer, whose number this is.
+fn run_at<N: LinkNumber, P: LinkSource, Q: LinkSink, D: Dialer<Source = P, Sink = Q>, I: Source, K: Sink>(
     alloc: Global,
     client: &Client<&str>,
     dial: &mut D,
-    input: &mut N,
+    input: &mut I,
     out: &mut K,
 ) -> Result<(), ClientEnd>
+    requires { D.next dial.old ≡ N.number }
     ensures { Runs (plain_client client.now)
         (dialer_at (D.asked dial.old) (D.ended dial.old) (D.lost dial.old) (D.faults dial.old))
         (dialer_at (D.asked dial.new) (D.ended dial.new) (D.lost dial.new) (D.faults dial.new))
-        (source_at (N.left input.old) (N.given input.old) (N.faults input.old)) (source_at (N.left input.new) (N.given input.new) (N.faults input.new))
+        (source_at (I.left input.old) (I.given input.old) (I.faults input.old)) (source_at (I.left input.new) (I.given input.new) (I.faults input.new))
         (sink_at (K.taken out.old) (K.faults out.old)) (sink_at (K.taken out.new) (K.faults out.new)) result }
 {
-    let mut session = match Session::open(alloc, dial, client.addr, client.uid, client.gid) {
+    let opened = Session::<NumberedSource<P, N>, NumberedSink<Q, N>>::open(
+        alloc,
+        dial,
+        client.addr,
+        client.uid,
+        client.gid,
+    );
+    let mut session = match opened {
         Ok(session) => session,
         Err(end) => return Err(end),
     };
@@ -92,4 +97,26 @@ pub fn run_command<P: Source, Q: Sink, D: Dialer<Source = P, Sink = Q>, N: Sourc
     );
     session.close(dial);
     print(out, text)
+}
+
+/// Runs a command of a client: opens a session, makes the requests of the command, closes the session, and prints its text. Without a result
+/// no text is printed. `put` takes the bytes of the file from `input`; `get` writes those that came to `out` as they come.
+///
+/// # Errors
+///
+/// [`ClientEnd`] says why the command was not done; `InputFault` if a read of `input` failed, `OutputFault` if a write to `out` did.
+pub fn run_command<P: LinkSource, Q: LinkSink, D: Dialer<Source = P, Sink = Q>, N: Source, K: Sink>(
+    alloc: Global,
+    client: &Client<&str>,
+    dial: &mut D,
+    input: &mut N,
+    out: &mut K,
+) -> Result<(), ClientEnd>
+    ensures { Runs (plain_client client.now)
+        (dialer_at (D.asked dial.old) (D.ended dial.old) (D.lost dial.old) (D.faults dial.old))
+        (dialer_at (D.asked dial.new) (D.ended dial.new) (D.lost dial.new) (D.faults dial.new))
+        (source_at (N.left input.old) (N.given input.old) (N.faults input.old)) (source_at (N.left input.new) (N.given input.new) (N.faults input.new))
+        (sink_at (K.taken out.old) (K.faults out.old)) (sink_at (K.taken out.new) (K.faults out.new)) result }
+{
+    run_at::<Brand, P, Q, D, N, K>(alloc, client, dial, input, out)
 }

@@ -18,6 +18,9 @@ use std::process::Abort;
 /// More bytes than a test feeds.
 const MANY: usize = 1 << 32;
 
+/// The most bytes of a reply.
+const REPLY_MAX: usize = 65536;
+
 /// A client end and a server end, and how many bytes each was fed at most.
 #[derive(Drop)]
 pub struct TestLink {
@@ -300,6 +303,7 @@ impl TestLink {
     pub fn answer(&mut self, rt: &impl Abort, alloc: Global, reply: &[u8]) -> (Vec<u8>, Sent)
         ensures { self.new ≡ self.old }
     {
+        check(rt, reply.len() <= REPLY_MAX);
         let Some(call) = self.server.next_ready() else {
             panic!(rt; "no call is ready");
         };

@@ -13,45 +13,48 @@ use Rattle.nr_reduce.specs.declared.mark.LinkParameters.{LinkParameters}
 use Rattle.nr_reduce.specs.History.{bytes_received, bytes_sent}
 use Rattle.nr_responder.specs.ResponderState.{ResponderSide, end_of, opened_side, queue}
 use Rattle.nr_responder.specs.Standing.{ResponderRepresents}
-use Rattle.nr_plain.specs.History.{Answered, Known, Over}
+use Rattle.nr_plain.specs.History.{Answered, PassView, Over}
 use Rattle.nr_plain.proofs.PassCalls.{over_none}
 use Rattle.nr_host.specs.declared.conn_end.ConnEnd.{ConnEnd}
 use Rattle.nr_host.specs.declared.conn_end.ConnEnd.TheVariants as ends
 use Rattle.nr_host.specs.Connections.{Terms, Outside, Runs, SinkState, GivesAll, answers_of, moments}
 use Rattle.nr_links.specs.Limits.{read_max}
-use Rattle.nr_host.specs.Ending.{AheadAt, FailedAt, IsCause, MoreAt, ReadAt}
+use Rattle.nr_host.specs.Ending.{AheadAt, FailedAt, HasRead, IsCause, MoreAt, ReadAt}
 use Rattle.nr_host.specs.Steps.{AllQuiet, CarriesTo, EndsIdle, FeedEnds, FeedsTo, IsLive, IsServed, outside, sink_state}
 use Rattle.nr_host.proofs.Idle.{facts}
 use Rattle.nr_host.proofs.Marks.{read_more}
 use Rattle.nr_host.proofs.Quiet.{quiet}
 
-module _ (credits : ℕ) (before : Outside) (left given left' given' : Option (List ℕ)) (sink : SinkState) (gave : Option (List Moment)) (known : Known) (v : ResponderSide) (read : ℕ)
-    (piece : List ℕ) (carries : CarriesTo credits before (outside left given sink gave known) v read) (hands : HandsOut left given left' given' piece) where
+module _ (credits : ℕ) (before : Outside) (left given left' given' : Option (List ℕ)) (sink : SinkState) (gave : Option (List Moment)) (view : PassView) (v : ResponderSide) (read : ℕ)
+    (piece : List ℕ) (carries : CarriesTo credits before (outside left given sink gave view) v read) (hands : HandsOut left given left' given' piece) where
   abbrev terms : Terms
   terms = record { credits = credits; read = read + length piece }
 
-  waits : (link : ℕ) (run : List Mark) → IsLive (record { credits = credits; read = read }) link before (outside left given sink gave known) [] run v
-      → IsLive terms link before (outside left' given' sink gave known) (piece ++ []) run v
+  waits : (link : ℕ) (run : List Mark) → IsLive (record { credits = credits; read = read }) link before (outside left given sink gave view) [] run v
+      → IsLive terms link before (outside left' given' sink gave view) (piece ++ []) run v
   waits link run live = record {
-    runs = subst (λ (bytes : List ℕ). Runs terms link before (outside left' given' sink gave known) bytes [] run) (sym (append-nil piece))
-        (read_more (record { credits = credits; read = read }) link before left given left' given' sink gave known piece run live.runs hands);
+    runs = subst (λ (bytes : List ℕ). Runs terms link before (outside left' given' sink gave view) bytes [] run) (sym (append-nil piece))
+        (read_more (record { credits = credits; read = read }) link before left given left' given' sink gave view piece run live.runs hands);
     stands = live.stands;
   }
 
   -- a piece is read and fed
-  pub carry_on : (sink' : SinkState) (gave' : Option (List Moment)) (known' : Known) (v' : ResponderSide)
-      → FeedsTo piece [] sink sink' gave gave' known known' v v' → CarriesTo credits before (outside left' given' sink' gave' known') v' (read + length piece)
-  carry_on sink' gave' known' v' feeds link =
+  pub carry_on : (sink' : SinkState) (gave' : Option (List Moment)) (view' : PassView) (v' : ResponderSide)
+      → FeedsTo piece [] sink sink' gave gave' view view' v v' → CarriesTo credits before (outside left' given' sink' gave' view') v' (read + length piece)
+  carry_on sink' gave' view' v' feeds link =
       let (run, (live, quiet)) = carries link in
       feeds terms link before left' given' [] run (waits link run live) quiet
 
   -- the connection ends within the piece
-  pub carry_ends : (end : ConnEnd) (taken' : Option (List ℕ)) (faults' : ℕ) (failed : Bool) (gave' : Option (List Moment)) (known' : Known)
-      → read + length piece ≤ read_max → FeedEnds end piece sink (sink_state taken' faults' failed) gave gave' known known' v
-      → IsServed credits before (outside left' given' (sink_state taken' faults' false) gave' known') end
-  carry_ends end taken' faults' failed gave' known' most feeds link =
+  pub carry_ends : (end : ConnEnd) (taken' : Option (List ℕ)) (faults' : ℕ) (failed : Bool) (gave' : Option (List Moment)) (view' : PassView)
+      → HasRead (read + length piece) → FeedEnds end piece sink (sink_state taken' faults' failed) gave gave' view view' v
+      → IsServed credits before (outside left' given' (sink_state taken' faults' false) gave' view') end
+  carry_ends end taken' faults' failed gave' view' most feeds link =
       let (run, (live, quiet)) = carries link in
       (read + length piece, (failed, feeds terms link before left' given' run most (waits link run live) quiet))
+
+pub has_read : (read : ℕ) → 0 < read → read ≤ read_max → HasRead read
+has_read read some most = (some, most)
 
 -- nothing more is read, and the connection ends
 pub carried : (credits : ℕ) (before now : Outside) (v : ResponderSide) (read : ℕ) (end : ConnEnd) → CarriesTo credits before now v read → AheadAt end [] → MoreAt end []
@@ -80,11 +83,11 @@ carried credits before now v read end carries ahead more most failed cause link 
     )
 
 -- a read that handed out nothing
-pub nothing_read : (credits : ℕ) (before : Outside) (left given left' given' : Option (List ℕ)) (sink : SinkState) (gave : Option (List Moment)) (known : Known) (v : ResponderSide) (read : ℕ)
-    → CarriesTo credits before (outside left given sink gave known) v read → HandsOut left given left' given' [] → CarriesTo credits before (outside left' given' sink gave known) v (read + 0)
-nothing_read credits before left given left' given' sink gave known v read carries hands link =
+pub nothing_read : (credits : ℕ) (before : Outside) (left given left' given' : Option (List ℕ)) (sink : SinkState) (gave : Option (List Moment)) (view : PassView) (v : ResponderSide) (read : ℕ)
+    → CarriesTo credits before (outside left given sink gave view) v read → HandsOut left given left' given' [] → CarriesTo credits before (outside left' given' sink gave view) v (read + 0)
+nothing_read credits before left given left' given' sink gave view v read carries hands link =
     let (run, (live, quiet)) = carries link in
-    (run, (waits credits before left given left' given' sink gave known v read [] carries hands link run live, quiet))
+    (run, (waits credits before left given left' given' sink gave view v read [] carries hands link run live, quiet))
 
 -- the read failed
 pub read_fails : (credits : ℕ) (before now : Outside) (v : ResponderSide) (read : ℕ) → CarriesTo credits before now v read → end_of v ≡ None → read < read_max → now.sink.failed ≡ false
@@ -108,7 +111,7 @@ read_enough credits before now v read carries live most failed =
     (λ opened link run stands quiet granted count. ((facts opened link run v stands live (quiet opened granted)).idle, (most, count ∙ most)))
 
 -- a write failed while the piece was fed
-pub write_failed : (credits : ℕ) (before now : Outside) (v : ResponderSide) (read : ℕ) → CarriesTo credits before now v read → read ≤ read_max → now.sink.failed ≡ true
+pub write_failed : (credits : ℕ) (before now : Outside) (v : ResponderSide) (read : ℕ) → CarriesTo credits before now v read → HasRead read → now.sink.failed ≡ true
     → IsServed credits before now ends.LinkWrite
 write_failed credits before now v read carries most failed =
     carried credits before now v read ends.LinkWrite carries refl refl most failed (λ opened link run stands quiet granted count. quiet opened granted)
@@ -133,12 +136,12 @@ unfolding answers_of
 answers_none = refl
 
 -- a connection at its first byte
-abbrev pub first_outside : (left given taken : Option (List ℕ)) (faults : ℕ) (gave : Option (List Moment)) (known : Known) → Outside
-first_outside left given taken faults gave known = outside left given (sink_state taken faults false) gave known
+abbrev pub first_outside : (left given taken : Option (List ℕ)) (faults : ℕ) (gave : Option (List Moment)) (view : PassView) → Outside
+first_outside left given taken faults gave view = outside left given (sink_state taken faults false) gave view
 
-module _ (left given taken : Option (List ℕ)) (faults : ℕ) (gave : Option (List Moment)) (known : Known) where
+module _ (left given taken : Option (List ℕ)) (faults : ℕ) (gave : Option (List Moment)) (view : PassView) where
   abbrev first : Outside
-  first = first_outside left given taken faults gave known
+  first = first_outside left given taken faults gave view
 
   begins : (credits link : ℕ) → Runs (record { credits = credits; read = 0 }) link first first [] [] []
   begins credits link = record {
@@ -148,7 +151,7 @@ module _ (left given taken : Option (List ℕ)) (faults : ℕ) (gave : Option (L
     served = λ opened granted. tt;
     quiet = λ opened granted. tt;
     frames = λ opened granted. tt;
-    over = subst (λ (calls : List Answered). Over known calls known) (sym answers_none) (over_none known);
+    over = subst (λ (calls : List Answered). Over view calls view) (sym answers_none) (over_none view);
     gave = gives_none gave;
     count = ap (λ (bytes : List ℕ). length bytes + 0) (received_none link);
   }

@@ -12,7 +12,7 @@ use Rattle.nr_responder.specs.Draining.{Drains}
 use Rattle.nr_responder.specs.ResponderState.{ResponderSide, end_of, may_write, queue}
 use Rattle.nr_responder.specs.Standing.{ResponderRepresents}
 use Rattle.nr_responder.proofs.Marks.{ended_stands}
-use Rattle.nr_plain.specs.History.{Known}
+use Rattle.nr_plain.specs.History.{PassView}
 use Rattle.nr_link.specs.declared.end.End.{End}
 use Rattle.nr_link.specs.declared.end.End.TheVariants as link_ends
 use Rattle.nr_host.specs.declared.conn_end.ConnEnd.TheVariants as ends
@@ -22,12 +22,12 @@ use Rattle.nr_host.proofs.Marks.{fed, wrote}
 use Rattle.nr_host.proofs.Sinks.{TakesMore, takes_all, takes_first, takes_none}
 use Rattle.nr_host.proofs.Quiet.{drained_due, drained_none, ended_quiet, ended_server, quiet}
 
-pub drained : (terms : Terms) (link : ℕ) (before : Outside) (left given : Option (List ℕ)) (sink sink' : SinkState) (gave : Option (List Moment)) (known : Known)
+pub drained : (terms : Terms) (link : ℕ) (before : Outside) (left given : Option (List ℕ)) (sink sink' : SinkState) (gave : Option (List Moment)) (view : PassView)
     (ahead : List ℕ) (run : List Mark) (v v' : ResponderSide) (t t' : Option (List ℕ)) (n : ℕ) → Drains v v' t t' n → TakesMore sink sink' (take n (may_write v))
-    → IsLive terms link before (outside left given sink gave known) ahead run v
-    → IsLive terms link before (outside left given sink' gave known) ahead (run ++ marks.Wrote link Responder (take n (may_write v)) ∷ []) v'
-drained terms link before left given sink sink' gave known ahead run v v' t t' n d more live = record {
-  runs = wrote terms link before left given sink sink' gave known (take n (may_write v)) ahead run live.runs more
+    → IsLive terms link before (outside left given sink gave view) ahead run v
+    → IsLive terms link before (outside left given sink' gave view) ahead (run ++ marks.Wrote link Responder (take n (may_write v)) ∷ []) v'
+drained terms link before left given sink sink' gave view ahead run v v' t t' n d more live = record {
+  runs = wrote terms link before left given sink sink' gave view (take n (may_write v)) ahead run live.runs more
       (λ opened granted. drained_due opened link run v n (live.stands opened granted));
   stands = λ opened granted. d.stands opened link run (live.stands opened granted);
 }
@@ -35,10 +35,10 @@ drained terms link before left given sink sink' gave known ahead run v v' t t' n
 -- one drain of all that may be written
 pub writes_once : (sink sink' : SinkState) (v v' : ResponderSide) (t t' : Option (List ℕ)) (n : ℕ) → Drains v v' t t' n → n ≡ length (may_write v)
     → TakesMore sink sink' (take n (may_write v)) → WritesAll sink sink' v v'
-writes_once sink sink' v v' t t' n d all more terms link before left given gave known ahead run live = (
+writes_once sink sink' v v' t t' n d all more terms link before left given gave view ahead run live = (
   run ++ marks.Wrote link Responder (take n (may_write v)) ∷ [],
   (
-    drained terms link before left given sink sink' gave known ahead run v v' t t' n d more live,
+    drained terms link before left given sink sink' gave view ahead run v v' t t' n d more live,
     λ opened granted other. ap queue d.state ∙ drained_none opened link run v n (live.stands opened granted) other all,
   ),
 )
@@ -46,9 +46,9 @@ writes_once sink sink' v v' t t' n d all more terms link before left given gave 
 -- after one that failed
 pub writes_twice : (sink mid sink' : SinkState) (v v1 v' : ResponderSide) (t t' : Option (List ℕ)) (n : ℕ) → Drains v v1 t t' n → TakesMore sink mid (take n (may_write v))
     → WritesAll mid sink' v1 v' → WritesAll sink sink' v v'
-writes_twice sink mid sink' v v1 v' t t' n d more rest terms link before left given gave known ahead run live =
-    let live1 = drained terms link before left given sink mid gave known ahead run v v1 t t' n d more live in
-    let (run', (live', none)) = rest terms link before left given gave known ahead (run ++ marks.Wrote link Responder (take n (may_write v)) ∷ []) live1 in
+writes_twice sink mid sink' v v1 v' t t' n d more rest terms link before left given gave view ahead run live =
+    let live1 = drained terms link before left given sink mid gave view ahead run v v1 t t' n d more live in
+    let (run', (live', none)) = rest terms link before left given gave view ahead (run ++ marks.Wrote link Responder (take n (may_write v)) ∷ []) live1 in
     (run', (live', λ opened granted other. none opened granted (λ e. other (sym (ap end_of d.state) ∙ e))))
 
 -- ---- By what the function that drains knows
@@ -74,12 +74,12 @@ module _ (failed : Bool) (taken taken' : Option (List ℕ)) (faults faults' : �
       (writes_once (sink_state taken' faults' true) (sink_state taken' faults' true) v1 v' None None m dropped all (takes_none taken' faults' (take m (may_write v1)))))
 
 -- all calls that were ready are executed, and all that is due is written
-pub quietly : (sink sink' : SinkState) (gave gave' : Option (List Moment)) (known known' : Known) (v v' v'' : ResponderSide)
-    → GoesOn gave gave' known known' v v' → end_of v' ≡ None → v'.ready ≡ [] → WritesAll sink sink' v' v'' → end_of v'' ≡ end_of v' → v''.ready ≡ v'.ready
-    → GoesQuietly sink sink' gave gave' known known' v v''
-quietly sink sink' gave gave' known known' v v' v'' goes on idle writes same ready terms link before left given ahead run live =
+pub quietly : (sink sink' : SinkState) (gave gave' : Option (List Moment)) (view view' : PassView) (v v' v'' : ResponderSide)
+    → GoesOn gave gave' view view' v v' → end_of v' ≡ None → v'.ready ≡ [] → WritesAll sink sink' v' v'' → end_of v'' ≡ end_of v' → v''.ready ≡ v'.ready
+    → GoesQuietly sink sink' gave gave' view view' v v''
+quietly sink sink' gave gave' view view' v v' v'' goes on idle writes same ready terms link before left given ahead run live =
     let (run', live') = goes terms link before left given sink ahead run live in
-    let (run'', (live'', none)) = writes terms link before left given gave' known' ahead run' live' in (
+    let (run'', (live'', none)) = writes terms link before left given gave' view' ahead run' live' in (
       run'',
       (
         live'',
@@ -92,16 +92,16 @@ quietly sink sink' gave gave' known known' v v' v'' goes on idle writes same rea
 -- ---- Ends
 
 -- memory ran out while calls were executed
-pub out_ends : (sink : SinkState) (gave gave' : Option (List Moment)) (known known' : Known) (v : ResponderSide)
-    → RunsOut gave gave' known known' v → EndsWith ends.Memory sink sink gave gave' known known' v
-out_ends sink gave gave' known known' v out terms link before left given ahead run most live =
+pub out_ends : (sink : SinkState) (gave gave' : Option (List Moment)) (view view' : PassView) (v : ResponderSide)
+    → RunsOut gave gave' view view' v → EndsWith ends.Memory sink sink gave gave' view view' v
+out_ends sink gave gave' view view' v out terms link before left given ahead run most live =
     let (run', more, few, runs) = out terms link before left given sink ahead run live in
-    record { run = run'; ahead = ahead; more = more; runs = runs; ahead_is = tt; more_is = few; read_is = most; failed_is = tt; cause = λ opened granted. tt }
+    record { run = run'; ahead = ahead; more = more; runs = runs; ahead_is = tt; more_is = few; read_is = most.1; failed_is = tt; cause = λ opened granted. tt }
 
 -- a side that ran out of memory is drained
 pub stop_memory : (sink sink' : SinkState) (v v' : ResponderSide) → WritesAll sink sink' v v' → EndsAt ends.Memory sink sink' v
-stop_memory sink sink' v v' writes terms link before left given gave known ahead run most live =
-    let (run', (live', none)) = writes terms link before left given gave known ahead run live in
+stop_memory sink sink' v v' writes terms link before left given gave view ahead run most live =
+    let (run', (live', none)) = writes terms link before left given gave view ahead run live in
     record {
       run = run';
       ahead = ahead;
@@ -109,7 +109,7 @@ stop_memory sink sink' v v' writes terms link before left given gave known ahead
       runs = live'.runs;
       ahead_is = tt;
       more_is = (let none : 0 ≤ 1 = omega arith in none);
-      read_is = most;
+      read_is = most.1;
       failed_is = tt;
       cause = λ opened granted. tt;
     }
@@ -122,10 +122,10 @@ record Stopped (terms : Terms) (link : ℕ) (before now : Outside) (end : End) :
   pub ended : (opened : LinkParameters) → opened.granted ≡ terms.credits → (server opened link run).ended ≡ Some end
 
 stopped : (sink sink' : SinkState) (v v' : ResponderSide) (end : End) → WritesAll sink sink' v v' → end_of v ≡ Some end → end_of v' ≡ end_of v → (end ≡ link_ends.Memory → ⊥)
-    → (terms : Terms) (link : ℕ) (before : Outside) (left given : Option (List ℕ)) (gave : Option (List Moment)) (known : Known) (ahead : List ℕ) (run : List Mark)
-    → IsLive terms link before (outside left given sink gave known) ahead run v → Stopped terms link before (outside left given sink' gave known) end
-stopped sink sink' v v' end writes why same other terms link before left given gave known ahead run live =
-    let (run', (live', none)) = writes terms link before left given gave known ahead run live in
+    → (terms : Terms) (link : ℕ) (before : Outside) (left given : Option (List ℕ)) (gave : Option (List Moment)) (view : PassView) (ahead : List ℕ) (run : List Mark)
+    → IsLive terms link before (outside left given sink gave view) ahead run v → Stopped terms link before (outside left given sink' gave view) end
+stopped sink sink' v v' end writes why same other terms link before left given gave view ahead run live =
+    let (run', (live', none)) = writes terms link before left given gave view ahead run live in
     let over : end_of v' ≡ Some end = same ∙ why in
     let not_out : end_of v ≡ Some link_ends.Memory → ⊥ = λ e. other (same_Some end link_ends.Memory (sym why ∙ e)) in
     let some : is_some (end_of v') ≡ true = ap (λ (o : Option End). is_some o) over in
@@ -134,8 +134,8 @@ stopped sink sink' v v' end writes why same other terms link before left given g
     λ opened granted. ended_stands opened link run' v' ahead some (live'.stands opened granted) in
     record {
       run = last;
-      runs = fed terms link before (outside left given sink' gave known) ahead [] run'
-          (subst (λ (bytes : List ℕ). Runs terms link before (outside left given sink' gave known) bytes [] run') (sym (append-nil ahead)) live'.runs)
+      runs = fed terms link before (outside left given sink' gave view) ahead [] run'
+          (subst (λ (bytes : List ℕ). Runs terms link before (outside left given sink' gave view) bytes [] run') (sym (append-nil ahead)) live'.runs)
           (λ opened granted. ended_quiet opened link run' v' end (live'.stands opened granted) over other (none opened granted not_out))
           (λ opened granted. inr (ap (λ (o : Option End). is_some o) (ended_server opened link run' v' end (live'.stands opened granted) over other)));
       quiet = λ opened granted. ended_quiet opened link last v' end (stands opened granted) over other (none opened granted not_out);
@@ -144,14 +144,14 @@ stopped sink sink' v v' end writes why same other terms link before left given g
 
 pub stop_write : (sink sink' : SinkState) (v v' : ResponderSide) (end : End) → WritesAll sink sink' v v' → end_of v ≡ Some end → end_of v' ≡ end_of v → (end ≡ link_ends.Memory → ⊥)
     → sink'.failed ≡ true → EndsAt ends.LinkWrite sink sink' v
-stop_write sink sink' v v' end writes why same other failed terms link before left given gave known ahead run most live =
-    let s = stopped sink sink' v v' end writes why same other terms link before left given gave known ahead run live in
+stop_write sink sink' v v' end writes why same other failed terms link before left given gave view ahead run most live =
+    let s = stopped sink sink' v v' end writes why same other terms link before left given gave view ahead run live in
     record { run = s.run; ahead = []; more = []; runs = s.runs; ahead_is = refl; more_is = refl; read_is = most; failed_is = failed; cause = s.quiet }
 
 pub stop_protocol : (sink sink' : SinkState) (v v' : ResponderSide) (end : End) → WritesAll sink sink' v v' → end_of v ≡ Some end → end_of v' ≡ end_of v → (end ≡ link_ends.Memory → ⊥)
     → sink'.failed ≡ false → EndsAt (ends.Protocol end) sink sink' v
-stop_protocol sink sink' v v' end writes why same other failed terms link before left given gave known ahead run most live =
-    let s = stopped sink sink' v v' end writes why same other terms link before left given gave known ahead run live in
+stop_protocol sink sink' v v' end writes why same other failed terms link before left given gave view ahead run most live =
+    let s = stopped sink sink' v v' end writes why same other terms link before left given gave view ahead run live in
     record {
       run = s.run;
       ahead = [];

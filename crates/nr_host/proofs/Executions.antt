@@ -12,7 +12,7 @@ use Rattle.nr_responder.specs.Answering.{Answers, answer_to, message_for}
 use Rattle.nr_responder.specs.ResponderState.{ResponderSide, end_of}
 use Rattle.nr_responder.specs.Standing.{ResponderRepresents}
 use Rattle.nr_responder.proofs.Answered.{answer_link}
-use Rattle.nr_plain.specs.History.{Known, Executes, Finds}
+use Rattle.nr_plain.specs.History.{PassView, Executes, OnlyOthersAdded}
 use Rattle.nr_host.specs.Connections.{Terms, Outside, Runs, SinkState}
 use Rattle.nr_host.specs.Steps.{IsLive, GoesOn, RunsOut, outside}
 use Rattle.nr_host.proofs.Marks.{executed, given_alone}
@@ -25,38 +25,38 @@ live_answered v v' xid reply sent a live =
     ∙ live
 
 -- what an executed call makes of the marks, if its reply is handed on as it is
-pub runs_on : (terms : Terms) (link : ℕ) (before : Outside) (left given : Option (List ℕ)) (sink : SinkState) (gave gave' : Option (List Moment)) (known known' : Known)
-    (ahead : List ℕ) (run : List Mark) (v : ResponderSide) (xid place : ℕ) (moment : Moment) (payload reply sent : List ℕ) → sent ≡ reply
-    → IsLive terms link before (outside left given sink gave known) ahead run v
+pub runs_on : (terms : Terms) (link : ℕ) (before : Outside) (left given : Option (List ℕ)) (sink : SinkState) (gave gave' : Option (List Moment)) (view view' : PassView)
+    (ahead : List ℕ) (run : List Mark) (v : ResponderSide) (client xid place : ℕ) (moment : Moment) (payload reply sent : List ℕ) → sent ≡ reply
+    → IsLive terms link before (outside left given sink gave view) ahead run v
     → ((opened : LinkParameters) (l : ℕ) (r : List Mark) → ResponderRepresents opened l r v → IsExecuted opened l r xid payload)
     → Gives gave gave' moment
-    → Executes known known' moment payload reply place
-    → Runs terms link before (outside left given sink gave' known') ahead [] (run ++ marks.Execute link xid moment payload place sent ∷ [])
-runs_on terms link before left given sink gave gave' known known' ahead run v xid place moment payload reply sent same live exact gives done =
-    subst (λ (bytes : List ℕ). Runs terms link before (outside left given sink gave' known') ahead [] (run ++ marks.Execute link xid moment payload place bytes ∷ []))
+    → Executes view view' client moment payload reply place
+    → Runs terms link before (outside left given sink gave' view') ahead [] (run ++ marks.Execute link xid moment payload place sent ∷ [])
+runs_on terms link before left given sink gave gave' view view' ahead run v client xid place moment payload reply sent same live exact gives done =
+    subst (λ (bytes : List ℕ). Runs terms link before (outside left given sink gave' view') ahead [] (run ++ marks.Execute link xid moment payload place bytes ∷ []))
     (sym same)
-    (executed terms link before left given sink gave gave' known known' ahead run xid place moment payload reply live.runs
+    (executed terms link before left given sink gave gave' view view' ahead run client xid place moment payload reply live.runs
     (λ opened granted. exact opened link run (live.stands opened granted)) gives done)
 
 -- memory ran out before the call was executed
-pub out_before : (gave gave' : Option (List Moment)) (known known' : Known) (v : ResponderSide) (moment : Moment) → Gives gave gave' moment → Finds known known'
-    → RunsOut gave gave' known known' v
-out_before gave gave' known known' v moment gives finds terms link before left given sink ahead run live = (
+pub out_before : (gave gave' : Option (List Moment)) (view view' : PassView) (v : ResponderSide) (moment : Moment) → Gives gave gave' moment → OnlyOthersAdded view view'
+    → RunsOut gave gave' view view' v
+out_before gave gave' view view' v moment gives added terms link before left given sink ahead run live = (
   run,
   moment ∷ [],
   (let one : length (moment ∷ []) ≤ 1 = omega arith in one),
-  given_alone terms link before left given sink gave gave' known known' ahead run moment live.runs gives finds,
+  given_alone terms link before left given sink gave gave' view view' ahead run moment live.runs gives added,
 )
 
 -- one step after another
-pub steps_compose : (gave gave' gave'' : Option (List Moment)) (known known' known'' : Known) (v v' v'' : ResponderSide)
-    → GoesOn gave gave' known known' v v' → GoesOn gave' gave'' known' known'' v' v'' → GoesOn gave gave'' known known'' v v''
-steps_compose gave gave' gave'' known known' known'' v v' v'' first second terms link before left given sink ahead run live =
+pub steps_compose : (gave gave' gave'' : Option (List Moment)) (view view' view'' : PassView) (v v' v'' : ResponderSide)
+    → GoesOn gave gave' view view' v v' → GoesOn gave' gave'' view' view'' v' v'' → GoesOn gave gave'' view view'' v v''
+steps_compose gave gave' gave'' view view' view'' v v' v'' first second terms link before left given sink ahead run live =
     let (run', live') = first terms link before left given sink ahead run live in
     second terms link before left given sink ahead run' live'
 
-pub leaves_by : (gave gave' gave'' : Option (List Moment)) (known known' known'' : Known) (v v' : ResponderSide)
-    → GoesOn gave gave' known known' v v' → RunsOut gave' gave'' known' known'' v' → RunsOut gave gave'' known known'' v
-leaves_by gave gave' gave'' known known' known'' v v' first second terms link before left given sink ahead run live =
+pub leaves_by : (gave gave' gave'' : Option (List Moment)) (view view' view'' : PassView) (v v' : ResponderSide)
+    → GoesOn gave gave' view view' v v' → RunsOut gave' gave'' view' view'' v' → RunsOut gave gave'' view view'' v
+leaves_by gave gave' gave'' view view' view'' v v' first second terms link before left given sink ahead run live =
     let (run', live') = first terms link before left given sink ahead run live in
     second terms link before left given sink ahead run' live'

@@ -10,7 +10,7 @@ use Rattle.nr_responder.specs.ResponderState.{ResponderSide, end_of}
 use Rattle.nr_responder.specs.Standing.{ResponderRepresents}
 use Rattle.nr_responder.specs.Steps.{Fed}
 use Rattle.nr_responder.proofs.Marks.{fed_stands_lem}
-use Rattle.nr_plain.specs.History.{Known}
+use Rattle.nr_plain.specs.History.{PassView}
 use Rattle.nr_host.specs.declared.conn_end.ConnEnd.{ConnEnd}
 use Rattle.nr_host.specs.Connections.{Terms, Outside, SinkState, FrameMark}
 use Rattle.nr_host.specs.Steps.{IsLive, AllQuiet, EndsAt, EndsWith, FeedEnds, FeedsTo, GoesQuietly, outside}
@@ -46,31 +46,31 @@ one_fed terms link before now left rest ahead n run v v1 on n_is takes is live q
     live_fed terms link before now (take n left) (rest ++ ahead) run v v1 takes cut quiet
     (λ opened granted. inl (one_frame opened link run v left n (live.stands opened granted) on n_is))
 
-module _ (piece left : List ℕ) (sink sink' : SinkState) (gave gave' : Option (List Moment)) (known known' : Known) (v v' : ResponderSide)
-    (feeds : FeedsTo piece left sink sink' gave gave' known known' v v') (on : end_of v' ≡ None) (n : ℕ) (n_is : n ≡ bytes_taken v'.link.awaited v'.link.rest left) where
+module _ (piece left : List ℕ) (sink sink' : SinkState) (gave gave' : Option (List Moment)) (view view' : PassView) (v v' : ResponderSide)
+    (feeds : FeedsTo piece left sink sink' gave gave' view view' v v') (on : end_of v' ≡ None) (n : ℕ) (n_is : n ≡ bytes_taken v'.link.awaited v'.link.rest left) where
   -- one frame more
-  pub feeds_on : (rest : List ℕ) (sink'' : SinkState) (gave'' : Option (List Moment)) (known'' : Known) (v1 v2 : ResponderSide)
+  pub feeds_on : (rest : List ℕ) (sink'' : SinkState) (gave'' : Option (List Moment)) (view'' : PassView) (v1 v2 : ResponderSide)
       → TakesIn (take n left) v' v1 → rest ≡ drop n left
-      → GoesQuietly sink' sink'' gave' gave'' known' known'' v1 v2 → FeedsTo piece rest sink sink'' gave gave'' known known'' v v2
-  feeds_on rest sink'' gave'' known'' v1 v2 takes is goes terms link before l g ahead run live quiet =
+      → GoesQuietly sink' sink'' gave' gave'' view' view'' v1 v2 → FeedsTo piece rest sink sink'' gave gave'' view view'' v v2
+  feeds_on rest sink'' gave'' view'' v1 v2 takes is goes terms link before l g ahead run live quiet =
       let (run1, (live1, quiet1)) = feeds terms link before l g ahead run live quiet in
-      let live2 = one_fed terms link before (outside l g sink' gave' known') left rest ahead n run1 v' v1 on n_is takes is live1 quiet1 in
+      let live2 = one_fed terms link before (outside l g sink' gave' view') left rest ahead n run1 v' v1 on n_is takes is live1 quiet1 in
       goes terms link before l g (rest ++ ahead) (run1 ++ marks.Fed link Responder (take n left) ∷ []) live2
 
   -- the connection ends while the calls of a frame are answered
-  pub answers_end : (rest : List ℕ) (end : ConnEnd) (sink'' : SinkState) (gave'' : Option (List Moment)) (known'' : Known) (v1 : ResponderSide)
+  pub answers_end : (rest : List ℕ) (end : ConnEnd) (sink'' : SinkState) (gave'' : Option (List Moment)) (view'' : PassView) (v1 : ResponderSide)
       → TakesIn (take n left) v' v1 → rest ≡ drop n left
-      → EndsWith end sink' sink'' gave' gave'' known' known'' v1 → FeedEnds end piece sink sink'' gave gave'' known known'' v
-  answers_end rest end sink'' gave'' known'' v1 takes is ends terms link before l g run most live quiet =
+      → EndsWith end sink' sink'' gave' gave'' view' view'' v1 → FeedEnds end piece sink sink'' gave gave'' view view'' v
+  answers_end rest end sink'' gave'' view'' v1 takes is ends terms link before l g run most live quiet =
       let (run1, (live1, quiet1)) = feeds terms link before l g [] run live quiet in
-      let live2 = one_fed terms link before (outside l g sink' gave' known') left rest [] n run1 v' v1 on n_is takes is live1 quiet1 in
+      let live2 = one_fed terms link before (outside l g sink' gave' view') left rest [] n run1 v' v1 on n_is takes is live1 quiet1 in
       ends terms link before l g (rest ++ []) (run1 ++ marks.Fed link Responder (take n left) ∷ []) most live2
 
   -- the side ends at a frame
   pub feed_ends : (end : ConnEnd) (sink'' : SinkState) (v1 : ResponderSide) → Fed v' (take n left) v1
-      → EndsAt end sink' sink'' v1 → FeedEnds end piece sink sink'' gave gave' known known' v
+      → EndsAt end sink' sink'' v1 → FeedEnds end piece sink sink'' gave gave' view view' v
   feed_ends end sink'' v1 fed ends terms link before l g run most live quiet =
       let (run1, (live1, quiet1)) = feeds terms link before l g [] run live quiet in
       let takes : TakesIn (take n left) v' v1 = λ opened k r stands. fed_stands_lem opened k r v' v1 (take n left) fed on stands in
-      let live2 = one_fed terms link before (outside l g sink' gave' known') left (drop n left) [] n run1 v' v1 on n_is takes refl live1 quiet1 in
-      ends terms link before l g gave' known' (drop n left ++ []) (run1 ++ marks.Fed link Responder (take n left) ∷ []) most live2
+      let live2 = one_fed terms link before (outside l g sink' gave' view') left (drop n left) [] n run1 v' v1 on n_is takes refl live1 quiet1 in
+      ends terms link before l g gave' view' (drop n left ++ []) (run1 ++ marks.Fed link Responder (take n left) ∷ []) most live2

@@ -2,8 +2,8 @@
 use Rattle.std.proofs.Common.{◌≡◌, ℕ, ◌≤◌, List, [], ◌∷◌, ◌++◌, Option, None, Some, inl, inr, refl, sym, ap, subst, ◌∙◌, append_assoc, append-nil, arith}
 use Rattle.nr_outside.specs.Faults.{Rises}
 use Rattle.nr_turnstile.specs.declared.plays.View.{View}
-use Rattle.nr_plain.specs.History.{Known}
-use Rattle.nr_plain.specs.declared.noted.Noted.{Noted}
+use Rattle.nr_plain.specs.History.{PassView}
+use Rattle.nr_plain.specs.declared.history_entry.HistoryEntry.{HistoryEntry}
 use Rattle.nr_host.specs.declared.conn_end.ConnEnd.{ConnEnd}
 use Rattle.nr_host.specs.Serving.{BackCount, Between, HandsBack, Serves, ServesAll, ServesLink, StartsLink, TakesLink, TakesOne, end_of_link, ends_of}
 
@@ -42,8 +42,8 @@ pub back_rises : (ends : List ConnEnd) (first old new : ℕ) → first ≤ old �
 back_rises ends first old new low rises = inr (rises_on first old new low rises)
 
 -- what a pass with this view knows
-abbrev pub known_view : View Noted → Known
-known_view v = record { seen = v.seen; mine = v.mine }
+abbrev pub view_of_pass : View HistoryEntry → PassView
+view_of_pass v = record { seen = v.seen; mine = v.mine }
 
 -- ===== one link
 

@@ -14,8 +14,8 @@ use Rattle.nr_reduce.specs.Matched.{IsPrefixOf}
 use Rattle.nr_reduce.specs.Run.{output_due}
 use Rattle.nr_reduce.specs.Served.{IsExecuted, ServedMark}
 use Rattle.nr_reduce.proofs.Standing.{AtEachMark_more, itself, one_more, received_one, sent_one}
-use Rattle.nr_plain.specs.History.{Answered, Executes, Finds, Known, Over}
-use Rattle.nr_plain.proofs.PassCalls.{over_executed, over_finds}
+use Rattle.nr_plain.specs.History.{Answered, Executes, OnlyOthersAdded, PassView, Over}
+use Rattle.nr_plain.proofs.PassCalls.{over_executed, over_others}
 use Rattle.nr_host.specs.Connections.{Terms, Outside, Runs, SinkState, Takes, IsOwn, QuietMark, FrameMark, GivesAll, answer_of, answers_of, moments, moment_of}
 use Rattle.nr_host.specs.Steps.{AllQuiet, outside}
 use Rattle.nr_host.proofs.Sinks.{TakesMore}
@@ -39,7 +39,7 @@ unfolding answers_of
 answers_one run mark = one_more answer_of run mark
 
 -- a mark that executes no call
-over_same : (before after : Known) (run : List Mark) (mark : Mark) → answer_of mark ≡ [] → Over before (answers_of run) after → Over before (answers_of (run ++ mark ∷ [])) after
+over_same : (before after : PassView) (run : List Mark) (mark : Mark) → answer_of mark ≡ [] → Over before (answers_of run) after → Over before (answers_of (run ++ mark ∷ [])) after
 over_same before after run mark none over =
     subst (λ (calls : List Answered). Over before calls after)
     (sym (answers_one run mark ∙ ap (λ (calls : List Answered). answers_of run ++ calls) none ∙ append-nil (answers_of run))) over
@@ -47,14 +47,14 @@ over_same before after run mark none over =
 -- ---- One mark more
 
 -- a call is executed
-pub executed : (terms : Terms) (link : ℕ) (before : Outside) (left given : Option (List ℕ)) (sink : SinkState) (gave gave' : Option (List Moment)) (known known' : Known)
-    (ahead : List ℕ) (run : List Mark) (xid place : ℕ) (moment : Moment) (payload reply : List ℕ)
-    → Runs terms link before (outside left given sink gave known) ahead [] run
+pub executed : (terms : Terms) (link : ℕ) (before : Outside) (left given : Option (List ℕ)) (sink : SinkState) (gave gave' : Option (List Moment)) (view view' : PassView)
+    (ahead : List ℕ) (run : List Mark) (client xid place : ℕ) (moment : Moment) (payload reply : List ℕ)
+    → Runs terms link before (outside left given sink gave view) ahead [] run
     → ((opened : LinkParameters) → opened.granted ≡ terms.credits → IsExecuted opened link run xid payload)
     → Gives gave gave' moment
-    → Executes known known' moment payload reply place
-    → Runs terms link before (outside left given sink gave' known') ahead [] (run ++ marks.Execute link xid moment payload place reply ∷ [])
-executed terms link before left given sink gave gave' known known' ahead run xid place moment payload reply r executes gives done =
+    → Executes view view' client moment payload reply place
+    → Runs terms link before (outside left given sink gave' view') ahead [] (run ++ marks.Execute link xid moment payload place reply ∷ [])
+executed terms link before left given sink gave gave' view view' ahead run client xid place moment payload reply r executes gives done =
     let mark : Mark = marks.Execute link xid moment payload place reply in
     record {
       own = AtEachMark_more (λ earlier m. IsOwn link m) [] run mark r.own refl;
@@ -65,8 +65,8 @@ executed terms link before left given sink gave gave' known known' ahead run xid
       served = λ opened same. AtEachMark_more (ServedMark IsPrefixOf opened link) [] run mark (r.served opened same) (λ l. executes opened same);
       quiet = λ opened same. AtEachMark_more (QuietMark opened link) [] run mark (r.quiet opened same) tt;
       frames = λ opened same. AtEachMark_more (FrameMark opened link) [] run mark (r.frames opened same) tt;
-      over = subst (λ (calls : List Answered). Over before.known calls known') (sym (answers_one run mark))
-          (over_executed before.known known known' moment payload reply place (answers_of run) r.over done);
+      over = subst (λ (calls : List Answered). Over before.view calls view') (sym (answers_one run mark))
+          (over_executed before.view view view' client moment payload reply place (answers_of run) r.over done);
       gave = subst (λ (ms : List Moment). GivesAll before.gave gave' ms)
           (sym (append-nil (moments (run ++ mark ∷ [])) ∙ moments_one run mark))
           (gives_more before.gave gave gave' (moments run) moment
@@ -75,18 +75,18 @@ executed terms link before left given sink gave gave' known known' ahead run xid
     }
 
 -- a moment was given, and no call executed
-pub given_alone : (terms : Terms) (link : ℕ) (before : Outside) (left given : Option (List ℕ)) (sink : SinkState) (gave gave' : Option (List Moment)) (known known' : Known)
+pub given_alone : (terms : Terms) (link : ℕ) (before : Outside) (left given : Option (List ℕ)) (sink : SinkState) (gave gave' : Option (List Moment)) (view view' : PassView)
     (ahead : List ℕ) (run : List Mark) (moment : Moment)
-    → Runs terms link before (outside left given sink gave known) ahead [] run → Gives gave gave' moment → Finds known known'
-    → Runs terms link before (outside left given sink gave' known') ahead (moment ∷ []) run
-given_alone terms link before left given sink gave gave' known known' ahead run moment r gives finds = record {
+    → Runs terms link before (outside left given sink gave view) ahead [] run → Gives gave gave' moment → OnlyOthersAdded view view'
+    → Runs terms link before (outside left given sink gave' view') ahead (moment ∷ []) run
+given_alone terms link before left given sink gave gave' view view' ahead run moment r gives added = record {
   own = r.own;
   handed = r.handed;
   taken = r.taken;
   served = r.served;
   quiet = r.quiet;
   frames = r.frames;
-  over = over_finds before.known known known' (answers_of run) r.over finds;
+  over = over_others before.view view view' (answers_of run) r.over added;
   gave = gives_more before.gave gave gave' (moments run) moment (subst (λ (ms : List Moment). GivesAll before.gave gave ms) (append-nil (moments run)) r.gave) gives;
   count = r.count;
 }
@@ -109,19 +109,19 @@ fed terms link before now piece ahead run r quiet frames =
       served = λ opened same. AtEachMark_more (ServedMark IsPrefixOf opened link) [] run mark (r.served opened same) tt;
       quiet = λ opened same. AtEachMark_more (QuietMark opened link) [] run mark (r.quiet opened same) (quiet opened same);
       frames = λ opened same. AtEachMark_more (FrameMark opened link) [] run mark (r.frames opened same) (frames opened same);
-      over = over_same before.known now.known run mark refl r.over;
+      over = over_same before.view now.view run mark refl r.over;
       gave = subst (λ (ms : List Moment). GivesAll before.gave now.gave (ms ++ []))
           (sym (moments_one run mark ∙ append-nil (moments run))) r.gave;
       count = (let before_it = r.count in let now_it = ap length received in omega (arith, before_it, now_it, length-append (bytes_received link Responder run) piece, length-append piece ahead));
     }
 
 -- bytes are written
-pub wrote : (terms : Terms) (link : ℕ) (before : Outside) (left given : Option (List ℕ)) (sink sink' : SinkState) (gave : Option (List Moment)) (known : Known)
+pub wrote : (terms : Terms) (link : ℕ) (before : Outside) (left given : Option (List ℕ)) (sink sink' : SinkState) (gave : Option (List Moment)) (view : PassView)
     (bytes ahead : List ℕ) (run : List Mark)
-    → Runs terms link before (outside left given sink gave known) ahead [] run → TakesMore sink sink' bytes
+    → Runs terms link before (outside left given sink gave view) ahead [] run → TakesMore sink sink' bytes
     → ((opened : LinkParameters) → opened.granted ≡ terms.credits → IsPrefixOf (bytes_sent link Responder run ++ bytes) (output_due opened link Responder run))
-    → Runs terms link before (outside left given sink' gave known) ahead [] (run ++ marks.Wrote link Responder bytes ∷ [])
-wrote terms link before left given sink sink' gave known bytes ahead run r takes due =
+    → Runs terms link before (outside left given sink' gave view) ahead [] (run ++ marks.Wrote link Responder bytes ∷ [])
+wrote terms link before left given sink sink' gave view bytes ahead run r takes due =
     let mark : Mark = marks.Wrote link Responder bytes in
     let sent : bytes_sent link Responder (run ++ mark ∷ []) ≡ bytes_sent link Responder run ++ bytes =
     sent_one link Responder run mark ∙ rw (itself link) refl in
@@ -133,18 +133,18 @@ wrote terms link before left given sink sink' gave known bytes ahead run r takes
       served = λ opened same. AtEachMark_more (ServedMark IsPrefixOf opened link) [] run mark (r.served opened same) (λ l. due opened same);
       quiet = λ opened same. AtEachMark_more (QuietMark opened link) [] run mark (r.quiet opened same) tt;
       frames = λ opened same. AtEachMark_more (FrameMark opened link) [] run mark (r.frames opened same) tt;
-      over = over_same before.known known run mark refl r.over;
+      over = over_same before.view view run mark refl r.over;
       gave = subst (λ (ms : List Moment). GivesAll before.gave gave (ms ++ []))
           (sym (moments_one run mark ∙ append-nil (moments run))) r.gave;
       count = ap (λ (l : List ℕ). length l + length ahead) (received_one link Responder run mark ∙ append-nil (bytes_received link Responder run)) ∙ r.count;
     }
 
 -- bytes are read
-pub read_more : (terms : Terms) (link : ℕ) (before : Outside) (left given left' given' : Option (List ℕ)) (sink : SinkState) (gave : Option (List Moment)) (known : Known)
+pub read_more : (terms : Terms) (link : ℕ) (before : Outside) (left given left' given' : Option (List ℕ)) (sink : SinkState) (gave : Option (List Moment)) (view : PassView)
     (piece : List ℕ) (run : List Mark)
-    → Runs terms link before (outside left given sink gave known) [] [] run → HandsOut left given left' given' piece
-    → Runs (record terms { read = terms.read + length piece }) link before (outside left' given' sink gave known) piece [] run
-read_more terms link before left given left' given' sink gave known piece run r hands = record {
+    → Runs terms link before (outside left given sink gave view) [] [] run → HandsOut left given left' given' piece
+    → Runs (record terms { read = terms.read + length piece }) link before (outside left' given' sink gave view) piece [] run
+read_more terms link before left given left' given' sink gave view piece run r hands = record {
   own = r.own;
   handed = HandsOut_append before.left before.given left given left' given' (bytes_received link Responder run) piece
       (subst (HandsOut before.left before.given left given) (append-nil (bytes_received link Responder run)) r.handed) hands;

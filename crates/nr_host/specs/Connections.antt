@@ -7,6 +7,7 @@ use Rattle.nr_outside.specs.Faults.{Rises}
 use Rattle.nr_outside.specs.declared.moment.Moment.{Moment}
 use Rattle.nr_wire.specs.declared.hello.Side.TheVariants.{Initiator, Responder}
 use Rattle.nr_link.specs.Frames.{frames_completed}
+use Rattle.nr_link.specs.Input.{input_of}
 use Rattle.nr_reduce.specs.declared.mark.Mark.{Mark}
 use Rattle.nr_reduce.specs.declared.mark.Mark.TheVariants as marks
 use Rattle.nr_reduce.specs.declared.mark.LinkParameters.{LinkParameters}
@@ -15,7 +16,7 @@ use Rattle.nr_reduce.specs.History.{bytes_sent, bytes_received}
 use Rattle.nr_reduce.specs.Matched.{IsPrefixOf}
 use Rattle.nr_reduce.specs.Run.{HasWritten, server}
 use Rattle.nr_reduce.specs.Served.{ServedSoFar, next_call}
-use Rattle.nr_plain.specs.History.{Answered, Known, Over}
+use Rattle.nr_plain.specs.History.{Answered, PassView, Over}
 
 -- the moments at which calls were executed, in order
 abbrev pub moment_of : Mark → List Moment
@@ -50,13 +51,20 @@ abbrev pub QuietMark : LinkParameters → ℕ → List Mark → Mark → Type 0
 QuietMark opened link before (marks.Fed l side bytes) = IsQuiet opened link before
 QuietMark opened link before mark = ⊤
 
--- Each piece completes at most one frame, until the side has ended: what is fed after that is not judged.
+-- These bytes after those complete no frame, or one frame, with which they end.
+abbrev pub EndsWithItsFrame : (before bytes : List ℕ) → Type 0
+EndsWithItsFrame before bytes =
+    (frames_completed Initiator before bytes ≡ [])
+    ⊎ ((length (frames_completed Initiator before bytes) ≡ 1) × ((input_of Initiator (before ++ bytes)).rest ≡ []))
+
+-- so does each piece, until the side has ended: what is fed after that is not judged
 abbrev pub FrameMark : LinkParameters → ℕ → List Mark → Mark → Type 0
 FrameMark opened link before (marks.Fed l side bytes) =
-    (length (frames_completed Initiator (bytes_received link Responder before) bytes) ≤ 1) ⊎ (is_some (server opened link before).ended ≡ true)
+    EndsWithItsFrame (bytes_received link Responder before) bytes ⊎ (is_some (server opened link before).ended ≡ true)
 FrameMark opened link before mark = ⊤
 
--- what is known of the sink of a connection: the bytes that it took, and its fault count; and whether a write of the connection failed
+-- what is known of the sink of a connection: the bytes that it took, and its fault count; and whether a write of the
+-- connection failed
 pub record SinkState : Type 0 where
   pub taken : Option (List ℕ)
   pub faults : ℕ
@@ -82,15 +90,15 @@ pub record Outside : Type 0 where
   pub given : Option (List ℕ)
   pub sink : SinkState
   pub gave : Option (List Moment)
-  pub known : Known
+  pub view : PassView
 
 -- the credits that a connection grants, and how many bytes were read of it
 pub record Terms : Type 0 where
   pub credits : ℕ
   pub read : ℕ
 
--- The connection made these marks, after it had read the bytes that they fed and `ahead`, and the clock had given the moments of its
--- calls and `more`.
+-- The connection made these marks, after it had read the bytes that they fed and `ahead`, and the clock had given the
+-- moments of its calls and `more`.
 pub record Runs (terms : Terms) (link : ℕ) (before after : Outside) (ahead : List ℕ) (more : List Moment) (run : List Mark) : Type 0 where
   pub own : AtEachMark (λ earlier mark. IsOwn link mark) [] run
   pub handed : HandsOut before.left before.given after.left after.given (bytes_received link Responder run ++ ahead)
@@ -98,6 +106,6 @@ pub record Runs (terms : Terms) (link : ℕ) (before after : Outside) (ahead : L
   pub served : (opened : LinkParameters) → opened.granted ≡ terms.credits → ServedSoFar opened link run
   pub quiet : (opened : LinkParameters) → opened.granted ≡ terms.credits → AtEachMark (QuietMark opened link) [] run
   pub frames : (opened : LinkParameters) → opened.granted ≡ terms.credits → AtEachMark (FrameMark opened link) [] run
-  pub over : Over before.known (answers_of run) after.known
+  pub over : Over before.view (answers_of run) after.view
   pub gave : GivesAll before.gave after.gave (moments run ++ more)
   pub count : length (bytes_received link Responder run) + length ahead ≡ terms.read

@@ -2,45 +2,47 @@
 use Rattle.std.specs.Prelude.{◌≡◌, ℕ, ◌+◌, ◌⊎◌, false, List, [], ◌∷◌, ◌++◌, Option, None, Some, IfSome}
 use Rattle.nr_outside.specs.declared.moment.Moment.{Moment}
 use Rattle.nr_outside.specs.Faults.{Rises}
-use Rattle.nr_links.specs.Links.{EndedLink, LinkLog, CountsLost, EndsLink, IsNewLink, MakesLink}
+use Rattle.nr_links.specs.Links.{EndedLink, LinkLog, CountsLost, EndsLink, IsNewLink, IsTold, MakesLink}
 use Rattle.nr_turnstile.specs.Rule.{Begins, in_order, longer}
-use Rattle.nr_plain.specs.History.{Known}
+use Rattle.nr_plain.specs.History.{PassView}
 use Rattle.nr_host.specs.Ending.{SinkCount, SourceCount}
 use Rattle.nr_host.specs.Steps.{IsServed, outside, sink_state}
 use Rattle.nr_host.specs.declared.conn_end.ConnEnd.{ConnEnd}
 use Rattle.nr_host.specs.declared.serving.ServeFault.{ServeFault}
 use Rattle.nr_host.specs.declared.serving.ServeFault.TheVariants as faults
 
--- A server between two connections: what is known of the links of its acceptor, how many of them were lost, how many jobs were started, and what its pass knows.
+-- A server between two connections: what is known of the links of its acceptor, how many of them were lost, how many
+-- jobs were started, and what its pass knows.
 pub record Between : Type 0 where
   pub ended : Option LinkLog
   pub lost : ℕ
   pub started : ℕ
-  pub known : Known
+  pub view : PassView
 
-abbrev pub between : Option LinkLog → ℕ → ℕ → Known → Between
-between ended lost started known = record { ended = ended; lost = lost; started = started; known = known }
+abbrev pub between : Option LinkLog → ℕ → ℕ → PassView → Between
+between ended lost started view = record { ended = ended; lost = lost; started = started; view = view }
 
--- a link was accepted, and its job started: it has a pass, a clock and the link of its own, of which nothing more is known
+-- a link was accepted, and its job started: it has a pass, a clock and the link of its own, of which nothing more is
+-- known
 pub record StartsLink (before after : Between) : Type 0 where
   pub made : MakesLink before.ended after.ended
   pub lost : after.lost ≡ before.lost
   pub started : after.started ≡ before.started + 1
-  pub known : after.known ≡ before.known
+  pub view : after.view ≡ before.view
 
 -- what a pass that was split from another knows
-abbrev pub split_off : Known → Known
-split_off known = record { seen = known.seen; mine = [] }
+abbrev pub split_off : PassView → PassView
+split_off view = record { seen = view.seen; mine = [] }
 
 -- a pass took in another one
-pub record JoinsPass (known own known' : Known) : Type 0 where
-  pub seen : known'.seen ≡ longer known.seen own.seen
-  pub begins : Begins known.seen known'.seen
-  pub own_begins : Begins own.seen known'.seen
-  pub mine : known'.mine ≡ in_order known.mine own.mine
+pub record JoinsPass (view own view' : PassView) : Type 0 where
+  pub seen : view'.seen ≡ longer view.seen own.seen
+  pub begins : Begins view.seen view'.seen
+  pub own_begins : Begins own.seen view'.seen
+  pub mine : view'.mine ≡ in_order view.mine own.mine
 
--- A link was accepted, served to its end by a pass of its own, and hung up. `opened` is the link as it was accepted, `closed` as it was hung up. Its clock
--- had given nothing.
+-- A link was accepted, served to its end by a pass of its own, and hung up: its source, and the sink that has the same number. `opened` is the link
+-- as it was accepted, `closed` as it was hung up. Its clock had given nothing.
 pub record ServesLink (credits : ℕ) (before after : Between) (end : ConnEnd) : Type 0 where
   pub opened : EndedLink
   pub closed : EndedLink
@@ -49,10 +51,13 @@ pub record ServesLink (credits : ℕ) (before after : Between) (end : ConnEnd) :
   pub sink_faults : ℕ
   pub gave : Option (List Moment)
   pub gave' : Option (List Moment)
-  pub own : Known
+  pub own : PassView
   pub fresh : IsNewLink opened.given opened.taken 0 0
+  pub told : IsTold log opened.given opened.left opened.taken
+  pub numbered : IfSome before.ended (λ log. log.made ≡ opened.number)
+  pub same_number : closed.number ≡ opened.number
   pub new_clock : IfSome gave (λ given. given ≡ [])
-  pub served : IsServed credits (outside opened.left opened.given (sink_state opened.taken 0 false) gave (split_off before.known))
+  pub served : IsServed credits (outside opened.left opened.given (sink_state opened.taken 0 false) gave (split_off before.view))
       (outside closed.left closed.given (sink_state closed.taken sink_faults false) gave' own) end
   pub made : MakesLink before.ended log
   pub hung_up : EndsLink log after.ended closed
@@ -60,7 +65,7 @@ pub record ServesLink (credits : ℕ) (before after : Between) (end : ConnEnd) :
   pub source_count : SourceCount end 0 source_faults
   pub sink_count : SinkCount end 0 sink_faults
   pub started : after.started ≡ before.started
-  pub joins : JoinsPass before.known own after.known
+  pub joins : JoinsPass before.view own after.view
 
 -- one link
 abbrev pub TakesLink : ℕ → Between → Option ConnEnd → Between → Type 0

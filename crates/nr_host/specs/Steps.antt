@@ -10,10 +10,9 @@ use Rattle.nr_reduce.specs.declared.mark.LinkParameters.{LinkParameters}
 use Rattle.nr_link.specs.declared.end.End.TheVariants as link_ends
 use Rattle.nr_responder.specs.ResponderState.{ResponderSide, end_of, queue}
 use Rattle.nr_responder.specs.Standing.{ResponderRepresents}
-use Rattle.nr_plain.specs.History.{Known}
+use Rattle.nr_plain.specs.History.{PassView}
 use Rattle.nr_host.specs.Connections.{Terms, Outside, Runs, SinkState, IsQuiet}
-use Rattle.nr_links.specs.Limits.{read_max}
-use Rattle.nr_host.specs.Ending.{Ended, IsCause}
+use Rattle.nr_host.specs.Ending.{Ended, HasRead, IsCause}
 use Rattle.nr_host.specs.declared.conn_end.ConnEnd.{ConnEnd}
 
 -- it made these marks, and its responder stands for them
@@ -27,8 +26,8 @@ AllQuiet terms link run = (opened : LinkParameters) → opened.granted ≡ terms
 abbrev pub sink_state : (taken : Option (List ℕ)) → (faults : ℕ) → (failed : Bool) → SinkState
 sink_state taken faults failed = record { taken = taken; faults = faults; failed = failed }
 
-abbrev pub outside : (left given : Option (List ℕ)) → SinkState → Option (List Moment) → Known → Outside
-outside left given sink gave known = record { left = left; given = given; sink = sink; gave = gave; known = known }
+abbrev pub outside : (left given : Option (List ℕ)) → SinkState → Option (List Moment) → PassView → Outside
+outside left given sink gave view = record { left = left; given = given; sink = sink; gave = gave; view = view }
 
 -- how a step changes the count of a sink, if a write had failed before it and after it
 abbrev pub FaultsAt : (failed : Bool) → (before after : ℕ) → Type 0
@@ -40,61 +39,61 @@ FaultsFrom false failed' before after = FaultsAt failed' before after
 FaultsFrom true failed' before after = (failed' ≡ true) × (after ≡ before)
 
 -- A step that reads and writes nothing goes on from any marks to some more.
-abbrev pub GoesOn : (gave gave' : Option (List Moment)) (known known' : Known) (v v' : ResponderSide) → Type 0
-GoesOn gave gave' known known' v v' =
+abbrev pub GoesOn : (gave gave' : Option (List Moment)) (view view' : PassView) (v v' : ResponderSide) → Type 0
+GoesOn gave gave' view view' v v' =
     (terms : Terms) (link : ℕ) (before : Outside) (left given : Option (List ℕ)) (sink : SinkState) (ahead : List ℕ) (run : List Mark) →
-    IsLive terms link before (outside left given sink gave known) ahead run v →
-    (run' : List Mark) × IsLive terms link before (outside left given sink gave' known') ahead run' v'
+    IsLive terms link before (outside left given sink gave view) ahead run v →
+    (run' : List Mark) × IsLive terms link before (outside left given sink gave' view') ahead run' v'
 
 -- Memory ran out in it: the clock may have given one moment more.
-abbrev pub RunsOut : (gave gave' : Option (List Moment)) (known known' : Known) (v : ResponderSide) → Type 0
-RunsOut gave gave' known known' v =
+abbrev pub RunsOut : (gave gave' : Option (List Moment)) (view view' : PassView) (v : ResponderSide) → Type 0
+RunsOut gave gave' view view' v =
     (terms : Terms) (link : ℕ) (before : Outside) (left given : Option (List ℕ)) (sink : SinkState) (ahead : List ℕ) (run : List Mark) →
-    IsLive terms link before (outside left given sink gave known) ahead run v →
-    (run' : List Mark) × (more : List Moment) × (length more ≤ 1) × Runs terms link before (outside left given sink gave' known') ahead more run'
+    IsLive terms link before (outside left given sink gave view) ahead run v →
+    (run' : List Mark) × (more : List Moment) × (length more ≤ 1) × Runs terms link before (outside left given sink gave' view') ahead more run'
 
 -- All that may be written is written, or dropped if a write failed. Nothing is left then, unless memory had run out.
 abbrev pub WritesAll : (sink sink' : SinkState) (v v' : ResponderSide) → Type 0
 WritesAll sink sink' v v' =
-    (terms : Terms) (link : ℕ) (before : Outside) (left given : Option (List ℕ)) (gave : Option (List Moment)) (known : Known) (ahead : List ℕ) (run : List Mark) →
-    IsLive terms link before (outside left given sink gave known) ahead run v →
-    (run' : List Mark) × (IsLive terms link before (outside left given sink' gave known) ahead run' v'
+    (terms : Terms) (link : ℕ) (before : Outside) (left given : Option (List ℕ)) (gave : Option (List Moment)) (view : PassView) (ahead : List ℕ) (run : List Mark) →
+    IsLive terms link before (outside left given sink gave view) ahead run v →
+    (run' : List Mark) × (IsLive terms link before (outside left given sink' gave view) ahead run' v'
     × ((opened : LinkParameters) → opened.granted ≡ terms.credits → (end_of v ≡ Some link_ends.Memory → ⊥) → queue v' ≡ []))
 
 -- A step that writes goes on to marks after which nothing is due.
-abbrev pub GoesQuietly : (sink sink' : SinkState) (gave gave' : Option (List Moment)) (known known' : Known) (v v' : ResponderSide) → Type 0
-GoesQuietly sink sink' gave gave' known known' v v' =
+abbrev pub GoesQuietly : (sink sink' : SinkState) (gave gave' : Option (List Moment)) (view view' : PassView) (v v' : ResponderSide) → Type 0
+GoesQuietly sink sink' gave gave' view view' v v' =
     (terms : Terms) (link : ℕ) (before : Outside) (left given : Option (List ℕ)) (ahead : List ℕ) (run : List Mark) →
-    IsLive terms link before (outside left given sink gave known) ahead run v →
-    (run' : List Mark) × (IsLive terms link before (outside left given sink' gave' known') ahead run' v' × AllQuiet terms link run')
+    IsLive terms link before (outside left given sink gave view) ahead run v →
+    (run' : List Mark) × (IsLive terms link before (outside left given sink' gave' view') ahead run' v' × AllQuiet terms link run')
 
 -- It ends the connection.
-abbrev pub EndsWith : ConnEnd → (sink sink' : SinkState) (gave gave' : Option (List Moment)) (known known' : Known) (v : ResponderSide) → Type 0
-EndsWith end sink sink' gave gave' known known' v =
-    (terms : Terms) (link : ℕ) (before : Outside) (left given : Option (List ℕ)) (ahead : List ℕ) (run : List Mark) → terms.read ≤ read_max →
-    IsLive terms link before (outside left given sink gave known) ahead run v →
-    Ended terms link before (outside left given sink' gave' known') end
+abbrev pub EndsWith : ConnEnd → (sink sink' : SinkState) (gave gave' : Option (List Moment)) (view view' : PassView) (v : ResponderSide) → Type 0
+EndsWith end sink sink' gave gave' view view' v =
+    (terms : Terms) (link : ℕ) (before : Outside) (left given : Option (List ℕ)) (ahead : List ℕ) (run : List Mark) → HasRead terms.read →
+    IsLive terms link before (outside left given sink gave view) ahead run v →
+    Ended terms link before (outside left given sink' gave' view') end
 
 -- A responder that ended is drained, and the connection ends.
 abbrev pub EndsAt : ConnEnd → (sink sink' : SinkState) (v : ResponderSide) → Type 0
 EndsAt end sink sink' v =
-    (terms : Terms) (link : ℕ) (before : Outside) (left given : Option (List ℕ)) (gave : Option (List Moment)) (known : Known) (ahead : List ℕ) (run : List Mark) → terms.read ≤ read_max →
-    IsLive terms link before (outside left given sink gave known) ahead run v →
-    Ended terms link before (outside left given sink' gave known) end
+    (terms : Terms) (link : ℕ) (before : Outside) (left given : Option (List ℕ)) (gave : Option (List Moment)) (view : PassView) (ahead : List ℕ) (run : List Mark) → HasRead terms.read →
+    IsLive terms link before (outside left given sink gave view) ahead run v →
+    Ended terms link before (outside left given sink' gave view) end
 
 -- A piece is fed frame by frame, up to the bytes `rest` of it.
-abbrev pub FeedsTo : (piece rest : List ℕ) (sink sink' : SinkState) (gave gave' : Option (List Moment)) (known known' : Known) (v v' : ResponderSide) → Type 0
-FeedsTo piece rest sink sink' gave gave' known known' v v' =
+abbrev pub FeedsTo : (piece rest : List ℕ) (sink sink' : SinkState) (gave gave' : Option (List Moment)) (view view' : PassView) (v v' : ResponderSide) → Type 0
+FeedsTo piece rest sink sink' gave gave' view view' v v' =
     (terms : Terms) (link : ℕ) (before : Outside) (left given : Option (List ℕ)) (ahead : List ℕ) (run : List Mark) →
-    IsLive terms link before (outside left given sink gave known) (piece ++ ahead) run v → AllQuiet terms link run →
-    (run' : List Mark) × (IsLive terms link before (outside left given sink' gave' known') (rest ++ ahead) run' v' × AllQuiet terms link run')
+    IsLive terms link before (outside left given sink gave view) (piece ++ ahead) run v → AllQuiet terms link run →
+    (run' : List Mark) × (IsLive terms link before (outside left given sink' gave' view') (rest ++ ahead) run' v' × AllQuiet terms link run')
 
 -- The connection ends within the piece.
-abbrev pub FeedEnds : ConnEnd → List ℕ → (sink sink' : SinkState) (gave gave' : Option (List Moment)) (known known' : Known) (v : ResponderSide) → Type 0
-FeedEnds end piece sink sink' gave gave' known known' v =
-    (terms : Terms) (link : ℕ) (before : Outside) (left given : Option (List ℕ)) (run : List Mark) → terms.read ≤ read_max →
-    IsLive terms link before (outside left given sink gave known) (piece ++ []) run v → AllQuiet terms link run →
-    Ended terms link before (outside left given sink' gave' known') end
+abbrev pub FeedEnds : ConnEnd → List ℕ → (sink sink' : SinkState) (gave gave' : Option (List Moment)) (view view' : PassView) (v : ResponderSide) → Type 0
+FeedEnds end piece sink sink' gave gave' view view' v =
+    (terms : Terms) (link : ℕ) (before : Outside) (left given : Option (List ℕ)) (run : List Mark) → HasRead terms.read →
+    IsLive terms link before (outside left given sink gave view) (piece ++ []) run v → AllQuiet terms link run →
+    Ended terms link before (outside left given sink' gave' view') end
 
 -- A connection was served so far, frame by frame, and nothing that was read waits.
 abbrev pub CarriesTo : (credits : ℕ) (before now : Outside) (v : ResponderSide) (read : ℕ) → Type 0
@@ -109,7 +108,7 @@ EndsIdle end read v =
     length (bytes_received link Responder run) ≡ read → IsCause opened link run left end
 
 abbrev pub with_failed : Bool → Outside → Outside
-with_failed failed o = outside o.left o.given (sink_state o.sink.taken o.sink.faults failed) o.gave o.known
+with_failed failed o = outside o.left o.given (sink_state o.sink.taken o.sink.faults failed) o.gave o.view
 
 -- A connection was served to its end, whatever number its link has in the marks. Either a write failed or none did.
 abbrev pub IsServed : (credits : ℕ) (before after : Outside) → ConnEnd → Type 0

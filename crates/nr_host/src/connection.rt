@@ -8,7 +8,7 @@ ghost use Rattle.nr_endpoint.specs.FedBytes.{fed_bytes};
 ghost use Rattle.nr_responder.specs.ResponderState.{end_of};
 ghost use Rattle.nr_links.specs.Limits.{piece_max, read_max};
 ghost use Rattle.nr_turnstile.specs.Passes.{Rests};
-ghost use Rattle.nr_plain.specs.History.{known_of};
+ghost use Rattle.nr_plain.specs.History.{pass_view};
 ghost use Rattle.nr_host.specs.Ending.{AheadAt, FailedAt, MoreAt, ReadAt, SinkCount, SourceCount};
 ghost use Rattle.nr_host.specs.Steps.{CarriesTo, EndsIdle, IsServed, outside, sink_state};
 
@@ -77,10 +77,10 @@ fn carry<I: Source, O: Sink, C: Clock, R: Wait>(
     requires rests { Rests shared.now pass.old }
     ensures rests { Rests shared.now pass.new }
     ensures served { (credits : ℕ) → CarriesTo credits
-        (outside (I.left source.old) (I.given source.old) (sink_state (O.taken sink.old) (O.faults sink.old) false) (C.gave clock.old) (known_of pass.old))
-        (outside (I.left source.old) (I.given source.old) (sink_state (O.taken sink.old) (O.faults sink.old) false) (C.gave clock.old) (known_of pass.old)) responder.old.side 0 →
-        IsServed credits (outside (I.left source.old) (I.given source.old) (sink_state (O.taken sink.old) (O.faults sink.old) false) (C.gave clock.old) (known_of pass.old))
-        (outside (I.left source.new) (I.given source.new) (sink_state (O.taken sink.new) (O.faults sink.new) false) (C.gave clock.new) (known_of pass.new)) result }
+        (outside (I.left source.old) (I.given source.old) (sink_state (O.taken sink.old) (O.faults sink.old) false) (C.gave clock.old) (pass_view pass.old))
+        (outside (I.left source.old) (I.given source.old) (sink_state (O.taken sink.old) (O.faults sink.old) false) (C.gave clock.old) (pass_view pass.old)) responder.old.side 0 →
+        IsServed credits (outside (I.left source.old) (I.given source.old) (sink_state (O.taken sink.old) (O.faults sink.old) false) (C.gave clock.old) (pass_view pass.old))
+        (outside (I.left source.new) (I.given source.new) (sink_state (O.taken sink.new) (O.faults sink.new) false) (C.gave clock.new) (pass_view pass.new)) result }
     ensures source_count { SourceCount result (I.faults source.old) (I.faults source.new) }
     ensures sink_count { SinkCount result (O.faults sink.old) (O.faults sink.new) }
 {
@@ -118,9 +118,9 @@ fn carry<I: Source, O: Sink, C: Clock, R: Wait>(
     ConnEnd::Budget { read }
 }
 
-/// Serves one connection to its end: reads the client's stream, feeds it frame by frame, and before the next frame executes
-/// each call that is complete and writes what is due. If a write fails, it still executes each call that was read, and reads no
-/// more. Grants this many credits.
+/// Serves one connection to its end: reads the client's stream, feeds it frame by frame, and before the next frame
+/// executes each call that is complete and writes what is due. If a write fails, it still executes each call that was
+/// read, and reads no more. Grants this many credits.
 pub fn serve_connection<I: Source, O: Sink, C: Clock, R: Wait>(
     rt: &R,
     alloc: Global,
@@ -133,8 +133,8 @@ pub fn serve_connection<I: Source, O: Sink, C: Clock, R: Wait>(
 ) -> ConnEnd
     requires { Rests shared.now pass.old }
     ensures rests { Rests shared.now pass.new }
-    ensures served { IsServed credits (outside (I.left source.old) (I.given source.old) (sink_state (O.taken sink.old) (O.faults sink.old) false) (C.gave clock.old) (known_of pass.old))
-        (outside (I.left source.new) (I.given source.new) (sink_state (O.taken sink.new) (O.faults sink.new) false) (C.gave clock.new) (known_of pass.new)) result }
+    ensures served { IsServed credits (outside (I.left source.old) (I.given source.old) (sink_state (O.taken sink.old) (O.faults sink.old) false) (C.gave clock.old) (pass_view pass.old))
+        (outside (I.left source.new) (I.given source.new) (sink_state (O.taken sink.new) (O.faults sink.new) false) (C.gave clock.new) (pass_view pass.new)) result }
     ensures source_count { SourceCount result (I.faults source.old) (I.faults source.new) }
     ensures sink_count { SinkCount result (O.faults sink.old) (O.faults sink.new) }
 {

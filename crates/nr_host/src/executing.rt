@@ -5,7 +5,7 @@ ghost use Rattle.nr_endpoint.specs.FedBytes.{fed_bytes};
 ghost use Rattle.nr_responder.specs.ResponderState.{end_of};
 ghost use Rattle.nr_responder.specs.Sound.{IsNext};
 ghost use Rattle.nr_turnstile.specs.Passes.{Rests};
-ghost use Rattle.nr_plain.specs.History.{known_of};
+ghost use Rattle.nr_plain.specs.History.{pass_view};
 ghost use Rattle.nr_host.specs.Steps.{GoesOn, RunsOut};
 
 use nr_links::Clock;
@@ -15,6 +15,14 @@ use nr_turnstile::{Machine, Pass, Turnstile};
 use nr_xdr::Memory;
 use std::alloc::Global;
 use std::sync::Wait;
+
+/// The number of the client at the other end, with which its entries stand in the server's history: 0, since no hello
+/// tells one.
+fn client_number(_responder: &Responder) -> u64
+    ensures { result ≡ 0 }
+{
+    0
+}
 
 /// Executes the next call at the clock's moment, under one turn, and queues its answer.
 pub(crate) fn execute_one<C: Clock, R: Wait>(
@@ -33,11 +41,13 @@ pub(crate) fn execute_one<C: Clock, R: Wait>(
     ensures live { OnOk result (end_of responder.new.side ≡ None) }
     ensures fewer { OnOk result (responder.new.side.ready ≡ drop 1 responder.old.side.ready) }
     ensures fed { fed_bytes responder.new.side.link ≡ fed_bytes responder.old.side.link }
-    ensures ok { OnOk result (GoesOn (C.gave clock.old) (C.gave clock.new) (known_of pass.old) (known_of pass.new) responder.old.side responder.new.side) }
-    ensures err { OnErr result (RunsOut (C.gave clock.old) (C.gave clock.new) (known_of pass.old) (known_of pass.new) responder.old.side) }
+    ensures ok { OnOk result (GoesOn (C.gave clock.old) (C.gave clock.new) (pass_view pass.old) (pass_view pass.new) responder.old.side responder.new.side) }
+    ensures err { OnErr result (RunsOut (C.gave clock.old) (C.gave clock.new) (pass_view pass.old) (pass_view pass.new) responder.old.side) }
 {
     let moment = clock.now();
-    let Ok(reply) = execute(rt, alloc, shared, pass, moment, responder.payload(&call)) else {
+    let client = client_number(responder);
+    let payload = responder.payload(&call);
+    let Ok(reply) = execute(rt, alloc, shared, pass, client, moment, payload) else {
         return Err(Memory);
     };
     match responder.answer(call, reply.payload.as_slice()) {

@@ -5,7 +5,7 @@ ghost use Rattle.nr_endpoint.specs.FedBytes.{fed_bytes};
 ghost use Rattle.nr_responder.specs.ResponderState.{end_of};
 ghost use Rattle.nr_links.specs.Limits.{piece_max};
 ghost use Rattle.nr_turnstile.specs.Passes.{Rests};
-ghost use Rattle.nr_plain.specs.History.{known_of};
+ghost use Rattle.nr_plain.specs.History.{pass_view};
 ghost use Rattle.nr_host.specs.Ending.{FailedAt, SinkCount, SourceCount};
 ghost use Rattle.nr_host.specs.Steps.{EndsAt, EndsWith, FaultsAt, FaultsFrom, FeedEnds, FeedsTo, GoesOn, GoesQuietly, RunsOut, sink_state};
 ghost use Rattle.nr_host.specs.declared.conn_end.ConnEnd.TheVariants as ends;
@@ -38,8 +38,8 @@ fn execute_ready<C: Clock, R: Wait>(
     ensures live { OnOk result (end_of responder.new.side ≡ None) }
     ensures idle { OnOk result (responder.new.side.ready ≡ []) }
     ensures fed { OnOk result (fed_bytes responder.new.side.link ≡ fed_bytes responder.old.side.link) }
-    ensures ok { OnOk result (GoesOn (C.gave clock.old) (C.gave clock.new) (known_of pass.old) (known_of pass.new) responder.old.side responder.new.side) }
-    ensures err { OnErr result (RunsOut (C.gave clock.old) (C.gave clock.new) (known_of pass.old) (known_of pass.new) responder.old.side) }
+    ensures ok { OnOk result (GoesOn (C.gave clock.old) (C.gave clock.new) (pass_view pass.old) (pass_view pass.new) responder.old.side responder.new.side) }
+    ensures err { OnErr result (RunsOut (C.gave clock.old) (C.gave clock.new) (pass_view pass.old) (pass_view pass.new) responder.old.side) }
 {
     while let Some(call) = responder.next_ready() {
         match execute_one(rt, alloc, responder, call, shared, pass, clock) {
@@ -67,9 +67,9 @@ fn answer_all<O: Sink, C: Clock, R: Wait>(
     ensures live { OnOk result (end_of responder.new.side ≡ None) }
     ensures fed { OnOk result (fed_bytes responder.new.side.link ≡ fed_bytes responder.old.side.link) }
     ensures ok { OnOk result (GoesQuietly (sink_state (O.taken sink.old) (O.faults sink.old) failed.old) (sink_state (O.taken sink.new) (O.faults sink.new) failed.new)
-        (C.gave clock.old) (C.gave clock.new) (known_of pass.old) (known_of pass.new) responder.old.side responder.new.side) }
+        (C.gave clock.old) (C.gave clock.new) (pass_view pass.old) (pass_view pass.new) responder.old.side responder.new.side) }
     ensures err { OnErr result (EndsWith ends.Memory (sink_state (O.taken sink.old) (O.faults sink.old) failed.old) (sink_state (O.taken sink.new) (O.faults sink.new) failed.new)
-        (C.gave clock.old) (C.gave clock.new) (known_of pass.old) (known_of pass.new) responder.old.side) }
+        (C.gave clock.old) (C.gave clock.new) (pass_view pass.old) (pass_view pass.new) responder.old.side) }
     ensures counted { FaultsFrom failed.old failed.new (O.faults sink.old) (O.faults sink.new) }
     ensures never_falls { O.faults sink.old ≤ O.faults sink.new }
 {
@@ -81,7 +81,8 @@ fn answer_all<O: Sink, C: Clock, R: Wait>(
     Ok(())
 }
 
-/// The end of a connection whose responder ended so. What is still due, a Terminate, is written, or dropped once a write has failed.
+/// The end of a connection whose responder ended so. What is still due, a Terminate, is written, or dropped once a
+/// write has failed.
 fn stopped<O: Sink>(responder: &mut Responder, sink: &mut O, failed: &mut bool, end: End) -> ConnEnd
     requires { end_of responder.old.side ≡ Some end }
     ensures ends { EndsAt result (sink_state (O.taken sink.old) (O.faults sink.old) failed.old) (sink_state (O.taken sink.new) (O.faults sink.new) failed.new) responder.old.side }
@@ -102,8 +103,8 @@ fn stopped<O: Sink>(responder: &mut Responder, sink: &mut O, failed: &mut bool, 
     }
 }
 
-/// Feeds a piece frame by frame. Before the next frame all calls that are ready are executed, and what is due is written, or
-/// dropped once a write has failed.
+/// Feeds a piece frame by frame. Before the next frame all calls that are ready are executed, and what is due is
+/// written, or dropped once a write has failed.
 pub(crate) fn feed_all<O: Sink, C: Clock, R: Wait>(
     rt: &R,
     alloc: Global,
@@ -124,9 +125,9 @@ pub(crate) fn feed_all<O: Sink, C: Clock, R: Wait>(
     ensures live { OnOk result (end_of responder.new.side ≡ None) }
     ensures fed { OnOk result (fed_bytes responder.new.side.link ≤ fed_bytes responder.old.side.link + piece_max * length piece.now) }
     ensures ok { OnOk result (FeedsTo piece.now [] (sink_state (O.taken sink.old) (O.faults sink.old) false) (sink_state (O.taken sink.new) (O.faults sink.new) failed.new)
-        (C.gave clock.old) (C.gave clock.new) (known_of pass.old) (known_of pass.new) responder.old.side responder.new.side) }
+        (C.gave clock.old) (C.gave clock.new) (pass_view pass.old) (pass_view pass.new) responder.old.side responder.new.side) }
     ensures err { IfErr result (λ end. FeedEnds end piece.now (sink_state (O.taken sink.old) (O.faults sink.old) false) (sink_state (O.taken sink.new) (O.faults sink.new) failed.new)
-        (C.gave clock.old) (C.gave clock.new) (known_of pass.old) (known_of pass.new) responder.old.side) }
+        (C.gave clock.old) (C.gave clock.new) (pass_view pass.old) (pass_view pass.new) responder.old.side) }
     ensures counted { FaultsAt failed.new (O.faults sink.old) (O.faults sink.new) }
     ensures count { IfErr result (λ end. SinkCount end (O.faults sink.old) (O.faults sink.new)) }
     ensures source { IfErr result (λ end. (count : ℕ) → SourceCount end count count) }

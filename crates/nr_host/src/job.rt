@@ -3,23 +3,23 @@
 ghost use Rattle.std.specs.Prelude.{◌≡◌, ℕ, false};
 ghost use Rattle.std.specs.Arc.{arc_value};
 ghost use Rattle.nr_turnstile.specs.Passes.{Rests};
-ghost use Rattle.nr_plain.specs.History.{known_of};
+ghost use Rattle.nr_plain.specs.History.{pass_view};
 ghost use Rattle.nr_host.specs.Ending.{SinkCount, SourceCount};
 ghost use Rattle.nr_host.specs.Steps.{IsServed, outside, sink_state};
 
 use crate::conn_end::ConnEnd;
 use crate::connection::serve_connection;
 use nr_jobs::Job;
-use nr_links::Clock;
-use nr_outside::{Sink, Source};
+use nr_links::{Clock, LinkNumber, LinkSink, LinkSource, NumberedSink, NumberedSource};
 use nr_plain::Server;
 use nr_turnstile::{Machine, Pass, Turnstile};
 use std::alloc::Global;
+use std::marker::Brand;
 use std::sync::{Arc, Wait};
 
-/// One connection, with all that it uses. The pass is of the turnstile.
+/// One connection, with all that it uses. The source and the sink are those of one link, and the pass is of the turnstile.
 #[derive(Drop)]
-pub struct ServeJob<I, O, C, R> {
+pub struct ServeJob<I: LinkSource, O: LinkSink, C, R> {
     pub rt: R,
     pub alloc: Global,
     pub source: I,
@@ -29,6 +29,7 @@ pub struct ServeJob<I, O, C, R> {
     pub clock: C,
     pub credits: u32,
     ghost fits: { Rests (arc_value shared) pass },
+    ghost same: { I.link source ≡ O.link sink },
 }
 
 /// What is left of a connection that was served.
@@ -41,9 +42,46 @@ pub struct Carried<I, O, C> {
     pub end: ConnEnd,
 }
 
+/// Serves the connection of a link. The types keep the number of the link.
+fn serve_numbered<N: LinkNumber, I: LinkSource, O: LinkSink, C: Clock, R: Wait>(
+    rt: &R,
+    alloc: Global,
+    source: I,
+    sink: O,
+    shared: &Turnstile<Server>,
+    pass: &mut Pass<Server>,
+    clock: &mut C,
+    credits: u32,
+) -> (I, O, ConnEnd)
+    requires rests { Rests shared.now pass.old }
+    requires source { I.link source ≡ N.number }
+    requires sink { O.link sink ≡ N.number }
+    ensures rests { Rests shared.now pass.new }
+    ensures served { IsServed credits (outside (I.left source) (I.given source) (sink_state (O.taken sink) (O.faults sink) false) (C.gave clock.old) (pass_view pass.old))
+        (outside (I.left result.0) (I.given result.0) (sink_state (O.taken result.1) (O.faults result.1) false) (C.gave clock.new) (pass_view pass.new)) result.2 }
+    ensures source_count { SourceCount result.2 (I.faults source) (I.faults result.0) }
+    ensures sink_count { SinkCount result.2 (O.faults sink) (O.faults result.1) }
+    ensures source_link { I.link result.0 ≡ I.link source }
+    ensures sink_link { O.link result.1 ≡ O.link sink }
+{
+    let mut source: NumberedSource<I, N> = NumberedSource::new(source);
+    let mut sink: NumberedSink<O, N> = NumberedSink::new(sink);
+    let end = serve_connection(
+        rt,
+        alloc,
+        &mut source,
+        &mut sink,
+        shared,
+        pass,
+        clock,
+        credits,
+    );
+    (source.into_inner(), sink.into_inner(), end)
+}
+
 impl<
-    I: Source + Drop + Send + 'static,
-    O: Sink + Drop + Send + 'static,
+    I: LinkSource + Drop + Send + 'static,
+    O: LinkSink + Drop + Send + 'static,
     C: Clock + Drop + Send + 'static,
     R: Wait + Copy + Drop + Send + 'static,
 > Job for ServeJob<I, O, C, R> {
@@ -51,10 +89,12 @@ impl<
 
     fn run(self) -> Carried<I, O, C>
         ensures rests { Rests (arc_value self.shared) result.pass }
-        ensures served { IsServed self.credits (outside (I.left self.source) (I.given self.source) (sink_state (O.taken self.sink) (O.faults self.sink) false) (C.gave self.clock) (known_of self.pass))
-            (outside (I.left result.source) (I.given result.source) (sink_state (O.taken result.sink) (O.faults result.sink) false) (C.gave result.clock) (known_of result.pass)) result.end }
+        ensures served { IsServed self.credits (outside (I.left self.source) (I.given self.source) (sink_state (O.taken self.sink) (O.faults self.sink) false) (C.gave self.clock) (pass_view self.pass))
+            (outside (I.left result.source) (I.given result.source) (sink_state (O.taken result.sink) (O.faults result.sink) false) (C.gave result.clock) (pass_view result.pass)) result.end }
         ensures source_count { SourceCount result.end (I.faults self.source) (I.faults result.source) }
         ensures sink_count { SinkCount result.end (O.faults self.sink) (O.faults result.sink) }
+        ensures source_link { I.link result.source ≡ I.link self.source }
+        ensures sink_link { O.link result.sink ≡ O.link self.sink }
     {
         let ServeJob {
             rt,
@@ -66,15 +106,13 @@ impl<
             clock,
             credits,
         } = self;
-        let mut source = source;
-        let mut sink = sink;
         let mut pass = pass;
         let mut clock = clock;
-        let end = serve_connection(
+        let (source, sink, end) = serve_numbered::<Brand, I, O, C, R>(
             &rt,
             alloc,
-            &mut source,
-            &mut sink,
+            source,
+            sink,
             &shared,
             &mut pass,
             &mut clock,

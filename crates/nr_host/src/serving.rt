@@ -4,7 +4,7 @@ ghost use Rattle.std.specs.Prelude.{◌≡◌, ℕ, ◌+◌, ◌<◌, ◌≤◌,
 ghost use Rattle.std.specs.Arc.{arc_value};
 ghost use Rattle.nr_outside.specs.Faults.{Rises};
 ghost use Rattle.nr_turnstile.specs.Passes.{Rests};
-ghost use Rattle.nr_plain.specs.History.{known_of};
+ghost use Rattle.nr_plain.specs.History.{pass_view};
 ghost use Rattle.nr_host.specs.declared.conn_end.ConnEnd.{ConnEnd};
 ghost use Rattle.nr_host.specs.Serving.{AcceptorCount, BackCount, HandsBack, Serves, TakesLink, TakesOne, between};
 
@@ -43,9 +43,9 @@ pub enum ServeFault {
 /// The size of the block that `raise_trim_threshold` allocates, in bytes.
 const TRIM_BLOCK_LEN: usize = 1 << 21;
 
-/// Allocates a block and frees it, if there is memory for it. It is never written, so no page is mapped. The allocator of the GNU C library
-/// then keeps up to twice that size of free memory. Before, it returned all but 128 KiB of it to the system after each call, and had to map
-/// it again for the next one.
+/// Allocates a block and frees it, if there is memory for it. It is never written, so no page is mapped. The allocator
+/// of the GNU C library then keeps up to twice that size of free memory. Before, it returned all but 128 KiB of it to
+/// the system after each call, and had to map it again for the next one.
 fn raise_trim_threshold(alloc: Global) {
     let block: Result<Vec<u8>, AllocError> = Vec::with_capacity(alloc, TRIM_BLOCK_LEN);
     drop(block);
@@ -70,10 +70,10 @@ where
     requires room { P.started spawner.old < 2 ^ 64 - 1 }
     ensures rests { Rests (arc_value shared.now) pass.new }
     ensures served { IfOk result (λ link. TakesLink credits
-        (between (A.ended acceptor.old) (A.lost acceptor.old) (P.started spawner.old) (known_of pass.old)) link
-        (between (A.ended acceptor.new) (A.lost acceptor.new) (P.started spawner.new) (known_of pass.new))) }
-    ensures err { OnErr result (between (A.ended acceptor.new) (A.lost acceptor.new) (P.started spawner.new) (known_of pass.new)
-        ≡ between (A.ended acceptor.old) (A.lost acceptor.old) (P.started spawner.old) (known_of pass.old)) }
+        (between (A.ended acceptor.old) (A.lost acceptor.old) (P.started spawner.old) (pass_view pass.old)) link
+        (between (A.ended acceptor.new) (A.lost acceptor.new) (P.started spawner.new) (pass_view pass.new))) }
+    ensures err { OnErr result (between (A.ended acceptor.new) (A.lost acceptor.new) (P.started spawner.new) (pass_view pass.new)
+        ≡ between (A.ended acceptor.old) (A.lost acceptor.old) (P.started spawner.old) (pass_view pass.old)) }
     ensures back { IfOk result (λ link. HandsBack link (P.faults spawner.old) (P.faults spawner.new)) }
     ensures back_err { OnErr result (P.faults spawner.new ≡ P.faults spawner.old) }
     ensures never_falls { P.faults spawner.old ≤ P.faults spawner.new }
@@ -115,8 +115,8 @@ where
     Ok(Some(end))
 }
 
-/// Takes one link more, and counts its job, or notes its end if it was served here. There is room for that first, so that no link is
-/// accepted in vain.
+/// Takes one link more, and counts its job, or notes its end if it was served here. There is room for that first, so
+/// that no link is accepted in vain.
 fn serve_one<A: Acceptor, C: Clock, P: Spawner, R: Threads + Wait + Copy + Drop + Send + 'static>(
     rt: R,
     alloc: Global,
@@ -138,12 +138,12 @@ where
     requires count { started.old < 2 ^ 64 - 1 }
     ensures rests { Rests (arc_value shared.now) pass.new }
     ensures served { OnOk result (TakesOne credits
-        (between (A.ended acceptor.old) (A.lost acceptor.old) (P.started spawner.old) (known_of pass.old)) ends.old.items ends.new.items
-        (between (A.ended acceptor.new) (A.lost acceptor.new) (P.started spawner.new) (known_of pass.new))) }
+        (between (A.ended acceptor.old) (A.lost acceptor.old) (P.started spawner.old) (pass_view pass.old)) ends.old.items ends.new.items
+        (between (A.ended acceptor.new) (A.lost acceptor.new) (P.started spawner.new) (pass_view pass.new))) }
     ensures one { OnOk result (started.new + length ends.new.items ≡ started.old + length ends.old.items + 1) }
     ensures started { OnOk result (P.started spawner.new + started.old ≡ P.started spawner.old + started.new) }
-    ensures err { OnErr result (between (A.ended acceptor.new) (A.lost acceptor.new) (P.started spawner.new) (known_of pass.new)
-        ≡ between (A.ended acceptor.old) (A.lost acceptor.old) (P.started spawner.old) (known_of pass.old)) }
+    ensures err { OnErr result (between (A.ended acceptor.new) (A.lost acceptor.new) (P.started spawner.new) (pass_view pass.new)
+        ≡ between (A.ended acceptor.old) (A.lost acceptor.old) (P.started spawner.old) (pass_view pass.old)) }
     ensures same { OnErr result (started.new ≡ started.old) }
     ensures kept { OnErr result (ends.new.items ≡ ends.old.items) }
     ensures back { OnOk result ((first : ℕ) → first ≤ P.faults spawner.old → BackCount ends.old.items first (P.faults spawner.old) → BackCount ends.new.items first (P.faults spawner.new)) }
@@ -195,8 +195,8 @@ where
     requires none { ends.old.items ≡ [] }
     ensures rests { Rests (arc_value shared.now) pass.new }
     ensures served { Serves credits
-        (between (A.ended acceptor.old) (A.lost acceptor.old) (P.started spawner.old) (known_of pass.old)) ends.new.items
-        (between (A.ended acceptor.new) (A.lost acceptor.new) (P.started spawner.new) (known_of pass.new)) }
+        (between (A.ended acceptor.old) (A.lost acceptor.old) (P.started spawner.old) (pass_view pass.old)) ends.new.items
+        (between (A.ended acceptor.new) (A.lost acceptor.new) (P.started spawner.new) (pass_view pass.new)) }
     ensures all { IfOk result (λ started. (started + length ends.new.items ≡ connections) × (P.started spawner.new ≡ P.started spawner.old + started)) }
     ensures fewer { OnErr result (P.started spawner.new + length ends.new.items < P.started spawner.old + connections) }
     ensures back { BackCount ends.new.items (P.faults spawner.old) (P.faults spawner.new) }
@@ -226,13 +226,14 @@ where
     Ok(started)
 }
 
-/// Accepts `connections` links. Each is served to its end, whatever its end is: in a job that the spawner starts, or, if the spawner hands it
-/// back, here. Each is granted `credits` (RFC 8166 section 3.3). Waits until all jobs have ended.
+/// Accepts `connections` links. Each is served to its end, whatever its end is: in a job that the spawner starts, or,
+/// if the spawner hands it back, here. Each is granted `credits` (RFC 8166 section 3.3). Waits until all jobs have
+/// ended.
 ///
 /// # Errors
 ///
-/// [`ServeFault::AcceptFault`] if the acceptor failed, as it does before it listens; [`ServeFault::Memory`] if there is no memory for another
-/// link or its end. What was served until then stays.
+/// [`ServeFault::AcceptFault`] if the acceptor failed, as it does before it listens; [`ServeFault::Memory`] if there is
+/// no memory for another link or its end. What was served until then stays.
 pub fn serve<A: Acceptor, C: Clock, P: Spawner, R: Threads + Wait + Copy + Drop + Send + 'static>(
     rt: R,
     alloc: Global,
@@ -252,13 +253,14 @@ where
     requires room { P.started spawner.old < 2 ^ 63 }
     ensures rests { Rests (arc_value shared.now) pass.new }
     ensures served { IfOk result (λ ran. Serves credits
-        (between (A.ended acceptor.old) (A.lost acceptor.old) (P.started spawner.old) (known_of pass.old)) ran.ends
-        (between (A.ended acceptor.new) (A.lost acceptor.new) (P.started spawner.new) (known_of pass.new))) }
+        (between (A.ended acceptor.old) (A.lost acceptor.old) (P.started spawner.old) (pass_view pass.old)) ran.ends
+        (between (A.ended acceptor.new) (A.lost acceptor.new) (P.started spawner.new) (pass_view pass.new))) }
     ensures all { IfOk result (λ ran. (ran.started + length ran.ends ≡ connections) × (P.started spawner.new ≡ P.started spawner.old + ran.started)) }
     ensures back { IfOk result (λ ran. BackCount ran.ends (P.faults spawner.old) (P.faults spawner.new)) }
+    ensures ended { P.ended spawner.new ≡ P.started spawner.new }
     ensures err { OnErr result ((ends : List ConnEnd) × ((P.started spawner.new + length ends < P.started spawner.old + connections) × Serves credits
-        (between (A.ended acceptor.old) (A.lost acceptor.old) (P.started spawner.old) (known_of pass.old)) ends
-        (between (A.ended acceptor.new) (A.lost acceptor.new) (P.started spawner.new) (known_of pass.new)))) }
+        (between (A.ended acceptor.old) (A.lost acceptor.old) (P.started spawner.old) (pass_view pass.old)) ends
+        (between (A.ended acceptor.new) (A.lost acceptor.new) (P.started spawner.new) (pass_view pass.new)))) }
     ensures counted { MatchResult result
         (λ _. A.faults acceptor.new ≡ A.faults acceptor.old) (λ fault. AcceptorCount fault (A.faults acceptor.old) (A.faults acceptor.new)) }
     ensures asked { A.asked acceptor.new ≡ A.asked acceptor.old }

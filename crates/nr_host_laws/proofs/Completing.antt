@@ -18,7 +18,7 @@ use Rattle.nr_reduce.specs.Run.{server}
 use Rattle.nr_reduce.specs.ServerState.{PendingCall}
 use Rattle.nr_host_laws.proofs.Lawful.{keep_the_law, with_credits}
 use Rattle.nr_reduce.specs.Served.{Served}
-use Rattle.nr_plain.specs.History.{Opening, history, setup_in}
+use Rattle.nr_plain.specs.History.{IsHistory, Opening, setup_in}
 use Rattle.nr_host.specs.Serving.{split_off}
 use Rattle.nr_links.specs.Limits.{read_max}
 use Rattle.nr_links.specs.Links.{CountsLost, is_faulty}
@@ -65,7 +65,7 @@ not_memory e = absurd cc
 abbrev terms_of : ℕ → ℕ → Terms
 terms_of credits read = record { credits = credits; read = read }
 
-module _ (credits : ℕ) (before after : Outside) (first : Opening) (J : List Entry) (stream : List ℕ) (stands : before.known.seen ≡ history first J) (known : before.left ≡ Some stream)
+module _ (credits : ℕ) (before after : Outside) (first : Opening) (J : List Entry) (stream : List ℕ) (stands : IsHistory first J before.view.seen) (known : before.left ≡ Some stream)
     (complete : IsCompleteStream credits (setup_in first) J stream) where
   consumed : (read link : ℕ) (failed : Bool) (ahead : List ℕ) (more : List Moment) (run : List Mark) → Runs (terms_of credits read) link before (with_failed failed after) ahead more run
       → Consumes (Some stream) after.left (bytes_received link Responder run ++ ahead)
@@ -180,7 +180,7 @@ links_complete credits before after end first J stream served fine stands known 
     let none : (served.source_faults ≡ 0) × (served.sink_faults ≡ 0) =
     no_fault served.source_faults served.sink_faults (not_lost served.source_faults served.sink_faults before.lost after.lost served.lost fine) in
     completes credits
-    (outside served.opened.left served.opened.given (sink_state served.opened.taken 0 false) served.gave (split_off before.known))
+    (outside served.opened.left served.opened.given (sink_state served.opened.taken 0 false) served.gave (split_off before.view))
     (outside served.closed.left served.closed.given (sink_state served.closed.taken served.sink_faults false) served.gave' served.own)
     end 0 served.source_faults first J stream served.served served.source_count served.sink_count
     (no_rise served.source_faults none.0) (no_rise served.sink_faults none.1) stands known complete

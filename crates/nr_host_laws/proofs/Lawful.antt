@@ -87,7 +87,7 @@ module _ (terms : Terms) (link : ℕ) (before now : Outside) (ahead : List ℕ) 
     served = λ opened is. AtEachMark_each (KeepsTo IsAll opened link) (ServedMark IsPrefixOf opened link) [] (merge link [] run) (λ b m h. served_mark opened link b m h.1.0) (as_whole opened is).0;
     quiet = λ opened is. AtEachMark_each (KeepsTo IsAll opened link) (QuietMark opened link) [] (merge link [] run) (λ b m h. h.1.1.0) (as_whole opened is).0;
     frames = λ opened is. AtEachMark_each (KeepsTo IsAll opened link) (FrameMark opened link) [] (merge link [] run) (λ b m h. h.1.1.1) (as_whole opened is).0;
-    over = subst (λ (calls : List Answered). Over before.known calls now.known) (sym same_run.answers) r.over;
+    over = subst (λ (calls : List Answered). Over before.view calls now.view) (sym same_run.answers) r.over;
     gave = subst (λ (l : List Moment). GivesAll before.gave now.gave (l ++ more)) (sym same_run.times) r.gave;
     count = ap (λ (l : List ℕ). length l + length ahead) same_run.received ∙ r.count;
   }

@@ -22,7 +22,7 @@ use Rattle.nr_reduce.specs.Run.{server}
 use Rattle.nr_reduce.specs.Served.{Served}
 use Rattle.nr_laws.specs.Typed.{IsTyped}
 use Rattle.nr_plain.specs.Setup.{Setup}
-use Rattle.nr_plain.specs.History.{Opening, history, setup_in}
+use Rattle.nr_plain.specs.History.{IsHistory, Opening, setup_in}
 use Rattle.nr_host.specs.Connections.{Outside}
 use Rattle.nr_host.specs.Ending.{Ended, SinkCount, SourceCount}
 use Rattle.nr_host.specs.Serving.{Between, ServesLink, split_off}
@@ -51,7 +51,7 @@ ConnectionsComplete =
     (credits : ℕ) (before after : Outside) (end : ConnEnd) (source source' : ℕ) (first : Opening) (J : List Entry) (stream : List ℕ) →
     IsServed credits before after end → SourceCount end source source' → SinkCount end before.sink.faults after.sink.faults →
     (Rises source source' → ⊥) → (Rises before.sink.faults after.sink.faults → ⊥) →
-    before.known.seen ≡ history first J → before.left ≡ Some stream → IsCompleteStream credits (setup_in first) J stream →
+    IsHistory first J before.view.seen → before.left ≡ Some stream → IsCompleteStream credits (setup_in first) J stream →
     Completes credits first J before after stream end
 
 -- A link of `serve`. The count of lost links doesn't rise.
@@ -59,9 +59,9 @@ abbrev pub LinksComplete : Type 0
 LinksComplete =
     (credits : ℕ) (before after : Between) (end : ConnEnd) (first : Opening) (J : List Entry) (stream : List ℕ) (served : ServesLink credits before after end) →
     (Rises before.lost after.lost → ⊥) →
-    before.known.seen ≡ history first J → served.opened.left ≡ Some stream → IsCompleteStream credits (setup_in first) J stream →
+    IsHistory first J before.view.seen → served.opened.left ≡ Some stream → IsCompleteStream credits (setup_in first) J stream →
     Completes credits first J
-    (outside served.opened.left served.opened.given (sink_state served.opened.taken 0 false) served.gave (split_off before.known))
+    (outside served.opened.left served.opened.given (sink_state served.opened.taken 0 false) served.gave (split_off before.view))
     (outside served.closed.left served.closed.given (sink_state served.closed.taken served.sink_faults false) served.gave' served.own) stream end
 
 -- A client that sends nothing, or its hello alone, sends a complete stream, whatever the server stands for.

@@ -50,7 +50,7 @@ pub record ServesStream (credits : ℕ) (first : Opening) (J : List Entry) (link
   pub given : Appends before.given after.given stream
   pub taken : Appends before.sink.taken after.sink.taken (bytes_sent link Responder run)
   pub gave : GivesAll before.gave after.gave (moments run)
-  pub over : OverHistory first J before.known.mine (answers_of run) after.known
+  pub over : OverHistory first J before.view (answers_of run) after.view
   pub made : (opened : LinkParameters) → opened.granted ≡ credits → MayHaveMade (setup_in first) J opened link stream run
   pub served : (opened : LinkParameters) → opened.granted ≡ credits → Served opened link run
   pub idle : (opened : LinkParameters) → opened.granted ≡ credits → IsIdle opened link run

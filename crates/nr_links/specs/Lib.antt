@@ -1,4 +1,5 @@
 pub mod Asked
+pub mod CountedState
 pub mod Limits
 pub mod Links
 pub mod MemClock

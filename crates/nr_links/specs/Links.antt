@@ -1,16 +1,17 @@
 -- Links: what is known of those that a dialer or an acceptor made.
-use Rattle.std.specs.Prelude.{◌≡◌, ℕ, ⊤, ◌+◌, ◌<◌, Bool, nat_lt, ◌||◌, List, [], ◌∷◌, ◌++◌, length, Option, None, Some, IfSome, MatchBool}
-use Rattle.nr_outside.specs.Faults.{Rises}
+use Rattle.std.specs.Prelude.{◌≡◌, ℕ, ⊤, ◌+◌, ◌<◌, Bool, nat_lt, ◌||◌, List, [], ◌∷◌, ◌++◌, length, Option, None, Some, IfSome, MatchBool, Result, Ok, Err}
+use Rattle.nr_outside.specs.Faults.{Rises, next_count}
 
--- a link as it was hung up: the bytes that its source had handed out, those that it had left, and the bytes that its sink
--- had taken, each if it is known
+-- a link as it was hung up: its number, the bytes that its source had handed out, those that it had left, and the bytes that
+-- its sink had taken, each if it is known
 pub record EndedLink : Type 0 where
+  pub number : ℕ
   pub given : Option (List ℕ)
   pub left : Option (List ℕ)
   pub taken : Option (List ℕ)
 
-abbrev pub ended_link : Option (List ℕ) → Option (List ℕ) → Option (List ℕ) → EndedLink
-ended_link given left taken = record { given = given; left = left; taken = taken }
+abbrev pub ended_link : ℕ → Option (List ℕ) → Option (List ℕ) → Option (List ℕ) → EndedLink
+ended_link number given left taken = record { number = number; given = given; left = left; taken = taken }
 
 -- how many links were made, and those that were hung up, in order
 pub record LinkLog : Type 0 where
@@ -41,6 +42,27 @@ pub record IsNewLink (given taken : Option (List ℕ)) (source_faults sink_fault
   pub nothing_taken : IfSome taken (λ bytes. bytes ≡ [])
   pub no_source_fault : source_faults ≡ 0
   pub no_sink_fault : sink_faults ≡ 0
+
+-- a new link whose bytes are known
+pub record IsToldNew (given left taken : Option (List ℕ)) : Type 0 where
+  pub nothing_given : given ≡ Some []
+  pub nothing_taken : taken ≡ Some []
+  pub left_told : (bytes : List ℕ) × (left ≡ Some bytes)
+
+-- if the log is known, so are the bytes of a new link
+abbrev pub IsTold : Option LinkLog → (given left taken : Option (List ℕ)) → Type 0
+IsTold known given left taken = IfSome known (λ _. IsToldNew given left taken)
+
+-- both halves of a new link have the next number, which is how many links were made before, if the log is known
+pub record IsNumbered (known : Option LinkLog) (next source_link sink_link : ℕ) : Type 0 where
+  pub source : source_link ≡ next
+  pub sink : sink_link ≡ next
+  pub counts : IfSome known (λ log. log.made ≡ next)
+
+-- the number after a call that made a link, or failed
+abbrev pub CountsNumber : {T E : Type 0} → Result T E → (before after : ℕ) → Type 0
+CountsNumber (Ok link) before after = after ≡ next_count before
+CountsNumber (Err error) before after = after ≡ before
 
 -- whether a call of the source or of the sink of a link failed
 abbrev pub is_faulty : ℕ → ℕ → Bool

@@ -1,9 +1,9 @@
 -- Links in memory.
 use Rattle.std.specs.Prelude.{ℕ, ◌+◌, Bool, false, true, if◌then◌else◌, List, [], ◌∷◌, ◌++◌, map, drop, take, Some}
-use Rattle.nr_outside.specs.AdapterState.{AdapterState}
 use Rattle.nr_outside.specs.Faults.{next_count}
 use Rattle.nr_outside.specs.MemSink.{MemSinkState}
 use Rattle.nr_outside.specs.MemSource.{MemSourceState}
+use Rattle.nr_links.specs.CountedState.{CountedState}
 use Rattle.nr_links.specs.Links.{EndedLink, LinkLog, ended_link, is_faulty}
 use Rattle.nr_links.specs.declared.mem_links.LinkPlan.{LinkPlan}
 use Rattle.nr_links.specs.declared.mem_links.MemLink.{MemLink}
@@ -33,21 +33,23 @@ abbrev pub has_some : List (List ℕ) → Bool
 has_some [] = false
 has_some (address ∷ others) = true
 
--- the source and the sink of a link as it is made
-abbrev pub new_source : LinkPlan → AdapterState MemSourceState
-new_source p = record {
+-- the source and the sink of a link as it is made, with its number
+abbrev pub new_source : ℕ → LinkPlan → CountedState MemSourceState
+new_source number p = record {
   inner = record { bytes = p.bytes.items; place = 0; sizes = p.sizes.items; failing = p.failing_reads.items; calls = 0; faults = 0 };
   faults = 0;
+  link = number;
 }
 
-abbrev pub new_sink : LinkPlan → AdapterState MemSinkState
-new_sink p = record {
+abbrev pub new_sink : ℕ → LinkPlan → CountedState MemSinkState
+new_sink number p = record {
   inner = record { bytes = []; failing = p.failing_writes.items; calls = 0; faults = 0 };
   faults = 0;
+  link = number;
 }
 
-abbrev pub new_link : LinkPlan → MemLink
-new_link p = record { source = new_source p; sink = new_sink p }
+abbrev pub new_link : ℕ → LinkPlan → MemLink
+new_link number p = record { source = new_source number p; sink = new_sink number p }
 
 -- after a call that failed
 abbrev pub after_failed : MemLinksState → MemLinksState
@@ -66,7 +68,7 @@ after_ended s link = record s {
 
 -- the log of the links
 abbrev pub as_ended : MemLink → EndedLink
-as_ended link = ended_link (Some (take link.source.inner.place link.source.inner.bytes))
+as_ended link = ended_link link.source.link (Some (take link.source.inner.place link.source.inner.bytes))
     (Some (drop link.source.inner.place link.source.inner.bytes)) (Some link.sink.inner.bytes)
 
 abbrev pub link_log : MemLinksState → LinkLog

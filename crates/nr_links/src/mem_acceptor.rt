@@ -1,4 +1,4 @@
-ghost use Rattle.std.specs.Prelude.{◌≡◌, ◌⊎◌, [], ◌++◌, ◌∷◌, Some, false, IfOk, OnOk, OnErr, IsErr, Contains, slice_get, option_map, length, ◌<◌, ◌≤◌};
+ghost use Rattle.std.specs.Prelude.{◌≡◌, ◌⊎◌, [], ◌++◌, ◌∷◌, Some, false, IfOk, OnOk, OnErr, IsErr, Contains, slice_get, option_map, length, ◌<◌, ◌≤◌, ◌^◌};
 ghost use Rattle.nr_links.specs.MemLinks.{planned, has_some, new_link, after_failed, after_made, after_ended, link_log};
 ghost use Rattle.nr_links.specs.declared.mem_links.MemLink.{MemLink};
 
@@ -68,6 +68,8 @@ impl Acceptor for MemAcceptor {
 
     ghost ended = { λ s. Some (link_log s.links) };
 
+    ghost next = { λ s. s.links.made };
+
     ghost listens = { λ s. has_some s.asked };
 
     /// Listens, or fails if memory runs out.
@@ -88,8 +90,9 @@ impl Acceptor for MemAcceptor {
     /// The next link, or `Failed` if it doesn't listen, the call is listed, no link is left or memory runs out.
     fn accept(&mut self) -> Result<(Counted<MemSource>, Counted<MemSink>), Failed>
         ensures fails { Contains self.old.links.failing self.old.links.calls ⊎ (self.old.links.plans ≡ []) ⊎ (has_some self.old.asked ≡ false) → IsErr result }
-        ensures link { IfOk result (λ link. option_map new_link (slice_get self.old.links.plans 0) ≡ Some (record { source = link.0; sink = link.1 })) }
+        ensures link { IfOk result (λ link. option_map (new_link self.old.links.made) (slice_get self.old.links.plans 0) ≡ Some (record { source = link.0; sink = link.1 })) }
         ensures ok { OnOk result (self.new ≡ record self.old { links = after_made self.old.links }) }
+        ensures few { OnOk result (self.new.links.made < 2 ^ 63) }
         ensures room { OnOk result (length self.new.links.ended < self.new.links.made) }
         ensures err { OnErr result (self.new ≡ record self.old { links = after_failed self.old.links }) }
         ensures never_falls { self.old.links.faults ≤ self.new.links.faults }
@@ -102,7 +105,8 @@ impl Acceptor for MemAcceptor {
     }
 
     fn hang_up(&mut self, source: Counted<MemSource>, sink: Counted<MemSink>)
-        requires { length self.old.links.ended < self.old.links.made }
+        requires made { length self.old.links.ended < self.old.links.made }
+        requires same { source.link ≡ sink.link }
         ensures ended { self.new ≡ record self.old { links = after_ended self.old.links (record { source = source; sink = sink }) } }
         ensures never_falls { self.old.links.lost ≤ self.new.links.lost }
     {

@@ -1,4 +1,4 @@
-ghost use Rattle.std.specs.Prelude.{◌≡◌, ◌+◌, ◌<◌, ◌≤◌, ◌⊎◌, [], Some, IfOk, OnOk, OnErr, IsErr, Contains, slice_get, option_map, length, drop, vec_len, vec_capacity};
+ghost use Rattle.std.specs.Prelude.{◌≡◌, ◌+◌, ◌<◌, ◌≤◌, ◌⊎◌, ◌^◌, [], Some, IfOk, OnOk, OnErr, IsErr, Contains, slice_get, option_map, length, drop, vec_len, vec_capacity};
 ghost use Rattle.nr_links.specs.MemLinks.{planned, new_link, after_failed, after_made, after_ended};
 
 use crate::counted::Counted;
@@ -81,8 +81,9 @@ impl MemLinks {
     /// Makes the first of the planned links, and room for its end.
     pub(crate) fn make(&mut self) -> Result<MemLink, Failed>
         ensures fails { Contains self.old.failing self.old.calls ⊎ (self.old.plans ≡ []) → IsErr result }
-        ensures link { IfOk result (λ link. option_map new_link (slice_get self.old.plans 0) ≡ Some link) }
+        ensures link { IfOk result (λ link. option_map (new_link self.old.made) (slice_get self.old.plans 0) ≡ Some link) }
         ensures ok { OnOk result (self.new ≡ after_made self.old) }
+        ensures few { OnOk result (self.new.made < 2 ^ 63) }
         ensures room { OnOk result (length self.new.ended < self.new.made) }
         ensures err { OnErr result (self.new ≡ after_failed self.old) }
         ensures never_falls { self.old.faults ≤ self.new.faults }
@@ -98,9 +99,10 @@ impl MemLinks {
             self.faults = self.faults.saturating_add(1);
             return Err(Failed);
         }
+        let number = self.made as u64;
         self.made += 1;
         let plan = first_plan(&mut self.plans);
-        Ok(link(self.alloc, plan))
+        Ok(link(self.alloc, plan, number))
     }
 
     /// Counts a call that fails.
@@ -144,9 +146,9 @@ fn first_plan(plans: &mut Vec<LinkPlan>) -> LinkPlan
     plans.remove(0)
 }
 
-/// The link of a plan.
-fn link(alloc: Global, plan: LinkPlan) -> MemLink
-    ensures { result ≡ new_link plan }
+/// The link of a plan, with its number.
+fn link(alloc: Global, plan: LinkPlan, number: u64) -> MemLink
+    ensures { result ≡ new_link number plan }
 {
     let LinkPlan {
         bytes,
@@ -155,8 +157,8 @@ fn link(alloc: Global, plan: LinkPlan) -> MemLink
         failing_writes,
     } = plan;
     MemLink {
-        source: Counted::new(MemSource::new(bytes, sizes, failing_reads)),
-        sink: Counted::new(MemSink::new(alloc, failing_writes)),
+        source: Counted::new(MemSource::new(bytes, sizes, failing_reads), number),
+        sink: Counted::new(MemSink::new(alloc, failing_writes), number),
     }
 }
 

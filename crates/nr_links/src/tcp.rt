@@ -37,16 +37,16 @@ impl Write for SendHalf {
     }
 }
 
-/// Both halves of a stream, which sends each write at once.
-pub(crate) fn halves(stream: TcpStream) -> io::Result<(TcpSource, TcpSink)>
-    ensures source { IfOk result (λ link. link.0.faults ≡ 0) }
-    ensures sink { IfOk result (λ link. link.1.faults ≡ 0) }
+/// Both halves of a stream, which sends each write at once, as the link of this number.
+pub(crate) fn halves(stream: TcpStream, number: u64) -> io::Result<(TcpSource, TcpSink)>
+    ensures source { IfOk result (λ link. (link.0.faults ≡ 0) × (link.0.link ≡ number)) }
+    ensures sink { IfOk result (λ link. (link.1.faults ≡ 0) × (link.1.link ≡ number)) }
 {
     stream.set_nodelay(true)?;
     let other = stream.try_clone()?;
     Ok((
-        Counted::new(StdSource::new(stream)),
-        Counted::new(StdSink::new(SendHalf { stream: other })),
+        Counted::new(StdSource::new(stream), number),
+        Counted::new(StdSink::new(SendHalf { stream: other }), number),
     ))
 }
 

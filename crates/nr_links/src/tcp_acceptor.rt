@@ -17,6 +17,7 @@ pub struct TcpAcceptor<N> {
     listener: Option<TcpListener>,
     faults: u64,
     lost: u64,
+    next: u64,
 }
 
 impl<N> Model for TcpAcceptor<N> {
@@ -25,19 +26,20 @@ impl<N> Model for TcpAcceptor<N> {
 
     ghost Value = { AcceptorState };
 
-    ghost view = { λ a. record { faults = a.faults; lost = a.lost; listens = is_some a.listener } };
+    ghost view = { λ a. record { faults = a.faults; lost = a.lost; next = a.next; listens = is_some a.listener } };
 }
 
 impl<N> TcpAcceptor<N> {
     /// An acceptor over this network, with no faults so far, which doesn't listen yet.
     pub fn new(net: N) -> TcpAcceptor<N>
-        ensures { result ≡ record { faults = 0; lost = 0; listens = false } }
+        ensures { result ≡ record { faults = 0; lost = 0; next = 0; listens = false } }
     {
         TcpAcceptor {
             net,
             listener: None,
             faults: 0,
             lost: 0,
+            next: 0,
         }
     }
 
@@ -64,14 +66,14 @@ impl<N> TcpAcceptor<N> {
 
 /// The next stream. A peer that went away before it was taken is passed over, and so is one whose stream can't be set up: an
 /// error of one peer's stream is none of the listener.
-fn take(listener: &TcpListener) -> io::Result<(TcpSource, TcpSink)>
-    ensures source { IfOk result (λ link. link.0.faults ≡ 0) }
-    ensures sink { IfOk result (λ link. link.1.faults ≡ 0) }
+fn take(listener: &TcpListener, number: u64) -> io::Result<(TcpSource, TcpSink)>
+    ensures source { IfOk result (λ link. (link.0.faults ≡ 0) × (link.0.link ≡ number)) }
+    ensures sink { IfOk result (λ link. (link.1.faults ≡ 0) × (link.1.link ≡ number)) }
 {
     for _ in 0..u64::MAX {
         match listener.accept() {
             Ok((stream, _)) => {
-                if let Ok(link) = halves(stream) {
+                if let Ok(link) = halves(stream, number) {
                     return Ok(link);
                 }
             }
@@ -95,6 +97,8 @@ impl<N: Net<Stream = TcpStream, Listener = TcpListener>> Acceptor for TcpAccepto
 
     ghost ended = { λ _. None };
 
+    ghost next = { λ s. s.next };
+
     ghost listens = { λ s. s.listens };
 
     fn listen(&mut self, addr: &str) -> Result<(), Failed>
@@ -113,25 +117,30 @@ impl<N: Net<Stream = TcpStream, Listener = TcpListener>> Acceptor for TcpAccepto
 
     fn accept(&mut self) -> Result<(TcpSource, TcpSink), Failed>
         ensures before { self.old.listens ≡ false → IsErr result }
-        ensures source { IfOk result (λ link. link.0.faults ≡ 0) }
-        ensures sink { IfOk result (λ link. link.1.faults ≡ 0) }
-        ensures ok { OnOk result (self.new ≡ self.old) }
+        ensures source { IfOk result (λ link. (link.0.faults ≡ 0) × (link.0.link ≡ self.old.next)) }
+        ensures sink { IfOk result (λ link. (link.1.faults ≡ 0) × (link.1.link ≡ self.old.next)) }
+        ensures ok { OnOk result (self.new ≡ record self.old { next = next_count self.old.next }) }
         ensures err { OnErr result (self.new ≡ record self.old { faults = next_count self.old.faults }) }
         ensures never_falls { self.old.faults ≤ self.new.faults }
     {
         let Some(listener) = &self.listener else {
             return Err(self.fail());
         };
-        match take(listener) {
-            Ok(link) => Ok(link),
+        match take(listener, self.next) {
+            Ok(link) => {
+                self.next = self.next.saturating_add(1);
+                Ok(link)
+            }
             Err(_) => Err(self.fail()),
         }
     }
 
     fn hang_up(&mut self, source: TcpSource, sink: TcpSink)
+        requires same { source.link ≡ sink.link }
         ensures listens { self.new.listens ≡ self.old.listens }
         ensures lost { CountsLost source.faults sink.faults self.old.lost self.new.lost }
         ensures faults { self.new.faults ≡ self.old.faults }
+        ensures next { self.new.next ≡ self.old.next }
     {
         self.lost = closed(self.lost, source, sink);
     }

@@ -1,4 +1,4 @@
-ghost use Rattle.std.specs.Prelude.{◌≡◌, ◌≤◌, None, IfOk, MatchResult};
+ghost use Rattle.std.specs.Prelude.{◌≡◌, ◌≤◌, None, IfOk, OnOk, OnErr};
 ghost use Rattle.nr_outside.specs.Faults.{next_count};
 ghost use Rattle.nr_links.specs.Links.{CountsLost};
 
@@ -15,6 +15,7 @@ pub struct TcpDialer<N> {
     net: N,
     faults: u64,
     lost: u64,
+    next: u64,
 }
 
 impl<N> Model for TcpDialer<N> {
@@ -22,31 +23,33 @@ impl<N> Model for TcpDialer<N> {
 
     ghost Value = { DialerState };
 
-    ghost view = { λ d. record { faults = d.faults; lost = d.lost } };
+    ghost view = { λ d. record { faults = d.faults; lost = d.lost; next = d.next } };
 }
 
 impl<N> TcpDialer<N> {
     /// A dialer over this network, with no faults so far.
     pub fn new(net: N) -> TcpDialer<N>
-        ensures { result ≡ record { faults = 0; lost = 0 } }
+        ensures { result ≡ record { faults = 0; lost = 0; next = 0 } }
     {
         TcpDialer {
             net,
             faults: 0,
             lost: 0,
+            next: 0,
         }
     }
 }
 
-/// A link to this address.
+/// A link to this address, of this number.
 fn connect<N: Net<Stream = TcpStream, Listener = TcpListener>>(
     net: &N,
     addr: &str,
+    number: u64,
 ) -> io::Result<(TcpSource, TcpSink)>
-    ensures source { IfOk result (λ link. link.0.faults ≡ 0) }
-    ensures sink { IfOk result (λ link. link.1.faults ≡ 0) }
+    ensures source { IfOk result (λ link. (link.0.faults ≡ 0) × (link.0.link ≡ number)) }
+    ensures sink { IfOk result (λ link. (link.1.faults ≡ 0) × (link.1.link ≡ number)) }
 {
-    halves(TcpStream::connect(net, addr)?)
+    halves(TcpStream::connect(net, addr)?, number)
 }
 
 impl<N: Net<Stream = TcpStream, Listener = TcpListener>> Dialer for TcpDialer<N> {
@@ -62,16 +65,20 @@ impl<N: Net<Stream = TcpStream, Listener = TcpListener>> Dialer for TcpDialer<N>
 
     ghost ended = { λ _. None };
 
+    ghost next = { λ s. s.next };
+
     fn dial(&mut self, addr: &str) -> Result<(TcpSource, TcpSink), Failed>
-        ensures source { IfOk result (λ link. link.0.faults ≡ 0) }
-        ensures sink { IfOk result (λ link. link.1.faults ≡ 0) }
-        ensures lost { self.new.lost ≡ self.old.lost }
-        ensures counted { MatchResult result
-            (λ _. self.new.faults ≡ self.old.faults) (λ _. self.new.faults ≡ next_count self.old.faults) }
+        ensures source { IfOk result (λ link. (link.0.faults ≡ 0) × (link.0.link ≡ self.old.next)) }
+        ensures sink { IfOk result (λ link. (link.1.faults ≡ 0) × (link.1.link ≡ self.old.next)) }
+        ensures ok { OnOk result (self.new ≡ record self.old { next = next_count self.old.next }) }
+        ensures err { OnErr result (self.new ≡ record self.old { faults = next_count self.old.faults }) }
         ensures never_falls { self.old.faults ≤ self.new.faults }
     {
-        match connect(&self.net, addr) {
-            Ok(link) => Ok(link),
+        match connect(&self.net, addr, self.next) {
+            Ok(link) => {
+                self.next = self.next.saturating_add(1);
+                Ok(link)
+            }
             Err(_) => {
                 self.faults = self.faults.saturating_add(1);
                 Err(Failed)
@@ -80,8 +87,10 @@ impl<N: Net<Stream = TcpStream, Listener = TcpListener>> Dialer for TcpDialer<N>
     }
 
     fn hang_up(&mut self, source: TcpSource, sink: TcpSink)
+        requires same { source.link ≡ sink.link }
         ensures lost { CountsLost source.faults sink.faults self.old.lost self.new.lost }
         ensures faults { self.new.faults ≡ self.old.faults }
+        ensures next { self.new.next ≡ self.old.next }
     {
         self.lost = closed(self.lost, source, sink);
     }

@@ -1,5 +1,5 @@
 -- A call adds one entry to the journal or none.
-use Rattle.std.proofs.Common.{◌≡◌, ℕ, ◌<◌, Bool, true, false, List, [], ◌∷◌, ◌++◌, length, Option, None, Some, Result, Ok, Err, ◌⊎◌, inl, inr, ⊎_elim, arith, refl, ap}
+use Rattle.std.proofs.Common.{◌≡◌, ℕ, ◌<◌, ◌≤◌, Bool, true, false, List, [], ◌∷◌, ◌++◌, length, Option, None, Some, Result, Ok, Err, ◌⊎◌, inl, inr, ⊎_elim, arith, refl, ap}
 use Rattle.std.specs.Prelude.{if◌then◌else◌}
 use Rattle.std.proofs.lemmas.List.{length-append}
 use Rattle.nr_outside.specs.declared.moment.Moment.{Moment}
@@ -11,7 +11,7 @@ use Rattle.nr_reduce.specs.declared.mark.Entry.{Entry}
 use Rattle.nr_plain.specs.Journal.{nfs_procedure_of}
 use Rattle.nr_plain.specs.Replies.{entries_if, cred_refusal}
 use Rattle.nr_plain.specs.Added.{entries_by_procedure, entries_by_cred, entries_by_head, entries_by_call, entries_of_call}
-use Rattle.nr_plain.specs.History.{AddsOne, AddsNone}
+use Rattle.nr_plain.specs.History.{AddsOne, AddsNone, CallsAddOneEntryAtMost}
 
 abbrev IsFew : List Entry → Type 0
 IsFew es = (es ≡ []) ⊎ ((e : Entry) × (es ≡ e ∷ []))
@@ -42,6 +42,12 @@ few_call m payload reply (Err at) = inl refl
 
 few : (m : Moment) (payload reply : List ℕ) → IsFew (entries_of_call m payload reply)
 few m payload reply = few_call m payload reply (call_of payload)
+
+pub one_at_most : CallsAddOneEntryAtMost
+one_at_most m payload reply = ⊎_elim
+    (λ (none : entries_of_call m payload reply ≡ []). let n = ap length none in (let short : length (entries_of_call m payload reply) ≤ 1 = omega (arith, n) in short))
+    (λ (one : AddsOne m payload reply). let n = ap length one.1 in (let short : length (entries_of_call m payload reply) ≤ 1 = omega (arith, n) in short))
+    (few m payload reply)
 
 module _ (m : Moment) (payload reply : List ℕ) (J : List Entry) (len place : ℕ) (len_is : len ≡ length (J ++ entries_of_call m payload reply)) (place_is : place ≡ length J) where
   pub adds_one : place < len → AddsOne m payload reply

@@ -11,7 +11,9 @@ use Rattle.nr_plain.specs.Added.{entries_of_call}
 use Rattle.nr_plain.specs.Journal.{state_of}
 use Rattle.nr_plain.specs.Replies.{Answer, plain_answer, plain_reply}
 use Rattle.nr_plain.specs.Setup.{Setup}
-use Rattle.nr_plain.specs.History.{AllPlaced, Answered, Executes, Finds, Known, Over, entries_in, history, own_places, own_places_of, setup_in}
+use Rattle.nr_plain.specs.History.{AllPlaced, Answered, Executes, IsHistory, OnlyOthersAdded, Over, PassView, entries_in, own_places, own_places_of, setup_in, xid_in}
+use Rattle.nr_plain.specs.declared.history_entry.HistoryEntry.{HistoryEntry}
+use Rattle.nr_plain.proofs.Histories.{begins_itself, begins_on, history_grows}
 
 plain_stays : (s : Setup) (J more : List Entry) (place : ℕ) (m : Moment) (payload : List ℕ) → place ≤ length J → plain_reply s (J ++ more) place m payload ≡ plain_reply s J place m payload
 plain_stays s J more place m payload low =
@@ -73,19 +75,20 @@ own_none : own_places [] ≡ []
 unfolding own_places
 own_none = refl
 
-pub over_none : (known : Known) → Over known [] known
-over_none known first J is = record {
+pub over_none : (view : PassView) → Over view [] view
+over_none view first J i = record {
   more = [];
-  seen = is ∙ ap (λ (l : List Entry). history first l) (sym (append-nil J));
+  begins = begins_itself view.seen;
+  seen = subst (λ (l : List Entry). IsHistory first l view.seen) (sym (append-nil J)) i;
   placed = (let same = ap length (append-nil J) in omega (arith, same));
-  mine_is = sym (append-nil known.mine) ∙ ap (λ (l : List ℕ). known.mine ++ l) (sym own_none);
+  mine_is = sym (append-nil view.mine) ∙ ap (λ (l : List ℕ). view.mine ++ l) (sym own_none);
 }
 
 -- a call was executed
-pub over_executed : (before now after : Known) (m : Moment) (payload reply : List ℕ) (place : ℕ) (calls : List Answered) → Over before calls now → Executes now after m payload reply place
+pub over_executed : (before now after : PassView) (client : ℕ) (m : Moment) (payload reply : List ℕ) (place : ℕ) (calls : List Answered) → Over before calls now → Executes now after client m payload reply place
     → Over before (calls ++ record { moment = m; payload = payload; place = place; reply = reply } ∷ []) after
-over_executed before now after m payload reply place calls over executes first J is =
-    let o = over first J is in
+over_executed before now after client m payload reply place calls over executes first J i =
+    let o = over first J i in
     let x = executes first (J ++ o.more) o.seen in
     let a : Answered = record { moment = m; payload = payload; place = place; reply = reply } in
     let es : List Entry = entries_of_call m payload reply in
@@ -94,7 +97,9 @@ over_executed before now after m payload reply place calls over executes first J
     let here : place ≤ length J1 = (let at = x.place_is in omega (arith, at)) in
     record {
       more = o.more ++ (x.others ++ es);
-      seen = x.seen ∙ ap (λ (l : List Entry). history first l) (sym all);
+      begins = begins_on before.seen x.found after.seen (begins_on before.seen now.seen x.found o.begins x.begins) (_, x.seen);
+      seen = subst (λ (l : List Entry). IsHistory first l after.seen) (sym all)
+          (subst (λ (h : List HistoryEntry). IsHistory first (J1 ++ es) h) (sym x.seen) (history_grows first J1 x.found client (xid_in payload) es x.found_is));
       placed = subst (λ (l : List Entry). AllPlaced (setup_in first) l (length J) (calls ++ a ∷ [])) (sym all)
           (place_last (setup_in first) J1 (length J) calls a (grow (setup_in first) (J ++ o.more) x.others (length J) calls o.placed) x.place_is
           (plain_stays (setup_in first) J1 es place m payload here ∙ x.replied)
@@ -105,14 +110,15 @@ over_executed before now after m payload reply place calls over executes first J
     }
 
 -- others may have added entries
-pub over_finds : (before now after : Known) (calls : List Answered) → Over before calls now → Finds now after → Over before calls after
-over_finds before now after calls over finds first J is =
-    let o = over first J is in
-    let f = finds first (J ++ o.more) o.seen in
+pub over_others : (before now after : PassView) (calls : List Answered) → Over before calls now → OnlyOthersAdded now after → Over before calls after
+over_others before now after calls over added first J i =
+    let o = over first J i in
+    let f = added first (J ++ o.more) o.seen in
     let all : (J ++ o.more) ++ f.others ≡ J ++ (o.more ++ f.others) = append_assoc J o.more f.others in
     record {
       more = o.more ++ f.others;
-      seen = f.seen ∙ ap (λ (l : List Entry). history first l) all;
+      begins = begins_on before.seen now.seen after.seen o.begins f.begins;
+      seen = subst (λ (l : List Entry). IsHistory first l after.seen) all f.seen;
       placed = subst (λ (l : List Entry). AllPlaced (setup_in first) l (length J) calls) all (grow (setup_in first) (J ++ o.more) f.others (length J) calls o.placed);
       mine_is = f.mine_is ∙ o.mine_is;
     }

@@ -26,6 +26,8 @@ use Rattle.nr_nfs_args.specs.Arguments.{NfsArguments, MountArguments, nfs_argume
 use Rattle.nr_nfs_res.specs.Mount.{umnt_res_codec, umntall_res_codec}
 use Rattle.nr_nfs_res.specs.Null.{null_res_codec}
 use Rattle.nr_nfs_res.specs.Results.{nfs_results_codec, mount_results_codec}
+use Rattle.nr_reduce.proofs.PlanKinds.{largest_small}
+use Rattle.nr_plain.specs.ReplySizes.{any_reply_max}
 use Rattle.nr_reduce.specs.Largest.{read_reply_max, readdir_reply_max, by_count, read_count, readdir_count, readdirplus_count, reply_limits, limit_of, nfs_reply_max, program_reply_max, target_reply_max, largest_reply}
 use Rattle.nr_reduce.specs.declared.mark.Entry.{Entry}
 use Rattle.nr_outside.specs.declared.moment.Moment.{Moment}
@@ -198,3 +200,11 @@ within_limit s st m payload a bytes sane e = by (call_of payload) e
     by (Ok head) found =
         subst (λ (b : Answer). length b.reply ≤ target_reply_max payload (target_of (Ok head))) (same_answer (answer_to s st m payload head) a found) (answer_short s st m payload head bytes sane)
     by (Err at) found = absurd cc
+
+-- no reply is longer than the maximum
+pub any_reply_small : (s : Parameters) (st : State) (m : Moment) (payload : List ℕ) (head : CallHead) (reply : List ℕ) → IsBytes payload → IsSane st.tree → call_of payload ≡ Ok head
+    → reply ≡ (answer_to s st m payload head).reply → length reply ≤ any_reply_max
+any_reply_small s st m payload head reply bytes sane found is =
+    let within = within_limit s st m payload (answer_to s st m payload head) bytes sane (ap (answer_by s st m payload) found) in
+    let small = largest_small payload in
+    let same = ap length is in omega (arith, within, small, same)

@@ -1,19 +1,22 @@
--- The history of a server that many share: what it was opened as, and then its journal. What a pass knows of it, and what a call under a turn makes of that.
-use Rattle.std.specs.Prelude.{◌≡◌, ℕ, suc, ◌+◌, ◌≤◌, List, [], ◌∷◌, ◌++◌, length, take, drop, Option, None, Some}
+-- The history of a server in a turnstile: what it was opened as, and then its journal. What a pass has seen of it, and
+-- what a call under a turn makes of that.
+use Rattle.std.specs.Prelude.{◌≡◌, ℕ, suc, ◌+◌, ◌≤◌, ◌==◌, if◌then◌else◌, List, [], ◌∷◌, ◌++◌, length, map, take, drop, Option, None, Some, unwrap_or}
 use Rattle.std.specs.List.{flat_map}
 use Rattle.std.specs.declared.snapshot.Snapshot.{Snapshot}
 use Rattle.nr_outside.specs.declared.moment.Moment.{Moment}
+use Rattle.nr_rpc.specs.Reading.{call_of, xid_of_call}
 use Rattle.nr_rpc.specs.declared.cred.Cred.TheVariants as creds
 use Rattle.nr_reduce.specs.declared.mark.Entry.{Entry}
 use Rattle.nr_plain.specs.Added.{entries_of_call}
 use Rattle.nr_plain.specs.Replies.{plain_reply}
 use Rattle.nr_plain.specs.Setup.{Setup}
 use Rattle.nr_plain.specs.Stands.{PlainServerState, RepresentsJournal}
-use Rattle.nr_turnstile.specs.Rule.{places_from}
+use Rattle.nr_turnstile.specs.Rule.{Begins, places_from}
 use Rattle.nr_turnstile.specs.Passes.{seen_by, mine_of}
 use Rattle.nr_turnstile.specs.declared.turnstile.Pass.{Pass}
-use Rattle.nr_plain.specs.declared.noted.Noted.{Noted}
-use Rattle.nr_plain.specs.declared.noted.Noted.TheVariants as noted
+use Rattle.nr_plain.specs.declared.history_entry.HistoryEntry.{HistoryEntry}
+use Rattle.nr_plain.specs.declared.history_entry.HistoryEntry.TheVariants.{Opened, Added}
+use Rattle.nr_plain.specs.declared.history_entry.TaggedEntry.{TaggedEntry}
 
 -- a server as it was opened, and its setup
 abbrev pub Opening : Type 0
@@ -25,82 +28,108 @@ setup_of kept = record { tree = kept.tree; parameters = kept.parameters }
 abbrev pub setup_in : Opening → Setup
 setup_in first = setup_of first.value
 
-abbrev pub added_all : List Entry → List Noted
-added_all [] = []
-added_all (e ∷ es) = noted.Added e ∷ added_all es
+-- ===== the history
 
--- the history of a server that was opened so and has this journal
-abbrev pub history : Opening → List Entry → List Noted
-history first J = noted.Opened first ∷ added_all J
+-- the entry of a call, with the number of its client and its xid, or 0 and 0 if the client has no number
+abbrev pub tagged : (client xid : ℕ) → Entry → TaggedEntry
+tagged client xid e = if client == 0 then record { entry = e; client = 0; xid = 0 } else record { entry = e; client = client; xid = xid }
 
--- the journal in a history
-abbrev pub journal_entry : Noted → List Entry
-journal_entry (noted.Opened first) = []
-journal_entry (noted.Added e) = e ∷ []
+-- the entries alone: all that a reply depends on
+abbrev pub entries_alone : List TaggedEntry → List Entry
+entries_alone T = map (λ (t : TaggedEntry). t.entry) T
 
-abbrev pub journal_in : List Noted → List Entry
-journal_in [] = []
-journal_in (x ∷ h) = journal_entry x ++ journal_in h
+-- a server that was opened so, and what was added to its journal since
+abbrev pub additions : List TaggedEntry → List HistoryEntry
+additions T = map (λ (t : TaggedEntry). Added t) T
+
+abbrev pub history : Opening → List TaggedEntry → List HistoryEntry
+history first T = Opened first ∷ additions T
+
+-- the history of a server that was opened so and has this journal, whoever added its entries
+pub record IsHistory (first : Opening) (J : List Entry) (h : List HistoryEntry) : Type 0 where
+  pub entries : List TaggedEntry
+  pub is : h ≡ history first entries
+  pub journal : entries_alone entries ≡ J
 
 -- a server stands for the history of a server with its setup and its journal
-abbrev pub StandsFor : PlainServerState → List Noted → Type 0
-StandsFor kept h = (first : Opening) × ((J : List Entry) × ((h ≡ history first J) × RepresentsJournal (setup_in first) J kept))
+abbrev pub StandsFor : PlainServerState → List HistoryEntry → Type 0
+StandsFor kept h = (first : Opening) × ((J : List Entry) × (IsHistory first J h × RepresentsJournal (setup_in first) J kept))
 
 -- no entry closes a place
-abbrev pub closes_none : Noted → Option ℕ
+abbrev pub closes_none : HistoryEntry → Option ℕ
 closes_none x = None
 
--- the history begins with this server
-abbrev pub IsOpenedBy : PlainServerState → List Noted → Type 0
+-- the history is that of this server as it was opened, with an empty journal
+abbrev pub IsOpenedBy : PlainServerState → List HistoryEntry → Type 0
 IsOpenedBy kept h = (first : Opening) × (first.value ≡ kept) × (h ≡ history first [])
 
--- what a call adds: one entry, or none
+-- ===== what a call adds
+
+abbrev pub xid_in : List ℕ → ℕ
+xid_in payload = unwrap_or (xid_of_call (call_of payload)) 0
+
+abbrev pub entries_added : (client : ℕ) → Moment → (payload reply : List ℕ) → List TaggedEntry
+entries_added client m payload reply = map (tagged client (xid_in payload)) (entries_of_call m payload reply)
+
+-- one entry, or none
 abbrev pub AddsOne : Moment → (payload reply : List ℕ) → Type 0
 AddsOne m payload reply = (e : Entry) × (entries_of_call m payload reply ≡ e ∷ [])
 
 abbrev pub AddsNone : Moment → (payload reply : List ℕ) → Type 0
 AddsNone m payload reply = entries_of_call m payload reply ≡ []
 
--- the entry of a call as one of the history, if the call adds one
-abbrev pub no_entry : Noted
-no_entry = noted.Added (record { moment = record { seconds = 0; nanos = 0 }; cred = creds.None; proc = 0; args = [] })
+-- a call adds one entry to the journal, or none
+abbrev pub CallsAddOneEntryAtMost : Type 0
+CallsAddOneEntryAtMost = (m : Moment) (payload reply : List ℕ) → length (entries_of_call m payload reply) ≤ 1
 
-abbrev pub first_noted : List Entry → Noted
-first_noted [] = no_entry
-first_noted (e ∷ es) = noted.Added e
+-- the entry of the history, for a call that adds one
+abbrev pub no_entry : HistoryEntry
+no_entry = Added (record { entry = record { moment = record { seconds = 0; nanos = 0 }; cred = creds.None; proc = 0; args = [] }; client = 0; xid = 0 })
 
-abbrev pub noted_of_call : Moment → (payload reply : List ℕ) → Noted
-noted_of_call m payload reply = first_noted (entries_of_call m payload reply)
+abbrev pub first_added : List TaggedEntry → HistoryEntry
+first_added [] = no_entry
+first_added (t ∷ T) = Added t
 
--- what a pass knows: the history that it has seen, and the places of its own entries in it
-pub record Known : Type 0 where
-  pub seen : List Noted
+abbrev pub entry_to_append : (client : ℕ) → Moment → (payload reply : List ℕ) → HistoryEntry
+entry_to_append client m payload reply = first_added (entries_added client m payload reply)
+
+-- ===== what a pass sees
+
+-- the view of a pass: the history that it has seen, and the places of its own entries in it
+pub record PassView : Type 0 where
+  pub seen : List HistoryEntry
   pub mine : List ℕ
 
-abbrev pub known_of : {M : Type 0} → Pass M Noted → Known
-known_of p = record { seen = seen_by p; mine = mine_of p }
+abbrev pub pass_view : {M : Type 0} → Pass M HistoryEntry → PassView
+pass_view p = record { seen = seen_by p; mine = mine_of p }
 
--- A pass saw the history again: others may have added entries to the journal.
-pub record FindsMore (first : Opening) (J : List Entry) (mine : List ℕ) (after : Known) : Type 0 where
+-- A pass had seen a server that was opened so and has this journal. It has seen the history again, and only others have
+-- added to it.
+pub record OthersAddedTo (first : Opening) (J : List Entry) (before after : PassView) : Type 0 where
   pub others : List Entry
-  pub seen : after.seen ≡ history first (J ++ others)
-  pub mine_is : after.mine ≡ mine
+  pub begins : Begins before.seen after.seen
+  pub seen : IsHistory first (J ++ others) after.seen
+  pub mine_is : after.mine ≡ before.mine
 
-abbrev pub Finds : (before after : Known) → Type 0
-Finds before after = (first : Opening) (J : List Entry) → before.seen ≡ history first J → FindsMore first J before.mine after
+abbrev pub OnlyOthersAdded : (before after : PassView) → Type 0
+OnlyOthersAdded before after = (first : Opening) (J : List Entry) → IsHistory first J before.seen → OthersAddedTo first J before after
 
--- A call was executed under one turn of a pass. Others may have added entries to the journal before it. The reply is that of the plain server at
--- the call's place, and the entry that it adds, if any, is the pass's own.
-pub record ExecutesAt (first : Opening) (J : List Entry) (mine : List ℕ) (after : Known) (m : Moment) (payload reply : List ℕ) (place : ℕ) : Type 0 where
+-- A call was executed under one turn of a pass. Others may have added entries to the journal before it. The reply is
+-- that of the plain server at the call's place, and the entry that the call adds, if any, is the last of the history,
+-- and the pass's own.
+pub record ExecutesAt (first : Opening) (J : List Entry) (before after : PassView) (client : ℕ) (m : Moment) (payload reply : List ℕ) (place : ℕ) : Type 0 where
   pub others : List Entry
+  pub found : List HistoryEntry
+  pub begins : Begins before.seen found
+  pub found_is : IsHistory first (J ++ others) found
   pub place_is : place ≡ length (J ++ others)
   pub replied : plain_reply (setup_in first) (J ++ others) place m payload ≡ Some reply
-  pub seen : after.seen ≡ history first ((J ++ others) ++ entries_of_call m payload reply)
-  pub mine_is : after.mine ≡ mine ++ places_from (suc place) (length (entries_of_call m payload reply))
+  pub seen : after.seen ≡ found ++ additions (entries_added client m payload reply)
+  pub mine_is : after.mine ≡ before.mine ++ places_from (suc place) (length (entries_of_call m payload reply))
 
-abbrev pub Executes : (before after : Known) → Moment → (payload reply : List ℕ) → (place : ℕ) → Type 0
-Executes before after m payload reply place =
-    (first : Opening) (J : List Entry) → before.seen ≡ history first J → ExecutesAt first J before.mine after m payload reply place
+abbrev pub Executes : (before after : PassView) → (client : ℕ) → Moment → (payload reply : List ℕ) → (place : ℕ) → Type 0
+Executes before after client m payload reply place =
+    (first : Opening) (J : List Entry) → IsHistory first J before.seen → ExecutesAt first J before after client m payload reply place
 
 -- ===== the calls of a pass, in order
 
@@ -115,7 +144,9 @@ pub record Answered : Type 0 where
 abbrev pub entries_in : Answered → List Entry
 entries_in a = entries_of_call a.moment a.payload a.reply
 
--- Each of these calls was answered as the plain server answers at its place in the journal J, and the entry that it added stands there. The places don't fall, from n on.
+-- Each of these calls was answered as the plain server answers at its place in the journal J, and the entry that it
+-- added stands there. The places don't fall: the first is at least n, and each later one is after the entry of the call
+-- before it.
 abbrev pub AllPlaced : Setup → List Entry → ℕ → List Answered → Type 0
 AllPlaced s J n [] = n ≤ length J
 AllPlaced s J n (a ∷ calls) =
@@ -124,21 +155,22 @@ AllPlaced s J n (a ∷ calls) =
     × ((take (length (entries_in a)) (drop a.place J) ≡ entries_in a)
     × AllPlaced s J (a.place + length (entries_in a)) calls))
 
--- the places in the history of the entries that they added (the history begins with the server as it was opened, so the entry at a place of the journal is at the next
--- place of the history)
+-- The places in the history of the entries that they added. The history begins with the server as it was opened, so the
+-- entry at a place of the journal is at the next place of the history.
 abbrev pub own_places_of : Answered → List ℕ
 own_places_of a = places_from (suc a.place) (length (entries_in a))
 
 unfoldable pub own_places : List Answered → List ℕ
 own_places calls = flat_map own_places_of calls
 
--- A pass had seen a server which was opened so, and its journal J, and has now seen more. These calls were answered in between, and what they added was added to the pass's
--- own. All that stands between them is of others.
-pub record OverHistory (first : Opening) (J : List Entry) (mine : List ℕ) (calls : List Answered) (after : Known) : Type 0 where
+-- A pass had seen a server that was opened so and has the journal J, and has now seen more. These calls were answered
+-- in between, and what they added is the pass's own. All else that was added is of others.
+pub record OverHistory (first : Opening) (J : List Entry) (before : PassView) (calls : List Answered) (after : PassView) : Type 0 where
   pub more : List Entry
-  pub seen : after.seen ≡ history first (J ++ more)
+  pub begins : Begins before.seen after.seen
+  pub seen : IsHistory first (J ++ more) after.seen
   pub placed : AllPlaced (setup_in first) (J ++ more) (length J) calls
-  pub mine_is : after.mine ≡ mine ++ own_places calls
+  pub mine_is : after.mine ≡ before.mine ++ own_places calls
 
-abbrev pub Over : (before : Known) → List Answered → (after : Known) → Type 0
-Over before calls after = (first : Opening) (J : List Entry) → before.seen ≡ history first J → OverHistory first J before.mine calls after
+abbrev pub Over : (before : PassView) → List Answered → (after : PassView) → Type 0
+Over before calls after = (first : Opening) (J : List Entry) → IsHistory first J before.seen → OverHistory first J before calls after

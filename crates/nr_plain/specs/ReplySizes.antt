@@ -1,4 +1,4 @@
--- How many bytes the replies have of the procedures that change files.
+-- How many bytes replies have.
 use Rattle.std.specs.Prelude.{ℕ, ◌+◌, ◌≤◌, List, length, Option, Some, None}
 use Rattle.nr_nfs_base.specs.Limits.{handle_max}
 use Rattle.nr_nfs_base.specs.declared.status.Status.{Status}
@@ -6,6 +6,11 @@ use Rattle.nr_nfs_base.specs.declared.status_union.StatusUnion.{StatusUnion}
 use Rattle.nr_nfs_base.specs.declared.status_union.StatusUnion.TheVariants.{Done, Failed}
 use Rattle.nr_nfs_base.specs.declared.weak_cache.WccData.{WccData}
 use Rattle.nr_nfs_res.specs.declared.create.CreateOk.{CreateOk}
+
+-- The maximum length of any reply, in bytes: the longest are those of READ, READDIR and READDIRPLUS, whose limits are
+-- below this (nr_reduce, `largest_reply`).
+abbrev pub any_reply_max : ℕ
+any_reply_max = 65536
 
 -- the bytes of the head of a reply to a call that was accepted (RFC 5531 section 9)
 abbrev pub head_size : ℕ

@@ -1,5 +1,5 @@
-//! The procedures of NFS that change the tree. The room of the reply is taken before the change, so that running out of memory
-//! leaves the tree as before.
+//! The procedures of NFS that change the tree. The room of the reply is taken before the change, so that running out of
+//! memory leaves the tree as before.
 
 ghost use Rattle.std.specs.Prelude.{◌≡◌, [], false, Ok, IfOk, OnOk, OnErr};
 ghost use Rattle.nr_xdr.specs.Room.{HasRoom};

@@ -54,8 +54,8 @@ pub(crate) fn accepted_head(xid: u32, stat: u32) -> ReplyHead
     }
 }
 
-/// The reply to a call that was accepted with status 0, with its results, written into a writer with no bytes. Fails only if that has
-/// no room for it.
+/// The reply to a call that was accepted with status 0, with its results, written into a writer with no bytes. Fails
+/// only if that has no room for it.
 pub(crate) fn write_accepted<R: Xdr>(
     writer: RoomWriter,
     xid: u32,

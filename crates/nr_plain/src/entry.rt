@@ -20,8 +20,8 @@ use std::alloc::Global;
 /// The bytes of a word that is 0.
 const ZERO: [u8; 4] = [0; 4];
 
-/// The offsets of the reply status, the accept status and the status of the results in a reply whose verifier is empty (RFC 5531
-/// section 9; RFC 1813 section 2.6).
+/// The offsets of the reply status, the accept status and the status of the results in a reply whose verifier is empty
+/// (RFC 5531 section 9; RFC 1813 section 2.6).
 const REPLY_STAT_AT: usize = 8;
 
 const ACCEPT_STAT_AT: usize = 20;
@@ -40,7 +40,8 @@ fn is_zero(bytes: &[u8], at: usize) -> bool
     }
 }
 
-/// Whether a reply says that its call was accepted and has results of status 0 (RFC 5531 section 9; RFC 1813 section 2.6).
+/// Whether a reply says that its call was accepted and has results of status 0 (RFC 5531 section 9; RFC 1813 section
+/// 2.6).
 fn has_succeeded(reply: &[u8]) -> bool
     ensures { result ≡ has_succeeded reply.now }
 {
@@ -101,8 +102,8 @@ fn entry_of_head(
     }
 }
 
-/// The entry that a call adds to the journal, by its payload, the moment of its execution and its reply. `None` if it isn't a
-/// change that succeeded.
+/// The entry that a call adds to the journal, by its payload, the moment of its execution and its reply. `None` if it
+/// isn't a change that succeeded.
 ///
 /// # Errors
 ///

@@ -1,13 +1,15 @@
-//! The server as a value behind a turnstile.
+//! The server as a value in a turnstile.
 
-ghost use Rattle.std.specs.Prelude.{◌≡◌, ◌<◌, ◌^◌, List, IfOk, OnErr, MatchBool};
+ghost use Rattle.std.specs.Prelude.{◌≡◌, ◌<◌, ◌≤◌, ◌^◌, List, length, IfOk, IfErr, IsOk, OnErr, MatchBool};
 ghost use Rattle.nr_reduce.specs.declared.mark.Entry.{Entry};
+ghost use Rattle.nr_rpc.specs.Reading.{call_of};
 ghost use Rattle.nr_plain.specs.Setup.{Setup};
-ghost use Rattle.nr_plain.specs.Stands.{RepresentsJournal, ExecutesCall};
+ghost use Rattle.nr_plain.specs.Stands.{RepresentsJournal, ExecutesCall, IsCause};
 ghost use Rattle.nr_plain.specs.History.{AddsOne, AddsNone};
+ghost use Rattle.nr_plain.specs.ReplySizes.{any_reply_max};
 
 use crate::fault::Fault;
-use crate::noted::Noted;
+use crate::history_entry::HistoryEntry;
 use crate::server::{Reply, Server};
 use nr_outside::Moment;
 use nr_turnstile::Machine;
@@ -16,7 +18,7 @@ use std::alloc::Global;
 impl Machine for Server {
     ghost use Rattle.nr_plain.specs.History.{StandsFor, closes_none};
 
-    type Entry = Noted;
+    type Entry = HistoryEntry;
 
     ghost stands = { StandsFor };
 
@@ -38,6 +40,9 @@ impl Server {
         requires { (s : Setup) × ((J : List Entry) × RepresentsJournal s J self.old) }
         ensures executed { IfOk result (λ r. (s : Setup) (J : List Entry) → RepresentsJournal s J self.old → ExecutesCall s J now payload.now r.0.payload r.0.place self.new) }
         ensures adds { IfOk result (λ r. MatchBool r.1 (AddsOne now payload.now r.0.payload) (AddsNone now payload.now r.0.payload)) }
+        ensures call { IfOk result (λ _. IsOk (call_of payload.now)) }
+        ensures cause { IfErr result (λ e. IsCause e (call_of payload.now)) }
+        ensures limit { IfOk result (λ r. length r.0.payload ≤ any_reply_max) }
         ensures room { IfOk result (λ r. r.0.place < 2 ^ 60) }
         ensures err { OnErr result (self.new ≡ self.old) }
     {

@@ -44,8 +44,8 @@ pub(crate) fn read<A: Reading>(alloc: Global, tree: &Tree, call: &Call) -> Resul
     }
 }
 
-/// The bytes of a reply to a READ beside its data and their pad: the head, the status, the attributes, the count, the flag and
-/// the length of the data.
+/// The bytes of a reply to a READ beside its data and their pad: the head, the status, the attributes, the count, the
+/// flag and the length of the data.
 const READ_SIZE: usize = HEAD_SIZE + 104;
 
 /// The reply to a READ. Its data are copied once, from the tree into the room of the reply.

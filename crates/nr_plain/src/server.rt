@@ -12,6 +12,7 @@ ghost use Rattle.nr_plain.specs.Setup.{Setup, Parameters, caller_of, space_of, t
 ghost use Rattle.nr_plain.specs.private.Code.{IsHeadWithin, changes_from, entry_of, reply_from, tree_from};
 ghost use Rattle.nr_plain.specs.Journal.{nfs_procedure_of, cost_of};
 ghost use Rattle.nr_plain.specs.Replies.{nfs_by_procedure, nfs_call, mount_call, program_call, call_by_cred, cred_refusal, answer_to};
+ghost use Rattle.nr_plain.specs.ReplySizes.{any_reply_max};
 ghost use Rattle.nr_plain.specs.Stands.{RepresentsJournal, ExecutesCall, IsCause, state_kept, state_after_answer};
 
 use crate::call::{Call, Change, Request};
@@ -31,8 +32,8 @@ use nr_xdr::{Memory, Octets};
 use std::alloc::Global;
 use std::marker::Model;
 
-/// A serial RPC server of NFS and MOUNT. It stands for its journal and does not keep it: what it keeps is the tree, and the
-/// length and the cost of the journal.
+/// A serial RPC server of NFS and MOUNT. It stands for its journal and does not keep it: what it keeps is the tree, and
+/// the length and the cost of the journal.
 #[derive(Drop)]
 pub struct Server {
     tree: Tree,
@@ -77,10 +78,11 @@ const AUTH_BADCRED: u32 = 1;
 const AUTH_TOOWEAK: u32 = 5;
 
 impl Server {
-    /// A server of a tree, with an empty journal. `capacity` is what the journal may cost, `export` the path that may be mounted.
-    /// `Tree::root_only` and `Tree::drill` give trees as it asks for.
+    /// A server of a tree, with an empty journal. `capacity` is what the journal may cost, `export` the path that may
+    /// be mounted. `Tree::root_only` and `Tree::drill` give trees as it asks for.
     pub fn open(tree: Tree, capacity: u64, verifier: Verifier, export: Octets) -> Server
-        // The next number and each next cookie: each entry of the journal raises them by one at most, so they stay below 2^63.
+        // The next number and each next cookie: each entry of the journal raises them by one at most, so they stay
+        // below 2^63.
         requires below { IsBelow (2 ^ 62) tree }
         requires capacity { capacity < 2 ^ 63 }
         ensures { RepresentsJournal (record { tree = tree; parameters = record { capacity = capacity; verifier = verifier; export = export } }) [] result }
@@ -112,11 +114,12 @@ impl Server {
         self.cost
     }
 
-    /// Executes a call. The reply is that of the plain server over the journal; a change that succeeds is then its next entry. After
-    /// an `Err` the server is as before.
+    /// Executes a call. The reply is that of the plain server over the journal; a change that succeeds is then its next
+    /// entry. After an `Err` the server is as before.
     pub fn execute(&mut self, alloc: Global, now: Moment, payload: &[u8]) -> Result<Reply, Fault>
         ensures executed { IfOk result (λ r. (s : Setup) (J : List Entry) → RepresentsJournal s J self.old → ExecutesCall s J now payload.now r.payload r.place self.new) }
         ensures call { IfOk result (λ _. IsOk (call_of payload.now)) }
+        ensures limit { IfOk result (λ r. length r.payload ≤ any_reply_max) }
         ensures cause { IfErr result (λ e. IsCause e (call_of payload.now)) }
         ensures err { OnErr result (self.new ≡ self.old) }
     {

@@ -1,14 +1,17 @@
 //! Turns of a shared server.
 
-ghost use Rattle.std.specs.Prelude.{◌≡◌, ◌+◌, ◌<◌, ◌^◌, [], length, List, IfOk, OnErr};
+ghost use Rattle.std.specs.Prelude.{◌≡◌, ◌+◌, ◌<◌, ◌≤◌, ◌^◌, [], length, List, IfOk, IfErr, IsOk, OnErr};
+ghost use Rattle.nr_reduce.specs.declared.mark.Entry.{Entry};
+ghost use Rattle.nr_rpc.specs.Reading.{call_of};
 ghost use Rattle.nr_plain.specs.Setup.{Setup};
-ghost use Rattle.nr_plain.specs.Stands.{RepresentsJournal};
+ghost use Rattle.nr_plain.specs.Stands.{RepresentsJournal, IsCause};
 ghost use Rattle.nr_turnstile.specs.Passes.{Rests, MayStep, Steps, seen_by, mine_of};
 ghost use Rattle.nr_turnstile.specs.Turns.{pass_of, Has, IsSameTurn};
-ghost use Rattle.nr_plain.specs.History.{Opening, Executes, Finds, IsOpenedBy, closes_none, history, known_of, noted_of_call};
+ghost use Rattle.nr_plain.specs.History.{Opening, Executes, IsOpenedBy, IsHistory, OnlyOthersAdded, closes_none, entry_to_append, history, pass_view};
+ghost use Rattle.nr_plain.specs.ReplySizes.{any_reply_max};
 
 use crate::fault::Fault;
-use crate::noted::Noted;
+use crate::history_entry::HistoryEntry;
 use crate::server::{Reply, Server};
 use nr_outside::Moment;
 use nr_turnstile::{EntryName, Machine, OpeningHistory, Pass, Turn, Turnstile};
@@ -19,9 +22,9 @@ use std::sync::Wait;
 
 /// The history of a server that was just opened, for the proof.
 pub trait First {
-    ghost use Rattle.nr_plain.specs.declared.noted.Noted.{Noted};
+    ghost use Rattle.nr_plain.specs.declared.history_entry.HistoryEntry.{HistoryEntry};
 
-    ghost first: { List Noted };
+    ghost first: { List HistoryEntry };
 }
 
 impl First for Brand {
@@ -32,32 +35,33 @@ pub struct Opened<K> {
     of: PhantomData<K>,
 }
 
-impl<K: First> OpeningHistory<Noted> for Opened<K> {
+impl<K: First> OpeningHistory<HistoryEntry> for Opened<K> {
     ghost history = { K.first };
 }
 
 /// The entry of a call, for the proof.
 pub trait Appended {
-    ghost use Rattle.nr_plain.specs.declared.noted.Noted.{Noted};
+    ghost use Rattle.nr_plain.specs.declared.history_entry.HistoryEntry.{HistoryEntry};
 
-    ghost noted: { Noted };
+    ghost appended: { HistoryEntry };
 }
 
 impl Appended for Brand {
     ghost use Rattle.nr_plain.specs.History.{no_entry};
 
-    ghost noted = { no_entry };
+    ghost appended = { no_entry };
 }
 
-pub struct Call<K> {
+pub struct EntryOfCall<K> {
     of: PhantomData<K>,
 }
 
-impl<K: Appended> EntryName<Noted> for Call<K> {
-    ghost entry = { K.noted };
+impl<K: Appended> EntryName<HistoryEntry> for EntryOfCall<K> {
+    ghost entry = { K.appended };
 }
 
-/// Puts a server that was just opened behind a turnstile. The pass has seen what it was opened as, and no entry of its journal.
+/// Puts a server that was just opened in a turnstile. The pass has seen what it was opened as, and no entry of its
+/// journal.
 ///
 /// # Errors
 ///
@@ -67,10 +71,10 @@ pub fn share(alloc: Global, server: Server) -> Result<(Turnstile<Server>, Pass<S
     ensures { IfOk result (λ t. Rests t.0 t.1 × IsOpenedBy server (seen_by t.1)) }
 {
     let first = Snapshot::of(&server);
-    put_behind::<Brand>(alloc, server, &first)
+    put_in::<Brand>(alloc, server, &first)
 }
 
-fn put_behind<K: First>(
+fn put_in<K: First>(
     alloc: Global,
     server: Server,
     _first: &Snapshot<Server>,
@@ -83,23 +87,29 @@ fn put_behind<K: First>(
     Turnstile::new::<Opened<K>>(alloc, server)
 }
 
-/// Executes a call under one turn.
+/// Executes a call under one turn. `client` is the number of the client that sent it, 0 if it has none: the entry of
+/// the history has it, with the call's xid. Nothing else depends on it.
 ///
 /// # Errors
 ///
-/// As `execute` of the server, which is then as it was at that turn.
+/// [`Fault::NotCall`] only if the payload has no call head, with the offset of the first item that fails;
+/// [`Fault::Memory`]. The server is then as it was at that turn.
 pub fn execute<R: Wait>(
     rt: &R,
     alloc: Global,
     shared: &Turnstile<Server>,
     pass: &mut Pass<Server>,
+    client: u64,
     now: Moment,
     payload: &[u8],
 ) -> Result<Reply, Fault>
     requires { Rests shared.now pass.old }
     ensures rests { Rests shared.now pass.new }
-    ensures executed { IfOk result (λ r. Executes (known_of pass.old) (known_of pass.new) now payload.now r.payload r.place) }
-    ensures err { OnErr result (Finds (known_of pass.old) (known_of pass.new)) }
+    ensures executed { IfOk result (λ r. Executes (pass_view pass.old) (pass_view pass.new) client now payload.now r.payload r.place) }
+    ensures call { IfOk result (λ _. IsOk (call_of payload.now)) }
+    ensures cause { IfErr result (λ e. IsCause e (call_of payload.now)) }
+    ensures limit { IfOk result (λ r. length r.payload ≤ any_reply_max) }
+    ensures err { OnErr result (OnlyOthersAdded (pass_view pass.old) (pass_view pass.new)) }
 {
     let mut turn = shared.take_turn(rt, pass);
     let value = turn.value();
@@ -114,29 +124,36 @@ pub fn execute<R: Wait>(
         turn.put_back();
         return Ok(reply);
     }
-    note::<Brand>(&mut turn, now, payload, reply.payload.as_slice());
+    append::<Brand>(&mut turn, client, now, payload, reply.payload.as_slice());
     turn.put_back();
     Ok(reply)
 }
 
 // The step, with the entry of the call.
-fn note<K: Appended>(turn: &mut Turn<'_, Server>, _now: Moment, _payload: &[u8], _reply: &[u8])
-    requires noted { noted_of_call _now _payload.now _reply.now ≡ K.noted }
+fn append<K: Appended>(
+    turn: &mut Turn<'_, Server>,
+    _client: u64,
+    _now: Moment,
+    _payload: &[u8],
+    _reply: &[u8],
+)
+    requires appended { entry_to_append _client _now _payload.now _reply.now ≡ K.appended }
     requires value { (y : Server) × Has turn.old y }
-    requires may { MayStep closes_none (pass_of turn.old) (noted_of_call _now _payload.now _reply.now) }
+    requires may { MayStep closes_none (pass_of turn.old) (entry_to_append _client _now _payload.now _reply.now) }
     ensures same { IsSameTurn turn.old turn.new }
     ensures held { (y : Server) → Has turn.old y → Has turn.new y }
-    ensures step { Steps (pass_of turn.old) (pass_of turn.new) (noted_of_call _now _payload.now _reply.now) }
+    ensures step { Steps (pass_of turn.old) (pass_of turn.new) (entry_to_append _client _now _payload.now _reply.now) }
 {
-    turn.step::<Call<K>>();
+    turn.step::<EntryOfCall<K>>();
 }
 
 /// How many entries the journal has.
 pub fn journal_len<R: Wait>(rt: &R, shared: &Turnstile<Server>, pass: &mut Pass<Server>) -> u64
     requires { Rests shared.now pass.old }
     ensures rests { Rests shared.now pass.new }
-    ensures found { Finds (known_of pass.old) (known_of pass.new) }
-    ensures len { length (seen_by pass.new) ≡ result + 1 }
+    ensures found { OnlyOthersAdded (pass_view pass.old) (pass_view pass.new) }
+    ensures seen { length (seen_by pass.new) ≡ result + 1 }
+    ensures len { (first : Opening) (J : List Entry) → IsHistory first J (seen_by pass.new) → result ≡ length J }
 {
     let mut turn = shared.take_turn(rt, pass);
     let len = turn.value().journal_len();

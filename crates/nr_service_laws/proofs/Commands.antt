@@ -148,7 +148,7 @@ asked_of result opened link h ahead run (inl (live, fed)) = (live.asked, live.gr
 asked_of result opened link h ahead run (inr (is, out)) = (out.asked, out.granted)
 
 is_run : (opened : LinkParameters) (link : ℕ) (s s' : SessionAt) (addr : List ℕ) (before dialed after : DialerAt) (result : Result (Unit {0}) ClientEnd) (exchanges : Exchanges)
-    → Opens addr before dialed s → Closes s' dialed after → Does result opened link [] s.bytes s'.bytes s'.requester exchanges
+    → (opens : Opens addr before dialed s) → Closes opens.number s' dialed after → Does result opened link [] s.bytes s'.bytes s'.requester exchanges
     → IsCommandRun opened link s s' dialed.ended after.ended result exchanges
 is_run opened link s s' addr before dialed after result exchanges opens closes done =
     let laws = asked_of result opened link s'.requester done.ahead done.more done.stands in
@@ -169,6 +169,8 @@ is_run opened link s s' addr before dialed after result exchanges opens closes d
       left = done.extends.handed.from_left;
       taken = then_are s.bytes.taken s'.bytes.taken _ opens.fresh.nothing_taken done.extends.taken;
       count = (let none = opens.nothing_read in let all = done.extends.count in omega (arith, none, all));
+      told = opens.told;
+      number = opens.number;
       hung_up = closes.ends;
       stands = done.stands;
     }

@@ -21,9 +21,9 @@ use Rattle.nr_client.specs.declared.client_end.ClientEnd.{ClientEnd}
 use Rattle.nr_client.specs.declared.client_end.ClientEnd.TheVariants as client
 use Rattle.nr_client.specs.Steps.{IsLive, WritesFirst}
 use Rattle.nr_client.specs.Transfers.{IsTransfer, LinkBytes, Moves}
-use Rattle.nr_client.proofs.Turns.{first_both, whole_both}
+use Rattle.nr_client.proofs.Turns.{cut_after, first_both, whole_both}
 use Rattle.nr_service_laws.specs.ClientMarks.{AreMarksOf, IsOwn, IsWholeFor, IsWrittenAt, LacksOutcome, StandsAt, exchange_marks, moves_bytes, without_bytes}
-use Rattle.nr_service_laws.specs.SessionMarks.{Does, Extends, HasDone}
+use Rattle.nr_service_laws.specs.SessionMarks.{Does, Extends, HasDone, LetsGoOn}
 use Rattle.nr_service_laws.specs.Exchanges.{Exchange, Exchanges, and_then, none}
 
 -- ---- Lists of marks, one after another
@@ -149,23 +149,23 @@ does_as result given b c h i exchanges same does opened link run fine live =
     }
   where
     whole_as : (before more : List Mark) → IsWholeFor result opened link before more → IsWholeFor given opened link before more
-    whole_as before more (inl failed) = inl (same (client.Link calls.LinkWrite) failed)
+    whole_as before more (inl failed) = inl (same (client.Link calls.LinkWrite) failed.0, failed.1)
     whole_as before more (inr whole) = inr whole
 
     by : (ahead : List ℕ) (all : List Mark) → StandsAt result opened link i ahead all → StandsAt given opened link i ahead all
     by ahead all (inl stands) = inl stands
     by ahead all (inr (is, out)) = inr (same (client.Link (calls.Ended ends.Memory)) is, out)
 
-whole_more : {A B : Type 0} (value : A) (result : Result B ClientEnd) (opened : LinkParameters) (link : ℕ) (run more later : List Mark) → IsWholeFor {A = A} (Ok value) opened link run more
+whole_more : {A B : Type 0} (given : Result A ClientEnd) (result : Result B ClientEnd) (opened : LinkParameters) (link : ℕ) (run more later : List Mark) → LetsGoOn given → IsWholeFor given opened link run more
     → IsWholeFor result opened link (run ++ more) later → IsWholeFor result opened link run (more ++ later)
-whole_more value result opened link run more later (inl failed) second = absurd (let wrong = failed in cc)
-whole_more value result opened link run more later (inr first) (inl failed) = inl failed
-whole_more value result opened link run more later (inr first) (inr second) = inr (whole_both opened link run more later first second)
+whole_more given result opened link run more later on (inl failed) second = absurd (on.written failed.0)
+whole_more given result opened link run more later on (inr first) (inl failed) = inl (failed.0, cut_after opened link run more later first failed.1)
+whole_more given result opened link run more later on (inr first) (inr second) = inr (whole_both opened link run more later first second)
 
-does_more : {A B : Type 0} (value : A) (result : Result B ClientEnd) (opened : LinkParameters) (link : ℕ) (run : List Mark) (b c d : LinkBytes) (i j : RequesterSide) (exchanges later : Exchanges)
-    → HasDone result c d i j later → IsOpened opened → (more : List Mark) (ahead : List ℕ) → Extends opened link run b c ahead exchanges.made more
-    → StandsAt {A = A} (Ok value) opened link i ahead (run ++ more) → IsWholeFor {A = A} (Ok value) opened link run more → Does result opened link run b d j (and_then exchanges later)
-does_more {A} value result opened link run b c d i j exchanges later does fine more ahead extends (inl (live, fed)) whole =
+does_more : {A B : Type 0} (given : Result A ClientEnd) (result : Result B ClientEnd) (opened : LinkParameters) (link : ℕ) (run : List Mark) (b c d : LinkBytes) (i j : RequesterSide) (exchanges later : Exchanges)
+    → LetsGoOn given → HasDone result c d i j later → IsOpened opened → (more : List Mark) (ahead : List ℕ) → Extends opened link run b c ahead exchanges.made more
+    → StandsAt given opened link i ahead (run ++ more) → IsWholeFor given opened link run more → Does result opened link run b d j (and_then exchanges later)
+does_more given result opened link run b c d i j exchanges later on does fine more ahead extends (inl (live, fed)) whole =
     let done = does opened link (run ++ more) fine live in
     let before : Extends opened link run b c [] exchanges.made more = subst (λ (l : List ℕ). Extends opened link run b c l exchanges.made more) fed extends in
     record {
@@ -175,13 +175,20 @@ does_more {A} value result opened link run b c d i j exchanges later does fine m
       stands = subst (λ (all : List Mark). StandsAt result opened link j done.ahead all) (append_assoc run more done.more) done.stands;
       written = subst (λ (all : List Mark). IsWrittenAt later.unanswered opened link all) (append_assoc run more done.more) done.written;
       lacks = subst (λ (all : List Mark). LacksOutcome later.lost opened link all) (append_assoc run more done.more) done.lacks;
-      whole = whole_more {A = A} value result opened link run more done.more whole done.whole;
+      whole = whole_more given result opened link run more done.more on whole done.whole;
     }
-does_more {A} value result opened link run b c d i j exchanges later does fine more ahead extends (inr (is, out)) whole = absurd (let wrong = is in cc)
+does_more given result opened link run b c d i j exchanges later on does fine more ahead extends (inr (is, out)) whole = absurd (on.fed is)
 
 -- one thing was done, and then another
+pub does_after : {A B : Type 0} (given : Result A ClientEnd) (result : Result B ClientEnd) (b c d : LinkBytes) (h i j : RequesterSide) (exchanges later : Exchanges)
+    → LetsGoOn given → HasDone given b c h i exchanges → HasDone result c d i j later → HasDone result b d h j (and_then exchanges later)
+does_after given result b c d h i j exchanges later on one two opened link run fine live =
+    let done = one opened link run fine live in
+    does_more given result opened link run b c d i j exchanges later on two fine done.more done.ahead done.extends done.stands done.whole
+
+pub has_value : {A : Type 0} (value : A) → LetsGoOn {A = A} (Ok value)
+has_value value = record { written = λ e. absurd cc; fed = λ e. absurd cc }
+
 pub does_both : {A B : Type 0} (value : A) (result : Result B ClientEnd) (b c d : LinkBytes) (h i j : RequesterSide) (exchanges later : Exchanges)
     → HasDone {A = A} (Ok value) b c h i exchanges → HasDone result c d i j later → HasDone result b d h j (and_then exchanges later)
-does_both {A} value result b c d h i j exchanges later one two opened link run fine live =
-    let done = one opened link run fine live in
-    does_more {A = A} value result opened link run b c d i j exchanges later two fine done.more done.ahead done.extends done.stands done.whole
+does_both {A} value result b c d h i j exchanges later one two = does_after {A = A} (Ok value) result b c d h i j exchanges later (has_value value) one two

@@ -23,9 +23,9 @@ use Rattle.nr_client.specs.declared.call_end.CallEnd.{CallEnd}
 use Rattle.nr_client.specs.declared.client_end.ClientEnd.{ClientEnd}
 use Rattle.nr_client.specs.declared.client_end.ClientEnd.TheVariants as client
 use Rattle.nr_client.specs.Calls.{Answers, Completes, Forgets, ForgetsCall, ForgetsCalls, GivesUp, NoneCame, RefusesToSubmit, Submits}
-use Rattle.nr_client.specs.Steps.{HasWrittenAt, IsLeft, IsLive, WholeIfWrote, WritesFirst, WritesInFull, WritesInFullTo, WrittenIfFed}
+use Rattle.nr_client.specs.Steps.{HasWrittenAt, IsCutShort, IsLeft, IsLive, WholeIfWrote, WritesFirst, WritesInFull, WritesInFullTo, WritesNothing, WrittenIfFed}
 use Rattle.nr_client.specs.Transfers.{IsTransfer, LinkBytes, Moves}
-use Rattle.nr_client.proofs.Turns.{first_both, whole_both}
+use Rattle.nr_client.proofs.Turns.{cut_after, first_both, whole_both}
 use Rattle.nr_service_laws.specs.ClientMarks.{AreMarksOf, IsOwn, IsWholeFor, IsWrittenAt, LacksOutcome, StandsAt, moves_bytes, without_bytes}
 use Rattle.nr_service_laws.specs.Exchanges.{Exchange, Exchanges, lost_by, refused_by, given_up_exchanges, giving_up, one}
 use Rattle.nr_service_laws.specs.Exchanges.Exchange.{Answered, Forgotten, GivenUp, HandedOver, Submitted}
@@ -40,18 +40,19 @@ record Still (link : ℕ) (m : Mark) : Type 0 where
   stays : moves_bytes m ≡ false
   writes : (opened : LinkParameters) (run : List Mark) → WrittenIfFed opened link run m
   whole : (opened : LinkParameters) (run : List Mark) → WholeIfWrote opened link run m
+  silent : WritesNothing m
 
 abbrev submit_mark : ℕ → Call → ℕ → Mark
 submit_mark link call xid = marks.Submit link call forms.Auto (submissions.Accepted xid)
 
 still_submit : (link : ℕ) (call : Call) (xid : ℕ) → Still link (submit_mark link call xid)
-still_submit link call xid = record { own = refl; fed = refl; wrote = refl; stays = refl; writes = λ opened run. tt; whole = λ opened run. tt }
+still_submit link call xid = record { own = refl; fed = refl; wrote = refl; stays = refl; writes = λ opened run. tt; whole = λ opened run. tt; silent = tt }
 
 still_done : (link xid : ℕ) (outcome : Outcome) → Still link (marks.Done link xid outcome)
-still_done link xid outcome = record { own = refl; fed = refl; wrote = refl; stays = refl; writes = λ opened run. tt; whole = λ opened run. tt }
+still_done link xid outcome = record { own = refl; fed = refl; wrote = refl; stays = refl; writes = λ opened run. tt; whole = λ opened run. tt; silent = tt }
 
 still_forget : (link xid : ℕ) → Still link (marks.Forget link xid)
-still_forget link xid = record { own = refl; fed = refl; wrote = refl; stays = refl; writes = λ opened run. tt; whole = λ opened run. tt }
+still_forget link xid = record { own = refl; fed = refl; wrote = refl; stays = refl; writes = λ opened run. tt; whole = λ opened run. tt; silent = tt }
 
 -- ---- One mark more
 
@@ -143,19 +144,38 @@ whole_around : (opened : LinkParameters) (link : ℕ) (run waits moved : List Ma
 whole_around opened link run waits moved s l is_s is_l first second =
     whole_both opened link run waits (s ∷ (moved ++ l ∷ [])) first (is_s.whole opened (run ++ waits), whole_still opened link ((run ++ waits) ++ s ∷ []) moved l is_l second)
 
-whole_for : {A : Type 0} (end : CallEnd) (opened : LinkParameters) (link : ℕ) (run moved more : List Mark) → (WritesInFull opened link run moved → WritesInFull opened link run more)
-    → WritesInFullTo end opened link run moved → IsWholeFor {A = A} (Err (client.Link end)) opened link run more
-whole_for end opened link run moved more goes (inl failed) = inl (ap (λ (e : CallEnd). Err (client.Link e)) failed)
-whole_for end opened link run moved more goes (inr whole) = inr (goes whole)
+-- marks that write nothing come after a Wrote that falls short
+cut_then : (opened : LinkParameters) (link : ℕ) (run more : List Mark) (m : Mark) → WritesNothing m → IsCutShort opened link run more → IsCutShort opened link run (more ++ m ∷ [])
+cut_then opened link run more m nothing cut = record {
+  first = cut.first;
+  bytes = cut.bytes;
+  last = cut.last ++ m ∷ [];
+  parts = ap (λ (l : List Mark). l ++ m ∷ []) cut.parts ∙ append_assoc cut.first (marks.Wrote link Initiator cut.bytes ∷ cut.last) (m ∷ []);
+  whole = cut.whole;
+  none_after = each cut.last cut.none_after;
+}
+  where
+    each : (last : List Mark) → AllByRecursion WritesNothing last → AllByRecursion WritesNothing (last ++ m ∷ [])
+    each [] none = (nothing, tt)
+    each (x ∷ last) none = (none.0, each last none.1)
+
+whole_for : {A : Type 0} (end : CallEnd) (opened : LinkParameters) (link : ℕ) (run moved : List Mark) → WritesInFullTo end opened link run moved → IsWholeFor {A = A} (Err (client.Link end)) opened link run moved
+whole_for end opened link run moved (inl failed) = inl (ap (λ (e : CallEnd). Err (client.Link e)) failed.0, failed.1)
+whole_for end opened link run moved (inr whole) = inr whole
 
 whole_around_for : {A : Type 0} (end : CallEnd) (opened : LinkParameters) (link : ℕ) (run waits moved : List Mark) (s l : Mark) → Still link s → Still link l → WritesInFull opened link run waits
     → WritesInFullTo end opened link ((run ++ waits) ++ s ∷ []) moved → IsWholeFor {A = A} (Err (client.Link end)) opened link run (waits ++ s ∷ (moved ++ l ∷ []))
-whole_around_for end opened link run waits moved s l is_s is_l first (inl failed) = inl (ap (λ (e : CallEnd). Err (client.Link e)) failed)
+whole_around_for end opened link run waits moved s l is_s is_l first (inl failed) = inl (
+  ap (λ (e : CallEnd). Err (client.Link e)) failed.0,
+  (let submitted : WritesInFull opened link (run ++ waits) (s ∷ []) = (is_s.whole opened (run ++ waits), tt) in
+  cut_after opened link run waits (s ∷ (moved ++ l ∷ [])) first
+  (cut_after opened link (run ++ waits) (s ∷ []) (moved ++ l ∷ []) submitted (cut_then opened link ((run ++ waits) ++ s ∷ []) moved l is_l.silent failed.1))),
+)
 whole_around_for end opened link run waits moved s l is_s is_l first (inr second) = inr (whole_around opened link run waits moved s l is_s is_l first second)
 
 whole_given_up : {A : Type 0} (result : Result A ClientEnd) (opened : LinkParameters) (link : ℕ) (run more : List Mark) (m : Mark) → Still link m → IsWholeFor result opened link run more
     → IsWholeFor result opened link run (more ++ m ∷ [])
-whole_given_up result opened link run more m still (inl failed) = inl failed
+whole_given_up result opened link run more m still (inl failed) = inl (failed.0, cut_then opened link run more m still.silent failed.1)
 whole_given_up result opened link run more m still (inr whole) = inr (whole_still opened link run more m still whole)
 
 pub written_still : (opened : LinkParameters) (link xid : ℕ) (run : List Mark) → HasWritten opened link Initiator run → HasWritten opened link Initiator (run ++ marks.Forget link xid ∷ [])
@@ -233,7 +253,7 @@ does_refuses {A} call end b c h i refuses opened link run fine live =
       stands = stands_left {A = A} end opened link i is.ahead (run ++ is.moved) is.left;
       written = is.all;
       lacks = tt;
-      whole = whole_for {A = A} end opened link run is.moved is.moved (λ w. w) is.whole;
+      whole = whole_for {A = A} end opened link run is.moved is.whole;
     }
 
 -- a call that has no answer
@@ -306,7 +326,7 @@ does_forgets {A} xid end b c h i forgets opened link run fine live =
           (subst (λ (all : List Mark). IsLeft end opened link i is.1 all) (append_assoc run is.0 (l ∷ [])) is.2.1.1.1.1.1);
       written = subst (λ (all : List Mark). HasWrittenAt end opened link all) (append_assoc run is.0 (l ∷ [])) (written_at_forget end opened link xid (run ++ is.0) is.2.1.1.1.0);
       lacks = subst (λ (all : List Mark). LacksOutcome (Some end) opened link all) (append_assoc run is.0 (l ∷ [])) (lacks_at end opened link xid (run ++ is.0) is.2.1.1.1.1.0);
-      whole = whole_for {A = A} end opened link run is.0 (is.0 ++ l ∷ []) (λ w. whole_still opened link run is.0 l (still_forget link xid) w) is.2.1.1.0;
+      whole = whole_given_up {A = A} (Err (client.Link end)) opened link run is.0 l (still_forget link xid) (whole_for {A = A} end opened link run is.0 is.2.1.1.0);
     }
 
 -- the calls of these xids are forgotten in the end

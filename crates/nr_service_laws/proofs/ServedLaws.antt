@@ -55,7 +55,7 @@ laws_by opened link run both own asked granted whole keeps =
 
 laws_unless : (result : Result (Unit {0}) ClientEnd) (opened : LinkParameters) (link : ℕ) (run both : List Mark) → AllByRecursion (IsOwn link) run → AskedSoFar opened link run → KeepsGrant opened link run
     → IsWholeFor result opened link [] run → ServerKeeps opened link run both → (result ≡ Err (client.Link calls.LinkWrite)) ⊎ KeepLaws opened link both
-laws_unless result opened link run both own asked granted (inl failed) keeps = inl failed
+laws_unless result opened link run both own asked granted (inl failed) keeps = inl failed.0
 laws_unless result opened link run both own asked granted (inr whole) keeps = inr (laws_by opened link run both own asked granted whole keeps)
 
 pub keeps_of : (reply_to : List Entry → Moment → List ℕ → Option (List ℕ)) (adds : Moment → List ℕ → List ℕ → List Entry) (opened : LinkParameters) (link : ℕ) (run both : List Mark)

@@ -14,7 +14,7 @@ use Rattle.nr_client.specs.declared.client_end.ClientEnd.TheVariants as client
 use Rattle.nr_client.specs.declared.call_end.CallEnd.{CallEnd}
 use Rattle.nr_client.specs.declared.call_end.CallEnd.TheVariants as calls
 use Rattle.nr_client.specs.Calls.{NoneCame}
-use Rattle.nr_client.specs.Steps.{HasWrittenAt, IsLive, IsOut, WritesInFull}
+use Rattle.nr_client.specs.Steps.{HasWrittenAt, IsCutShort, IsLive, IsOut, WritesInFull}
 use Rattle.nr_service_laws.specs.Exchanges.{Exchange}
 use Rattle.nr_service_laws.specs.Exchanges.Exchange.{Answered, Forgotten, GivenUp, HandedOver, Submitted}
 
@@ -56,9 +56,10 @@ abbrev pub StandsAt : {A : Type 0} → Result A ClientEnd → LinkParameters →
 StandsAt result opened link h ahead run =
     (IsLive opened link h run × (ahead ≡ [])) ⊎ ((result ≡ Err (client.Link (calls.Ended ends.Memory))) × IsOut opened link h run)
 
--- Each time that these marks, which follow a run, write bytes, they write all output that is due, unless a write failed.
+-- Each time that these marks, which follow a run, write bytes, they write all output that is due; only the Wrote may fall short whose write failed,
+-- which is the last one.
 abbrev pub IsWholeFor : {A : Type 0} → Result A ClientEnd → LinkParameters → ℕ → (run more : List Mark) → Type 0
-IsWholeFor result opened link run more = (result ≡ Err (client.Link calls.LinkWrite)) ⊎ WritesInFull opened link run more
+IsWholeFor result opened link run more = ((result ≡ Err (client.Link calls.LinkWrite)) × IsCutShort opened link run more) ⊎ WritesInFull opened link run more
 
 -- all output is written if a call has no answer, unless a write failed or memory ran out for a frame
 abbrev pub IsWrittenAt : Option CallEnd → LinkParameters → ℕ → List Mark → Type 0

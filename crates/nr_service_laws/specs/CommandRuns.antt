@@ -3,7 +3,7 @@ use Rattle.std.specs.Prelude.{◌≡◌, ⊤, ℕ, List, [], ◌++◌, length, m
 use Rattle.std.specs.List.{AllByRecursion}
 use Rattle.std.specs.Io.KnownBytes.{Consumes}
 use Rattle.nr_outside.specs.Streams.{SinkAt, SourceAt}
-use Rattle.nr_links.specs.Links.{EndsLink, LinkLog, ended_link}
+use Rattle.nr_links.specs.Links.{EndsLink, IsTold, LinkLog, ended_link}
 use Rattle.nr_wire.specs.declared.hello.Side.TheVariants.{Initiator}
 use Rattle.nr_reduce.specs.declared.call.Call.{Call}
 use Rattle.nr_reduce.specs.declared.call.Outcome.{Outcome}
@@ -45,7 +45,7 @@ pub record IsCommandRun (opened : LinkParameters) (link : ℕ) (s s' : SessionAt
   -- each time that bytes are fed, all output was written before
   pub first : WritesFirst opened link [] run
   pub written : IsWrittenAt exchanges.unanswered opened link run
-  -- each Wrote writes all output that is due, unless a write failed
+  -- each Wrote writes all output that is due; only the one may fall short whose write failed
   pub whole : IsWholeFor result opened link [] run
   -- no message had brought an outcome of a call that was forgotten as one without an answer
   pub lacks : LacksOutcome exchanges.lost opened link run
@@ -59,7 +59,10 @@ pub record IsCommandRun (opened : LinkParameters) (link : ℕ) (s s' : SessionAt
   pub left : Consumes s.bytes.left s'.bytes.left (bytes_received link Initiator run ++ ahead)
   pub taken : AreThen s.bytes.taken s'.bytes.taken (bytes_sent link Initiator run)
   pub count : s'.bytes.read ≡ length (bytes_received link Initiator run ++ ahead)
-  pub hung_up : EndsLink log log' (ended_link s'.bytes.given s'.bytes.left s'.bytes.taken)
+  -- over a dialer whose links are known the bytes of a new link are known
+  pub told : IsTold log s.bytes.given s.bytes.left s.bytes.taken
+  pub number : ℕ
+  pub hung_up : EndsLink log log' (ended_link number s'.bytes.given s'.bytes.left s'.bytes.taken)
   pub stands : StandsAt result opened link s'.requester ahead run
 
 -- the run of a command by what was done

@@ -81,7 +81,8 @@ SaysServed Says opened link c before after input input' out out' result (Opened 
     (reply_to : List Entry → Moment → List ℕ → Option (List ℕ)) (adds : Moment → List ℕ → List ℕ → List Entry) (both : List Mark) →
     IsOpened opened → IsServedBy reply_to adds opened link ran.run both → Says opened link both s'.requester
 
--- The client keeps its law so far and the last grant, and its law with each Wrote in full, unless a write failed.
+-- Both sides keep their laws so far, and the link is matched. If no write of the client failed, they keep their laws with each Wrote in full, and the
+-- client the last grant.
 abbrev pub ServedCommandsKeepLaws : Type 0
 ServedCommandsKeepLaws =
     (opened : LinkParameters) (link : ℕ) (c : Client Text) (before after : DialerAt) (input input' : SourceAt) (out out' : SinkAt) (result : Result (Unit {0}) ClientEnd)

@@ -1,5 +1,5 @@
 -- What each request of a session makes of the marks that its requester stands for.
-use Rattle.std.specs.Prelude.{◌≡◌, ℕ, ◌+◌, List, ◌++◌, length, Result, Ok, [], Option}
+use Rattle.std.specs.Prelude.{◌≡◌, ◌≢◌, ℕ, ◌+◌, List, ◌++◌, length, Result, Err, [], Option}
 use Rattle.std.specs.List.{AllByRecursion}
 use Rattle.std.specs.Io.KnownBytes.{Appends}
 use Rattle.nr_outside.specs.Content.{HandsOut}
@@ -9,7 +9,10 @@ use Rattle.nr_reduce.specs.declared.mark.Mark.{Mark}
 use Rattle.nr_reduce.specs.History.{bytes_received, bytes_sent}
 use Rattle.nr_reduce.specs.Opening.{IsOpened}
 use Rattle.nr_requester.specs.RequesterState.{RequesterSide}
+use Rattle.nr_link.specs.declared.end.End.TheVariants as ends
+use Rattle.nr_client.specs.declared.call_end.CallEnd.TheVariants as calls
 use Rattle.nr_client.specs.declared.client_end.ClientEnd.{ClientEnd}
+use Rattle.nr_client.specs.declared.client_end.ClientEnd.TheVariants as client
 use Rattle.nr_client.specs.Steps.{IsLive, WritesFirst}
 use Rattle.nr_client.specs.Transfers.{LinkBytes}
 use Rattle.nr_reduce.specs.declared.call.Call.{Call}
@@ -85,11 +88,16 @@ ReadsInOrder =
     (reads : ReadsFile uid gid file b b' h h' taken taken' result) →
     outcomes_in (read_exchanges uid gid file b b' h h' taken taken' result reads).made ≡ reads.last.outcomes
 
--- Two of them one after another, if the first has a value.
+-- A session goes on after this result: no write failed, and memory didn't run out for a frame.
+pub record LetsGoOn {A : Type 0} (result : Result A ClientEnd) : Type 0 where
+  pub written : result ≢ Err (client.Link calls.LinkWrite)
+  pub fed : result ≢ Err (client.Link (calls.Ended ends.Memory))
+
+-- Two of them one after another, whatever the first gives after which a session goes on: a value, or a refusal of the server.
 abbrev pub MarksGoOn : Type 0 → Type 0 → Type 0
 MarksGoOn A B =
-    (value : A) (result : Result B ClientEnd) (b c d : LinkBytes) (h i j : RequesterSide) (first later : Exchanges) →
-    HasDone {A = A} (Ok value) b c h i first → HasDone result c d i j later → HasDone result b d h j (and_then first later)
+    (given : Result A ClientEnd) (result : Result B ClientEnd) (b c d : LinkBytes) (h i j : RequesterSide) (first later : Exchanges) →
+    LetsGoOn given → HasDone given b c h i first → HasDone result c d i j later → HasDone result b d h j (and_then first later)
 
 -- A session that was opened stands for no marks.
 abbrev pub SessionsBegin : Type 0

@@ -14,7 +14,8 @@ pub fn sessions_begin()
 {}
 
 /// Each request of a session adds marks to those of its link, whatever marks its requester stood for: its calls are submitted and their outcomes handed
-/// over in the order of the request, bytes move between, and the client keeps its law and the last grant. So do two requests, one after the other.
+/// over in the order of the request, bytes move between, and the client keeps its law and the last grant. So do two requests, one after the other,
+/// unless a write failed in the first, or memory ran out for a frame.
 pub fn requests_have_marks<A, B>()
     ensures asks { AsksHaveMarks A }
     ensures follows { FollowsHaveMarks A }

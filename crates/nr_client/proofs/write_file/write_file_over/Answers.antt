@@ -1,5 +1,5 @@
 use Rattle.nr_client.specs.Transfers.{link_bytes}
-use Rattle.nr_client.proofs.FileWriting.{first_handed, no_window, read_failed}
+use Rattle.nr_client.proofs.FileWriting.{first_handed, no_window, read_failed, stops_after}
 use Rattle.nr_client.proofs.write_file.write_file_over.Goals as goal
 
 pub returns-in_default-clause-writes : goal.returns-in_default-clause-writes
@@ -15,3 +15,7 @@ pub returns-clause-writes : goal.returns-clause-writes
 returns-clause-writes g c =
     c.write_window-result.ensures.writes (g.N.Source.left c.args.input.now) (g.N.Source.given c.args.input.now)
     (first_handed c.wanted_at.result (g.N.Source.left c.args.input.now) (g.N.Source.given c.args.input.now) (g.N.Source.left c.fill.new.input) (g.N.Source.given c.fill.new.input) c.in-Ok.window c.fill.new.self c.wanted_at.ensures.is c.in-Ok.ensures c.fill.ensures.takes)
+
+pub returns-clause-input_stops : goal.returns-clause-input_stops
+returns-clause-input_stops g c =
+    stops_after g.N.Source.faults g.N.Source.left g.N.Source.given c.write_window-result.result c.args.input.now c.fill.new.input c.write_window-result.new.input c.in-Ok-2.ensures.counted c.write_window-result.ensures.input_stops

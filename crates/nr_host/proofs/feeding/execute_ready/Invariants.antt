@@ -1,5 +1,5 @@
 use Rattle.nr_turnstile.specs.Passes.{Rests}
-use Rattle.nr_plain.specs.History.{known_of}
+use Rattle.nr_plain.specs.History.{pass_view}
 use Rattle.std.proofs.Common.{◌≡◌, None, length}
 use Rattle.nr_endpoint.specs.FedBytes.{fed_bytes}
 use Rattle.nr_responder.specs.ResponderState.{end_of}
@@ -11,7 +11,7 @@ invariant-loop-call g l =
     Rests l.shared l.pass
     × (end_of l.responder.side ≡ None)
     × (fed_bytes l.responder.side.link ≡ fed_bytes l.initial.responder.side.link)
-    × GoesOn (g.C.Clock.gave l.initial.clock) (g.C.Clock.gave l.clock) (known_of l.initial.pass) (known_of l.pass) l.initial.responder.side l.responder.side
+    × GoesOn (g.C.Clock.gave l.initial.clock) (g.C.Clock.gave l.clock) (pass_view l.initial.pass) (pass_view l.pass) l.initial.responder.side l.responder.side
 
 abbrev pub decreases-loop-call : goal.decreases-loop-call
 decreases-loop-call g l = length l.responder.side.ready

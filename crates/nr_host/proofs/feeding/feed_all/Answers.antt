@@ -1,4 +1,4 @@
-use Rattle.nr_plain.specs.History.{known_of}
+use Rattle.nr_plain.specs.History.{pass_view}
 use Rattle.std.proofs.Common.{◌≡◌, ◌<◌, List, ℕ, false, length, arith, refl, subst}
 use Rattle.nr_wire.specs.Feeding.{bytes_taken}
 use Rattle.nr_host.specs.Steps.{FeedsTo, sink_state}
@@ -14,7 +14,7 @@ returns-in-Err-clause-err g c =
     let left = c.loop-left.left.now in
     let l = c.loop-left.responder.side.link in
     feed_ends c.args.piece.now left (sink_state (g.O.Sink.taken c.args.sink.now) (g.O.Sink.faults c.args.sink.now) false) (sink_state (g.O.Sink.taken c.loop-left.sink) (g.O.Sink.faults c.loop-left.sink) c.loop-left.failed)
-    (g.C.Clock.gave c.args.clock.now) (g.C.Clock.gave c.loop-left.clock) (known_of c.args.pass.now) (known_of c.loop-left.pass) c.args.responder.now.side c.loop-left.responder.side
+    (g.C.Clock.gave c.args.clock.now) (g.C.Clock.gave c.loop-left.clock) (pass_view c.args.pass.now) (pass_view c.loop-left.pass) c.args.responder.now.side c.loop-left.responder.side
     feeds on (bytes_taken l.awaited l.rest left) refl
     c.stopped.result (sink_state (g.O.Sink.taken c.stopped.new.sink) (g.O.Sink.faults c.stopped.new.sink) c.stopped.new.failed) c.feed_one.new.self.side c.in-Err.ensures.first c.stopped.ensures.ends
 
@@ -38,9 +38,9 @@ pub returns-in-Err-answer_all-clause-err : goal.returns-in-Err-answer_all-clause
 returns-in-Err-answer_all-clause-err g c =
     let (rests, on, short, room, most, counted, feeds) = c.loop-left.invariant in
     answers_end c.args.piece.now c.loop-left.left.now (sink_state (g.O.Sink.taken c.args.sink.now) (g.O.Sink.faults c.args.sink.now) false) (sink_state (g.O.Sink.taken c.loop-left.sink) (g.O.Sink.faults c.loop-left.sink) c.loop-left.failed)
-    (g.C.Clock.gave c.args.clock.now) (g.C.Clock.gave c.loop-left.clock) (known_of c.args.pass.now) (known_of c.loop-left.pass) c.args.responder.now.side c.loop-left.responder.side
+    (g.C.Clock.gave c.args.clock.now) (g.C.Clock.gave c.loop-left.clock) (pass_view c.args.pass.now) (pass_view c.loop-left.pass) c.args.responder.now.side c.loop-left.responder.side
     feeds on c.in-Ok.n c.in-Ok.ensures.taken
-    c.split_at.result.1.now ends.Memory (sink_state (g.O.Sink.taken c.answer_all.new.sink) (g.O.Sink.faults c.answer_all.new.sink) c.answer_all.new.failed) (g.C.Clock.gave c.answer_all.new.clock) (known_of c.answer_all.new.pass) c.feed_one.new.self.side
+    c.split_at.result.1.now ends.Memory (sink_state (g.O.Sink.taken c.answer_all.new.sink) (g.O.Sink.faults c.answer_all.new.sink) c.answer_all.new.failed) (g.C.Clock.gave c.answer_all.new.clock) (pass_view c.answer_all.new.pass) c.feed_one.new.self.side
     c.in-Ok.ensures.stands c.split_at.ensures.back c.in-Err-answer_all.ensures.err
 
 pub returns-in-Err-answer_all-clause-counted : goal.returns-in-Err-answer_all-clause-counted
@@ -83,9 +83,9 @@ loop-left-preserved g c =
       omega (arith, most, never),
       faults_on c.loop-left.failed c.answer_all.new.failed (g.O.Sink.faults c.args.sink.now) (g.O.Sink.faults c.loop-left.sink) (g.O.Sink.faults c.answer_all.new.sink) counted c.answer_all.ensures.counted,
       feeds_on c.args.piece.now left (sink_state (g.O.Sink.taken c.args.sink.now) (g.O.Sink.faults c.args.sink.now) false) (sink_state (g.O.Sink.taken c.loop-left.sink) (g.O.Sink.faults c.loop-left.sink) c.loop-left.failed)
-          (g.C.Clock.gave c.args.clock.now) (g.C.Clock.gave c.loop-left.clock) (known_of c.args.pass.now) (known_of c.loop-left.pass) c.args.responder.now.side c.loop-left.responder.side
+          (g.C.Clock.gave c.args.clock.now) (g.C.Clock.gave c.loop-left.clock) (pass_view c.args.pass.now) (pass_view c.loop-left.pass) c.args.responder.now.side c.loop-left.responder.side
           feeds on c.in-Ok.n c.in-Ok.ensures.taken
-          c.split_at.result.1.now (sink_state (g.O.Sink.taken c.answer_all.new.sink) (g.O.Sink.faults c.answer_all.new.sink) c.answer_all.new.failed) (g.C.Clock.gave c.answer_all.new.clock) (known_of c.answer_all.new.pass) c.feed_one.new.self.side c.answer_all.new.responder.side
+          c.split_at.result.1.now (sink_state (g.O.Sink.taken c.answer_all.new.sink) (g.O.Sink.faults c.answer_all.new.sink) c.answer_all.new.failed) (g.C.Clock.gave c.answer_all.new.clock) (pass_view c.answer_all.new.pass) c.feed_one.new.self.side c.answer_all.new.responder.side
           c.in-Ok.ensures.stands c.split_at.ensures.back c.in-Ok-answer_all.ensures.ok,
     )
 
@@ -95,4 +95,4 @@ returns-clause-ok g c =
     let none : length c.loop-left.left.now ≡ 0 = grind (arith, c.is_empty.ensures, c.loop-left-test.false) in
     subst (λ (rest : List ℕ). FeedsTo c.args.piece.now rest (sink_state (g.O.Sink.taken c.args.sink.now) (g.O.Sink.faults c.args.sink.now) false) (sink_state (g.O.Sink.taken c.loop-left.sink) (g.O.Sink.faults c.loop-left.sink) c.loop-left.failed)
     (g.C.Clock.gave c.args.clock.now) (g.C.Clock.gave c.loop-left.clock)
-    (known_of c.args.pass.now) (known_of c.loop-left.pass) c.args.responder.now.side c.loop-left.responder.side) (nothing c.loop-left.left.now none) feeds
+    (pass_view c.args.pass.now) (pass_view c.loop-left.pass) c.args.responder.now.side c.loop-left.responder.side) (nothing c.loop-left.left.now none) feeds

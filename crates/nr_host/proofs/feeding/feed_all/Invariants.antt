@@ -1,5 +1,5 @@
 use Rattle.nr_turnstile.specs.Passes.{Rests}
-use Rattle.nr_plain.specs.History.{known_of}
+use Rattle.nr_plain.specs.History.{pass_view}
 use Rattle.std.proofs.Common.{◌≡◌, ◌+◌, ◌*◌, ◌≤◌, false, None, length}
 use Rattle.nr_endpoint.specs.FedBytes.{fed_bytes}
 use Rattle.nr_responder.specs.ResponderState.{end_of}
@@ -17,7 +17,7 @@ invariant-loop-left g l =
     × FaultsAt l.failed (g.O.Sink.faults l.initial.sink) (g.O.Sink.faults l.sink)
     × FeedsTo l.piece l.left (sink_state (g.O.Sink.taken l.initial.sink) (g.O.Sink.faults l.initial.sink) false) (sink_state (g.O.Sink.taken l.sink) (g.O.Sink.faults l.sink) l.failed)
     (g.C.Clock.gave l.initial.clock) (g.C.Clock.gave l.clock)
-    (known_of l.initial.pass) (known_of l.pass) l.initial.responder.side l.responder.side
+    (pass_view l.initial.pass) (pass_view l.pass) l.initial.responder.side l.responder.side
 
 abbrev pub decreases-loop-left : goal.decreases-loop-left
 decreases-loop-left g l = length l.left

@@ -1,5 +1,5 @@
 use Rattle.std.proofs.Common.{◌≡◌, ◌∙◌, length, arith, ap, inl, refl, sym, subst}
-use Rattle.nr_plain.specs.History.{known_of}
+use Rattle.nr_plain.specs.History.{pass_view}
 use Rattle.nr_host.specs.Serving.{Between, Serves, between}
 use Rattle.nr_host.proofs.Links.{serves_more, serves_none}
 use Rattle.nr_host.proofs.serving.take_links.Goals as goal
@@ -16,7 +16,7 @@ links-init g c =
       refl,
       refl,
       serves_none c.args.credits
-          (between (g.A.Acceptor.ended c.args.acceptor.now) (g.A.Acceptor.lost c.args.acceptor.now) (g.P.Spawner.started c.args.spawner.now) (known_of c.args.pass.now))
+          (between (g.A.Acceptor.ended c.args.acceptor.now) (g.A.Acceptor.lost c.args.acceptor.now) (g.P.Spawner.started c.args.spawner.now) (pass_view c.args.pass.now))
           c.args.ends.now.items c.requires.none,
     )
 
@@ -36,18 +36,18 @@ links-preserved g c =
       c.serve_one.ensures.asked ∙ asked,
       c.serve_one.ensures.listens ∙ listens,
       serves_more c.args.credits
-          (between (g.A.Acceptor.ended c.args.acceptor.now) (g.A.Acceptor.lost c.args.acceptor.now) (g.P.Spawner.started c.args.spawner.now) (known_of c.args.pass.now))
-          (between (g.A.Acceptor.ended c.links.acceptor) (g.A.Acceptor.lost c.links.acceptor) (g.P.Spawner.started c.links.spawner) (known_of c.links.pass))
-          (between (g.A.Acceptor.ended c.serve_one.new.acceptor) (g.A.Acceptor.lost c.serve_one.new.acceptor) (g.P.Spawner.started c.serve_one.new.spawner) (known_of c.serve_one.new.pass))
+          (between (g.A.Acceptor.ended c.args.acceptor.now) (g.A.Acceptor.lost c.args.acceptor.now) (g.P.Spawner.started c.args.spawner.now) (pass_view c.args.pass.now))
+          (between (g.A.Acceptor.ended c.links.acceptor) (g.A.Acceptor.lost c.links.acceptor) (g.P.Spawner.started c.links.spawner) (pass_view c.links.pass))
+          (between (g.A.Acceptor.ended c.serve_one.new.acceptor) (g.A.Acceptor.lost c.serve_one.new.acceptor) (g.P.Spawner.started c.serve_one.new.spawner) (pass_view c.serve_one.new.pass))
           c.links.ends.items c.serve_one.new.ends.items all c.in-Ok.ensures.served,
     )
 
 pub returns-in-Err-clause-served : goal.returns-in-Err-clause-served
 returns-in-Err-clause-served g c =
     let (rests, most, started, rises, back, faults, asked, listens, all) = c.links.invariant in
-    let first = between (g.A.Acceptor.ended c.args.acceptor.now) (g.A.Acceptor.lost c.args.acceptor.now) (g.P.Spawner.started c.args.spawner.now) (known_of c.args.pass.now) in
+    let first = between (g.A.Acceptor.ended c.args.acceptor.now) (g.A.Acceptor.lost c.args.acceptor.now) (g.P.Spawner.started c.args.spawner.now) (pass_view c.args.pass.now) in
     subst (λ ends. Serves c.args.credits first ends
-    (between (g.A.Acceptor.ended c.serve_one.new.acceptor) (g.A.Acceptor.lost c.serve_one.new.acceptor) (g.P.Spawner.started c.serve_one.new.spawner) (known_of c.serve_one.new.pass)))
+    (between (g.A.Acceptor.ended c.serve_one.new.acceptor) (g.A.Acceptor.lost c.serve_one.new.acceptor) (g.P.Spawner.started c.serve_one.new.spawner) (pass_view c.serve_one.new.pass)))
     (sym c.in-Err.ensures.kept)
     (subst (λ (b : Between). Serves c.args.credits first c.links.ends.items b) (sym c.in-Err.ensures.err) all)
 

@@ -1,7 +1,7 @@
 use Rattle.std.proofs.Common.{◌≡◌, ◌+◌, ◌-◌, ◌≤◌, length}
 use Rattle.std.specs.Arc.{arc_value}
 use Rattle.nr_turnstile.specs.Passes.{Rests}
-use Rattle.nr_plain.specs.History.{known_of}
+use Rattle.nr_plain.specs.History.{pass_view}
 use Rattle.nr_host.specs.Serving.{BackCount, Serves, between}
 use Rattle.nr_host.proofs.serving.take_links.Given as goal
 
@@ -15,8 +15,8 @@ invariant-links g l =
     × (g.A.Acceptor.faults l.acceptor ≡ g.A.Acceptor.faults l.initial.acceptor)
     × (g.A.Acceptor.asked l.acceptor ≡ g.A.Acceptor.asked l.initial.acceptor)
     × (g.A.Acceptor.listens l.acceptor ≡ g.A.Acceptor.listens l.initial.acceptor)
-    × Serves l.initial.credits (between (g.A.Acceptor.ended l.initial.acceptor) (g.A.Acceptor.lost l.initial.acceptor) (g.P.Spawner.started l.initial.spawner) (known_of l.initial.pass)) l.ends.items
-    (between (g.A.Acceptor.ended l.acceptor) (g.A.Acceptor.lost l.acceptor) (g.P.Spawner.started l.spawner) (known_of l.pass))
+    × Serves l.initial.credits (between (g.A.Acceptor.ended l.initial.acceptor) (g.A.Acceptor.lost l.initial.acceptor) (g.P.Spawner.started l.initial.spawner) (pass_view l.initial.pass)) l.ends.items
+    (between (g.A.Acceptor.ended l.acceptor) (g.A.Acceptor.lost l.acceptor) (g.P.Spawner.started l.spawner) (pass_view l.pass))
 
 abbrev pub decreases-links : goal.decreases-links
 decreases-links g l = l.initial.connections - (l.started + length l.ends.items)

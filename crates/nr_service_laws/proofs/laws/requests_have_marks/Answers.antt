@@ -1,4 +1,4 @@
-use Rattle.nr_service_laws.proofs.Extending.{does_both}
+use Rattle.nr_service_laws.proofs.Extending.{does_after}
 use Rattle.nr_service_laws.proofs.SeveralCalls.{does_asks, does_follows}
 use Rattle.nr_service_laws.proofs.OutcomesInOrder.{followed_outcomes}
 use Rattle.nr_service_laws.proofs.laws.requests_have_marks.Goals as goal
@@ -13,4 +13,4 @@ pub returns-clause-outcomes : goal.returns-clause-outcomes
 returns-clause-outcomes g c = λ request b b' h h' result follows. followed_outcomes request b b' h h' result follows
 
 pub returns-clause-goes_on : goal.returns-clause-goes_on
-returns-clause-goes_on g c = λ value result b c' d h i j first later one two. does_both value result b c' d h i j first later one two
+returns-clause-goes_on g c = λ given result b c' d h i j first later on one two. does_after given result b c' d h i j first later on one two

@@ -11,3 +11,6 @@ loop-self-preserved g c =
 
 pub returns-in_err-read_more-clause-takes : goal.returns-in_err-read_more-clause-takes
 returns-in_err-read_more-clause-takes g c = takes_then _ _ _ _ _ _ _ _ _ _ c.loop-self.invariant.0 c.read_more.ensures.takes
+
+pub returns-in_err-read_more-clause-stops : goal.returns-in_err-read_more-clause-stops
+returns-in_err-read_more-clause-stops g c = record { failed = c.loop-self.input; unrisen = c.loop-self.invariant.1; nothing = c.in_err-read_more.ensures.nothing }

@@ -11,7 +11,7 @@ use Rattle.nr_responder.proofs.Answered.{answer_link, answered_fed, get_view, sa
 use Rattle.nr_responder.proofs.Removed.{map_removed}
 use Rattle.nr_responder.proofs.HeldSinks.{fetched_removed}
 use Rattle.nr_responder.proofs.Sounds.{sound_answered, sound_room_as}
-use Rattle.nr_link.specs.Limits.{send_max}
+use Rattle.nr_responder.proofs.AnswerMessages.{message_short}
 use Rattle.nr_responder.proofs.OutputSteps.{writes_few}
 use Rattle.nr_responder.proofs.server_end.ServerEnd.answer_at.Goals as goal
 
@@ -19,8 +19,8 @@ pub returns-clause-answers : goal.returns-clause-answers
 returns-clause-answers c =
     let q = c.in_ok-sent.ensures.queued in
     let p : Pending = c.index-2.result.now in
-    let stream : List ℕ = c.in_ok-stream.stream.now in
-    let paid = c.in_ok-stream.ensures.payload in
+    let stream : List ℕ = c.ready_payload.result.0.now in
+    let paid = c.ready_payload.ensures.payload in
     let whole : InBuffer p = subst InBuffer (sym c.index-2.ensures) (c.requires.sound.0.bufs c.args.at p c.requires.at) in
     let own : p.xid ≡ c.args.xid = ap (λ (x : Pending). x.xid) c.index-2.ensures ∙ c.requires.own p in
     let link = q.link ∙ ap (λ (x : ℕ). after_calls c.args.self.now.endpoint.link (answer_calls q.writes (message_for x c.args.self.now.credits (call_view p).lists (answer_to (call_view p) stream c.args.reply.now)))) own in
@@ -37,8 +37,8 @@ returns-clause-answers c =
       conveyed = subst (λ (x : Pending). IsPayload (call_view x) paid.0 stream) (c.index.ensures ∙ sym (same_item c.args.self.now.calls.items c.args.at c.index.result.now p c.requires.at) ∙ sym c.index-2.ensures) paid.1.1;
       writes = q.writes;
       written = q.written;
-      short = subst (λ (x : ℕ). length (message_for x c.args.self.now.credits (call_view p).lists (answer_to (call_view p) stream c.args.reply.now)) ≤ send_max) own c.in_ok-sent.ensures.short;
-      few = (let len = ap (λ (bytes : List ℕ). length bytes) q.written in let most = writes_few (call_view p).lists (call_view p) stream c.args.reply.now refl whole.lists.within c.in_ok-sent.ensures.reply in omega (arith, len, most));
+      short = message_short c.args.xid c.args.self.now.credits (call_view p) stream c.args.reply.now whole.lists.within;
+      few = (let len = ap (λ (bytes : List ℕ). length bytes) q.written in let most = writes_few (call_view p).lists (call_view p) stream c.args.reply.now refl whole.lists.within c.requires.short in omega (arith, len, most));
       state = λ i. record { link = link i; calls = calls i; ready = (ap xids_of ready ∙ xids_dropped c.args.self.now.ready.items) i; credits = c.args.self.now.credits; fetching = record { reads = map read_view c.args.self.now.reads.items; sinks = map sink_view c.args.self.now.sinks.items; payloads = (ap payloads_of ready ∙ payloads_dropped c.args.self.now.ready.items) i } };
       sent_is = q.sent_is;
     }

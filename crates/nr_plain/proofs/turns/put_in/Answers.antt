@@ -1,7 +1,7 @@
 use Rattle.std.proofs.Common.{ap, ◌∙◌}
 use Rattle.std.proofs.lemmas.Result.{IfOk-weaker}
 use Rattle.nr_plain.proofs.Histories.{earlier, opened_room, opened_stands}
-use Rattle.nr_plain.proofs.turns.put_behind.Goals as goal
+use Rattle.nr_plain.proofs.turns.put_in.Goals as goal
 
 pub new-requires-clause-stands : goal.new-requires-clause-stands
 new-requires-clause-stands g c = opened_stands c.args.server c.args._first.now _ c.requires.is c.requires.first c.requires.stands
