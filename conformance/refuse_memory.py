@@ -4,10 +4,11 @@
 
 The N-th call of malloc and realloc is answered with nothing, for N from 1 on, until a run makes fewer. Each drill, of several scripts, has
 to end with status 2, print nothing and write `memory`. So has `stat` over TCP; or it can't make a link, and ends with status 3. A server of
-one connection ends so, or serves it: then its client has received the answer, or a part of it before the link ended. It needs a C compiler
-(`cc`) for the library that it preloads. Exit status: 0 all did, 1 some run did otherwise, 2 nothing could be run."""
+one connection, or of two at once, ends so, or serves them: then each client has received the answer, or a part of it before its link ended.
+It needs a C compiler (`cc`) for the library that it preloads. Exit status: 0 all did, 1 some run did otherwise, 2 nothing could be run."""
 import argparse
 import os
+import socket
 import subprocess
 import sys
 import tempfile
@@ -51,26 +52,48 @@ def stat(program: str, library: str, address: str, at: int) -> tuple[int, bytes,
     return done.returncode, done.stdout, done.stderr
 
 
-def serve_one(program: str, library: str, folder: str, at: int) -> tuple[int, bytes, bytes, bytes]:
-    """What a server of one connection came to, and what its client received after a NULL call."""
+def answer(s: socket.socket) -> bytes:
+    """What comes over a link up to the length of an answer, or up to its end, or until nothing has come for a second."""
+    got = b''
+    s.settimeout(1)
+    try:
+        while len(got) < len(ANSWERED) and (more := s.recv(65536)):
+            got += more
+    except OSError:
+        pass
+    return got
+
+
+def serve_some(program: str, library: str, folder: str, count: int, at: int) -> tuple[int, bytes, bytes, list[bytes]]:
+    """What a server of this many connections came to, and what each of its clients received after a NULL call. All are open at once, and
+    the last one is answered first."""
     port, path = free_port(), os.path.join(folder, 'config%d.toml' % at)
     with open(path, 'w', encoding='utf-8') as f:
-        f.write(CONFIG % (port, 1))
+        f.write(CONFIG % (port, count))
     env = dict(os.environ, LD_PRELOAD=library, REFUSE_AT=str(at))
     server = subprocess.Popen([program, 'serve', path], stdout=subprocess.PIPE, stderr=subprocess.PIPE, env=env)
-    got = b''
-    while server.poll() is None:
+    links: list[socket.socket] = []
+    while server.poll() is None and len(links) < count:
         try:
-            with connect(port, tries=1) as s:
-                s.sendall(HELLO + CALL)
-                s.shutdown(1)
-                while more := s.recv(65536):
-                    got += more
-                break
+            s = connect(port, tries=1)
+            links.append(s)
+            s.sendall(HELLO + CALL)
         except (OSError, TimeoutError):
             continue
+    got = []
+    for s in reversed(links):
+        got.append(answer(s))
+        s.close()
     out, err = server.communicate(timeout=30)
     return server.returncode, out, err, got
+
+
+def served(count: int, g: tuple[object, ...]) -> bool:
+    """Whether it ended as it may: by memory, by the link, or after its connections, each of which received a part of the answer at most."""
+    if g[:3] in ((2, b'', b'memory\n'), (3, b'', b'link fault\n')):
+        return True
+    assert isinstance(g[3], list)
+    return g[:3] == (0, b'served %d journal 0\n' % count, b'') and all(ANSWERED.startswith(it) for it in g[3])
 
 
 def refuse_over_links(program: str, library: str, folder: str) -> int:
@@ -84,9 +107,8 @@ def refuse_over_links(program: str, library: str, folder: str) -> int:
     ends: dict[str, tuple[Callable[[int], tuple[object, ...]], Callable[[tuple[object, ...]], bool]]] = {
         'stat': (lambda at: stat(program, library, '127.0.0.1:%d' % port, at),
                  lambda g: g in ((2, b'', b'memory\n'), (3, b'', b'link fault\n'))),
-        'serve, one connection': (lambda at: serve_one(program, library, folder, at),
-                                  lambda g: g[:3] in ((2, b'', b'memory\n'), (3, b'', b'link fault\n'))
-                                  or g[:3] == (0, b'served 1 journal 0\n', b'') and ANSWERED.startswith(g[3])),
+        'serve, one connection': (lambda at: serve_some(program, library, folder, 1, at), lambda g: served(1, g)),
+        'serve, two connections at once': (lambda at: serve_some(program, library, folder, 2, at), lambda g: served(2, g)),
     }
     for name, (run_at, may_be) in ends.items():
         good, at, seen = run_at(0), 0, {}

@@ -1,8 +1,9 @@
-//! The program: it opens the streams of its process, a dialer and an acceptor over TCP and the system's clock, and hands them
-//! to [`nr_top::run`], or to [`nr_top::refuse`] if it can't have its arguments. The input of the command `serve` is the file of
-//! its configuration.
+//! The program: it opens the streams of its process, a dialer and an acceptor over TCP, the system's clock and a spawner of threads,
+//! and hands them to [`nr_top::run`], or to [`nr_top::refuse`] if it can't have its arguments. The input of the command `serve` is the
+//! file of its configuration.
 #![tactic(auto)]
 
+use nr_jobs::ThreadSpawner;
 use nr_links::{SystemClock, TcpAcceptor, TcpDialer};
 use nr_outside::{StdSink, StdSource};
 use nr_top::{refuse, run};
@@ -10,7 +11,13 @@ use nr_words::{Command, WordsFault, read_words};
 use std::fs::File;
 use std::io::{ErrorKind, Read};
 use std::process::ExitCode;
+use std::sync::Wait;
+use std::thread::Threads;
 use std::{env, io};
+
+/// How many connections are served in threads at a time. Each takes two descriptors, and a process often may have 1024: at this
+/// number there are enough for one more, for the listener and for the standard streams.
+const THREADS: u64 = 500;
 
 /// An input. The first read of a file that can't be opened fails.
 #[derive(Drop)]
@@ -39,8 +46,12 @@ fn arguments(rt: &HostRuntime) -> io::Result<Vec<String>> {
     Ok(arguments)
 }
 
-/// Runs the program, and gives the status.
-fn run_with(rt: HostRuntime, arguments: &[String]) -> u8 {
+/// Runs the program, with the leave to start threads and to wait, and gives the status.
+fn run_with<R: Threads + Wait + Copy + Drop + Send + 'static>(
+    rt: HostRuntime,
+    threads: R,
+    arguments: &[String],
+) -> u8 {
     let input = match read_words(rt.alloc(), arguments) {
         Ok(Command::Serve { config }) => match File::open(&rt, config) {
             Ok(file) => Input::File(file),
@@ -56,7 +67,11 @@ fn run_with(rt: HostRuntime, arguments: &[String]) -> u8 {
     let mut dial = TcpDialer::new(rt);
     let mut accept = TcpAcceptor::new(rt);
     let mut clock = SystemClock::new(rt);
+    let Ok(mut spawn) = ThreadSpawner::new(rt.alloc(), THREADS) else {
+        return refuse(&mut err, true);
+    };
     run(
+        threads,
         rt.alloc(),
         arguments,
         &mut input,
@@ -65,6 +80,7 @@ fn run_with(rt: HostRuntime, arguments: &[String]) -> u8 {
         &mut dial,
         &mut accept,
         &mut clock,
+        &mut spawn,
     )
 }
 
@@ -75,7 +91,7 @@ fn main(rt: HostRuntime) -> ExitCode {
     let _second = File::open(&rt, "/");
     let _third = File::open(&rt, "/");
     match arguments(&rt) {
-        Ok(arguments) => ExitCode::from(run_with(rt, arguments.as_slice())),
+        Ok(arguments) => ExitCode::from(run_with(rt, rt, arguments.as_slice())),
         Err(error) => {
             let mut err = StdSink::new(rt.stderr());
             ExitCode::from(refuse(&mut err, error.kind() == io::ErrorKind::OutOfMemory))

@@ -10,6 +10,8 @@ mod compare;
 #[cfg(test)]
 mod ends;
 #[cfg(test)]
+mod host;
+#[cfg(test)]
 mod pieces;
 #[cfg(test)]
 mod reading;

@@ -1,6 +1,7 @@
 //! Several READs of a file are outstanding.
 
 use crate::compare::same;
+use crate::host::Host;
 use crate::runs::{field, plan, push_piece, run_client, same_cases, same_sent, source, words};
 use nr_links::MemDialer;
 use nr_outside::MemSink;
@@ -199,11 +200,11 @@ fn file_dialer(rt: &impl Abort, alloc: Global) -> MemDialer {
 }
 
 /// Gets the file, and gives the status.
-fn get_file(rt: &impl Abort, alloc: Global, dial: &mut MemDialer, out: &mut MemSink) -> u8 {
+fn get_file(rt: &impl Host, alloc: Global, dial: &mut MemDialer, out: &mut MemSink) -> u8 {
     let words = words(rt, alloc, "get here / /a", "here");
     let mut input = source(rt, alloc, b"", Vec::new(alloc));
     let mut err = MemSink::new(alloc, Vec::new(alloc));
-    run_client(alloc, words.as_slice(), &mut input, out, &mut err, dial)
+    run_client(rt, alloc, words.as_slice(), &mut input, out, &mut err, dial)
 }
 
 /// Compares bytes with those of the file.

@@ -6,7 +6,9 @@
 //! `write` of the link, `input`, `out` or `err`), and what is printed though the status is not 0. A row that begins with `#` is a comment.
 
 use crate::compare::same;
+use crate::host::Host;
 use crate::pieces::piece;
+use nr_jobs::HandBack;
 use nr_links::{Dialer, LinkPlan, LinkSink, LinkSource, MemAcceptor, MemClock, MemDialer, MemLink};
 use nr_outside::{MemSink, MemSource, Moment};
 use nr_top::run;
@@ -149,6 +151,7 @@ pub(crate) fn source(
 
 /// Runs a client, and gives its status.
 pub(crate) fn run_client<P: LinkSource, Q: LinkSink, D: Dialer<Source = P, Sink = Q>>(
+    rt: &impl Host,
     alloc: Global,
     words: &[String],
     input: &mut MemSource,
@@ -158,7 +161,19 @@ pub(crate) fn run_client<P: LinkSource, Q: LinkSink, D: Dialer<Source = P, Sink 
 ) -> u8 {
     let mut accept = MemAcceptor::new(alloc, Vec::new(alloc), Vec::new(alloc));
     let mut clock = MemClock::new(&MOMENTS);
-    run(alloc, words, input, out, err, dial, &mut accept, &mut clock)
+    let mut spawn = HandBack::new();
+    run(
+        *rt,
+        alloc,
+        words,
+        input,
+        out,
+        err,
+        dial,
+        &mut accept,
+        &mut clock,
+        &mut spawn,
+    )
 }
 
 /// Compares bytes with a text, in which `;` stands for the end of a line.
@@ -200,7 +215,7 @@ fn same_texts(rt: &impl Abort, alloc: Global, row: usize, case: Case, out: &[u8]
 
 /// Runs a client that dials this address, with this input, and compares its status and what it prints and reports.
 pub(crate) fn same_run<P: LinkSource, Q: LinkSink, D: Dialer<Source = P, Sink = Q>>(
-    rt: &impl Abort,
+    rt: &impl Host,
     alloc: Global,
     row: usize,
     case: Case,
@@ -213,6 +228,7 @@ pub(crate) fn same_run<P: LinkSource, Q: LinkSink, D: Dialer<Source = P, Sink = 
     let mut out = MemSink::new(alloc, faults(rt, alloc, case.fault, "out"));
     let mut err = MemSink::new(alloc, faults(rt, alloc, case.fault, "err"));
     let status = run_client(
+        rt,
         alloc,
         words.as_slice(),
         &mut input,
@@ -227,14 +243,14 @@ pub(crate) fn same_run<P: LinkSource, Q: LinkSink, D: Dialer<Source = P, Sink = 
 }
 
 /// Runs a client, and compares its status and what it prints, reports and sends.
-fn same_case(rt: &impl Abort, alloc: Global, row: usize, case: Case, input: &[u8]) {
+fn same_case(rt: &impl Host, alloc: Global, row: usize, case: Case, input: &[u8]) {
     let mut dial = dialer(rt, alloc, case.received, case.fault);
     same_run(rt, alloc, row, case, input, "here", &mut dial);
     same_sent(rt, alloc, row, dial.ended().last(), case.sent);
 }
 
 /// Runs the clients of a text, each with this input.
-pub(crate) fn same_cases_of(rt: &impl Abort, alloc: Global, input: &[u8], text: &str) {
+pub(crate) fn same_cases_of(rt: &impl Host, alloc: Global, input: &[u8], text: &str) {
     for (row, text) in text.lines().enumerate() {
         if !text.starts_with('#') {
             same_case(rt, alloc, row, read_case(rt, text), input);
@@ -243,6 +259,6 @@ pub(crate) fn same_cases_of(rt: &impl Abort, alloc: Global, input: &[u8], text: 
 }
 
 /// Runs the clients of a text.
-pub(crate) fn same_cases(rt: &impl Abort, alloc: Global, text: &str) {
+pub(crate) fn same_cases(rt: &impl Host, alloc: Global, text: &str) {
     same_cases_of(rt, alloc, INPUT, text);
 }

@@ -1,7 +1,11 @@
 //! Runs of a server over what clients send.
 
+ghost use Rattle.std.specs.Prelude.{◌<◌, ◌^◌};
+
 use crate::compare::same;
+use crate::host::Host;
 use crate::runs::{MOMENTS, plan, read_case, same_sent, same_text, source, words};
+use nr_jobs::{HandBack, Spawner};
 use nr_links::{Acceptor, MemAcceptor, MemClock, MemDialer, MemLink};
 use nr_outside::{MemSink, MemSource};
 use nr_top::run;
@@ -9,22 +13,31 @@ use std::alloc::Global;
 use std::process::Abort;
 
 /// Runs a server, and gives its status.
-pub(crate) fn run_server<A: Acceptor>(
+pub(crate) fn run_server<A: Acceptor, P: Spawner>(
+    rt: &impl Host,
     alloc: Global,
     words: &[String],
     input: &mut MemSource,
     out: &mut MemSink,
     err: &mut MemSink,
     accept: &mut A,
-) -> u8 {
+    spawn: &mut P,
+) -> u8
+where
+    A::Source: Drop + Send + 'static,
+    A::Sink: Drop + Send + 'static,
+    requires { P.started spawn.old < 2 ^ 63 }
+{
     let mut dial = MemDialer::new(alloc, Vec::new(alloc), Vec::new(alloc));
     let mut clock = MemClock::new(&MOMENTS);
-    run(alloc, words, input, out, err, &mut dial, accept, &mut clock)
+    run(
+        *rt, alloc, words, input, out, err, &mut dial, accept, &mut clock, spawn,
+    )
 }
 
 /// Runs a server, and compares what it prints.
 fn same_report(
-    rt: &impl Abort,
+    rt: &impl Host,
     alloc: Global,
     config: &str,
     accept: &mut MemAcceptor,
@@ -34,13 +47,16 @@ fn same_report(
     let mut input = source(rt, alloc, config.as_bytes(), Vec::new(alloc));
     let mut out = MemSink::new(alloc, Vec::new(alloc));
     let mut err = MemSink::new(alloc, Vec::new(alloc));
+    let mut spawn = HandBack::new();
     let status = run_server(
+        rt,
         alloc,
         words.as_slice(),
         &mut input,
         &mut out,
         &mut err,
         accept,
+        &mut spawn,
     );
     drop(input);
     drop(words);
@@ -79,7 +95,7 @@ pub(crate) fn config(rt: &impl Abort, alloc: Global, connections: usize) -> Stri
 }
 
 /// Runs a server over what the first clients of a text send, and compares what it sends to each, and what it prints.
-pub(crate) fn same_server(rt: &impl Abort, alloc: Global, text: &str, count: usize, printed: &str) {
+pub(crate) fn same_server(rt: &impl Host, alloc: Global, text: &str, count: usize, printed: &str) {
     let config = config(rt, alloc, count);
     let mut accept = acceptor(rt, alloc, text, count);
     same_report(rt, alloc, config.as_str(), &mut accept, printed);

@@ -4,8 +4,10 @@ ghost use Rattle.std.specs.Prelude.{None, true};
 
 use crate::commands::COMMANDS;
 use crate::compare::same;
+use crate::host::Host;
 use crate::runs::{INPUT, read_case, same_run, same_text, words};
 use crate::servers::{config, run_server};
+use nr_jobs::ThreadSpawner;
 use nr_links::{Acceptor, TcpAcceptor, TcpDialer, TcpSink, TcpSource};
 use nr_outside::{Failed, MemSink, MemSource};
 use std::alloc::Global;
@@ -32,6 +34,8 @@ impl<N: Net<Stream = TcpStream, Listener = TcpListener>> Acceptor for Listening<
 
     ghost ended = { λ _. None };
 
+    ghost next = { λ s. s.inner.next };
+
     ghost listens = { λ _. true };
 
     fn listen(&mut self, _addr: &str) -> Result<(), Failed> {
@@ -56,8 +60,8 @@ struct Server<N> {
 }
 
 impl<N: Net<Stream = TcpStream, Listener = TcpListener> + Drop> Server<N> {
-    /// Its status, and what it prints and reports.
-    fn run(self, alloc: Global) -> (u8, MemSink, MemSink) {
+    /// Its status, and what it prints and reports. Each connection is served in a thread of its own.
+    fn run(self, rt: impl Host, alloc: Global) -> (u8, MemSink, MemSink) {
         let Server {
             words,
             config,
@@ -66,13 +70,16 @@ impl<N: Net<Stream = TcpStream, Listener = TcpListener> + Drop> Server<N> {
         let mut input = MemSource::new(config, Vec::new(alloc), Vec::new(alloc));
         let mut out = MemSink::new(alloc, Vec::new(alloc));
         let mut err = MemSink::new(alloc, Vec::new(alloc));
+        let mut spawn = ThreadSpawner::new(alloc, 500).expect(&rt, "memory");
         let status = run_server(
+            &rt,
             alloc,
             words.as_slice(),
             &mut input,
             &mut out,
             &mut err,
             &mut accept,
+            &mut spawn,
         );
         (status, out, err)
     }
@@ -102,7 +109,7 @@ fn new_server<N: Net<Stream = TcpStream, Listener = TcpListener> + Drop>(
 
 /// Runs the first clients of a text, one after another, and compares their statuses and what they print and report.
 fn same_clients<N: Net<Stream = TcpStream, Listener = TcpListener>>(
-    rt: &impl Abort,
+    rt: &impl Host,
     alloc: Global,
     count: usize,
     addr: &str,
@@ -125,7 +132,7 @@ fn clients_while_their_server_runs(rt: HostRuntime) {
     let alloc = rt.alloc();
     for (count, printed) in ROWS.iter() {
         let (server, addr) = new_server(&rt, alloc, rt, *count);
-        let Ok(server) = thread::spawn(&rt, move || server.run(alloc)) else {
+        let Ok(server) = thread::spawn(&rt, move || server.run(rt, alloc)) else {
             panic!(rt; "no thread")
         };
         same_clients(&rt, alloc, *count, addr.as_str(), &mut TcpDialer::new(rt));

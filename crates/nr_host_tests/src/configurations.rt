@@ -2,11 +2,14 @@
 
 use crate::compare::same;
 use crate::connections::{MOMENTS, plan};
+use nr_jobs::HandBack;
 use nr_links::{MemAcceptor, MemClock};
 use nr_outside::{MemSink, MemSource};
 use nr_top::run_server;
 use std::alloc::Global;
 use std::process::Abort;
+use std::sync::Wait;
+use std::thread::Threads;
 
 const CONFIG: &str =
     "listen = \"here\"\nexport = \"/\"\ncredits = 1\ncapacity = 1099511627776\nconnections = 1\nwrite_verifier = \"0000000000000001\"\n";
@@ -42,7 +45,12 @@ static ROWS: [Row; 6] = [
     ),
 ];
 
-fn served(rt: &impl Abort, alloc: Global, row: usize, case: &Row) {
+fn served<R: Abort + Threads + Wait + Copy + Drop + Send + 'static>(
+    rt: &R,
+    alloc: Global,
+    row: usize,
+    case: &Row,
+) {
     let (config, links, reads, accepts, writes, status, printed, reported) = *case;
     let text = config.as_bytes().to_vec(alloc).expect(rt, "memory");
     let reads = reads.to_vec(alloc).expect(rt, "memory");
@@ -56,13 +64,16 @@ fn served(rt: &impl Abort, alloc: Global, row: usize, case: &Row) {
     let accepts = accepts.to_vec(alloc).expect(rt, "memory");
     let mut acceptor = MemAcceptor::new(alloc, plans, accepts);
     let mut clock = MemClock::new(&MOMENTS);
+    let mut spawn = HandBack::new();
     let got = run_server(
+        *rt,
         alloc,
         &mut input,
         &mut out,
         &mut err,
         &mut acceptor,
         &mut clock,
+        &mut spawn,
     );
     same(rt, row, got, status);
     same(rt, row, out.bytes() == printed.as_bytes(), true);

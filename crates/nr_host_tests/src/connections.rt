@@ -1,15 +1,21 @@
 //! One connection with a NULL call, cut and failing at several offsets.
 
+ghost use Rattle.std.specs.Arc.{arc_value};
+ghost use Rattle.nr_turnstile.specs.Passes.{Rests};
+
 use crate::compare::same;
 use nr_host::{serve, serve_connection};
+use nr_jobs::HandBack;
 use nr_links::{Acceptor, Clock, LinkPlan, MemAcceptor, MemClock};
 use nr_nfs_base::{Time, Verifier};
 use nr_outside::{MemSink, MemSource, Moment};
-use nr_plain::Server;
+use nr_plain::{Server, journal_len, share};
 use nr_tree::Tree;
+use nr_turnstile::{Machine, Pass, Turnstile};
 use nr_xdr::Octets;
 use std::alloc::Global;
 use std::process::Abort;
+use std::sync::{Arc, Wait};
 
 /// The client's hello (RFC 5044 section 7.1), and the FPDUs of two NULL calls, of xids 1 and 2, with 16 credits.
 static SENT: [u32; 51] = [
@@ -51,14 +57,22 @@ fn bytes(rt: &impl Abort, alloc: Global, words: &[u32], most: usize) -> Vec<u8> 
     bytes
 }
 
-fn server(rt: &impl Abort, alloc: Global) -> Server {
+/// A server of an empty directory, behind a turnstile.
+pub(crate) fn shared(
+    rt: &impl Abort,
+    alloc: Global,
+) -> (Arc<Turnstile<Server>, Global>, Pass<Server>)
+    ensures { Rests (arc_value result.0) result.1 }
+{
     let made = Time {
         seconds: 0,
         nanoseconds: 0,
     };
     let tree = Tree::root_only(alloc, made).expect(rt, "memory");
     let export = Octets::from_slice(alloc, b"/").expect(rt, "memory");
-    Server::open(tree, 1 << 40, Verifier { number: 1 }, export)
+    let server = Server::open(tree, 1 << 40, Verifier { number: 1 }, export);
+    let (shared, pass) = share(alloc, server).expect(rt, "memory");
+    (Arc::new(alloc, shared).expect(rt, "memory"), pass)
 }
 
 /// How many bytes the client sends, the sizes of the first pieces, the read and the write that fail, how the connection ends,
@@ -95,7 +109,7 @@ static ROWS: [Row; 14] = [
 
 /// Serves a connection, and compares how it ends, what its sink takes, and how many calls are executed.
 fn same_end(
-    rt: &impl Abort,
+    rt: &(impl Abort + Wait),
     alloc: Global,
     row: usize,
     source: &mut MemSource,
@@ -104,16 +118,18 @@ fn same_end(
 ) {
     let (end, sent, executed) = want;
     let mut sink = MemSink::new(alloc, writes);
-    let mut server = server(rt, alloc);
+    let (shared, mut pass) = shared(rt, alloc);
     let mut clock = MemClock::new(&MOMENTS);
-    let got = serve_connection(alloc, source, &mut sink, &mut server, &mut clock, 1);
+    let got = serve_connection(
+        rt, alloc, source, &mut sink, &shared, &mut pass, &mut clock, 1,
+    );
     let text = format!(in alloc; "{got:?}").expect(rt, "memory");
     same(rt, row, text.as_str(), end);
     same(rt, row, sink.bytes() == sent, true);
     same(rt, row, clock.now().seconds, executed);
 }
 
-fn ends(rt: &impl Abort, alloc: Global, row: usize, case: &Row) {
+fn ends(rt: &(impl Abort + Wait), alloc: Global, row: usize, case: &Row) {
     let (most, sizes, reads, writes, end, sent, executed) = *case;
     let sizes = sizes.to_vec(alloc).expect(rt, "memory");
     let reads = reads.to_vec(alloc).expect(rt, "memory");
@@ -258,18 +274,35 @@ pub(crate) fn plan(rt: &impl Abort, alloc: Global) -> LinkPlan {
     }
 }
 
-/// Two connections, one after the other, and a third that does not come.
+/// This many links, over each of which the client sends its hello and a NULL call.
+pub(crate) fn plans(rt: &impl Abort, alloc: Global, count: usize) -> Vec<LinkPlan> {
+    let mut plans = Vec::new(alloc);
+    for _ in 0..count {
+        plans.push(plan(rt, alloc)).expect(rt, "memory");
+    }
+    plans
+}
+
+/// Two connections, whose jobs come back, so that each is served here and gets its answer; and a third that does not come.
 #[test]
 fn two_connections(rt: HostRuntime) {
     let alloc = rt.alloc();
-    let mut plans = Vec::new(alloc);
-    plans.push(plan(&rt, alloc)).expect(&rt, "memory");
-    plans.push(plan(&rt, alloc)).expect(&rt, "memory");
-    let mut acceptor = MemAcceptor::new(alloc, plans, Vec::new(alloc));
+    let mut acceptor = MemAcceptor::new(alloc, plans(&rt, alloc, 2), Vec::new(alloc));
     same(&rt, 0, acceptor.listen("here").is_ok(), true);
-    let mut server = server(&rt, alloc);
-    let mut clock = MemClock::new(&MOMENTS);
-    let Ok(ran) = serve(alloc, &mut acceptor, &mut server, &mut clock, 1, 2) else {
+    let (shared, mut pass) = shared(&rt, alloc);
+    let mut spawner = HandBack::new();
+    let clock = MemClock::new(&MOMENTS);
+    let Ok(ran) = serve(
+        rt,
+        alloc,
+        &mut acceptor,
+        &mut spawner,
+        &shared,
+        &mut pass,
+        &clock,
+        1,
+        2,
+    ) else {
         panic!(rt; "not served")
     };
     same(&rt, 1, ran.started, 0);
@@ -285,6 +318,17 @@ fn two_connections(rt: HostRuntime) {
         );
     }
     same(&rt, 5, acceptor.ended().len(), 2);
-    let none = serve(alloc, &mut acceptor, &mut server, &mut clock, 1, 1);
-    same(&rt, 6, none.is_err(), true);
+    same(&rt, 6, journal_len(&rt, &shared, &mut pass), 0);
+    let none = serve(
+        rt,
+        alloc,
+        &mut acceptor,
+        &mut spawner,
+        &shared,
+        &mut pass,
+        &clock,
+        1,
+        1,
+    );
+    same(&rt, 7, none.is_err(), true);
 }

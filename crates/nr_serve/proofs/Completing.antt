@@ -57,9 +57,9 @@ printing stops.Configuration out out' text quiet stopped = absurd stopped
 printing stops.Link out out' text quiet stopped = absurd stopped
 
 pub only_memory : OnlyMemoryStops
-only_memory stop text settings input input' out out' before after gave gave' is within right reads writes accepts (AtReading stopped none same given) =
+only_memory stop text settings input input' out out' before after spawner spawner' gave gave' is within right reads writes accepts (AtReading stopped none same unused given) =
     reading stop text settings input input' is within right reads stopped
-only_memory stop text settings input input' out out' before after gave gave' is within right reads writes accepts (AfterReading read config (AtServing stopped none)) =
+only_memory stop text settings input input' out out' before after spawner spawner' gave gave' is within right reads writes accepts (AfterReading read config (AtServing stopped none)) =
     serving stop before.faults after.faults accepts stopped.1
-only_memory stop text settings input input' out out' before after gave gave' is within right reads writes accepts (AfterReading read config (AtPrinting serves stopped)) =
+only_memory stop text settings input input' out out' before after spawner spawner' gave gave' is within right reads writes accepts (AfterReading read config (AtPrinting serves stopped)) =
     printing stop out out' (served_text read.connections (length serves.journal)) writes stopped

@@ -1,16 +1,26 @@
--- The journal of a server after its links.
-use Rattle.std.proofs.Common.{ℕ, List, [], ◌∷◌, ◌++◌, sym, subst}
+-- The journal that a server's own pass has seen after its links.
+use Rattle.std.proofs.Common.{ℕ, Bool, true, false, List, [], ◌∷◌, ◌++◌, None, Some, sym, subst, ltb, length}
+use Rattle.std.specs.Prelude.{if◌then◌else◌, Option}
 use Rattle.nr_reduce.specs.declared.mark.Entry.{Entry}
-use Rattle.nr_plain.specs.Setup.{Setup}
-use Rattle.nr_plain.specs.Stands.{RepresentsJournal}
+use Rattle.nr_plain.specs.History.{IsHistory, Opening, PassView}
+use Rattle.nr_plain.specs.declared.history_entry.HistoryEntry.{HistoryEntry}
 use Rattle.nr_host.specs.declared.conn_end.ConnEnd.{ConnEnd}
-use Rattle.nr_host.specs.Connections.{added}
 use Rattle.nr_host.specs.Serving.{Between, ServesAll}
 
--- each link adds entries to it
-pub journal_after : (credits : ℕ) (s : Setup) (J : List Entry) (before after : Between) (ends : List ConnEnd) → ServesAll credits before ends after → RepresentsJournal s J before.kept
-    → (K : List Entry) × RepresentsJournal s K after.kept
-journal_after credits s J before after [] none stood = (J, subst (λ (b : Between). RepresentsJournal s J b.kept) (sym none) stood)
-journal_after credits s J before after (end ∷ ends) (mid, one, rest) stood =
+-- of two histories the longer one is one of them
+longer_of : (b : Bool) (first : Opening) (J K : List Entry) (seen own : List HistoryEntry) → IsHistory first J seen → IsHistory first K own
+    → (L : List Entry) × IsHistory first L (if b then own else seen)
+longer_of true first J K seen own stood added = (K, added)
+longer_of false first J K seen own stood added = (J, stood)
+
+-- It is the history of the server that was opened, whoever added entries.
+pub journal_after : (credits : ℕ) (first : Opening) (J : List Entry) (before after : Between) (links : List (Option ConnEnd)) → ServesAll credits before links after → IsHistory first J before.view.seen
+    → (K : List Entry) × IsHistory first K after.view.seen
+journal_after credits first J before after [] none stood = (J, subst (λ (b : Between). IsHistory first J b.view.seen) (sym none) stood)
+journal_after credits first J before after (None ∷ links) (mid, one, rest) stood =
+    journal_after credits first J mid after links rest (subst (λ (v : PassView). IsHistory first J v.seen) (sym one.view) stood)
+journal_after credits first J before after (Some end ∷ links) (mid, one, rest) stood =
     let (read, (failed, ended)) = one.served 0 in
-    journal_after credits s (J ++ added ended.run) mid after ends rest (ended.runs.over s J stood).stands
+    let over = ended.runs.over first J stood in
+    let (L, is) = longer_of (ltb (length before.view.seen) (length one.own.seen)) first J (J ++ over.more) before.view.seen one.own.seen stood over.seen in
+    journal_after credits first L mid after links rest (subst (λ (h : List HistoryEntry). IsHistory first L h) (sym one.joins.seen) is)

@@ -1,5 +1,5 @@
 -- A server that a configuration asks for.
-use Rattle.std.specs.Prelude.{◌≡◌, ℕ, ◌++◌, List, [], length, codes, Option}
+use Rattle.std.specs.Prelude.{◌≡◌, ℕ, ◌+◌, ◌++◌, List, [], length, codes, Option}
 use Rattle.std.specs.Fmt.{decimal}
 use Rattle.std.specs.Int.{w64, from_be_bytes}
 use Rattle.nr_outside.specs.declared.moment.Moment.{Moment}
@@ -8,12 +8,12 @@ use Rattle.nr_links.specs.Links.{LinkLog}
 use Rattle.nr_links.specs.Moments.{Gives}
 use Rattle.nr_reduce.specs.declared.mark.Entry.{Entry}
 use Rattle.nr_tree.specs.Roots.{root_only}
+use Rattle.nr_plain.specs.History.{IsHistory, OnlyOthersAdded, Opening, PassView, setup_in}
 use Rattle.nr_plain.specs.Setup.{Setup, time_of}
-use Rattle.nr_plain.specs.Stands.{PlainServerState, RepresentsJournal}
 use Rattle.nr_words.specs.declared.settings.Settings.{Settings}
 use Rattle.nr_words.specs.Lines.{Text}
 use Rattle.nr_host.specs.declared.conn_end.ConnEnd.{ConnEnd}
-use Rattle.nr_host.specs.Serving.{ServesAll, between}
+use Rattle.nr_host.specs.Serving as host
 
 -- the setup that a configuration asks for: a root alone, made at this moment
 abbrev pub setup_of : Settings Text → Moment → Setup
@@ -32,31 +32,47 @@ pub record AcceptorAt : Type 0 where
 abbrev pub acceptor_at : Option (List (List ℕ)) → Option LinkLog → ℕ → ℕ → AcceptorAt
 acceptor_at asked ended lost faults = record { asked = asked; ended = ended; lost = lost; faults = faults }
 
+-- what is known of a spawner: how many jobs it started, how many of them have ended, and its fault count, which rises if it hands one back
+pub record SpawnerAt : Type 0 where
+  pub started : ℕ
+  pub ended : ℕ
+  pub faults : ℕ
+
+abbrev pub spawner_at : ℕ → ℕ → ℕ → SpawnerAt
+spawner_at started ended faults = record { started = started; ended = ended; faults = faults }
+
 -- A server was opened at the moment that the clock gave, as the configuration asks for.
-pub record Opens (settings : Settings Text) (before after : Option (List Moment)) (kept : PlainServerState) : Type 0 where
+pub record Opens (settings : Settings Text) (before after : Option (List Moment)) (first : Opening) : Type 0 where
   pub moment : Moment
   pub gave : Gives before after moment
-  pub stands : RepresentsJournal (setup_of settings moment) [] kept
+  pub setup : setup_in first ≡ setup_of settings moment
 
--- A server was opened so, listened at the address of the configuration, and served links that ended so, one after another. This is its
--- journal then.
-pub record Serves (settings : Settings Text) (before after : AcceptorAt) (gave gave' : Option (List Moment)) (ends : List ConnEnd) (journal : List Entry) : Type 0 where
-  pub opened : Option (List Moment)
-  pub first : PlainServerState
-  pub last : PlainServerState
-  pub opens : Opens settings gave opened first
+-- A server was opened so, and listened at the address of the configuration. Links were taken then: the spawner started the job of each, or it was
+-- served here, and these are the ends of those. All jobs that were started have ended. The server's own pass had seen no entry of the journal at
+-- first, and this is what it knows at last.
+pub record Serves (settings : Settings Text) (before after : AcceptorAt) (spawner spawner' : SpawnerAt) (gave gave' : Option (List Moment)) (ends : List ConnEnd) (first : Opening) (view : PassView) : Type 0 where
+  pub opened : PassView
+  pub opens : Opens settings gave gave' first
+  pub empty : IsHistory first [] opened.seen
   pub listens : Asks before.asked after.asked settings.listen
-  pub serves : ServesAll settings.credits (between before.ended before.lost opened first) ends (between after.ended after.lost gave' last)
-  pub stands : RepresentsJournal (setup_of settings opens.moment) journal last
+  pub serves : host.Serves settings.credits (host.between before.ended before.lost spawner.started opened) ends (host.between after.ended after.lost spawner'.started view)
+  pub waited : spawner'.ended ≡ spawner'.started
 
 -- what is printed at the end: the number of connections, and the length of the journal
 unfoldable pub served_text : ℕ → ℕ → List ℕ
 served_text connections journal = codes "served " ++ decimal connections ++ codes " journal " ++ decimal journal ++ codes "\n"
 
--- all connections that a configuration asks for were served
-pub record ServesConnections (settings : Settings Text) (before after : AcceptorAt) (gave gave' : Option (List Moment)) : Type 0 where
+-- All connections that a configuration asks for were served: each in a job that was started, or here. After that the server's own pass had one turn
+-- more, and this is the journal that it saw then.
+pub record ServesConnections (settings : Settings Text) (before after : AcceptorAt) (spawner spawner' : SpawnerAt) (gave gave' : Option (List Moment)) : Type 0 where
+  pub first : Opening
   pub ends : List ConnEnd
+  pub view : PassView
+  pub last : PassView
   pub journal : List Entry
-  pub all : length ends ≡ settings.connections
-  pub serves : Serves settings before after gave gave' ends journal
+  pub serves : Serves settings before after spawner spawner' gave gave' ends first view
+  pub all : spawner'.started + length ends ≡ spawner.started + settings.connections
+  pub back : host.BackCount ends spawner.faults spawner'.faults
+  pub turn : OnlyOthersAdded view last
+  pub saw : IsHistory first journal last.seen
   pub unfailing : after.faults ≡ before.faults

@@ -18,7 +18,7 @@ pub client_ends : (command : Command (Bor Text)) (c : Client (Bor Text)) (status
 client_ends command c status before after is ends none = subst (λ (k : Command (Bor Text)). CommandEnds (plain_command k) status before after) (sym is) (ends, none)
 
 pub serve_ends : (command : Command (Bor Text)) (config : Bor Text) (status : ℕ) (before after : Outside) → command ≡ commands.Serve config
-    → ServeEnds status before.input after.input before.out after.out before.err after.err before.acceptor after.acceptor before.gave after.gave → after.dialer ≡ before.dialer
+    → ServeEnds status before.input after.input before.out after.out before.err after.err before.acceptor after.acceptor before.spawner after.spawner before.gave after.gave → after.dialer ≡ before.dialer
     → CommandEnds (plain_command command) status before after
 serve_ends command config status before after is ends dialer = subst (λ (k : Command (Bor Text)). CommandEnds (plain_command k) status before after) (sym is) (ends, dialer)
 

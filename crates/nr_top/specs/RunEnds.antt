@@ -10,7 +10,7 @@ use Rattle.nr_words.specs.declared.commands.Command.TheVariants as commands
 use Rattle.nr_words.specs.declared.words.WordsFault.{WordsFault}
 use Rattle.nr_words.specs.declared.words.WordsFault.TheVariants as faults
 use Rattle.nr_client.specs.Dialing.{DialerAt}
-use Rattle.nr_serve.specs.Serving.{AcceptorAt}
+use Rattle.nr_serve.specs.Serving.{AcceptorAt, SpawnerAt}
 use Rattle.nr_top.specs.Clients.{ClientEnds}
 use Rattle.nr_top.specs.Ends.{Ends, Reported, memory_text}
 use Rattle.nr_top.specs.Statuses as statuses
@@ -18,21 +18,24 @@ use Rattle.nr_top.specs.declared.drill.ScriptSource.{ScriptSource}
 use Rattle.nr_top.specs.declared.drill.ScriptSource.TheVariants as sources
 use Rattle.nr_top.specs.Serving.{ServeEnds}
 
--- what is known of all that a run uses: its input, both outputs, the dialer, the acceptor, and the moments that the clock gave
+-- what is known of all that a run uses: its input, both outputs, the dialer, the acceptor, the spawner, and the moments that the clock gave
 pub record Outside : Type 0 where
   pub input : SourceAt
   pub out : SinkAt
   pub err : SinkAt
   pub dialer : DialerAt
   pub acceptor : AcceptorAt
+  pub spawner : SpawnerAt
   pub gave : Option (List Moment)
 
-abbrev pub outside : SourceAt → SinkAt → SinkAt → DialerAt → AcceptorAt → Option (List Moment) → Outside
-outside input out err dialer acceptor gave = record { input = input; out = out; err = err; dialer = dialer; acceptor = acceptor; gave = gave }
+abbrev pub outside : SourceAt → SinkAt → SinkAt → DialerAt → AcceptorAt → SpawnerAt → Option (List Moment) → Outside
+outside input out err dialer acceptor spawner gave =
+    record { input = input; out = out; err = err; dialer = dialer; acceptor = acceptor; spawner = spawner; gave = gave }
 
--- the acceptor and the clock were not used
+-- the acceptor, the spawner and the clock were not used
 pub record AcceptsNone (before after : Outside) : Type 0 where
   pub acceptor : after.acceptor ≡ before.acceptor
+  pub spawner : after.spawner ≡ before.spawner
   pub gave : after.gave ≡ before.gave
 
 -- a drill; the dialer was not used
@@ -45,7 +48,7 @@ abbrev pub CommandEnds : Command Text → ℕ → (before after : Outside) → T
 CommandEnds (commands.Client c) status before after =
     ClientEnds c status before.dialer after.dialer before.input after.input before.out after.out before.err after.err × AcceptsNone before after
 CommandEnds (commands.Serve config) status before after =
-    ServeEnds status before.input after.input before.out after.out before.err after.err before.acceptor after.acceptor before.gave after.gave × (after.dialer ≡ before.dialer)
+    ServeEnds status before.input after.input before.out after.out before.err after.err before.acceptor after.acceptor before.spawner after.spawner before.gave after.gave × (after.dialer ≡ before.dialer)
 CommandEnds commands.Drill status before after = DrillEnds sources.Input status before after
 CommandEnds (commands.GeneratedDrill seed clients calls) status before after = DrillEnds (sources.Seed seed clients calls) status before after
 

@@ -2,7 +2,7 @@
 use Rattle.std.specs.Prelude.{◌≡◌, ℕ, List, codes, Option}
 use Rattle.nr_outside.specs.declared.moment.Moment.{Moment}
 use Rattle.nr_outside.specs.Streams.{SourceAt, SinkAt}
-use Rattle.nr_serve.specs.Serving.{AcceptorAt}
+use Rattle.nr_serve.specs.Serving.{AcceptorAt, SpawnerAt}
 use Rattle.nr_serve.specs.Stops.{Done, Stopped}
 use Rattle.nr_serve.specs.declared.stop.ServeStop.{ServeStop}
 use Rattle.nr_serve.specs.declared.stop.ServeStop.TheVariants as stops
@@ -19,7 +19,7 @@ ReportsStop stops.Configuration status err err' = Reported statuses.bad_input (c
 ReportsStop stops.Budget status err err' = Reported statuses.over_budget budget_text status err err'
 
 -- what the status says
-pub data ServeEnds (status : ℕ) (input input' : SourceAt) (out out' err err' : SinkAt) (before after : AcceptorAt) (gave gave' : Option (List Moment)) : Type 0 where
-  Served : status ≡ statuses.done → Done input input' out out' before after gave gave' → err' ≡ err → ServeEnds status input input' out out' err err' before after gave gave'
-  NotServed : (stop : ServeStop) → Stopped stop input input' out out' before after gave gave' → ReportsStop stop status err err' →
-      ServeEnds status input input' out out' err err' before after gave gave'
+pub data ServeEnds (status : ℕ) (input input' : SourceAt) (out out' err err' : SinkAt) (before after : AcceptorAt) (spawner spawner' : SpawnerAt) (gave gave' : Option (List Moment)) : Type 0 where
+  Served : status ≡ statuses.done → Done input input' out out' before after spawner spawner' gave gave' → err' ≡ err → ServeEnds status input input' out out' err err' before after spawner spawner' gave gave'
+  NotServed : (stop : ServeStop) → Stopped stop input input' out out' before after spawner spawner' gave gave' → ReportsStop stop status err err' →
+      ServeEnds status input input' out out' err err' before after spawner spawner' gave gave'

@@ -1,22 +1,25 @@
 //! A run of the program: from the words to what is printed, and the status.
 
-ghost use Rattle.std.specs.Prelude.{◌≡◌, map, true};
+ghost use Rattle.std.specs.Prelude.{◌≡◌, ◌<◌, ◌^◌, map, true};
 ghost use Rattle.std.specs.String.{string_bytes};
 ghost use Rattle.nr_outside.specs.Streams.{source_at, sink_at};
 ghost use Rattle.nr_words.specs.Lines.{plain_command};
 ghost use Rattle.nr_words.specs.Reads.{is_command};
 ghost use Rattle.nr_client.specs.Dialing.{dialer_at};
-ghost use Rattle.nr_serve.specs.Serving.{acceptor_at};
+ghost use Rattle.nr_serve.specs.Serving.{acceptor_at, spawner_at};
 ghost use Rattle.nr_top.specs.RunEnds.{CommandEnds, RunEnds, outside};
 
 use crate::client::run_client;
 use crate::drill::{ScriptSource, run_drill};
 use crate::report::answer_words;
 use crate::serving::run_server;
+use nr_jobs::Spawner;
 use nr_links::{Acceptor, Clock, Dialer};
 use nr_outside::{Sink, Source};
 use nr_words::{Command, read_words};
 use std::alloc::Global;
+use std::sync::Wait;
+use std::thread::Threads;
 
 /// Runs a command, and gives the status.
 fn dispatch<
@@ -28,7 +31,10 @@ fn dispatch<
     D: Dialer<Source = P, Sink = Q>,
     A: Acceptor,
     C: Clock,
+    S: Spawner,
+    R: Threads + Wait + Copy + Drop + Send + 'static,
 >(
+    rt: R,
     alloc: Global,
     command: &Command<&str>,
     input: &mut I,
@@ -37,17 +43,25 @@ fn dispatch<
     dial: &mut D,
     accept: &mut A,
     clock: &mut C,
+    spawn: &mut S,
 ) -> u8
-    requires { is_command (plain_command command.now) ≡ true }
+where
+    A::Source: Drop + Send + 'static,
+    A::Sink: Drop + Send + 'static,
+    C: Drop + Send + 'static,
+    requires line { is_command (plain_command command.now) ≡ true }
+    requires room { S.started spawn.old < 2 ^ 63 }
     ensures { CommandEnds (plain_command command.now) result
         (outside (source_at (I.left input.old) (I.given input.old) (I.faults input.old)) (sink_at (O.taken out.old) (O.faults out.old)) (sink_at (E.taken err.old) (E.faults err.old))
-        (dialer_at (D.asked dial.old) (D.ended dial.old) (D.lost dial.old) (D.faults dial.old)) (acceptor_at (A.asked accept.old) (A.ended accept.old) (A.lost accept.old) (A.faults accept.old)) (C.gave clock.old))
+        (dialer_at (D.asked dial.old) (D.ended dial.old) (D.lost dial.old) (D.faults dial.old)) (acceptor_at (A.asked accept.old) (A.ended accept.old) (A.lost accept.old) (A.faults accept.old)) (spawner_at (S.started spawn.old) (S.ended spawn.old) (S.faults spawn.old)) (C.gave clock.old))
         (outside (source_at (I.left input.new) (I.given input.new) (I.faults input.new)) (sink_at (O.taken out.new) (O.faults out.new)) (sink_at (E.taken err.new) (E.faults err.new))
-        (dialer_at (D.asked dial.new) (D.ended dial.new) (D.lost dial.new) (D.faults dial.new)) (acceptor_at (A.asked accept.new) (A.ended accept.new) (A.lost accept.new) (A.faults accept.new)) (C.gave clock.new)) }
+        (dialer_at (D.asked dial.new) (D.ended dial.new) (D.lost dial.new) (D.faults dial.new)) (acceptor_at (A.asked accept.new) (A.ended accept.new) (A.lost accept.new) (A.faults accept.new)) (spawner_at (S.started spawn.new) (S.ended spawn.new) (S.faults spawn.new)) (C.gave clock.new)) }
 {
     match command {
         Command::Client { client } => run_client(alloc, client, dial, input, out, err),
-        Command::Serve { config: _config } => run_server(alloc, input, out, err, accept, clock),
+        Command::Serve { config: _config } => {
+            run_server(rt, alloc, input, out, err, accept, clock, spawn)
+        },
         Command::Drill => run_drill(alloc, ScriptSource::Input, input, out, err),
         Command::GeneratedDrill {
             seed,
@@ -72,9 +86,9 @@ fn dispatch<
 
 /// Runs the program, and gives the status. The words are the name under which it was started, and a command with its
 /// options; `--help` and `--version` are answered on `out`. A command of a client dials its address by `dial`, and `put` reads
-/// the bytes of its file from `input`; `serve` reads its configuration from `input`, listens by `accept` and takes the time
-/// from `clock`; a drill reads its script from `input`. What is printed goes to `out`; `err` takes the reason if the command
-/// isn't done.
+/// the bytes of its file from `input`; `serve` reads its configuration from `input`, listens by `accept`, takes the time from
+/// `clock`, and has `spawn` start a job for each connection; a drill reads its script from `input`. What is printed goes to
+/// `out`; `err` takes the reason if the command isn't done.
 ///
 /// `RunEnds` of the specs says what each status means. 0: the command was done. 1: the words are refused.
 /// 2: memory ran out. 3: a fault count of `dial` or `accept` rose, or the count of lost links. 4: the server ended its
@@ -90,7 +104,10 @@ pub fn run<
     D: Dialer<Source = P, Sink = Q>,
     A: Acceptor,
     C: Clock,
+    S: Spawner,
+    R: Threads + Wait + Copy + Drop + Send + 'static,
 >(
+    rt: R,
     alloc: Global,
     words: &[String],
     input: &mut I,
@@ -99,15 +116,23 @@ pub fn run<
     dial: &mut D,
     accept: &mut A,
     clock: &mut C,
+    spawn: &mut S,
 ) -> u8
+where
+    A::Source: Drop + Send + 'static,
+    A::Sink: Drop + Send + 'static,
+    C: Drop + Send + 'static,
+    requires { S.started spawn.old < 2 ^ 63 }
     ensures { RunEnds (map string_bytes words.now) result
         (outside (source_at (I.left input.old) (I.given input.old) (I.faults input.old)) (sink_at (O.taken out.old) (O.faults out.old)) (sink_at (E.taken err.old) (E.faults err.old))
-        (dialer_at (D.asked dial.old) (D.ended dial.old) (D.lost dial.old) (D.faults dial.old)) (acceptor_at (A.asked accept.old) (A.ended accept.old) (A.lost accept.old) (A.faults accept.old)) (C.gave clock.old))
+        (dialer_at (D.asked dial.old) (D.ended dial.old) (D.lost dial.old) (D.faults dial.old)) (acceptor_at (A.asked accept.old) (A.ended accept.old) (A.lost accept.old) (A.faults accept.old)) (spawner_at (S.started spawn.old) (S.ended spawn.old) (S.faults spawn.old)) (C.gave clock.old))
         (outside (source_at (I.left input.new) (I.given input.new) (I.faults input.new)) (sink_at (O.taken out.new) (O.faults out.new)) (sink_at (E.taken err.new) (E.faults err.new))
-        (dialer_at (D.asked dial.new) (D.ended dial.new) (D.lost dial.new) (D.faults dial.new)) (acceptor_at (A.asked accept.new) (A.ended accept.new) (A.lost accept.new) (A.faults accept.new)) (C.gave clock.new)) }
+        (dialer_at (D.asked dial.new) (D.ended dial.new) (D.lost dial.new) (D.faults dial.new)) (acceptor_at (A.asked accept.new) (A.ended accept.new) (A.lost accept.new) (A.faults accept.new)) (spawner_at (S.started spawn.new) (S.ended spawn.new) (S.faults spawn.new)) (C.gave clock.new)) }
 {
     match read_words(alloc, words) {
-        Ok(command) => dispatch(alloc, &command, input, out, err, dial, accept, clock),
+        Ok(command) => dispatch(
+            rt, alloc, &command, input, out, err, dial, accept, clock, spawn,
+        ),
         Err(fault) => answer_words(fault, out, err),
     }
 }

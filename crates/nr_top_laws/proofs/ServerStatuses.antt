@@ -17,7 +17,7 @@ memory_reported stop status err err' is calm reports =
     reported_is statuses.no_memory status memory_text err err' calm (subst (λ (s : ServeStop). ReportsStop s status err err') is reports)
 
 pub servers_have_statuses_lem : ServersHaveStatuses
-servers_have_statuses_lem status input input' out out' err err' before after gave gave' configured calm (Served is done same) = inl is
-servers_have_statuses_lem status input input' out out' err err' before after gave gave' configured calm (NotServed stop stopped reports) =
-    inr (memory_reported stop status err err' (only_memory stop configured.text configured.settings input input' out out' before after gave gave' configured.whole configured.within configured.reads
+servers_have_statuses_lem status input input' out out' err err' before after spawner spawner' gave gave' configured calm (Served is done same) = inl is
+servers_have_statuses_lem status input input' out out' err err' before after spawner spawner' gave gave' configured calm (NotServed stop stopped reports) =
+    inr (memory_reported stop status err err' (only_memory stop configured.text configured.settings input input' out out' before after spawner spawner' gave gave' configured.whole configured.within configured.reads
     calm.input_reads calm.output_writes calm.accepts stopped) calm.error_writes reports)

@@ -7,7 +7,7 @@ use Rattle.nr_outside.specs.declared.moment.Moment.{Moment}
 use Rattle.nr_words.specs.Lines.{Text}
 use Rattle.nr_words.specs.Settings.{config_of}
 use Rattle.nr_words.specs.declared.settings.Settings.{Settings}
-use Rattle.nr_serve.specs.Serving.{AcceptorAt}
+use Rattle.nr_serve.specs.Serving.{AcceptorAt, SpawnerAt}
 use Rattle.nr_top.specs.Serving.{ServeEnds}
 use Rattle.nr_top.specs.Statuses as statuses
 
@@ -29,6 +29,6 @@ pub record IsConfigured (input : SourceAt) : Type 0 where
 -- Then the server has served all its connections and printed that, or memory ran out.
 abbrev pub ServersHaveStatuses : Type 0
 ServersHaveStatuses =
-    (status : ℕ) (input input' : SourceAt) (out out' err err' : SinkAt) (before after : AcceptorAt) (gave gave' : Option (List Moment)) →
-    IsConfigured input → NoFaultRises input input' out out' err err' before after → ServeEnds status input input' out out' err err' before after gave gave' →
+    (status : ℕ) (input input' : SourceAt) (out out' err err' : SinkAt) (before after : AcceptorAt) (spawner spawner' : SpawnerAt) (gave gave' : Option (List Moment)) →
+    IsConfigured input → NoFaultRises input input' out out' err err' before after → ServeEnds status input input' out out' err err' before after spawner spawner' gave gave' →
     (status ≡ statuses.done) ⊎ (status ≡ statuses.no_memory)

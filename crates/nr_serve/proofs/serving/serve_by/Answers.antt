@@ -1,28 +1,36 @@
 use Rattle.std.proofs.Common.{inl, refl}
 use Rattle.nr_words.specs.Settings.{config_settings}
 use Rattle.nr_outside.specs.Streams.{sink_at}
-use Rattle.nr_serve.specs.Serving.{acceptor_at, setup_of}
+use Rattle.nr_plain.specs.History.{pass_view}
+use Rattle.nr_serve.specs.Serving.{acceptor_at, spawner_at}
 use Rattle.nr_serve.specs.Stops.StopsServing.{AtServing}
 use Rattle.nr_serve.proofs.Servers.{printed, serves_all, serves_fewer}
 use Rattle.nr_serve.proofs.serving.serve_by.Goals as goal
 
-pub open_server-requires : goal.open_server-requires
-open_server-requires g c = c.requires
+pub open_shared-requires : goal.open_shared-requires
+open_shared-requires g c = c.requires.ranges
 
-pub serve_links-requires : goal.serve_links-requires
-serve_links-requires g c = c.requires
+pub serve_links-requires-ranges : goal.serve_links-requires-ranges
+serve_links-requires-ranges g c = c.requires.ranges
 
-pub returns-in_default : goal.returns-in_default
-returns-in_default g c = AtServing (inl ((refl, (refl, refl)), c.open_server.ensures.gave), refl) refl
+pub serve_links-requires-rests : goal.serve_links-requires-rests
+serve_links-requires-rests g c = c.in-Ok.ensures.rests
+
+pub serve_links-requires-room : goal.serve_links-requires-room
+serve_links-requires-room g c = c.requires.room
+
+pub journal_len-requires : goal.journal_len-requires
+journal_len-requires g c = c.serve_links.ensures.rests
 
 pub returns-in-Err : goal.returns-in-Err
-returns-in-Err g c = AtServing (serves_fewer (config_settings c.args.config.now) (acceptor_at (g.A.Acceptor.asked c.args.accept.now) (g.A.Acceptor.ended c.args.accept.now) (g.A.Acceptor.lost c.args.accept.now) (g.A.Acceptor.faults c.args.accept.now)) (acceptor_at (g.A.Acceptor.asked c.serve_links.new.accept) (g.A.Acceptor.ended c.serve_links.new.accept) (g.A.Acceptor.lost c.serve_links.new.accept) (g.A.Acceptor.faults c.serve_links.new.accept))
-    (g.C.Clock.gave c.args.clock.now) (g.C.Clock.gave c.open_server.new.clock) (g.C.Clock.gave c.serve_links.new.clock) c.in-Ok.server c.serve_links.new.server c.in-Ok.ensures.opens c.in-Err.stop c.in-Err.ensures) refl
+returns-in-Err g c = AtServing (inl ((refl, (refl, refl)), (refl, c.open_shared.ensures.gave)), refl) refl
+
+pub returns-in-Err-serve_links : goal.returns-in-Err-serve_links
+returns-in-Err-serve_links g c =
+    AtServing (serves_fewer (config_settings c.args.config.now) (acceptor_at (g.A.Acceptor.asked c.args.accept.now) (g.A.Acceptor.ended c.args.accept.now) (g.A.Acceptor.lost c.args.accept.now) (g.A.Acceptor.faults c.args.accept.now)) (acceptor_at (g.A.Acceptor.asked c.serve_links.new.accept) (g.A.Acceptor.ended c.serve_links.new.accept) (g.A.Acceptor.lost c.serve_links.new.accept) (g.A.Acceptor.faults c.serve_links.new.accept)) (spawner_at (g.P.Spawner.started c.args.spawn.now) (g.P.Spawner.ended c.args.spawn.now) (g.P.Spawner.faults c.args.spawn.now)) (spawner_at (g.P.Spawner.started c.serve_links.new.spawn) (g.P.Spawner.ended c.serve_links.new.spawn) (g.P.Spawner.faults c.serve_links.new.spawn)) (g.C.Clock.gave c.args.clock.now) (g.C.Clock.gave c.open_shared.new.clock) (pass_view c.in-Ok.opened.1) (pass_view c.serve_links.new.pass) c.in-Ok.ensures.opens c.in-Err-serve_links.stop c.in-Err-serve_links.ensures.served) refl
 
 pub returns : goal.returns
 returns g c =
-    let (served, stands) = serves_all (config_settings c.args.config.now) (acceptor_at (g.A.Acceptor.asked c.args.accept.now) (g.A.Acceptor.ended c.args.accept.now) (g.A.Acceptor.lost c.args.accept.now) (g.A.Acceptor.faults c.args.accept.now)) (acceptor_at (g.A.Acceptor.asked c.serve_links.new.accept) (g.A.Acceptor.ended c.serve_links.new.accept) (g.A.Acceptor.lost c.serve_links.new.accept) (g.A.Acceptor.faults c.serve_links.new.accept))
-    (g.C.Clock.gave c.args.clock.now) (g.C.Clock.gave c.open_server.new.clock) (g.C.Clock.gave c.serve_links.new.clock) c.in-Ok.server c.serve_links.new.server c.in-Ok.ensures.opens c.in-Ok-serve_links.ensures in
+    let served = serves_all (config_settings c.args.config.now) (acceptor_at (g.A.Acceptor.asked c.args.accept.now) (g.A.Acceptor.ended c.args.accept.now) (g.A.Acceptor.lost c.args.accept.now) (g.A.Acceptor.faults c.args.accept.now)) (acceptor_at (g.A.Acceptor.asked c.serve_links.new.accept) (g.A.Acceptor.ended c.serve_links.new.accept) (g.A.Acceptor.lost c.serve_links.new.accept) (g.A.Acceptor.faults c.serve_links.new.accept)) (spawner_at (g.P.Spawner.started c.args.spawn.now) (g.P.Spawner.ended c.args.spawn.now) (g.P.Spawner.faults c.args.spawn.now)) (spawner_at (g.P.Spawner.started c.serve_links.new.spawn) (g.P.Spawner.ended c.serve_links.new.spawn) (g.P.Spawner.faults c.serve_links.new.spawn)) (g.C.Clock.gave c.args.clock.now) (g.C.Clock.gave c.open_shared.new.clock) (pass_view c.in-Ok.opened.1) (pass_view c.serve_links.new.pass) c.in-Ok.ensures.opens (pass_view c.journal_len.new.pass) c.in-Ok-serve_links.ensures.served c.journal_len.ensures.found in
     printed (config_settings c.args.config.now) (sink_at (g.O.Sink.taken c.args.out.now) (g.O.Sink.faults c.args.out.now)) (sink_at (g.O.Sink.taken c.print_served.new.out) (g.O.Sink.faults c.print_served.new.out))
-    (acceptor_at (g.A.Acceptor.asked c.args.accept.now) (g.A.Acceptor.ended c.args.accept.now) (g.A.Acceptor.lost c.args.accept.now) (g.A.Acceptor.faults c.args.accept.now)) (acceptor_at (g.A.Acceptor.asked c.serve_links.new.accept) (g.A.Acceptor.ended c.serve_links.new.accept) (g.A.Acceptor.lost c.serve_links.new.accept) (g.A.Acceptor.faults c.serve_links.new.accept)) (g.C.Clock.gave c.args.clock.now) (g.C.Clock.gave c.serve_links.new.clock)
-    c.print_served.result served c.journal_len.result (c.journal_len.ensures (setup_of (config_settings c.args.config.now) c.in-Ok.ensures.opens.moment) served.journal stands) c.print_served.ensures
+    (acceptor_at (g.A.Acceptor.asked c.args.accept.now) (g.A.Acceptor.ended c.args.accept.now) (g.A.Acceptor.lost c.args.accept.now) (g.A.Acceptor.faults c.args.accept.now)) (acceptor_at (g.A.Acceptor.asked c.serve_links.new.accept) (g.A.Acceptor.ended c.serve_links.new.accept) (g.A.Acceptor.lost c.serve_links.new.accept) (g.A.Acceptor.faults c.serve_links.new.accept)) (spawner_at (g.P.Spawner.started c.args.spawn.now) (g.P.Spawner.ended c.args.spawn.now) (g.P.Spawner.faults c.args.spawn.now)) (spawner_at (g.P.Spawner.started c.serve_links.new.spawn) (g.P.Spawner.ended c.serve_links.new.spawn) (g.P.Spawner.faults c.serve_links.new.spawn)) (g.C.Clock.gave c.args.clock.now) (g.C.Clock.gave c.open_shared.new.clock) c.print_served.result served c.journal_len.result (c.journal_len.ensures.len served.first served.journal served.saw) c.print_served.ensures

@@ -1,0 +1,114 @@
+//! Calls of a server behind a turnstile, by two passes.
+
+ghost use Rattle.std.specs.Prelude.{◌≡◌, IfOk};
+ghost use Rattle.nr_turnstile.specs.Passes.{Rests};
+
+use crate::compare::same;
+use nr_nfs_base::Verifier;
+use nr_outside::Moment;
+use nr_plain::{Server, execute, share};
+use nr_tree::Tree;
+use nr_turnstile::{Machine, Pass, Turnstile};
+use nr_xdr::Octets;
+use std::alloc::Global;
+use std::process::Abort;
+use std::sync::Wait;
+
+/// WRITE of HELLO to file 2 at offset 0, FILE_SYNC (RFC 1813 section 3.3.7).
+static WRITE: [u32; 20] = [
+    1, 0, 2, 100003, 3, 7, 0, 0, 0, 0, 8, 0, 2, 0, 0, 5, 2, 5, 0x48454c4c, 0x4f000000,
+];
+
+/// READ of five bytes of file 2 at offset 0 (RFC 1813 section 3.3.6).
+static READ: [u32; 16] = [2, 0, 2, 100003, 3, 6, 0, 0, 0, 0, 8, 0, 2, 0, 0, 5];
+
+/// How its reply ends: count, eof, and the data.
+static ENDING: [u32; 5] = [5, 1, 5, 0x48454c4c, 0x4f000000];
+
+/// The same before the WRITE.
+static BEFORE: [u32; 5] = [5, 1, 5, 0x68656c6c, 0x6f000000];
+
+const NOW: Moment = Moment {
+    seconds: 1,
+    nanos: 0,
+};
+
+fn bytes(rt: &impl Abort, alloc: Global, words: &[u32]) -> Vec<u8> {
+    let mut bytes = Vec::new(alloc);
+    for word in words {
+        bytes
+            .extend_from_slice(&word.to_be_bytes())
+            .expect(rt, "memory");
+    }
+    bytes
+}
+
+/// A server of the tree of a drill, behind a turnstile.
+fn drill(rt: &impl Abort, alloc: Global) -> (Turnstile<Server>, Pass<Server>)
+    ensures { Rests result.0 result.1 }
+{
+    let tree = Tree::drill(alloc).expect(rt, "memory");
+    let export = Octets::from_slice(alloc, b"/").expect(rt, "memory");
+    let server = Server::open(tree, 1 << 40, Verifier { number: 1 }, export);
+    share(alloc, server).expect(rt, "memory")
+}
+
+/// Executes a call by a pass, and compares its place and how its reply ends.
+fn same_reply<R: Abort + Wait>(
+    rt: &R,
+    alloc: Global,
+    row: usize,
+    shared: &Turnstile<Server>,
+    pass: &mut Pass<Server>,
+    call: &[u32],
+    place: u64,
+    ending: &[u32],
+)
+    requires { Rests shared.now pass.old }
+    ensures { Rests shared.now pass.new }
+{
+    let payload = bytes(rt, alloc, call);
+    let ending = bytes(rt, alloc, ending);
+    let Ok(reply) = execute(rt, alloc, shared, pass, NOW, payload.as_slice()) else {
+        panic!(rt; "row {row}: not executed")
+    };
+    same(rt, row, reply.place, place);
+    same(
+        rt,
+        row,
+        reply.payload.as_slice().ends_with(ending.as_slice()),
+        true,
+    );
+}
+
+/// One pass writes; another one, which was split from it before, reads after that.
+#[test]
+fn one_pass_writes_and_another_reads(rt: HostRuntime) {
+    let alloc = rt.alloc();
+    let (shared, mut first) = drill(&rt, alloc);
+    let mut second = shared.split(&mut first);
+    same_reply(&rt, alloc, 0, &shared, &mut first, &READ, 0, &BEFORE);
+    same_reply(&rt, alloc, 1, &shared, &mut first, &WRITE, 0, &[]);
+    same_reply(&rt, alloc, 2, &shared, &mut second, &READ, 1, &ENDING);
+    shared.join(&mut second, first);
+    same_reply(&rt, alloc, 3, &shared, &mut second, &READ, 1, &ENDING);
+}
+
+#[test]
+fn busy_while_a_turn_is_out(rt: HostRuntime) {
+    let (shared, mut first) = drill(&rt, rt.alloc());
+    let mut second = shared.split(&mut first);
+    let turn = shared.take_turn(&rt, &mut first);
+    match second.try_turn(&shared) {
+        Ok(other) => {
+            other.put_back();
+            panic!(rt; "not busy")
+        }
+        Err(_) => (),
+    }
+    turn.put_back();
+    match second.try_turn(&shared) {
+        Ok(other) => other.put_back(),
+        Err(_) => panic!(rt; "busy"),
+    }
+}
