@@ -1,5 +1,5 @@
 use Rattle.std.proofs.Common.{arith}
-use Rattle.nr_plain_tests.proofs.root_only.opened.Goals as goal
+use Rattle.nr_plain_tests.proofs.directory_orders.opened.Goals as goal
 use Rattle.nr_plain_tests.proofs.Below.{below_end}
 
 pub open-requires-clause-below : goal.open-requires-clause-below
