@@ -36,9 +36,9 @@ held_short xid credits lists prog vers proc reply None within is = error_short x
 held_short xid credits lists prog vers proc reply (Some a) within is = by a.long refl
   where
     by : (long : Bool) → a.long ≡ long → length (answer_message xid credits lists a) ≤ send_max
-    by false no = ((answer_length lists send_max prog vers proc xid credits reply a is).0 no).1
-    by true yes =
-        let len = (answer_length lists send_max prog vers proc xid credits reply a is).1 yes in
+    by false here = ((answer_length lists send_max prog vers proc xid credits reply a is).0 here).1
+    by true away =
+        let len = (answer_length lists send_max prog vers proc xid credits reply a is).1 away in
         let list = list_len lists.write in
         let chunks = within.write_chunks in
         let segments = within.write_segments in
