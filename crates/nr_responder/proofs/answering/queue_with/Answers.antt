@@ -1,10 +1,8 @@
-use Rattle.std.proofs.Common.{◌≡◌, ℕ, ◌≤◌, List, length, Option, ap, ◌∙◌, arith}
+use Rattle.std.proofs.Common.{◌≡◌, ℕ, List, length, ap, ◌∙◌, arith}
 use Rattle.std.specs.Prelude.{option_map}
 use Rattle.nr_header.specs.WithinLimits.{ListsWithin}
 use Rattle.nr_link.specs.Limits.{send_max}
-use Rattle.nr_rpc.specs.Reading.{call_of, target_of}
 use Rattle.nr_reduce.specs.CodeViews.{answer_view}
-use Rattle.nr_reduce.specs.Holds.{Answer}
 use Rattle.nr_reduce.specs.Server.{answer_of_target}
 use Rattle.nr_responder.specs.Answering.{answer_to, message_for}
 use Rattle.nr_responder.specs.declared.call.Pending.{Pending}

@@ -1,8 +1,7 @@
-use Rattle.std.proofs.Common.{◌≡◌, ◌≢◌, ℕ, ◌<◌, List, Bool, true, false, is_some, length, get_or, None, Some, Option, sym, ap, subst, ◌∙◌, refl}
-use Rattle.std.specs.Prelude.{slice_get}
+use Rattle.std.proofs.Common.{◌≡◌, ◌≢◌, ℕ, ◌<◌, List, Bool, true, false, is_some, length, get_or, sym, subst, ◌∙◌, refl}
 use Rattle.std.specs.List.{list_any}
 use Rattle.nr_responder.specs.declared.call.Pending.{Pending}
-use Rattle.nr_responder.specs.Sound.{payloads_of, state_of, with_staging}
+use Rattle.nr_responder.specs.Sound.{state_of, with_staging}
 use Rattle.nr_responder.specs.Views.{call_view, inline_of}
 use Rattle.nr_responder.proofs.Answered.{has, get_view, inline_is_lem, none_any, payload_there_lem, same_item}
 use Rattle.nr_responder.proofs.Counts.{answered_all}
