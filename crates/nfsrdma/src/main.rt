@@ -11,6 +11,8 @@ use nr_words::{Command, WordsFault, read_words};
 use std::fs::File;
 use std::io::{ErrorKind, Read};
 use std::process::ExitCode;
+use std::sync::Wait;
+use std::thread::Threads;
 use std::{env, io};
 
 /// How many connections are served in threads at a time. Each takes two descriptors, and a process often may have 1024: at this
@@ -44,8 +46,12 @@ fn arguments(rt: &HostRuntime) -> io::Result<Vec<String>> {
     Ok(arguments)
 }
 
-/// Runs the program, and gives the status.
-fn run_with(rt: HostRuntime, arguments: &[String]) -> u8 {
+/// Runs the program, with the leave to start threads and to wait, and gives the status.
+fn run_with<R: Threads + Wait + Copy + Drop + Send + 'static>(
+    rt: HostRuntime,
+    threads: R,
+    arguments: &[String],
+) -> u8 {
     let input = match read_words(rt.alloc(), arguments) {
         Ok(Command::Serve { config }) => match File::open(&rt, config) {
             Ok(file) => Input::File(file),
@@ -65,7 +71,7 @@ fn run_with(rt: HostRuntime, arguments: &[String]) -> u8 {
         return refuse(&mut err, true);
     };
     run(
-        rt,
+        threads,
         rt.alloc(),
         arguments,
         &mut input,
@@ -85,7 +91,7 @@ fn main(rt: HostRuntime) -> ExitCode {
     let _second = File::open(&rt, "/");
     let _third = File::open(&rt, "/");
     match arguments(&rt) {
-        Ok(arguments) => ExitCode::from(run_with(rt, arguments.as_slice())),
+        Ok(arguments) => ExitCode::from(run_with(rt, rt, arguments.as_slice())),
         Err(error) => {
             let mut err = StdSink::new(rt.stderr());
             ExitCode::from(refuse(&mut err, error.kind() == io::ErrorKind::OutOfMemory))

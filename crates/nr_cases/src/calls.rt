@@ -8,6 +8,7 @@
 //! more, and 5 nanoseconds. A reply's place is always the journal's length before the call.
 
 ghost use Rattle.std.specs.Prelude.{◌<◌, ◌^◌, IfOk};
+ghost use Rattle.nr_tree.specs.Steps.{IsBelow};
 
 use crate::fault::CaseFault;
 use crate::words::{number, parted, put_word, put_words};
@@ -64,22 +65,41 @@ fn capacity(text: &str) -> Result<u64, CaseFault>
     }
 }
 
-/// The tree with this name.
-fn tree(alloc: Global, name: &str) -> Result<Tree, CaseFault> {
-    let tree = match name {
-        "drill" => Tree::drill(alloc),
-        "root" => Tree::root_only(alloc, MADE),
-        _ => return Err(CaseFault::Format),
-    };
-    match tree {
+/// The tree of a drill.
+fn drill_tree(alloc: Global) -> Result<Tree, CaseFault>
+    ensures { IfOk result (λ tree. IsBelow (2 ^ 62) tree) }
+{
+    match Tree::drill(alloc) {
         Ok(tree) => Ok(tree),
         Err(_) => Err(CaseFault::Memory),
     }
 }
 
+/// The tree of a root alone.
+fn root_tree(alloc: Global) -> Result<Tree, CaseFault>
+    ensures { IfOk result (λ tree. IsBelow (2 ^ 62) tree) }
+{
+    match Tree::root_only(alloc, MADE) {
+        Ok(tree) => Ok(tree),
+        Err(_) => Err(CaseFault::Memory),
+    }
+}
+
+/// The tree with this name.
+fn tree(alloc: Global, name: &str) -> Result<Tree, CaseFault>
+    ensures { IfOk result (λ tree. IsBelow (2 ^ 62) tree) }
+{
+    match name {
+        "drill" => drill_tree(alloc),
+        "root" => root_tree(alloc),
+        _ => Err(CaseFault::Format),
+    }
+}
+
 /// A server with the write verifier 1 and the export `/`.
 fn opened(alloc: Global, tree: Tree, capacity: u64) -> Result<Server, CaseFault>
-    requires { capacity < 2 ^ 63 }
+    requires below { IsBelow (2 ^ 62) tree }
+    requires capacity { capacity < 2 ^ 63 }
 {
     match Octets::from_slice(alloc, b"/") {
         Ok(export) => Ok(Server::open(tree, capacity, Verifier { number: 1 }, export)),

@@ -18,6 +18,8 @@ use std::env;
 use std::fs::File;
 use std::io::{self, BufWriter, Write};
 use std::process::ExitCode;
+use std::sync::Wait;
+use std::thread::Threads;
 
 /// The bytes of a file.
 fn bytes_of(rt: &HostRuntime, name: &str) -> Option<Vec<u8>> {
@@ -26,14 +28,19 @@ fn bytes_of(rt: &HostRuntime, name: &str) -> Option<Vec<u8>> {
     read_whole(rt.alloc(), &mut source, INPUT_MAX).ok()
 }
 
-/// Tries the cases of a file.
-fn try_file<W: Write>(rt: &HostRuntime, name: &str, out: &mut W) -> Result<(), Stop> {
+/// Tries the cases of a file; `host` is what a run needs of the process.
+fn try_file<W: Write, R: Threads + Wait + Copy + Drop + Send + 'static>(
+    rt: &HostRuntime,
+    host: R,
+    name: &str,
+    out: &mut W,
+) -> Result<(), Stop> {
     let Some(bytes) = bytes_of(rt, name) else {
         writeln!(out, "no file {name}")?;
         return Ok(());
     };
     match str::from_utf8(bytes.as_slice()) {
-        Ok(text) => try_cases(*rt, rt.alloc(), text, out),
+        Ok(text) => try_cases(host, rt.alloc(), text, out),
         Err(_) => {
             writeln!(out, "no text in {name}")?;
             Ok(())
@@ -42,17 +49,20 @@ fn try_file<W: Write>(rt: &HostRuntime, name: &str, out: &mut W) -> Result<(), S
 }
 
 /// Tries the cases of the files that the words name.
-fn try_files(rt: &HostRuntime) -> Result<(), Stop> {
+fn try_files<R: Threads + Wait + Copy + Drop + Send + 'static>(
+    rt: &HostRuntime,
+    host: R,
+) -> Result<(), Stop> {
     let mut out = BufWriter::new(rt.alloc(), io::writer(rt))?;
     for name in env::args(rt)?.skip(1) {
-        try_file(rt, name.as_str(), &mut out)?;
+        try_file(rt, host, name.as_str(), &mut out)?;
     }
     out.flush()?;
     Ok(())
 }
 
 fn main(rt: HostRuntime) -> ExitCode {
-    match try_files(&rt) {
+    match try_files(&rt, rt) {
         Ok(()) => ExitCode::SUCCESS,
         Err(Stop::Memory) => ExitCode::from(2),
         Err(Stop::Output) => ExitCode::from(9),

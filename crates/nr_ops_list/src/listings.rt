@@ -12,7 +12,9 @@ ghost use Rattle.nr_nfs_base.specs.Limits.{listing_max};
 ghost use Rattle.nr_ops_list.specs.private.Sizes.{size_of_name_in, AreLive, within, empty_size, IsRange};
 
 use nr_nfs_base::{Caller, LISTING_MAX, Status, Verifier};
-use nr_tree::{Content, Directory, EntryCursor, Node, Right, Slot, Tree, may};
+use nr_tree::{Content, Directory, EntryCursor, Node, Right, Slot, Steps, Tree, may};
+use std::marker::Brand;
+use std::sync::ledger::{Blank, Ledger};
 
 /// What a listing says of each entry.
 #[derive(Clone, Copy)]
@@ -150,6 +152,19 @@ impl Range<'_> {
     }
 }
 
+/// How many entries of a directory have a cookie that is at most the given one: found in a number of steps, which nobody reads, that
+/// `Directory::place_after` bounds.
+fn place_after<L: Ledger>(dir: &Directory, cookie: u64, blank: Blank) -> usize
+    requires name { blank.name ≡ L.name }
+    requires parts { blank.parts ≡ L.parts }
+    requires some { 0 < L.parts }
+    ensures within { result ≤ length dir.now.list }
+    ensures entries { drop result dir.now.list ≡ entries_after cookie dir.now.list }
+{
+    let mut steps = Steps::<L>::new(blank);
+    dir.place_after(cookie, &mut steps)
+}
+
 /// The entries after a cookie that are within the limits, or the status TOOSMALL if the first one isn't.
 pub(crate) fn range_within<'a>(
     tree: &Tree,
@@ -163,7 +178,7 @@ pub(crate) fn range_within<'a>(
         (λ s. (s ≡ TooSmall) × (goes_on (longest (within tree.now limits.now) [] (entries_after cookie dir.now.list)) (entries_after cookie dir.now.list) ≡ false)) }
 {
     let len = dir.len();
-    let start = dir.place_after(cookie);
+    let start = place_after::<Brand>(dir, cookie, Blank::new(1));
     let count = count_within(tree, dir, start, limits);
     if count == 0 && start < len {
         return Err(Status::Toosmall);

@@ -1,16 +1,11 @@
 -- Blocks, and the list that they make up.
 use Rattle.std.proofs.Common.{◌≡◌, ℕ, zero, suc, ◌+◌, ◌-◌, ◌<◌, ◌≤◌, List, [], ◌∷◌, ◌++◌, length, drop, get_or, set, remove, refl, ap, sym, ◌∙◌, subst, arith, length-append}
 use Rattle.std.proofs.Math.Seq.{drop-cons, drop-append-add}
-use Rattle.std.proofs.lemmas.List.{drop-append-le, get_or_append_left, get_or-append_right, set-append_left, set-append_right, get_or-set_other, length-set, append-nil, append_assoc}
+use Rattle.std.proofs.lemmas.List.{drop-append-le, get_or_append_left, get_or-append_right, set-append_left, set-append_right, append-nil, append_assoc}
 use Rattle.std.proofs.lemmas.List.Edits.{remove-append_left, remove-append_right}
 use Rattle.std.proofs.lemmas.List.Folds.{concat-append}
-use Rattle.std.proofs.lemmas.Option.{get_or_from_slice_get, slice_get_read}
 use Rattle.std.specs.List.{concat}
 use Rattle.nr_tree.specs.private.Blocks.{IsIn}
-
--- the block that an index gives
-pub block_is : (bs : List (List ℕ)) (i : ℕ) (b : List ℕ) → i < length bs → b ≡ get_or bs i b → get_or bs i [] ≡ b
-block_is bs i b lt at = get_or_from_slice_get bs i b [] (slice_get_read bs (length bs) i b refl lt at)
 
 -- ===== the search for a place
 
@@ -34,10 +29,10 @@ some_block (b ∷ bs) (suc i) lt = omega (arith, some_block bs i lt)
 pub searched_within : (bs : List (List ℕ)) (place block offset : ℕ) → IsSearched bs place block offset → block < length bs
 searched_within bs place block offset h = some_block bs block (omega (arith, h.within))
 
-cut_at : (bs : List (List ℕ)) (i : ℕ) (b : List ℕ) → i < length bs → b ≡ get_or bs i b → drop i bs ≡ b ∷ drop (suc i) bs
-cut_at bs i b lt at = drop-cons bs i [] lt ∙ ap (λ (x : List ℕ). x ∷ drop (suc i) bs) (block_is bs i b lt at)
+cut_at : (bs : List (List ℕ)) (i : ℕ) (b : List ℕ) → i < length bs → get_or bs i [] ≡ b → drop i bs ≡ b ∷ drop (suc i) bs
+cut_at bs i b lt at = drop-cons bs i [] lt ∙ ap (λ (x : List ℕ). x ∷ drop (suc i) bs) at
 
-pub search_goes_on : (bs : List (List ℕ)) (place block offset : ℕ) (b : List ℕ) → b ≡ get_or bs block b → length b ≤ offset → IsSearched bs place block offset
+pub search_goes_on : (bs : List (List ℕ)) (place block offset : ℕ) (b : List ℕ) → get_or bs block [] ≡ b → length b ≤ offset → IsSearched bs place block offset
     → IsSearched bs place (block + 1) (offset - length b)
 search_goes_on bs place block offset b at le h =
     let lt : block < length bs = searched_within bs place block offset h in
@@ -51,7 +46,7 @@ search_goes_on bs place block offset b at le h =
           subst (λ (m : ℕ). IsIn bs m o place) next (h.goes (suc n) o (subst (λ (l : List (List ℕ)). IsIn l (suc n) o offset) (sym cut) (le, k)));
     })
 
-pub search_ends : (bs : List (List ℕ)) (place block offset : ℕ) (b : List ℕ) → b ≡ get_or bs block b → offset < length b → IsSearched bs place block offset → IsIn bs block offset place
+pub search_ends : (bs : List (List ℕ)) (place block offset : ℕ) (b : List ℕ) → get_or bs block [] ≡ b → offset < length b → IsSearched bs place block offset → IsIn bs block offset place
 search_ends bs place block offset b at less h =
     let lt : block < length bs = searched_within bs place block offset h in
     let cut : drop block bs ≡ b ∷ drop (suc block) bs = cut_at bs block b lt at in
@@ -95,30 +90,21 @@ no_elements : (b : List ℕ) → length b ≡ 0 → b ≡ []
 no_elements [] none = refl
 no_elements (x ∷ b) none = absurd (omega (arith, none))
 
-drop_empty_at : (bs : List (List ℕ)) (i : ℕ) → i < length bs → length (get_or bs i []) ≡ 0 → concat (remove bs i) ≡ concat bs
-drop_empty_at [] i lt none = absurd (omega (arith, lt))
-drop_empty_at (b ∷ bs) zero lt none = ap (λ (l : List ℕ). l ++ concat bs) (sym (no_elements b none))
-drop_empty_at (b ∷ bs) (suc i) lt none = ap (λ (l : List ℕ). b ++ l) (drop_empty_at bs i (omega (arith, lt)) none)
-
 -- a block without elements goes
-pub drop_empty : (bs : List (List ℕ)) (i : ℕ) (b : List ℕ) → i < length bs → b ≡ get_or bs i b → length b ≡ 0 → concat (remove bs i) ≡ concat bs
-drop_empty bs i b lt at none = drop_empty_at bs i lt (ap (λ (x : List ℕ). length x) (block_is bs i b lt at) ∙ none)
+pub drop_empty : (bs : List (List ℕ)) (i : ℕ) → i < length bs → length (get_or bs i []) ≡ 0 → concat (remove bs i) ≡ concat bs
+drop_empty [] i lt none = absurd (omega (arith, lt))
+drop_empty (b ∷ bs) zero lt none = ap (λ (l : List ℕ). l ++ concat bs) (sym (no_elements b none))
+drop_empty (b ∷ bs) (suc i) lt none = ap (λ (l : List ℕ). b ++ l) (drop_empty bs i (omega (arith, lt)) none)
 
 pub push_block : (bs : List (List ℕ)) (x : ℕ) → concat (bs ++ (x ∷ []) ∷ []) ≡ concat bs ++ x ∷ []
 push_block bs x = concat-append bs ((x ∷ []) ∷ [])
 
-push_last_at : (bs : List (List ℕ)) (i x : ℕ) → i + 1 ≡ length bs → concat (set bs i (get_or bs i [] ++ x ∷ [])) ≡ concat bs ++ x ∷ []
-push_last_at [] i x last = absurd (omega (arith, last))
-push_last_at (b ∷ []) zero x last = append-nil (b ++ x ∷ []) ∙ ap (λ (l : List ℕ). l ++ x ∷ []) (sym (append-nil b))
-push_last_at (b ∷ c ∷ bs) zero x last = absurd (omega (arith, last))
-push_last_at (b ∷ bs) (suc i) x last =
-    ap (λ (l : List ℕ). b ++ l) (push_last_at bs i x (omega (arith, last))) ∙ sym (append_assoc b (concat bs) (x ∷ []))
-
 -- the last block gets one element more
-pub push_last : (bs : List (List ℕ)) (i x : ℕ) (b c : List ℕ) → i ≡ length bs - 1 → 0 < length bs → b ≡ get_or bs i b → c ≡ b ++ x ∷ [] → concat (set bs i c) ≡ concat bs ++ x ∷ []
-push_last bs i x b c last some at is =
-    ap (λ (y : List ℕ). concat (set bs i y)) (is ∙ ap (λ (y : List ℕ). y ++ x ∷ []) (sym (block_is bs i b (omega (arith, last, some)) at)))
-    ∙ push_last_at bs i x (omega (arith, last, some))
+pub push_last : (bs : List (List ℕ)) (i x : ℕ) → i + 1 ≡ length bs → concat (set bs i (get_or bs i [] ++ x ∷ [])) ≡ concat bs ++ x ∷ []
+push_last [] i x last = absurd (omega (arith, last))
+push_last (b ∷ []) zero x last = append-nil (b ++ x ∷ []) ∙ ap (λ (l : List ℕ). l ++ x ∷ []) (sym (append-nil b))
+push_last (b ∷ c ∷ bs) zero x last = absurd (omega (arith, last))
+push_last (b ∷ bs) (suc i) x last = ap (λ (l : List ℕ). b ++ l) (push_last bs i x (omega (arith, last))) ∙ sym (append_assoc b (concat bs) (x ∷ []))
 
 -- ===== an element that goes last
 
@@ -143,26 +129,6 @@ put_last [] last x is = absurd (omega (arith, is))
 put_last (y ∷ []) zero x is = refl
 put_last (y ∷ z ∷ xs) zero x is = absurd (omega (arith, is))
 put_last (y ∷ xs) (suc last) x is = ap (λ (l : List ℕ). y ∷ l) (put_last xs last x (omega (arith, is)))
-
--- ===== blocks that become one
-
-joined_at : (bs : List (List ℕ)) (i : ℕ) (x y : List ℕ) → suc i < length bs → x ++ y ≡ get_or bs i [] ++ get_or bs (suc i) [] → concat (set (set (set bs (suc i) []) i x) (suc i) y) ≡ concat bs
-joined_at [] i x y lt same = absurd (omega (arith, lt))
-joined_at (p ∷ []) zero x y lt same = absurd (omega (arith, lt))
-joined_at (p ∷ q ∷ bs) zero x y lt same =
-    sym (append_assoc x y (concat bs)) ∙ ap (λ (l : List ℕ). l ++ concat bs) same ∙ append_assoc p q (concat bs)
-joined_at (p ∷ bs) (suc i) x y lt same = ap (λ (l : List ℕ). p ++ l) (joined_at bs i x y (omega (arith, lt)) same)
-
--- the elements of a block and the next one, shared among the two in another way
-pub joined : (bs : List (List ℕ)) (i : ℕ) (a b x y : List ℕ) → i + 1 < length bs → b ≡ get_or bs (i + 1) b → a ≡ get_or (set bs (i + 1) []) i a → x ++ y ≡ a ++ b
-    → concat (set (set (set bs (i + 1) []) i x) (i + 1) y) ≡ concat bs
-joined bs i a b x y lt at_b at_a same =
-    let one : i + 1 ≡ suc i = omega arith in
-    let first : get_or bs i [] ≡ a =
-    sym (get_or-set_other bs (i + 1) i [] [] (λ e. omega (arith, e))) ∙ block_is (set bs (i + 1) []) i a (omega (arith, lt, length-set bs (i + 1) [])) at_a in
-    let second : get_or bs (suc i) [] ≡ b = ap (λ (n : ℕ). get_or bs n []) (sym one) ∙ block_is bs (i + 1) b lt at_b in
-    ap (λ (n : ℕ). concat (set (set (set bs n []) i x) n y)) one
-    ∙ joined_at bs i x y (omega (arith, lt)) (same ∙ (λ j. sym first j ++ sym second j))
 
 -- ===== the elements from a place on
 

@@ -27,5 +27,6 @@ pub mod NodeChanges
 pub mod RenameLemmas
 pub mod Bounds
 pub mod Blocks
+pub mod Joined
 pub mod Ordered
 pub mod Indexes

@@ -114,20 +114,8 @@ impl Directory {
     }
 
     /// How many entries have a cookie that is at most the given one. The entries after them are those that a listing goes on
-    /// with (RFC 1813 section 3.3.16).
-    pub fn place_after(&self, cookie: u64) -> usize
-        ensures within { result ≤ length self.now.list }
-        ensures place { result ≡ count_until cookie self.now.list }
-        ensures entries { drop result self.now.list ≡ entries_after cookie self.now.list }
-    {
-        match &self.table {
-            Some(table) => table.place_after(cookie),
-            None => 0,
-        }
-    }
-
-    /// `place_after`, with the steps that it takes: a step is the comparison of one cookie.
-    pub(crate) fn place_counted<L: Ledger>(&self, cookie: u64, steps: &mut Steps<L>) -> usize
+    /// with (RFC 1813 section 3.3.16). A step is the comparison of one cookie.
+    pub fn place_after<L: Ledger>(&self, cookie: u64, steps: &mut Steps<L>) -> usize
         ensures within { result ≤ length self.now.list }
         ensures place { result ≡ count_until cookie self.now.list }
         ensures entries { drop result self.now.list ≡ entries_after cookie self.now.list }
@@ -136,7 +124,7 @@ impl Directory {
         ensures counted { length self.now.list + 2 ≤ 2 * 2 ^ (steps.new - steps.old) }
     {
         match &self.table {
-            Some(table) => table.place_counted(cookie, steps),
+            Some(table) => table.place_after(cookie, steps),
             None => 0,
         }
     }

@@ -127,18 +127,8 @@ impl EntryTable {
     }
 
     /// How many entries have a cookie that is at most the given one. The entries after them are those that a listing goes on
-    /// with (RFC 1813 section 3.3.16).
-    pub(crate) fn place_after(&self, cookie: u64) -> usize
-        ensures within { result ≤ length self.now.list }
-        ensures place { result ≡ count_until cookie self.now.list }
-        ensures entries { drop result self.now.list ≡ entries_after cookie self.now.list }
-    {
-        let (slots, order) = (&self.slots, &self.order);
-        place_uncounted::<Brand>(slots, order, self.next_cookie, cookie, Blank::new(1))
-    }
-
-    /// `place_after`, with the steps that it takes: a step is the comparison of one cookie.
-    pub(crate) fn place_counted<L: Ledger>(&self, cookie: u64, steps: &mut Steps<L>) -> usize
+    /// with (RFC 1813 section 3.3.16). A step is the comparison of one cookie.
+    pub(crate) fn place_after<L: Ledger>(&self, cookie: u64, steps: &mut Steps<L>) -> usize
         ensures within { result ≤ length self.now.list }
         ensures place { result ≡ count_until cookie self.now.list }
         ensures entries { drop result self.now.list ≡ entries_after cookie self.now.list }

@@ -110,7 +110,7 @@ impl Node {
         ensures counted { length (entries_in self.now) + 2 ≤ 2 * 2 ^ (steps.new - steps.old) }
     {
         match &self.content {
-            Content::Directory(entries) => Some(entries.place_counted(cookie, steps)),
+            Content::Directory(entries) => Some(entries.place_after(cookie, steps)),
             _ => None,
         }
     }

@@ -1,16 +1,18 @@
 //! Indexes in an order, in blocks: one is taken out in a time that hardly grows with their count.
 
-ghost use Rattle.std.specs.Prelude.{◌≡◌, ◌+◌, ◌<◌, ◌≤◌, ◌++◌, ◌∷◌, [], true, drop, length, remove, slice_index, slice_index_or, slice_set, MatchOption, OnOk, OnErr};
+ghost use Rattle.std.specs.Prelude.{◌≡◌, ◌+◌, ◌*◌, ◌<◌, ◌≤◌, ◌++◌, ◌∷◌, [], true, false, drop, length, remove, slice_index, slice_index_or, slice_set, MatchOption, OnOk, OnErr};
 ghost use Rattle.std.specs.List.{concat};
-ghost use Rattle.nr_tree.specs.private.Blocks.{IsIn};
+ghost use Rattle.nr_tree.specs.private.Blocks.{IsIn, lists, no_block, block_max, joined_max, AreApart, AreRoomy, AreJoined, BlocksAreFew, IsTaken, IsAround, IsAfter, IsJoined, HasRoomLast, IsFullLast};
 
 use nr_xdr::Memory;
 use std::alloc::Global;
 use std::marker::Model;
-use std::mem::replace;
 
 /// The maximum number of indexes in a block.
 const BLOCK_MAX: usize = 2048;
+
+/// Two blocks that follow each other become one if they have at most this many indexes.
+const JOINED_MAX: usize = 1024;
 
 /// Indexes that follow each other.
 #[derive(Drop)]
@@ -19,19 +21,19 @@ struct Block {
 }
 
 impl Model for Block {
-    ghost use Rattle.std.specs.Prelude.{ℕ, List};
-    ghost use Rattle.std.specs.Coded.{coded_list, coded_ℕ};
+    ghost use Rattle.std.specs.Prelude.{vec_capacity};
+    ghost use Rattle.nr_tree.specs.private.Blocks.{IndexBlock, block_code};
 
-    ghost Value = { List ℕ };
+    ghost Value = { IndexBlock };
 
-    ghost coded = { coded_list coded_ℕ };
+    ghost coded = { block_code };
 
-    ghost view = { λ b. b.indexes.items };
+    ghost view = { λ b. record { indexes = b.indexes.items; room = vec_capacity b.indexes } };
 }
 
 impl Block {
     fn new(alloc: Global) -> Self
-        ensures { result ≡ [] }
+        ensures { result.indexes ≡ [] }
     {
         Block {
             indexes: Vec::new(alloc),
@@ -39,60 +41,62 @@ impl Block {
     }
 
     fn len(&self) -> usize
-        ensures { result ≡ length self.now }
+        ensures len { result ≡ length self.now.indexes }
+        ensures room { length self.now.indexes ≤ self.now.room }
     {
         self.indexes.len()
     }
 
     fn get(&self, offset: usize) -> usize
-        requires { offset < length self.now }
-        ensures { result ≡ slice_index self.now offset }
+        requires { offset < length self.now.indexes }
+        ensures { result ≡ slice_index self.now.indexes offset }
     {
         self.indexes[offset]
     }
 
     /// The indexes from an offset on.
     fn from(&self, offset: usize) -> &[usize]
-        requires { offset ≤ length self.now }
-        ensures { result.now ≡ drop offset self.now }
+        requires { offset ≤ length self.now.indexes }
+        ensures { result.now ≡ drop offset self.now.indexes }
     {
         &self.indexes[offset..]
     }
 
     fn set(&mut self, offset: usize, index: usize)
-        requires { offset < length self.old }
-        ensures { self.new ≡ slice_set self.old offset index }
+        requires { offset < length self.old.indexes }
+        ensures { self.new ≡ record { indexes = slice_set self.old.indexes offset index; room = self.old.room } }
     {
         self.indexes[offset] = index;
     }
 
     fn remove(&mut self, offset: usize)
-        requires { offset < length self.old }
-        ensures { self.new ≡ remove self.old offset }
+        requires { offset < length self.old.indexes }
+        ensures { self.new ≡ record { indexes = remove self.old.indexes offset; room = self.old.room } }
     {
         self.indexes.remove(offset);
     }
 
-    /// Takes the indexes of another block if it has room for them. Takes no memory.
+    /// Takes the indexes of another block, for which it has room. Takes no memory.
     fn take_all(&mut self, other: &mut Block)
-        ensures { self.new ++ other.new ≡ self.old ++ other.old }
+        requires { length self.old.indexes + length other.old.indexes ≤ self.old.room }
+        ensures indexes { self.new.indexes ≡ self.old.indexes ++ other.old.indexes }
+        ensures room { self.old.room ≤ self.new.room }
     {
-        if self.indexes.capacity() - self.indexes.len() >= other.indexes.len() {
-            let _ = self.indexes.append(&mut other.indexes);
-        }
+        let _ = self.indexes.append(&mut other.indexes);
     }
 
-    /// After an `Err` the block is as before.
+    /// After an `Err` the block has the indexes that it had.
     fn push(&mut self, index: usize) -> Result<(), Memory>
-        ensures ok { OnOk result (self.new ≡ self.old ++ index ∷ []) }
-        ensures err { OnErr result (self.new ≡ self.old) }
+        ensures ok { OnOk result (self.new.indexes ≡ self.old.indexes ++ index ∷ []) }
+        ensures err { OnErr result (self.new.indexes ≡ self.old.indexes) }
+        ensures room { self.old.room ≤ self.new.room }
     {
         self.indexes.push(index)?;
         Ok(())
     }
 }
 
-/// The indexes, in blocks of at most BLOCK_MAX.
+/// The indexes, in few blocks of at most BLOCK_MAX: none is empty, and any two that follow each other have more than JOINED_MAX.
 #[derive(Drop)]
 pub(crate) struct Order {
     blocks: Vec<Block>,
@@ -102,13 +106,21 @@ impl Model for Order {
     ghost use Rattle.std.specs.Prelude.{ℕ, List};
     ghost use Rattle.std.specs.List.{concat};
     ghost use Rattle.std.specs.Coded.{coded_list, coded_ℕ};
+    ghost use Rattle.nr_tree.specs.private.Blocks.{lists, AreJoined};
 
     ghost Value = { List ℕ };
 
     ghost coded = { coded_list coded_ℕ };
 
-    ghost view = { λ o. concat o.blocks.items };
+    ghost view = { λ o. concat (lists o.blocks.items) };
+
+    ghost invariant = { λ o. AreJoined o.blocks.items };
 }
+
+/// With n indexes there are at most 1 + 2 n / 1025 blocks.
+fn blocks_are_few()
+    ensures { BlocksAreFew }
+{}
 
 impl Order {
     /// No indexes. Takes no memory.
@@ -208,13 +220,14 @@ pub(crate) struct IndexCursor<'a> {
 impl<'a> Model for IndexCursor<'a> {
     ghost use Rattle.std.specs.Prelude.{ℕ, List, ◌++◌};
     ghost use Rattle.std.specs.List.{concat};
+    ghost use Rattle.nr_tree.specs.private.Blocks.{lists};
     ghost use Rattle.std.specs.Coded.{coded_list, coded_ℕ};
 
     ghost Value = { List ℕ };
 
     ghost coded = { coded_list coded_ℕ };
 
-    ghost view = { λ c. c.block.now ++ concat c.blocks.now };
+    ghost view = { λ c. c.block.now ++ concat (lists c.blocks.now) };
 }
 
 impl<'a> IndexCursor<'a> {
@@ -246,8 +259,8 @@ impl<'a> IndexCursor<'a> {
 
 /// The first of some blocks that has indexes, and those after it; an empty one, if there is none.
 fn skip_empty<'a>(block: &'a [usize], blocks: &'a [Block]) -> (&'a [usize], &'a [Block])
-    ensures same { result.0.now ++ concat result.1.now ≡ block.now ++ concat blocks.now }
-    ensures some { length result.0.now ≡ 0 → concat result.1.now ≡ [] }
+    ensures same { result.0.now ++ concat (lists result.1.now) ≡ block.now ++ concat (lists blocks.now) }
+    ensures some { length result.0.now ≡ 0 → concat (lists result.1.now) ≡ [] }
 {
     let mut block = block;
     let mut blocks = blocks;
@@ -265,8 +278,8 @@ fn skip_empty<'a>(block: &'a [usize], blocks: &'a [Block]) -> (&'a [usize], &'a 
 
 /// The indexes of some blocks from a place on.
 fn cursor_from(blocks: &[Block], place: usize) -> IndexCursor<'_>
-    requires { place < length (concat blocks.now) }
-    ensures { result ≡ drop place (concat blocks.now) }
+    requires { place < length (concat (lists blocks.now)) }
+    ensures { result ≡ drop place (concat (lists blocks.now)) }
 {
     let (block, offset) = find(blocks, place);
     let (_, left) = blocks.split_at(block);
@@ -281,8 +294,8 @@ fn cursor_from(blocks: &[Block], place: usize) -> IndexCursor<'_>
 
 /// The block that a place lies in, and the offset in it.
 fn find(blocks: &[Block], place: usize) -> (usize, usize)
-    requires { place < length (concat blocks.now) }
-    ensures { IsIn blocks.now result.0 result.1 place }
+    requires { place < length (concat (lists blocks.now)) }
+    ensures { IsIn (lists blocks.now) result.0 result.1 place }
 {
     let mut block = 0;
     let mut offset = place;
@@ -295,53 +308,61 @@ fn find(blocks: &[Block], place: usize) -> (usize, usize)
 
 fn set_at(blocks: &mut Vec<Block>, block: usize, offset: usize, index: usize)
     requires block { block < length blocks.old.items }
-    requires offset { offset < length (slice_index_or blocks.old.items block []) }
-    ensures { blocks.new.items ≡ slice_set blocks.old.items block (slice_set (slice_index_or blocks.old.items block []) offset index) }
+    requires offset { offset < length (slice_index_or blocks.old.items block no_block).indexes }
+    ensures { blocks.new.items ≡ slice_set blocks.old.items block (record { indexes = slice_set (slice_index_or blocks.old.items block no_block).indexes offset index; room = (slice_index_or blocks.old.items block no_block).room }) }
 {
     blocks[block].set(offset, index);
 }
 
 fn remove_at(blocks: &mut Vec<Block>, block: usize, offset: usize)
     requires block { block < length blocks.old.items }
-    requires offset { offset < length (slice_index_or blocks.old.items block []) }
-    ensures { blocks.new.items ≡ slice_set blocks.old.items block (remove (slice_index_or blocks.old.items block []) offset) }
+    requires offset { offset < length (slice_index_or blocks.old.items block no_block).indexes }
+    ensures { blocks.new.items ≡ slice_set blocks.old.items block (record { indexes = remove (slice_index_or blocks.old.items block no_block).indexes offset; room = (slice_index_or blocks.old.items block no_block).room }) }
 {
     blocks[block].remove(offset);
 }
 
 fn drop_if_empty(blocks: &mut Vec<Block>, block: usize)
-    requires { block < length blocks.old.items }
-    ensures { concat blocks.new.items ≡ concat blocks.old.items }
+    requires block { block < length blocks.old.items }
+    requires taken { IsTaken block blocks.old.items }
+    requires roomy { AreRoomy blocks.old.items }
+    ensures same { concat (lists blocks.new.items) ≡ concat (lists blocks.old.items) }
+    ensures around { IsAround block blocks.new.items }
+    ensures roomy { AreRoomy blocks.new.items }
 {
     if blocks[block].len() == 0 {
         blocks.remove(block);
     }
 }
 
-/// Whether a block and the next one are at most a quarter full.
+/// Whether a block and the next one have so few indexes that they become one.
 fn are_small(blocks: &[Block], block: usize) -> bool
-    ensures { result ≡ true → block + 1 < length blocks.now }
+    ensures small { result ≡ true → (block + 1 < length blocks.now) × (length (slice_index_or blocks.now block no_block).indexes + length (slice_index_or blocks.now (block + 1) no_block).indexes ≤ joined_max) }
+    ensures apart { result ≡ false → block + 1 < length blocks.now → joined_max < length (slice_index_or blocks.now block no_block).indexes + length (slice_index_or blocks.now (block + 1) no_block).indexes }
 {
     if block >= blocks.len() || blocks.len() - block < 2 {
         return false;
     }
-    blocks[block].len() <= BLOCK_MAX / 4 && blocks[block + 1].len() <= BLOCK_MAX / 4
+    let (first, second) = (blocks[block].len(), blocks[block + 1].len());
+    first <= JOINED_MAX && second <= JOINED_MAX - first
 }
 
-/// Moves the indexes of the next block to a block if it has room for them. Takes no memory.
+/// Moves the indexes of the next block to a block, which has room for them. Takes no memory.
 fn join(blocks: &mut Vec<Block>, block: usize)
-    requires { block + 1 < length blocks.old.items }
-    ensures { concat blocks.new.items ≡ concat blocks.old.items }
+    requires next { block + 1 < length blocks.old.items }
+    requires room { length (slice_index_or blocks.old.items block no_block).indexes + length (slice_index_or blocks.old.items (block + 1) no_block).indexes ≤ (slice_index_or blocks.old.items block no_block).room }
+    ensures { IsJoined blocks.old.items block blocks.new.items }
 {
-    let empty = Block::new(*blocks.allocator());
-    let mut next = replace(&mut blocks[block + 1], empty);
+    let mut next = blocks.remove(block + 1);
     blocks[block].take_all(&mut next);
-    blocks[block + 1] = next;
-    drop_if_empty(blocks, block + 1);
 }
 
 fn join_if_small(blocks: &mut Vec<Block>, block: usize)
-    ensures { concat blocks.new.items ≡ concat blocks.old.items }
+    requires roomy { AreRoomy blocks.old.items }
+    ensures same { concat (lists blocks.new.items) ≡ concat (lists blocks.old.items) }
+    ensures roomy { AreRoomy blocks.new.items }
+    ensures first { IsAround block blocks.old.items → IsAfter block blocks.new.items }
+    ensures second { IsAfter (block + 1) blocks.old.items → AreApart blocks.new.items }
 {
     if are_small(blocks, block) {
         join(blocks, block);
@@ -350,8 +371,11 @@ fn join_if_small(blocks: &mut Vec<Block>, block: usize)
 
 /// After an index of a block was taken out: the block goes if it is empty, and small blocks become one.
 fn tidy(blocks: &mut Vec<Block>, block: usize)
-    requires { block < length blocks.old.items }
-    ensures { concat blocks.new.items ≡ concat blocks.old.items }
+    requires block { block < length blocks.old.items }
+    requires taken { IsTaken block blocks.old.items }
+    requires roomy { AreRoomy blocks.old.items }
+    ensures same { concat (lists blocks.new.items) ≡ concat (lists blocks.old.items) }
+    ensures joined { AreJoined blocks.new.items }
 {
     drop_if_empty(blocks, block);
     join_if_small(blocks, block);
@@ -362,7 +386,8 @@ fn tidy(blocks: &mut Vec<Block>, block: usize)
 
 /// Whether the last block has room for one index more.
 fn has_room(blocks: &[Block]) -> bool
-    ensures { result ≡ true → 0 < length blocks.now }
+    ensures yes { result ≡ true → HasRoomLast blocks.now }
+    ensures no { result ≡ false → IsFullLast blocks.now }
 {
     match blocks.last() {
         Some(block) => block.len() < BLOCK_MAX,
@@ -370,11 +395,13 @@ fn has_room(blocks: &[Block]) -> bool
     }
 }
 
-/// After an `Err` the blocks are as before.
+/// After an `Err` the indexes are as before.
 fn push_to_last(blocks: &mut Vec<Block>, index: usize) -> Result<(), Memory>
-    requires { 0 < length blocks.old.items }
-    ensures ok { OnOk result (concat blocks.new.items ≡ concat blocks.old.items ++ index ∷ []) }
-    ensures err { OnErr result (blocks.new.items ≡ blocks.old.items) }
+    requires joined { AreJoined blocks.old.items }
+    requires room { HasRoomLast blocks.old.items }
+    ensures ok { OnOk result (concat (lists blocks.new.items) ≡ concat (lists blocks.old.items) ++ index ∷ []) }
+    ensures err { OnErr result (concat (lists blocks.new.items) ≡ concat (lists blocks.old.items)) }
+    ensures joined { AreJoined blocks.new.items }
 {
     let last = blocks.len() - 1;
     blocks[last].push(index)
@@ -382,8 +409,11 @@ fn push_to_last(blocks: &mut Vec<Block>, index: usize) -> Result<(), Memory>
 
 /// Puts a block with one index last. After an `Err` the blocks are as before.
 fn push_block(blocks: &mut Vec<Block>, index: usize) -> Result<(), Memory>
-    ensures ok { OnOk result (concat blocks.new.items ≡ concat blocks.old.items ++ index ∷ []) }
-    ensures err { OnErr result (blocks.new.items ≡ blocks.old.items) }
+    requires joined { AreJoined blocks.old.items }
+    requires full { IsFullLast blocks.old.items }
+    ensures ok { OnOk result (concat (lists blocks.new.items) ≡ concat (lists blocks.old.items) ++ index ∷ []) }
+    ensures err { OnErr result (concat (lists blocks.new.items) ≡ concat (lists blocks.old.items)) }
+    ensures joined { AreJoined blocks.new.items }
 {
     let mut block = Block::new(*blocks.allocator());
     block.push(index)?;

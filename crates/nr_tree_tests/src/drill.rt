@@ -1,12 +1,14 @@
 //! The drill's tree, number by number, its look-ups and its listings.
 
-ghost use Rattle.std.specs.Prelude.{◌≡◌};
+ghost use Rattle.std.specs.Prelude.{◌≡◌, ◌<◌};
 ghost use Rattle.nr_tree.specs.Drill.{IsDrill};
 
 use crate::compare::same;
 use nr_nfs_base::{FileType, Time};
-use nr_tree::{Content, Tree};
+use nr_tree::{Content, Directory, Steps, Tree};
+use std::marker::Brand;
 use std::process::Abort;
+use std::sync::ledger::{Blank, Ledger};
 
 /// The number of the type (RFC 1813 section 2.5, `ftype3`), mode, links, size and parent.
 pub type Seen = (u32, u32, u32, u64, u64);
@@ -86,10 +88,19 @@ pub fn looked_up(tree: &Tree, dir: u64, name: &[u8]) -> Option<u64> {
     tree.get(dir)?.lookup(name)
 }
 
+fn place_in<L: Ledger>(entries: &Directory, cookie: u64, blank: Blank) -> usize
+    requires name { blank.name ≡ L.name }
+    requires parts { blank.parts ≡ L.parts }
+    requires some { 0 < L.parts }
+{
+    let mut steps = Steps::<L>::new(blank);
+    entries.place_after(cookie, &mut steps)
+}
+
 pub fn listed(tree: &Tree, dir: u64, cookie: u64) -> Option<(usize, u64, u64)> {
     match &tree.get(dir)?.content {
         Content::Directory(entries) => {
-            let place = entries.place_after(cookie);
+            let place = place_in::<Brand>(entries, cookie, Blank::new(1));
             let (_, slot) = entries.entries_from(place).advance()?;
             Some((place, slot.cookie, slot.number))
         }
