@@ -1,12 +1,13 @@
 """Evaluates the definitions of a drill on the recorded scripts: the marks that a script makes, and what is printed of them.
 
-    python3 conformance/check_drills.py [--only WORD] [--jobs N]
+    python3 conformance/check_drills.py [--only WORD] [--jobs N] [--drains]
     python3 conformance/check_drills.py --record PROGRAM
 
 It takes the scripts of scripts.json.gz that run, and those of drills.json.gz, with what the built nfsrdma printed of them. Of a
 script that is generated it also evaluates the generator, whose script must be what the text says, and the line of sums. The
 replies of the plain server are those recorded in plain_scripts.json.gz; with --record they are asked of the built plain_calls,
-and recorded. Exit status: 0 all agree, 1 some differ, 2 nothing could be run."""
+and recorded. With --drains it makes each drain step by step, and asks that each step of a link that moves something leaves less
+work, as long as no line before put bytes into the pipes of the link. Exit status: 0 all agree, 1 some differ, 2 nothing could be run."""
 import argparse
 import gzip
 import json
@@ -30,8 +31,13 @@ USES = (
     'use Rattle.nr_plain.specs.Added.{entries_of_call}',
     'use Rattle.nr_script.specs.Script.{script_of}',
     'use Rattle.nr_script.specs.Generator.{made_script}',
-    'use Rattle.nr_drill.specs.Drill.{links_of, after_round}',
+    'use Rattle.std.specs.Prelude.{length}',
+    'use Rattle.nr_reduce.specs.Run.{server}',
+    'use Rattle.nr_drill.specs.Drill.{links_of, pipes_of, after_round}',
     'use Rattle.nr_drill.specs.Follows.{after_line, is_still, setting_of, opened_drill}',
+    'use Rattle.nr_drill.specs.WorkLeft.{after_step, work_left}',
+    'use Rattle.nr_drill.specs.WorkLeft.DrainStep.{AllUp, Work, AllDown}',
+    'use Rattle.nr_drill.specs.Lines.{is_raw_of}',
     'use Rattle.nr_drill.specs.Shown.{shown, summary}',
 )
 ROLES = {
@@ -41,6 +47,10 @@ ROLES = {
     'setting': 'λ server opening. setting_of server opening', 'opened': 'λ server opening. opened_drill server opening',
     'shown': 'λ setting clients run. shown setting clients run', 'sums': 'λ setting run. summary setting run',
     'made': 'λ seed clients calls. made_script seed clients calls',
+    'up': 'λ setting link drill. after_step setting link AllUp drill', 'work': 'λ setting link drill. after_step setting link Work drill',
+    'down': 'λ setting link drill. after_step setting link AllDown drill', 'left': 'λ setting drill link. work_left setting drill link',
+    'ready': 'λ setting link drill. length (server (setting.opened link) link drill.marks).state.ready',
+    'waiting': 'λ link drill. pipes_of link drill', 'raw': 'λ link line. is_raw_of link line',
 }
 
 
@@ -73,13 +83,15 @@ class Answers:
 class Drills:
     """The definitions of a drill."""
 
-    def __init__(self, root: str) -> None:
+    def __init__(self, root: str, by_steps: bool = False) -> None:
         self.project = Project(root)
         module = self.project.read('names', '')
         for u in USES:
             self.project.use(module, u)
         self.role = {k: self.project.expression(module, text) for k, text in ROLES.items()}
         self.ends = Ends(self.project)
+        self.by_steps = by_steps
+        self.steps = 0
 
     def ask(self, role: str, *args: Value) -> Value:
         return call(self.role[role], *args)
@@ -91,25 +103,52 @@ class Drills:
         opening = script['opening']
         setting, drill = self.ask('setting', server, opening), self.ask('opened', server, opening)
         links = self.ask('links', opening['clients'])
+        calm = set(links)
         for line in script['lines']:
-            drill = self.drained(setting, links, drill) if line.n == 'Drain' else self.ask('line', setting, line, drill)
+            drill = self.drained(setting, links, drill, calm) if line.n == 'Drain' else self.ask('line', setting, line, drill)
+            calm = {link for link in calm if not self.ask('raw', link, line)}
         texts = (self.ask('shown', setting, opening['clients'], drill['marks']), self.ask('sums', setting, drill['marks']))
         return bytes(texts[0]).decode('latin-1'), bytes(texts[1]).decode('latin-1')
 
-    def drained(self, setting: Value, links: list[int], drill: Value) -> Value:
+    def stepped(self, setting: Value, link: int, step: str, drill: Value, calm: set[int]) -> Value:
+        """A drill after a step of a link, which leaves less work if it moves something and no raw line was of the link."""
+        moves = step == 'work' or self.ask('waiting', link, drill)[step] != []
+        after = self.ask(step, setting, link, drill)
+        if step == 'work':
+            moves = after['marks'] != drill['marks']
+        if moves and link in calm:
+            self.steps += 1
+            old, new = self.ask('left', setting, drill, link), self.ask('left', setting, after, link)
+            if not new < old:
+                raise CannotEvaluate('%s of link %d leaves %r of %r' % (step, link, new, old))
+        return after
+
+    def one_round(self, setting: Value, links: list[int], drill: Value, calm: set[int]) -> Value:
+        """A drill after a round, step by step."""
+        for link in links:
+            drill = self.stepped(setting, link, 'up', drill, calm)
+            for _ in range(self.ask('ready', setting, link, drill)):
+                drill = self.stepped(setting, link, 'work', drill, calm)
+            drill = self.stepped(setting, link, 'down', drill, calm)
+        return drill
+
+    def drained(self, setting: Value, links: list[int], drill: Value, calm: set[int]) -> Value:
         """A drill after rounds until nothing moves."""
         for _ in range(ROUNDS_MAX):
             if all(self.ask('still', setting, drill, link) for link in links):
                 return drill
-            drill = self.ask('round', setting, links, drill)
+            after = self.ask('round', setting, links, drill)
+            if self.by_steps and self.one_round(setting, links, drill, calm) != after:
+                raise CannotEvaluate('the steps of a round make another drill')
+            drill = after
         raise CannotEvaluate('a drain of more than %d rounds' % ROUNDS_MAX)
 
 
 STATE: dict[str, Any] = {}
 
 
-def prepare(project: str, plain: dict[str, dict[str, str]], program: str | None) -> None:
-    STATE.update(drills=deeply(Drills, project), plain=plain, program=program)
+def prepare(project: str, plain: dict[str, dict[str, str]], program: str | None, by_steps: bool) -> None:
+    STATE.update(drills=deeply(Drills, project, by_steps), plain=plain, program=program)
 
 
 def wanted_of(script: Recorded) -> tuple[str, str | None]:
@@ -163,6 +202,7 @@ def main(argv: list[str]) -> int:
     p = argparse.ArgumentParser(description='Evaluates the definitions of a drill on the recorded scripts.')
     p.add_argument('--project', default=ROOT, help='the folder that has the folder crates')
     p.add_argument('--only', default='', help='scripts whose name has this word')
+    p.add_argument('--drains', action='store_true', help='ask of each step of a drain that it leaves less work')
     p.add_argument('--record', metavar='PROGRAM', help='ask the built plain_calls, and record its replies')
     p.add_argument('--jobs', type=int, default=os.cpu_count() or 1)
     a = p.parse_args(argv)
@@ -181,7 +221,7 @@ def main(argv: list[str]) -> int:
         return 2
     scripts.sort(key=lambda s: len(s['script']), reverse=True)
     differ = 0
-    with multiprocessing.Pool(max(1, a.jobs), prepare, (a.project, plain, a.record)) as pool:
+    with multiprocessing.Pool(max(1, a.jobs), prepare, (a.project, plain, a.record, a.drains)) as pool:
         for name, problem, answers in pool.imap_unordered(check, scripts):
             plain[name] = answers
             if problem is not None:

@@ -53,7 +53,7 @@ impl<N: Net<Stream = TcpStream, Listener = TcpListener>> Acceptor for Listening<
 
 /// A server, before it is run.
 #[derive(Drop)]
-struct Server<N> {
+pub(crate) struct Server<N> {
     words: Vec<String>,
     config: Vec<u8>,
     accept: Listening<N>,
@@ -61,7 +61,7 @@ struct Server<N> {
 
 impl<N: Net<Stream = TcpStream, Listener = TcpListener> + Drop> Server<N> {
     /// Its status, and what it prints and reports. Each connection is served in a thread of its own.
-    fn run(self, rt: impl Host, alloc: Global) -> (u8, MemSink, MemSink) {
+    pub(crate) fn run(self, rt: impl Host, alloc: Global) -> (u8, MemSink, MemSink) {
         let Server {
             words,
             config,
@@ -86,7 +86,7 @@ impl<N: Net<Stream = TcpStream, Listener = TcpListener> + Drop> Server<N> {
 }
 
 /// A server of this many connections, and the address at which it listens.
-fn new_server<N: Net<Stream = TcpStream, Listener = TcpListener> + Drop>(
+pub(crate) fn new_server<N: Net<Stream = TcpStream, Listener = TcpListener> + Drop>(
     rt: &impl Abort,
     alloc: Global,
     net: N,

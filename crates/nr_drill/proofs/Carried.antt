@@ -33,7 +33,8 @@ use Rattle.nr_drill.specs.Drill.{link_of, Setting, Drill, Pipes, empty_pipes, pl
 use Rattle.nr_script.specs.declared.script.Opening.{Opening}
 use Rattle.nr_script.specs.Script.{ScriptLines, HasWritableCred, IsScript, FollowOn, may_follow, is_client, is_call_line}
 use Rattle.nr_drill.specs.Follows.{after_line, Drains, Makes, MakeAll, Follows, parameters_of, setting_of, opened_drill}
-use Rattle.nr_drill.specs.Headline.{is_raw_of, HasNoRaw, IsLink, KeepsLaws}
+use Rattle.nr_drill.specs.Headline.{KeepsLaws}
+use Rattle.nr_drill.specs.Lines.{is_raw_of, HasNoRaw, IsLink}
 use Rattle.nr_laws.proofs.Granted.{submits_within}
 use Rattle.nr_reduce.specs.Opening.{IsOpened}
 use Rattle.nr_drill.proofs.Lawful.{IsLawful, IsWritten, Keeps, own_written, up_written, down_written, more_due, lawful_settled, lawful_handing, lawful_after_up, lawful_after_down, lawful_submit, lawful_work, lawful_calls, lawful_revoke, lawful_moves}
@@ -770,7 +771,7 @@ opened_stands server script is link within =
 
 -- On a link whose pipes no line puts bytes into, each side receives what the other sent. In the end what was sent and isn't received waits.
 pub follows_matches : (server : SerialServer) (script : ScriptLines) (run : List Mark) → IsScript script → (follows : Follows server script run) → (link : ℕ) → 1 ≤ link → link ≤ script.opening.clients →
-    HasNoRaw script link → Carries link follows.last × Matched link run
+    HasNoRaw script.lines link → Carries link follows.last × Matched link run
 unfolding opened_drill
 follows_matches server script run is follows link low high raw =
     let opening = script.opening in
@@ -787,13 +788,11 @@ pub follows_keeps : (server : SerialServer) (script : ScriptLines) (run : List M
     KeepsLaws script (parameters_of script.opening link) link run
 follows_keeps server script run is follows link within =
     let laws = follows_keeps_laws server script run is follows link within.0 within.1 in
-    let grant = submits_within (parameters_of script.opening link) link run laws.accepts in
     record {
       asked = laws.asked;
       served = laws.served;
       accepts = laws.accepts;
-      grant = grant;
+      grant = submits_within (parameters_of script.opening link) link run laws.accepts;
       handed = follows_hands server script run is follows link within;
       matched = λ raw. (follows_matches server script run is follows link within.0 within.1 raw).1;
-      kept = λ matched. record { client = laws.asked.each; server = laws.served.each; matched = matched; grant = grant };
     }

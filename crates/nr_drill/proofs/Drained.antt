@@ -21,7 +21,7 @@ use Rattle.nr_script.specs.declared.script.Line.{Line}
 use Rattle.nr_script.specs.declared.script.Line.TheVariants as lines
 use Rattle.nr_laws.proofs.Flows.{got_sent}
 use Rattle.nr_script.specs.Script.{ScriptLines, IsScript}
-use Rattle.nr_drill.specs.Headline.{acts_on, IsLink, EndsWithDrain}
+use Rattle.nr_drill.specs.Lines.{acts_on, IsLink, EndsWithDrain}
 use Rattle.nr_drill.specs.Drill.{link_of, SerialServer, Setting, Drill, links_of, pipes_of, cred_of, if_standing, waiting_call, after_round, after_submit, after_up, after_down, after_work, after_forget, after_revoke, after_drop, after_raw}
 use Rattle.nr_drill.specs.Follows.{is_empty, is_still, Drains, Makes, MakeAll, after_line, Follows, parameters_of, setting_of, opened_drill}
 use Rattle.nr_drill.proofs.Followed.{Among, among_range, Extends, no_event, submit_adds, up_adds, down_adds, work_adds, forget_adds, revoke_adds, drop_adds, raw_adds}

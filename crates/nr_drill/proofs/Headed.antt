@@ -53,7 +53,7 @@ follows_is_drill server script run is plain replied follows =
         done = λ ends.
             (promise.complete link within matched kept_memory conveyed (follows_waits server script run is follows link within matched standing ends)).has_done (follows_hands server script run is follows link within);
       };
-      drains = λ link within raw. follows_leaves_less server script run is typed follows link within raw;
+      drains = λ link within. follows_leaves_less server script run is typed follows link within;
     }
 
 -- So it is of a drill's own server: what is left to a driver is to follow its script, and that its replies are bytes by their type.

@@ -9,7 +9,7 @@ use Rattle.nr_laws.specs.Typed.{TypedMark, IsTyped}
 use Rattle.nr_script.specs.declared.script.Line.{Line}
 use Rattle.nr_script.specs.declared.script.Line.TheVariants as lines
 use Rattle.nr_script.specs.Script.{ScriptLines, IsTypedLine, IsScript}
-use Rattle.nr_drill.specs.Headline.{IsLink, HasNoRaw}
+use Rattle.nr_drill.specs.Lines.{IsLink, HasNoRaw}
 use Rattle.nr_drill.specs.Drill.{SerialServer, Setting, Drill, pipes_of, links_of, after_all_up, after_all_work, after_all_down, after_calls, after_work, after_moves, after_round}
 use Rattle.nr_drill.specs.Follows.{is_still, Drains, MakeAll, Follows, setting_of, opened_drill}
 use Rattle.nr_drill.specs.WorkLeft.{DrainStep, after_step}
@@ -139,13 +139,13 @@ before_runs s link AllDown start d is r = subst (IsRunning s link) (sym is) (wor
 
 -- ===== of a run
 
-step_runs_there : (server : SerialServer) (script : ScriptLines) → IsScript script → (link : ℕ) → IsLink script link → HasNoRaw script link → (step : DrainStep) (d : Drill) → IsDrainStep server script link step d →
+step_runs_there : (server : SerialServer) (script : ScriptLines) → IsScript script → (link : ℕ) → IsLink script link → (step : DrainStep) (d : Drill) → (x : IsDrainStep server script link step d) → HasNoRaw x.before link →
     IsRunning (setting_of server script.opening) link d
-step_runs_there server script is link within raw step d x =
+step_runs_there server script is link within step d x raw =
     let s = setting_of server script.opening in
     let clients = script.opening.clients in
     let links = are_links 1 clients (omega arith) in
-    let at_old = script_runs server script is link within raw x.before (lines.Drain ∷ x.after) x.is_cut x.old x.made in
+    let at_old = script_runs server script is link within x.before (lines.Drain ∷ x.after) x.is_cut raw x.old x.made in
     let at_round = rounds_run s link (links_of clients) x.rounds x.old x.round within.0 links x.makes_rounds at_old in
     let earlier = all_front (λ (l : ℕ). 1 ≤ l) x.earlier (link ∷ x.later) (subst (AllByRecursion (λ (l : ℕ). 1 ≤ l)) x.is_turn links) in
     before_runs s link step (after_round s x.earlier x.round) d x.is_before (round_runs s link x.earlier x.round within.0 earlier at_round)
@@ -172,10 +172,10 @@ run_begins server script run is follows link step d x =
     let types : AllByRecursion IsTypedLine x.after = (all_last IsTypedLine x.before (lines.Drain ∷ x.after) (subst (AllByRecursion IsTypedLine) x.is_cut is.typed)).1 in
     subst (Begins first) (sym follows.marks_are) (lines_keep s (IsLater first) k clients x.after cut.drained follows.last types cut.later drained)
 
--- Each step of a link in the drains of a run that moves something leaves less work, if no line puts bytes into its pipes.
-pub follows_leaves_less : (server : SerialServer) (script : ScriptLines) (run : List Mark) → IsScript script → IsTyped run → Follows server script run → (link : ℕ) → IsLink script link → HasNoRaw script link →
+-- Each step of a link in a drain of a run that moves something leaves less work, if no line before the drain puts bytes into its pipes.
+pub follows_leaves_less : (server : SerialServer) (script : ScriptLines) (run : List Mark) → IsScript script → IsTyped run → Follows server script run → (link : ℕ) → IsLink script link →
     DrainStepsLeaveLess server script link
-follows_leaves_less server script run is typed follows link within raw step d x moves =
+follows_leaves_less server script run is typed follows link within step d x raw moves =
     let s = setting_of server script.opening in
-    steps_leave_less s link step d (step_runs_there server script is link within raw step d x) moves
+    steps_leave_less s link step d (step_runs_there server script is link within step d x raw) moves
     (first_typed (after_step s link step d).marks run (run_begins server script run is follows link step d x) typed)

@@ -70,8 +70,8 @@ pub plain_answers_in_bytes : PlainServersAnswerInBytes
 plain_answers_in_bytes tree opening is = answers_in_bytes (drill_setup tree opening) opening is
 
 pub plain_drains_end : PlainDrainsEnd
-plain_drains_end tree script in_bytes is raw before after cut mid made =
-    drains_end (server_of (drill_setup tree script.opening)) script is raw (plain_answers_in_bytes tree script.opening in_bytes) (plain_answers tree script.opening) before after cut mid made
+plain_drains_end tree script in_bytes is before after cut raw mid made =
+    drains_end (server_of (drill_setup tree script.opening)) script is (plain_answers_in_bytes tree script.opening in_bytes) (plain_answers tree script.opening) before after cut raw mid made
 
 -- ===== the replies of a run
 

@@ -519,12 +519,12 @@ range_all P most from zero h some le = tt
 range_all P most from (suc n) h some le = (h from some (omega (arith, le)), range_all P most (from + 1) n h (omega (arith, some)) (omega (arith, le)))
 
 pub drains_end : DrainsEnd
-drains_end server script is raw replies answers before after cut mid made =
+drains_end server script is replies answers before after cut raw mid made =
     let s = setting_of server script.opening in
     let types = steps_keep_bytes s replies in
     let clients = script.opening.clients in
     drain_ends s (links_of clients) (range_apart 1 clients (omega arith)) types answers mid
-    (range_all (λ (l : ℕ). IsRunning s l mid) clients 1 clients (λ l low high. script_runs server script is l (low, high) (raw l (low, high)) before after cut mid made) (omega arith) (omega arith))
+    (range_all (λ (l : ℕ). IsRunning s l mid) clients 1 clients (λ l low high. script_runs server script is l (low, high) before after cut (raw l (low, high)) mid made) (omega arith) (omega arith))
     (script_bytes server script is replies before after cut mid made)
 
 -- ===== if no outcome is due, a step that adds a mark moves something

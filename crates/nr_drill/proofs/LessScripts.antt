@@ -1,4 +1,4 @@
--- On the links of a script into whose pipes no line puts bytes, each step of each drain leaves less work.
+-- A link runs after the first lines of a script, if none of these puts bytes into its pipes.
 use Rattle.std.specs.Prelude.{◌-◌, ◌&&◌, ◌≤◌, if◌then◌else◌}
 use Rattle.std.specs.List.{list_any, AllByRecursion}
 use Rattle.std.proofs.Common.{◌≡◌, ◌≢◌, ℕ, zero, suc, ◌+◌, ◌⊎◌, inl, inr, arith, eqb, eqb-true, Bool, true, false, List, [], ◌∷◌, ◌++◌, length, map, take, drop, Option, None, refl, sym, ap, subst, ◌∙◌, append-nil, append_assoc}
@@ -31,7 +31,7 @@ use Rattle.nr_laws.proofs.ServerEnds.{hello_goes}
 use Rattle.nr_script.specs.declared.script.Line.{Line}
 use Rattle.nr_script.specs.declared.script.Line.TheVariants as lines
 use Rattle.nr_script.specs.Script.{ScriptLines, HasWritableCred, IsScript}
-use Rattle.nr_drill.specs.Headline.{is_raw_of, HasNoRaw, IsLink}
+use Rattle.nr_drill.specs.Lines.{is_raw_of, HasNoRaw, IsLink}
 use Rattle.nr_drill.specs.Drill.{link_of, SerialServer, Setting, Drill, Pipes, start, links_of, pipes_of, cred_of, settled, after_feeding, after_feeding_up, after_feeding_down, after_outcomes, after_up, after_down, after_round, after_moves, after_submit, after_work, after_forget, after_revoke, after_drop, after_raw, after_opening, after_openings}
 use Rattle.nr_drill.specs.Follows.{after_line, Drains, Makes, MakeAll, parameters_of, setting_of, opened_drill}
 use Rattle.nr_drill.specs.WorkLeft.{DrainStep, after_step}
@@ -361,17 +361,17 @@ other_runs s link other old new ne apart x r =
     let same = elsewhere (s.opened link) link other old.marks new.marks ne x.marks in
     running_from s link new (same.lawful h.0, same.written h.0 h.1) (carries_elsewhere link other old new ne apart x (running_carries s link old r)) (heard_by_lem link other old new x (running_heard s link old r))
 
-any_front : {X : Type 0} (p : X → Bool) (xs ys : List X) → list_any p (xs ++ ys) ≡ false → list_any p xs ≡ false
+pub any_front : {X : Type 0} (p : X → Bool) (xs ys : List X) → list_any p (xs ++ ys) ≡ false → list_any p xs ≡ false
 any_front p xs ys e = (neither_raw (list_any p xs) (list_any p ys) (sym (any_append p xs ys) ∙ e)).0
 
 pub all_front : {X : Type 0} (P : X → Type 0) (xs ys : List X) → AllByRecursion P (xs ++ ys) → AllByRecursion P xs
 all_front P [] ys h = tt
 all_front P (x ∷ xs) ys h = (h.0, all_front P xs ys h.1)
 
--- On a link of a script into whose pipes no line puts bytes: it runs after the first lines, however many.
-pub script_runs : (server : SerialServer) (script : ScriptLines) → IsScript script → (link : ℕ) → IsLink script link → HasNoRaw script link → (before after : List Line) → script.lines ≡ before ++ after → (mid : Drill) →
+-- A link of a script runs after the first lines, however many, if none of these puts bytes into its pipes.
+pub script_runs : (server : SerialServer) (script : ScriptLines) → IsScript script → (link : ℕ) → IsLink script link → (before after : List Line) → script.lines ≡ before ++ after → HasNoRaw before link → (mid : Drill) →
     MakeAll (setting_of server script.opening) script.opening.clients before (opened_drill server script.opening) mid → IsRunning (setting_of server script.opening) link mid
-script_runs server script is link within raw before after cut mid made =
+script_runs server script is link within before after cut raw mid made =
     let opening = script.opening in
     let s = setting_of server opening in
     let clients = opening.clients in
@@ -379,5 +379,5 @@ script_runs server script is link within raw before after cut mid made =
     let stands = lines_passed s clients link before (opened_drill server opening) mid within.0 (opened_by_script script is)
     (all_front HasWritableCred before after (subst (AllByRecursion HasWritableCred) cut is.creds))
     (all_front NamesClient before after (subst (AllByRecursion NamesClient) cut (all_name opening [] script.lines is.follow_on)))
-    (any_front (is_raw_of link) before after (ap (λ (all : List Line). list_any (is_raw_of link) all) (sym cut) ∙ raw)) made first in
+    raw made first in
     running_from s link mid stands.holds.keeps stands.carries (lines_heard s clients link before (opened_drill server opening) mid made (opened_heard server script link within))

@@ -22,7 +22,7 @@ use Rattle.nr_script.specs.declared.script.Line.TheVariants as lines
 use Rattle.nr_script.specs.Script.{ScriptLines, IsScript}
 use Rattle.nr_drill.specs.Drill.{SerialServer, Setting, Drill, Pipes, empty_pipes, plain_of, now, unwritten, appended, after_output, after_all_output, settled, pipes_of, cred_of, with_mark, after_feeding, after_feeding_up, after_feeding_down, after_up, after_down, after_handing, after_done, after_dones, after_outcomes, after_submit, waiting_call, after_answer, after_execution, after_work, after_calls, after_all_up, after_all_work, after_moves, answer_of_line, open_xid, after_giving_up, after_forget, after_taking_back, after_revoke, after_drop, after_raw, after_round, after_opening, after_openings, start, links_of}
 use Rattle.nr_drill.specs.Follows.{after_line, Drains, Makes, MakeAll, Follows, setting_of, opened_drill}
-use Rattle.nr_drill.specs.Headline.{IsLink}
+use Rattle.nr_drill.specs.Lines.{IsLink}
 use Rattle.nr_drill.proofs.Lawful.{own_written, up_written, down_written}
 use Rattle.nr_drill.proofs.Followed.{Extends, submit_adds, up_adds, down_adds, work_adds, forget_adds, revoke_adds, drop_adds, raw_adds, moves_adds, opening_adds}
 use Rattle.nr_drill.proofs.Carried.{same_dropped, same_sent, same_received, own_pipes, still_room, own_fed, up_fed, down_fed, dropped_at_last, IsSameHere, same_here, other_than, NamesClient, all_name, AreLinks, are_links, start_carries}

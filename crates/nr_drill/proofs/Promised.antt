@@ -35,7 +35,8 @@ use Rattle.nr_laws.proofs.NeitherEnds.{links_stay, matched_calls_complete}
 use Rattle.nr_script.specs.Script.{ScriptLines, IsScript}
 use Rattle.nr_drill.specs.Drill.{SerialServer, plain_of}
 use Rattle.nr_drill.specs.Follows.{Follows, parameters_of}
-use Rattle.nr_drill.specs.Headline.{KeepsLaws, Completes, PlacesRise, IsLink}
+use Rattle.nr_drill.specs.Headline.{KeepsLaws, Completes, PlacesRise}
+use Rattle.nr_drill.specs.Lines.{IsLink}
 use Rattle.nr_drill.proofs.Followed.{follows_is_plain, opened_by_script}
 use Rattle.nr_drill.proofs.Carried.{follows_keeps}
 
@@ -96,7 +97,7 @@ follows_promises server script run is plain typed follows =
     let sofar : (link : ℕ) → IsLink script link → Matched link run → MatchedSoFar (parameters_of script.opening link) link run =
     (λ link within matched. so_far script (parameters_of script.opening link) link run (laws link within) matched) in
     let kept : (link : ℕ) → IsLink script link → Matched link run → KeepLaws (parameters_of script.opening link) link run =
-    (λ link within matched. (laws link within).kept matched) in
+    (λ link within matched. record { client = (laws link within).asked.each; server = (laws link within).served.each; matched = matched; grant = (laws link within).grant }) in
     let full : (link : ℕ) → IsLink script link → Matched link run → InFull (parameters_of script.opening link) link run =
     (λ link within matched. record { asked = (laws link within).asked; served = (laws link within).served; matched = matched; grant = (laws link within).grant }) in
     record {

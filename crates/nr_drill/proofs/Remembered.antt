@@ -8,6 +8,7 @@ use Rattle.nr_reduce.proofs.SoFarLaws.{AtEachMark_each, asked_mark}
 use Rattle.nr_laws.specs.Typed.{IsTyped}
 use Rattle.nr_laws.proofs.Touched.{client_touched, server_touched}
 use Rattle.nr_laws.proofs.Frozen.{revoke_stands}
+use Rattle.nr_laws.proofs.DoneBack.{done_hands_back}
 use Rattle.nr_laws.proofs.SinkRegions.{server_refuses_requests}
 use Rattle.nr_laws.proofs.AllowedBytes.{client_bytes_are_allowed, server_bytes_are_allowed}
 use Rattle.nr_laws.proofs.SentBytes.{sent_bytes_are_allowed}
@@ -24,4 +25,5 @@ keeps_memory opened link run typed asked =
       server_holds = server_bytes_are_allowed opened link run;
       disclosed = λ offset byte is. sent_bytes_are_allowed opened link run offset byte sofar is;
       revoked = λ before xid bytes at. revoke_stands opened link run before xid bytes typed sofar at;
+      done = λ before xid outcome r at there own. done_hands_back opened link run before xid outcome r typed sofar at there own;
     }

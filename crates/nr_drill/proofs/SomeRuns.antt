@@ -1,15 +1,17 @@
 -- A script that puts no bytes into pipes has a run.
-use Rattle.std.proofs.Common.{◌≡◌, ℕ, List, [], ◌∷◌, ◌++◌, refl, sym, subst, ◌∙◌, append_assoc}
+use Rattle.std.specs.List.{list_any}
+use Rattle.std.proofs.Common.{◌≡◌, ℕ, false, List, [], ◌∷◌, ◌++◌, refl, sym, subst, ◌∙◌, append_assoc}
 use Rattle.nr_reduce.specs.declared.mark.Mark.{Mark}
 use Rattle.nr_script.specs.declared.script.Line.{Line}
 use Rattle.nr_script.specs.declared.script.Line.TheVariants as lines
 use Rattle.nr_script.specs.Script.{ScriptLines, IsScript}
 use Rattle.nr_drill.specs.Drill.{SerialServer, Setting, Drill, links_of}
 use Rattle.nr_drill.specs.Follows.{after_line, Drains, Makes, MakeAll, Follows, setting_of, opened_drill}
-use Rattle.nr_drill.specs.Headline.{IsLink, HasNoRaw}
+use Rattle.nr_drill.specs.Lines.{is_raw_of, IsLink, HasNoRaw}
 use Rattle.nr_drill.specs.DrillSetup.{drill_setup, server_of}
 use Rattle.nr_drill.specs.Laws.{ScriptsHaveRuns, DrillsHaveRuns}
 use Rattle.nr_drill.specs.Drains.{AnswersInBytes, AnswersCalls}
+use Rattle.nr_drill.proofs.LessScripts.{any_front}
 use Rattle.nr_drill.proofs.LessRounds.{drains_end}
 use Rattle.nr_drill.proofs.LessPlain.{plain_answers, plain_answers_in_bytes, plain_runs_reply_in_bytes}
 use Rattle.nr_drill.proofs.Headed.{drill_is_run}
@@ -25,7 +27,11 @@ last_made : (s : Setting) (clients : ℕ) (before : List Line) (line : Line) (ol
 last_made s clients [] line old mid new made is = (new, subst (λ (d : Drill). Makes s clients line d new) made is, refl)
 last_made s clients (first ∷ before) line old mid new made is = (made.0, made.1, last_made s clients before line made.0 mid new made.2 is)
 
-rest_made : (server : SerialServer) (script : ScriptLines) → IsScript script → ((link : ℕ) → IsLink script link → HasNoRaw script link) →
+none_before : (script : ScriptLines) (before after : List Line) → script.lines ≡ before ++ after → ((link : ℕ) → IsLink script link → HasNoRaw script.lines link) →
+    (link : ℕ) → IsLink script link → HasNoRaw before link
+none_before script before after cut raw link within = any_front (is_raw_of link) before after (subst (λ (all : List Line). list_any (is_raw_of link) all ≡ false) cut (raw link within))
+
+rest_made : (server : SerialServer) (script : ScriptLines) → IsScript script → ((link : ℕ) → IsLink script link → HasNoRaw script.lines link) →
     AnswersInBytes (setting_of server script.opening) → AnswersCalls (setting_of server script.opening) →
     (after before : List Line) → script.lines ≡ before ++ after → (mid : Drill) →
     MakeAll (setting_of server script.opening) script.opening.clients before (opened_drill server script.opening) mid →
@@ -34,13 +40,13 @@ rest_made server script is raw replies answers [] before cut mid made = (mid, re
 rest_made server script is raw replies answers (line ∷ after) before cut mid made =
     let s = setting_of server script.opening in
     let clients = script.opening.clients in
-    let next = line_made s clients line mid (drains_end server script is raw replies answers before (line ∷ after) cut mid made) in
+    let next = line_made s clients line mid (drains_end server script is replies answers before (line ∷ after) cut (none_before script before (line ∷ after) cut raw) mid made) in
     let rest = rest_made server script is raw replies answers after (before ++ line ∷ []) (cut ∙ sym (append_assoc before (line ∷ []) after)) next.0
     (last_made s clients before line (opened_drill server script.opening) mid next.0 made next.1) in
     (rest.0, (next.0, next.1, rest.1))
 
 -- if the server has a reply to each call that waits, and replies in bytes
-some_run : (server : SerialServer) (script : ScriptLines) → IsScript script → ((link : ℕ) → IsLink script link → HasNoRaw script link) →
+some_run : (server : SerialServer) (script : ScriptLines) → IsScript script → ((link : ℕ) → IsLink script link → HasNoRaw script.lines link) →
     AnswersInBytes (setting_of server script.opening) → AnswersCalls (setting_of server script.opening) → (run : List Mark) × Follows server script run
 some_run server script is raw replies answers =
     let all = rest_made server script is raw replies answers script.lines [] refl (opened_drill server script.opening) refl in

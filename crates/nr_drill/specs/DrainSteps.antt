@@ -7,6 +7,7 @@ use Rattle.nr_script.specs.declared.script.Line.TheVariants as lines
 use Rattle.nr_script.specs.Script.{ScriptLines}
 use Rattle.nr_drill.specs.Drill.{SerialServer, Setting, Drill, pipes_of, links_of, after_all_up, after_calls, after_all_work, after_work, after_round}
 use Rattle.nr_drill.specs.Follows.{is_still, MakeAll, setting_of, opened_drill}
+use Rattle.nr_drill.specs.Lines.{HasNoRaw}
 use Rattle.nr_drill.specs.WorkLeft.{DrainStep, after_step, work_left, IsLess}
 use Rattle.nr_drill.specs.WorkLeft.DrainStep.{AllUp, Work, AllDown}
 
@@ -45,7 +46,8 @@ pub record IsDrainStep (server : SerialServer) (script : ScriptLines) (link : �
   pub is_turn : links_of script.opening.clients ≡ earlier ++ link ∷ later
   pub is_before : IsBeforeStep (setting_of server script.opening) link (after_round (setting_of server script.opening) earlier round) step d
 
--- Each step of the link in the drains of the script leaves less work, if it moves something.
+-- Each step of the link in a drain of the script leaves less work, if it moves something, and no line before the drain puts bytes into the pipes
+-- of the link.
 abbrev pub DrainStepsLeaveLess : SerialServer → ScriptLines → ℕ → Type 0
-DrainStepsLeaveLess server script link = (step : DrainStep) (d : Drill) → IsDrainStep server script link step d → Moves (setting_of server script.opening) link step d →
+DrainStepsLeaveLess server script link = (step : DrainStep) (d : Drill) → (x : IsDrainStep server script link step d) → HasNoRaw x.before link → Moves (setting_of server script.opening) link step d →
     IsLess (work_left (setting_of server script.opening) (after_step (setting_of server script.opening) link step d) link) (work_left (setting_of server script.opening) d link)

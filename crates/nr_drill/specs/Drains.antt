@@ -15,7 +15,7 @@ use Rattle.nr_script.specs.declared.script.Line.{Line}
 use Rattle.nr_script.specs.Script.{ScriptLines, IsScript}
 use Rattle.nr_drill.specs.Drill.{SerialServer, Setting, Drill, plain_of, now, waiting_call, links_of, pipes_of, empty_pipes}
 use Rattle.nr_drill.specs.Follows.{Drains, MakeAll, setting_of, opened_drill}
-use Rattle.nr_drill.specs.Headline.{IsLink, HasNoRaw}
+use Rattle.nr_drill.specs.Lines.{IsLink, HasNoRaw}
 use Rattle.nr_drill.specs.InBytes.{ExecutedInBytes}
 use Rattle.nr_drill.specs.WorkLeft.{DrainStep, after_step, work_left, IsLess}
 use Rattle.nr_drill.specs.DrainSteps.{Moves}
@@ -58,10 +58,10 @@ AnswersInBytes s = (link : ℕ) (d : Drill) → IsTyped d.marks → ExecutedInBy
 abbrev pub StepsKeepTypes : Type 0
 StepsKeepTypes = (s : Setting) (link : ℕ) (step : DrainStep) (d : Drill) → IsRunning s link d → AnswersInBytesAt s link d → IsTyped d.marks → IsTyped (after_step s link step d).marks
 
--- In a script that puts no bytes into pipes a drain ends, at each line: after a number of rounds nothing moves on any link.
+-- After any of the first lines of a script, if none of these puts bytes into pipes, a drain ends: after a number of rounds nothing moves on any link.
 abbrev pub DrainsEnd : Type 0
-DrainsEnd = (server : SerialServer) (script : ScriptLines) → IsScript script → ((link : ℕ) → IsLink script link → HasNoRaw script link) →
+DrainsEnd = (server : SerialServer) (script : ScriptLines) → IsScript script →
     AnswersInBytes (setting_of server script.opening) → AnswersCalls (setting_of server script.opening) →
-    (before after : List Line) → script.lines ≡ before ++ after → (mid : Drill) →
+    (before after : List Line) → script.lines ≡ before ++ after → ((link : ℕ) → IsLink script link → HasNoRaw before link) → (mid : Drill) →
     MakeAll (setting_of server script.opening) script.opening.clients before (opened_drill server script.opening) mid →
     (rounds : ℕ) × (new : Drill) × Drains (setting_of server script.opening) (links_of script.opening.clients) rounds mid new

@@ -1,6 +1,5 @@
 -- What a drill promises: its run follows the script, both ends of each link keep their laws, and what these mean to callers.
-use Rattle.std.specs.Prelude.{◌≡◌, ◌≢◌, ℕ, ◌≤◌, Bool, true, false, ◌==◌, List, [], ◌∷◌, ◌++◌, None, ◌↔◌}
-use Rattle.std.specs.List.{list_any}
+use Rattle.std.specs.Prelude.{◌≡◌, ◌≢◌, ℕ, ◌≤◌, false, List, [], ◌∷◌, ◌++◌, None, ◌↔◌}
 use Rattle.nr_wire.specs.declared.hello.Side.TheVariants.{Initiator, Responder}
 use Rattle.nr_reduce.specs.declared.call.Call.{Call}
 use Rattle.nr_reduce.specs.declared.call.Form.{Form}
@@ -30,63 +29,28 @@ use Rattle.nr_laws.specs.Payloads.{HasPlan}
 use Rattle.nr_laws.specs.PlainReplies.{HasPlainReply}
 use Rattle.nr_laws.specs.ChunkOutcomes.{HasChunkCause, IsAnswered}
 use Rattle.nr_laws.specs.Completion.{HaveCompleted, HasOutcome, IsAwaitedStill, NothingInTransit}
-use Rattle.nr_laws.specs.EndCauses.{KeepLaws}
 use Rattle.nr_laws.specs.Stays.{HasNoRevoke, AreConveyedOrRefused}
-use Rattle.nr_script.specs.declared.script.Line.{Line}
-use Rattle.nr_script.specs.declared.script.Line.TheVariants as lines
 use Rattle.nr_drill.specs.declared.report.Report.{Report}
 use Rattle.nr_drill.specs.declared.report.LinkLog.{LinkLog}
 use Rattle.nr_script.specs.Script.{ScriptLines}
 use Rattle.nr_drill.specs.Drill.{SerialServer, plain_of}
 use Rattle.nr_drill.specs.Follows.{Follows, parameters_of, setting_of}
+use Rattle.nr_drill.specs.Lines.{HasNoRaw, EndsWithDrain, IsLink}
 use Rattle.nr_drill.specs.Memory.{KeepsMemory}
 use Rattle.nr_drill.specs.DrainSteps.{DrainStepsLeaveLess}
 use Rattle.nr_drill.specs.Reports.{call_reports, link_reports}
 
--- ===== what lines of a script name
-
-abbrev pub is_raw_of : ℕ → Line → Bool
-is_raw_of link (lines.Raw client side bytes) = client == link
-is_raw_of link line = false
-
--- a line that does something on a link: a drain does it on each
-abbrev pub acts_on : ℕ → Line → Bool
-acts_on link (lines.Cred client cred) = false
-acts_on link (lines.Call client form prog vers proc args) = client == link
-acts_on link (lines.Up client most) = client == link
-acts_on link (lines.Down client most) = client == link
-acts_on link (lines.Work client) = client == link
-acts_on link (lines.Tick seconds) = false
-acts_on link (lines.Forget client number) = client == link
-acts_on link (lines.Revoke client number) = client == link
-acts_on link (lines.Drop client) = client == link
-acts_on link (lines.Raw client side bytes) = client == link
-acts_on link lines.Drain = true
-
--- no line puts bytes into the pipes of a link
-abbrev pub HasNoRaw : ScriptLines → ℕ → Type 0
-HasNoRaw script link = list_any (is_raw_of link) script.lines ≡ false
-
--- a drain that no later line of the link follows
-pub record EndsWithDrain (script : ScriptLines) (link : ℕ) : Type 0 where
-  pub before : List Line
-  pub after : List Line
-  pub is_cut : script.lines ≡ before ++ lines.Drain ∷ after
-  pub none_after : list_any (acts_on link) after ≡ false
-
 -- ===== one link
 
 -- Whatever the script, hostile bytes too: both ends keep their laws in full; each call is accepted by the client's rule, so within the grant;
--- each outcome that is due has been handed over; if no line puts bytes into its pipes, each side receives what the other sent; and if each does,
--- both ends keep their laws together, of which the laws of a link speak.
+-- each outcome that is due has been handed over; and if no line puts bytes into its pipes, each side receives what the other sent.
 pub record KeepsLaws (script : ScriptLines) (opened : LinkParameters) (link : ℕ) (run : List Mark) : Type 0 where
   pub asked : Asked opened link run
   pub served : Served opened link run
   pub accepts : AcceptsByRule opened link run
   pub grant : KeepsGrant opened link run
   pub handed : outcomes_due opened link run ≡ []
-  pub matched : HasNoRaw script link → Matched link run
-  pub kept : Matched link run → KeepLaws opened link run
+  pub matched : HasNoRaw script.lines link → Matched link run
 
 -- A call that completes: with the plain server's reply at its place in the one journal; else with Chunk, if its message is refused or its
 -- offer doesn't hold the reply; never with another version.
@@ -120,9 +84,6 @@ PlacesRise link other_link run = (before between before_first before_second : Li
     MarkAt run before_first (marks.Execute link xid moment payload place reply) →
     MarkAt run before_second (marks.Execute other_link other_xid other_moment other_payload other_place other_reply) → place ≤ other_place
 
-abbrev pub IsLink : ScriptLines → ℕ → Type 0
-IsLink script link = (1 ≤ link) × (link ≤ script.opening.clients)
-
 -- What is promised of the run of a drill. The ends of each link are opened with what the first line of the script says. A link is matched if no
 -- line puts bytes into its pipes (`laws`); it may be if one does, as after it was dropped.
 pub record IsDrillRun (server : SerialServer) (script : ScriptLines) (run : List Mark) : Type 0 where
@@ -137,7 +98,7 @@ pub record IsDrillRun (server : SerialServer) (script : ScriptLines) (run : List
   pub places : (link other_link : ℕ) → IsLink script link → IsLink script other_link → Matched link run → Matched other_link run → PlacesRise link other_link run
   pub staying : (link : ℕ) → IsLink script link → Matched link run → is_dropped link run ≡ false → HasNoRevoke link run → AreConveyedOrRefused (parameters_of script.opening link) link run →
       Stays script (parameters_of script.opening link) link run
-  pub drains : (link : ℕ) → IsLink script link → HasNoRaw script link → DrainStepsLeaveLess server script link
+  pub drains : (link : ℕ) → IsLink script link → DrainStepsLeaveLess server script link
 
 -- ===== the report
 

@@ -11,7 +11,8 @@ use Rattle.nr_drill.specs.declared.report.Report.{Report}
 use Rattle.nr_drill.specs.Drill.{SerialServer, Drill, links_of}
 use Rattle.nr_drill.specs.Follows.{Drains, MakeAll, Follows, setting_of, opened_drill}
 use Rattle.nr_drill.specs.Drains.{AnswersCalls, AnswersInBytes}
-use Rattle.nr_drill.specs.Headline.{IsLink, HasNoRaw, IsDrillRun, Reports}
+use Rattle.nr_drill.specs.Headline.{IsDrillRun, Reports}
+use Rattle.nr_drill.specs.Lines.{IsLink, HasNoRaw}
 use Rattle.nr_drill.specs.InBytes.{RepliedInBytes, IsInBytes}
 use Rattle.nr_drill.specs.DrillSetup.{drill_setup, server_of}
 use Rattle.nr_drill.specs.Shown.{shown, text_of, summary, sums_of}
@@ -44,21 +45,21 @@ DrillTreesAreInBytes = (tree : Tree) → IsDrill tree → IsInBytes tree
 abbrev pub PlainRunsReplyInBytes : Type 0
 PlainRunsReplyInBytes = (tree : Tree) (script : ScriptLines) (run : List Mark) → IsInBytes tree → IsScript script → Follows (server_of (drill_setup tree script.opening)) script run → RepliedInBytes run
 
--- Over a tree in bytes, in a script that puts no bytes into pipes, a drain ends, at each line.
+-- Over a tree in bytes a drain ends after any of the first lines of a script, if none of these puts bytes into pipes.
 abbrev pub PlainDrainsEnd : Type 0
-PlainDrainsEnd = (tree : Tree) (script : ScriptLines) → IsInBytes tree → IsScript script → ((link : ℕ) → IsLink script link → HasNoRaw script link) →
-    (before after : List Line) → script.lines ≡ before ++ after → (mid : Drill) →
+PlainDrainsEnd = (tree : Tree) (script : ScriptLines) → IsInBytes tree → IsScript script →
+    (before after : List Line) → script.lines ≡ before ++ after → ((link : ℕ) → IsLink script link → HasNoRaw before link) → (mid : Drill) →
     MakeAll (setting_of (server_of (drill_setup tree script.opening)) script.opening) script.opening.clients before (opened_drill (server_of (drill_setup tree script.opening)) script.opening) mid →
     (rounds : ℕ) × (new : Drill) × Drains (setting_of (server_of (drill_setup tree script.opening)) script.opening) (links_of script.opening.clients) rounds mid new
 
 -- so such a script has a run
 abbrev pub ScriptsHaveRuns : Type 0
-ScriptsHaveRuns = (tree : Tree) (script : ScriptLines) → IsInBytes tree → IsScript script → ((link : ℕ) → IsLink script link → HasNoRaw script link) →
+ScriptsHaveRuns = (tree : Tree) (script : ScriptLines) → IsInBytes tree → IsScript script → ((link : ℕ) → IsLink script link → HasNoRaw script.lines link) →
     (run : List Mark) × Follows (server_of (drill_setup tree script.opening)) script run
 
 -- and over the first tree of a drill it has one, which is that of a drill
 abbrev pub DrillsHaveRuns : Type 0
-DrillsHaveRuns = (tree : Tree) (script : ScriptLines) → IsDrill tree → IsScript script → ((link : ℕ) → IsLink script link → HasNoRaw script link) →
+DrillsHaveRuns = (tree : Tree) (script : ScriptLines) → IsDrill tree → IsScript script → ((link : ℕ) → IsLink script link → HasNoRaw script.lines link) →
     (run : List Mark) × IsDrillRun (server_of (drill_setup tree script.opening)) script run
 
 -- what is printed of a run, and its sums, by its report

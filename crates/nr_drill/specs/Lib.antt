@@ -1,5 +1,6 @@
 pub mod Drill
 pub mod Follows
+pub mod Lines
 pub mod WorkLeft
 pub mod DrainSteps
 pub mod Reports

@@ -8,6 +8,7 @@ use Rattle.nr_link.specs.Frames.{Frame, is_hello}
 use Rattle.nr_link.specs.Output.{own_hello}
 use Rattle.nr_link.specs.ReceiveState.{ReadRequest, read_request_of}
 use Rattle.nr_link.specs.Ending.{frame_segment, access_of}
+use Rattle.nr_reduce.specs.declared.call.Outcome.{Outcome}
 use Rattle.nr_reduce.specs.declared.mark.Mark.{Mark}
 use Rattle.nr_reduce.specs.declared.mark.Mark.TheVariants as marks
 use Rattle.nr_reduce.specs.declared.mark.LinkParameters.{LinkParameters}
@@ -22,6 +23,7 @@ use Rattle.nr_reduce.specs.Run.{client, server, grants_of, placed_bytes}
 use Rattle.nr_laws.specs.MarkAt.{MarkAt}
 use Rattle.nr_laws.specs.Touches.{StopsAt, IsUnchanged}
 use Rattle.nr_laws.specs.PlacedBytes.{HoldsAllowed}
+use Rattle.nr_laws.specs.HandedBack.{IsHandedBack}
 use Rattle.nr_laws.specs.Sent.{IsSentFor}
 
 -- Each access of a frame to a side's memory is allowed by a region that the side offers at that frame for this access, or the frame ends the side.
@@ -33,7 +35,8 @@ IsTouched {S = S} rules regions initial received after = (earlier later : List R
 
 -- Whatever the peer sends. A Read Request ends a server, so it discloses nothing. Each byte of a region is the one that was registered, or one
 -- that an allowed frame brought. Each byte that a client has sent is of its hello, of the Send of an accepted call, of its last output, or of the
--- response to a Read Request that is allowed. What a Revoke gives back is what the regions held then, and nothing later changes it.
+-- response to a Read Request that is allowed. What a Revoke gives back is what the regions held then; what a Done hands back is what the regions of
+-- its call held at the end of the frame that completed the call's message. Nothing later changes either.
 pub record KeepsMemory (opened : LinkParameters) (link : ℕ) (run : List Mark) : Type 0 where
   pub client_touched : IsTouched (client_rules opened) (λ s. s.regions) (initial_client opened) (events link Initiator run) (client opened link run)
   pub server_touched : IsTouched (server_rules opened) (λ s. s.regions) (initial_server opened) (events link Responder run) (server opened link run)
@@ -47,3 +50,5 @@ pub record KeepsMemory (opened : LinkParameters) (link : ℕ) (run : List Mark) 
   pub disclosed : (offset byte : ℕ) → slice_get (bytes_sent link Initiator run) offset ≡ Some byte →
       (slice_get (own_hello Initiator) offset ≡ Some byte) ⊎ IsSentFor opened (events link Initiator run) offset byte
   pub revoked : (before : List Mark) (xid : ℕ) (bytes : List ℕ) → MarkAt run before (marks.Revoke link xid bytes) → IsUnchanged opened link run before xid bytes
+  pub done : (before : List Mark) (xid : ℕ) (outcome : Outcome) (r : Region) → MarkAt run before (marks.Done link xid outcome) →
+      Contains (client opened link before).state.regions r → r.call ≡ xid → IsHandedBack opened link run before r

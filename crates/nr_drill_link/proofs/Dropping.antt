@@ -1,8 +1,7 @@
 -- A link that is dropped, and bytes that are put into its pipes.
 use Rattle.std.specs.Prelude.{◌-◌}
-use Rattle.std.proofs.Common.{◌≡◌, ℕ, ◌+◌, ◌≤◌, arith, Bool, true, false, List, [], ◌∷◌, ◌++◌, length, refl, ap, sym, subst, ◌∙◌}
-use Rattle.std.proofs.lemmas.List.{length-set, drop-append-le}
-use Rattle.nr_outside.specs.Pipe.{PipeState, waiting_bytes}
+use Rattle.std.proofs.Common.{◌≡◌, ℕ, ◌≤◌, Bool, true, false, List, [], ◌∷◌, ◌++◌, length, refl, ap, sym, subst, ◌∙◌}
+use Rattle.std.proofs.lemmas.List.{length-set}
 use Rattle.nr_wire.specs.declared.hello.Side.{Side}
 use Rattle.nr_reduce.specs.declared.mark.Mark.{Mark}
 use Rattle.nr_reduce.specs.declared.mark.Mark.TheVariants as marks
@@ -45,9 +44,6 @@ drops v run run2 more s link d at =
     }
 
 -- ---- Bytes that are put after those that wait
-
-pub waits_more : (p p2 : PipeState) (bytes : List ℕ) (n : ℕ) → p.place + n ≡ length p.log → p2 ≡ record p { log = p.log ++ bytes } → waiting_bytes p2 ≡ waiting_bytes p ++ bytes
-waits_more p p2 bytes n all is = ap waiting_bytes is ∙ drop-append-le p.place p.log bytes (omega (arith, all))
 
 pub raw_gone : (v : DrillLinkState) (side : Side) (bytes : List ℕ) (run : List Mark) → v.is_dropped ≡ true → Goes (λ s link d. after_raw link side bytes (is_dropped link d.marks) d) v v run run
 raw_gone v side bytes run gone s link d at =

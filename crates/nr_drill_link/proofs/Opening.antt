@@ -45,17 +45,14 @@ fresh_stands s link credits d v f opened before =
 
 -- ---- All that waits
 
-waiting_len : (log : List ℕ) (place n : ℕ) → place + n ≡ length log → n ≡ length (drop place log)
-waiting_len log place n all = (let e = length-drop place log in omega (arith, all, e))
-
-pub all_up_goes : (v v2 : DrillLinkState) (run run2 : List Mark) (log : List ℕ) (place n : ℕ) → v.pipes.up ≡ drop place log → place + n ≡ length log → Goes (λ s link. after_up s link n) v v2 run run2 → Goes after_all_up v v2 run run2
-all_up_goes v v2 run run2 log place n is all goes s link d at =
-    let count : n ≡ length (pipes_of link d).up = waiting_len log place n all ∙ ap length (sym is) ∙ ap (λ (p : Pipes). length p.up) at.stands.pipes in
+pub all_up_goes : (v v2 : DrillLinkState) (run run2 : List Mark) (n : ℕ) → n ≡ length v.pipes.up → Goes (λ s link. after_up s link n) v v2 run run2 → Goes after_all_up v v2 run run2
+all_up_goes v v2 run run2 n all goes s link d at =
+    let count : n ≡ length (pipes_of link d).up = all ∙ ap (λ (p : Pipes). length p.up) at.stands.pipes in
     subst (λ (k : ℕ). StandsAt s link (after_up s link k d) v2 run2) count (goes s link d at)
 
-pub all_down_goes : (v v2 : DrillLinkState) (run run2 : List Mark) (log : List ℕ) (place n : ℕ) → v.pipes.down ≡ drop place log → place + n ≡ length log → Goes (λ s link. after_down s link n) v v2 run run2 → Goes after_all_down v v2 run run2
-all_down_goes v v2 run run2 log place n is all goes s link d at =
-    let count : n ≡ length (pipes_of link d).down = waiting_len log place n all ∙ ap length (sym is) ∙ ap (λ (p : Pipes). length p.down) at.stands.pipes in
+pub all_down_goes : (v v2 : DrillLinkState) (run run2 : List Mark) (n : ℕ) → n ≡ length v.pipes.down → Goes (λ s link. after_down s link n) v v2 run run2 → Goes after_all_down v v2 run run2
+all_down_goes v v2 run run2 n all goes s link d at =
+    let count : n ≡ length (pipes_of link d).down = all ∙ ap (λ (p : Pipes). length p.down) at.stands.pipes in
     subst (λ (k : ℕ). StandsAt s link (after_down s link k d) v2 run2) count (goes s link d at)
 
 -- ---- The hellos go to both ends

@@ -2,7 +2,6 @@
 use Rattle.std.specs.Prelude.{◌↔◌, Result, Ok, Err, IfOk, IsTrue}
 use Rattle.std.proofs.Common.{◌≡◌, ◌≢◌, ℕ, ◌≤◌, Bool, true, false, List, [], ◌∷◌, ◌++◌, length, map, take, None, Some, refl, ap, sym, subst, ◌∙◌}
 use Rattle.std.proofs.Math.Seq.{take-length}
-use Rattle.nr_outside.specs.Pipe.{PipeState, waiting_bytes}
 use Rattle.nr_wire.specs.declared.hello.Side.{Side}
 use Rattle.nr_wire.specs.declared.hello.Side.TheVariants.{Initiator, Responder}
 use Rattle.nr_reduce.specs.declared.mark.LinkParameters.{LinkParameters}
@@ -22,6 +21,7 @@ use Rattle.nr_endpoint.specs.FedBytes.{fed_bytes}
 use Rattle.nr_requester.specs.Fed.{fed_bytes as client_fed_bytes}
 use Rattle.nr_requester.specs.OpenCalls.{KeepsTickets}
 use Rattle.nr_drill_link.specs.declared.awaited.AwaitedCall.{AwaitedCall}
+use Rattle.nr_drill_link.specs.Transits.{TransitState}
 use Rattle.nr_drill_link.specs.OpenTickets.{AreOpen}
 use Rattle.nr_drill_link.specs.Steps.{Goes, ClientWrites, ServerWrites, IsFresh}
 use Rattle.nr_drill_link.specs.Views.{line_view, link_view}
@@ -86,10 +86,10 @@ wrote_bytes_down v v0 server bytes given down run run2 is w some all put more =
 
 -- ---- A link is dropped, and bytes are put into its pipes
 
-pub drops_to : (v v0 : DrillLinkState) (up down : PipeState) (run run2 : List Mark) → v ≡ v0 → waiting_bytes up ≡ [] → waiting_bytes down ≡ [] → run2 ≡ run ++ marks.Drop v.number ∷ [] →
-    Goes (λ s link. after_drop link) v0 (record { number = v.number; client = v.client; server = v.server; pipes = record { up = waiting_bytes up; down = waiting_bytes down }; is_dropped = true; lines = v.lines; awaited = v.awaited }) run run2
+pub drops_to : (v v0 : DrillLinkState) (up down : TransitState) (run run2 : List Mark) → v ≡ v0 → up.waiting ≡ [] → down.waiting ≡ [] → run2 ≡ run ++ marks.Drop v.number ∷ [] →
+    Goes (λ s link. after_drop link) v0 (record { number = v.number; client = v.client; server = v.server; pipes = record { up = up.waiting; down = down.waiting }; is_dropped = true; lines = v.lines; awaited = v.awaited }) run run2
 drops_to v v0 up down run run2 is no_up no_down more =
-    let to : dropped_link v ≡ record { number = v.number; client = v.client; server = v.server; pipes = record { up = waiting_bytes up; down = waiting_bytes down }; is_dropped = true; lines = v.lines; awaited = v.awaited } =
+    let to : dropped_link v ≡ record { number = v.number; client = v.client; server = v.server; pipes = record { up = up.waiting; down = down.waiting }; is_dropped = true; lines = v.lines; awaited = v.awaited } =
     (λ i. record { number = v.number; client = v.client; server = v.server; pipes = record { up = sym no_up i; down = sym no_down i }; is_dropped = true; lines = v.lines; awaited = v.awaited }) in
     subst (λ (x : DrillLinkState). Goes (λ s link. after_drop link) v0 x run run2) to
     (from_view (λ s link. after_drop link) v v0 (dropped_link v) run run2 is (drops v run run2 more))
@@ -119,15 +119,15 @@ opened_live r credits is = ap (λ (x : RequesterSide). x.state.side.ended) is
 pub none_are_open : (r : RequesterState) (calls : List AwaitedCall) → calls ≡ [] → AreOpen r calls
 none_are_open r calls none = subst (λ (cs : List AwaitedCall). AreOpen r cs) (sym none) (none_open r)
 
-abbrev empty_pipe : PipeState
-empty_pipe = record { log = []; place = 0; faults = 0 }
+abbrev empty_pipe : TransitState
+empty_pipe = record { waiting = []; kept = 0 }
 
-pub fresh_link : (number credits : ℕ) (client : RequesterSide) (server : ResponderSide) (up down : PipeState) (calls : List AwaitedCall) → client ≡ opened_as 1 1 credits client.staging → up ≡ empty_pipe → down ≡ empty_pipe → calls ≡ [] →
+pub fresh_link : (number credits : ℕ) (client : RequesterSide) (server : ResponderSide) (up down : TransitState) (calls : List AwaitedCall) → client ≡ opened_as 1 1 credits client.staging → up ≡ empty_pipe → down ≡ empty_pipe → calls ≡ [] →
     ((opened : LinkParameters) (l : ℕ) → opened.first_xid ≡ 1 → opened.first_stag ≡ 1 → opened.wished ≡ credits → RequesterRepresents opened l client []) → end_of server ≡ None →
     ((opened : LinkParameters) (l : ℕ) → opened.granted ≡ credits → ResponderRepresents opened l [] server) → IsFresh number credits (link_view number client server up down false 0 calls)
 fresh_link number credits client server up down calls opened no_up no_down none asks live serves = record {
   number = refl;
-  pipes = (λ i. record { up = waiting_bytes (no_up i); down = waiting_bytes (no_down i) });
+  pipes = (λ i. record { up = (no_up i).waiting; down = (no_down i).waiting });
   stands = refl;
   lines = refl;
   awaited = ap (λ (cs : List AwaitedCall). map line_view cs) none;

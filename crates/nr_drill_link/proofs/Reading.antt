@@ -31,15 +31,12 @@ server_end_is s link d v h =
 
 -- ---- Whether anything moves
 
-some_wait : (log : List ℕ) (place n : ℕ) → place + n ≡ length log → 0 < n → drop place log ≢ []
-some_wait log place n all some none = (let e : length (drop place log) ≡ 0 = ap length none in absurd (omega (arith, all, some, e, length-drop place log)))
+some_wait : (xs : List ℕ) (n : ℕ) → n ≡ length xs → 0 < n → xs ≢ []
+some_wait xs n all some none = (let e : length xs ≡ 0 = ap length none in absurd (omega (arith, all, some, e)))
 
-pub none_wait : (log : List ℕ) (place n : ℕ) → place + n ≡ length log → n ≤ 0 → drop place log ≡ []
-none_wait log place n all none = by (drop place log) (let e = length-drop place log in omega (arith, all, none, e))
-  where
-    by : (xs : List ℕ) → length xs ≡ 0 → xs ≡ []
-    by [] e = refl
-    by (x ∷ xs) e = absurd (omega (arith, e))
+pub none_wait : (xs : List ℕ) (n : ℕ) → n ≡ length xs → n ≤ 0 → xs ≡ []
+none_wait [] n all none = refl
+none_wait (x ∷ xs) n all none = absurd (omega (arith, all, none))
 
 filled : (xs : List ℕ) → xs ≢ [] → is_empty xs ≡ false
 filled [] some = absurd (some refl)
@@ -52,13 +49,13 @@ still_as s link d v h up down up_is down_is =
     let pipes : pipes_of link d ≡ v.pipes = sym h.pipes in
     λ i. (ap (λ (p : Pipes). is_empty p.up) pipes ∙ up_is) i && ((ap (λ (p : Pipes). is_empty p.down) pipes ∙ down_is) i && is_none (if_standing (sym h.dropped i) (next_call (s.opened link) link d.marks)))
 
-pub moves_up : (s : Setting) (link : ℕ) (d : Drill) (v : DrillLinkState) → LinkStands s link d v → (log : List ℕ) (place n : ℕ) → v.pipes.up ≡ drop place log → place + n ≡ length log → 0 < n → false ≡ is_still s d link
-moves_up s link d v h log place n is all some =
-    sym (still_as s link d v h false (is_empty v.pipes.down) (ap is_empty is ∙ filled (drop place log) (some_wait log place n all some)) refl)
+pub moves_up : (s : Setting) (link : ℕ) (d : Drill) (v : DrillLinkState) → LinkStands s link d v → (n : ℕ) → n ≡ length v.pipes.up → 0 < n → false ≡ is_still s d link
+moves_up s link d v h n all some =
+    sym (still_as s link d v h false (is_empty v.pipes.down) (filled v.pipes.up (some_wait v.pipes.up n all some)) refl)
 
-pub moves_down : (s : Setting) (link : ℕ) (d : Drill) (v : DrillLinkState) → LinkStands s link d v → (log : List ℕ) (place n : ℕ) → v.pipes.up ≡ [] → v.pipes.down ≡ drop place log → place + n ≡ length log → 0 < n → false ≡ is_still s d link
-moves_down s link d v h log place n up is all some =
-    sym (still_as s link d v h true false (ap is_empty up) (ap is_empty is ∙ filled (drop place log) (some_wait log place n all some)))
+pub moves_down : (s : Setting) (link : ℕ) (d : Drill) (v : DrillLinkState) → LinkStands s link d v → (n : ℕ) → v.pipes.up ≡ [] → n ≡ length v.pipes.down → 0 < n → false ≡ is_still s d link
+moves_down s link d v h n up all some =
+    sym (still_as s link d v h true false (ap is_empty up) (filled v.pipes.down (some_wait v.pipes.down n all some)))
 
 pub still_dropped : (s : Setting) (link : ℕ) (d : Drill) (v : DrillLinkState) → LinkStands s link d v → v.pipes.up ≡ [] → v.pipes.down ≡ [] → v.is_dropped ≡ true → true ≡ is_still s d link
 still_dropped s link d v h up down gone =

@@ -1,5 +1,6 @@
 pub mod DrillLinkState
 pub mod LinkStands
+pub mod Transits
 pub mod OpenTickets
 pub mod Steps
 pub mod Views

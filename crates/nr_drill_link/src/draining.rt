@@ -1,15 +1,15 @@
 //! What an end has to write.
 
-ghost use Rattle.std.specs.Prelude.{◌≡◌, ◌∷◌, ◌++◌, IfOk, OnOk, [], drop, length, take};
-ghost use Rattle.nr_outside.specs.Pipe.{waiting_bytes};
+ghost use Rattle.std.specs.Prelude.{◌≡◌, ◌∷◌, ◌++◌, IfOk, OnOk, []};
 ghost use Rattle.nr_endpoint.specs.FedBytes.{fed_bytes};
 ghost use Rattle.nr_reduce.specs.declared.mark.Mark.TheVariants as mark_kinds;
 ghost use Rattle.nr_requester.specs.Fed.{fed_bytes as client_fed_bytes};
 ghost use Rattle.nr_requester.specs.OpenCalls.{KeepsTickets};
 ghost use Rattle.nr_drill_link.specs.Steps.{ClientWrites, ServerWrites};
 
+use crate::transit::Transit;
 use nr_marks::MarkLog;
-use nr_outside::{MemSink, Pipe, Sink};
+use nr_outside::MemSink;
 use nr_reduce::{Boxed, Call, Form, Mark, Outcome, Submission};
 use nr_requester::Requester;
 use nr_responder::Responder;
@@ -40,28 +40,6 @@ pub(crate) fn server_output(alloc: Global, server: &mut Responder) -> Result<Oct
         Ok(()) => Octets::from_slice(alloc, sink.bytes()),
         Err(_) => Err(Memory),
     }
-}
-
-/// Puts bytes after those that wait in a pipe.
-pub(crate) fn put(pipe: &mut Pipe, bytes: &[u8]) -> Result<(), Memory>
-    ensures { OnOk result (waiting_bytes pipe.new ≡ waiting_bytes pipe.old ++ bytes.now) }
-{
-    let _waiting = pipe.waiting();
-    match pipe.write(bytes) {
-        Ok(_) => Ok(()),
-        Err(_) => Err(Memory),
-    }
-}
-
-/// Skips the next bytes of a pipe, at most `most`. If none wait after them, it keeps none of the bytes that were read.
-pub(crate) fn skip_next(alloc: Global, pipe: &mut Pipe, most: usize)
-    ensures { waiting_bytes pipe.new ≡ drop most (waiting_bytes pipe.old) }
-{
-    pipe.skip(most);
-    if pipe.waiting() > 0 {
-        return;
-    }
-    *pipe = Pipe::new(alloc);
 }
 
 /// Adds a mark to those of the drill.
@@ -111,15 +89,15 @@ pub(crate) fn add_submit(
 
 /// Puts what an end wrote after the bytes that wait in its pipe, and adds the mark of it.
 pub(crate) fn put_output(
-    pipe: &mut Pipe,
+    pipe: &mut Transit,
     marks: &mut MarkLog,
     link: u32,
     side: Side,
     bytes: Octets,
 ) -> Result<(), Memory>
-    ensures { OnOk result ((waiting_bytes pipe.new ≡ waiting_bytes pipe.old ++ bytes) × (marks.new ≡ marks.old ++ mark_kinds.Wrote link side bytes ∷ [])) }
+    ensures { OnOk result ((pipe.new.waiting ≡ pipe.old.waiting ++ bytes) × (marks.new ≡ marks.old ++ mark_kinds.Wrote link side bytes ∷ [])) }
 {
-    match put(pipe, bytes.as_slice()) {
+    match pipe.put(bytes.as_slice()) {
         Ok(()) => add_mark(marks, Mark::Wrote { link, side, bytes }),
         Err(memory) => Err(memory),
     }

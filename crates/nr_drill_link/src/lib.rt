@@ -11,6 +11,7 @@ mod laws;
 mod link;
 mod moving;
 mod outcomes;
+mod transit;
 mod working;
 mod writing;
 

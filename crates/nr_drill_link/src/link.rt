@@ -11,10 +11,10 @@ ghost use Rattle.nr_drill_link.specs.LinkStands.{LinkStands};
 ghost use Rattle.nr_drill_link.specs.Steps.{Goes, IsFresh, Opens};
 
 use crate::awaited::AwaitedCall;
-use crate::draining::{add_mark, put};
+use crate::draining::add_mark;
+use crate::transit::Transit;
 use nr_link::End;
 use nr_marks::MarkLog;
-use nr_outside::Pipe;
 use nr_reduce::Mark;
 use nr_requester::Requester;
 use nr_responder::Responder;
@@ -35,8 +35,8 @@ pub struct DrillLink {
     pub(crate) client: Requester,
     pub(crate) server: Responder,
     // The bytes for the server, and those for the client.
-    pub(crate) up: Pipe,
-    pub(crate) down: Pipe,
+    pub(crate) up: Transit,
+    pub(crate) down: Transit,
     pub(crate) dropped: bool,
     // How many call lines its client had.
     pub(crate) lines: usize,
@@ -105,8 +105,8 @@ impl DrillLink {
             number,
             client,
             server,
-            up: Pipe::new(alloc),
-            down: Pipe::new(alloc),
+            up: Transit::new(alloc),
+            down: Transit::new(alloc),
             dropped: false,
             lines: 0,
             awaited: Vec::new(alloc),
@@ -134,8 +134,8 @@ impl DrillLink {
     pub fn drop_link(&mut self, marks: &mut MarkLog) -> Result<(), Memory>
         ensures { OnOk result (Goes (λ s link. after_drop link) self.old self.new marks.old marks.new) }
     {
-        self.up = Pipe::new(self.alloc);
-        self.down = Pipe::new(self.alloc);
+        self.up = Transit::new(self.alloc);
+        self.down = Transit::new(self.alloc);
         self.dropped = true;
         add_mark(marks, Mark::Drop { link: self.number })
     }
@@ -149,8 +149,8 @@ impl DrillLink {
             return Ok(());
         }
         let written = match side {
-            Side::Initiator => put(&mut self.up, bytes),
-            Side::Responder => put(&mut self.down, bytes),
+            Side::Initiator => self.up.put(bytes),
+            Side::Responder => self.down.put(bytes),
         };
         written
     }
@@ -177,6 +177,13 @@ impl DrillLink {
         ensures { (s : Setting) (link : ℕ) (d : Drill) → LinkStands s link d self.now → result ≡ is_dropped_after link d.marks }
     {
         self.dropped
+    }
+
+    /// How many bytes are kept in memory for those that wait in its pipes: at most twice as many as wait.
+    pub fn held(&self) -> u128
+        ensures { result ≤ 2 * (length self.now.pipes.up + length self.now.pipes.down) }
+    {
+        self.up.kept() as u128 + self.down.kept() as u128
     }
 
     /// Whether nothing moves: nothing waits in its pipes, and no call waits to be executed.

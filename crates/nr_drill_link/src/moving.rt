@@ -5,7 +5,7 @@ ghost use Rattle.nr_link.specs.declared.end.End.TheVariants as ends;
 ghost use Rattle.nr_drill.specs.Drill.{after_feeding_up, after_up, after_feeding_down, after_outcomes, after_down, after_all_up, after_all_down};
 ghost use Rattle.nr_drill_link.specs.Steps.{Goes};
 
-use crate::draining::{add_mark, skip_next};
+use crate::draining::add_mark;
 use crate::link::{DrillLink, FED_MAX};
 use nr_link::End;
 use nr_marks::MarkLog;
@@ -48,7 +48,7 @@ impl DrillLink {
         if ran_out(self.server.feed(bytes.as_slice())) {
             return Err(Memory);
         }
-        skip_next(self.alloc, &mut self.up, most);
+        self.up.skip(self.alloc, most);
         let fed = Mark::Fed {
             link: self.number,
             side: Side::Responder,
@@ -88,7 +88,7 @@ impl DrillLink {
         if ran_out(self.client.feed(bytes.as_slice())) {
             return Err(Memory);
         }
-        skip_next(self.alloc, &mut self.down, most);
+        self.down.skip(self.alloc, most);
         let fed = Mark::Fed {
             link: self.number,
             side: Side::Initiator,

@@ -7,6 +7,8 @@
 #[cfg(test)]
 mod compare;
 #[cfg(test)]
+mod held;
+#[cfg(test)]
 mod logs;
 #[cfg(test)]
 mod making;

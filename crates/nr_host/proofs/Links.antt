@@ -1,44 +1,44 @@
 -- Links that a server takes one after another.
-use Rattle.std.proofs.Common.{◌≡◌, ℕ, ◌≤◌, List, [], ◌∷◌, ◌++◌, Option, None, Some, inl, inr, refl, sym, ap, subst, ◌∙◌, append_assoc, append-nil, arith}
+use Rattle.std.proofs.Common.{◌≡◌, ℕ, Bool, ◌≤◌, List, [], ◌∷◌, ◌++◌, Option, None, Some, inl, inr, refl, sym, ap, subst, ◌∙◌, append_assoc, append-nil, arith}
 use Rattle.nr_outside.specs.Faults.{Rises}
 use Rattle.nr_turnstile.specs.declared.plays.View.{View}
 use Rattle.nr_plain.specs.History.{PassView}
 use Rattle.nr_plain.specs.declared.history_entry.HistoryEntry.{HistoryEntry}
-use Rattle.nr_host.specs.declared.conn_end.ConnEnd.{ConnEnd}
+use Rattle.nr_host.specs.declared.link_end.LinkEnd.{LinkEnd}
 use Rattle.nr_host.specs.Serving.{BackCount, Between, HandsBack, Serves, ServesAll, ServesLink, StartsLink, TakesLink, TakesOne, end_of_link, ends_of}
 
-takes_more : (credits : ℕ) (before mid after : Between) (links : List (Option ConnEnd)) (link : Option ConnEnd) → ServesAll credits before links mid → TakesLink credits mid link after
-    → ServesAll credits before (links ++ link ∷ []) after
-takes_more credits before mid after [] link none one = (after, (subst (λ (b : Between). TakesLink credits b link after) none one, refl))
-takes_more credits before mid after (first ∷ links) link (next, (took, rest)) one = (next, (took, takes_more credits next mid after links link rest one))
+takes_more : (credits : ℕ) (records : Bool) (before mid after : Between) (links : List (Option LinkEnd)) (link : Option LinkEnd) → ServesAll credits records before links mid → TakesLink credits records mid link after
+    → ServesAll credits records before (links ++ link ∷ []) after
+takes_more credits records before mid after [] link none one = (after, (subst (λ (b : Between). TakesLink credits records b link after) none one, refl))
+takes_more credits records before mid after (first ∷ links) link (next, (took, rest)) one = (next, (took, takes_more credits records next mid after links link rest one))
 
-ends_more : (links : List (Option ConnEnd)) (link : Option ConnEnd) → ends_of (links ++ link ∷ []) ≡ ends_of links ++ end_of_link link
+ends_more : (links : List (Option LinkEnd)) (link : Option LinkEnd) → ends_of (links ++ link ∷ []) ≡ ends_of links ++ end_of_link link
 ends_more [] link = append-nil (end_of_link link)
 ends_more (first ∷ links) link =
-    ap (λ (l : List ConnEnd). end_of_link first ++ l) (ends_more links link) ∙ sym (append_assoc (end_of_link first) (ends_of links) (end_of_link link))
+    ap (λ (l : List LinkEnd). end_of_link first ++ l) (ends_more links link) ∙ sym (append_assoc (end_of_link first) (ends_of links) (end_of_link link))
 
 -- one link more
-pub serves_more : (credits : ℕ) (before mid after : Between) (ends ends' : List ConnEnd) → Serves credits before ends mid → TakesOne credits mid ends ends' after
-    → Serves credits before ends' after
-serves_more credits before mid after ends ends' s t = record {
+pub serves_more : (credits : ℕ) (records : Bool) (before mid after : Between) (ends ends' : List LinkEnd) → Serves credits records before ends mid → TakesOne credits records mid ends ends' after
+    → Serves credits records before ends' after
+serves_more credits records before mid after ends ends' s t = record {
   links = s.links ++ t.link ∷ [];
-  ends_are = ends_more s.links t.link ∙ ap (λ (l : List ConnEnd). l ++ end_of_link t.link) s.ends_are ∙ sym t.ends_are;
-  all = takes_more credits before mid after s.links t.link s.all t.takes;
+  ends_are = ends_more s.links t.link ∙ ap (λ (l : List LinkEnd). l ++ end_of_link t.link) s.ends_are ∙ sym t.ends_are;
+  all = takes_more credits records before mid after s.links t.link s.all t.takes;
 }
 
 -- no link yet
-pub serves_none : (credits : ℕ) (before : Between) (ends : List ConnEnd) → ends ≡ [] → Serves credits before ends before
-serves_none credits before ends none = record { links = []; ends_are = sym none; all = refl }
+pub serves_none : (credits : ℕ) (records : Bool) (before : Between) (ends : List LinkEnd) → ends ≡ [] → Serves credits records before ends before
+serves_none credits records before ends none = record { links = []; ends_are = sym none; all = refl }
 
 pub rises_on : (first old new : ℕ) → first ≤ old → Rises old new → Rises first new
 rises_on first old new low (inl more) = inl (omega (arith, low, more))
 rises_on first old new low (inr last) = inr last
 
 -- the count of the spawner, if it started the job, or handed it back
-pub back_same : (ends : List ConnEnd) (first old new : ℕ) → new ≡ old → BackCount ends first old → BackCount ends first new
+pub back_same : (ends : List LinkEnd) (first old new : ℕ) → new ≡ old → BackCount ends first old → BackCount ends first new
 back_same ends first old new same count = subst (λ (n : ℕ). BackCount ends first n) (sym same) count
 
-pub back_rises : (ends : List ConnEnd) (first old new : ℕ) → first ≤ old → Rises old new → BackCount ends first new
+pub back_rises : (ends : List LinkEnd) (first old new : ℕ) → first ≤ old → Rises old new → BackCount ends first new
 back_rises ends first old new low rises = inr (rises_on first old new low rises)
 
 -- what a pass with this view knows
@@ -47,34 +47,34 @@ view_of_pass v = record { seen = v.seen; mine = v.mine }
 
 -- ===== one link
 
-pub started_by : (credits : ℕ) (before after : Between) (link : Option ConnEnd) → link ≡ None → TakesLink credits before link after → StartsLink before after
-started_by credits before after link none takes = subst (λ (l : Option ConnEnd). TakesLink credits before l after) none takes
+pub started_by : (credits : ℕ) (records : Bool) (before after : Between) (link : Option LinkEnd) → link ≡ None → TakesLink credits records before link after → StartsLink before after
+started_by credits records before after link none takes = subst (λ (l : Option LinkEnd). TakesLink credits records before l after) none takes
 
-pub served_by : (credits : ℕ) (before after : Between) (link : Option ConnEnd) (end : ConnEnd) → link ≡ Some end → TakesLink credits before link after → ServesLink credits before after end
-served_by credits before after link end is takes = subst (λ (l : Option ConnEnd). TakesLink credits before l after) is takes
+pub served_by : (credits : ℕ) (records : Bool) (before after : Between) (link : Option LinkEnd) (end : LinkEnd) → link ≡ Some end → TakesLink credits records before link after → ServesLink credits records before after end
+served_by credits records before after link end is takes = subst (λ (l : Option LinkEnd). TakesLink credits records before l after) is takes
 
-pub takes_started : (credits : ℕ) (before after : Between) (link : Option ConnEnd) (ends ends' : List ConnEnd) → link ≡ None → ends' ≡ ends → TakesLink credits before link after
-    → TakesOne credits before ends ends' after
-takes_started credits before after link ends ends' none same takes = record {
+pub takes_started : (credits : ℕ) (records : Bool) (before after : Between) (link : Option LinkEnd) (ends ends' : List LinkEnd) → link ≡ None → ends' ≡ ends → TakesLink credits records before link after
+    → TakesOne credits records before ends ends' after
+takes_started credits records before after link ends ends' none same takes = record {
   link = None;
   ends_are = same ∙ sym (append-nil ends);
-  takes = started_by credits before after link none takes;
+  takes = started_by credits records before after link none takes;
 }
 
-pub takes_served : (credits : ℕ) (before after : Between) (link : Option ConnEnd) (end : ConnEnd) (ends ends' : List ConnEnd) → link ≡ Some end → ends' ≡ ends ++ end ∷ []
-    → TakesLink credits before link after → TakesOne credits before ends ends' after
-takes_served credits before after link end ends ends' is items takes = record {
+pub takes_served : (credits : ℕ) (records : Bool) (before after : Between) (link : Option LinkEnd) (end : LinkEnd) (ends ends' : List LinkEnd) → link ≡ Some end → ends' ≡ ends ++ end ∷ []
+    → TakesLink credits records before link after → TakesOne credits records before ends ends' after
+takes_served credits records before after link end ends ends' is items takes = record {
   link = Some end;
   ends_are = items;
-  takes = served_by credits before after link end is takes;
+  takes = served_by credits records before after link end is takes;
 }
 
-pub back_started : (link : Option ConnEnd) (ends ends' : List ConnEnd) (first old new : ℕ) → link ≡ None → ends' ≡ ends → HandsBack link old new → BackCount ends first old → BackCount ends' first new
+pub back_started : (link : Option LinkEnd) (ends ends' : List LinkEnd) (first old new : ℕ) → link ≡ None → ends' ≡ ends → HandsBack link old new → BackCount ends first old → BackCount ends' first new
 back_started link ends ends' first old new none kept back count =
-    let same : new ≡ old = subst (λ (l : Option ConnEnd). HandsBack l old new) none back in
-    subst (λ (l : List ConnEnd). BackCount l first new) (sym kept) (back_same ends first old new same count)
+    let same : new ≡ old = subst (λ (l : Option LinkEnd). HandsBack l old new) none back in
+    subst (λ (l : List LinkEnd). BackCount l first new) (sym kept) (back_same ends first old new same count)
 
-pub back_served : (link : Option ConnEnd) (end : ConnEnd) (ends : List ConnEnd) (first old new : ℕ) → link ≡ Some end → HandsBack link old new → first ≤ old → BackCount ends first new
+pub back_served : (link : Option LinkEnd) (end : LinkEnd) (ends : List LinkEnd) (first old new : ℕ) → link ≡ Some end → HandsBack link old new → first ≤ old → BackCount ends first new
 back_served link end ends first old new is back low =
-    let rises : Rises old new = subst (λ (l : Option ConnEnd). HandsBack l old new) is back in
+    let rises : Rises old new = subst (λ (l : Option LinkEnd). HandsBack l old new) is back in
     back_rises ends first old new low rises

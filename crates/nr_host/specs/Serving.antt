@@ -1,13 +1,13 @@
 -- Connections that a server serves, each beside the others or by itself.
-use Rattle.std.specs.Prelude.{◌≡◌, ℕ, ◌+◌, ◌⊎◌, false, List, [], ◌∷◌, ◌++◌, Option, None, Some, IfSome}
+use Rattle.std.specs.Prelude.{◌≡◌, ℕ, ◌+◌, ◌⊎◌, Bool, false, List, [], ◌∷◌, ◌++◌, Option, None, Some, IfSome}
 use Rattle.nr_outside.specs.declared.moment.Moment.{Moment}
 use Rattle.nr_outside.specs.Faults.{Rises}
 use Rattle.nr_links.specs.Links.{EndedLink, LinkLog, CountsLost, EndsLink, IsNewLink, IsTold, MakesLink}
 use Rattle.nr_turnstile.specs.Rule.{Begins, in_order, longer}
 use Rattle.nr_plain.specs.History.{PassView}
-use Rattle.nr_host.specs.Ending.{SinkCount, SourceCount}
-use Rattle.nr_host.specs.Steps.{IsServed, outside, sink_state}
-use Rattle.nr_host.specs.declared.conn_end.ConnEnd.{ConnEnd}
+use Rattle.nr_host.specs.LinkServing.{IsLinkServed, LinkSinkCount, LinkSourceCount}
+use Rattle.nr_host.specs.Steps.{outside, sink_state}
+use Rattle.nr_host.specs.declared.link_end.LinkEnd.{LinkEnd}
 use Rattle.nr_host.specs.declared.serving.ServeFault.{ServeFault}
 use Rattle.nr_host.specs.declared.serving.ServeFault.TheVariants as faults
 
@@ -43,7 +43,7 @@ pub record JoinsPass (view own view' : PassView) : Type 0 where
 
 -- A link was accepted, served to its end by a pass of its own, and hung up: its source, and the sink that has the same number. `opened` is the link
 -- as it was accepted, `closed` as it was hung up. Its clock had given nothing.
-pub record ServesLink (credits : ℕ) (before after : Between) (end : ConnEnd) : Type 0 where
+pub record ServesLink (credits : ℕ) (records : Bool) (before after : Between) (end : LinkEnd) : Type 0 where
   pub opened : EndedLink
   pub closed : EndedLink
   pub log : Option LinkLog
@@ -57,32 +57,32 @@ pub record ServesLink (credits : ℕ) (before after : Between) (end : ConnEnd) :
   pub numbered : IfSome before.ended (λ log. log.made ≡ opened.number)
   pub same_number : closed.number ≡ opened.number
   pub new_clock : IfSome gave (λ given. given ≡ [])
-  pub served : IsServed credits (outside opened.left opened.given (sink_state opened.taken 0 false) gave (split_off before.view))
+  pub served : IsLinkServed credits records (outside opened.left opened.given (sink_state opened.taken 0 false) gave (split_off before.view))
       (outside closed.left closed.given (sink_state closed.taken sink_faults false) gave' own) end
   pub made : MakesLink before.ended log
   pub hung_up : EndsLink log after.ended closed
   pub lost : CountsLost source_faults sink_faults before.lost after.lost
-  pub source_count : SourceCount end 0 source_faults
-  pub sink_count : SinkCount end 0 sink_faults
+  pub source_count : LinkSourceCount end 0 source_faults
+  pub sink_count : LinkSinkCount end 0 sink_faults
   pub started : after.started ≡ before.started
   pub joins : JoinsPass before.view own after.view
 
 -- one link
-abbrev pub TakesLink : ℕ → Between → Option ConnEnd → Between → Type 0
-TakesLink credits before None after = StartsLink before after
-TakesLink credits before (Some end) after = ServesLink credits before after end
+abbrev pub TakesLink : (credits : ℕ) → (records : Bool) → Between → Option LinkEnd → Between → Type 0
+TakesLink credits records before None after = StartsLink before after
+TakesLink credits records before (Some end) after = ServesLink credits records before after end
 
 -- links that were taken so, one after another
-abbrev pub ServesAll : ℕ → Between → List (Option ConnEnd) → Between → Type 0
-ServesAll credits before [] after = after ≡ before
-ServesAll credits before (link ∷ links) after = (mid : Between) × (TakesLink credits before link mid × ServesAll credits mid links after)
+abbrev pub ServesAll : (credits : ℕ) → (records : Bool) → Between → List (Option LinkEnd) → Between → Type 0
+ServesAll credits records before [] after = after ≡ before
+ServesAll credits records before (link ∷ links) after = (mid : Between) × (TakesLink credits records before link mid × ServesAll credits records mid links after)
 
 -- the ends of those that were served here, in order
-abbrev pub end_of_link : Option ConnEnd → List ConnEnd
+abbrev pub end_of_link : Option LinkEnd → List LinkEnd
 end_of_link None = []
 end_of_link (Some end) = end ∷ []
 
-abbrev pub ends_of : List (Option ConnEnd) → List ConnEnd
+abbrev pub ends_of : List (Option LinkEnd) → List LinkEnd
 ends_of [] = []
 ends_of (link ∷ links) = end_of_link link ++ ends_of links
 
@@ -92,22 +92,22 @@ AcceptorCount faults.AcceptFault before after = Rises before after
 AcceptorCount faults.Memory before after = after ≡ before
 
 -- the fault count of a spawner: it rises if and only if it hands the job back
-abbrev pub HandsBack : Option ConnEnd → ℕ → ℕ → Type 0
+abbrev pub HandsBack : Option LinkEnd → ℕ → ℕ → Type 0
 HandsBack None before after = after ≡ before
 HandsBack (Some end) before after = Rises before after
 
 -- links were taken so, and these are the ends of those that were served here
-pub record Serves (credits : ℕ) (before : Between) (ends : List ConnEnd) (after : Between) : Type 0 where
-  pub links : List (Option ConnEnd)
+pub record Serves (credits : ℕ) (records : Bool) (before : Between) (ends : List LinkEnd) (after : Between) : Type 0 where
+  pub links : List (Option LinkEnd)
   pub ends_are : ends_of links ≡ ends
-  pub all : ServesAll credits before links after
+  pub all : ServesAll credits records before links after
 
 -- one link more was taken
-pub record TakesOne (credits : ℕ) (before : Between) (ends ends' : List ConnEnd) (after : Between) : Type 0 where
-  pub link : Option ConnEnd
+pub record TakesOne (credits : ℕ) (records : Bool) (before : Between) (ends ends' : List LinkEnd) (after : Between) : Type 0 where
+  pub link : Option LinkEnd
   pub ends_are : ends' ≡ ends ++ end_of_link link
-  pub takes : TakesLink credits before link after
+  pub takes : TakesLink credits records before link after
 
 -- no job was handed back, or the count of the spawner rose
-abbrev pub BackCount : List ConnEnd → ℕ → ℕ → Type 0
+abbrev pub BackCount : List LinkEnd → ℕ → ℕ → Type 0
 BackCount ends before after = (ends ≡ []) ⊎ Rises before after

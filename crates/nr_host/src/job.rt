@@ -4,11 +4,11 @@ ghost use Rattle.std.specs.Prelude.{◌≡◌, ℕ, false};
 ghost use Rattle.std.specs.Arc.{arc_value};
 ghost use Rattle.nr_turnstile.specs.Passes.{Rests};
 ghost use Rattle.nr_plain.specs.History.{pass_view};
-ghost use Rattle.nr_host.specs.Ending.{SinkCount, SourceCount};
-ghost use Rattle.nr_host.specs.Steps.{IsServed, outside, sink_state};
+ghost use Rattle.nr_host.specs.LinkServing.{IsLinkServed, LinkSinkCount, LinkSourceCount};
+ghost use Rattle.nr_host.specs.Steps.{outside, sink_state};
 
-use crate::conn_end::ConnEnd;
-use crate::connection::serve_connection;
+use crate::link::serve_link;
+use crate::link_end::LinkEnd;
 use nr_jobs::Job;
 use nr_links::{Clock, LinkNumber, LinkSink, LinkSource, NumberedSink, NumberedSource};
 use nr_plain::Server;
@@ -28,6 +28,7 @@ pub struct ServeJob<I: LinkSource, O: LinkSink, C, R> {
     pub pass: Pass<Server>,
     pub clock: C,
     pub credits: u32,
+    pub records: bool,
     ghost fits: { Rests (arc_value shared) pass },
     ghost same: { I.link source ≡ O.link sink },
 }
@@ -39,7 +40,7 @@ pub struct Carried<I, O, C> {
     pub sink: O,
     pub pass: Pass<Server>,
     pub clock: C,
-    pub end: ConnEnd,
+    pub end: LinkEnd,
 }
 
 /// Serves the connection of a link. The types keep the number of the link.
@@ -52,29 +53,23 @@ fn serve_numbered<N: LinkNumber, I: LinkSource, O: LinkSink, C: Clock, R: Wait>(
     pass: &mut Pass<Server>,
     clock: &mut C,
     credits: u32,
-) -> (I, O, ConnEnd)
+    records: bool,
+) -> (I, O, LinkEnd)
     requires rests { Rests shared.now pass.old }
     requires source { I.link source ≡ N.number }
     requires sink { O.link sink ≡ N.number }
     ensures rests { Rests shared.now pass.new }
-    ensures served { IsServed credits (outside (I.left source) (I.given source) (sink_state (O.taken sink) (O.faults sink) false) (C.gave clock.old) (pass_view pass.old))
+    ensures served { IsLinkServed credits records (outside (I.left source) (I.given source) (sink_state (O.taken sink) (O.faults sink) false) (C.gave clock.old) (pass_view pass.old))
         (outside (I.left result.0) (I.given result.0) (sink_state (O.taken result.1) (O.faults result.1) false) (C.gave clock.new) (pass_view pass.new)) result.2 }
-    ensures source_count { SourceCount result.2 (I.faults source) (I.faults result.0) }
-    ensures sink_count { SinkCount result.2 (O.faults sink) (O.faults result.1) }
+    ensures source_count { LinkSourceCount result.2 (I.faults source) (I.faults result.0) }
+    ensures sink_count { LinkSinkCount result.2 (O.faults sink) (O.faults result.1) }
     ensures source_link { I.link result.0 ≡ I.link source }
     ensures sink_link { O.link result.1 ≡ O.link sink }
 {
-    let mut source: NumberedSource<I, N> = NumberedSource::new(source);
+    let source: NumberedSource<I, N> = NumberedSource::new(source);
     let mut sink: NumberedSink<O, N> = NumberedSink::new(sink);
-    let end = serve_connection(
-        rt,
-        alloc,
-        &mut source,
-        &mut sink,
-        shared,
-        pass,
-        clock,
-        credits,
+    let (source, end) = serve_link(
+        rt, alloc, source, &mut sink, shared, pass, clock, credits, records,
     );
     (source.into_inner(), sink.into_inner(), end)
 }
@@ -89,10 +84,10 @@ impl<
 
     fn run(self) -> Carried<I, O, C>
         ensures rests { Rests (arc_value self.shared) result.pass }
-        ensures served { IsServed self.credits (outside (I.left self.source) (I.given self.source) (sink_state (O.taken self.sink) (O.faults self.sink) false) (C.gave self.clock) (pass_view self.pass))
+        ensures served { IsLinkServed self.credits self.records (outside (I.left self.source) (I.given self.source) (sink_state (O.taken self.sink) (O.faults self.sink) false) (C.gave self.clock) (pass_view self.pass))
             (outside (I.left result.source) (I.given result.source) (sink_state (O.taken result.sink) (O.faults result.sink) false) (C.gave result.clock) (pass_view result.pass)) result.end }
-        ensures source_count { SourceCount result.end (I.faults self.source) (I.faults result.source) }
-        ensures sink_count { SinkCount result.end (O.faults self.sink) (O.faults result.sink) }
+        ensures source_count { LinkSourceCount result.end (I.faults self.source) (I.faults result.source) }
+        ensures sink_count { LinkSinkCount result.end (O.faults self.sink) (O.faults result.sink) }
         ensures source_link { I.link result.source ≡ I.link self.source }
         ensures sink_link { O.link result.sink ≡ O.link self.sink }
     {
@@ -105,6 +100,7 @@ impl<
             pass,
             clock,
             credits,
+            records,
         } = self;
         let mut pass = pass;
         let mut clock = clock;
@@ -117,6 +113,7 @@ impl<
             &mut pass,
             &mut clock,
             credits,
+            records,
         );
         drop(shared);
         Carried {

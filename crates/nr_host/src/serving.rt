@@ -5,10 +5,10 @@ ghost use Rattle.std.specs.Arc.{arc_value};
 ghost use Rattle.nr_outside.specs.Faults.{Rises};
 ghost use Rattle.nr_turnstile.specs.Passes.{Rests};
 ghost use Rattle.nr_plain.specs.History.{pass_view};
-ghost use Rattle.nr_host.specs.declared.conn_end.ConnEnd.{ConnEnd};
+ghost use Rattle.nr_host.specs.declared.link_end.LinkEnd.{LinkEnd};
 ghost use Rattle.nr_host.specs.Serving.{AcceptorCount, BackCount, HandsBack, Serves, TakesLink, TakesOne, between};
 
-use crate::conn_end::ConnEnd;
+use crate::link_end::LinkEnd;
 use crate::job::{Carried, ServeJob};
 use nr_jobs::{Job, Spawner};
 use nr_links::{Acceptor, Clock};
@@ -20,7 +20,7 @@ use std::sync::{Arc, Wait};
 use std::thread::Threads;
 
 /// The ends of connections, in order.
-pub type Ends = Sequence<ConnEnd>;
+pub type Ends = Sequence<LinkEnd>;
 
 /// What a server served.
 #[derive(Drop)]
@@ -61,7 +61,8 @@ fn serve_next<A: Acceptor, C: Clock, P: Spawner, R: Threads + Wait + Copy + Drop
     pass: &mut Pass<Server>,
     clock: &C,
     credits: u32,
-) -> Result<Option<ConnEnd>, ServeFault>
+    records: bool,
+) -> Result<Option<LinkEnd>, ServeFault>
 where
     A::Source: Drop + Send + 'static,
     A::Sink: Drop + Send + 'static,
@@ -69,7 +70,7 @@ where
     requires rests { Rests (arc_value shared.now) pass.old }
     requires room { P.started spawner.old < 2 ^ 64 - 1 }
     ensures rests { Rests (arc_value shared.now) pass.new }
-    ensures served { IfOk result (λ link. TakesLink credits
+    ensures served { IfOk result (λ link. TakesLink credits records
         (between (A.ended acceptor.old) (A.lost acceptor.old) (P.started spawner.old) (pass_view pass.old)) link
         (between (A.ended acceptor.new) (A.lost acceptor.new) (P.started spawner.new) (pass_view pass.new))) }
     ensures err { OnErr result (between (A.ended acceptor.new) (A.lost acceptor.new) (P.started spawner.new) (pass_view pass.new)
@@ -98,6 +99,7 @@ where
         pass: shared.split(pass),
         clock: clock.another(),
         credits,
+        records,
     };
     let Err(back) = spawner.start(rt, alloc, job) else {
         return Ok(None);
@@ -126,8 +128,9 @@ fn serve_one<A: Acceptor, C: Clock, P: Spawner, R: Threads + Wait + Copy + Drop 
     pass: &mut Pass<Server>,
     clock: &C,
     credits: u32,
+    records: bool,
     started: &mut u64,
-    ends: &mut Vec<ConnEnd>,
+    ends: &mut Vec<LinkEnd>,
 ) -> Result<(), ServeFault>
 where
     A::Source: Drop + Send + 'static,
@@ -137,7 +140,7 @@ where
     requires room { P.started spawner.old < 2 ^ 64 - 1 }
     requires count { started.old < 2 ^ 64 - 1 }
     ensures rests { Rests (arc_value shared.now) pass.new }
-    ensures served { OnOk result (TakesOne credits
+    ensures served { OnOk result (TakesOne credits records
         (between (A.ended acceptor.old) (A.lost acceptor.old) (P.started spawner.old) (pass_view pass.old)) ends.old.items ends.new.items
         (between (A.ended acceptor.new) (A.lost acceptor.new) (P.started spawner.new) (pass_view pass.new))) }
     ensures one { OnOk result (started.new + length ends.new.items ≡ started.old + length ends.old.items + 1) }
@@ -157,7 +160,7 @@ where
     if ends.reserve(1).is_err() {
         return Err(ServeFault::Memory);
     }
-    let link = match serve_next(rt, alloc, acceptor, spawner, shared, pass, clock, credits) {
+    let link = match serve_next(rt, alloc, acceptor, spawner, shared, pass, clock, credits, records) {
         Ok(link) => link,
         Err(fault) => return Err(fault),
     };
@@ -183,8 +186,9 @@ fn take_links<A: Acceptor, C: Clock, P: Spawner, R: Threads + Wait + Copy + Drop
     pass: &mut Pass<Server>,
     clock: &C,
     credits: u32,
+    records: bool,
     connections: u32,
-    ends: &mut Vec<ConnEnd>,
+    ends: &mut Vec<LinkEnd>,
 ) -> Result<u64, ServeFault>
 where
     A::Source: Drop + Send + 'static,
@@ -194,7 +198,7 @@ where
     requires room { P.started spawner.old < 2 ^ 63 }
     requires none { ends.old.items ≡ [] }
     ensures rests { Rests (arc_value shared.now) pass.new }
-    ensures served { Serves credits
+    ensures served { Serves credits records
         (between (A.ended acceptor.old) (A.lost acceptor.old) (P.started spawner.old) (pass_view pass.old)) ends.new.items
         (between (A.ended acceptor.new) (A.lost acceptor.new) (P.started spawner.new) (pass_view pass.new)) }
     ensures all { IfOk result (λ started. (started + length ends.new.items ≡ connections) × (P.started spawner.new ≡ P.started spawner.old + started)) }
@@ -216,6 +220,7 @@ where
             pass,
             clock,
             credits,
+            records,
             &mut started,
             ends,
         ) {
@@ -243,6 +248,7 @@ pub fn serve<A: Acceptor, C: Clock, P: Spawner, R: Threads + Wait + Copy + Drop 
     pass: &mut Pass<Server>,
     clock: &C,
     credits: u32,
+    records: bool,
     connections: u32,
 ) -> Result<Ran, ServeFault>
 where
@@ -252,13 +258,13 @@ where
     requires rests { Rests (arc_value shared.now) pass.old }
     requires room { P.started spawner.old < 2 ^ 63 }
     ensures rests { Rests (arc_value shared.now) pass.new }
-    ensures served { IfOk result (λ ran. Serves credits
+    ensures served { IfOk result (λ ran. Serves credits records
         (between (A.ended acceptor.old) (A.lost acceptor.old) (P.started spawner.old) (pass_view pass.old)) ran.ends
         (between (A.ended acceptor.new) (A.lost acceptor.new) (P.started spawner.new) (pass_view pass.new))) }
     ensures all { IfOk result (λ ran. (ran.started + length ran.ends ≡ connections) × (P.started spawner.new ≡ P.started spawner.old + ran.started)) }
     ensures back { IfOk result (λ ran. BackCount ran.ends (P.faults spawner.old) (P.faults spawner.new)) }
     ensures ended { P.ended spawner.new ≡ P.started spawner.new }
-    ensures err { OnErr result ((ends : List ConnEnd) × ((P.started spawner.new + length ends < P.started spawner.old + connections) × Serves credits
+    ensures err { OnErr result ((ends : List LinkEnd) × ((P.started spawner.new + length ends < P.started spawner.old + connections) × Serves credits records
         (between (A.ended acceptor.old) (A.lost acceptor.old) (P.started spawner.old) (pass_view pass.old)) ends
         (between (A.ended acceptor.new) (A.lost acceptor.new) (P.started spawner.new) (pass_view pass.new)))) }
     ensures counted { MatchResult result
@@ -277,6 +283,7 @@ where
         pass,
         clock,
         credits,
+        records,
         connections,
         &mut ends,
     );

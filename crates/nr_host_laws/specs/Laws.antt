@@ -29,6 +29,7 @@ use Rattle.nr_host.specs.Serving.{Between, ServesLink, split_off}
 use Rattle.nr_host.specs.Steps.{IsServed, outside, sink_state, with_failed}
 use Rattle.nr_host.specs.declared.conn_end.ConnEnd.{ConnEnd}
 use Rattle.nr_host.specs.declared.conn_end.ConnEnd.TheVariants as ends
+use Rattle.nr_host.specs.declared.link_end.LinkEnd.TheVariants as link_ends
 use Rattle.nr_host_laws.specs.Streams.{IsCompleteStream, ServesStream}
 
 -- `Closed`, after all of the stream, whatever number the link has in the marks; or memory ran out
@@ -54,10 +55,10 @@ ConnectionsComplete =
     IsHistory first J before.view.seen → before.left ≡ Some stream → IsCompleteStream credits (setup_in first) J stream →
     Completes credits first J before after stream end
 
--- A link of `serve`. The count of lost links doesn't rise.
+-- A link of `serve`, of a server without record marks. The count of lost links doesn't rise.
 abbrev pub LinksComplete : Type 0
 LinksComplete =
-    (credits : ℕ) (before after : Between) (end : ConnEnd) (first : Opening) (J : List Entry) (stream : List ℕ) (served : ServesLink credits before after end) →
+    (credits : ℕ) (before after : Between) (end : ConnEnd) (first : Opening) (J : List Entry) (stream : List ℕ) (served : ServesLink credits false before after (link_ends.Rdma end)) →
     (Rises before.lost after.lost → ⊥) →
     IsHistory first J before.view.seen → served.opened.left ≡ Some stream → IsCompleteStream credits (setup_in first) J stream →
     Completes credits first J

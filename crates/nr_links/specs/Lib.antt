@@ -6,3 +6,4 @@ pub mod MemClock
 pub mod MemLinks
 pub mod Moments
 pub mod NetState
+pub mod Peeked

@@ -11,6 +11,7 @@
 //! is unknown to the proof.
 #![tactic(auto)]
 
+mod accept_errors;
 mod clock;
 mod counted;
 mod limits;
@@ -21,6 +22,7 @@ mod mem_clock;
 mod mem_dialer;
 mod mem_links;
 mod numbered;
+mod peeked;
 mod system_clock;
 mod tcp;
 mod tcp_acceptor;
@@ -28,7 +30,7 @@ mod tcp_dialer;
 
 pub use clock::Clock;
 pub use counted::Counted;
-pub use limits::{PIECE_MAX, READ_MAX};
+pub use limits::{IDLE_SECONDS, PIECE_MAX, READ_MAX};
 pub use link_halves::{LinkSink, LinkSource};
 pub use links::{Acceptor, Dialer};
 pub use mem_acceptor::MemAcceptor;
@@ -36,6 +38,7 @@ pub use mem_clock::MemClock;
 pub use mem_dialer::MemDialer;
 pub use mem_links::{LinkPlan, MemLink};
 pub use numbered::{LinkNumber, NumberedSink, NumberedSource};
+pub use peeked::Peeked;
 pub use system_clock::SystemClock;
 pub use tcp::{SendHalf, TcpSink, TcpSource};
 pub use tcp_acceptor::TcpAcceptor;

@@ -6,6 +6,7 @@ use nr_outside::{StdSink, StdSource};
 use std::io;
 use std::io::Write;
 use std::net::{Shutdown, TcpStream};
+use std::time::Duration;
 
 /// The half of a stream that sends. When it is dropped it shuts its direction down, so that the peer reads what was sent
 /// and then the end, also if the stream still has bytes that nobody read.
@@ -37,12 +38,20 @@ impl Write for SendHalf {
     }
 }
 
-/// Both halves of a stream, which sends each write at once, as the link of this number.
-pub(crate) fn halves(stream: TcpStream, number: u64) -> io::Result<(TcpSource, TcpSink)>
+/// Both halves of a stream, as the link of this number. It sends each write at once, and a read or a write that waits longer
+/// than this many seconds fails.
+pub(crate) fn halves(
+    stream: TcpStream,
+    number: u64,
+    idle_seconds: u64,
+) -> io::Result<(TcpSource, TcpSink)>
     ensures source { IfOk result (λ link. (link.0.faults ≡ 0) × (link.0.link ≡ number)) }
     ensures sink { IfOk result (λ link. (link.1.faults ≡ 0) × (link.1.link ≡ number)) }
 {
+    let limit = Some(Duration::from_secs(idle_seconds));
     stream.set_nodelay(true)?;
+    stream.set_read_timeout(limit)?;
+    stream.set_write_timeout(limit)?;
     let other = stream.try_clone()?;
     Ok((
         Counted::new(StdSource::new(stream), number),

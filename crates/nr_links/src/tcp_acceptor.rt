@@ -1,14 +1,23 @@
-ghost use Rattle.std.specs.Prelude.{◌≡◌, ◌≤◌, true, false, None, IfOk, OnOk, OnErr, IsErr, MatchResult, is_some};
+ghost use Rattle.std.specs.Prelude.{◌≡◌, ◌≤◌, ◌<◌, true, false, None, IfOk, IfSome, OnOk, OnErr, IsErr, MatchResult, is_some};
 ghost use Rattle.nr_outside.specs.Faults.{next_count};
 ghost use Rattle.nr_links.specs.Links.{CountsLost};
 
+use crate::accept_errors::{AfterError, after_error};
+use crate::limits::IDLE_SECONDS;
 use crate::links::Acceptor;
 use crate::tcp::{TcpSink, TcpSource, closed, halves};
 use nr_outside::Failed;
-use std::io;
 use std::io::ErrorKind;
 use std::marker::Model;
 use std::net::{Net, TcpListener, TcpStream};
+use std::time::{Clock, Duration};
+use std::{io, thread};
+
+/// How long an acceptor waits for descriptors or memory before it tries again.
+const PAUSE_MILLISECONDS: u64 = 100;
+
+/// How often it waits so for one link, for about an hour.
+const PAUSES_MAX: u64 = 36000;
 
 /// An acceptor of TCP. Each error is a fault. What the links carry is unknown, so it is trusted for the content.
 #[derive(Drop)]
@@ -18,6 +27,7 @@ pub struct TcpAcceptor<N> {
     faults: u64,
     lost: u64,
     next: u64,
+    idle_seconds: u64,
 }
 
 impl<N> Model for TcpAcceptor<N> {
@@ -34,12 +44,21 @@ impl<N> TcpAcceptor<N> {
     pub fn new(net: N) -> TcpAcceptor<N>
         ensures { result ≡ record { faults = 0; lost = 0; next = 0; listens = false } }
     {
+        TcpAcceptor::with_idle_limit(net, IDLE_SECONDS)
+    }
+
+    /// The same, with another limit of what a read or a write of its links waits, in seconds.
+    pub fn with_idle_limit(net: N, idle_seconds: u64) -> TcpAcceptor<N>
+        requires { 0 < idle_seconds }
+        ensures { result ≡ record { faults = 0; lost = 0; next = 0; listens = false } }
+    {
         TcpAcceptor {
             net,
             listener: None,
             faults: 0,
             lost: 0,
             next: 0,
+            idle_seconds,
         }
     }
 
@@ -64,27 +83,53 @@ impl<N> TcpAcceptor<N> {
     }
 }
 
-/// The next stream. A peer that went away before it was taken is passed over, and so is one whose stream can't be set up: an
-/// error of one peer's stream is none of the listener.
-fn take(listener: &TcpListener, number: u64) -> io::Result<(TcpSource, TcpSink)>
+/// The next stream, as the link of this number. `None` if it can't be set up: an error of one peer's stream is none of the listener.
+fn accept_one(
+    listener: &TcpListener,
+    number: u64,
+    idle_seconds: u64,
+) -> io::Result<Option<(TcpSource, TcpSink)>>
+    ensures source { IfOk result (λ found. IfSome found (λ link. (link.0.faults ≡ 0) × (link.0.link ≡ number))) }
+    ensures sink { IfOk result (λ found. IfSome found (λ link. (link.1.faults ≡ 0) × (link.1.link ≡ number))) }
+{
+    // A link takes two descriptors. The second one is had before a peer is accepted, who would else be turned away without it.
+    let spare = listener.try_clone()?;
+    let (stream, _) = listener.accept()?;
+    drop(spare);
+    Ok(halves(stream, number, idle_seconds).ok())
+}
+
+/// The next stream, as the link of this number. Passes over a peer that went away before it was taken, and tries again after errors of
+/// the network. Without descriptors or memory it waits for some.
+fn take<C: Clock>(
+    clock: &C,
+    listener: &TcpListener,
+    number: u64,
+    idle_seconds: u64,
+) -> io::Result<(TcpSource, TcpSink)>
     ensures source { IfOk result (λ link. (link.0.faults ≡ 0) × (link.0.link ≡ number)) }
     ensures sink { IfOk result (λ link. (link.1.faults ≡ 0) × (link.1.link ≡ number)) }
 {
+    let mut pauses = 0u64;
     for _ in 0..u64::MAX {
-        match listener.accept() {
-            Ok((stream, _)) => {
-                if let Ok(link) = halves(stream, number) {
-                    return Ok(link);
-                }
+        let error = match accept_one(listener, number, idle_seconds) {
+            Ok(Some(link)) => return Ok(link),
+            Ok(None) => continue,
+            Err(error) => error,
+        };
+        match after_error(&error) {
+            AfterError::Again => {}
+            AfterError::Later if pauses < PAUSES_MAX => {
+                pauses += 1;
+                thread::sleep(clock, Duration::from_millis(PAUSE_MILLISECONDS));
             }
-            Err(error) if error.kind() == ErrorKind::ConnectionAborted => {}
-            Err(error) => return Err(error),
+            _ => return Err(error),
         }
     }
     Err(io::Error::from(ErrorKind::ConnectionAborted))
 }
 
-impl<N: Net<Stream = TcpStream, Listener = TcpListener>> Acceptor for TcpAcceptor<N> {
+impl<N: Net<Stream = TcpStream, Listener = TcpListener> + Clock> Acceptor for TcpAcceptor<N> {
     type Source = TcpSource;
 
     type Sink = TcpSink;
@@ -126,7 +171,7 @@ impl<N: Net<Stream = TcpStream, Listener = TcpListener>> Acceptor for TcpAccepto
         let Some(listener) = &self.listener else {
             return Err(self.fail());
         };
-        match take(listener, self.next) {
+        match take(&self.net, listener, self.next, self.idle_seconds) {
             Ok(link) => {
                 self.next = self.next.saturating_add(1);
                 Ok(link)

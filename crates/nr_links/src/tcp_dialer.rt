@@ -2,6 +2,7 @@ ghost use Rattle.std.specs.Prelude.{◌≡◌, ◌≤◌, None, IfOk, OnOk, OnEr
 ghost use Rattle.nr_outside.specs.Faults.{next_count};
 ghost use Rattle.nr_links.specs.Links.{CountsLost};
 
+use crate::limits::IDLE_SECONDS;
 use crate::links::Dialer;
 use crate::tcp::{TcpSink, TcpSource, closed, halves};
 use nr_outside::Failed;
@@ -49,7 +50,7 @@ fn connect<N: Net<Stream = TcpStream, Listener = TcpListener>>(
     ensures source { IfOk result (λ link. (link.0.faults ≡ 0) × (link.0.link ≡ number)) }
     ensures sink { IfOk result (λ link. (link.1.faults ≡ 0) × (link.1.link ≡ number)) }
 {
-    halves(TcpStream::connect(net, addr)?, number)
+    halves(TcpStream::connect(net, addr)?, number, IDLE_SECONDS)
 }
 
 impl<N: Net<Stream = TcpStream, Listener = TcpListener>> Dialer for TcpDialer<N> {

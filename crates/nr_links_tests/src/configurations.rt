@@ -25,10 +25,25 @@ fn largest_values(rt: HostRuntime) {
     same(&rt, 3, config.capacity, 9223372036854775807);
     same(&rt, 4, config.connections, 4294967295);
     same(&rt, 5, config.write_verifier, [0, 0, 0, 0, 0, 0, 0, 255]);
+    same(&rt, 6, config.records, false);
+}
+
+/// A line beside the six, and whether records are served then.
+static RECORD: [(&str, bool); 2] = [("record = true", true), ("record = false", false)];
+
+#[test]
+fn records_over_tcp(rt: HostRuntime) {
+    for (row, (line, records)) in RECORD.iter().enumerate() {
+        let text = text(&rt, rt.alloc(), "1", "0000000000000000", *line);
+        let Ok(config) = read_config(rt.alloc(), text.as_bytes()) else {
+            panic!(rt; "no configuration")
+        };
+        same(&rt, row, config.records, *records);
+    }
 }
 
 /// A value of `credits`, one of `write_verifier`, and another line.
-static BAD: [(&str, &str, &str); 7] = [
+static BAD: [(&str, &str, &str); 9] = [
     ("0", "0000000000000000", ""),
     ("65", "0000000000000000", ""),
     ("\"1\"", "0000000000000000", ""),
@@ -36,6 +51,8 @@ static BAD: [(&str, &str, &str); 7] = [
     ("1", "000000000000000", ""),
     ("1", "0000000000000000", "x = 1\n"),
     ("1", "0000000000000000", "credits = 1\n"),
+    ("1", "0000000000000000", "record = 1\n"),
+    ("1", "0000000000000000", "records = true\n"),
 ];
 
 #[test]
@@ -45,6 +62,6 @@ fn texts_that_are_none(rt: HostRuntime) {
         let fault = read_config(rt.alloc(), text.as_bytes()).err();
         same(&rt, row, fault == Some(ConfigFault::Bad), true);
     }
-    same(&rt, 7, read_config(rt.alloc(), b"").is_err(), true);
-    same(&rt, 8, read_config(rt.alloc(), b"\xff").is_err(), true);
+    same(&rt, 9, read_config(rt.alloc(), b"").is_err(), true);
+    same(&rt, 10, read_config(rt.alloc(), b"\xff").is_err(), true);
 }

@@ -1,12 +1,16 @@
 //! Links over TCP. One thread suffices: a connection waits in the backlog until it is accepted.
 
+ghost use Rattle.std.specs.Prelude.{◌≡◌};
+
 use crate::compare::same;
 use nr_links::{Acceptor, Dialer, TcpAcceptor, TcpDialer, TcpSink, TcpSource};
-use nr_outside::{Sink, Source, write_whole};
+use nr_outside::{Sink, Source};
 use std::process::Abort;
 
 /// Ends the test if the next read is not these bytes.
-fn reads(rt: &impl Abort, source: &mut TcpSource, want: &[u8]) {
+fn reads(rt: &impl Abort, source: &mut TcpSource, want: &[u8])
+    ensures { source.new.link ≡ source.old.link }
+{
     let mut buf = [0u8; 8];
     let Ok(n) = source.read(&mut buf) else {
         panic!(rt; "no read")
@@ -14,8 +18,14 @@ fn reads(rt: &impl Abort, source: &mut TcpSource, want: &[u8]) {
     same(rt, n, &buf[..n] == want, true);
 }
 
-fn sends(rt: &impl Abort, sink: &mut TcpSink, bytes: &[u8]) {
-    same(rt, 0, write_whole(sink, bytes).is_ok(), true);
+/// Ends the test if one write doesn't take these bytes.
+fn sends(rt: &impl Abort, sink: &mut TcpSink, bytes: &[u8])
+    ensures { sink.new.link ≡ sink.old.link }
+{
+    let Ok(n) = sink.write(bytes) else {
+        panic!(rt; "no write")
+    };
+    same(rt, n, n == bytes.len(), true);
 }
 
 /// Both directions carry bytes. The side that hangs up without reading leaves what it sent, and then the end.
@@ -73,6 +83,31 @@ fn client_goes_away_before_it_is_accepted(rt: HostRuntime) {
     sends(&rt, &mut to_them, b"hello");
     reads(&rt, &mut second, b"hello");
     acceptor.hang_up(second, to_second);
+    dialer.hang_up(ours, to_them);
+}
+
+/// A read that waits longer than the limit, here a second, fails. What comes later can still be read.
+#[test]
+fn peer_that_sends_nothing(rt: HostRuntime) {
+    let mut acceptor = TcpAcceptor::with_idle_limit(rt, 1);
+    same(&rt, 0, acceptor.listen("127.0.0.1:0").is_ok(), true);
+    let Some(port) = acceptor.port() else {
+        panic!(rt; "no port")
+    };
+    let addr = format!(in rt.alloc(); "127.0.0.1:{port}").expect(&rt, "memory");
+    let mut dialer = TcpDialer::new(rt);
+    let Ok((ours, mut to_them)) = dialer.dial(addr.as_str()) else {
+        panic!(rt; "no dial")
+    };
+    let Ok((mut theirs, to_us)) = acceptor.accept() else {
+        panic!(rt; "no link")
+    };
+    let mut buf = [0u8; 8];
+    same(&rt, 1, theirs.read(&mut buf).is_err(), true);
+    same(&rt, 2, theirs.faults(), 1);
+    sends(&rt, &mut to_them, b"late");
+    reads(&rt, &mut theirs, b"late");
+    acceptor.hang_up(theirs, to_us);
     dialer.hang_up(ours, to_them);
 }
 

@@ -1,8 +1,10 @@
 -- What grows keeps its pieces.
 use Rattle.std.proofs.Common.{◌≡◌, ℕ, zero, suc, ◌+◌, ◌-◌, ◌≤◌, ◌<◌, arith, Bool, true, false, if◌then◌else◌, List, [], ◌∷◌, ◌++◌, length, take, drop, get_or, set, refl, sym, ap, subst, ◌∙◌, append-nil, append_assoc, length-append}
+use Rattle.std.specs.Prelude.{Result, Ok, Err, OnOk}
 use Rattle.std.proofs.lemmas.List.{take-append-le, drop-append-le, length-drop, take_all, drop_at, get_or-set_same, get_or_default}
 use Rattle.nr_marks.specs.declared.stores.Piece.{Piece}
-use Rattle.nr_marks.specs.Pieces.{Grows, IsWithin, Holds, bytes_in}
+use Rattle.std.proofs.lemmas.List.Sums.{sum_by-set, sum_by_push}
+use Rattle.nr_marks.specs.Pieces.{Grows, IsWithin, Holds, bytes_in, stored_len}
 
 pub grows_same : (old : List (List ℕ)) → Grows old old
 grows_same old = record { more = λ k. []; is = λ k. sym (append-nil (get_or old k [])) }
@@ -89,3 +91,39 @@ holds_write old store at len own new bytes there lt at_end all is =
     let own_is : own ≡ get_or old store [] = there ∙ get_or_default old store own [] lt in
     holds_appended old (set old store new) (record { store = store; at = at; len = len }) bytes lt (at_end ∙ ap (λ (xs : List ℕ). length xs) own_is) all
     (ap (λ (xs : List ℕ). set old store xs) (is ∙ ap (λ xs. xs ++ bytes) own_is))
+
+-- ===== how many bytes the stores have
+
+pub if_any : {T E : Type 0} (r : Result T E) (P : Type 0) → P → OnOk r P
+if_any (Ok x) P h = h
+if_any (Err e) P h = tt
+
+pub stored_is : (old new : List (List ℕ)) → new ≡ old → stored_len new ≡ stored_len old
+stored_is old new e = ap stored_len e
+
+pub stored_push : (now old new : List (List ℕ)) (store : List ℕ) → old ≡ now → store ≡ [] → new ≡ old ++ store ∷ [] → stored_len new ≡ stored_len now
+stored_push now old new store same empty is =
+    let sum : stored_len (old ++ store ∷ []) ≡ stored_len old + length store = sum_by_push length old store in
+    let total : stored_len old ≡ stored_len now = ap stored_len same in
+    let all : stored_len new ≡ stored_len (old ++ store ∷ []) = ap stored_len is in
+    let none : length store ≡ 0 = ap (λ (xs : List ℕ). length xs) empty in
+    omega (arith, sum, total, all, none)
+
+pub length_push : (now old new : List (List ℕ)) (store : List ℕ) → old ≡ now → new ≡ old ++ store ∷ [] → length new ≡ length now + 1
+length_push now old new store same is =
+    let all : length new ≡ length old + 1 = ap (λ (ss : List (List ℕ)). length ss) is ∙ length-append old (store ∷ []) in
+    let total : length old ≡ length now = ap (λ (ss : List (List ℕ)). length ss) same in
+    omega (arith, all, total)
+
+-- a store that is written has as many more as are appended
+pub stored_write : (now old : List (List ℕ)) (at : ℕ) (own new bytes : List ℕ) → old ≡ now → own ≡ get_or old at own → at < length old → new ≡ own ++ bytes →
+    stored_len (set old at new) ≡ stored_len now + length bytes
+stored_write now old at own new bytes same there lt is =
+    let sum : stored_len (set old at new) + length (get_or old at own) ≡ stored_len old + length new = sum_by-set length old at new own lt in
+    let here : length (get_or old at own) ≡ length own = ap (λ (xs : List ℕ). length xs) (sym there) in
+    let more : length new ≡ length own + length bytes = ap (λ (xs : List ℕ). length xs) is ∙ length-append own bytes in
+    let total : stored_len old ≡ stored_len now = ap stored_len same in
+    omega (arith, sum, here, more, total)
+
+pub store_there : (now old : List (List ℕ)) (at : ℕ) → old ≡ now → at < length now → at < length old
+store_there now old at same lt = subst (λ (ss : List (List ℕ)). at < length ss) (sym same) lt

@@ -1,6 +1,7 @@
 -- What is kept stands when the stores grow.
 use Rattle.std.proofs.Common.{◌≡◌, ℕ, zero, suc, ◌+◌, ◌≤◌, ◌<◌, arith, length-append, Bool, true, false, if◌then◌else◌, List, [], ◌∷◌, ◌++◌, length, get_or, refl, sym, ap, subst, ◌∙◌}
-use Rattle.std.specs.Prelude.{Option, Some, None, Result, Ok, Err, OnOk, is_ok}
+use Rattle.std.specs.Prelude.{Option, Some, None, Result, Ok, Err, OnOk, is_ok, sum_by}
+use Rattle.std.proofs.lemmas.List.Sums.{sum_by-append, sum_by_push}
 use Rattle.std.specs.Option.{option_to_list}
 use Rattle.std.proofs.lemmas.List.{map-append, length-map}
 use Rattle.nr_reduce.specs.declared.mark.Mark.{Mark}
@@ -8,9 +9,9 @@ use Rattle.nr_reduce.specs.declared.mark.Mark.TheVariants as marks
 use Rattle.nr_reduce.specs.declared.call.Outcome.TheVariants as outcomes
 use Rattle.nr_marks.specs.declared.kept.Kept.{Kept}
 use Rattle.nr_marks.specs.declared.kept.Kept.TheVariants as kinds
-use Rattle.nr_marks.specs.Views.{plain_submit}
-use Rattle.nr_marks.specs.Pieces.{Grows}
-use Rattle.nr_marks.specs.KeptMarks.{mark_of, IsKept, Keeps, marks_of, AreKept}
+use Rattle.nr_marks.specs.Views.{plain_submit, mark_len, marks_len}
+use Rattle.nr_marks.specs.Pieces.{Grows, stored_len}
+use Rattle.nr_marks.specs.KeptMarks.{mark_of, IsKept, Keeps, marks_of, AreKept, own_len, kept_len}
 use Rattle.nr_marks.proofs.Growing.{within_grown, bytes_grown}
 
 pub kept_grown : (old new : List (List ℕ)) (k : Kept) → Grows old new → IsKept old k → IsKept new k
@@ -102,3 +103,57 @@ count_of stores ks waiting now same =
     let kept : length (marks_of stores ks) ≡ length ks = length-map ks (mark_of stores) in
     let few : length (option_to_list waiting) ≤ 1 = at_most_one waiting in
     omega (arith, len, kept, few)
+
+-- ===== how many bytes are kept
+
+-- a mark is added after the stores grew by no more than it has
+pub one_fits : (before stores : List (List ℕ)) (old new : List Kept) (k : Kept) (len : ℕ) → stored_len stores + own_len k ≤ stored_len before + len → new ≡ old ++ k ∷ [] →
+    kept_len stores new ≤ kept_len before old + len
+one_fits before stores old new k len few is =
+    let own : sum_by own_len new ≡ sum_by own_len old + own_len k = ap (sum_by own_len) is ∙ sum_by_push own_len old k in
+    omega (arith, few, own)
+
+pub settled_fits : {E : Type 0} (r : Result (Unit {0}) E) (before stores : List (List ℕ)) (old new : List Kept) (k : Kept) (mark : Mark) (waiting : Option Mark)
+    → waiting ≡ Some mark → stored_len stores + own_len k ≤ stored_len before + mark_len mark → new ≡ (if is_ok r then old ++ k ∷ [] else old)
+    → OnOk r (kept_len stores new ≤ kept_len before old + marks_len (option_to_list waiting))
+settled_fits (Ok x) before stores old new k mark waiting waits few is =
+    let one : marks_len (option_to_list waiting) ≡ mark_len mark = ap (λ (o : Option Mark). marks_len (option_to_list o)) waits in
+    let all : kept_len stores new ≤ kept_len before old + mark_len mark = one_fits before stores old new k (mark_len mark) few is in
+    omega (arith, one, all)
+settled_fits (Err e) before stores old new k mark waiting waits few is = tt
+
+-- and one more after it, for which the stores grew first
+pub both_fit : {E : Type 0} (r : Result (Unit {0}) E) (before stores later : List (List ℕ)) (old between new : List Kept) (k : Kept) (mark : Mark) (waiting : ℕ)
+    → stored_len stores + own_len k ≤ stored_len before + mark_len mark → kept_len later between ≤ kept_len stores old + waiting → new ≡ (if is_ok r then between ++ k ∷ [] else between)
+    → OnOk r (kept_len later new ≤ (kept_len before old + waiting) + mark_len mark)
+both_fit (Ok x) before stores later old between new k mark waiting few settled is =
+    let own : sum_by own_len new ≡ sum_by own_len between + own_len k = ap (sum_by own_len) is ∙ sum_by_push own_len between k in
+    omega (arith, few, settled, own)
+both_fit (Err e) before stores later old between new k mark waiting few settled is = tt
+
+-- the marks have more than is kept, if what is added fits
+pub log_fits : (before stores : List (List ℕ)) (old new : List Kept) (more : List Mark) → kept_len before old ≤ marks_len (marks_of before old) → kept_len stores new ≤ kept_len before old + marks_len more →
+    marks_of stores new ≡ marks_of before old ++ more → kept_len stores new ≤ marks_len (marks_of stores new)
+log_fits before stores old new more fits added is =
+    let all : marks_len (marks_of stores new) ≡ marks_len (marks_of before old) + marks_len more = ap marks_len is ∙ sum_by-append mark_len (marks_of before old) more in
+    omega (arith, fits, added, all)
+
+pub log_fits_both : (before stores : List (List ℕ)) (old new : List Kept) (waiting : List Mark) (mark : Mark) → kept_len before old ≤ marks_len (marks_of before old) →
+    kept_len stores new ≤ (kept_len before old + marks_len waiting) + mark_len mark → marks_of stores new ≡ (marks_of before old ++ waiting) ++ mark ∷ [] → kept_len stores new ≤ marks_len (marks_of stores new)
+log_fits_both before stores old new waiting mark fits added is =
+    let first : marks_len (marks_of before old ++ waiting) ≡ marks_len (marks_of before old) + marks_len waiting = sum_by-append mark_len (marks_of before old) waiting in
+    let all : marks_len (marks_of stores new) ≡ marks_len (marks_of before old ++ waiting) + mark_len mark = ap marks_len is ∙ sum_by_push mark_len (marks_of before old ++ waiting) mark in
+    omega (arith, fits, added, first, all)
+
+-- what a log holds
+pub held_fits : (stores : List (List ℕ)) (ks : List Kept) (waiting : Option Mark) (now : List Mark) → marks_of stores ks ++ option_to_list waiting ≡ now → kept_len stores ks ≤ marks_len (marks_of stores ks) →
+    kept_len stores ks + marks_len (option_to_list waiting) ≤ marks_len now
+held_fits stores ks waiting now same fits =
+    let all : marks_len now ≡ marks_len (marks_of stores ks) + marks_len (option_to_list waiting) = ap marks_len (sym same) ∙ sum_by-append mark_len (marks_of stores ks) (option_to_list waiting) in
+    omega (arith, fits, all)
+
+pub entries_are_few : (stores : List (List ℕ)) (ks : List Kept) (waiting : Option Mark) (now : List Mark) → marks_of stores ks ++ option_to_list waiting ≡ now → length ks ≤ length now
+entries_are_few stores ks waiting now same =
+    let len : length now ≡ length (marks_of stores ks) + length (option_to_list waiting) = ap (λ (ms : List Mark). length ms) (sym same) ∙ length-append (marks_of stores ks) (option_to_list waiting) in
+    let kept : length (marks_of stores ks) ≡ length ks = length-map ks (mark_of stores) in
+    omega (arith, len, kept)

@@ -1,6 +1,18 @@
 -- Pieces of stores of bytes.
-use Rattle.std.specs.Prelude.{◌≡◌, ℕ, ◌+◌, ◌≤◌, List, [], ◌++◌, length, take, drop, get_or}
+use Rattle.std.specs.Prelude.{◌≡◌, ℕ, ◌+◌, ◌≤◌, List, [], ◌++◌, length, take, drop, get_or, sum_by}
 use Rattle.nr_marks.specs.declared.stores.Piece.{Piece}
+
+-- how many bytes all stores have
+abbrev pub stored_len : List (List ℕ) → ℕ
+stored_len stores = sum_by length stores
+
+-- at most so many stores: that of bytes that are found nowhere else, one without use, and two for each of 16 links
+abbrev pub stores_max : ℕ
+stores_max = 35
+
+-- at most so many pieces are noted: of each of 16 links, and of all others together, a payload and a reply of 16 calls
+abbrev pub slots_max : ℕ
+slots_max = 544
 
 -- the bytes of a piece
 abbrev pub bytes_in : List (List ℕ) → Piece → List ℕ

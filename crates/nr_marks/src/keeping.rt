@@ -1,17 +1,18 @@
 //! Marks that are put into the form in which they are kept.
 
-ghost use Rattle.std.specs.Prelude.{◌≡◌, ℕ, List, IfOk, IfSome, IsTrue};
+ghost use Rattle.std.specs.Prelude.{◌≡◌, ℕ, ◌+◌, ◌≤◌, List, length, IfOk, IfSome, OnOk, IsTrue};
 ghost use Rattle.nr_rpc.specs.declared.cred.Cred.TheVariants as creds;
 ghost use Rattle.nr_reduce.specs.declared.call.Form.TheVariants as forms;
 ghost use Rattle.nr_reduce.specs.declared.call.Outcome.TheVariants as outcomes;
 ghost use Rattle.nr_reduce.specs.declared.call.Submission.TheVariants as submissions;
 ghost use Rattle.nr_reduce.specs.declared.mark.Mark.TheVariants as marks;
-ghost use Rattle.nr_marks.specs.Pieces.{Grows, Holds};
-ghost use Rattle.nr_marks.specs.KeptMarks.{Keeps};
+ghost use Rattle.nr_marks.specs.Pieces.{Grows, Holds, stored_len, stores_max};
+ghost use Rattle.nr_marks.specs.Views.{mark_len, is_written_next};
+ghost use Rattle.nr_marks.specs.KeptMarks.{Keeps, AddsFew, own_len};
 
 use crate::kept::{Kept, KeptCall, KeptExecution};
 use crate::stores::{
-    ByteStores, Cursor, Piece, REACH, before_end, payload_slot, reply_slot, store_of,
+    ByteStores, Cursor, OTHERS, Piece, REACH, before_end, payload_slot, reply_slot, store_of,
 };
 use nr_outside::Moment;
 use nr_reduce::{Boxed, Call, Form, Mark, Outcome, Submission};
@@ -44,6 +45,7 @@ fn keep_fed(
 ) -> Result<Option<Kept>, Memory>
     ensures grows { Grows stores.old stores.new }
     ensures keeps { IfOk result (λ o. IfSome o (λ kept. Keeps stores.new kept (marks.Fed link side bytes.now))) }
+    ensures size { IfOk result (AddsFew stores.old stores.new (length bytes.now)) }
 {
     let store = store_of(link, peer(side));
     let Cursor { fed, read } = stores.cursor(store);
@@ -66,6 +68,7 @@ fn keep_read(
 ) -> Result<Piece, Memory>
     ensures grows { Grows stores.old stores.new }
     ensures piece { IfOk result (λ piece. Holds stores.new piece bytes.now) }
+    ensures size { OnOk result (stored_len stores.new ≤ stored_len stores.old + length bytes.now) }
 {
     let Cursor { fed, read } = stores.cursor(store);
     let piece = stores.refer(alloc, store, (read, before_end(fed, bytes.len())), bytes)?;
@@ -85,6 +88,7 @@ fn keep_written(
 ) -> Result<Piece, Memory>
     ensures grows { Grows stores.old stores.new }
     ensures piece { IfOk result (λ piece. Holds stores.new piece bytes.now) }
+    ensures size { OnOk result (stored_len stores.new ≤ stored_len stores.old + length bytes.now) }
 {
     let last = before_end(stores.len_of(store), bytes.len());
     stores.refer(alloc, store, (last, last.saturating_sub(REACH)), bytes)
@@ -113,7 +117,8 @@ fn is_auto(form: &Form) -> bool
 /// Appends the call head that a client has just written to store 0, if the bytes after it are the first ones of these arguments.
 #[tactic(auto, using(crate::proofs::Growing::grows_same))]
 fn copy_head(alloc: Global, stores: &mut ByteStores, store: u32, args: &[u8]) -> Result<(), Memory>
-    ensures { Grows stores.old stores.new }
+    ensures grows { Grows stores.old stores.new }
+    ensures size { OnOk result (stored_len stores.new ≤ stored_len stores.old + 40) }
 {
     if args.len() < ARGS_START {
         return Ok(());
@@ -131,7 +136,7 @@ fn copy_head(alloc: Global, stores: &mut ByteStores, store: u32, args: &[u8]) ->
         len: CALL_HEAD as u32,
     };
     let head = Octets::from_slice(alloc, stores.bytes(head))?;
-    match stores.append(alloc, 0, head.as_slice()) {
+    match stores.append(alloc, OTHERS, head.as_slice()) {
         Ok(_) => Ok(()),
         Err(memory) => Err(memory),
     }
@@ -148,6 +153,7 @@ fn keep_args(
 ) -> Result<Piece, Memory>
     ensures grows { Grows stores.old stores.new }
     ensures piece { IfOk result (λ piece. Holds stores.new piece args.now) }
+    ensures size { OnOk result (stored_len stores.new ≤ stored_len stores.old + (40 + length args.now)) }
 {
     let store = store_of(link, Side::Initiator);
     let from = before_end(stores.len_of(store), args.len());
@@ -155,7 +161,7 @@ fn keep_args(
         return Ok(piece);
     }
     copy_head(alloc, stores, store, args)?;
-    stores.append(alloc, 0, args)
+    stores.append(alloc, OTHERS, args)
 }
 
 /// Keeps an accepted call, if it has no credential and its form is Auto.
@@ -170,6 +176,7 @@ fn keep_call(
 ) -> Result<Option<Kept>, Memory>
     ensures grows { Grows stores.old stores.new }
     ensures keeps { IfOk result (λ o. IfSome o (λ kept. Keeps stores.new kept (marks.Submit link call.now form.now (submissions.Accepted xid)))) }
+    ensures size { IfOk result (AddsFew stores.old stores.new (40 + length call.now.args)) }
 {
     if !has_no_cred(call) {
         return Ok(None);
@@ -209,6 +216,7 @@ fn keep_execution(
 ) -> Result<Option<Kept>, Memory>
     ensures grows { Grows stores.old stores.new }
     ensures keeps { IfOk result (λ o. IfSome o (λ kept. Keeps stores.new kept (marks.Execute call.0 call.1 moment payload.now call.2 reply.now))) }
+    ensures size { IfOk result (AddsFew stores.old stores.new (length payload.now + length reply.now)) }
 {
     let (link, xid, place) = call;
     let payload = match stores.noted(payload_slot(link, xid), payload) {
@@ -238,6 +246,7 @@ fn keep_wrote(
 ) -> Result<Option<Kept>, Memory>
     ensures grows { Grows stores.old stores.new }
     ensures keeps { IfOk result (λ o. IfSome o (λ kept. Keeps stores.new kept (marks.Wrote link side bytes.now))) }
+    ensures size { IfOk result (AddsFew stores.old stores.new (length bytes.now)) }
 {
     let bytes = stores.append(alloc, store_of(link, side), bytes)?;
     Ok(Some(Kept::Wrote { link, side, bytes }))
@@ -254,6 +263,7 @@ fn keep_done(
 ) -> Result<Option<Kept>, Memory>
     ensures grows { Grows stores.old stores.new }
     ensures keeps { IfOk result (λ o. IfSome o (λ kept. Keeps stores.new kept (marks.Done link xid (outcomes.Reply reply.now)))) }
+    ensures size { IfOk result (AddsFew stores.old stores.new (length reply.now)) }
 {
     let reply = match stores.noted(reply_slot(link, xid), reply) {
         Some(reply) => reply,
@@ -267,6 +277,7 @@ fn keep_done(
 fn keep_apart(alloc: Global, stores: &mut ByteStores, mark: &Mark) -> Result<Option<Kept>, Memory>
     ensures grows { Grows stores.old stores.new }
     ensures keeps { IfOk result (λ o. IfSome o (λ kept. Keeps stores.new kept mark.now)) }
+    ensures size { IfOk result (AddsFew stores.old stores.new (mark_len mark.now)) }
 {
     match mark {
         Mark::Submit {
@@ -307,6 +318,7 @@ fn keep_apart(alloc: Global, stores: &mut ByteStores, mark: &Mark) -> Result<Opt
 pub(crate) fn keep(alloc: Global, stores: &mut ByteStores, mark: Mark) -> Result<Kept, Memory>
     ensures grows { Grows stores.old stores.new }
     ensures keeps { IfOk result (λ kept. Keeps stores.new kept mark) }
+    ensures size { IfOk result (λ kept. stored_len stores.new + own_len kept ≤ stored_len stores.old + mark_len mark) }
 {
     match keep_apart(alloc, stores, &mark) {
         Ok(Some(kept)) => {
@@ -323,7 +335,9 @@ pub(crate) fn keep(alloc: Global, stores: &mut ByteStores, mark: Mark) -> Result
 
 /// Whether a mark waits for the next one, whose bytes may be found to have its own: a call is written right after its call line, and a reply
 /// right after its execution.
-pub(crate) fn waits(mark: &Mark) -> bool {
+pub(crate) fn waits(mark: &Mark) -> bool
+    ensures { result ≡ is_written_next mark.now }
+{
     match mark {
         Mark::Submit { .. } | Mark::Execute { .. } => true,
         _ => false,

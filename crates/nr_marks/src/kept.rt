@@ -1,13 +1,14 @@
 //! A mark as it is kept, and as it is read.
 
-ghost use Rattle.std.specs.Prelude.{◌≡◌, ℕ, List};
+ghost use Rattle.std.specs.Prelude.{◌≡◌, ℕ, List, length};
+ghost use Rattle.nr_reduce.specs.declared.call.Outcome.TheVariants as outcomes;
 ghost use Rattle.nr_marks.specs.declared.kept.Kept.TheVariants as kinds;
-ghost use Rattle.nr_marks.specs.Views.{mark_seen, submit_link};
-ghost use Rattle.nr_marks.specs.KeptMarks.{mark_of, IsKept};
+ghost use Rattle.nr_marks.specs.Views.{mark_seen, submit_link, outcome_len, mark_len as len_of_mark};
+ghost use Rattle.nr_marks.specs.KeptMarks.{mark_of, IsKept, own_len as len_of_own};
 
 use crate::stores::{ByteStores, Piece};
 use nr_outside::Moment;
-use nr_reduce::{Boxed, Mark};
+use nr_reduce::{Boxed, Mark, Outcome};
 use nr_wire::Side;
 
 /// A call without a credential that was sent in the Auto form, and accepted.
@@ -158,5 +159,43 @@ pub(crate) fn submit_link_of(kept: &Kept) -> Option<u32>
         Kept::Submit { link, .. } => Some(*link),
         Kept::Other(mark) => link_of_submit(mark.get()),
         _ => None,
+    }
+}
+
+/// The bytes of an outcome.
+fn reply_len(outcome: &Outcome) -> u128
+    ensures { result ≡ outcome_len outcome.now }
+{
+    match outcome {
+        Outcome::Reply(reply) => reply.len() as u128,
+        Outcome::Chunk => 0,
+        Outcome::Version { .. } => 0,
+    }
+}
+
+/// The bytes of a mark: its byte strings, and of a call line its arguments with the call head before them.
+pub(crate) fn mark_len(mark: &Mark) -> u128
+    ensures { result ≡ len_of_mark mark.now }
+{
+    match mark {
+        Mark::Submit { call, .. } => 40 + call.get().args.len() as u128,
+        Mark::Wrote { bytes, .. } => bytes.len() as u128,
+        Mark::Fed { bytes, .. } => bytes.len() as u128,
+        Mark::Execute { payload, reply, .. } => payload.len() as u128 + reply.len() as u128,
+        Mark::Done { outcome, .. } => reply_len(outcome),
+        Mark::Lost { .. } => 0,
+        Mark::Forget { .. } => 0,
+        Mark::Revoke { bytes, .. } => bytes.len() as u128,
+        Mark::Drop { .. } => 0,
+    }
+}
+
+/// The bytes that a kept mark has of its own.
+pub(crate) fn own_len(kept: &Kept) -> u128
+    ensures { result ≡ len_of_own kept.now }
+{
+    match kept {
+        Kept::Other(mark) => mark_len(mark.get()),
+        _ => 0,
     }
 }

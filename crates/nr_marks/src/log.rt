@@ -1,14 +1,14 @@
 //! The marks of a run: as they come, and all of them.
 
-ghost use Rattle.std.specs.Prelude.{◌≡◌, ◌<◌, ◌^◌, ℕ, List, [], ◌∷◌, ◌++◌, if◌then◌else◌, is_ok, length, get_or, IfOk, OnOk};
+ghost use Rattle.std.specs.Prelude.{◌≡◌, ◌+◌, ◌<◌, ◌≤◌, ◌^◌, ℕ, List, [], ◌∷◌, ◌++◌, if◌then◌else◌, is_ok, length, get_or, sum_by, IfOk, OnOk};
 ghost use Rattle.std.specs.Option.{option_to_list};
 ghost use Rattle.nr_reduce.specs.declared.mark.Mark.{Mark};
-ghost use Rattle.nr_marks.specs.Views.{mark_seen, submit_link};
-ghost use Rattle.nr_marks.specs.KeptMarks.{AreKept, marks_of};
-ghost use Rattle.nr_marks.specs.Pieces.{Grows};
+ghost use Rattle.nr_marks.specs.Views.{mark_seen, submit_link, mark_len as len_of_mark, marks_len};
+ghost use Rattle.nr_marks.specs.KeptMarks.{AreKept, marks_of, kept_len, own_len as len_of_own};
+ghost use Rattle.nr_marks.specs.Pieces.{Grows, stores_max, slots_max};
 
 use crate::keeping::{keep, waits};
-use crate::kept::{Kept, MarkView, submit_link_of, view_of};
+use crate::kept::{Kept, MarkView, mark_len, own_len, submit_link_of, view_of};
 use crate::stores::ByteStores;
 use nr_reduce::Mark;
 use nr_xdr::Memory;
@@ -27,16 +27,18 @@ pub struct MarkLog {
 }
 
 impl Model for MarkLog {
-    ghost use Rattle.std.specs.Prelude.{List, ◌++◌};
+    ghost use Rattle.std.specs.Prelude.{List, ◌++◌, ◌≤◌};
     ghost use Rattle.std.specs.Option.{option_to_list};
     ghost use Rattle.nr_reduce.specs.declared.mark.Mark.{Mark};
-    ghost use Rattle.nr_marks.specs.KeptMarks.{AreKept, marks_of};
+    ghost use Rattle.nr_marks.specs.Views.{marks_len};
+    ghost use Rattle.nr_marks.specs.KeptMarks.{AreKept, marks_of, kept_len};
 
     ghost Value = { List Mark };
 
     ghost view = { λ l. marks_of l.stores l.entries.items ++ option_to_list l.waiting };
 
-    ghost invariant = { λ l. AreKept l.stores l.entries.items };
+    // No more bytes are kept than the marks have.
+    ghost invariant = { λ l. AreKept l.stores l.entries.items × (kept_len l.stores l.entries.items ≤ marks_len (marks_of l.stores l.entries.items)) };
 }
 
 /// The marks of a run. Contracts see the list of the marks.
@@ -71,6 +73,27 @@ fn add(entries: &mut Vec<Kept>, kept: Kept) -> Result<(), Memory>
     }
 }
 
+/// The bytes that the first kept marks have of their own, if 128 bits are enough for the sum.
+fn own_lens(entries: &[Kept]) -> u128
+    ensures { result ≤ sum_by len_of_own entries.now }
+{
+    let mut sum: u128 = 0;
+    for entry in entries {
+        sum = sum.saturating_add(own_len(entry));
+    }
+    sum
+}
+
+/// The bytes of the mark that waits.
+fn waiting_len(waiting: &Option<Mark>) -> u128
+    ensures { result ≡ marks_len (option_to_list waiting.now) }
+{
+    match waiting {
+        Some(mark) => mark_len(mark),
+        None => 0,
+    }
+}
+
 /// Adds the mark that waits, if one does.
 fn settle(
     alloc: Global,
@@ -82,6 +105,7 @@ fn settle(
     ensures grows { Grows stores.old stores.new }
     ensures kept { AreKept stores.new entries.new.items }
     ensures marks { OnOk result (marks_of stores.new entries.new.items ≡ marks_of stores.old entries.old.items ++ option_to_list waiting) }
+    ensures size { OnOk result (kept_len stores.new entries.new.items ≤ kept_len stores.old entries.old.items + marks_len (option_to_list waiting)) }
 {
     let Some(mark) = waiting else {
         return Ok(());
@@ -103,6 +127,7 @@ fn add_both(
     requires { AreKept stores.old entries.old.items }
     ensures kept { AreKept stores.new entries.new.items }
     ensures marks { OnOk result (marks_of stores.new entries.new.items ≡ (marks_of stores.old entries.old.items ++ option_to_list waiting) ++ mark ∷ []) }
+    ensures size { OnOk result (kept_len stores.new entries.new.items ≤ (kept_len stores.old entries.old.items + marks_len (option_to_list waiting)) + len_of_mark mark) }
 {
     let kept = match keep(alloc, stores, mark) {
         Ok(kept) => kept,
@@ -118,6 +143,15 @@ fn add_both(
             Err(memory)
         }
     }
+}
+
+/// Keeps no marks: after an `Err` not all that was kept belongs to a mark.
+fn clear(alloc: Global, stores: &mut ByteStores, entries: &mut Vec<Kept>)
+    ensures stores { stores.new ≡ [] }
+    ensures entries { entries.new.items ≡ [] }
+{
+    *stores = ByteStores::new(alloc);
+    *entries = Vec::new(alloc);
 }
 
 impl MarkLog {
@@ -140,6 +174,24 @@ impl MarkLog {
         let _count = self.entries.len();
     }
 
+    /// How many bytes are kept in memory for the marks: no more than they have, where the arguments of a call line count with the 40 bytes
+    /// of the call head that stands before them.
+    pub fn held(&self) -> u128
+        ensures { result ≤ marks_len self.now }
+    {
+        self.stores
+            .held()
+            .saturating_add(own_lens(self.entries.as_slice()))
+            .saturating_add(waiting_len(&self.waiting))
+    }
+
+    /// How many elements the lists have that are kept for the marks: one for each mark, and some others, whose number doesn't grow.
+    pub fn list_len(&self) -> u128
+        ensures { result ≤ length self.now + (stores_max + (stores_max + slots_max)) }
+    {
+        self.entries.len() as u128 + self.stores.list_len() as u128
+    }
+
     /// Adds a mark. After an `Err` nothing is known of the marks.
     ///
     /// # Errors
@@ -156,18 +208,25 @@ impl MarkLog {
                     return Ok(());
                 }
                 Err(memory) => {
+                    clear(self.alloc, &mut self.stores, &mut self.entries);
                     drop(mark);
                     return Err(memory);
                 }
             }
         }
-        add_both(
+        match add_both(
             self.alloc,
             &mut self.stores,
             &mut self.entries,
             waiting,
             mark,
-        )
+        ) {
+            Ok(()) => Ok(()),
+            Err(memory) => {
+                clear(self.alloc, &mut self.stores, &mut self.entries);
+                Err(memory)
+            }
+        }
     }
 
     /// The marks, to be read.

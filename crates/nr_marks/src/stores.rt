@@ -1,7 +1,7 @@
 //! The bytes that marks refer to.
 
-ghost use Rattle.std.specs.Prelude.{◌≡◌, ◌+◌, ◌≤◌, ◌<◌, ℕ, List, [], ◌++◌, length, take, drop, get_or, IfOk, IfSome, IsTrue};
-ghost use Rattle.nr_marks.specs.Pieces.{Grows, IsWithin, Holds, bytes_in};
+ghost use Rattle.std.specs.Prelude.{◌≡◌, ◌+◌, ◌≤◌, ◌<◌, ℕ, List, [], ◌++◌, length, take, drop, get_or, IfOk, IfSome, OnOk, IsTrue};
+ghost use Rattle.nr_marks.specs.Pieces.{Grows, IsWithin, Holds, bytes_in, stored_len, stores_max, slots_max};
 
 use nr_wire::Side;
 use nr_xdr::{Memory, Octets};
@@ -19,6 +19,9 @@ const CALLS: usize = 16;
 
 /// The highest link that has stores of its own.
 const LINKS: u32 = 16;
+
+/// The store of the bytes that are found nowhere else.
+pub(crate) const OTHERS: u32 = 0;
 
 /// `len` bytes of a store, from offset `at` on.
 #[derive(Clone, Copy)]
@@ -46,17 +49,23 @@ pub(crate) struct ByteStores {
 }
 
 impl Model for ByteStores {
-    ghost use Rattle.std.specs.Prelude.{List, ℕ};
+    ghost use Rattle.std.specs.Prelude.{◌≤◌, List, ℕ, length};
+    ghost use Rattle.nr_marks.specs.Pieces.{stores_max, slots_max};
 
     ghost Value = { List (List ℕ) };
 
     ghost view = { λ s. s.stores.items };
+
+    // The lists of stores, of cursors and of noted pieces don't grow with the marks.
+    ghost invariant = { λ s. (length s.stores.items ≤ stores_max) × (length s.cursors.items ≤ length s.stores.items) × (length s.noted.items ≤ slots_max) };
 }
 
 /// The store of what a side of a link wrote. Store 0 has the bytes that are found nowhere else.
-pub(crate) fn store_of(link: u32, side: Side) -> u32 {
+pub(crate) fn store_of(link: u32, side: Side) -> u32
+    ensures { result < stores_max }
+{
     if link > LINKS {
-        return 0;
+        return OTHERS;
     }
     match side {
         Side::Initiator => 2 * link + 1,
@@ -151,8 +160,27 @@ impl ByteStores {
         }
     }
 
+    /// How many bytes all stores have.
+    pub(crate) fn held(&self) -> u128
+        ensures { result ≡ stored_len self.now }
+    {
+        let mut sum: u128 = 0;
+        for at in 0..self.stores.len() {
+            sum += self.stores[at].len() as u128;
+        }
+        sum
+    }
+
+    /// How many elements the lists of stores, of cursors and of noted pieces have.
+    pub(crate) fn list_len(&self) -> usize
+        ensures { result ≤ stores_max + (stores_max + slots_max) }
+    {
+        self.stores.len() + self.cursors.len() + self.noted.len()
+    }
+
     /// Notes a piece, to be looked for by its slot.
     pub(crate) fn note(&mut self, slot: usize, piece: Piece) -> Result<(), Memory>
+        requires { slot < slots_max }
         ensures { self.new ≡ self.old }
     {
         set_slot(&mut self.noted, slot, piece)
@@ -170,42 +198,52 @@ impl ByteStores {
 
     /// Adds an empty store.
     fn add_store(&mut self, alloc: Global) -> Result<(), Memory>
-        ensures { Grows self.old self.new }
+        requires { length self.old < stores_max }
+        ensures grows { Grows self.old self.new }
+        ensures size { stored_len self.new ≡ stored_len self.old }
+        ensures one { OnOk result (length self.new ≡ length self.old + 1) }
+        ensures few { length self.new ≤ stores_max }
     {
-        if self.cursors.push(Cursor { fed: 0, read: 0 }).is_err() {
-            return Err(Memory);
-        }
         match self.stores.push(Octets::new(alloc)) {
-            Ok(()) => Ok(()),
+            Ok(()) => {}
             Err(failed) => {
                 drop(failed);
-                Err(Memory)
+                return Err(Memory);
             }
+        }
+        match self.cursors.push(Cursor { fed: 0, read: 0 }) {
+            Ok(()) => Ok(()),
+            Err(_) => Err(Memory),
         }
     }
 
     /// Adds empty stores until this one exists.
     #[tactic(auto, using(crate::proofs::Growing::grows_same, crate::proofs::Growing::grows_trans))]
     fn reach(&mut self, alloc: Global, store: usize) -> Result<(), Memory>
-        ensures { Grows self.old self.new }
+        requires { store < stores_max }
+        ensures grows { Grows self.old self.new }
+        ensures size { stored_len self.new ≡ stored_len self.old }
+        ensures there { OnOk result (store < length self.new) }
     {
-        for _at in self.stores.len()..store.saturating_add(1) {
-            self.add_store(alloc)?;
+        'stores: while self.stores.len() <= store {
+            match self.add_store(alloc) {
+                Ok(()) => {}
+                Err(memory) => return Err(memory),
+            }
         }
         Ok(())
     }
 
     /// Appends bytes to a store that exists.
     fn append_at(&mut self, store: u32, bytes: &[u8]) -> Result<Piece, Memory>
+        requires { store < length self.old }
         ensures grows { Grows self.old self.new }
         ensures piece { IfOk result (λ piece. Holds self.new piece bytes.now) }
+        ensures size { OnOk result (stored_len self.new ≡ stored_len self.old + length bytes.now) }
     {
         let Some(len) = short_len(bytes) else {
             return Err(Memory);
         };
-        if store as usize >= self.stores.len() {
-            return Err(Memory);
-        }
         let own = &mut self.stores[store as usize];
         let at = own.len();
         own.extend_from_slice(bytes)?;
@@ -220,11 +258,15 @@ impl ByteStores {
         store: u32,
         bytes: &[u8],
     ) -> Result<Piece, Memory>
+        requires { store < stores_max }
         ensures grows { Grows self.old self.new }
         ensures piece { IfOk result (λ piece. Holds self.new piece bytes.now) }
+        ensures size { OnOk result (stored_len self.new ≡ stored_len self.old + length bytes.now) }
     {
-        self.reach(alloc, store as usize)?;
-        self.append_at(store, bytes)
+        match self.reach(alloc, store as usize) {
+            Ok(()) => self.append_at(store, bytes),
+            Err(memory) => Err(memory),
+        }
     }
 
     /// Looks for bytes in a store from an offset on.
@@ -253,6 +295,7 @@ impl ByteStores {
     ) -> Result<Piece, Memory>
         ensures grows { Grows self.old self.new }
         ensures piece { IfOk result (λ piece. Holds self.new piece bytes.now) }
+        ensures size { OnOk result (stored_len self.new ≤ stored_len self.old + length bytes.now) }
     {
         let (first, second) = offsets;
         if let Some(piece) = self.find(store, first, bytes) {
@@ -261,25 +304,36 @@ impl ByteStores {
         if let Some(piece) = self.find(store, second, bytes) {
             return Ok(piece);
         }
-        self.append(alloc, 0, bytes)
+        self.append(alloc, OTHERS, bytes)
     }
 }
 
 /// The slot of the payload of a call.
-pub(crate) fn payload_slot(link: u32, xid: u32) -> usize {
+pub(crate) fn payload_slot(link: u32, xid: u32) -> usize
+    ensures { result + 1 < slots_max }
+{
     let link = if link > LINKS { 0 } else { link as usize };
     2 * (CALLS * link + xid as usize % CALLS)
 }
 
 /// The slot of the reply to a call.
-pub(crate) fn reply_slot(link: u32, xid: u32) -> usize {
-    payload_slot(link, xid).saturating_add(1)
+pub(crate) fn reply_slot(link: u32, xid: u32) -> usize
+    ensures { result < slots_max }
+{
+    payload_slot(link, xid) + 1
 }
 
 /// Sets an element of a list, which is made longer if it is too short.
-fn set_slot(pieces: &mut Vec<Piece>, at: usize, piece: Piece) -> Result<(), Memory> {
-    for _at in pieces.len()..at.saturating_add(1) {
-        pieces.push(piece)?;
+fn set_slot(pieces: &mut Vec<Piece>, at: usize, piece: Piece) -> Result<(), Memory>
+    requires few { length pieces.old.items ≤ slots_max }
+    requires within { at < slots_max }
+    ensures { length pieces.new.items ≤ slots_max }
+{
+    'slots: while pieces.len() <= at {
+        match pieces.push(piece) {
+            Ok(()) => {}
+            Err(_) => return Err(Memory),
+        }
     }
     if let Some(slot) = pieces.get_mut(at) {
         *slot = piece;

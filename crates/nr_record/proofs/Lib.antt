@@ -1,7 +1,7 @@
-mod Lists
-mod Standing
-mod Waiting
-mod Unique
-mod Begun
-mod Above
-mod Again
+pub mod Lists
+pub mod Standing
+pub mod Waiting
+pub mod Unique
+pub mod Begun
+pub mod Above
+pub mod Again

@@ -24,7 +24,7 @@ pub record RecordsState : Type 0 where
   pub fault : Option RecordFault
 
 abbrev pub kept : Records → RecordsState
-kept r = record { waiting = r.waiting.items; start = r.start; count = r.count; payload = r.payload; head = r.head.items; last = r.last; left = r.left; fault = r.fault }
+kept r = record { waiting = r.waiting.items; start = r.start; count = r.count; payload = r.payload.items; head = r.head.items; last = r.last; left = r.left; fault = r.fault }
 
 -- memory ran out
 abbrev pub IsOutOfMemory : RecordsState → Type 0

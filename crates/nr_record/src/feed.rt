@@ -3,7 +3,7 @@
 ghost use Rattle.std.specs.Prelude.{◌≡◌, ℕ, ◌+◌, ◌-◌, ◌<◌, ◌≤◌, ◌^◌, [], ◌∷◌, ◌++◌, length, take, drop, List, Option, None, Some, OnOk, OnErr, IfErr, IfOk, MatchResult, true};
 ghost use Rattle.std.specs.VecDeque.{deque_len, deque_capacity};
 
-use crate::constants::{BIT_LAST, HEADER_LEN, REASON_RECORD, RECORD_MAX};
+use crate::constants::{BIT_LAST, HEADER_LEN, REASON_RECORD, RECORD_MAX, ROOM_MAX};
 use crate::fault::RecordFault;
 use crate::records::{Records, WaitingRecord};
 use nr_xdr::{Octets, word_at};
@@ -136,6 +136,7 @@ impl Records {
         }
         self.last = word >= BIT_LAST;
         self.left = len;
+        make_room(&mut self.payload, len as usize);
         self.end();
     }
 
@@ -169,14 +170,21 @@ impl Records {
         if self.left != 0 || !self.last {
             return;
         }
-        let bytes = mem::replace(&mut self.payload, Octets::new(self.alloc));
+        let bytes = mem::replace(&mut self.payload, Vec::new(self.alloc));
         let record = WaitingRecord {
             at: self.start,
-            bytes,
+            bytes: Octets::from_vec(bytes),
         };
         match self.waiting.push_back(record) {
             Ok(()) => self.start = self.count,
             Err(_) => unreachable!(),
         }
     }
+}
+
+// Takes room for a fragment of this length. If there is no memory for it now, it is asked for again as the payload comes.
+fn make_room(payload: &mut Vec<u8>, len: usize)
+    ensures { payload.new.items ≡ payload.old.items }
+{
+    let _ = payload.reserve(len.min(ROOM_MAX));
 }

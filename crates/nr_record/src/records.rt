@@ -1,6 +1,6 @@
 //! The records of a stream.
 
-ghost use Rattle.std.specs.Prelude.{◌≡◌, ℕ, ◌+◌, ◌<◌, ◌≤◌, [], length, List, MatchOption, take};
+ghost use Rattle.std.specs.Prelude.{◌≡◌, ℕ, ◌+◌, ◌<◌, ◌≤◌, None, [], length, List, MatchOption, take};
 
 use crate::constants::HEADER_LEN;
 use crate::fault::RecordFault;
@@ -27,14 +27,15 @@ impl WaitingRecord {
     }
 }
 
-/// Reads records out of a stream, which comes in pieces of any length. Each byte of a record is copied once out of its piece, and
-/// again when the buffer of its record grows.
+/// Reads records out of a stream, which comes in pieces of any length. Room for a fragment is taken when its header is read, at most
+/// 65536 bytes of it: so each byte of a record of one fragment up to that length is copied once, out of its piece. The bytes of a longer
+/// record are copied again when its buffer grows.
 #[derive(Drop)]
 pub struct Records {
     pub(crate) waiting: VecDeque<WaitingRecord>,
     pub(crate) start: u64,
     pub(crate) count: u64,
-    pub(crate) payload: Octets,
+    pub(crate) payload: Vec<u8>,
     pub(crate) head: ArrayVec<u8, HEADER_LEN>,
     pub(crate) last: bool,
     pub(crate) left: u32,
@@ -42,7 +43,7 @@ pub struct Records {
     pub(crate) alloc: Global,
     ghost short: { length head.items < 4 },
     ghost counted: { length head.items ≤ count },
-    ghost within: { length payload + left ≤ 1056768 },
+    ghost within: { length payload.items + left ≤ 1056768 },
 }
 
 impl Records {
@@ -53,12 +54,13 @@ impl Records {
     pub fn new(alloc: Global) -> Records
         ensures stands { RepresentsStream (kept result) [] 0 }
         ensures count { (kept result).count ≡ 0 }
+        ensures fault { (kept result).fault ≡ None }
     {
         Records {
             waiting: VecDeque::new(alloc),
             start: 0,
             count: 0,
-            payload: Octets::new(alloc),
+            payload: Vec::new(alloc),
             head: ArrayVec::new(),
             last: false,
             left: 0,
@@ -69,7 +71,7 @@ impl Records {
 }
 
 impl Records {
-    ghost use Rattle.std.specs.Prelude.{◌<◌, ◌∷◌, Option, None, Some, IfNone};
+    ghost use Rattle.std.specs.Prelude.{◌∷◌, Option, Some, IfNone, IfSome};
     ghost use Rattle.nr_record.specs.Records.{contents, encodings};
     ghost use Rattle.nr_record.specs.RecordsState.{kept, RepresentsStream, IsAt};
 
@@ -77,6 +79,7 @@ impl Records {
     pub fn next_record(&mut self) -> Option<Octets>
         ensures next { (stream : List ℕ) (taken : ℕ) (s : RepresentsStream (kept self.old) stream taken) →
             MatchOption result (taken ≡ length s.cuts) (λ bytes. IsAt (contents s.cuts) taken bytes × RepresentsStream (kept self.new) stream (taken + 1)) }
+        ensures first { IfSome result (λ bytes. length (kept self.old).waiting ≡ length (kept self.new).waiting + 1) }
         ensures none { IfNone result (kept self.new ≡ kept self.old) }
         ensures others { kept self.new ≡ record (kept self.old) { waiting = (kept self.new).waiting } }
     {

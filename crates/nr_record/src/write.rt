@@ -14,8 +14,8 @@ pub fn write_record(alloc: Global, bytes: &[u8]) -> Result<Octets, Memory>
     ensures { IfOk result (λ o. o ≡ fragment true bytes.now) }
 {
     let header = BIT_LAST + bytes.len() as u32;
-    let mut record = Octets::new(alloc);
+    let mut record = Vec::with_capacity(alloc, HEADER_LEN + bytes.len())?;
     record.extend_from_slice(&header.to_be_bytes())?;
     record.extend_from_slice(bytes)?;
-    Ok(record)
+    Ok(Octets::from_vec(record))
 }

@@ -8,7 +8,7 @@ use Rattle.toml.specs.Parse.{parse_document}
 use Rattle.nr_words.specs.declared.settings.Settings.{Settings}
 use Rattle.nr_words.specs.Lines.{Text}
 use Rattle.nr_words.specs.Limits.{capacity_max, connections_max, credits_max}
-use Rattle.nr_words.specs.Settings.{config_of, count, in_range, integer_at, number_at, path_at, settings_of, text_at, verifier_at}
+use Rattle.nr_words.specs.Settings.{config_of, count, in_range, integer_at, number_at, path_at, settings_of, text_at, verifier_at, keys_of, records_at}
 use Rattle.nr_serve.specs.Stops.{InRanges}
 
 -- what a step gives came of what the step before gave
@@ -43,13 +43,14 @@ number_within low high n key members is =
 
 ranges : (members : Members) (s : Settings Text) → settings_of members ≡ Some s → InRanges s
 ranges members s is =
-    let (six, e0) = if_some (count members == 6) _ s is in
+    let (six, e0) = if_some (count members == keys_of members) _ s is in
     let (listen, (at1, e1)) = and_then_some _ (text_at (codes "listen") members) s e0 in
     let (export, (at2, e2)) = and_then_some _ (path_at (codes "export") members) s e1 in
     let (credits, (at3, e3)) = and_then_some _ (number_at 1 credits_max (codes "credits") members) s e2 in
     let (capacity, (at4, e4)) = and_then_some _ (number_at 0 capacity_max (codes "capacity") members) s e3 in
     let (connections, (at5, e5)) = and_then_some _ (number_at 1 connections_max (codes "connections") members) s e4 in
-    let (verifier, same) = map_some _ (verifier_at (codes "write_verifier") members) s e5 in
+    let (verifier, (at6, e6)) = and_then_some _ (verifier_at (codes "write_verifier") members) s e5 in
+    let (records, same) = map_some _ (records_at members) s e6 in
     record {
       credits = subst (λ (t : Settings Text). t.credits ≤ credits_max) same (number_within 1 credits_max credits (codes "credits") members at3);
       capacity = subst (λ (t : Settings Text). t.capacity ≤ capacity_max) same (number_within 0 capacity_max capacity (codes "capacity") members at4);

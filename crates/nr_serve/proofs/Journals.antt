@@ -4,8 +4,10 @@ use Rattle.std.specs.Prelude.{if◌then◌else◌, Option}
 use Rattle.nr_reduce.specs.declared.mark.Entry.{Entry}
 use Rattle.nr_plain.specs.History.{IsHistory, Opening, PassView}
 use Rattle.nr_plain.specs.declared.history_entry.HistoryEntry.{HistoryEntry}
-use Rattle.nr_host.specs.declared.conn_end.ConnEnd.{ConnEnd}
-use Rattle.nr_host.specs.Serving.{Between, ServesAll}
+use Rattle.nr_host.specs.declared.link_end.LinkEnd.{LinkEnd}
+use Rattle.nr_host.specs.Serving.{Between, ServesAll, split_off}
+use Rattle.nr_host.specs.Steps.{outside, sink_state}
+use Rattle.nr_host.proofs.FirstByte.{over_link}
 
 -- of two histories the longer one is one of them
 longer_of : (b : Bool) (first : Opening) (J K : List Entry) (seen own : List HistoryEntry) → IsHistory first J seen → IsHistory first K own
@@ -14,13 +16,14 @@ longer_of true first J K seen own stood added = (K, added)
 longer_of false first J K seen own stood added = (J, stood)
 
 -- It is the history of the server that was opened, whoever added entries.
-pub journal_after : (credits : ℕ) (first : Opening) (J : List Entry) (before after : Between) (links : List (Option ConnEnd)) → ServesAll credits before links after → IsHistory first J before.view.seen
+pub journal_after : (credits : ℕ) (records : Bool) (first : Opening) (J : List Entry) (before after : Between) (links : List (Option LinkEnd)) → ServesAll credits records before links after → IsHistory first J before.view.seen
     → (K : List Entry) × IsHistory first K after.view.seen
-journal_after credits first J before after [] none stood = (J, subst (λ (b : Between). IsHistory first J b.view.seen) (sym none) stood)
-journal_after credits first J before after (None ∷ links) (mid, one, rest) stood =
-    journal_after credits first J mid after links rest (subst (λ (v : PassView). IsHistory first J v.seen) (sym one.view) stood)
-journal_after credits first J before after (Some end ∷ links) (mid, one, rest) stood =
-    let (read, (failed, ended)) = one.served 0 in
-    let over = ended.runs.over first J stood in
+journal_after credits records first J before after [] none stood = (J, subst (λ (b : Between). IsHistory first J b.view.seen) (sym none) stood)
+journal_after credits records first J before after (None ∷ links) (mid, one, rest) stood =
+    journal_after credits records first J mid after links rest (subst (λ (v : PassView). IsHistory first J v.seen) (sym one.view) stood)
+journal_after credits records first J before after (Some end ∷ links) (mid, one, rest) stood =
+    let (calls, all) = over_link credits records (outside one.opened.left one.opened.given (sink_state one.opened.taken 0 false) one.gave (split_off before.view))
+    (outside one.closed.left one.closed.given (sink_state one.closed.taken one.sink_faults false) one.gave' one.own) end one.served in
+    let over = all first J stood in
     let (L, is) = longer_of (ltb (length before.view.seen) (length one.own.seen)) first J (J ++ over.more) before.view.seen one.own.seen stood over.seen in
-    journal_after credits first L mid after links rest (subst (λ (h : List HistoryEntry). IsHistory first L h) (sym one.joins.seen) is)
+    journal_after credits records first L mid after links rest (subst (λ (h : List HistoryEntry). IsHistory first L h) (sym one.joins.seen) is)

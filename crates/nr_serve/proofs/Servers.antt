@@ -13,7 +13,7 @@ use Rattle.nr_plain.specs.Setup.{Setup}
 use Rattle.nr_plain.specs.Stands.{PlainServerState}
 use Rattle.nr_words.specs.declared.settings.Settings.{Settings}
 use Rattle.nr_words.specs.Lines.{Text}
-use Rattle.nr_host.specs.declared.conn_end.ConnEnd.{ConnEnd}
+use Rattle.nr_host.specs.declared.link_end.LinkEnd.{LinkEnd}
 use Rattle.nr_host.specs.Serving as host
 use Rattle.nr_host.specs.declared.serving.ServeFault.{ServeFault}
 use Rattle.nr_host.specs.declared.serving.ServeFault.TheVariants as faults
@@ -43,14 +43,14 @@ shares settings gave gave' kept view opens (first, (is, empty)) = record {
     same trees parameters i = record { tree = trees i; parameters = parameters i }
 
 -- it listened, and then took links
-pub links_served : (settings : Settings Text) (before mid after : AcceptorAt) (spawner spawner' : SpawnerAt) (view view' : PassView) (ends : List ConnEnd)
+pub links_served : (settings : Settings Text) (before mid after : AcceptorAt) (spawner spawner' : SpawnerAt) (view view' : PassView) (ends : List LinkEnd)
     → Asks before.asked mid.asked settings.listen → mid.ended ≡ before.ended → mid.lost ≡ before.lost → after.asked ≡ mid.asked
-    → host.Serves settings.credits (host.between mid.ended mid.lost spawner.started view) ends (host.between after.ended after.lost spawner'.started view') → spawner'.ended ≡ spawner'.started
+    → host.Serves settings.credits settings.records (host.between mid.ended mid.lost spawner.started view) ends (host.between after.ended after.lost spawner'.started view') → spawner'.ended ≡ spawner'.started
     → ServesLinks settings before after spawner spawner' view view' ends
 links_served settings before mid after spawner spawner' view view' ends asks ended lost same all waited = record {
   listens = subst (λ (a : Option (List (List ℕ))). Asks before.asked a settings.listen) (sym same) asks;
-  serves = subst (λ (n : ℕ). host.Serves settings.credits (host.between before.ended n spawner.started view) ends (host.between after.ended after.lost spawner'.started view')) lost
-      (subst (λ (log : Option LinkLog). host.Serves settings.credits (host.between log mid.lost spawner.started view) ends (host.between after.ended after.lost spawner'.started view')) ended all);
+  serves = subst (λ (n : ℕ). host.Serves settings.credits settings.records (host.between before.ended n spawner.started view) ends (host.between after.ended after.lost spawner'.started view')) lost
+      (subst (λ (log : Option LinkLog). host.Serves settings.credits settings.records (host.between log mid.lost spawner.started view) ends (host.between after.ended after.lost spawner'.started view')) ended all);
   waited = waited;
 }
 
@@ -60,14 +60,14 @@ serve_fault faults.AcceptFault before mid after same rises = subst (λ (n : ℕ)
 serve_fault faults.Memory before mid after same is = is ∙ same
 
 module _ (settings : Settings Text) (before after : AcceptorAt) (spawner spawner' : SpawnerAt) (gave gave' : Option (List Moment)) (view view' : PassView) (opens : OpensShared settings gave gave' view) where
-  serves_by : (ends : List ConnEnd) → ServesLinks settings before after spawner spawner' view view' ends → Serves settings before after spawner spawner' gave gave' ends opens.first view'
+  serves_by : (ends : List LinkEnd) → ServesLinks settings before after spawner spawner' view view' ends → Serves settings before after spawner spawner' gave gave' ends opens.first view'
   serves_by ends links = record { opened = view; opens = opens.opens; empty = opens.empty; listens = links.listens; serves = links.serves; waited = links.waited }
 
   -- all links were served, and its own pass had one turn more
   pub serves_all : (last : PassView) → ServesLinksOf settings before after spawner spawner' view view' → OnlyOthersAdded view' last → ServesConnections settings before after spawner spawner' gave gave'
   serves_all last links turn =
       let links_are = links.serves.serves in
-      let (J, saw) = journal_after settings.credits opens.first [] (host.between before.ended before.lost spawner.started view) (host.between after.ended after.lost spawner'.started view') links_are.links links_are.all opens.empty in
+      let (J, saw) = journal_after settings.credits settings.records opens.first [] (host.between before.ended before.lost spawner.started view) (host.between after.ended after.lost spawner'.started view') links_are.links links_are.all opens.empty in
       let found = turn opens.first J saw in
       record {
         first = opens.first;

@@ -12,7 +12,7 @@ use Rattle.nr_plain.specs.History.{IsHistory, OnlyOthersAdded, Opening, PassView
 use Rattle.nr_plain.specs.Setup.{Setup, time_of}
 use Rattle.nr_words.specs.declared.settings.Settings.{Settings}
 use Rattle.nr_words.specs.Lines.{Text}
-use Rattle.nr_host.specs.declared.conn_end.ConnEnd.{ConnEnd}
+use Rattle.nr_host.specs.declared.link_end.LinkEnd.{LinkEnd}
 use Rattle.nr_host.specs.Serving as host
 
 -- the setup that a configuration asks for: a root alone, made at this moment
@@ -50,12 +50,12 @@ pub record Opens (settings : Settings Text) (before after : Option (List Moment)
 -- A server was opened so, and listened at the address of the configuration. Links were taken then: the spawner started the job of each, or it was
 -- served here, and these are the ends of those. All jobs that were started have ended. The server's own pass had seen no entry of the journal at
 -- first, and this is what it knows at last.
-pub record Serves (settings : Settings Text) (before after : AcceptorAt) (spawner spawner' : SpawnerAt) (gave gave' : Option (List Moment)) (ends : List ConnEnd) (first : Opening) (view : PassView) : Type 0 where
+pub record Serves (settings : Settings Text) (before after : AcceptorAt) (spawner spawner' : SpawnerAt) (gave gave' : Option (List Moment)) (ends : List LinkEnd) (first : Opening) (view : PassView) : Type 0 where
   pub opened : PassView
   pub opens : Opens settings gave gave' first
   pub empty : IsHistory first [] opened.seen
   pub listens : Asks before.asked after.asked settings.listen
-  pub serves : host.Serves settings.credits (host.between before.ended before.lost spawner.started opened) ends (host.between after.ended after.lost spawner'.started view)
+  pub serves : host.Serves settings.credits settings.records (host.between before.ended before.lost spawner.started opened) ends (host.between after.ended after.lost spawner'.started view)
   pub waited : spawner'.ended ≡ spawner'.started
 
 -- what is printed at the end: the number of connections, and the length of the journal
@@ -66,7 +66,7 @@ served_text connections journal = codes "served " ++ decimal connections ++ code
 -- more, and this is the journal that it saw then.
 pub record ServesConnections (settings : Settings Text) (before after : AcceptorAt) (spawner spawner' : SpawnerAt) (gave gave' : Option (List Moment)) : Type 0 where
   pub first : Opening
-  pub ends : List ConnEnd
+  pub ends : List LinkEnd
   pub view : PassView
   pub last : PassView
   pub journal : List Entry

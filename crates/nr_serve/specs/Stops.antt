@@ -18,7 +18,7 @@ use Rattle.nr_plain.specs.Stands.{PlainServerState, RepresentsJournal}
 use Rattle.nr_host.specs.Serving as host
 use Rattle.nr_host.specs.declared.serving.ServeFault.{ServeFault}
 use Rattle.nr_host.specs.declared.serving.ServeFault.TheVariants as serve_faults
-use Rattle.nr_host.specs.declared.conn_end.ConnEnd.{ConnEnd}
+use Rattle.nr_host.specs.declared.link_end.LinkEnd.{LinkEnd}
 use Rattle.nr_outside.specs.Whole.{input_max}
 use Rattle.nr_serve.specs.Serving.{AcceptorAt, Opens, Serves, ServesConnections, SpawnerAt, served_text, setup_of}
 use Rattle.nr_serve.specs.declared.stop.ServeStop.{ServeStop}
@@ -49,7 +49,7 @@ GivesOne gave gave' = (moment : Moment) × Gives gave gave' moment
 abbrev pub ServesFewer : Settings Text → (before after : AcceptorAt) → (spawner spawner' : SpawnerAt) → (gave gave' : Option (List Moment)) → Type 0
 ServesFewer settings before after spawner spawner' gave gave' =
     (((after.asked ≡ before.asked) × ((after.ended ≡ before.ended) × (after.lost ≡ before.lost))) × ((spawner' ≡ spawner) × GivesOne gave gave'))
-    ⊎ ((ends : List ConnEnd)
+    ⊎ ((ends : List LinkEnd)
     × ((spawner'.started + length ends < spawner.started + settings.connections)
     × ((first : Opening) × ((view : PassView) × Serves settings before after spawner spawner' gave gave' ends first view))))
 
@@ -121,14 +121,14 @@ pub record OpensShared (settings : Settings Text) (before after : Option (List M
   pub empty : IsHistory first [] view.seen
 
 -- links were taken, at the address and with the credits of the configuration, by a pass that knew and knows this
-pub record ServesLinks (settings : Settings Text) (before after : AcceptorAt) (spawner spawner' : SpawnerAt) (view view' : PassView) (ends : List ConnEnd) : Type 0 where
+pub record ServesLinks (settings : Settings Text) (before after : AcceptorAt) (spawner spawner' : SpawnerAt) (view view' : PassView) (ends : List LinkEnd) : Type 0 where
   pub listens : Asks before.asked after.asked settings.listen
-  pub serves : host.Serves settings.credits (host.between before.ended before.lost spawner.started view) ends (host.between after.ended after.lost spawner'.started view')
+  pub serves : host.Serves settings.credits settings.records (host.between before.ended before.lost spawner.started view) ends (host.between after.ended after.lost spawner'.started view')
   pub waited : spawner'.ended ≡ spawner'.started
 
 -- all of them
 pub record ServesLinksOf (settings : Settings Text) (before after : AcceptorAt) (spawner spawner' : SpawnerAt) (view view' : PassView) : Type 0 where
-  pub ends : List ConnEnd
+  pub ends : List LinkEnd
   pub all : spawner'.started + length ends ≡ spawner.started + settings.connections
   pub back : host.BackCount ends spawner.faults spawner'.faults
   pub serves : ServesLinks settings before after spawner spawner' view view' ends
@@ -137,7 +137,7 @@ pub record ServesLinksOf (settings : Settings Text) (before after : AcceptorAt) 
 abbrev pub LinksStopped : ServeStop → Settings Text → (before after : AcceptorAt) → (spawner spawner' : SpawnerAt) → (view view' : PassView) → Type 0
 LinksStopped stop settings before after spawner spawner' view view' =
     ((((after.asked ≡ before.asked) × ((after.ended ≡ before.ended) × (after.lost ≡ before.lost))) × (spawner' ≡ spawner))
-    ⊎ ((ends : List ConnEnd)
+    ⊎ ((ends : List LinkEnd)
     × ((spawner'.started + length ends < spawner.started + settings.connections) × ServesLinks settings before after spawner spawner' view view' ends)))
     × IsServeFault stop before.faults after.faults
 

@@ -128,6 +128,7 @@ where
         pass,
         clock,
         config.credits as u32,
+        config.records,
         config.connections as u32,
     ) {
         Ok(ran) => {

@@ -1,10 +1,10 @@
 -- The configuration of a server, a TOML document.
-use Rattle.std.specs.Prelude.{ℕ, ℤ, pos, negsuc, suc, ◌==◌, ◌&&◌, nat_le, if◌then◌else◌, List, length, codes, Option, Some, None, option_and_then, option_map, string_bytes}
+use Rattle.std.specs.Prelude.{Bool, false, ℕ, ℤ, pos, negsuc, suc, ◌==◌, ◌&&◌, nat_le, if◌then◌else◌, List, length, codes, Option, Some, None, option_and_then, option_map, string_bytes}
 use Rattle.std.specs.Borrow.{Bor}
 use Rattle.std.specs.Result.{result_ok}
 use Rattle.std.specs.Str.{is_utf8}
 use Rattle.hex.specs.Hex.{decode_sized}
-use Rattle.toml.specs.Data.{Members, no_members, member, get_member, as_str, as_integer}
+use Rattle.toml.specs.Data.{Data, Members, no_members, member, get_member, as_bool, as_str, as_integer}
 use Rattle.toml.specs.Parse.{parse_document}
 use Rattle.nr_words.specs.declared.settings.Settings.{Settings}
 use Rattle.nr_words.specs.declared.settings.Config.{Config}
@@ -43,16 +43,34 @@ path text = if nat_le 1 (length text) && nat_le (length text) mount_path_max the
 abbrev pub path_at : Text → Members → Option Text
 path_at key members = option_and_then path (text_at key members)
 
+-- the boolean at `record`, which may be left out: then it is false
+abbrev pub flag_of : Option Data → Option Bool
+flag_of None = Some false
+flag_of (Some value) = as_bool value
+
+abbrev pub records_at : Members → Option Bool
+records_at members = flag_of (get_member (codes "record") members)
+
+-- the number of keys: six, and `record` if it is there
+abbrev pub keys_with : Option Data → ℕ
+keys_with None = 6
+keys_with (Some value) = 7
+
+abbrev pub keys_of : Members → ℕ
+keys_of members = keys_with (get_member (codes "record") members)
+
 -- exactly these keys, with values in range
 abbrev pub settings_of : Members → Option (Settings Text)
 settings_of members =
-    if count members == 6 then
+    if count members == keys_of members then
     option_and_then (λ listen.
     option_and_then (λ export.
     option_and_then (λ credits.
     option_and_then (λ capacity.
     option_and_then (λ connections.
-    option_map (λ verifier. record { listen = listen; export = export; credits = credits; capacity = capacity; connections = connections; write_verifier = verifier })
+    option_and_then (λ verifier.
+    option_map (λ records. record { listen = listen; export = export; credits = credits; capacity = capacity; connections = connections; write_verifier = verifier; records = records })
+    (records_at members))
     (verifier_at (codes "write_verifier") members))
     (number_at 1 connections_max (codes "connections") members))
     (number_at 0 capacity_max (codes "capacity") members))
@@ -68,7 +86,7 @@ config_of bytes = if is_utf8 bytes then option_and_then settings_of (parse_docum
 -- ---- the same without references, and without strings
 
 abbrev pub plain_settings : Settings (Bor Text) → Settings Text
-plain_settings s = record { listen = s.listen.now; export = s.export.now; credits = s.credits; capacity = s.capacity; connections = s.connections; write_verifier = s.write_verifier }
+plain_settings s = record { listen = s.listen.now; export = s.export.now; credits = s.credits; capacity = s.capacity; connections = s.connections; write_verifier = s.write_verifier; records = s.records }
 
 abbrev pub config_settings : Config → Settings Text
-config_settings c = record { listen = string_bytes c.listen; export = string_bytes c.export; credits = c.credits; capacity = c.capacity; connections = c.connections; write_verifier = c.write_verifier }
+config_settings c = record { listen = string_bytes c.listen; export = string_bytes c.export; credits = c.credits; capacity = c.capacity; connections = c.connections; write_verifier = c.write_verifier; records = c.records }

@@ -18,7 +18,7 @@ const PATH_HELP: &str = "A path from the export's root, its names separated by s
 const TARGET_HELP: &str = "The path that the symbolic link holds; it is not looked up";
 
 const CONFIG_HELP: &str =
-    "A TOML file: listen, export, credits, capacity, connections, write_verifier";
+    "A TOML file: listen, export, credits, capacity, connections, write_verifier, and maybe record";
 
 /// A required positional, and what `--help` says of it.
 fn positional<'a>(alloc: Global, name: &'a str, help: &'a str) -> Arg<'a>

@@ -2,7 +2,7 @@
 
 ghost use Rattle.std.specs.Prelude.{◌≡◌, ◌==◌, ⊤, IfErr, IfOk, None, Some, option_map};
 ghost use Rattle.toml.specs.View.{table_view};
-ghost use Rattle.nr_words.specs.Settings.{config_of, count, in_range, integer_at, plain_settings, path_at, number_at, config_settings, settings_of, text_at, verifier_at};
+ghost use Rattle.nr_words.specs.Settings.{config_of, count, in_range, integer_at, keys_of, plain_settings, path_at, records_at, number_at, config_settings, settings_of, text_at, verifier_at};
 ghost use Rattle.nr_words.specs.declared.settings.ConfigFault.TheVariants.{Bad};
 
 use crate::limits::{CAPACITY_MAX, CONNECTIONS_MAX, CREDITS_MAX, MOUNT_PATH_MAX};
@@ -24,6 +24,8 @@ pub struct Settings<T> {
     pub connections: u64,
     /// The verifier of WRITE and COMMIT (RFC 1813 section 3.3.7).
     pub write_verifier: [u8; 8],
+    /// Whether it serves RPC over TCP with record marks (RFC 5531 section 11) too.
+    pub records: bool,
 }
 
 impl<T: Copy> Clone for Settings<T> {
@@ -53,6 +55,8 @@ pub struct Config {
     pub connections: u64,
     /// The verifier of WRITE and COMMIT (RFC 1813 section 3.3.7).
     pub write_verifier: [u8; 8],
+    /// Whether it serves RPC over TCP with record marks (RFC 5531 section 11) too.
+    pub records: bool,
 }
 
 /// Why a text gives no configuration.
@@ -133,11 +137,31 @@ fn path_at<'a>(table: &'a Table, key: &str) -> Option<&'a str>
     Some(path)
 }
 
-/// Whether the table has six keys.
-fn has_six(table: &Table) -> bool
-    ensures { result ≡ (count (table_view table.now) == 6) }
+/// Whether the table has this many keys.
+fn has_keys(table: &Table, keys: usize) -> bool
+    ensures { result ≡ (count (table_view table.now) == keys) }
 {
-    table.len() == 6
+    table.len() == keys
+}
+
+/// How many keys the table may have: the six that each table has, and `record` if it is there.
+fn keys_of(table: &Table) -> usize
+    ensures { result ≡ keys_of (table_view table.now) }
+{
+    match table.get("record") {
+        Some(_) => 7,
+        None => 6,
+    }
+}
+
+/// The boolean at the key `record`, `false` if that is not there.
+fn records_at(table: &Table) -> Option<bool>
+    ensures { result ≡ records_at (table_view table.now) }
+{
+    match table.get("record") {
+        Some(value) => value.as_bool(),
+        None => Some(false),
+    }
 }
 
 /// The eight bytes of the sixteen hexadecimal digits at a key.
@@ -148,11 +172,11 @@ fn verifier_at(table: &Table, key: &str) -> Option<[u8; 8]>
     <[u8; 8] as FromHex>::from_hex(text).ok()
 }
 
-/// What the table says: exactly these six keys, with values in range.
+/// What the table says: exactly these six keys, and `record` if it is there, with values in range.
 fn settings_of(table: &Table) -> Option<Settings<&str>>
     ensures { option_map plain_settings result ≡ settings_of (table_view table.now) }
 {
-    if !has_six(table) {
+    if !has_keys(table, keys_of(table)) {
         return None;
     }
     let listen = text_at(table, "listen")?;
@@ -161,6 +185,7 @@ fn settings_of(table: &Table) -> Option<Settings<&str>>
     let capacity = number_at(table, "capacity", 0, CAPACITY_MAX)?;
     let connections = number_at(table, "connections", 1, CONNECTIONS_MAX)?;
     let write_verifier = verifier_at(table, "write_verifier")?;
+    let records = records_at(table)?;
     Some(Settings {
         listen,
         export,
@@ -168,12 +193,13 @@ fn settings_of(table: &Table) -> Option<Settings<&str>>
         capacity,
         connections,
         write_verifier,
+        records,
     })
 }
 
 /// Reads a configuration: a TOML document with the six keys `listen` (text), `export` (text of 1 to 1024 bytes), `credits`
 /// (1 to 64), `capacity` (0 to 2^63 - 1), `connections` (1 to 2^32 - 1) and `write_verifier` (text of 16 hexadecimal
-/// digits), and no other.
+/// digits), which may also have `record` (boolean; `false` if it is left out), and no other.
 pub fn read_config(alloc: Global, bytes: &[u8]) -> Result<Config, ConfigFault>
     ensures ok { IfOk result (λ config. config_of bytes.now ≡ Some (config_settings config)) }
     ensures bad { IfErr result (λ fault. fault ≡ Bad → config_of bytes.now ≡ None) }
@@ -200,5 +226,6 @@ pub fn read_config(alloc: Global, bytes: &[u8]) -> Result<Config, ConfigFault>
         capacity: settings.capacity,
         connections: settings.connections,
         write_verifier: settings.write_verifier,
+        records: settings.records,
     })
 }

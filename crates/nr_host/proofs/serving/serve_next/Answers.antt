@@ -6,8 +6,8 @@ use Rattle.nr_turnstile.specs.Passes.{mine_of, seen_by, view_of}
 use Rattle.nr_turnstile.specs.declared.plays.View.{View}
 use Rattle.nr_plain.specs.History.{PassView, pass_view}
 use Rattle.nr_plain.specs.declared.history_entry.HistoryEntry.{HistoryEntry}
-use Rattle.nr_host.specs.Ending.{SinkCount, SourceCount}
-use Rattle.nr_host.specs.Steps.{IsServed, outside, sink_state}
+use Rattle.nr_host.specs.LinkServing.{IsLinkServed, LinkSinkCount, LinkSourceCount}
+use Rattle.nr_host.specs.Steps.{outside, sink_state}
 use Rattle.nr_host.proofs.Links.{view_of_pass}
 use Rattle.nr_host.proofs.serving.serve_next.Goals as goal
 
@@ -33,17 +33,17 @@ returns-clause-served g c =
       numbered = IfSome_then (g.A.Acceptor.ended c.args.acceptor.now) c.in-Ok-accept.ensures.numbered.counts (λ log made. made ∙ sym c.in-Ok-accept.ensures.numbered.source);
       same_number = c.run-source.ensures.source_link ∙ ap (λ j. link j.source) back;
       new_clock = c.another.ensures;
-      served = subst (λ (k : PassView). IsServed c.args.credits (outside (left source) (given source) (sink_state (taken sink) 0 false) (g.C.Clock.gave c.another.result) k) after r.end)
+      served = subst (λ (k : PassView). IsLinkServed c.args.credits c.args.records (outside (left source) (given source) (sink_state (taken sink) 0 false) (g.C.Clock.gave c.another.result) k) after r.end)
           (ap (λ (v : View HistoryEntry). view_of_pass v) c.split.ensures.new.1)
-          (subst (λ (n : ℕ). IsServed c.args.credits (outside (left source) (given source) (sink_state (taken sink) n false) (g.C.Clock.gave c.another.result) (pass_view c.split.result)) after r.end)
+          (subst (λ (n : ℕ). IsLinkServed c.args.credits c.args.records (outside (left source) (given source) (sink_state (taken sink) n false) (g.C.Clock.gave c.another.result) (pass_view c.split.result)) after r.end)
           fresh.no_sink_fault
-          (subst (λ j. IsServed j.credits (outside (left j.source) (given j.source) (sink_state (taken j.sink) (g.A.Sink.Sink.faults j.sink) false) (g.C.Clock.gave j.clock) (pass_view j.pass)) after r.end)
+          (subst (λ j. IsLinkServed j.credits j.records (outside (left j.source) (given j.source) (sink_state (taken j.sink) (g.A.Sink.Sink.faults j.sink) false) (g.C.Clock.gave j.clock) (pass_view j.pass)) after r.end)
           back c.run-source.ensures.served));
       made = c.in-Ok-accept.ensures.made;
       hung_up = c.hang_up.ensures.ended;
       lost = subst (λ (n : ℕ). CountsLost (g.A.Source.Source.faults r.source) (g.A.Sink.Sink.faults r.sink) n (g.A.Acceptor.lost c.hang_up.new.self)) c.accept.ensures.lost c.hang_up.ensures.lost;
-      source_count = subst (λ (n : ℕ). SourceCount r.end n (g.A.Source.Source.faults r.source)) (ap (λ j. g.A.Source.Source.faults j.source) back ∙ fresh.no_source_fault) c.run-source.ensures.source_count;
-      sink_count = subst (λ (n : ℕ). SinkCount r.end n (g.A.Sink.Sink.faults r.sink)) (ap (λ j. g.A.Sink.Sink.faults j.sink) back ∙ fresh.no_sink_fault) c.run-source.ensures.sink_count;
+      source_count = subst (λ (n : ℕ). LinkSourceCount r.end n (g.A.Source.Source.faults r.source)) (ap (λ j. g.A.Source.Source.faults j.source) back ∙ fresh.no_source_fault) c.run-source.ensures.source_count;
+      sink_count = subst (λ (n : ℕ). LinkSinkCount r.end n (g.A.Sink.Sink.faults r.sink)) (ap (λ j. g.A.Sink.Sink.faults j.sink) back ∙ fresh.no_sink_fault) c.run-source.ensures.sink_count;
       started = c.in-Err.ensures.started;
       joins = record {
         seen = c.join.ensures.joined.0 ∙ ap (λ (v : View HistoryEntry). longer v.seen (seen_by r.pass)) same;

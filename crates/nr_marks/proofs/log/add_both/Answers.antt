@@ -1,7 +1,7 @@
 use Rattle.std.proofs.Common.{List, ◌++◌, ap, ◌∙◌}
 use Rattle.std.specs.Option.{option_to_list}
 use Rattle.nr_reduce.specs.declared.mark.Mark.{Mark}
-use Rattle.nr_marks.proofs.KeptMarks.{are_kept_grown, marks_grown, keeps_grown, added_kept, added_both}
+use Rattle.nr_marks.proofs.KeptMarks.{are_kept_grown, marks_grown, keeps_grown, added_kept, added_both, both_fit}
 use Rattle.nr_marks.proofs.log.add_both.Goals as goal
 
 pub returns-in-Err-clause-kept : goal.returns-in-Err-clause-kept
@@ -18,3 +18,6 @@ pub returns-in-Ok-settle-clause-marks : goal.returns-in-Ok-settle-clause-marks
 returns-in-Ok-settle-clause-marks c =
     added_both c.add.result _ _ _ _ _ _ _ (c.in-Ok-settle.ensures.marks ∙ ap (λ (ms : List Mark). ms ++ option_to_list c.args.waiting) (marks_grown _ _ _ c.keep.ensures.grows c.requires))
     c.settle.ensures.grows c.in-Ok.ensures.keeps c.add.ensures
+
+pub returns-in-Ok-settle-clause-size : goal.returns-in-Ok-settle-clause-size
+returns-in-Ok-settle-clause-size c = both_fit c.add.result _ _ _ _ _ _ _ _ _ c.in-Ok.ensures.size c.in-Ok-settle.ensures.size c.add.ensures

@@ -1,5 +1,5 @@
 use Rattle.nr_marks.proofs.Growing.{grows_same}
-use Rattle.nr_marks.proofs.KeptMarks.{are_kept_grown, added_kept, settled}
+use Rattle.nr_marks.proofs.KeptMarks.{are_kept_grown, added_kept, settled, settled_fits}
 use Rattle.nr_marks.proofs.log.settle.Goals as goal
 
 pub returns-in_default-clause-grows : goal.returns-in_default-clause-grows
@@ -13,3 +13,6 @@ returns-in-Ok-clause-marks c = settled c.add.result _ _ _ _ _ _ _ c.in-Some.is c
 
 pub returns-in-Err-clause-kept : goal.returns-in-Err-clause-kept
 returns-in-Err-clause-kept c = are_kept_grown _ _ _ c.keep.ensures.grows c.requires
+
+pub returns-in-Ok-clause-size : goal.returns-in-Ok-clause-size
+returns-in-Ok-clause-size c = settled_fits c.add.result _ _ _ _ _ _ _ c.in-Some.is c.in-Ok.ensures.size c.add.ensures

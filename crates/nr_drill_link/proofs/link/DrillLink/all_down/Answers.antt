@@ -1,4 +1,4 @@
-use Rattle.std.proofs.Common.{refl, sym, ap}
+use Rattle.std.proofs.Common.{◌∙◌, length, refl, ap}
 use Rattle.nr_drill_link.specs.DrillLinkState.{DrillLinkState}
 use Rattle.nr_drill_link.proofs.Standing.{on_ok}
 use Rattle.nr_drill_link.proofs.Opening.{all_down_goes}
@@ -7,8 +7,8 @@ use Rattle.nr_drill_link.proofs.link.DrillLink.all_down.Goals as goal
 pub returns : goal.returns
 returns c =
     on_ok c.down.result _ _
-    (λ goes. all_down_goes c.args.self.now c.down.new.self c.args.marks.now c.down.new.marks c.self.inside.down.log c.self.inside.down.place c.waiting-most.result
-    (ap (λ (v : DrillLinkState). v.pipes.down) (sym c.self.view_is)) c.waiting-most.ensures goes)
+    (λ goes. all_down_goes c.args.self.now c.down.new.self c.args.marks.now c.down.new.marks c.waiting-most.result
+    (c.waiting-most.ensures ∙ ap (λ (v : DrillLinkState). length v.pipes.down) c.self.view_is) goes)
     c.down.ensures
 
 pub same-self : goal.same-self

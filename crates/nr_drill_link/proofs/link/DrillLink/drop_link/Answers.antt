@@ -1,5 +1,5 @@
 use Rattle.std.proofs.Common.{ap}
-use Rattle.nr_outside.specs.Pipe.{waiting_bytes}
+use Rattle.nr_drill_link.specs.Transits.{TransitState}
 use Rattle.nr_drill_link.specs.DrillLinkState.{DrillLinkState}
 use Rattle.nr_drill_link.specs.Views.{link_view}
 use Rattle.nr_drill_link.proofs.Standing.{on_ok}
@@ -13,5 +13,5 @@ pub returns : goal.returns
 returns c =
     let v : DrillLinkState = link_view c.self.inside.number c.self.inside.client c.self.inside.server.side c.self.inside.up c.self.inside.down c.self.inside.dropped c.self.inside.lines c.self.inside.awaited.items in
     on_ok c.add_mark.result _ _
-    (λ more. drops_to v c.args.self.now c.new.result c.new-2.result c.args.marks.now _ c.self.view_is (ap waiting_bytes c.new.ensures) (ap waiting_bytes c.new-2.ensures) more)
+    (λ more. drops_to v c.args.self.now c.new.result c.new-2.result c.args.marks.now _ c.self.view_is (ap (λ (t : TransitState). t.waiting) c.new.ensures) (ap (λ (t : TransitState). t.waiting) c.new-2.ensures) more)
     c.add_mark.ensures

@@ -61,5 +61,5 @@ returns c =
     on_ok c.add_mark.result _ _
     (λ more. from_view (λ s link. after_feeding_up link c.args.most) v c.args.self.now _ _ _ c.self.view_is
     (up_fed v c.feed.new.self.side c.args.most c.in-Ok.bytes _ c.args.marks.now c.add_mark.new.marks piece some takes (not_out c.feed.result _ c.feed.ensures.ended (c.ran_out.ensures c.if-ran_out.false))
-    (ap (λ (xs : List ℕ). record { up = xs; down = v.pipes.down }) c.skip_next.ensures) more))
+    (ap (λ (xs : List ℕ). record { up = xs; down = v.pipes.down }) c.skip.ensures) more))
     c.add_mark.ensures

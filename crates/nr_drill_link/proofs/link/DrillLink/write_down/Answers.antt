@@ -1,5 +1,4 @@
 use Rattle.std.proofs.Common.{refl}
-use Rattle.nr_outside.specs.Pipe.{waiting_bytes}
 use Rattle.nr_drill_link.specs.DrillLinkState.{DrillLinkState}
 use Rattle.nr_drill_link.specs.Views.{link_view}
 use Rattle.nr_drill_link.proofs.Standing.{on_ok}
@@ -27,5 +26,5 @@ pub returns : goal.returns
 returns c =
     let v : DrillLinkState = link_view c.self.inside.number c.self.inside.client c.self.inside.server.side c.self.inside.up c.self.inside.down c.self.inside.dropped c.self.inside.lines c.self.inside.awaited.items in
     on_ok c.put_output.result _ _
-    (λ put. wrote_bytes_down v c.args.self.now c.server_output.new.server.side _ _ (waiting_bytes c.put_output.new.pipe) c.args.marks.now _ c.self.view_is c.in-Ok.ensures.writes (some_bytes _ _ c.is_empty.ensures c.if-is_empty.false) refl put.0 put.1)
+    (λ put. wrote_bytes_down v c.args.self.now c.server_output.new.server.side _ _ c.put_output.new.pipe.waiting c.args.marks.now _ c.self.view_is c.in-Ok.ensures.writes (some_bytes _ _ c.is_empty.ensures c.if-is_empty.false) refl put.0 put.1)
     c.put_output.ensures

@@ -1,0 +1,175 @@
+-- A link whose first byte was looked at.
+use Rattle.std.proofs.Common.{◌≡◌, ℕ, ◌+◌, ◌<◌, Bool, true, false, List, [], ◌∷◌, ◌++◌, length, Option, None, Some, inl, inr, arith, refl, sym, ap, subst, ◌∙◌, append-nil}
+use Rattle.std.specs.Io.KnownBytes.{Appends, Consumes, IsAtEnd, Keeps}
+use Rattle.nr_outside.specs.Content.{HandsOut}
+use Rattle.nr_outside.specs.declared.moment.Moment.{Moment}
+use Rattle.nr_links.specs.Limits.{read_max}
+use Rattle.nr_links.specs.Peeked.{left_with}
+use Rattle.nr_endpoint.specs.LinkState.{initial_link}
+use Rattle.nr_wire.specs.declared.hello.Side.TheVariants.{Responder}
+use Rattle.nr_responder.specs.ResponderState.{end_of, opened_side}
+use Rattle.nr_responder.proofs.Opened.{opened_lives, opened_stands_lem}
+use Rattle.nr_plain.specs.History.{Answered, Over, PassView}
+use Rattle.nr_record_host.specs.RecordRuns.{Around, IsRecordsServed, around}
+use Rattle.nr_record_host.specs.declared.record_end.RecordEnd.{RecordEnd}
+use Rattle.nr_host.specs.Connections.{Outside, SinkState, answers_of}
+use Rattle.nr_host.specs.Ending.{Ended}
+use Rattle.nr_host.specs.LinkServing.{IsKindFor, IsKindOf, IsLinkServed, ServesLinkBy}
+use Rattle.nr_host.specs.Steps.{CarriesTo, IsServed, outside, sink_state, with_failed}
+use Rattle.nr_host.specs.declared.conn_end.ConnEnd.{ConnEnd}
+use Rattle.nr_host.specs.declared.conn_end.ConnEnd.TheVariants as ends
+use Rattle.nr_host.specs.declared.link_end.LinkEnd.{LinkEnd}
+use Rattle.nr_host.specs.declared.link_end.LinkEnd.TheVariants as link_ends
+use Rattle.nr_host.proofs.Carries.{first_outside, nothing_read, opened, read_ends, read_fails}
+use Rattle.nr_host.proofs.Idle.{ends_closed}
+
+-- ---- bytes that are kept
+
+consumes_none : (left left' : Option (List ℕ)) → Keeps left left' → Consumes left left' []
+consumes_none None left' kept = tt
+consumes_none (Some xs) None kept = absurd kept
+consumes_none (Some xs) (Some ys) kept = sym kept
+
+appends_none : (given given' : Option (List ℕ)) → Keeps given given' → Appends given given' []
+appends_none None given' kept = tt
+appends_none (Some xs) None kept = absurd kept
+appends_none (Some xs) (Some ys) kept = kept ∙ sym (append-nil xs)
+
+hands_none : (left given left' given' : Option (List ℕ)) → Keeps left left' → Keeps given given' → HandsOut left given left' given' []
+hands_none left given left' given' kept told = record { from_left = consumes_none left left' kept; to_given = appends_none given given' told }
+
+consumes_on : (left left' left'' : Option (List ℕ)) (bytes : List ℕ) → Keeps left left' → Consumes left' left'' bytes → Consumes left left'' bytes
+consumes_on None left' left'' bytes kept c = tt
+consumes_on (Some xs) None left'' bytes kept c = absurd kept
+consumes_on (Some xs) (Some ys) left'' bytes kept c = subst (λ (l : List ℕ). Consumes (Some l) left'' bytes) kept c
+
+appends_on : (given given' given'' : Option (List ℕ)) (bytes : List ℕ) → Keeps given given' → Appends given' given'' bytes → Appends given given'' bytes
+appends_on None given' given'' bytes kept c = tt
+appends_on (Some xs) None given'' bytes kept c = absurd kept
+appends_on (Some xs) (Some ys) given'' bytes kept c = subst (λ (l : List ℕ). Appends (Some l) given'' bytes) kept c
+
+hands_on : (left given left' given' left'' given'' : Option (List ℕ)) (bytes : List ℕ) → Keeps left left' → Keeps given given' → HandsOut left' given' left'' given'' bytes → HandsOut left given left'' given'' bytes
+hands_on left given left' given' left'' given'' bytes kept told h = record {
+  from_left = consumes_on left left' left'' bytes kept h.from_left;
+  to_given = appends_on given given' given'' bytes told h.to_given;
+}
+
+-- no byte was held before
+pub not_held : (held : Option ℕ) (left left' : Option (List ℕ)) → held ≡ None → Keeps (left_with held left) left' → Keeps left left'
+not_held held left left' none kept = with_none left (subst (λ (h : Option ℕ). Keeps (left_with h left) left') none kept) where
+  with_none : (left : Option (List ℕ)) → Keeps (left_with None left) left' → Keeps left left'
+  with_none None k = tt
+  with_none (Some xs) k = k
+
+-- ---- nothing was read
+
+module _ (credits : ℕ) (left given left' given' taken : Option (List ℕ)) (faults : ℕ) (gave : Option (List Moment)) (view : PassView) (kept : Keeps left left') (told : Keeps given given') where
+  lives : end_of (opened_side credits) ≡ None
+  lives = opened_lives (initial_link Responder credits 1) credits refl
+
+  now : Outside
+  now = first_outside left' given' taken faults gave view
+
+  begun : CarriesTo credits (first_outside left given taken faults gave view) (first_outside left' given' taken faults gave view) (opened_side credits) (0 + 0)
+  begun =
+      nothing_read credits (first_outside left given taken faults gave view) left given left' given' (sink_state taken faults false) gave view (opened_side credits) 0
+      (opened left given taken faults gave view credits (opened_side credits) refl lives (λ o link same. opened_stands_lem o link credits (initial_link Responder credits 1) same refl))
+      (hands_none left given left' given' kept told)
+
+  less : 0 + 0 < read_max
+  less = omega arith
+
+  -- the read failed
+  pub fails_at_once : IsServed credits (first_outside left given taken faults gave view) (first_outside left' given' taken faults gave view) ends.LinkRead
+  fails_at_once = read_fails credits (first_outside left given taken faults gave view) (first_outside left' given' taken faults gave view) (opened_side credits) (0 + 0) begun lives less refl
+
+  -- the client ended its stream
+  pub closes_at_once : IsAtEnd left' → IsServed credits (first_outside left given taken faults gave view) (first_outside left' given' taken faults gave view) ends.Closed
+  unfolding initial_link
+  closes_at_once over =
+      read_ends credits (first_outside left given taken faults gave view) (first_outside left' given' taken faults gave view) (opened_side credits) 0 ends.Closed begun over
+      (ends_closed 0 (opened_side credits) lives refl refl) refl refl less refl
+
+-- ---- it was served after the look
+
+module _ (left given left' given' : Option (List ℕ)) (sink : SinkState) (gave : Option (List Moment)) (view : PassView) (kept : Keeps left left') (told : Keeps given given') where
+  ended_on : (credits read link : ℕ) (after : Outside) (end : ConnEnd) → Ended (record { credits = credits; read = read }) link (outside left' given' sink gave view) after end
+      → Ended (record { credits = credits; read = read }) link (outside left given sink gave view) after end
+  ended_on credits read link after end e = record {
+    run = e.run;
+    ahead = e.ahead;
+    more = e.more;
+    runs = record {
+      own = e.runs.own;
+      handed = hands_on left given left' given' after.left after.given _ kept told e.runs.handed;
+      taken = e.runs.taken;
+      served = e.runs.served;
+      quiet = e.runs.quiet;
+      frames = e.runs.frames;
+      over = e.runs.over;
+      gave = e.runs.gave;
+      count = e.runs.count;
+    };
+    ahead_is = e.ahead_is;
+    more_is = e.more_is;
+    read_is = e.read_is;
+    failed_is = e.failed_is;
+    cause = e.cause;
+  }
+
+  served_on : (credits : ℕ) (after : Outside) (end : ConnEnd) → IsServed credits (outside left' given' sink gave view) after end → IsServed credits (outside left given sink gave view) after end
+  served_on credits after end s link = let (read, (failed, e)) = s link in (read, (failed, ended_on credits read link (with_failed failed after) end e))
+
+  records_on : (after : Around) (end : RecordEnd) → IsRecordsServed (around left' given' sink.taken gave view) after end → IsRecordsServed (around left given sink.taken gave view) after end
+  records_on after end s = record {
+    stream = s.stream;
+    unread = s.unread;
+    records = s.records;
+    rest = s.rest;
+    exchanges = s.exchanges;
+    others = s.others;
+    more = s.more;
+    took = s.took;
+    encode = s.encode;
+    order = s.order;
+    serves = record {
+      handed = hands_on left given left' given' after.left after.given (s.stream ++ s.unread) kept told s.serves.handed;
+      taken = s.serves.taken;
+      over = s.serves.over;
+      gave = s.serves.gave;
+    };
+    within = s.within;
+    unread_is = s.unread_is;
+    took_is = s.took_is;
+    more_is = s.more_is;
+    cause = s.cause;
+  }
+
+  pub link_on : (credits : ℕ) (after : Outside) (end : LinkEnd) → ServesLinkBy credits (outside left' given' sink gave view) after end → ServesLinkBy credits (outside left given sink gave view) after end
+  link_on credits after (link_ends.Rdma end) s = served_on credits after end s
+  link_on credits after (link_ends.Record end) s = records_on (around after.left after.given after.sink.taken after.gave after.view) end s
+
+-- the byte that was looked at is the first that was still to come
+pub kind_is : (byte : ℕ) (held : Option ℕ) (left inner after : Option (List ℕ)) (end : LinkEnd) → held ≡ Some byte → Keeps left (left_with held inner) → IsKindOf byte end → IsKindFor left after end
+kind_is byte held left inner after end is kept kind = by_left left inner (subst (λ (h : Option ℕ). Keeps left (left_with h inner)) is kept) where
+  first : (x : ℕ) (rest l : List ℕ) → byte ∷ l ≡ x ∷ rest → byte ≡ x
+  first x rest l e = ap (λ (xs : List ℕ). head_or xs) e where
+    head_or : List ℕ → ℕ
+    head_or [] = 0
+    head_or (y ∷ ys) = y
+
+  by_left : (left inner : Option (List ℕ)) → Keeps left (left_with (Some byte) inner) → IsKindFor left after end
+  by_left None inner k = tt
+  by_left (Some []) None k = absurd k
+  by_left (Some []) (Some l) k = absurd (let n = ap length k in omega (arith, n))
+  by_left (Some (x ∷ rest)) None k = absurd k
+  by_left (Some (x ∷ rest)) (Some l) k = inl (subst (λ (b : ℕ). IsKindOf b end) (first x rest l k) kind)
+
+-- ---- what its pass did
+
+pub over_link : (credits : ℕ) (records : Bool) (before after : Outside) (end : LinkEnd) → IsLinkServed credits records before after end
+    → (calls : List Answered) × Over before.view calls after.view
+over_link credits false before after (link_ends.Rdma end) s = let (read, (failed, e)) = s 0 in (answers_of e.run, e.runs.over)
+over_link credits false before after (link_ends.Record end) s = absurd s
+over_link credits true before after (link_ends.Rdma end) (held, (s, kind)) = let (read, (failed, e)) = s 0 in (answers_of e.run, e.runs.over)
+over_link credits true before after (link_ends.Record end) (held, (s, kind)) = (s.exchanges, s.serves.over)

@@ -1,0 +1,68 @@
+-- A link, which may carry RPC over RDMA or RPC over TCP with record marks (RFC 5531 section 11).
+use Rattle.std.specs.Prelude.{◌≡◌, ⊤, ⊥, ◌⊎◌, ℕ, Bool, true, false, List, [], ◌∷◌, Option, None, Some}
+use Rattle.std.specs.Io.KnownBytes.{IsAtEnd, Keeps}
+use Rattle.nr_links.specs.Peeked.{given_without, left_with}
+use Rattle.nr_record_host.specs.RecordRuns.{IsRecordsServed, around}
+use Rattle.nr_record_host.specs.RecordRuns as record_ends
+use Rattle.nr_host.specs.Connections.{Outside}
+use Rattle.nr_host.specs.Ending.{SinkCount, SourceCount}
+use Rattle.nr_host.specs.Steps.{IsServed}
+use Rattle.nr_host.specs.declared.conn_end.ConnEnd.TheVariants as ends
+use Rattle.nr_host.specs.declared.link_end.LinkEnd.{LinkEnd}
+use Rattle.nr_host.specs.declared.link_end.LinkEnd.TheVariants as link_ends
+
+-- the first byte of the hello of an initiator (RFC 5044 section 7.1)
+abbrev pub HELLO_BYTE : ℕ
+HELLO_BYTE = 77
+
+-- it was served by what it carried
+abbrev pub ServesLinkBy : (credits : ℕ) → (before after : Outside) → LinkEnd → Type 0
+ServesLinkBy credits before after (link_ends.Rdma end) = IsServed credits before after end
+ServesLinkBy credits before after (link_ends.Record end) =
+    IsRecordsServed (around before.left before.given before.sink.taken before.gave before.view) (around after.left after.given after.sink.taken after.gave after.view) end
+
+-- what it carried, by its first byte
+abbrev pub IsKindOf : ℕ → LinkEnd → Type 0
+IsKindOf byte (link_ends.Rdma end) = byte ≡ HELLO_BYTE
+IsKindOf byte (link_ends.Record end) = ¬ (byte ≡ HELLO_BYTE)
+
+abbrev pub ServesByByte : (credits byte : ℕ) → (before after : Outside) → LinkEnd → Type 0
+ServesByByte credits byte before after end = ServesLinkBy credits before after end × IsKindOf byte end
+
+-- The first read failed, or handed out nothing: the link counts as RPC over RDMA. `left` and `left'` are the bytes still to come before and after.
+abbrev pub IsUnread : (left left' : Option (List ℕ)) → LinkEnd → Type 0
+IsUnread left left' (link_ends.Rdma ends.LinkRead) = Keeps left left'
+IsUnread left left' (link_ends.Rdma ends.Closed) = Keeps left left' × IsAtEnd left'
+IsUnread left left' end = ⊥
+
+-- what it carried, by the bytes that were still to come, if they are known
+abbrev pub IsKindFor : (left left' : Option (List ℕ)) → LinkEnd → Type 0
+IsKindFor None left' end = ⊤
+IsKindFor (Some []) left' end = IsUnread (Some []) left' end
+IsKindFor (Some (byte ∷ rest)) left' end = IsKindOf byte end ⊎ IsUnread (Some (byte ∷ rest)) left' end
+
+-- A byte that was looked at and not read is still to come, and wasn't handed out.
+abbrev pub holding : Option ℕ → Outside → Outside
+holding held o = record o { left = left_with held o.left; given = given_without held o.given }
+
+-- Its first byte was looked at, and it was served by that. `held` is that byte if it was never read.
+abbrev pub LooksAndServes : (credits : ℕ) → (before : Outside) → (held : Option ℕ) → (after : Outside) → LinkEnd → Type 0
+LooksAndServes credits before held after end = ServesLinkBy credits before (holding held after) end × IsKindFor before.left (left_with held after.left) end
+
+-- without record marks it carries RPC over RDMA
+abbrev pub IsRdmaServed : (credits : ℕ) → (before after : Outside) → LinkEnd → Type 0
+IsRdmaServed credits before after (link_ends.Rdma end) = IsServed credits before after end
+IsRdmaServed credits before after (link_ends.Record end) = ⊥
+
+abbrev pub IsLinkServed : (credits : ℕ) → (records : Bool) → (before after : Outside) → LinkEnd → Type 0
+IsLinkServed credits false before after end = IsRdmaServed credits before after end
+IsLinkServed credits true before after end = (held : Option ℕ) × LooksAndServes credits before held after end
+
+-- the fault counts of the source and of the sink
+abbrev pub LinkSourceCount : LinkEnd → ℕ → ℕ → Type 0
+LinkSourceCount (link_ends.Rdma end) before after = SourceCount end before after
+LinkSourceCount (link_ends.Record end) before after = record_ends.SourceCount end before after
+
+abbrev pub LinkSinkCount : LinkEnd → ℕ → ℕ → Type 0
+LinkSinkCount (link_ends.Rdma end) before after = SinkCount end before after
+LinkSinkCount (link_ends.Record end) before after = record_ends.SinkCount end before after
