@@ -11,7 +11,7 @@ use Rattle.nr_header.specs.WithinLimits.{read_total}
 use Rattle.nr_reduce.specs.Chunks.{at_position, positions, total_at}
 use Rattle.nr_reduce.specs.ServerReads.{chunks_of, regions_from}
 use Rattle.nr_responder.specs.Fetching.{open_sinks}
-use Rattle.nr_responder.specs.HeldBytes.{sizes, sinks_share, sinks_total}
+use Rattle.nr_responder.specs.HeldBytes.{sizes, sinks_count, sinks_share, sinks_total}
 
 -- no position stands twice
 abbrev Distinct : List ℕ → Type 0
@@ -129,3 +129,43 @@ own_share number place stag n lists ps = by (eqb number n) refl stag ps
         let rest = by false e (stag + 1) ps in
         let one : cond (eqb number n) (length (replicate {A = ℕ} (total_at p lists.read) 0)) 0 ≡ 0 = ap (λ (b : Bool). cond b (length (replicate {A = ℕ} (total_at p lists.read) 0)) 0) e in
         omega (arith, rest, one)
+
+abbrev one_if : Bool → ℕ
+one_if b = cond b 1 0
+
+-- and there is one for each chunk, no more than the read list has segments
+pub own_count : (number place stag n : ℕ) (lists : ChunkLists) (ps : List ℕ) → sinks_count n (open_sinks (regions_from number place stag lists ps)) ≤ cond (eqb number n) (length ps) 0
+own_count number place stag n lists ps = by (eqb number n) refl stag ps
+  where
+    by : (b : Bool) → eqb number n ≡ b → (stag : ℕ) (ps : List ℕ) → sinks_count n (open_sinks (regions_from number place stag lists ps)) ≤ cond b (length ps) 0
+    by true e stag [] = omega arith
+    by false e stag [] = omega arith
+    by true e stag (p ∷ ps) =
+        let rest = by true e (stag + 1) ps in
+        let one : one_if (eqb number n) ≡ 1 = ap one_if e in
+        omega (arith, rest, one)
+    by false e stag (p ∷ ps) =
+        let rest = by false e (stag + 1) ps in
+        let one : one_if (eqb number n) ≡ 0 = ap one_if e in
+        omega (arith, rest, one)
+
+filter_few : (p : ℕ → Bool) (xs : List ℕ) → length (filter p xs) ≤ length xs
+filter_few p [] = omega arith
+filter_few p (x ∷ xs) = by (p x) (filter_few p xs)
+  where
+    by : (b : Bool) → length (filter p xs) ≤ length xs → length (cond b (x ∷ filter p xs) (filter p xs)) ≤ length (x ∷ xs)
+    by true rest = omega (arith, rest)
+    by false rest = omega (arith, rest)
+
+positions_few : (read : List ReadSegment) → length (positions read) ≤ length read
+positions_few [] = omega arith
+positions_few (r ∷ read) =
+    let rest = positions_few read in
+    let fewer = filter_few (λ p. not (eqb p r.position)) (positions read) in
+    omega (arith, rest, fewer)
+
+pub chunks_few : (lists : ChunkLists) → length (chunks_of lists) ≤ length lists.read
+chunks_few lists =
+    let fewer = filter_few (λ p. not (eqb (total_at p lists.read) 0)) (positions lists.read) in
+    let few = positions_few lists.read in
+    omega (arith, fewer, few)

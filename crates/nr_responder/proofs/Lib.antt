@@ -1,3 +1,4 @@
+pub mod AnswerMessages
 pub mod Answered
 pub mod Begun
 pub mod CallsAtOnce
@@ -20,6 +21,7 @@ pub mod Handled
 pub mod Held
 pub mod HeldSinks
 pub mod Judged
+pub mod KeptLists
 pub mod LastResponses
 pub mod ListedReads
 pub mod Marks

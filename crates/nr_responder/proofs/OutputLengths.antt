@@ -219,7 +219,7 @@ first_few : (chunks : List (List RdmaSegment)) → All (λ chunk. length chunk �
 first_few [] h = omega arith
 first_few (chunk ∷ chunks) h = h 0 chunk (omega arith)
 
-reply_few : (o : Option (List RdmaSegment)) → IfSome o (λ chunk. length chunk ≤ 16) → length (no_segments o) ≤ 16
+pub reply_few : (o : Option (List RdmaSegment)) → IfSome o (λ chunk. length chunk ≤ 16) → length (no_segments o) ≤ 16
 reply_few None h = omega arith
 reply_few (Some chunk) h = h
 

@@ -71,7 +71,7 @@ step_out opened k so_far v after piece m h live lives step shares fit on taken =
     t = told_lives w f
 
     told_shares : SharesFit (told_of w)
-    told_shares = record { shares = shares.shares; waiting = shares.waiting }
+    told_shares = record { shares = shares.shares; counts = shares.counts; waiting = shares.waiting }
 
     message : (bytes : List ℕ) → Goes w (k.received.sends + 1) bytes after ⊎ RanOutOf w (k.received.sends + 1) bytes after → OutputFits after
     message bytes (inl goes) = handled_out opened k so_far bytes v after m h lives f on (goes k server refl)

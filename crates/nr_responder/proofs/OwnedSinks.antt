@@ -4,7 +4,7 @@ use Rattle.std.specs.Prelude.{◌⊎◌}
 use Rattle.std.specs.List.{AllByRecursion, list_any}
 use Rattle.std.proofs.lemmas.Bool.{eqb-true, eq-eqb}
 use Rattle.std.proofs.lemmas.List.{length-map, length-take}
-use Rattle.nr_header.specs.Constants.{PAYLOAD_MAX}
+use Rattle.nr_header.specs.Constants.{PAYLOAD_MAX, READ_SEGMENTS_MAX}
 use Rattle.nr_link.specs.Limits.{open_reads_max}
 use Rattle.nr_link.specs.Input.{InputState}
 use Rattle.nr_reduce.specs.OfferedRegions.{Region}
@@ -12,7 +12,7 @@ use Rattle.nr_reduce.specs.ServerState.{PendingCall, PendingRead, ServerState}
 use Rattle.nr_reduce.specs.ServerReads.{is_over, is_read, is_read_at}
 use Rattle.nr_reduce.specs.declared.mark.LinkParameters.{LinkParameters}
 use Rattle.nr_responder.specs.Fetching.{SinkRegion, open_sinks, open_if, sink_of_region}
-use Rattle.nr_responder.specs.HeldBytes.{sinks_total, IsOfPending, SharesFit}
+use Rattle.nr_responder.specs.HeldBytes.{sinks_total, sizes, IsOfPending, SharesFit}
 use Rattle.nr_responder.specs.Keeping.{Keeps}
 use Rattle.nr_responder.specs.ResponderState.{ResponderSide}
 use Rattle.nr_responder.proofs.Shares.{IsOwned, most_of, owned_total}
@@ -133,16 +133,43 @@ most_is : (calls : List ℕ) → most_of PAYLOAD_MAX calls ≡ PAYLOAD_MAX * len
 most_is [] = omega arith
 most_is (c ∷ calls) = (let rest = most_is calls in omega (arith, rest))
 
+sizes_one : (sinks : List SinkRegion) → sizes (λ (s : SinkRegion). 1) sinks ≡ length sinks
+sizes_one [] = refl
+sizes_one (s ∷ sinks) = (let rest = sizes_one sinks in omega (arith, rest))
+
+count_is : (calls : List ℕ) → most_of READ_SEGMENTS_MAX calls ≡ READ_SEGMENTS_MAX * length calls
+count_is [] = omega arith
+count_is (c ∷ calls) = (let rest = count_is calls in omega (arith, rest))
+
+-- The sinks are of pending calls, and of Read Requests that are open.
+owned_lem : (opened : LinkParameters) (k : ServerState) (so_far : InputState) (v : ResponderSide) → Keeps opened k so_far v → SharesFit v → AllByRecursion (IsOurs k.calls k.reads) v.fetching.sinks
+owned_lem opened k so_far v h fit =
+    let waiting : AllByRecursion (IsOfPending k.calls) (drop open_reads_max k.reads) = subst (λ (cs : List PendingCall). AllByRecursion (IsOfPending cs) (drop open_reads_max k.reads)) h.calls (subst (λ (rs : List PendingRead). AllByRecursion (IsOfPending v.calls) (drop open_reads_max rs)) h.reads fit.waiting) in
+    subst (λ (ss : List SinkRegion). AllByRecursion (IsOurs k.calls k.reads) ss) (sym h.sinks) (sinks_owned k.calls k.reads k.regions waiting h.server.closed)
+
+owners_few : (calls : List PendingCall) (reads : List PendingRead) → length (owners calls reads) ≤ length calls + open_reads_max
+owners_few calls reads =
+    let parts = length-append (map (λ (c : PendingCall). c.number) calls) (map (λ (r : PendingRead). r.number) (take open_reads_max reads)) in
+    let of_calls = length-map calls (λ (c : PendingCall). c.number) in
+    let of_reads = length-map (take open_reads_max reads) (λ (r : PendingRead). r.number) in
+    let first = length-take open_reads_max reads in
+    omega (arith, parts, of_calls, of_reads, first)
+
+-- So they are no more than the segments of a read list for each pending call, and for each Read Request that may be open.
+pub live_count : (opened : LinkParameters) (k : ServerState) (so_far : InputState) (v : ResponderSide) → Keeps opened k so_far v → SharesFit v → length v.fetching.sinks ≤ READ_SEGMENTS_MAX * (length v.calls + open_reads_max)
+live_count opened k so_far v h fit =
+    let total = owned_total (λ (x : SinkRegion). x.number) (λ (x : SinkRegion). 1) READ_SEGMENTS_MAX (owners k.calls k.reads) v.fetching.sinks (owned_lem opened k so_far v h fit) fit.counts in
+    let all = count_is (owners k.calls k.reads) in
+    let few = owners_few k.calls k.reads in
+    let size = sizes_one v.fetching.sinks in
+    let same = ap (λ (cs : List PendingCall). length cs) h.calls in
+    omega (arith, total, all, few, size, same)
+
 -- So all sinks together have at most the bytes of a payload for each pending call, and for each Read Request that may be open.
 pub live_most : (opened : LinkParameters) (k : ServerState) (so_far : InputState) (v : ResponderSide) → Keeps opened k so_far v → SharesFit v → sinks_total v.fetching.sinks ≤ PAYLOAD_MAX * (length v.calls + open_reads_max)
 live_most opened k so_far v h fit =
-    let waiting : AllByRecursion (IsOfPending k.calls) (drop open_reads_max k.reads) = subst (λ (cs : List PendingCall). AllByRecursion (IsOfPending cs) (drop open_reads_max k.reads)) h.calls (subst (λ (rs : List PendingRead). AllByRecursion (IsOfPending v.calls) (drop open_reads_max rs)) h.reads fit.waiting) in
-    let owned : AllByRecursion (IsOurs k.calls k.reads) v.fetching.sinks = subst (λ (ss : List SinkRegion). AllByRecursion (IsOurs k.calls k.reads) ss) (sym h.sinks) (sinks_owned k.calls k.reads k.regions waiting h.server.closed) in
-    let total = owned_total (λ (x : SinkRegion). x.number) (λ (x : SinkRegion). x.len) PAYLOAD_MAX (owners k.calls k.reads) v.fetching.sinks owned fit.shares in
+    let total = owned_total (λ (x : SinkRegion). x.number) (λ (x : SinkRegion). x.len) PAYLOAD_MAX (owners k.calls k.reads) v.fetching.sinks (owned_lem opened k so_far v h fit) fit.shares in
     let all = most_is (owners k.calls k.reads) in
-    let parts = length-append (map (λ (c : PendingCall). c.number) k.calls) (map (λ (r : PendingRead). r.number) (take open_reads_max k.reads)) in
-    let calls = length-map k.calls (λ (c : PendingCall). c.number) in
-    let reads = length-map (take open_reads_max k.reads) (λ (r : PendingRead). r.number) in
-    let first = length-take open_reads_max k.reads in
+    let few = owners_few k.calls k.reads in
     let same = ap (λ (cs : List PendingCall). length cs) h.calls in
-    omega (arith, total, all, parts, calls, reads, first, same)
+    omega (arith, total, all, few, same)

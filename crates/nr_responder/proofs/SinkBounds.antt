@@ -4,7 +4,7 @@ use Rattle.std.specs.Prelude.{◌⊎◌}
 use Rattle.std.specs.List.{AllByRecursion, list_any, filter}
 use Rattle.std.proofs.lemmas.Bool.{eqb-true, eq-eqb, ne_eqb, cases_lt}
 use Rattle.std.proofs.lemmas.List.{length-take, drop_all}
-use Rattle.nr_header.specs.Constants.{PAYLOAD_MAX}
+use Rattle.nr_header.specs.Constants.{PAYLOAD_MAX, READ_SEGMENTS_MAX}
 use Rattle.nr_header.specs.declared.header.ChunkLists.{ChunkLists}
 use Rattle.nr_header.specs.WithinLimits.{read_total}
 use Rattle.nr_link.specs.declared.end.End.{End}
@@ -24,7 +24,7 @@ use Rattle.nr_reduce.specs.ServerState.{PendingCall, PendingRead, ServerState}
 use Rattle.nr_reduce.specs.ServerReads.{chunks_of, reads_from, regions_from}
 use Rattle.nr_reduce.specs.declared.mark.LinkParameters.{LinkParameters}
 use Rattle.nr_responder.specs.Fetching.{Fetching, SinkRegion, open_if, open_sinks, sink_of_region}
-use Rattle.nr_responder.specs.HeldBytes.{sinks_share, sinks_total, IsOfPending, RegionsHave, SameReceives, SharesFit, SinksFit}
+use Rattle.nr_responder.specs.HeldBytes.{sinks_count, sinks_share, sinks_total, IsOfPending, RegionsHave, SameReceives, SharesFit, SinksFit}
 use Rattle.nr_responder.specs.Keeping.{Keeps}
 use Rattle.nr_responder.specs.ResponderState.{ResponderSide, end_of}
 use Rattle.nr_responder.specs.Sound.{AreHeldFrom}
@@ -34,8 +34,8 @@ use Rattle.nr_responder.specs.private.Handling.Handled.{Stopped, Refused, Ready,
 use Rattle.nr_responder.specs.private.Reading.{is_sink_over, over_sinks, left_sinks, released}
 use Rattle.nr_responder.specs.private.ReadsDone.{ReadHandled, ReadRanOut, calls_without, ended_as, reading_on, reads_without, still_open, with_sent}
 use Rattle.nr_responder.specs.private.ReadsDone.ReadHandled.{GoesOn, Readies, Stops, Refused as RefusedRead}
-use Rattle.nr_responder.proofs.ChunkTotals.{own_share, sinks_within}
-use Rattle.nr_responder.proofs.OwnedSinks.{live_most}
+use Rattle.nr_responder.proofs.ChunkTotals.{chunks_few, own_count, own_share, sinks_within}
+use Rattle.nr_responder.proofs.OwnedSinks.{live_count, live_most}
 use Rattle.nr_responder.proofs.PendingReads.{AreOf, reads_own}
 use Rattle.nr_responder.proofs.Posted.{stopped_as, memory_as, memory_ends, sent_link, told_link_lem}
 use Rattle.nr_responder.proofs.Shares.{share_append, share_filtered, sizes_append}
@@ -161,7 +161,8 @@ on_link_fits v l same memory lives h = record {
   receives = receives_on _ v.link.state.receive_queue l.state.receive_queue h.receives same;
   memory = subst (λ (m : RegisteredMemory). RegionsHave m (sinks_total v.fetching.sinks)) (sym memory) h.memory;
   most = h.most;
-  each = λ live. (let f : SharesFit v = h.each (lives live) in record { shares = f.shares; waiting = f.waiting });
+  count = h.count;
+  each = λ live. (let f : SharesFit v = h.each (lives live) in record { shares = f.shares; counts = f.counts; waiting = f.waiting });
 }
 
 pub ready_fits : (v : ResponderSide) (l : LinkSide) (c : PendingCall) → SameReceives v.link.state.receive_queue l.state.receive_queue → l.state.memory ≡ v.link.state.memory → (l.state.ended ≡ None → end_of v ≡ None) → SinksFit v → SinksFit (with_ready v l c)
@@ -169,7 +170,8 @@ ready_fits v l c same memory lives h = record {
   receives = receives_on _ v.link.state.receive_queue l.state.receive_queue h.receives same;
   memory = subst (λ (m : RegisteredMemory). RegionsHave m (sinks_total v.fetching.sinks)) (sym memory) h.memory;
   most = (let most = h.most in omega (arith, most, length-append v.calls (c ∷ [])));
-  each = λ live. (let f : SharesFit v = h.each (lives live) in record { shares = f.shares; waiting = all_more v.calls (c ∷ []) (drop open_reads_max v.fetching.reads) f.waiting });
+  count = (let count = h.count in omega (arith, count, length-append v.calls (c ∷ [])));
+  each = λ live. (let f : SharesFit v = h.each (lives live) in record { shares = f.shares; counts = f.counts; waiting = all_more v.calls (c ∷ []) (drop open_reads_max v.fetching.reads) f.waiting });
 }
 
 -- a side that is stopped ends
@@ -185,6 +187,7 @@ ended_fits v l fetching same memory sinks over h = record {
   receives = receives_on _ v.link.state.receive_queue l.state.receive_queue h.receives same;
   memory = subst (λ (m : RegisteredMemory). RegionsHave m (sinks_total fetching.sinks)) (sym memory) (subst (λ (ss : List SinkRegion). RegionsHave v.link.state.memory (sinks_total ss)) (sym sinks) h.memory);
   most = (let most = h.most in let same = ap (λ (ss : List SinkRegion). sinks_total ss) sinks in omega (arith, most, same));
+  count = (let count = h.count in let same = ap (λ (ss : List SinkRegion). length ss) sinks in omega (arith, count, same));
   each = λ live. absurd (over live);
 }
 
@@ -197,7 +200,7 @@ LivesOn v = end_of v ≡ None → (opened : LinkParameters) × ((k : ServerState
 pub live_fits : (v : ResponderSide) → LivesOn v → end_of v ≡ None → SameReceives (initial_receives v.credits send_max) v.link.state.receive_queue → RegionsHave v.link.state.memory (sinks_total v.fetching.sinks) → SharesFit v → SinksFit v
 live_fits v on live receives have fit =
     let h = on live in
-    record { receives = receives; memory = have; most = live_most h.0 h.1.0 h.1.1.0 v h.1.1.1 fit; each = λ live. fit }
+    record { receives = receives; memory = have; most = live_most h.0 h.1.0 h.1.1.0 v h.1.1.1 fit; count = live_count h.0 h.1.0 h.1.1.0 v h.1.1.1 fit; each = λ live. fit }
 
 -- ---- A call that is read
 
@@ -212,6 +215,20 @@ none_yet n (g ∷ regions) h = by g.until (none_yet n regions h.1)
     by None rest = omega (arith, one, rest)
     by (Some until) rest = rest
 
+abbrev one_if : Bool → ℕ
+one_if b = cond b 1 0
+
+count_none : (n : ℕ) (regions : List Region) → AllByRecursion (λ r. r.call ≤ n) regions → sinks_count (n + 1) (open_sinks regions) ≡ 0
+count_none n [] h = refl
+count_none n (g ∷ regions) h = by g.until (count_none n regions h.1)
+  where
+    one : one_if (eqb g.call (n + 1)) ≡ 0
+    one = ap one_if (ne_eqb g.call (n + 1) (λ e. (let le = h.0 in omega (arith, le, e))))
+
+    by : (o : Option ℕ) → sinks_count (n + 1) (open_sinks regions) ≡ 0 → sinks_count (n + 1) (open_if o (sink_of_region g) (open_sinks regions)) ≡ 0
+    by None rest = omega (arith, one, rest)
+    by (Some until) rest = rest
+
 from_total : (number place stag : ℕ) (lists : ChunkLists) (ps : List ℕ) → regions_total (regions_from number place stag lists ps) ≡ sinks_total (open_sinks (regions_from number place stag lists ps))
 from_total number place stag lists [] = refl
 from_total number place stag lists (p ∷ ps) = (let rest = from_total number place (stag + 1) lists ps in omega (arith, rest))
@@ -220,10 +237,11 @@ from_length : (number place stag : ℕ) (lists : ChunkLists) (ps : List ℕ) →
 from_length number place stag lists [] = refl
 from_length number place stag lists (p ∷ ps) = (let rest = from_length number place (stag + 1) lists ps in omega (arith, rest))
 
-reading_shares : (k : ServerState) (v : ResponderSide) (c : PendingCall) → v.fetching.sinks ≡ open_sinks k.regions → AllByRecursion (λ r. r.call ≤ k.received.sends) k.regions → c.number ≡ k.received.sends + 1 → read_total c.lists.read ≤ PAYLOAD_MAX →
+reading_shares : (k : ServerState) (v : ResponderSide) (c : PendingCall) → v.fetching.sinks ≡ open_sinks k.regions → AllByRecursion (λ r. r.call ≤ k.received.sends) k.regions → c.number ≡ k.received.sends + 1 → read_total c.lists.read ≤ PAYLOAD_MAX → length c.lists.read ≤ READ_SEGMENTS_MAX →
     SharesFit v → SharesFit (reading_call v c)
-reading_shares k v c sinks before number total f = record {
+reading_shares k v c sinks before number total few f = record {
   shares = λ n. one n (eqb c.number n) refl;
+  counts = λ n. count n (eqb c.number n) refl;
   waiting =
       drop_split (IsOfPending (v.calls ++ c ∷ [])) open_reads_max v.fetching.reads (reads_from (sinks_of v.link.state c) c.number [] c.lists.read) (all_more v.calls (c ∷ []) (drop open_reads_max v.fetching.reads) f.waiting)
       (own_pending v.calls c (reads_from (sinks_of v.link.state c) c.number [] c.lists.read) (reads_own (sinks_of v.link.state c) c.number [] c.lists.read));
@@ -252,6 +270,26 @@ reading_shares k v c sinks before number total f = record {
         let more : sinks_share n new ≤ 0 = subst (λ (b : Bool). sinks_share n new ≤ cond b (sinks_total new) 0) is (own n) in
         let sum = both n in
         let first = f.shares n in
+        omega (arith, more, sum, first)
+
+    counts_of : (n : ℕ) → sinks_count n (v.fetching.sinks ++ new) ≡ sinks_count n v.fetching.sinks + sinks_count n new
+    counts_of n = share_append (λ (s : SinkRegion). s.number) (λ (s : SinkRegion). 1) n v.fetching.sinks new
+
+    new_count : (n : ℕ) → sinks_count n new ≤ cond (eqb c.number n) (length (chunks_of c.lists)) 0
+    new_count n = own_count c.number 0 v.link.state.memory.next n c.lists (chunks_of c.lists)
+
+    count : (n : ℕ) (b : Bool) → eqb c.number n ≡ b → sinks_count n (v.fetching.sinks ++ new) ≤ READ_SEGMENTS_MAX
+    count n true is =
+        let same : n ≡ k.received.sends + 1 = sym (eqb-true c.number n is) ∙ number in
+        let old : sinks_count n v.fetching.sinks ≡ 0 = (λ i. sinks_count (same i) (sinks i)) ∙ count_none k.received.sends k.regions before in
+        let more : sinks_count n new ≤ length (chunks_of c.lists) = subst (λ (b : Bool). sinks_count n new ≤ cond b (length (chunks_of c.lists)) 0) is (new_count n) in
+        let chunks = chunks_few c.lists in
+        let sum = counts_of n in
+        omega (arith, old, more, chunks, few, sum)
+    count n false is =
+        let more : sinks_count n new ≤ 0 = subst (λ (b : Bool). sinks_count n new ≤ cond b (length (chunks_of c.lists)) 0) is (new_count n) in
+        let sum = counts_of n in
+        let first = f.counts n in
         omega (arith, more, sum, first)
 
 reading_memory : (v : ResponderSide) (c : PendingCall) → v.link.state.memory.next + length (chunks_of c.lists) ≤ numbers_end → read_total c.lists.read ≤ PAYLOAD_MAX → RegionsHave v.link.state.memory (sinks_total v.fetching.sinks) →
@@ -296,7 +334,7 @@ handled_fits opened k so_far message v after m keeps live lives h on (Fetched c 
     let live_now : end_of (reading_call w c) ≡ None = told_live m ∙ lives in
     subst SinksFit (sym is)
     (live_fits (reading_call w c) (subst LivesOn is on) live_now g.receives (reading_memory w c fits total g.memory)
-    (reading_shares k w c keeps.sinks keeps.server.regions_before own total (g.each (told_live m ∙ lives))))
+    (reading_shares k w c keeps.sinks keeps.server.regions_before own total few (g.each (told_live m ∙ lives))))
 
 -- ---- What was made of a read that is done
 
@@ -307,9 +345,10 @@ done_memory v t calls reads kept xids payloads memory held have =
     subst (λ (m : RegisteredMemory). RegionsHave (released (over_sinks calls reads v.fetching.sinks) m) (sinks_total (left_sinks calls reads v.fetching.sinks))) (sym memory)
     (subst (λ (n : ℕ). RegionsHave (released (over_sinks calls reads v.fetching.sinks) v.link.state.memory) n) (omega arith) left)
 
-done_shares : (v : ResponderSide) (t : LinkState) (calls : List PendingCall) (reads : List PendingRead) (kept : ℕ) (xids : List ℕ) (payloads : List (Option (List ℕ))) → ((n : ℕ) → sinks_share n v.fetching.sinks ≤ PAYLOAD_MAX) → AllByRecursion (IsOfPending calls) (drop open_reads_max reads) →
+done_shares : (v : ResponderSide) (t : LinkState) (calls : List PendingCall) (reads : List PendingRead) (kept : ℕ) (xids : List ℕ) (payloads : List (Option (List ℕ))) → ((n : ℕ) → sinks_share n v.fetching.sinks ≤ PAYLOAD_MAX) → ((n : ℕ) → sinks_count n v.fetching.sinks ≤ READ_SEGMENTS_MAX) → AllByRecursion (IsOfPending calls) (drop open_reads_max reads) →
     SharesFit (reading_on v t calls reads kept xids payloads)
-done_shares v t calls reads kept xids payloads shares waiting = record {
+done_shares v t calls reads kept xids payloads shares counts waiting = record {
+  counts = λ n. (let fewer = share_filtered (λ (s : SinkRegion). s.number) (λ (s : SinkRegion). 1) n (λ s. not (is_sink_over calls reads s)) v.fetching.sinks in let most = counts n in omega (arith, fewer, most));
   shares = λ n. (let fewer = share_filtered (λ (s : SinkRegion). s.number) (λ (s : SinkRegion). s.len) n (λ s. not (is_sink_over calls reads s)) v.fetching.sinks in let most = shares n in omega (arith, fewer, most));
   waiting = waiting;
 }
@@ -328,7 +367,7 @@ read_fits v after r rest reads live held h on handled = by handled
     goes xids payloads is =
         subst SinksFit (sym is)
         (live_fits (reading_on v v.link.state v.calls rest (still_open r rest) xids payloads) (subst LivesOn is on) live h.receives (done_memory v v.link.state v.calls rest (still_open r rest) xids payloads refl held h.memory)
-        (done_shares v v.link.state v.calls rest (still_open r rest) xids payloads f.shares (drop_next (IsOfPending v.calls) open_reads_max r rest waiting)))
+        (done_shares v v.link.state v.calls rest (still_open r rest) xids payloads f.shares f.counts (drop_next (IsOfPending v.calls) open_reads_max r rest waiting)))
 
     few : still_open r rest ≤ open_reads_max
     few = omega (arith, length-take open_reads_max (r ∷ rest))
@@ -346,7 +385,7 @@ read_fits v after r rest reads live held h on handled = by handled
         subst SinksFit (sym is)
         (live_fits (reading_on v (with_sent v.link.state message) (calls_without n v.calls) left (still_open r rest) [] []) (subst LivesOn is on) live h.receives
         (done_memory v (with_sent v.link.state message) (calls_without n v.calls) left (still_open r rest) [] [] refl held h.memory)
-        (done_shares v (with_sent v.link.state message) (calls_without n v.calls) left (still_open r rest) [] [] f.shares
+        (done_shares v (with_sent v.link.state message) (calls_without n v.calls) left (still_open r rest) [] [] f.shares f.counts
         (few_kept (IsOfPending (calls_without n v.calls)) (still_open r rest) open_reads_max rest (filter (λ q. not (eqb q.number n)) (drop (still_open r rest) rest)) few
         (without_pending n v.calls (drop (still_open r rest) rest) (kept_waiting (IsOfPending v.calls) r rest waiting)))))
 

@@ -63,7 +63,7 @@ pub fed_fits : (v : ResponderSide) (piece : List ℕ) (m : LinkSide) → end_of 
 fed_fits v piece m live step is h =
     let have : RegionsHave m.state.memory (sinks_total v.fetching.sinks) = subst (λ (l : LinkSide). RegionsHave l.state.memory (sinks_total v.fetching.sinks)) (sym is) (fed_one_have (sinks_total v.fetching.sinks) v.link piece h.memory) in
     let counts = step_counts v.link m piece step in
-    record { receives = receives_on _ v.link.state.receive_queue m.state.receive_queue h.receives (record { count = counts.receives; len = counts.receive_length }); memory = have; most = h.most; each = λ lives. (let f : SharesFit v = h.each live in record { shares = f.shares; waiting = f.waiting }) }
+    record { receives = receives_on _ v.link.state.receive_queue m.state.receive_queue h.receives (record { count = counts.receives; len = counts.receive_length }); memory = have; most = h.most; count = h.count; each = λ lives. (let f : SharesFit v = h.each live in record { shares = f.shares; counts = f.counts; waiting = f.waiting }) }
 
 -- or it ended, or ran out of memory
 pub failed_fits : (v : ResponderSide) (piece : List ℕ) (m : LinkSide) (end : End) → end_of v ≡ None → IsPartial v.link.awaited v.link.rest → (end ≢ ends.Memory → m ≡ after_call v.link (FeedOne piece)) → (end ≡ ends.Memory → m ≡ after_call v.link OutOfMemory) → SinksFit v → SinksFit (on_link v m)
@@ -168,7 +168,7 @@ own_number (d ∷ calls) zero c x n there own all = (let same : d ≡ c = cc in 
 own_number (d ∷ calls) (suc at) c x n there own all = own_number calls at c x n there own all.1
 
 pub answered_fits : (opened : LinkParameters) (link : ℕ) (run : List Mark) (v after : ResponderSide) (xid : ℕ) (reply : List ℕ) (sent : Sent) → ResponderRepresents opened link run v → end_of v ≡ None → slice_get v.ready 0 ≡ Some xid → LivesOn after → SinksFit v → Answers v after xid reply sent → SinksFit after
-answered_fits opened link run v after xid reply sent stands live first on fit a = subst SinksFit (sym a.state) (live_fits w (subst LivesOn a.state on) live_now (receives_on _ _ _ fit.receives (receives_same _ _ (ap (λ (l : LinkSide). l.state.receive_queue) link_is))) have (record { shares = f.shares; waiting = waiting }))
+answered_fits opened link run v after xid reply sent stands live first on fit a = subst SinksFit (sym a.state) (live_fits w (subst LivesOn a.state on) live_now (receives_on _ _ _ fit.receives (receives_same _ _ (ap (λ (l : LinkSide). l.state.receive_queue) link_is))) have (record { shares = f.shares; counts = f.counts; waiting = waiting }))
   where
     message : List ℕ
     message = message_for xid v.credits a.call.lists (answer_to a.call a.stream reply)
@@ -203,7 +203,7 @@ answered_fits opened link run v after xid reply sent stands live first on fit a 
 -- ---- A drain
 
 pub drained_fits : (v after : ResponderSide) (n : ℕ) → after ≡ after_drain v n → SinksFit v → SinksFit after
-drained_fits v after n is h = subst SinksFit (sym is) (record { receives = record { count = h.receives.count; len = h.receives.len }; memory = h.memory; most = h.most; each = λ live. (let f : SharesFit v = h.each live in record { shares = f.shares; waiting = f.waiting }) })
+drained_fits v after n is h = subst SinksFit (sym is) (record { receives = record { count = h.receives.count; len = h.receives.len }; memory = h.memory; most = h.most; count = h.count; each = λ live. (let f : SharesFit v = h.each live in record { shares = f.shares; counts = f.counts; waiting = f.waiting }) })
 
 -- ---- As it is opened
 
@@ -217,7 +217,8 @@ opened_fits v credits is =
       receives = opened_receives credits;
       memory = opened_have (opened_side credits).link credits refl;
       most = omega arith;
-      each = λ live. record { shares = λ n. omega arith; waiting = tt };
+      count = omega arith;
+      each = λ live. record { shares = λ n. omega arith; counts = λ n. omega arith; waiting = tt };
     })
 
 -- ---- An answer stands on

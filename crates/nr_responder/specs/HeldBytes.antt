@@ -10,7 +10,7 @@ use Rattle.nr_endpoint.specs.ReceiveQueue.{ReceiveQueue, initial_receives}
 use Rattle.nr_endpoint.specs.SendQueue.{SendQueue, ends_left}
 use Rattle.nr_reduce.specs.ServerState.{PendingCall, PendingRead}
 use Rattle.nr_responder.specs.Fetching.{SinkRegion}
-use Rattle.nr_responder.specs.ResponderState.{ResponderSide, ResponderState, end_of}
+use Rattle.nr_responder.specs.ResponderState.{ResponderSide, ResponderState, end_of, unsent}
 
 -- What is held for each credit, and four times for the link itself, in bytes.
 abbrev pub held_unit : ℕ
@@ -40,9 +40,15 @@ RegionsHave m total = IsTotal region_len m.next total m.held
 abbrev pub IsOfPending : List PendingCall → PendingRead → Type 0
 IsOfPending calls r = list_any (λ c. c.number == r.number) calls ≡ true
 
--- The sinks of a call are no longer together than its payload may be, and the reads that wait are of pending calls.
+-- how many of the sinks are of the call whose Send has a number
+abbrev pub sinks_count : ℕ → List SinkRegion → ℕ
+sinks_count n sinks = share (λ s. s.number) (λ s. 1) n sinks
+
+-- The sinks of a call are no longer together than its payload may be, and no more than the segments of a read list; and the reads that wait are of
+-- pending calls.
 pub record SharesFit (v : ResponderSide) : Type 0 where
   pub shares : (n : ℕ) → sinks_share n v.fetching.sinks ≤ PAYLOAD_MAX
+  pub counts : (n : ℕ) → sinks_count n v.fetching.sinks ≤ READ_SEGMENTS_MAX
   pub waiting : AllByRecursion (IsOfPending v.calls) (drop open_reads_max v.fetching.reads)
 
 -- as many receives, of one length
@@ -55,6 +61,7 @@ pub record SameReceives (p q : ReceiveQueue) : Type 0 where
 pub record SinksFit (v : ResponderSide) : Type 0 where
   pub memory : RegionsHave v.link.state.memory (sinks_total v.fetching.sinks)
   pub most : sinks_total v.fetching.sinks ≤ PAYLOAD_MAX * (length v.calls + open_reads_max)
+  pub count : length v.fetching.sinks ≤ READ_SEGMENTS_MAX * (length v.calls + open_reads_max)
   pub each : end_of v ≡ None → SharesFit v
   pub receives : SameReceives (initial_receives v.credits send_max) v.link.state.receive_queue
 
@@ -105,6 +112,17 @@ pub record OutputFits (v : ResponderSide) : Type 0 where
   pub most : QueueMost v.link.state.send_queue (length v.calls)
   pub hello : length v.link.state.send_queue.hello ≤ 2 * HELLO_LEN
   pub each : end_of v ≡ None → OutputLives v
+
+-- ---- Lists
+
+-- How long the lists are that a responder keeps, whose bytes aren't counted: its calls with the Sends that haven't left; the calls that are ready, and
+-- the payloads of these; the sinks; and, while the side lives, the Read Requests that are open or wait.
+pub record ListsFit (v : ResponderSide) : Type 0 where
+  pub calls : length v.calls + unsent v.link.state ≤ v.credits
+  pub ready : length v.ready ≤ length v.calls
+  pub payloads : length v.fetching.payloads ≤ length v.calls
+  pub sinks : length v.fetching.sinks ≤ READ_SEGMENTS_MAX * (length v.calls + open_reads_max)
+  pub reads : end_of v ≡ None → length v.fetching.reads ≤ READ_SEGMENTS_MAX * length v.calls + open_reads_max
 
 -- What a responder keeps is within bounds.
 pub record KeptFits (v : ResponderSide) : Type 0 where

@@ -11,7 +11,6 @@ ghost use Rattle.nr_reduce.specs.Server.{answer_of_target};
 ghost use Rattle.nr_reduce.specs.Holds.{chunk_error, version_error, writes_into, first_chunk, no_segments};
 ghost use Rattle.nr_reduce.specs.CodeViews.{answer_view};
 ghost use Rattle.nr_responder.specs.Answering.{answer_to, message_for, writes_for, sent_as, Queues};
-ghost use Rattle.nr_responder.specs.HeldBytes.{sent_reply_max};
 ghost use Rattle.nr_responder.specs.Views.{call_view};
 ghost use Rattle.nr_responder.specs.Sound.{InBuffer};
 
@@ -23,9 +22,6 @@ use nr_reduce::{Answer, answer_for, answer_message};
 use nr_rpc::{CallTarget, call_target};
 use nr_xdr::{Memory, Octets};
 use std::alloc::Global;
-
-/// The most bytes of a reply.
-const SENT_REPLY_MAX: usize = 65536;
 
 /// The most bytes of a message that an endpoint sends.
 pub(crate) const SENDABLE: usize = 4294967295;
@@ -230,7 +226,7 @@ fn push_answer<'a>(
 }
 
 /// Queues the answer to a call with these lists and this payload: its RDMA Writes and its message. `target` is what the payload's head asks
-/// for, if that was read. An `Err` changes nothing: memory ran out, or the reply is longer than a reply may be.
+/// for, if that was read. An `Err` changes nothing: memory ran out.
 fn queue_with(
     endpoint: &mut Endpoint,
     alloc: Global,
@@ -244,23 +240,14 @@ fn queue_with(
     requires call { InBuffer call.now }
     requires lists { lists_of_slices lists ≡ (call_view call.now).lists }
     requires target { IfSome target (λ t. t ≡ target_of (call_of stream.now)) }
-    ensures short { IfOk result (λ _. length (message_for call.now.xid credits (call_view call.now).lists (answer_to (call_view call.now) stream.now reply.now)) ≤ send_max) }
-    ensures reply { IfOk result (λ _. length reply.now ≤ sent_reply_max) }
     ensures queued { IfOk result (Queues (call_view call.now) stream.now reply.now credits endpoint.old.link endpoint.new.link) }
     ensures err { OnErr result (endpoint.new.link ≡ endpoint.old.link) }
     ensures staging { endpoint.new.staging ≡ endpoint.old.staging }
     ensures outside { endpoint.new.outside ≡ endpoint.old.outside }
 {
-    if reply.len() > SENT_REPLY_MAX {
-        return Err(Memory);
-    }
     let answer = answer_to(lists, target_of(stream, target), reply);
     let sent = sent_as(&answer);
     let message = message_for(alloc, call.xid, credits, lists, answer)?;
-    // The answer is one that fits into the client's receive.
-    if message.len() > SEND_MAX as usize {
-        return Err(Memory);
-    }
     let mut writes = Vec::new(alloc);
     push_answer(&mut writes, lists, answer)?;
     endpoint.answer(writes.as_slice(), message.as_slice())?;
@@ -279,8 +266,6 @@ pub(crate) fn queue_answer(
 ) -> Result<Sent, Memory>
     requires call { InBuffer call.now }
     requires target { IfSome target (λ t. t ≡ target_of (call_of stream.now)) }
-    ensures short { IfOk result (λ _. length (message_for call.now.xid credits (call_view call.now).lists (answer_to (call_view call.now) stream.now reply.now)) ≤ send_max) }
-    ensures reply { IfOk result (λ _. length reply.now ≤ sent_reply_max) }
     ensures queued { IfOk result (Queues (call_view call.now) stream.now reply.now credits endpoint.old.link endpoint.new.link) }
     ensures err { OnErr result (endpoint.new.link ≡ endpoint.old.link) }
     ensures staging { endpoint.new.staging ≡ endpoint.old.staging }

@@ -8,7 +8,7 @@ ghost use Rattle.nr_reduce.specs.declared.mark.Mark.{Mark};
 ghost use Rattle.nr_reduce.specs.Plans.{one_if};
 ghost use Rattle.nr_reduce.specs.Run.{server};
 ghost use Rattle.nr_reduce.specs.ServerState.{receives_in_use};
-ghost use Rattle.nr_responder.specs.HeldBytes.{held_unit, IsBounded};
+ghost use Rattle.nr_responder.specs.HeldBytes.{held_unit, IsBounded, ListsFit};
 ghost use Rattle.nr_responder.specs.ResponderState.{bytes_held_by, end_of, unsent};
 ghost use Rattle.nr_responder.specs.Rooms.{payload_room};
 ghost use Rattle.nr_responder.specs.Sound.{payload_len, room_len, state_of, with_staging, ServerEndInvariant};
@@ -125,6 +125,7 @@ impl ServerEnd {
         ensures is { result ≡ bytes_held_by (with_staging self.now) }
         ensures bound { result ≤ held_unit * (self.now.credits + 4) }
         ensures rooms { (with_staging self.now).rooms ≤ payload_room * (2 * length (with_staging self.now).side.calls) }
+        ensures lists { ListsFit (state_of self.now) }
     {
         self.endpoint.facts();
         let lent = self.calls.len() + self.used.len();

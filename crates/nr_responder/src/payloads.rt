@@ -1,6 +1,6 @@
 //! The payload of a call whose chunks are read (RFC 8166 section 3.4.5).
 
-ghost use Rattle.std.specs.Prelude.{◌≡◌, ℕ, ◌+◌, ◌*◌, ◌^◌, ◌<◌, ◌≤◌, ◌==◌, ◌||◌, length, take, drop, is_some, true, Some, None, IfErr, IfOk, IfSome, List, [], Option, option_map, slice_get, if◌then◌else◌};
+ghost use Rattle.std.specs.Prelude.{◌≡◌, ℕ, ◌+◌, ◌*◌, ◌^◌, ◌<◌, ◌≤◌, ◌==◌, ◌||◌, length, take, drop, is_some, true, Some, None, IfErr, IfSome, List, [], Option, option_map, slice_get, if◌then◌else◌};
 ghost use Rattle.nr_xdr.specs.Item.{IsBytes, pad_len};
 ghost use Rattle.nr_link.specs.Limits.{send_max};
 ghost use Rattle.nr_rpc.specs.Reading.{call_of, target_of};
@@ -26,7 +26,7 @@ use nr_header::ReadSegment;
 use nr_link::constants::{REASON_HEAD, REASON_XID};
 use nr_reduce::{Item, Of, item_position, rebuild_in_place, rebuild_item_into};
 use nr_rpc::CallTarget;
-use nr_xdr::{Memory, Octets, pad_len};
+use nr_xdr::{Octets, pad_len};
 use std::collections::VecDeque;
 
 /// A payload that is a stream alone, whose head asks for this.
@@ -219,26 +219,19 @@ pub(crate) fn first_payload(ready: &VecDeque<Ready>) -> Option<&Payload>
     }
 }
 
-/// The payload of this call, which is the first that is ready, and what its head asks for, if that was read. `Err` if the payload is neither
-/// in the message nor read, or is still read: no call is so.
+/// The payload of this call, which is the first that is ready, and what its head asks for, if that was read.
 pub(crate) fn ready_payload<'a>(
     ready: &'a VecDeque<Ready>,
     call: &'a Pending,
-) -> Result<(&'a [u8], Option<Option<CallTarget>>), Memory>
+) -> (&'a [u8], Option<Option<CallTarget>>)
     requires ready { 0 < length ready.now.items }
     requires call { InBuffer call.now }
-    ensures payload { IfOk result (λ s. (p : Option (List ℕ)) × ((slice_get (payloads_of ready.now.items) 0 ≡ Some p) × IsPayload (call_view call.now) p s.0.now)) }
-    ensures target { IfOk result (λ s. IfSome s.1 (λ t. t ≡ target_of (call_of s.0.now))) }
-    ensures read { IfOk result (λ _. call.now.around ≡ 0) }
+    requires inline { slice_get (payloads_of ready.now.items) 0 ≡ Some None → call.now.inline ≡ true }
+    ensures payload { (p : Option (List ℕ)) × ((slice_get (payloads_of ready.now.items) 0 ≡ Some p) × IsPayload (call_view call.now) p result.0.now) }
+    ensures target { IfSome result.1 (λ t. t ≡ target_of (call_of result.0.now)) }
 {
-    if call.around != 0 {
-        return Err(Memory);
-    }
     if let Some(payload) = first_payload(ready) {
-        return Ok((payload.as_slice(), Some(payload.target())));
+        return (payload.as_slice(), Some(payload.target()));
     }
-    if !call.inline {
-        return Err(Memory);
-    }
-    Ok((stream_of(&call.buf, call.len, call.stream_at), call.target))
+    (stream_of(&call.buf, call.len, call.stream_at), call.target)
 }

@@ -24,7 +24,7 @@ ghost use Rattle.nr_regions.specs.RegisteredMemory.{bytes_held};
 ghost use Rattle.nr_reduce.specs.Plans.{one_if};
 ghost use Rattle.nr_reduce.specs.Run.{server};
 ghost use Rattle.nr_reduce.specs.ServerState.{receives_in_use};
-ghost use Rattle.nr_responder.specs.HeldBytes.{held_unit, sent_reply_max};
+ghost use Rattle.nr_responder.specs.HeldBytes.{held_unit, sent_reply_max, ListsFit};
 ghost use Rattle.nr_responder.specs.ResponderState.{bytes_held_by, end_of, may_write, opened_side, unsent, KeepsStaging};
 ghost use Rattle.nr_responder.specs.Rooms.{payload_room};
 ghost use Rattle.nr_responder.specs.Sound.{IsNext};
@@ -145,14 +145,12 @@ impl Responder {
     }
 
     /// Queues the answer to the next call: RDMA Writes into what it offered and one Send, or ERR_CHUNK if its offer doesn't hold the reply
-    /// (RFC 8166 sections 3.4.6, 3.5). An `Err` changes nothing and gives the call back: memory ran out, or the reply has more than 65536
-    /// bytes.
+    /// (RFC 8166 sections 3.4.6, 3.5). The reply has at most 65536 bytes. An `Err` changes nothing and gives the call back: memory ran out.
     pub fn answer(&mut self, call: CallId, reply: &[u8]) -> Result<Sent, (CallId, Memory)>
         requires live { end_of self.old.side ≡ None }
         requires next { IsNext self.old.side call }
+        requires short { length reply.now ≤ sent_reply_max }
         ensures answers { IfOk result (λ sent. Answers self.old.side self.new.side call reply.now sent) }
-        // A longer reply is refused.
-        ensures short { IfOk result (λ _. length reply.now ≤ sent_reply_max) }
         ensures stands { OnOk result ((opened : LinkParameters) (link : ℕ) (run : List Mark) (moment : Moment) (payload : List ℕ) (place : ℕ) → ResponderRepresents opened link run self.old.side →
             IsExecuted opened link run call payload → ResponderRepresents opened link (run ++ marks.Execute link call moment payload place reply.now ∷ []) self.new.side) }
         ensures err { OnErr result (self.new ≡ self.old) }
@@ -189,6 +187,8 @@ impl Responder {
         ensures rooms { self.now.rooms ≤ payload_room * (2 * length self.now.side.calls) }
         // The regions: the payload of each of these calls, and for each Read Request that may be open.
         ensures regions { bytes_held self.now.side.link.state.memory ≤ PAYLOAD_MAX * (length self.now.side.calls + open_reads_max) }
+        // Lists, whose bytes aren't counted, have a maximum number of elements.
+        ensures lists { ListsFit self.now.side }
     {
         self.end.held()
     }

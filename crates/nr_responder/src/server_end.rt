@@ -27,7 +27,7 @@ ghost use Rattle.nr_responder.specs.private.Handling.{out, IsTaken, ReadsXid};
 ghost use Rattle.nr_responder.specs.ResponderState.{end_of, opened_side, posted_times, may_write, KeepsStaging};
 ghost use Rattle.nr_responder.specs.Sound.{state_of, with_staging, payloads_of, IsNext, ServerEndInvariant};
 ghost use Rattle.nr_responder.specs.HeldBytes.{KeptFits, sent_reply_max};
-ghost use Rattle.nr_responder.specs.Standing.{ResponderRepresents, StaysBounded};
+ghost use Rattle.nr_responder.specs.Standing.{RepresentsSome, ResponderRepresents, StaysBounded};
 ghost use Rattle.nr_responder.specs.Steps.{Fed, taken_of};
 
 use crate::answering::{SENDABLE, queue_answer};
@@ -346,15 +346,20 @@ impl ServerEnd {
         requires at { at < length self.old.calls.items }
         requires own { (d : Pending) → (get_or self.old.calls.items at d).xid ≡ xid }
         requires next { 0 < length self.old.ready.items }
+        requires inline { (d : Pending) → slice_get (payloads_of self.old.ready.items) 0 ≡ Some None → (get_or self.old.calls.items at d).inline ≡ true }
+        requires short { length reply.now ≤ sent_reply_max }
         ensures answers { IfOk result (λ sent. Answers (state_of self.old) (state_of self.new) xid reply.now sent) }
-        ensures short { IfOk result (λ _. length reply.now ≤ sent_reply_max) }
         ensures err { OnErr result (with_staging self.new ≡ with_staging self.old) }
         ensures fed { fed_bytes self.new.endpoint.link ≡ fed_bytes self.old.endpoint.link }
         ensures staging { self.new.endpoint.staging ≡ self.old.endpoint.staging }
         ensures sound { ServerEndInvariant self.new }
     {
         self.endpoint.facts();
-        let (stream, target) = ready_payload(&self.ready, &self.calls[at])?;
+        // Nothing is left to be read for a call that is ready.
+        if self.calls[at].around != 0 {
+            return Err(Memory);
+        }
+        let (stream, target) = ready_payload(&self.ready, &self.calls[at]);
         let sent = queue_answer(
             &mut self.endpoint,
             self.alloc,
@@ -375,8 +380,9 @@ impl ServerEnd {
         requires sound { ServerEndInvariant self.old }
         requires live { self.old.endpoint.link.state.ended ≡ None }
         requires next { IsNext (state_of self.old) xid }
+        requires stands { RepresentsSome (state_of self.old) }
+        requires short { length reply.now ≤ sent_reply_max }
         ensures answers { IfOk result (λ sent. Answers (state_of self.old) (state_of self.new) xid reply.now sent) }
-        ensures short { IfOk result (λ _. length reply.now ≤ sent_reply_max) }
         ensures stands { OnOk result ((opened : LinkParameters) (link : ℕ) (run : List Mark) (moment : Moment) (payload : List ℕ) (place : ℕ) → ResponderRepresents opened link run (state_of self.old) →
             IsExecuted opened link run xid payload → ResponderRepresents opened link (run ++ marks.Execute link xid moment payload place reply.now ∷ []) (state_of self.new)) }
         ensures err { OnErr result (with_staging self.new ≡ with_staging self.old) }
@@ -388,7 +394,7 @@ impl ServerEnd {
         match place_of(self.calls.as_slice(), xid) {
             Some(at) => self.answer_at(at, xid, reply),
             // A call that is ready is pending.
-            None => Err(Memory),
+            None => unreachable!(),
         }
     }
 

@@ -15,27 +15,6 @@ use crate::call::{OpenSink, Pending, ReadEntry, has_number, is_read};
 use nr_endpoint::Endpoint;
 use nr_xdr::Octets;
 
-/// The bytes of the sink of a call at a position; none if it has no sink there.
-pub(crate) fn sink_bytes<'a>(
-    endpoint: &'a Endpoint,
-    sinks: &'a [OpenSink],
-    number: u64,
-    position: u32,
-) -> &'a [u8]
-    requires held { AreHeldFrom endpoint.now.link.state.memory 0 (claims_of sinks.now) }
-    requires short { All (λ s. s.registration.len ≤ PAYLOAD_MAX) sinks.now }
-    ensures bytes { result.now ≡ sink_bytes endpoint.now.link.state.memory (map sink_view sinks.now) number position }
-    ensures short { length result.now ≤ PAYLOAD_MAX }
-{
-    'sinks: for i in 0..sinks.len() {
-        let sink = &sinks[i];
-        if sink.number == number && sink.position == position {
-            return endpoint.regions().bytes(&sink.registration);
-        }
-    }
-    &[]
-}
-
 /// The place of the first sink of a call at a position.
 pub(crate) fn sink_place(sinks: &[OpenSink], number: u64, position: u32) -> Option<usize>
     ensures some { IfSome result (λ at. (at < length sinks.now) × ((d : OpenSink) → find (is_sink number position) (map sink_view sinks.now) ≡ Some (sink_view (get_or sinks.now at d)))) }
@@ -48,6 +27,24 @@ pub(crate) fn sink_place(sinks: &[OpenSink], number: u64, position: u32) -> Opti
         }
     }
     None
+}
+
+/// The bytes of the sink of a call at a position; none if it has no sink there.
+pub(crate) fn sink_bytes<'a>(
+    endpoint: &'a Endpoint,
+    sinks: &'a [OpenSink],
+    number: u64,
+    position: u32,
+) -> &'a [u8]
+    requires held { AreHeldFrom endpoint.now.link.state.memory 0 (claims_of sinks.now) }
+    requires short { All (λ s. s.registration.len ≤ PAYLOAD_MAX) sinks.now }
+    ensures bytes { result.now ≡ sink_bytes endpoint.now.link.state.memory (map sink_view sinks.now) number position }
+    ensures short { length result.now ≤ PAYLOAD_MAX }
+{
+    match sink_place(sinks, number, position) {
+        Some(at) => endpoint.regions().bytes(&sinks[at].registration),
+        None => &[],
+    }
 }
 
 fn has_read_at(reads: &[ReadEntry], number: u64, position: u32) -> bool

@@ -2,7 +2,7 @@ use Rattle.std.proofs.Common.{◌+◌, ◌*◌, ◌≤◌, length, subst}
 use Rattle.nr_header.specs.Constants.{PAYLOAD_MAX}
 use Rattle.nr_link.specs.Limits.{open_reads_max}
 use Rattle.nr_regions.specs.RegisteredMemory.{bytes_held}
-use Rattle.nr_responder.specs.HeldBytes.{held_unit}
+use Rattle.nr_responder.specs.HeldBytes.{held_unit, ListsFit}
 use Rattle.nr_responder.specs.ResponderState.{ResponderState}
 use Rattle.nr_responder.specs.Rooms.{payload_room}
 use Rattle.nr_responder.specs.Sound.{state_of}
@@ -18,3 +18,6 @@ returns-clause-regions c =
 
 pub returns-clause-bound : goal.returns-clause-bound
 returns-clause-bound c = subst (λ (v : ResponderState). c.held.result ≤ held_unit * (v.side.credits + 4)) c.self.view_is c.held.ensures.bound
+
+pub returns-clause-lists : goal.returns-clause-lists
+returns-clause-lists c = subst (λ (v : ResponderState). ListsFit v.side) c.self.view_is c.held.ensures.lists

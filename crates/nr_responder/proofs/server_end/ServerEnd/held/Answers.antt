@@ -12,6 +12,7 @@ use Rattle.nr_responder.specs.Views.{call_view}
 use Rattle.nr_responder.proofs.Held.{held_sum, rooms_most}
 use Rattle.nr_responder.proofs.HeldSinks.{outside_most}
 use Rattle.nr_responder.proofs.Windows.{rooms_few}
+use Rattle.nr_responder.proofs.KeptLists.{lists_fit}
 use Rattle.nr_responder.proofs.server_end.ServerEnd.held.Goals as goal
 
 pub returns-clause-is : goal.returns-clause-is
@@ -42,3 +43,6 @@ returns-clause-bound c =
     let lent = c.requires.sound.0.lent in
     let same = length-map c.args.self.now.calls.items call_view in
     held_bound (with_staging c.args.self.now) _ (returns-clause-is c) c.requires.bounded (returns-clause-rooms c) c.facts.ensures.receives (omega (arith, unsent_is, lent, same))
+
+pub returns-clause-lists : goal.returns-clause-lists
+returns-clause-lists c = lists_fit c.args.self.now c.requires.sound c.requires.bounded.0 c.facts.ensures.receives
