@@ -188,3 +188,10 @@ over_link credits false before after (link_ends.Rdma end) s = let (read, (failed
 over_link credits false before after (link_ends.Record end) s = absurd s
 over_link credits true before after (link_ends.Rdma end) (held, (s, kind)) = let (read, (failed, e)) = s 0 in (answers_of e.run, e.runs.over)
 over_link credits true before after (link_ends.Record end) (held, (s, kind)) = (s.exchanges, s.serves.over)
+
+-- ---- the same, seen from outside
+
+pub link_same : (credits : ℕ) (records : Bool) (before before' after after' : Outside) (end : LinkEnd) → before ≡ before' → after ≡ after' → IsLinkServed credits records before after end
+    → IsLinkServed credits records before' after' end
+link_same credits records before before' after after' end same same' served =
+    subst (λ (o : Outside). IsLinkServed credits records o after' end) same (subst (λ (o : Outside). IsLinkServed credits records before o end) same' served)
