@@ -112,7 +112,12 @@ fn late_job(rt: HostRuntime) {
     let alloc = rt.alloc();
     let mut spawner = ThreadSpawner::new(alloc, 1).expect(&rt, "memory");
     let (place, other) = places(&rt, alloc);
-    same(&rt, 0, spawner.start(rt, alloc, Late { rt, place }).is_ok(), true);
+    same(
+        &rt,
+        0,
+        spawner.start(rt, alloc, Late { rt, place }).is_ok(),
+        true,
+    );
     spawner.finish(&rt);
     let count = *other.count.lock(&rt);
     same(&rt, 1, count, 1);
