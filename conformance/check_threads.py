@@ -266,11 +266,15 @@ class Tries:
             for key, mask in waiting.select(1):
                 s = key.fileobj
                 assert isinstance(s, socket.socket)
-                if mask & selectors.EVENT_WRITE:
-                    s.sendall(HELLO + CALL)
-                    waiting.modify(s, selectors.EVENT_READ)
-                    continue
-                more = s.recv(65536)
+                more = b''
+                try:
+                    if mask & selectors.EVENT_WRITE:
+                        s.sendall(HELLO + CALL)
+                        waiting.modify(s, selectors.EVENT_READ)
+                        continue
+                    more = s.recv(65536)
+                except OSError:
+                    pass
                 got[s] += more
                 if not more or len(got[s]) >= len(ANSWERED):
                     self.same('one of the crowd', got[s], ANSWERED)

@@ -1,4 +1,4 @@
-//! Tests of nr_turnstile and nr_record. For a turnstile there are three values that stand for a history, a counter, a list
+//! Tests of nr_turnstile, nr_record and nr_record_host. For a turnstile there are three values that stand for a history, a counter, a list
 //! and a desk of questions and answers, and a value with a pass of another turnstile.
 #![tactic(auto)]
 
@@ -13,6 +13,8 @@ mod log;
 mod open;
 mod pieces;
 mod pumping;
+#[cfg(test)]
+mod record_ends;
 #[cfg(test)]
 mod records;
 #[cfg(test)]

@@ -186,8 +186,8 @@ fn server(rt: &impl Abort, alloc: Global) -> Server {
 }
 
 /// Serves a connection, and compares how it ends, what its sink takes, and how many moments the clock gave.
-fn same_end(
-    rt: &(impl Abort + Wait),
+fn same_end<R: Abort + Wait>(
+    rt: &R,
     alloc: Global,
     row: usize,
     source: &mut MemSource,
@@ -205,7 +205,7 @@ fn same_end(
     same(rt, row, clock.now().seconds, moments);
 }
 
-fn ends(rt: &(impl Abort + Wait), alloc: Global, row: usize, case: &Row) {
+fn ends<R: Abort + Wait>(rt: &R, alloc: Global, row: usize, case: &Row) {
     let (words, most, sizes, reads, writes, end, sent, moments) = *case;
     let sizes = sizes.to_vec(alloc).expect(rt, "memory");
     let reads = reads.to_vec(alloc).expect(rt, "memory");

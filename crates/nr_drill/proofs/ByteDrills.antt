@@ -20,7 +20,7 @@ use Rattle.nr_drill.specs.WorkLeft.{DrainStep, after_step}
 use Rattle.nr_drill.specs.WorkLeft.DrainStep.{AllUp, Work, AllDown}
 use Rattle.nr_drill.specs.InBytes.{ExecutedMark, ExecutedInBytes}
 use Rattle.nr_drill.specs.Drains.{AnswersInBytes}
-use Rattle.nr_drill.proofs.ByteServers.{ReadyOfBytes, ready_bytes}
+use Rattle.nr_byte_laws.proofs.ByteServers.{ReadyOfBytes, ready_bytes}
 use Rattle.nr_drill.proofs.TypedDrills.{IsTypedDrill, AddsQuiet, KeptBySteps, marked, up_keeps, down_keeps, work_keeps, lines_keep, openings_keep, start_typed}
 use Rattle.nr_drill.proofs.TypedDrills.AddsQuiet.{Same, More}
 use Rattle.nr_drill.proofs.LessScripts.{all_front}

@@ -18,8 +18,8 @@ use Rattle.nr_script.proofs.ByteLists.{no_bytes_lem}
 use Rattle.nr_drill.specs.Drill.{Setting, Drill, Pipes, pipes_of, plain_of, now, with_mark, unwritten, after_output, after_all_output, settled, after_feeding, after_feeding_up, after_feeding_down, after_up, after_down, after_handing, after_done, after_dones, after_outcomes, waiting_call, after_answer, after_execution, after_work}
 use Rattle.nr_drill.specs.WorkLeft.DrainStep.{AllUp, Work, AllDown}
 use Rattle.nr_drill.specs.Drains.{AnswersInBytesAt, StepsKeepTypes}
-use Rattle.nr_drill.proofs.ByteClients.{client_due}
-use Rattle.nr_drill.proofs.ByteServers.{server_due}
+use Rattle.nr_byte_laws.proofs.ByteClients.{client_due}
+use Rattle.nr_byte_laws.proofs.ByteServers.{server_due}
 
 more : (mark : Mark) (d : Drill) → TypedMark d.marks mark → IsTyped d.marks → IsTyped (with_mark mark d).marks
 more mark d t h = AtEachMark_more TypedMark [] d.marks mark h t

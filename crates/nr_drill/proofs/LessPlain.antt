@@ -20,10 +20,11 @@ use Rattle.nr_drill.specs.Drill.{plain_of, now}
 use Rattle.nr_drill.specs.Follows.{parameters_of, setting_of}
 use Rattle.nr_drill.specs.DrillSetup.{drill_setup, server_of}
 use Rattle.nr_drill.specs.Drains.{AnswersCalls, AnswersInBytes}
-use Rattle.nr_drill.specs.InBytes.{RepliedMark, RepliedInBytes, ExecutedMark, ExecutedInBytes, IsInBytes}
+use Rattle.nr_byte_laws.specs.InBytes.{EntryInBytes, IsInBytes}
+use Rattle.nr_drill.specs.InBytes.{RepliedMark, RepliedInBytes, ExecutedMark, ExecutedInBytes}
 use Rattle.nr_drill.specs.Laws.{PlainServersAnswer, PlainServersAnswerInBytes, PlainRunsReplyInBytes, PlainDrainsEnd}
 use Rattle.nr_drill.proofs.ByteDrills.{script_bytes}
-use Rattle.nr_drill.proofs.PlainBytes.{EntryInBytes, plain_reply_bytes, entries_bytes}
+use Rattle.nr_byte_laws.proofs.PlainBytes.{plain_reply_bytes, entries_bytes}
 use Rattle.nr_drill.proofs.LessRounds.{drains_end}
 
 pub plain_answers_calls : (setup : Setup) (opening : Opening) → AnswersCalls (setting_of (server_of setup) opening)

@@ -31,7 +31,7 @@ use Rattle.nr_laws.proofs.ServerEnds.{hello_goes}
 use Rattle.nr_script.specs.declared.script.Line.{Line}
 use Rattle.nr_script.specs.declared.script.Line.TheVariants as lines
 use Rattle.nr_script.specs.Script.{ScriptLines, HasWritableCred, IsScript}
-use Rattle.nr_drill.specs.Lines.{is_raw_of, HasNoRaw, IsLink}
+use Rattle.nr_drill.specs.Lines.{HasNoRaw, IsLink}
 use Rattle.nr_drill.specs.Drill.{link_of, SerialServer, Setting, Drill, Pipes, start, links_of, pipes_of, cred_of, settled, after_feeding, after_feeding_up, after_feeding_down, after_outcomes, after_up, after_down, after_round, after_moves, after_submit, after_work, after_forget, after_revoke, after_drop, after_raw, after_opening, after_openings}
 use Rattle.nr_drill.specs.Follows.{after_line, Drains, Makes, MakeAll, parameters_of, setting_of, opened_drill}
 use Rattle.nr_drill.specs.WorkLeft.{DrainStep, after_step}

@@ -5,10 +5,6 @@ pub mod Promised
 pub mod NoneLost
 pub mod Drained
 pub mod Handed
-pub mod ByteStreams
-pub mod ByteRuns
-pub mod ByteClients
-pub mod ByteServers
 pub mod TypedDrills
 pub mod Remembered
 pub mod Headed
@@ -20,10 +16,7 @@ pub mod LessSteps
 pub mod LessScripts
 pub mod KeptTypes
 pub mod ByteDrills
-pub mod TreeBytes
 pub mod DrillTrees
-pub mod ResultBytes
-pub mod PlainBytes
 pub mod LessRounds
 pub mod LessPlain
 pub mod SomeRuns

@@ -15,7 +15,7 @@ use Rattle.nr_drill.proofs.LessScripts.{any_front}
 use Rattle.nr_drill.proofs.LessRounds.{drains_end}
 use Rattle.nr_drill.proofs.LessPlain.{plain_answers, plain_answers_in_bytes, plain_runs_reply_in_bytes}
 use Rattle.nr_drill.proofs.Headed.{drill_is_run}
-use Rattle.nr_drill.proofs.TreeBytes.{drill_in_bytes}
+use Rattle.nr_byte_laws.proofs.TreeBytes.{drill_in_bytes}
 use Rattle.nr_drill.proofs.DrillTrees.{drill_sane}
 
 -- what a line makes, if a drain of it ends

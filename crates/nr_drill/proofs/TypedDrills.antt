@@ -41,8 +41,8 @@ use Rattle.nr_drill.specs.Follows.{after_line, Drains, Makes, MakeAll, Follows, 
 use Rattle.nr_drill.specs.InBytes.{RepliedMark, RepliedInBytes, ExecutedMark}
 use Rattle.nr_script.proofs.ByteLists.{no_bytes_lem}
 use Rattle.nr_script.proofs.ByteLists.{AreOfBytes, items_bytes}
-use Rattle.nr_drill.proofs.ByteClients.{client_due}
-use Rattle.nr_drill.proofs.ByteServers.{server_due}
+use Rattle.nr_byte_laws.proofs.ByteClients.{client_due}
+use Rattle.nr_byte_laws.proofs.ByteServers.{server_due}
 
 -- ===== a drill that is of its types
 

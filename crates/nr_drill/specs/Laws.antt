@@ -13,7 +13,8 @@ use Rattle.nr_drill.specs.Follows.{Drains, MakeAll, Follows, setting_of, opened_
 use Rattle.nr_drill.specs.Drains.{AnswersCalls, AnswersInBytes}
 use Rattle.nr_drill.specs.Headline.{IsDrillRun, Reports}
 use Rattle.nr_drill.specs.Lines.{IsLink, HasNoRaw}
-use Rattle.nr_drill.specs.InBytes.{RepliedInBytes, IsInBytes}
+use Rattle.nr_byte_laws.specs.InBytes.{IsInBytes}
+use Rattle.nr_drill.specs.InBytes.{RepliedInBytes}
 use Rattle.nr_drill.specs.DrillSetup.{drill_setup, server_of}
 use Rattle.nr_drill.specs.Shown.{shown, text_of, summary, sums_of}
 

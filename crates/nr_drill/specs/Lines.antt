@@ -11,7 +11,7 @@ is_raw_of link line = false
 
 -- none of these lines puts bytes into the pipes of a link
 abbrev pub HasNoRaw : List Line → ℕ → Type 0
-HasNoRaw some link = list_any (is_raw_of link) some ≡ false
+HasNoRaw all link = list_any (is_raw_of link) all ≡ false
 
 -- a line that does something on a link: a drain does it on each
 abbrev pub acts_on : ℕ → Line → Bool

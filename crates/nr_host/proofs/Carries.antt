@@ -82,6 +82,10 @@ carried credits before now v read end carries ahead more most failed cause link 
       ),
     )
 
+pub served_same : (credits : ℕ) (before before' after after' : Outside) (end : ConnEnd) → before ≡ before' → after ≡ after' → IsServed credits before after end → IsServed credits before' after' end
+served_same credits before before' after after' end same same' served =
+    subst (λ (o : Outside). IsServed credits o after' end) same (subst (λ (o : Outside). IsServed credits before o end) same' served)
+
 -- a read that handed out nothing
 pub nothing_read : (credits : ℕ) (before : Outside) (left given left' given' : Option (List ℕ)) (sink : SinkState) (gave : Option (List Moment)) (view : PassView) (v : ResponderSide) (read : ℕ)
     → CarriesTo credits before (outside left given sink gave view) v read → HandsOut left given left' given' [] → CarriesTo credits before (outside left' given' sink gave view) v (read + 0)

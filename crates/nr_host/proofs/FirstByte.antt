@@ -4,7 +4,7 @@ use Rattle.std.specs.Io.KnownBytes.{Appends, Consumes, IsAtEnd, Keeps}
 use Rattle.nr_outside.specs.Content.{HandsOut}
 use Rattle.nr_outside.specs.declared.moment.Moment.{Moment}
 use Rattle.nr_links.specs.Limits.{read_max}
-use Rattle.nr_links.specs.Peeked.{left_with}
+use Rattle.nr_links.specs.Peeked.{given_without, left_with}
 use Rattle.nr_endpoint.specs.LinkState.{initial_link}
 use Rattle.nr_wire.specs.declared.hello.Side.TheVariants.{Responder}
 use Rattle.nr_responder.specs.ResponderState.{end_of, opened_side}
@@ -90,6 +90,21 @@ module _ (credits : ℕ) (left given left' given' taken : Option (List ℕ)) (fa
       read_ends credits (first_outside left given taken faults gave view) (first_outside left' given' taken faults gave view) (opened_side credits) 0 ends.Closed begun over
       (ends_closed 0 (opened_side credits) lives refl refl) refl refl less refl
 
+-- no byte was held before
+pub not_held_given : (held : Option ℕ) (given given' : Option (List ℕ)) → held ≡ None → Keeps (given_without held given) given' → Keeps given given'
+not_held_given held given given' none told = subst (λ (h : Option ℕ). Keeps (given_without h given) given') none told
+
+-- the first read failed, or handed out nothing
+pub kind_failed : (left left' : Option (List ℕ)) → Keeps left left' → IsKindFor left left' (link_ends.Rdma ends.LinkRead)
+kind_failed None left' kept = tt
+kind_failed (Some []) left' kept = kept
+kind_failed (Some (x ∷ xs)) left' kept = inr kept
+
+pub kind_closed : (left left' : Option (List ℕ)) → Keeps left left' → IsAtEnd left' → IsKindFor left left' (link_ends.Rdma ends.Closed)
+kind_closed None left' kept over = tt
+kind_closed (Some []) left' kept over = (kept, over)
+kind_closed (Some (x ∷ xs)) left' kept over = inr (kept, over)
+
 -- ---- it was served after the look
 
 module _ (left given left' given' : Option (List ℕ)) (sink : SinkState) (gave : Option (List Moment)) (view : PassView) (kept : Keeps left left') (told : Keeps given given') where
@@ -173,3 +188,10 @@ over_link credits false before after (link_ends.Rdma end) s = let (read, (failed
 over_link credits false before after (link_ends.Record end) s = absurd s
 over_link credits true before after (link_ends.Rdma end) (held, (s, kind)) = let (read, (failed, e)) = s 0 in (answers_of e.run, e.runs.over)
 over_link credits true before after (link_ends.Record end) (held, (s, kind)) = (s.exchanges, s.serves.over)
+
+-- ---- the same, seen from outside
+
+pub link_same : (credits : ℕ) (records : Bool) (before before' after after' : Outside) (end : LinkEnd) → before ≡ before' → after ≡ after' → IsLinkServed credits records before after end
+    → IsLinkServed credits records before' after' end
+link_same credits records before before' after after' end same same' served =
+    subst (λ (o : Outside). IsLinkServed credits records o after' end) same (subst (λ (o : Outside). IsLinkServed credits records before o end) same' served)

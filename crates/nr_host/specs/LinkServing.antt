@@ -1,5 +1,5 @@
 -- A link, which may carry RPC over RDMA or RPC over TCP with record marks (RFC 5531 section 11).
-use Rattle.std.specs.Prelude.{◌≡◌, ⊤, ⊥, ◌⊎◌, ℕ, Bool, true, false, List, [], ◌∷◌, Option, None, Some}
+use Rattle.std.specs.Prelude.{◌≡◌, ⊤, ◌⊎◌, ℕ, Bool, true, false, List, [], ◌∷◌, Option, None, Some}
 use Rattle.std.specs.Io.KnownBytes.{IsAtEnd, Keeps}
 use Rattle.nr_links.specs.Peeked.{given_without, left_with}
 use Rattle.nr_record_host.specs.RecordRuns.{IsRecordsServed, around}

@@ -1,7 +1,7 @@
 -- What grows keeps its pieces.
 use Rattle.std.proofs.Common.{◌≡◌, ℕ, zero, suc, ◌+◌, ◌-◌, ◌≤◌, ◌<◌, arith, Bool, true, false, if◌then◌else◌, List, [], ◌∷◌, ◌++◌, length, take, drop, get_or, set, refl, sym, ap, subst, ◌∙◌, append-nil, append_assoc, length-append}
 use Rattle.std.specs.Prelude.{Result, Ok, Err, OnOk}
-use Rattle.std.proofs.lemmas.List.{take-append-le, drop-append-le, length-drop, take_all, drop_at, get_or-set_same, get_or_default}
+use Rattle.std.proofs.lemmas.List.{take-append-le, drop-append-le, length-take, length-drop, take_all, drop_at, get_or-set_same, get_or_default}
 use Rattle.nr_marks.specs.declared.stores.Piece.{Piece}
 use Rattle.std.proofs.lemmas.List.Sums.{sum_by-set, sum_by_push}
 use Rattle.nr_marks.specs.Pieces.{Grows, IsWithin, Holds, bytes_in, stored_len}
@@ -124,6 +124,9 @@ stored_write now old at own new bytes same there lt is =
     let more : length new ≡ length own + length bytes = ap (λ (xs : List ℕ). length xs) is ∙ length-append own bytes in
     let total : stored_len old ≡ stored_len now = ap stored_len same in
     omega (arith, sum, here, more, total)
+
+pub few_taken : (n : ℕ) (xs : List ℕ) → length (take n xs) ≤ n
+few_taken n xs = (let e = length-take n xs in omega (arith, e))
 
 pub store_there : (now old : List (List ℕ)) (at : ℕ) → old ≡ now → at < length now → at < length old
 store_there now old at same lt = subst (λ (ss : List (List ℕ)). at < length ss) (sym same) lt

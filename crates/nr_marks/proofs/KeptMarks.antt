@@ -117,7 +117,7 @@ pub settled_fits : {E : Type 0} (r : Result (Unit {0}) E) (before stores : List 
     → waiting ≡ Some mark → stored_len stores + own_len k ≤ stored_len before + mark_len mark → new ≡ (if is_ok r then old ++ k ∷ [] else old)
     → OnOk r (kept_len stores new ≤ kept_len before old + marks_len (option_to_list waiting))
 settled_fits (Ok x) before stores old new k mark waiting waits few is =
-    let one : marks_len (option_to_list waiting) ≡ mark_len mark = ap (λ (o : Option Mark). marks_len (option_to_list o)) waits in
+    let one : marks_len (option_to_list waiting) ≡ 0 + mark_len mark = ap (λ (o : Option Mark). marks_len (option_to_list o)) waits in
     let all : kept_len stores new ≤ kept_len before old + mark_len mark = one_fits before stores old new k (mark_len mark) few is in
     omega (arith, one, all)
 settled_fits (Err e) before stores old new k mark waiting waits few is = tt

@@ -1,17 +1,17 @@
 -- The message of an answer fits into a receive of the client.
-use Rattle.std.proofs.Common.{◌≡◌, ℕ, ◌+◌, ◌*◌, ◌≤◌, Bool, true, false, List, [], ◌∷◌, length, Option, None, Some, refl, sym, ap, arith}
-use Rattle.std.specs.Prelude.{sum_by, IfSome}
+use Rattle.std.proofs.Common.{◌≡◌, ℕ, ◌+◌, ◌*◌, ◌≤◌, Bool, true, false, List, [], ◌∷◌, length, Option, None, Some, refl, arith}
+use Rattle.std.specs.Prelude.{sum_by}
 use Rattle.std.proofs.lemmas.List.Sums.{sum_by-cons}
 use Rattle.nr_header.specs.declared.header.RdmaSegment.{RdmaSegment}
 use Rattle.nr_header.specs.declared.header.ChunkLists.{ChunkLists}
 use Rattle.nr_header.specs.Constants.{VERSION}
-use Rattle.nr_header.specs.Length.{reply_chunk_len, write_chunk_len, write_list_len}
+use Rattle.nr_header.specs.Length.{write_chunk_len, write_list_len}
 use Rattle.nr_header.specs.WithinLimits.{ListsWithin}
 use Rattle.nr_header.proofs.Lengths.{chunk_error_length}
 use Rattle.nr_link.specs.Limits.{send_max}
 use Rattle.nr_rpc.specs.Reading.{call_of, target_of}
 use Rattle.nr_rpc.specs.declared.head.CallTarget.{CallTarget}
-use Rattle.nr_reduce.specs.Holds.{Answer, answer_for, answer_message, chunk_error, no_segments}
+use Rattle.nr_reduce.specs.Holds.{Answer, answer_for, answer_message, chunk_error}
 use Rattle.nr_reduce.specs.Server.{answer_of_target}
 use Rattle.nr_reduce.specs.ServerState.{PendingCall}
 use Rattle.nr_reduce.proofs.AnswerMessages.{answer_length}
@@ -36,9 +36,9 @@ held_short xid credits lists prog vers proc reply None within is = error_short x
 held_short xid credits lists prog vers proc reply (Some a) within is = by a.long refl
   where
     by : (long : Bool) → a.long ≡ long → length (answer_message xid credits lists a) ≤ send_max
-    by false no = ((answer_length lists send_max prog vers proc xid credits reply a is).0 no).1
-    by true yes =
-        let len = (answer_length lists send_max prog vers proc xid credits reply a is).1 yes in
+    by false here = ((answer_length lists send_max prog vers proc xid credits reply a is).0 here).1
+    by true away =
+        let len = (answer_length lists send_max prog vers proc xid credits reply a is).1 away in
         let list = list_len lists.write in
         let chunks = within.write_chunks in
         let segments = within.write_segments in

@@ -130,6 +130,9 @@ own_share number place stag n lists ps = by (eqb number n) refl stag ps
         let one : cond (eqb number n) (length (replicate {A = ℕ} (total_at p lists.read) 0)) 0 ≡ 0 = ap (λ (b : Bool). cond b (length (replicate {A = ℕ} (total_at p lists.read) 0)) 0) e in
         omega (arith, rest, one)
 
+abbrev one_if : Bool → ℕ
+one_if b = cond b 1 0
+
 -- and there is one for each chunk, no more than the read list has segments
 pub own_count : (number place stag n : ℕ) (lists : ChunkLists) (ps : List ℕ) → sinks_count n (open_sinks (regions_from number place stag lists ps)) ≤ cond (eqb number n) (length ps) 0
 own_count number place stag n lists ps = by (eqb number n) refl stag ps
@@ -139,11 +142,11 @@ own_count number place stag n lists ps = by (eqb number n) refl stag ps
     by false e stag [] = omega arith
     by true e stag (p ∷ ps) =
         let rest = by true e (stag + 1) ps in
-        let one : cond (eqb number n) 1 0 ≡ 1 = ap (λ (b : Bool). cond b 1 0) e in
+        let one : one_if (eqb number n) ≡ 1 = ap one_if e in
         omega (arith, rest, one)
     by false e stag (p ∷ ps) =
         let rest = by false e (stag + 1) ps in
-        let one : cond (eqb number n) 1 0 ≡ 0 = ap (λ (b : Bool). cond b 1 0) e in
+        let one : one_if (eqb number n) ≡ 0 = ap one_if e in
         omega (arith, rest, one)
 
 filter_few : (p : ℕ → Bool) (xs : List ℕ) → length (filter p xs) ≤ length xs

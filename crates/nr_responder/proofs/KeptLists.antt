@@ -1,5 +1,5 @@
 -- How long the lists of a responder are.
-use Rattle.std.proofs.Common.{◌≡◌, ℕ, ◌+◌, ◌*◌, ◌≤◌, length, drop, map, None, List, sym, ap, arith}
+use Rattle.std.proofs.Common.{◌≡◌, ◌+◌, ◌*◌, ◌≤◌, length, None, arith}
 use Rattle.std.proofs.lemmas.List.{length-drop, length-map}
 use Rattle.nr_header.specs.Constants.{READ_SEGMENTS_MAX}
 use Rattle.nr_link.specs.Limits.{open_reads_max}

@@ -215,12 +215,15 @@ none_yet n (g ∷ regions) h = by g.until (none_yet n regions h.1)
     by None rest = omega (arith, one, rest)
     by (Some until) rest = rest
 
+abbrev one_if : Bool → ℕ
+one_if b = cond b 1 0
+
 count_none : (n : ℕ) (regions : List Region) → AllByRecursion (λ r. r.call ≤ n) regions → sinks_count (n + 1) (open_sinks regions) ≡ 0
 count_none n [] h = refl
 count_none n (g ∷ regions) h = by g.until (count_none n regions h.1)
   where
-    one : cond (eqb g.call (n + 1)) 1 0 ≡ 0
-    one = ap (λ (b : Bool). cond b 1 0) (ne_eqb g.call (n + 1) (λ e. (let le = h.0 in omega (arith, le, e))))
+    one : one_if (eqb g.call (n + 1)) ≡ 0
+    one = ap one_if (ne_eqb g.call (n + 1) (λ e. (let le = h.0 in omega (arith, le, e))))
 
     by : (o : Option ℕ) → sinks_count (n + 1) (open_sinks regions) ≡ 0 → sinks_count (n + 1) (open_if o (sink_of_region g) (open_sinks regions)) ≡ 0
     by None rest = omega (arith, one, rest)

@@ -19,9 +19,9 @@ longer_of false first J K seen own stood added = (J, stood)
 pub journal_after : (credits : ℕ) (records : Bool) (first : Opening) (J : List Entry) (before after : Between) (links : List (Option LinkEnd)) → ServesAll credits records before links after → IsHistory first J before.view.seen
     → (K : List Entry) × IsHistory first K after.view.seen
 journal_after credits records first J before after [] none stood = (J, subst (λ (b : Between). IsHistory first J b.view.seen) (sym none) stood)
-journal_after credits records first J before after (None ∷ links) (mid, one, rest) stood =
+journal_after credits records first J before after (None ∷ links) (mid, (one, rest)) stood =
     journal_after credits records first J mid after links rest (subst (λ (v : PassView). IsHistory first J v.seen) (sym one.view) stood)
-journal_after credits records first J before after (Some end ∷ links) (mid, one, rest) stood =
+journal_after credits records first J before after (Some end ∷ links) (mid, (one, rest)) stood =
     let (calls, all) = over_link credits records (outside one.opened.left one.opened.given (sink_state one.opened.taken 0 false) one.gave (split_off before.view))
     (outside one.closed.left one.closed.given (sink_state one.closed.taken one.sink_faults false) one.gave' one.own) end one.served in
     let over = all first J stood in

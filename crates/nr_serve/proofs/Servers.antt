@@ -1,5 +1,5 @@
 -- A server that is opened, and its links.
-use Rattle.std.proofs.Common.{◌≡◌, ℕ, ◌+◌, List, [], Option, Result, Ok, Err, length, inl, inr, refl, sym, ap, subst, ◌∙◌}
+use Rattle.std.proofs.Common.{◌≡◌, ℕ, ◌+◌, List, [], ◌++◌, Option, Result, Ok, Err, length, inl, inr, refl, sym, ap, subst, ◌∙◌}
 use Rattle.std.specs.Prelude.{MatchResult}
 use Rattle.nr_outside.specs.declared.moment.Moment.{Moment}
 use Rattle.nr_outside.specs.Faults.{Rises}
@@ -26,7 +26,7 @@ use Rattle.nr_serve.proofs.Journals.{journal_after}
 -- the server that a configuration asks for stands behind a turnstile
 pub shares : (settings : Settings Text) (gave gave' : Option (List Moment)) (kept : PlainServerState) (view : PassView) → OpensServer settings gave gave' kept → IsOpenedBy kept view.seen
     → OpensShared settings gave gave' view
-shares settings gave gave' kept view opens (first, (is, empty)) = record {
+shares settings gave gave' kept view opens (first, is, empty) = record {
   first = first;
   opens = record {
     moment = opens.moment;

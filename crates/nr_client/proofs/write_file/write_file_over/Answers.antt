@@ -18,4 +18,4 @@ returns-clause-writes g c =
 
 pub returns-clause-input_stops : goal.returns-clause-input_stops
 returns-clause-input_stops g c =
-    stops_after g.N.Source.faults g.N.Source.left g.N.Source.given c.write_window-result.result c.args.input.now c.fill.new.input c.write_window-result.new.input c.in-Ok-2.ensures.counted c.write_window-result.ensures.input_stops
+    stops_after g.N.Source.faults g.N.Source.left g.N.Source.given c.write_window-result.result c.args.input.now c.fill.new.input c.write_window-result.new.input c.in-Ok-fill.ensures.counted c.write_window-result.ensures.input_stops

@@ -1,6 +1,6 @@
 use Rattle.nr_drill.proofs.OneRun.{one_run}
 use Rattle.nr_drill.proofs.LessPlain.{plain_runs_reply_in_bytes}
-use Rattle.nr_drill.proofs.TreeBytes.{drill_in_bytes}
+use Rattle.nr_byte_laws.proofs.TreeBytes.{drill_in_bytes}
 use Rattle.nr_drill.proofs.DrillTrees.{drill_sane}
 use Rattle.nr_drill.proofs.SomeRuns.{scripts_have_runs, drills_have_runs}
 use Rattle.nr_drill.proofs.laws.runs.Goals as goal

@@ -1,6 +1,7 @@
 use Rattle.std.proofs.Common.{List, ◌++◌, ap, ◌∙◌}
 use Rattle.std.specs.Option.{option_to_list}
 use Rattle.nr_reduce.specs.declared.mark.Mark.{Mark}
+use Rattle.nr_marks.specs.Views.{marks_len}
 use Rattle.nr_marks.proofs.KeptMarks.{are_kept_grown, marks_grown, keeps_grown, added_kept, added_both, both_fit}
 use Rattle.nr_marks.proofs.log.add_both.Goals as goal
 
@@ -20,4 +21,6 @@ returns-in-Ok-settle-clause-marks c =
     c.settle.ensures.grows c.in-Ok.ensures.keeps c.add.ensures
 
 pub returns-in-Ok-settle-clause-size : goal.returns-in-Ok-settle-clause-size
-returns-in-Ok-settle-clause-size c = both_fit c.add.result _ _ _ _ _ _ _ _ _ c.in-Ok.ensures.size c.in-Ok-settle.ensures.size c.add.ensures
+returns-in-Ok-settle-clause-size c =
+    both_fit c.add.result c.args.stores.now c.keep.new.stores c.settle.new.stores c.args.entries.now.items c.settle.new.entries.items c.add.new.entries.items c.in-Ok.kept c.args.mark
+    (marks_len (option_to_list c.args.waiting)) c.in-Ok.ensures.size c.in-Ok-settle.ensures.size c.add.ensures

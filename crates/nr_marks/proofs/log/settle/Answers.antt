@@ -15,4 +15,4 @@ pub returns-in-Err-clause-kept : goal.returns-in-Err-clause-kept
 returns-in-Err-clause-kept c = are_kept_grown _ _ _ c.keep.ensures.grows c.requires
 
 pub returns-in-Ok-clause-size : goal.returns-in-Ok-clause-size
-returns-in-Ok-clause-size c = settled_fits c.add.result _ _ _ _ _ _ _ c.in-Some.is c.in-Ok.ensures.size c.add.ensures
+returns-in-Ok-clause-size c = settled_fits c.add.result c.args.stores.now c.keep.new.stores c.args.entries.now.items c.add.new.entries.items c.in-Ok.kept c.in-Some.mark c.args.waiting c.in-Some.is c.in-Ok.ensures.size c.add.ensures

@@ -32,6 +32,3 @@ returns-in-GeneratedDrill g c =
 
 pub run_drill-requires-in-GeneratedDrill : goal.run_drill-requires-in-GeneratedDrill
 run_drill-requires-in-GeneratedDrill g c = has_ranges c.args.command.now _ _ _ c.in-GeneratedDrill.is c.requires.line
-
-pub run_server-requires-in-Serve : goal.run_server-requires-in-Serve
-run_server-requires-in-Serve g c = c.requires.room

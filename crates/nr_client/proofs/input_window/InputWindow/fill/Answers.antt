@@ -1,4 +1,6 @@
 use Rattle.std.proofs.Common.{refl, ◌∙◌}
+use Rattle.nr_xdr.proofs.Rooms.{on_refusal}
+use Rattle.nr_client.specs.Writing.{IsStopped}
 use Rattle.nr_client.proofs.InputWindows.{takes_none, takes_then}
 use Rattle.nr_client.proofs.input_window.InputWindow.fill.Goals as goal
 
@@ -13,4 +15,6 @@ pub returns-in_err-read_more-clause-takes : goal.returns-in_err-read_more-clause
 returns-in_err-read_more-clause-takes g c = takes_then _ _ _ _ _ _ _ _ _ _ c.loop-self.invariant.0 c.read_more.ensures.takes
 
 pub returns-in_err-read_more-clause-stops : goal.returns-in_err-read_more-clause-stops
-returns-in_err-read_more-clause-stops g c = record { failed = c.loop-self.input; unrisen = c.loop-self.invariant.1; nothing = c.in_err-read_more.ensures.nothing }
+returns-in_err-read_more-clause-stops g c =
+    let stops : IsStopped g.N.Source.faults g.N.Source.left g.N.Source.given c.args.input.now c.read_more.new.input = record { failed = c.loop-self.input; unrisen = c.loop-self.invariant.1; nothing = c.in_err-read_more.ensures.nothing } in
+    on_refusal c.from_residual.result stops

@@ -1,5 +1,5 @@
 use Rattle.std.specs.Prelude.{is_err}
-use Rattle.std.proofs.Common.{◌≡◌, ◌∙◌, false, refl, sym, ap, subst}
+use Rattle.std.proofs.Common.{◌≡◌, ◌∙◌, ◌≤◌, ℕ, List, length, false, refl, sym, ap, subst}
 use Rattle.nr_responder.specs.ResponderState.{ResponderSide, end_of}
 use Rattle.nr_responder.specs.Sound.{IsNext}
 use Rattle.nr_drill_link.specs.DrillLinkState.{DrillLinkState}
@@ -24,6 +24,9 @@ answer-requires-clause-live c = ap (λ (v : DrillLinkState). end_of v.server) c.
 
 pub answer-requires-clause-next : goal.answer-requires-clause-next
 answer-requires-clause-next c = subst (λ (v : ResponderSide). IsNext v c.args.call) (sym (ap (λ (v : DrillLinkState). v.server) c.self.view_is)) c.requires.next
+
+pub answer-requires-clause-short : goal.answer-requires-clause-short
+answer-requires-clause-short c = subst (λ (xs : List ℕ). length xs ≤ 65536) (sym c.as_slice-3.ensures) c.in-Ok-execute.ensures.limit
 
 pub invariant_of-self : goal.invariant_of-self
 invariant_of-self c = server_fed_same _ c.self.inside.server.side.link c.answer.new.self.side.link _ c.answer.ensures.fed c.self.invariant

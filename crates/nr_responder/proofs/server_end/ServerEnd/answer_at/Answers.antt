@@ -1,4 +1,4 @@
-use Rattle.std.proofs.Common.{rules, ◌≡◌, ℕ, ◌≤◌, List, length, drop, sym, ap, subst, ◌∙◌, refl, arith}
+use Rattle.std.proofs.Common.{rules, ◌≡◌, ℕ, List, length, drop, sym, ap, subst, ◌∙◌, refl, arith}
 use Rattle.std.specs.Prelude.{map}
 use Rattle.nr_endpoint.specs.LinkState.{LinkSide}
 use Rattle.nr_endpoint.specs.Calls.{after_calls}
@@ -18,23 +18,23 @@ use Rattle.nr_responder.proofs.server_end.ServerEnd.answer_at.Goals as goal
 pub returns-clause-answers : goal.returns-clause-answers
 returns-clause-answers c =
     let q = c.in_ok-sent.ensures.queued in
-    let p : Pending = c.index-2.result.now in
+    let p : Pending = c.index-3.result.now in
     let stream : List ℕ = c.ready_payload-target.result.0.now in
     let paid = c.ready_payload-target.ensures.payload in
-    let whole : InBuffer p = subst InBuffer (sym c.index-2.ensures) (c.requires.sound.0.bufs c.args.at p c.requires.at) in
-    let own : p.xid ≡ c.args.xid = ap (λ (x : Pending). x.xid) c.index-2.ensures ∙ c.requires.own p in
+    let whole : InBuffer p = subst InBuffer (sym c.index-3.ensures) (c.requires.sound.0.bufs c.args.at p c.requires.at) in
+    let own : p.xid ≡ c.args.xid = ap (λ (x : Pending). x.xid) c.index-3.ensures ∙ c.requires.own p in
     let link = q.link ∙ ap (λ (x : ℕ). after_calls c.args.self.now.endpoint.link (answer_calls q.writes (message_for x c.args.self.now.credits (call_view p).lists (answer_to (call_view p) stream c.args.reply.now)))) own in
     let calls = ap (map call_view) c.remove-call.ensures.items ∙ map_removed call_view c.args.self.now.calls.items c.args.at in
     let ready : c.pop_front.new.self.items ≡ drop 1 c.args.self.now.ready.items = search rules in
     record {
       at = c.args.at;
       call = call_view p;
-      place = get_view c.args.self.now.calls.items c.args.at p c.requires.at c.index-2.ensures;
+      place = get_view c.args.self.now.calls.items c.args.at p c.requires.at c.index-3.ensures;
       own = own;
       stream = stream;
       payload = paid.0;
       first = paid.1.0;
-      conveyed = subst (λ (x : Pending). IsPayload (call_view x) paid.0 stream) (c.index.ensures ∙ sym (same_item c.args.self.now.calls.items c.args.at c.index.result.now p c.requires.at) ∙ sym c.index-2.ensures) paid.1.1;
+      conveyed = subst (λ (x : Pending). IsPayload (call_view x) paid.0 stream) (c.index-2.ensures ∙ sym (same_item c.args.self.now.calls.items c.args.at c.index-2.result.now p c.requires.at) ∙ sym c.index-3.ensures) paid.1.1;
       writes = q.writes;
       written = q.written;
       short = message_short c.args.xid c.args.self.now.credits (call_view p) stream c.args.reply.now whole.lists.within;

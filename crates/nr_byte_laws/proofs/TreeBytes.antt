@@ -43,7 +43,7 @@ use Rattle.nr_ops_dir.specs.Links.{link_rules, link_tree}
 use Rattle.nr_ops_dir.specs.Removal.{tree_without_name, remove_rules, remove_tree, rmdir_rules, rmdir_tree}
 use Rattle.nr_ops_dir.specs.Renaming.{is_same_node, rename_rules, tree_with_move, rename_tree}
 use Rattle.nr_script.proofs.ByteLists.{no_bytes_lem, bytes_more, bytes_both, zeros_bytes, decided}
-use Rattle.nr_drill.specs.InBytes.{HoldsBytes, IsInBytes}
+use Rattle.nr_byte_laws.specs.InBytes.{HoldsBytes, IsInBytes}
 
 -- ===== nodes
 

@@ -57,9 +57,9 @@ use Rattle.nr_laws.proofs.EachEffect.EffectCase.{Unchanged, OfMessage, OfRead, O
 use Rattle.nr_laws.proofs.ServerEvents.{received_bytes, completed_bytes}
 use Rattle.nr_laws.proofs.Words.{payload_bytes_lem, payload_by}
 use Rattle.nr_script.proofs.ByteLists.{no_bytes_lem}
-use Rattle.nr_drill.proofs.ByteStreams.{header_bytes, send_bytes, write_bytes, request_bytes, hello_bytes_lem, refusing_bytes, final_bytes}
-use Rattle.nr_drill.proofs.ByteRuns.{RegionOfBytes, AccessOfBytes, found_each, memory_bytes, regions_closed_lem, CarriesBytes, KeepsBytes, run_bytes}
-use Rattle.nr_drill.proofs.ByteClients.{access_bytes}
+use Rattle.nr_byte_laws.proofs.ByteStreams.{header_bytes, send_bytes, write_bytes, request_bytes, hello_bytes_lem, refusing_bytes, final_bytes}
+use Rattle.nr_byte_laws.proofs.ByteRuns.{RegionOfBytes, AccessOfBytes, found_each, memory_bytes, regions_closed_lem, CarriesBytes, KeepsBytes, run_bytes}
+use Rattle.nr_byte_laws.proofs.ByteClients.{access_bytes}
 
 -- ===== messages and answers
 

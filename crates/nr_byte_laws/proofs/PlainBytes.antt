@@ -48,9 +48,9 @@ use Rattle.nr_plain.specs.Replies.{Answer, refusal, accepted, results_reply, ent
 use Rattle.nr_plain.specs.Added.{has_succeeded, entries_by_procedure, entries_by_program, entries_by_cred, entries_by_call, entries_of_call}
 use Rattle.nr_laws.proofs.Basics.{each_right, each_take}
 use Rattle.nr_script.proofs.ByteLists.{no_bytes_lem, bytes_both, OfBytes, AreOfBytes, items_bytes}
-use Rattle.nr_drill.specs.InBytes.{IsInBytes}
-use Rattle.nr_drill.proofs.TreeBytes.{setattr_bytes, write_bytes, create_bytes, mkdir_bytes, symlink_bytes, mknod_bytes, remove_bytes, rmdir_bytes, rename_bytes, link_bytes}
-use Rattle.nr_drill.proofs.ResultBytes.{nfs_items, mount_items}
+use Rattle.nr_byte_laws.specs.InBytes.{AddedEntriesAreInBytes, EntryInBytes, IsInBytes, PlainRepliesAreBytes}
+use Rattle.nr_byte_laws.proofs.TreeBytes.{setattr_bytes, write_bytes, create_bytes, mkdir_bytes, symlink_bytes, mknod_bytes, remove_bytes, rmdir_bytes, rename_bytes, link_bytes}
+use Rattle.nr_byte_laws.proofs.ResultBytes.{nfs_items, mount_items}
 
 -- ===== arguments
 
@@ -132,10 +132,6 @@ module _ (t : Tree) (c : Caller) (space : Space) (now : Time) (args : List ℕ) 
   procedure_bytes nfs.Fsinfo a e = is
   procedure_bytes nfs.Pathconf a e = is
   procedure_bytes nfs.Commit a e = is
-
--- the arguments of an entry are bytes
-abbrev pub EntryInBytes : Entry → Type 0
-EntryInBytes e = IsBytes e.args
 
 arguments_bytes : (s : Parameters) (st : State) (e : Entry) (p : NfsProcedure) (r : Result (NfsArguments p) ℕ) → read_all (nfs_arguments_codec p) e.args ≡ r → EntryInBytes e → IsInBytes st.tree →
     IsInBytes (tree_by_arguments s st e p r)
@@ -227,7 +223,7 @@ by_call s st is m payload (Ok head) reply e = let same : (answer_to s st m paylo
 by_call s st is m payload (Err at) reply e = absurd cc
 
 -- at each place of a journal
-pub plain_reply_bytes : (s : Setup) (J : List Entry) (place : ℕ) (m : Moment) (payload reply : List ℕ) → IsInBytes s.tree → AllByRecursion EntryInBytes J → plain_reply s J place m payload ≡ Some reply → IsBytes reply
+pub plain_reply_bytes : PlainRepliesAreBytes
 plain_reply_bytes s J place m payload reply is h e =
     by_call s.parameters (state_of s (take place J)) (after_bytes s.parameters (first_state s) (take place J) (each_take EntryInBytes place J h) is) m payload (call_of payload) reply e
 
@@ -256,5 +252,5 @@ entries_head m payload reply (Ok (calls.Version2 xid prog vers proc cred args_at
 entries_head m payload reply (Ok (calls.Other xid rpcvers)) h = tt
 entries_head m payload reply (Err at) h = tt
 
-pub entries_bytes : (m : Moment) (payload reply : List ℕ) → IsBytes payload → AllByRecursion EntryInBytes (entries_of_call m payload reply)
+pub entries_bytes : AddedEntriesAreInBytes
 entries_bytes m payload reply h = entries_head m payload reply (call_of payload) h

@@ -67,8 +67,8 @@ use Rattle.nr_ops_dir.specs.Creation.{create_ok, mkdir_rules, mkdir_tree, symlin
 use Rattle.nr_plain.specs.Programs.{nfs_results, mounted, mount_results}
 use Rattle.nr_laws.proofs.Basics.{each_append}
 use Rattle.nr_script.proofs.ByteLists.{no_bytes_lem, hyper_bytes, OfBytes, AreOfBytes}
-use Rattle.nr_drill.specs.InBytes.{HoldsBytes, IsInBytes}
-use Rattle.nr_drill.proofs.TreeBytes.{NamesInBytes, names_last}
+use Rattle.nr_byte_laws.specs.InBytes.{HoldsBytes, IsInBytes}
+use Rattle.nr_byte_laws.proofs.TreeBytes.{NamesInBytes, names_last}
 
 -- ===== values that have numbers alone
 

@@ -39,8 +39,8 @@ use Rattle.nr_laws.proofs.CallTargets.{bytes_zeros, bytes_region}
 use Rattle.nr_laws.proofs.Words.{payload_bytes_lem, payload_by}
 use Rattle.nr_laws.proofs.WrittenBytes.{message_bytes_lem}
 use Rattle.nr_script.proofs.ByteLists.{no_bytes_lem}
-use Rattle.nr_drill.proofs.ByteStreams.{send_bytes, response_bytes_lem, hello_bytes_lem, final_bytes}
-use Rattle.nr_drill.proofs.ByteRuns.{RegionOfBytes, AccessOfBytes, memory_bytes, regions_closed_lem, CarriesBytes, run_bytes}
+use Rattle.nr_byte_laws.proofs.ByteStreams.{send_bytes, response_bytes_lem, hello_bytes_lem, final_bytes}
+use Rattle.nr_byte_laws.proofs.ByteRuns.{RegionOfBytes, AccessOfBytes, memory_bytes, regions_closed_lem, CarriesBytes, run_bytes}
 
 -- ===== plans
 

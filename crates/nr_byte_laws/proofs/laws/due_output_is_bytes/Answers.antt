@@ -1,0 +1,12 @@
+use Rattle.nr_byte_laws.proofs.ByteClients.{client_due}
+use Rattle.nr_byte_laws.proofs.ByteServers.{ready_bytes, server_due}
+use Rattle.nr_byte_laws.proofs.laws.due_output_is_bytes.Goals as goal
+
+pub returns-clause-client : goal.returns-clause-client
+returns-clause-client c = client_due
+
+pub returns-clause-server : goal.returns-clause-server
+returns-clause-server c = server_due
+
+pub returns-clause-payloads : goal.returns-clause-payloads
+returns-clause-payloads c = ready_bytes
