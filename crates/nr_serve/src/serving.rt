@@ -28,9 +28,9 @@ use std::thread::Threads;
 type Shared = Arc<Turnstile<Server>, Global>;
 
 /// Reads a configuration.
-#[tactic(none)]
 fn read_settings<I: Source>(alloc: Global, input: &mut I) -> Result<Config, ServeStop>
-    ensures { MatchResult result
+    ensures ranges { IfOk result (λ config. InRanges (config_settings config)) }
+    ensures read { MatchResult result
         (λ config. ReadsConfig (source_at (I.left input.old) (I.given input.old) (I.faults input.old))
         (source_at (I.left input.new) (I.given input.new) (I.faults input.new)) (config_settings config))
         (λ stop. StoppedReading stop (source_at (I.left input.old) (I.given input.old) (I.faults input.old))
@@ -206,7 +206,6 @@ where
 ///
 /// [`ServeStop`] says why it stopped. Nothing is printed then, but for [`ServeStop::Output`], at which a proper prefix of the
 /// line may be. What was served until then stays.
-#[tactic(none)]
 pub fn serve_config<
     I: Source,
     O: Sink,
