@@ -161,7 +161,6 @@ fn print_served<O: Sink>(
 }
 
 /// Opens a server, serves the connections of the configuration, and prints that.
-#[tactic(none)]
 fn serve_by<
     O: Sink,
     A: Acceptor,
@@ -181,8 +180,7 @@ where
     A::Source: Drop + Send + 'static,
     A::Sink: Drop + Send + 'static,
     C: Drop + Send + 'static,
-    requires ranges { InRanges (config_settings config.now) }
-    requires room { P.started spawn.old < 2 ^ 63 }
+    requires { InRanges (config_settings config.now) × (P.started spawn.old < 2 ^ 63) }
     ensures { MatchResult result
         (λ _. ServesAndPrints (config_settings config.now) (sink_at (O.taken out.old) (O.faults out.old)) (sink_at (O.taken out.new) (O.faults out.new)) (acceptor_at (A.asked accept.old) (A.ended accept.old) (A.lost accept.old) (A.faults accept.old)) (acceptor_at (A.asked accept.new) (A.ended accept.new) (A.lost accept.new) (A.faults accept.new)) (spawner_at (P.started spawn.old) (P.ended spawn.old) (P.faults spawn.old)) (spawner_at (P.started spawn.new) (P.ended spawn.new) (P.faults spawn.new)) (C.gave clock.old) (C.gave clock.new))
         (λ stop. StopsServing stop (config_settings config.now) (sink_at (O.taken out.old) (O.faults out.old)) (sink_at (O.taken out.new) (O.faults out.new)) (acceptor_at (A.asked accept.old) (A.ended accept.old) (A.lost accept.old) (A.faults accept.old)) (acceptor_at (A.asked accept.new) (A.ended accept.new) (A.lost accept.new) (A.faults accept.new)) (spawner_at (P.started spawn.old) (P.ended spawn.old) (P.faults spawn.old)) (spawner_at (P.started spawn.new) (P.ended spawn.new) (P.faults spawn.new)) (C.gave clock.old) (C.gave clock.new)) }

@@ -4,11 +4,8 @@ use Rattle.nr_serve.specs.Stops.Stopped.{AfterReading, AtReading}
 use Rattle.nr_serve.proofs.Configs.{in_ranges}
 use Rattle.nr_serve.proofs.serving.serve_config.Goals as goal
 
-pub serve_by-requires-clause-ranges : goal.serve_by-requires-clause-ranges
-serve_by-requires-clause-ranges g c = in_ranges c.in-Ok.ensures.text (config_settings c.in-Ok.config) c.in-Ok.ensures.reads
-
-pub serve_by-requires-clause-room : goal.serve_by-requires-clause-room
-serve_by-requires-clause-room g c = c.requires
+pub serve_by-requires : goal.serve_by-requires
+serve_by-requires g c = (in_ranges c.in-Ok.ensures.text (config_settings c.in-Ok.config) c.in-Ok.ensures.reads, c.requires)
 
 pub returns-in-Err : goal.returns-in-Err
 returns-in-Err g c = AtReading c.in-Err.ensures refl refl refl refl
