@@ -22,8 +22,8 @@ pub record Between : Type 0 where
 abbrev pub between : Option LinkLog → ℕ → ℕ → PassView → Between
 between ended lost started view = record { ended = ended; lost = lost; started = started; view = view }
 
--- a link was accepted, and its job started: it has a pass, a clock and the link of its own, of which nothing more is
--- known
+-- A link was accepted, and the spawner counted one job more as started. Which job it is, no clause says: what `start` was
+-- given is read in the code, and tests show it.
 pub record StartsLink (before after : Between) : Type 0 where
   pub made : MakesLink before.ended after.ended
   pub lost : after.lost ≡ before.lost

@@ -25,7 +25,7 @@ pub type Ends = Sequence<LinkEnd>;
 /// What a server served.
 #[derive(Drop)]
 pub struct Ran {
-    /// How many connections were served beside the caller.
+    /// How many jobs the spawner counted as started.
     pub started: u64,
     /// How each other connection ended, in the order in which they were accepted.
     pub ends: Ends,

@@ -47,8 +47,8 @@ pub record Opens (settings : Settings Text) (before after : Option (List Moment)
   pub gave : Gives before after moment
   pub setup : setup_in first ≡ setup_of settings moment
 
--- A server was opened so, and listened at the address of the configuration. Links were taken then: the spawner started the job of each, or it was
--- served here, and these are the ends of those. All jobs that were started have ended. The server's own pass had seen no entry of the journal at
+-- A server was opened so, and listened at the address of the configuration. Links were taken then: of each the spawner counted a job
+-- more as started, or it was served here, and these are the ends of those. All jobs that were started have ended. The server's own pass had seen no entry of the journal at
 -- first, and this is what it knows at last.
 pub record Serves (settings : Settings Text) (before after : AcceptorAt) (spawner spawner' : SpawnerAt) (gave gave' : Option (List Moment)) (ends : List LinkEnd) (first : Opening) (view : PassView) : Type 0 where
   pub opened : PassView
@@ -62,7 +62,7 @@ pub record Serves (settings : Settings Text) (before after : AcceptorAt) (spawne
 unfoldable pub served_text : ℕ → ℕ → List ℕ
 served_text connections journal = codes "served " ++ decimal connections ++ codes " journal " ++ decimal journal ++ codes "\n"
 
--- All connections that a configuration asks for were served: each in a job that was started, or here. After that the server's own pass had one turn
+-- All connections that a configuration asks for were taken: of each a job more was counted as started, or it was served here. After that the server's own pass had one turn
 -- more, and this is the journal that it saw then.
 pub record ServesConnections (settings : Settings Text) (before after : AcceptorAt) (spawner spawner' : SpawnerAt) (gave gave' : Option (List Moment)) : Type 0 where
   pub first : Opening
