@@ -39,9 +39,8 @@ abbrev pub ExcludesEnds : (c : Client Text) (before after : DialerAt) (input inp
     → Runs c before after input input' out out' result → Type 0
 ExcludesEnds c before after input input' out out' result (NotOpened end is fails same_input same_out) = ⊤
 ExcludesEnds c before after input input' out out' result (Opened dialed s s' opens prints closes) =
-    CountsFaults s s' result
-    × ((result ≡ Err client.DialFault → ⊥)
-    × (AreReplies (outcomes_in (tells_text c.uid c.gid c.export c.action input input' out prints.written s s' prints.text prints.made).made) → ResultCanFollowReplies result))
+    CountsFaults s s' result × (result ≡ Err client.DialFault → ⊥)
+    × (AreReplies (outcomes_in (tells_text c.uid c.gid c.export c.action input input' out prints.written s s' prints.text prints.made).made) → ResultCanFollowReplies result)
 
 abbrev pub RepliesExcludeEnds : Type 0
 RepliesExcludeEnds =

@@ -76,7 +76,7 @@ pub data StatusSays (status : ℕ) (end : ClientEnd) (dialer dialer' : DialerAt)
   -- 7: a reply has the status of a failed procedure (RFC 1813 section 2.6)
   NfsFailed : status ≡ statuses.nfs_failed → (why : Status) → end ≡ client.Nfs why → HasReply given → StatusSays status end dialer dialer' input input' out out' err err' last given
   -- 8: ERR_CHUNK or ERR_VERS came (RFC 8166 section 4.5)
-  TransportError : status ≡ statuses.transport_error → IsAmong outcomes.Chunk given ⊎ ((low high : ℕ) × IsAmong (outcomes.Version low high) given)
+  TransportError : status ≡ statuses.transport_error → IsAmong outcomes.Chunk given ⊎ ((low : ℕ) × ((high : ℕ) × IsAmong (outcomes.Version low high) given))
       → StatusSays status end dialer dialer' input input' out out' err err' last given
   -- 9: a count of faults rose: of the input, of the output, or of what reports
   Fault : status ≡ statuses.fault → Rises input.faults input'.faults ⊎ (Rises out.faults out'.faults ⊎ Rises err.faults err'.faults) → StatusSays status end dialer dialer' input input' out out' err err' last given
