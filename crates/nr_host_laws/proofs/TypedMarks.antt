@@ -208,12 +208,13 @@ typed_anywhere before after (marks.Drop l) h = h
 
 typed_parts : (link : ℕ) (front own others run : List Mark) → AtEachMark TypedMark own (own_marks link run) → AtEachMark TypedMark others (other_marks link run) → AtEachMark TypedMark front run
 typed_parts link front own others [] h k = tt
-typed_parts link front own others (mark ∷ run) h k = by (is_own link mark) h k
+typed_parts link front own others (mark ∷ run) h k = by (is_own link mark) (λ f o q. typed_parts link f o q run) h k
   where
-    by : (b : Bool) → AtEachMark TypedMark own (cond b (mark ∷ own_marks link run) (own_marks link run)) → AtEachMark TypedMark others (cond (not b) (mark ∷ other_marks link run) (other_marks link run))
+    by : (b : Bool) → ((f o q : List Mark) → AtEachMark TypedMark o (own_marks link run) → AtEachMark TypedMark q (other_marks link run) → AtEachMark TypedMark f run)
+        → AtEachMark TypedMark own (cond b (mark ∷ own_marks link run) (own_marks link run)) → AtEachMark TypedMark others (cond (not b) (mark ∷ other_marks link run) (other_marks link run))
         → AtEachMark TypedMark front (mark ∷ run)
-    by true h k = (typed_anywhere own front mark h.0, typed_parts link (front ++ mark ∷ []) (own ++ mark ∷ []) others run h.1 k)
-    by false h k = (typed_anywhere others front mark k.0, typed_parts link (front ++ mark ∷ []) own (others ++ mark ∷ []) run h k.1)
+    by true rest h k = (typed_anywhere own front mark h.0, rest (front ++ mark ∷ []) (own ++ mark ∷ []) others h.1 k)
+    by false rest h k = (typed_anywhere others front mark k.0, rest (front ++ mark ∷ []) own (others ++ mark ∷ []) h k.1)
 
 -- a run whose server's side is typed, and whose other marks are
 pub both_typed : (link : ℕ) (run : List Mark) → IsTyped (own_marks link run) → IsTyped (other_marks link run) → IsTyped run
