@@ -3,15 +3,18 @@
 //! arguments are the address; `getattr`, `read` or `write`; the number of calls; and how many may be outstanding.
 #![tactic(auto)]
 
+ghost use Rattle.std.specs.Prelude.{◌≡◌};
+
 mod client;
 mod work;
 
 use client::Client;
-use nr_links::{Dialer, PIECE_MAX, TcpDialer};
+use nr_links::{Dialer, LinkNumber, NumberedSink, NumberedSource, PIECE_MAX, TcpDialer};
 use nr_outside::{Sink, Source};
 use nr_reduce::Outcome;
 use nr_xdr::Octets;
 use std::alloc::Global;
+use std::marker::Brand;
 use std::process::ExitCode;
 use std::time::Instant;
 use std::{env, io};
@@ -92,18 +95,27 @@ fn call_all<I: Source, O: Sink>(
 }
 
 /// Makes all calls over a link to an address.
-fn linked<D: Dialer>(alloc: Global, dialer: &mut D, addr: &str, plan: Plan) -> Option<u64> {
+fn linked<N: LinkNumber, D: Dialer>(
+    alloc: Global,
+    dialer: &mut D,
+    addr: &str,
+    plan: Plan,
+) -> Option<u64>
+    requires { D.next dialer.old ≡ N.number }
+{
     let Ok(mut client) = Client::open(alloc, CREDITS) else {
         return None;
     };
     let Ok(mut piece) = vec![in alloc; 0u8; PIECE_MAX] else {
         return None;
     };
-    let Ok((mut source, mut sink)) = dialer.dial(addr) else {
+    let Ok((source, sink)) = dialer.dial(addr) else {
         return None;
     };
+    let mut source = NumberedSource::<D::Source, N>::new(source);
+    let mut sink = NumberedSink::<D::Sink, N>::new(sink);
     let total = call_all(alloc, &mut client, &mut source, &mut sink, &mut piece, plan);
-    dialer.hang_up(source, sink);
+    dialer.hang_up(source.into_inner(), sink.into_inner());
     total
 }
 
@@ -133,7 +145,7 @@ fn plan_of(rt: &HostRuntime) -> Option<(String, Plan)> {
 fn measured(rt: HostRuntime, addr: &str, plan: Plan) -> io::Result<Option<(u64, u128)>> {
     let mut dialer = TcpDialer::new(rt);
     let start = Instant::now(&rt)?;
-    let total = linked(rt.alloc(), &mut dialer, addr, plan);
+    let total = linked::<Brand, TcpDialer<HostRuntime>>(rt.alloc(), &mut dialer, addr, plan);
     let micros = start.elapsed(&rt)?.as_micros();
     Ok(total.map(|total| (total, micros)))
 }

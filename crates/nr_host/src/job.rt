@@ -105,15 +105,7 @@ impl<
         let mut pass = pass;
         let mut clock = clock;
         let (source, sink, end) = serve_numbered::<Brand, I, O, C, R>(
-            &rt,
-            alloc,
-            source,
-            sink,
-            &shared,
-            &mut pass,
-            &mut clock,
-            credits,
-            records,
+            &rt, alloc, source, sink, &shared, &mut pass, &mut clock, credits, records,
         );
         drop(shared);
         Carried {

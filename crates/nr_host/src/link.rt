@@ -75,9 +75,7 @@ fn look_and_serve<I: Source, O: Sink, C: Clock, R: Wait>(
         Ok(None) => return LinkEnd::Rdma(ConnEnd::Closed),
         Err(_) => return LinkEnd::Rdma(ConnEnd::LinkRead),
     };
-    serve_by_byte(
-        rt, alloc, source, sink, shared, pass, clock, credits, byte,
-    )
+    serve_by_byte(rt, alloc, source, sink, shared, pass, clock, credits, byte)
 }
 
 /// Serves one link to its end. With `records` it may carry RPC over RDMA or RPC over TCP with record marks, as its first byte says; without,
@@ -103,28 +101,10 @@ pub fn serve_link<I: Source, O: Sink, C: Clock, R: Wait>(
 {
     if records {
         let mut peeked = Peeked::new(source);
-        let end = look_and_serve(
-            rt,
-            alloc,
-            &mut peeked,
-            sink,
-            shared,
-            pass,
-            clock,
-            credits,
-        );
+        let end = look_and_serve(rt, alloc, &mut peeked, sink, shared, pass, clock, credits);
         return (peeked.into_inner(), end);
     }
     let mut source = source;
-    let end = serve_connection(
-        rt,
-        alloc,
-        &mut source,
-        sink,
-        shared,
-        pass,
-        clock,
-        credits,
-    );
+    let end = serve_connection(rt, alloc, &mut source, sink, shared, pass, clock, credits);
     (source, LinkEnd::Rdma(end))
 }

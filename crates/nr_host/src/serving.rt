@@ -8,8 +8,8 @@ ghost use Rattle.nr_plain.specs.History.{pass_view};
 ghost use Rattle.nr_host.specs.declared.link_end.LinkEnd.{LinkEnd};
 ghost use Rattle.nr_host.specs.Serving.{AcceptorCount, BackCount, HandsBack, Serves, TakesLink, TakesOne, between};
 
-use crate::link_end::LinkEnd;
 use crate::job::{Carried, ServeJob};
+use crate::link_end::LinkEnd;
 use nr_jobs::{Job, Spawner};
 use nr_links::{Acceptor, Clock};
 use nr_plain::Server;
@@ -160,7 +160,9 @@ where
     if ends.reserve(1).is_err() {
         return Err(ServeFault::Memory);
     }
-    let link = match serve_next(rt, alloc, acceptor, spawner, shared, pass, clock, credits, records) {
+    let link = match serve_next(
+        rt, alloc, acceptor, spawner, shared, pass, clock, credits, records,
+    ) {
         Ok(link) => link,
         Err(fault) => return Err(fault),
     };

@@ -28,9 +28,9 @@ use std::thread::Threads;
 type Shared = Arc<Turnstile<Server>, Global>;
 
 /// Reads a configuration.
-#[tactic(none)]
 fn read_settings<I: Source>(alloc: Global, input: &mut I) -> Result<Config, ServeStop>
-    ensures { MatchResult result
+    ensures ranges { IfOk result (λ config. InRanges (config_settings config)) }
+    ensures read { MatchResult result
         (λ config. ReadsConfig (source_at (I.left input.old) (I.given input.old) (I.faults input.old))
         (source_at (I.left input.new) (I.given input.new) (I.faults input.new)) (config_settings config))
         (λ stop. StoppedReading stop (source_at (I.left input.old) (I.given input.old) (I.faults input.old))
@@ -161,7 +161,6 @@ fn print_served<O: Sink>(
 }
 
 /// Opens a server, serves the connections of the configuration, and prints that.
-#[tactic(none)]
 fn serve_by<
     O: Sink,
     A: Acceptor,
@@ -181,8 +180,7 @@ where
     A::Source: Drop + Send + 'static,
     A::Sink: Drop + Send + 'static,
     C: Drop + Send + 'static,
-    requires ranges { InRanges (config_settings config.now) }
-    requires room { P.started spawn.old < 2 ^ 63 }
+    requires { InRanges (config_settings config.now) × (P.started spawn.old < 2 ^ 63) }
     ensures { MatchResult result
         (λ _. ServesAndPrints (config_settings config.now) (sink_at (O.taken out.old) (O.faults out.old)) (sink_at (O.taken out.new) (O.faults out.new)) (acceptor_at (A.asked accept.old) (A.ended accept.old) (A.lost accept.old) (A.faults accept.old)) (acceptor_at (A.asked accept.new) (A.ended accept.new) (A.lost accept.new) (A.faults accept.new)) (spawner_at (P.started spawn.old) (P.ended spawn.old) (P.faults spawn.old)) (spawner_at (P.started spawn.new) (P.ended spawn.new) (P.faults spawn.new)) (C.gave clock.old) (C.gave clock.new))
         (λ stop. StopsServing stop (config_settings config.now) (sink_at (O.taken out.old) (O.faults out.old)) (sink_at (O.taken out.new) (O.faults out.new)) (acceptor_at (A.asked accept.old) (A.ended accept.old) (A.lost accept.old) (A.faults accept.old)) (acceptor_at (A.asked accept.new) (A.ended accept.new) (A.lost accept.new) (A.faults accept.new)) (spawner_at (P.started spawn.old) (P.ended spawn.old) (P.faults spawn.old)) (spawner_at (P.started spawn.new) (P.ended spawn.new) (P.faults spawn.new)) (C.gave clock.old) (C.gave clock.new)) }
@@ -208,7 +206,6 @@ where
 ///
 /// [`ServeStop`] says why it stopped. Nothing is printed then, but for [`ServeStop::Output`], at which a proper prefix of the
 /// line may be. What was served until then stays.
-#[tactic(none)]
 pub fn serve_config<
     I: Source,
     O: Sink,

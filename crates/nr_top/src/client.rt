@@ -14,7 +14,7 @@ use crate::status::{
 use nr_client::{CallEnd, ClientEnd};
 use nr_commands::{end_text, run_command};
 use nr_link::End;
-use nr_links::Dialer;
+use nr_links::{Dialer, LinkSink, LinkSource};
 use nr_outside::{Sink, Source};
 use nr_words::Client;
 use std::alloc::Global;
@@ -73,8 +73,8 @@ fn report_end<E: Sink>(alloc: Global, end: ClientEnd, err: &mut E) -> u8
 /// Runs a command of a client, and gives the status: 0 if it was done. Else `err` takes the reason.
 pub(crate) fn run_client<
     I: Source,
-    P: Source,
-    Q: Sink,
+    P: LinkSource,
+    Q: LinkSink,
     D: Dialer<Source = P, Sink = Q>,
     O: Sink,
     E: Sink,

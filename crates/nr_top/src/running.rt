@@ -14,7 +14,7 @@ use crate::drill::{ScriptSource, run_drill};
 use crate::report::answer_words;
 use crate::serving::run_server;
 use nr_jobs::Spawner;
-use nr_links::{Acceptor, Clock, Dialer};
+use nr_links::{Acceptor, Clock, Dialer, LinkSink, LinkSource};
 use nr_outside::{Sink, Source};
 use nr_words::{Command, read_words};
 use std::alloc::Global;
@@ -26,8 +26,8 @@ fn dispatch<
     I: Source,
     O: Sink,
     E: Sink,
-    P: Source,
-    Q: Sink,
+    P: LinkSource,
+    Q: LinkSink,
     D: Dialer<Source = P, Sink = Q>,
     A: Acceptor,
     C: Clock,
@@ -99,8 +99,8 @@ pub fn run<
     I: Source,
     O: Sink,
     E: Sink,
-    P: Source,
-    Q: Sink,
+    P: LinkSource,
+    Q: LinkSink,
     D: Dialer<Source = P, Sink = Q>,
     A: Acceptor,
     C: Clock,

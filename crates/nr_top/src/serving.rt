@@ -32,7 +32,6 @@ fn report_stop<E: Sink>(stop: ServeStop, err: &mut E) -> u8
 /// Serves as a configuration asks for, and gives the status: 0 if [`serve_config`] gave `Ok`. Else `err` takes the reason. 2: memory
 /// ran out. 3: the acceptor's fault count rose. 9: that of `input`, `out` or `err` rose. 10: the input is no configuration. 11: the
 /// input is too long.
-#[tactic(none)]
 pub fn run_server<
     I: Source,
     O: Sink,

@@ -17,7 +17,7 @@ returns-in-Err g c = NotOpened c.in-Err.end refl c.in-Err.ensures.err refl refl
 pub returns : goal.returns
 returns g c =
     let state = c.in-Ok.ensures.state in
-    Opened (dialer_at (g.D.Dialer.asked c.open.new.dialer) (g.D.Dialer.ended c.open.new.dialer) (g.D.Dialer.lost c.open.new.dialer) (g.D.Dialer.faults c.open.new.dialer)) (session_at (g.P.Source.left c.in-Ok.session.link.source.source) (g.P.Source.given c.in-Ok.session.link.source.source) (g.Q.Sink.taken c.in-Ok.session.link.sink.sink) c.in-Ok.session.link.read c.in-Ok.session.link.requester (g.P.Source.faults c.in-Ok.session.link.source.source) (g.Q.Sink.faults c.in-Ok.session.link.sink.sink)) (session_at (g.P.Source.left c.text_of-text.new.session.link.source.source) (g.P.Source.given c.text_of-text.new.session.link.source.source) (g.Q.Sink.taken c.text_of-text.new.session.link.sink.sink) c.text_of-text.new.session.link.read c.text_of-text.new.session.link.requester (g.P.Source.faults c.text_of-text.new.session.link.source.source) (g.Q.Sink.faults c.text_of-text.new.session.link.sink.sink))
+    Opened (dialer_at (g.D.Dialer.asked c.open-opened.new.dialer) (g.D.Dialer.ended c.open-opened.new.dialer) (g.D.Dialer.lost c.open-opened.new.dialer) (g.D.Dialer.faults c.open-opened.new.dialer)) (session_at (g.P.Source.left c.in-Ok.session.link.source.source) (g.P.Source.given c.in-Ok.session.link.source.source) (g.Q.Sink.taken c.in-Ok.session.link.sink.sink) c.in-Ok.session.link.read c.in-Ok.session.link.requester (g.P.Source.faults c.in-Ok.session.link.source.source) (g.Q.Sink.faults c.in-Ok.session.link.sink.sink)) (session_at (g.P.Source.left c.text_of-text.new.session.link.source.source) (g.P.Source.given c.text_of-text.new.session.link.source.source) (g.Q.Sink.taken c.text_of-text.new.session.link.sink.sink) c.text_of-text.new.session.link.read c.text_of-text.new.session.link.requester (g.P.Source.faults c.text_of-text.new.session.link.source.source) (g.Q.Sink.faults c.text_of-text.new.session.link.sink.sink))
     (record {
       asks = c.in-Ok.ensures.asked;
       makes = c.in-Ok.ensures.made;

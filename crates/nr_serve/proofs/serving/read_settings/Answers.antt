@@ -4,25 +4,30 @@ use Rattle.nr_words.specs.Settings.{config_of, config_settings}
 use Rattle.nr_serve.specs.Stops.{StoppedReading}
 use Rattle.nr_serve.specs.declared.stop.ServeStop.{ServeStop}
 use Rattle.nr_outside.specs.Streams.{source_at}
+use Rattle.nr_serve.proofs.Configs.{in_ranges}
 use Rattle.nr_serve.proofs.Readings.{config_stopped, reading_stopped}
 use Rattle.nr_serve.proofs.serving.read_settings.Goals as goal
 
-pub returns-in-Err : goal.returns-in-Err
-returns-in-Err g c =
+pub returns-in-Err-clause-read : goal.returns-in-Err-clause-read
+returns-in-Err-clause-read g c =
     let (bytes, reads, len) = c.in-Err.ensures.err in
     subst (λ (stop : ServeStop). StoppedReading stop (source_at (g.I.Source.left c.args.input.now) (g.I.Source.given c.args.input.now) (g.I.Source.faults c.args.input.now)) (source_at (g.I.Source.left c.read_whole.new.source) (g.I.Source.given c.read_whole.new.source) (g.I.Source.faults c.read_whole.new.source))) (sym c.stop_of_read.ensures)
     (reading_stopped c.in-Err.end (source_at (g.I.Source.left c.args.input.now) (g.I.Source.given c.args.input.now) (g.I.Source.faults c.args.input.now)) (source_at (g.I.Source.left c.read_whole.new.source) (g.I.Source.given c.read_whole.new.source) (g.I.Source.faults c.read_whole.new.source)) bytes reads len c.in-Err.ensures.counted (λ e. c.in-Err.ensures.too_long (ap (λ (end : ReadEnd). Err end) e)))
 
-pub returns-in-Ok-read_config : goal.returns-in-Ok-read_config
-returns-in-Ok-read_config g c = record {
+pub returns-in-Ok-read_config-clause-read : goal.returns-in-Ok-read_config-clause-read
+returns-in-Ok-read_config-clause-read g c = record {
   text = c.in-Ok.text.items;
   whole = record { handed = c.in-Ok.ensures.whole; all = c.in-Ok.ensures.all; end = c.in-Ok.ensures.end; within = (let len = c.as_slice.ensures.len in let value : length c.as_slice.result.now ≡ length c.in-Ok.text.items = ap (λ (xs : List ℕ). length xs) c.as_slice.ensures.value in let within = c.in-Ok.ensures.within in omega (arith, len, value, within)); unfailing = c.in-Ok.ensures.counted };
   reads = subst (λ (text : List ℕ). config_of text ≡ Some (config_settings c.in-Ok-read_config.config)) c.as_slice.ensures.value c.in-Ok-read_config.ensures.ok;
 }
 
-pub returns : goal.returns
-returns g c =
+pub returns-clause-read : goal.returns-clause-read
+returns-clause-read g c =
     subst (λ (stop : ServeStop). StoppedReading stop (source_at (g.I.Source.left c.args.input.now) (g.I.Source.given c.args.input.now) (g.I.Source.faults c.args.input.now)) (source_at (g.I.Source.left c.read_whole.new.source) (g.I.Source.given c.read_whole.new.source) (g.I.Source.faults c.read_whole.new.source))) (sym c.stop_of_config.ensures)
     (config_stopped c.in-Err-read_config.fault (source_at (g.I.Source.left c.args.input.now) (g.I.Source.given c.args.input.now) (g.I.Source.faults c.args.input.now)) (source_at (g.I.Source.left c.read_whole.new.source) (g.I.Source.given c.read_whole.new.source) (g.I.Source.faults c.read_whole.new.source)) c.in-Ok.text.items
     (record { handed = c.in-Ok.ensures.whole; all = c.in-Ok.ensures.all; end = c.in-Ok.ensures.end; within = (let len = c.as_slice.ensures.len in let value : length c.as_slice.result.now ≡ length c.in-Ok.text.items = ap (λ (xs : List ℕ). length xs) c.as_slice.ensures.value in let within = c.in-Ok.ensures.within in omega (arith, len, value, within)); unfailing = c.in-Ok.ensures.counted })
     (λ e. subst (λ (text : List ℕ). config_of text ≡ None) c.as_slice.ensures.value (c.in-Err-read_config.ensures.bad e)))
+
+pub returns-in-Ok-read_config-clause-ranges : goal.returns-in-Ok-read_config-clause-ranges
+returns-in-Ok-read_config-clause-ranges g c =
+    in_ranges c.in-Ok.text.items (config_settings c.in-Ok-read_config.config) (subst (λ (text : List ℕ). config_of text ≡ Some (config_settings c.in-Ok-read_config.config)) c.as_slice.ensures.value c.in-Ok-read_config.ensures.ok)

@@ -2,9 +2,6 @@ use Rattle.std.proofs.Common.{refl}
 use Rattle.nr_top.specs.Serving.ServeEnds.{NotServed, Served}
 use Rattle.nr_top.proofs.serving.run_server.Goals as goal
 
-pub serve_config-requires : goal.serve_config-requires
-serve_config-requires g c = c.requires
-
 pub returns-in-Ok : goal.returns-in-Ok
 returns-in-Ok g c = Served refl c.in-Ok.ensures refl
 
