@@ -100,12 +100,27 @@ fn records_beside_commands(rt: HostRuntime) {
     // it reads what `put` wrote: the words of status, count, eof and data, of a reply of 136 bytes
     let halves = dial(&rt, &mut dialer, addr.as_str());
     let got = exchange(&rt, alloc, halves, &READ, 140);
-    let read = [(0, 0x80000088), (1, 7), (7, 0), (30, 5), (31, 1), (32, 5), (33, 0x68656c6c)];
+    let read = [
+        (0, 0x80000088),
+        (1, 7),
+        (7, 0),
+        (30, 5),
+        (31, 1),
+        (32, 5),
+        (33, 0x68656c6c),
+    ];
     same_words(&rt, 1, got.as_slice(), &read);
     // it makes a file, of which `get` reads what it wrote
     let halves = dial(&rt, &mut dialer, addr.as_str());
     let got = exchange(&rt, alloc, halves, &CREATE_AND_WRITE, 416);
-    let made = [(0, 0x800000f8), (1, 8), (7, 0), (63, 0x800000a0), (64, 9), (70, 0)];
+    let made = [
+        (0, 0x800000f8),
+        (1, 8),
+        (7, 0),
+        (63, 0x800000a0),
+        (64, 9),
+        (70, 0),
+    ];
     same_words(&rt, 2, got.as_slice(), &made);
     let get = read_case(&rt, "get here / /b|||0|hello");
     same_run(&rt, alloc, 3, get, INPUT, addr.as_str(), &mut dialer);

@@ -5,6 +5,8 @@
 //! name or hexadecimal digits ([`piece`]). Two more fields, `|FAULT|PRINTED`, are the call that fails, by its number from 0 (`dial`, `read` or
 //! `write` of the link, `input`, `out` or `err`), and what is printed though the status is not 0. A row that begins with `#` is a comment.
 
+ghost use Rattle.std.specs.Prelude.{◌≡◌};
+
 use crate::compare::same;
 use crate::host::Host;
 use crate::pieces::piece;
@@ -111,8 +113,10 @@ pub(crate) fn plan(rt: &impl Abort, alloc: Global, received: &str, fault: &str) 
     }
 }
 
-/// A dialer of one link, over which these pieces come.
-pub(crate) fn dialer(rt: &impl Abort, alloc: Global, received: &str, fault: &str) -> MemDialer {
+/// A dialer of one link, over which these pieces come. It made none before.
+pub(crate) fn dialer(rt: &impl Abort, alloc: Global, received: &str, fault: &str) -> MemDialer
+    ensures { result.links.made ≡ 0 }
+{
     let mut plans = Vec::new(alloc);
     plans
         .push(plan(rt, alloc, received, fault))

@@ -11,8 +11,10 @@ use std::marker::Brand;
 use std::process::Abort;
 
 /// The first session over a new dialer.
-type FirstSession =
-    Session<NumberedSource<Counted<MemSource>, Brand>, NumberedSink<Counted<MemSink>, Brand>>;
+type FirstSession = Session<
+    NumberedSource<Counted<MemSource>, Brand>,
+    NumberedSink<Counted<MemSink>, Brand>,
+>;
 
 /// LOOKUP of `a` in file 1 is the first call.
 static SENT: &str = "\
@@ -33,11 +35,7 @@ server-hello \
 ";
 
 /// Looks a name up in the root, and gives the length of the handle.
-fn found(
-    rt: &impl Abort,
-    alloc: Global,
-    session: &mut FirstSession,
-) -> usize {
+fn found(rt: &impl Abort, alloc: Global, session: &mut FirstSession) -> usize {
     let root = Handle::from_slice(alloc, &[0, 0, 0, 0, 0, 0, 0, 1]).expect(rt, "memory");
     let name = Name::from_slice(alloc, b"a").expect(rt, "memory");
     match session.look_up(&root, &name) {

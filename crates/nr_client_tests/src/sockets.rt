@@ -14,6 +14,7 @@ use std::alloc::Global;
 use std::net::{Net, TcpListener, TcpStream};
 use std::process::Abort;
 use std::thread;
+use std::time::Clock;
 
 /// An acceptor that listens already, at a port that the system chose: `listen` leaves that as it is.
 #[derive(Drop)]
@@ -21,7 +22,7 @@ struct Listening<N> {
     inner: TcpAcceptor<N>,
 }
 
-impl<N: Net<Stream = TcpStream, Listener = TcpListener>> Acceptor for Listening<N> {
+impl<N: Net<Stream = TcpStream, Listener = TcpListener> + Clock> Acceptor for Listening<N> {
     type Source = TcpSource;
 
     type Sink = TcpSink;
@@ -59,7 +60,7 @@ pub(crate) struct Server<N> {
     accept: Listening<N>,
 }
 
-impl<N: Net<Stream = TcpStream, Listener = TcpListener> + Drop> Server<N> {
+impl<N: Net<Stream = TcpStream, Listener = TcpListener> + Clock + Drop> Server<N> {
     /// Its status, and what it prints and reports. Each connection is served in a thread of its own.
     pub(crate) fn run(self, rt: impl Host, alloc: Global) -> (u8, MemSink, MemSink) {
         let Server {
@@ -86,7 +87,7 @@ impl<N: Net<Stream = TcpStream, Listener = TcpListener> + Drop> Server<N> {
 }
 
 /// A server of this many connections, and the address at which it listens.
-pub(crate) fn new_server<N: Net<Stream = TcpStream, Listener = TcpListener> + Drop>(
+pub(crate) fn new_server<N: Net<Stream = TcpStream, Listener = TcpListener> + Clock + Drop>(
     rt: &impl Abort,
     alloc: Global,
     net: N,

@@ -62,7 +62,14 @@ fn print<O: Sink>(out: &mut O, text: Result<Octets, ClientEnd>) -> Result<(), Cl
 }
 
 /// Runs a command of a client over the next link of a dialer, whose number this is.
-fn run_at<N: LinkNumber, P: LinkSource, Q: LinkSink, D: Dialer<Source = P, Sink = Q>, I: Source, K: Sink>(
+fn run_at<
+    N: LinkNumber,
+    P: LinkSource,
+    Q: LinkSink,
+    D: Dialer<Source = P, Sink = Q>,
+    I: Source,
+    K: Sink,
+>(
     alloc: Global,
     client: &Client<&str>,
     dial: &mut D,

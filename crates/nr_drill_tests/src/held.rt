@@ -17,6 +17,7 @@ static ROWS: [(usize, u128); 3] = [(32, 156), (1024, 2140), (70_000, 140_092)];
 
 /// What stands before the arguments: an FPDU's header, and a call head.
 const CALL_START: &[u8] = &[1; 20];
+
 const CALL_HEAD: &[u8] = &[2; 40];
 
 /// What stands before the reply.
@@ -26,7 +27,13 @@ const REPLY_START: &[u8] = &[3; 24];
 const END: &[u8] = &[0; 4];
 
 /// A body of this many bytes, between others.
-fn bytes(rt: &impl Abort, alloc: Global, before: [&[u8]; 2], body: (u8, usize), after: &[u8]) -> Octets {
+fn bytes(
+    rt: &impl Abort,
+    alloc: Global,
+    before: [&[u8]; 2],
+    body: (u8, usize),
+    after: &[u8],
+) -> Octets {
     let mut bytes = Vec::new(alloc);
     for part in before {
         bytes.extend_from_slice(part).expect(rt, "memory");
@@ -86,14 +93,34 @@ fn mark_at(rt: &impl Abort, alloc: Global, at: usize, len: usize) -> Mark {
     let (client, server) = (Side::Initiator, Side::Responder);
     match at {
         0 => submit(rt, alloc, len),
-        1 => Mark::Wrote { link, side: client, bytes: crossed(rt, alloc, true, len) },
-        2 => Mark::Fed { link, side: server, bytes: crossed(rt, alloc, true, len) },
+        1 => Mark::Wrote {
+            link,
+            side: client,
+            bytes: crossed(rt, alloc, true, len),
+        },
+        2 => Mark::Fed {
+            link,
+            side: server,
+            bytes: crossed(rt, alloc, true, len),
+        },
         3 => execute(rt, alloc, len),
-        4 => Mark::Wrote { link, side: server, bytes: crossed(rt, alloc, false, len) },
-        5 => Mark::Fed { link, side: client, bytes: crossed(rt, alloc, false, len) },
+        4 => Mark::Wrote {
+            link,
+            side: server,
+            bytes: crossed(rt, alloc, false, len),
+        },
+        5 => Mark::Fed {
+            link,
+            side: client,
+            bytes: crossed(rt, alloc, false, len),
+        },
         _ => {
             let reply = bytes(rt, alloc, [b"", b""], (9, len), b"");
-            Mark::Done { link, xid, outcome: Outcome::Reply(reply) }
+            Mark::Done {
+                link,
+                xid,
+                outcome: Outcome::Reply(reply),
+            }
         }
     }
 }
@@ -102,9 +129,7 @@ fn mark_at(rt: &impl Abort, alloc: Global, at: usize, len: usize) -> Mark {
 fn held(rt: &impl Abort, alloc: Global, len: usize) -> u128 {
     let mut marks = MarkLog::new(alloc);
     for at in 0..7 {
-        marks
-            .push(mark_at(rt, alloc, at, len))
-            .expect(rt, "memory");
+        marks.push(mark_at(rt, alloc, at, len)).expect(rt, "memory");
     }
     marks.held()
 }

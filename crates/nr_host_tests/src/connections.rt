@@ -301,13 +301,19 @@ fn two_connections(rt: HostRuntime) {
         &mut pass,
         &clock,
         1,
+        false,
         2,
     ) else {
         panic!(rt; "not served")
     };
     same(&rt, 1, ran.started, 0);
     let text = format!(in alloc; "{:?}", ran.ends.as_slice()).expect(&rt, "memory");
-    same(&rt, 2, text.as_str() == "[Closed, Closed]", true);
+    same(
+        &rt,
+        2,
+        text.as_str() == "[Rdma(Closed), Rdma(Closed)]",
+        true,
+    );
     let want = bytes(&rt, alloc, &ANSWERED, 96);
     for (row, link) in acceptor.ended().iter().enumerate() {
         same(
@@ -328,6 +334,7 @@ fn two_connections(rt: HostRuntime) {
         &mut pass,
         &clock,
         1,
+        false,
         1,
     );
     same(&rt, 7, none.is_err(), true);

@@ -49,6 +49,7 @@ fn two_links(rt: HostRuntime) {
         &mut pass,
         &clock,
         1,
+        false,
         2,
     ) else {
         panic!(rt; "not served")
@@ -75,6 +76,7 @@ fn one_link_after_the_other(rt: HostRuntime) {
         &mut pass,
         &clock,
         1,
+        false,
         2,
     ) else {
         panic!(rt; "not served")
@@ -102,6 +104,7 @@ fn three_links_and_two_threads(rt: HostRuntime) {
         &mut pass,
         &clock,
         1,
+        false,
         4,
     ) else {
         panic!(rt; "not served")

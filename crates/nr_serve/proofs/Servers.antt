@@ -69,20 +69,22 @@ module _ (settings : Settings Text) (before after : AcceptorAt) (spawner spawner
   serves_all last links turn =
       let links_are = links.serves.serves in
       let (J, saw) = journal_after settings.credits settings.records opens.first [] (host.between before.ended before.lost spawner.started view) (host.between after.ended after.lost spawner'.started view') links_are.links links_are.all opens.empty in
-      let found = turn opens.first J saw in
-      (record {
-        first = opens.first;
-        ends = links.ends;
-        view = view';
-        last = last;
-        journal = J ++ found.others;
-        serves = serves_by links.ends links.serves;
-        all = links.all;
-        back = links.back;
-        turn = turn;
-        saw = found.seen;
-        unfailing = links.unfailing;
-      }, found.seen)
+      let found = turn opens.first J saw in (
+        record {
+          first = opens.first;
+          ends = links.ends;
+          view = view';
+          last = last;
+          journal = J ++ found.others;
+          serves = serves_by links.ends links.serves;
+          all = links.all;
+          back = links.back;
+          turn = turn;
+          saw = found.seen;
+          unfailing = links.unfailing;
+        },
+        found.seen,
+      )
 
   pub serves_fewer : (stop : ServeStop) → LinksStopped stop settings before after spawner spawner' view view' → StoppedServing stop settings before after spawner spawner' gave gave'
   serves_fewer stop (inl (same, none), fault) = (inl (same, (none, (opens.opens.moment, opens.opens.gave))), fault)

@@ -168,8 +168,8 @@ whole_around_for : {A : Type 0} (end : CallEnd) (opened : LinkParameters) (link 
 whole_around_for end opened link run waits moved s l is_s is_l first (inl failed) = inl (
   ap (λ (e : CallEnd). Err (client.Link e)) failed.0,
   (let submitted : WritesInFull opened link (run ++ waits) (s ∷ []) = (is_s.whole opened (run ++ waits), tt) in
-  cut_after opened link run waits (s ∷ (moved ++ l ∷ [])) first
-  (cut_after opened link (run ++ waits) (s ∷ []) (moved ++ l ∷ []) submitted (cut_then opened link ((run ++ waits) ++ s ∷ []) moved l is_l.silent failed.1))),
+      cut_after opened link run waits (s ∷ (moved ++ l ∷ [])) first
+      (cut_after opened link (run ++ waits) (s ∷ []) (moved ++ l ∷ []) submitted (cut_then opened link ((run ++ waits) ++ s ∷ []) moved l is_l.silent failed.1))),
 )
 whole_around_for end opened link run waits moved s l is_s is_l first (inr second) = inr (whole_around opened link run waits moved s l is_s is_l first second)
 
