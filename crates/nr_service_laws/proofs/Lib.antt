@@ -17,7 +17,9 @@ pub mod ServedLaws
 pub mod Judged
 pub mod JudgedParts
 pub mod JudgedCommands
+pub mod AnyOutcomes
 pub mod EndCauses
+pub mod PeerEnds
 pub mod NotClosed
 pub mod ServedAnswers
 pub mod CompleteCommands

@@ -1,9 +1,13 @@
 -- Each command whose outcomes are replies ends by them.
 use Rattle.std.proofs.Common.{◌≡◌, ℕ, List, [], Result, Ok, Err, inl, inr, sym, subst}
+use Rattle.nr_outside.specs.Faults.{Rises}
 use Rattle.nr_outside.specs.Streams.{SinkAt, SourceAt}
 use Rattle.nr_words.specs.Lines.{Text}
 use Rattle.nr_words.specs.declared.commands.Action.{Action}
 use Rattle.nr_words.specs.declared.commands.Action.TheVariants as actions
+use Rattle.nr_reduce.specs.declared.call.Outcome.{Outcome}
+use Rattle.nr_requester.specs.RequesterState.{RequesterSide}
+use Rattle.nr_client.specs.Transfers.{LinkBytes}
 use Rattle.nr_client.specs.declared.client_end.ClientEnd.{ClientEnd}
 use Rattle.nr_client.specs.declared.client_end.ClientEnd.TheVariants as client
 use Rattle.nr_client.specs.Listing.{list_next}
@@ -13,10 +17,13 @@ use Rattle.nr_commands.specs.Printed.{attributes_text, handle_text, names_text, 
 use Rattle.nr_commands.specs.Running.{IsPrinted, text_of}
 use Rattle.nr_commands.specs.Running.Runs.{NotOpened, Opened}
 use Rattle.nr_commands.specs.Sessions.{CountsFaults, Request, Requests, SessionAt, Text as Prints, Then}
-use Rattle.nr_service_laws.specs.CommandEnds.{RepliesExcludeEnds, ResultCanFollowReplies}
-use Rattle.nr_service_laws.specs.Exchanges.{tells_finds, tells_finds_parent, tells_get, tells_list, tells_make_directory, tells_make_symlink, tells_mount, tells_mounts, tells_none, tells_put, tells_read_link, tells_reads_out, tells_remove, tells_request, tells_requests, tells_stat, tells_symlinks, tells_text, tells_then, tells_writes_in}
+use Rattle.nr_service_laws.specs.CommandEnds.{RepliesExcludeEnds}
+use Rattle.nr_service_laws.specs.Exchanges.{outcomes_in, tells_finds, tells_finds_parent, tells_get, tells_list, tells_make_directory, tells_make_symlink, tells_mount, tells_mounts, tells_none, tells_put, tells_read_link, tells_reads_out, tells_remove, tells_request, tells_requests, tells_stat, tells_symlinks, tells_text, tells_then, tells_writes_in}
+use Rattle.nr_service_laws.proofs.AnyOutcomes.{PeerEnd, given_by_peer}
+use Rattle.nr_service_laws.proofs.Judged.{Any}
+use Rattle.nr_service_laws.proofs.JudgedParts.{GivenIs}
 use Rattle.nr_service_laws.proofs.ReplyRequests.{create_fine, getattr_fine, list_fine, readlink_fine, remove_fine}
-use Rattle.nr_service_laws.proofs.ReplyParts.{PartFine, counts_as, counts_then, part_finds, part_finds_parent, part_mounts, part_reads_out, part_request, part_requests, part_symlinks, part_text, part_then, part_writes_in, replies_made}
+use Rattle.nr_service_laws.proofs.ReplyParts.{IsFine, PartFine, counts_as, counts_then, fine_as, part_finds, part_finds_parent, part_mounts, part_reads_out, part_request, part_requests, part_symlinks, part_text, part_then, part_writes_in, replies_made}
 
 command_mount : (uid gid : ℕ) (export : List ℕ) → PartFine (MountsAndPrints uid gid export) (tells_mount uid gid export)
 command_mount uid gid export =
@@ -84,69 +91,74 @@ command_make_symlink uid gid export path target =
     (λ place. part_then (Symlinks uid gid place.0 place.1 target) (λ made. Prints []) (tells_symlinks uid gid place.0 place.1 target) (λ made. tells_none (Prints []))
     (part_symlinks uid gid place.0 place.1 target) (λ made. part_text []))
 
--- a part that ends before the bytes of a file move
-ends_as : (A B : Type 0) (s s' : SessionAt) (end : ClientEnd) (result : Result B ClientEnd) → result ≡ Err end → CountsFaults {A = A} s s' (Err end) × ResultCanFollowReplies {A = A} (Err end)
-    → CountsFaults s s' result × ResultCanFollowReplies result
-ends_as A B s s' end result same one = subst (λ (r : Result B ClientEnd). CountsFaults s s' r × ResultCanFollowReplies r) (sym same) (counts_as A B s s' end one.0, one.1)
-
 command_get : (uid gid : ℕ) (export path : List ℕ) (out out' : SinkAt) → PartFine (Gets uid gid export path out out') (tells_get uid gid export path out out')
-command_get uid gid export path out out' s s' text (inl (file, (mid, (finds, reads)))) are =
-    let both = replies_made (tells_finds uid gid export path s mid (Ok file) finds).made (tells_reads_out uid gid file out out' mid s' text reads).made are in
-    let one = part_finds uid gid export path s mid (Ok file) finds both.0 in
-    let two = part_reads_out uid gid file out out' mid s' text reads both.1 in
-    (counts_then {A = List ℕ} {B = List ℕ} s mid s' file text one.0 two.0, two.1)
-command_get uid gid export path out out' s s' text (inr (end, (finds, (same, kept)))) are =
-    ends_as (List ℕ) (List ℕ) s s' end text same (part_finds uid gid export path s s' (Err end) finds are)
+command_get uid gid export path out out' s s' text (inl (file, (mid, (finds, reads)))) =
+    let one = part_finds uid gid export path s mid (Ok file) finds in
+    let two = part_reads_out uid gid file out out' mid s' text reads in (
+      counts_then {A = List ℕ} {B = List ℕ} s mid s' file text one.0 two.0,
+      λ are. two.1 (replies_made (tells_finds uid gid export path s mid (Ok file) finds).made (tells_reads_out uid gid file out out' mid s' text reads).made are).1,
+    )
+command_get uid gid export path out out' s s' text (inr (end, (finds, (same, kept)))) =
+    fine_as (List ℕ) (List ℕ) (outcomes_in (tells_finds uid gid export path s s' (Err end) finds).made) s s' end text same (part_finds uid gid export path s s' (Err end) finds)
 
 command_put : (uid gid : ℕ) (export path : List ℕ) (input input' : SourceAt) → PartFine (Puts uid gid export path input input') (tells_put uid gid export path input input')
-command_put uid gid export path input input' s s' text (inl (place, (mid, (finds, writes)))) are =
-    let both = replies_made (tells_finds_parent uid gid export path s mid (Ok place) finds).made (tells_writes_in uid gid place.0 place.1 input input' mid s' text writes).made are in
-    let one = part_finds_parent uid gid export path s mid (Ok place) finds both.0 in
-    let two = part_writes_in uid gid place.0 place.1 input input' mid s' text writes both.1 in
-    (counts_then {A = List ℕ × List ℕ} {B = List ℕ} s mid s' place text one.0 two.0, two.1)
-command_put uid gid export path input input' s s' text (inr (end, (finds, (same, kept)))) are =
-    ends_as (List ℕ × List ℕ) (List ℕ) s s' end text same (part_finds_parent uid gid export path s s' (Err end) finds are)
+command_put uid gid export path input input' s s' text (inl (place, (mid, (finds, writes)))) =
+    let one = part_finds_parent uid gid export path s mid (Ok place) finds in
+    let two = part_writes_in uid gid place.0 place.1 input input' mid s' text writes in (
+      counts_then {A = List ℕ × List ℕ} {B = List ℕ} s mid s' place text one.0 two.0,
+      λ are. two.1 (replies_made (tells_finds_parent uid gid export path s mid (Ok place) finds).made (tells_writes_in uid gid place.0 place.1 input input' mid s' text writes).made are).1,
+    )
+command_put uid gid export path input input' s s' text (inr (end, (finds, (same, kept)))) =
+    fine_as (List ℕ × List ℕ) (List ℕ) (outcomes_in (tells_finds_parent uid gid export path s s' (Err end) finds).made) s s' end text same (part_finds_parent uid gid export path s s' (Err end) finds)
 
 command_text : (uid gid : ℕ) (export : List ℕ) (action : Action Text) (input input' : SourceAt) (out out' : SinkAt)
     → PartFine (text_of uid gid export action input input' out out') (tells_text uid gid export action input input' out out')
-command_text uid gid export actions.Mount input input' out out' s s' text is are = command_mount uid gid export s s' text is.0 are
-command_text uid gid export (actions.List path) input input' out out' s s' text is are = command_list uid gid export path s s' text is.0 are
-command_text uid gid export (actions.Stat path) input input' out out' s s' text is are = command_stat uid gid export path s s' text is.0 are
-command_text uid gid export (actions.ReadLink path) input input' out out' s s' text is are = command_read_link uid gid export path s s' text is.0 are
-command_text uid gid export (actions.MakeDirectory path) input input' out out' s s' text is are = command_make_directory uid gid export path s s' text is.0 are
-command_text uid gid export (actions.Remove path) input input' out out' s s' text is are = command_remove uid gid export path s s' text is.0 are
-command_text uid gid export (actions.Link path target) input input' out out' s s' text is are = command_make_symlink uid gid export path target s s' text is.0 are
-command_text uid gid export (actions.Put path) input input' out out' s s' text is are = command_put uid gid export path input input' s s' text is.0 are
-command_text uid gid export (actions.Get path) input input' out out' s s' text is are = command_get uid gid export path out out' s s' text is.0 are
+command_text uid gid export actions.Mount input input' out out' s s' text is = command_mount uid gid export s s' text is.0
+command_text uid gid export (actions.List path) input input' out out' s s' text is = command_list uid gid export path s s' text is.0
+command_text uid gid export (actions.Stat path) input input' out out' s s' text is = command_stat uid gid export path s s' text is.0
+command_text uid gid export (actions.ReadLink path) input input' out out' s s' text is = command_read_link uid gid export path s s' text is.0
+command_text uid gid export (actions.MakeDirectory path) input input' out out' s s' text is = command_make_directory uid gid export path s s' text is.0
+command_text uid gid export (actions.Remove path) input input' out out' s s' text is = command_remove uid gid export path s s' text is.0
+command_text uid gid export (actions.Link path target) input input' out out' s s' text is = command_make_symlink uid gid export path target s s' text is.0
+command_text uid gid export (actions.Put path) input input' out out' s s' text is = command_put uid gid export path input input' s s' text is.0
+command_text uid gid export (actions.Get path) input input' out out' s s' text is = command_get uid gid export path out out' s s' text is.0
 
 -- ---- Up to what is printed
 
-ok_printed : (text : List ℕ) (result : Result (Unit {0}) ClientEnd) (out out' : SinkAt) (s s' : SessionAt) → IsPrinted (Ok text) result out out' → CountsFaults {A = List ℕ} s s' (Ok text)
-    → CountsFaults s s' result × ResultCanFollowReplies result
-ok_printed text (Ok done) out out' s s' prints counts = (counts, tt)
-ok_printed text (Err client.OutputFault) out out' s s' prints counts = (counts, tt)
-ok_printed text (Err client.DialFault) out out' s s' prints counts = absurd prints
-ok_printed text (Err (client.Link end)) out out' s s' prints counts = absurd prints
-ok_printed text (Err (client.Rpc kind code)) out out' s s' prints counts = absurd prints
-ok_printed text (Err (client.Mount status)) out out' s s' prints counts = absurd prints
-ok_printed text (Err (client.Nfs status)) out out' s s' prints counts = absurd prints
-ok_printed text (Err client.Chunk) out out' s s' prints counts = absurd prints
-ok_printed text (Err (client.Version low high)) out out' s s' prints counts = absurd prints
-ok_printed text (Err (client.BadReply at reason)) out out' s s' prints counts = absurd prints
-ok_printed text (Err (client.BadPath at)) out out' s s' prints counts = absurd prints
-ok_printed text (Err client.InputFault) out out' s s' prints counts = absurd prints
-ok_printed text (Err (client.Budget count)) out out' s s' prints counts = absurd prints
-ok_printed text (Err client.Memory) out out' s s' prints counts = absurd prints
+ok_printed : (handed_over : List Outcome) (text : List ℕ) (result : Result (Unit {0}) ClientEnd) (out out' : SinkAt) (s s' : SessionAt) → IsPrinted (Ok text) result out out' → CountsFaults {A = List ℕ} s s' (Ok text)
+    → IsFine handed_over s s' result
+ok_printed handed_over text (Ok done) out out' s s' prints counts = (counts, λ are. tt)
+ok_printed handed_over text (Err client.OutputFault) out out' s s' prints counts = (counts, λ are. tt)
+ok_printed handed_over text (Err client.DialFault) out out' s s' prints counts = absurd prints
+ok_printed handed_over text (Err (client.Link end)) out out' s s' prints counts = absurd prints
+ok_printed handed_over text (Err (client.Rpc kind code)) out out' s s' prints counts = absurd prints
+ok_printed handed_over text (Err (client.Mount status)) out out' s s' prints counts = absurd prints
+ok_printed handed_over text (Err (client.Nfs status)) out out' s s' prints counts = absurd prints
+ok_printed handed_over text (Err client.Chunk) out out' s s' prints counts = absurd prints
+ok_printed handed_over text (Err (client.Version low high)) out out' s s' prints counts = absurd prints
+ok_printed handed_over text (Err (client.BadReply at reason)) out out' s s' prints counts = absurd prints
+ok_printed handed_over text (Err (client.BadPath at)) out out' s s' prints counts = absurd prints
+ok_printed handed_over text (Err client.InputFault) out out' s s' prints counts = absurd prints
+ok_printed handed_over text (Err (client.Budget count)) out out' s s' prints counts = absurd prints
+ok_printed handed_over text (Err client.Memory) out out' s s' prints counts = absurd prints
 
-printed_fine : (text : Result (List ℕ) ClientEnd) (result : Result (Unit {0}) ClientEnd) (out out' : SinkAt) (s s' : SessionAt) → IsPrinted text result out out'
-    → CountsFaults s s' text × ResultCanFollowReplies text → CountsFaults s s' result × ResultCanFollowReplies result
-printed_fine (Ok text) result out out' s s' prints one = ok_printed text result out out' s s' prints one.0
-printed_fine (Err why) (Ok done) out out' s s' prints one = absurd prints
-printed_fine (Err why) (Err end) out out' s s' (is, same) one =
-    subst (λ (e : ClientEnd). CountsFaults {A = Unit {0}} s s' (Err e) × ResultCanFollowReplies {A = Unit {0}} (Err e)) (sym is) (counts_as (List ℕ) (Unit {0}) s s' why one.0, one.1)
+printed_fine : (handed_over : List Outcome) (text : Result (List ℕ) ClientEnd) (result : Result (Unit {0}) ClientEnd) (out out' : SinkAt) (s s' : SessionAt) → IsPrinted text result out out' → IsFine handed_over s s' text
+    → IsFine handed_over s s' result
+printed_fine handed_over (Ok text) result out out' s s' prints one = ok_printed handed_over text result out out' s s' prints one.0
+printed_fine handed_over (Err why) (Ok done) out out' s s' prints one = absurd prints
+printed_fine handed_over (Err why) (Err end) out out' s s' (is, same) one =
+    subst (λ (e : ClientEnd). IsFine handed_over {A = Unit {0}} s s' (Err e)) (sym is) (counts_as (List ℕ) (Unit {0}) s s' why one.0, one.1)
+
+-- no session ends for its dialer
+not_dial : (F : ClientEnd → Type 0) (result : Result (Unit {0}) ClientEnd) (b : LinkBytes) (h : RequesterSide) → GivenIs Any F result b h → result ≡ Err client.DialFault → ⊥
+not_dial F result b h is same = subst (λ (r : Result (Unit {0}) ClientEnd). GivenIs Any F r b h) same is
 
 pub replies_exclude_ends_lem : RepliesExcludeEnds
 replies_exclude_ends_lem c before after input input' out out' result (NotOpened end is fails same_input same_out) = tt
-replies_exclude_ends_lem c before after input input' out out' result (Opened dialed s s' opens prints closes) = λ are.
-    printed_fine prints.text result prints.written out' s s' prints.prints
-    (command_text c.uid c.gid c.export c.action input input' out prints.written s s' prints.text prints.made are)
+replies_exclude_ends_lem c before after input input' out out' result (Opened dialed s s' opens prints closes) =
+    let made = (tells_text c.uid c.gid c.export c.action input input' out prints.written s s' prints.text prints.made).made in
+    let fine = printed_fine (outcomes_in made) prints.text result prints.written out' s s' prints.prints (command_text c.uid c.gid c.export c.action input input' out prints.written s s' prints.text prints.made) in (
+      fine.0,
+      not_dial (PeerEnd (outcomes_in made) (Rises input.faults input'.faults) (Rises out.faults out'.faults)) result s'.bytes s'.requester (given_by_peer c before dialed s s' input input' out out' result opens prints),
+      fine.1,
+    )

@@ -109,54 +109,57 @@ counts_as A B s s' client.Memory counts = counts
 
 -- ---- Parts
 
+-- the counts of the link rise only if a call has no answer for that; if all outcomes are replies, so is the end
+abbrev pub IsFine : List Outcome → {A : Type 0} → Part A
+IsFine handed_over s s' result = CountsFaults s s' result × (AreReplies handed_over → ResultCanFollowReplies result)
+
+pub fine_as : (A B : Type 0) (handed_over : List Outcome) (s s' : SessionAt) (end : ClientEnd) (result : Result B ClientEnd) → result ≡ Err end → IsFine handed_over {A = A} s s' (Err end)
+    → IsFine handed_over s s' result
+fine_as A B handed_over s s' end result same one = subst (λ (r : Result B ClientEnd). IsFine handed_over s s' r) (sym same) (counts_as A B s s' end one.0, one.1)
+
 abbrev pub PartFine : {A : Type 0} (part : Part A) → Tells part → Type 0
-PartFine {A} part exchanges = (s s' : SessionAt) (result : Result A ClientEnd) (is : part s s' result) → AreReplies (outcomes_in (exchanges s s' result is).made)
-    → CountsFaults s s' result × ResultCanFollowReplies result
+PartFine {A} part exchanges = (s s' : SessionAt) (result : Result A ClientEnd) (is : part s s' result) → IsFine (outcomes_in (exchanges s s' result is).made) s s' result
 
 same_counts : (s s' : SessionAt) → s' ≡ s → (s'.source_faults ≡ s.source_faults) × (s'.sink_faults ≡ s.sink_faults)
 same_counts s s' same = (ap (λ (x : SessionAt). x.source_faults) same, ap (λ (x : SessionAt). x.sink_faults) same)
 
 pub part_text : (text : List ℕ) → PartFine (Prints text) (tells_none (Prints text))
-part_text text s s' (Ok t) (same, is) are = (same_counts s s' same, tt)
-part_text text s s' (Err end) (same, is) are =
-    subst (λ (e : ClientEnd). CountsFaults {A = List ℕ} s s' (Err e) × ResultCanFollowReplies {A = List ℕ} (Err e)) (sym is) (same_counts s s' same, tt)
+part_text text s s' (Ok t) (same, is) = (same_counts s s' same, λ are. tt)
+part_text text s s' (Err end) (same, is) = subst (λ (e : ClientEnd). IsFine [] {A = List ℕ} s s' (Err e)) (sym is) (same_counts s s' same, λ are. tt)
 
 pub part_request : {A : Type 0} (reads : Outcome → Result A ClientEnd) (call : Call) → ReadsReplies reads → PartFine (Request reads call) (tells_request reads call)
-part_request reads call fine s s' result is are = (is.1, asks_fine reads call s.bytes s'.bytes s.requester s'.requester result is.0 fine are)
+part_request reads call fine s s' result is = (is.1, λ are. asks_fine reads call s.bytes s'.bytes s.requester s'.requester result is.0 fine are)
 
 pub part_requests : {A : Type 0} (request : List Outcome → Next A) → RequestFine request → PartFine (Requests request) (tells_requests request)
-part_requests request fine s s' result is are = (is.1, follows_fine request s.bytes s'.bytes s.requester s'.requester result is.0 fine are)
+part_requests request fine s s' result is = (is.1, λ are. follows_fine request s.bytes s'.bytes s.requester s'.requester result is.0 fine are)
 
 pub part_then : {A B : Type 0} (first : Part A) (next : A → Part B) (exchanges : Tells first) (later : (value : A) → Tells (next value)) → PartFine first exchanges → ((value : A) → PartFine (next value) (later value))
     → PartFine (Then first next) (tells_then first next exchanges later)
-part_then first next exchanges later fine then s s' result (inl (value, (mid, (is, goes)))) are =
-    let both = replies_made (exchanges s mid (Ok value) is).made (later value mid s' result goes).made are in
-    let one = fine s mid (Ok value) is both.0 in
-    let two = then value mid s' result goes both.1 in
-    (counts_then s mid s' value result one.0 two.0, two.1)
-part_then {A} {B} first next exchanges later fine then s s' result (inr (end, (is, same))) are =
-    let one = fine s s' (Err end) is are in
-    subst (λ (r : Result B ClientEnd). CountsFaults s s' r × ResultCanFollowReplies r) (sym same) (counts_as A B s s' end one.0, one.1)
+part_then first next exchanges later fine then s s' result (inl (value, (mid, (is, goes)))) =
+    let one = fine s mid (Ok value) is in
+    let two = then value mid s' result goes in
+    (counts_then s mid s' value result one.0 two.0, λ are. two.1 (replies_made (exchanges s mid (Ok value) is).made (later value mid s' result goes).made are).1)
+part_then {A} {B} first next exchanges later fine then s s' result (inr (end, (is, same))) = fine_as A B (outcomes_in (exchanges s s' (Err end) is).made) s s' end result same (fine s s' (Err end) is)
 
-fails_fine : {A : Type 0} (max : ℕ) (s s' : SessionAt) (result : Result A ClientEnd) → Fails (client.Budget max) s s' result → CountsFaults s s' result × ResultCanFollowReplies result
-fails_fine {A} max s s' result (same, is) = subst (λ (r : Result A ClientEnd). CountsFaults s s' r × ResultCanFollowReplies r) (sym is) (same_counts s s' same, tt)
+fails_fine : {A : Type 0} (max : ℕ) (s s' : SessionAt) (result : Result A ClientEnd) → Fails (client.Budget max) s s' result → IsFine [] s s' result
+fails_fine {A} max s s' result (same, is) = subst (λ (r : Result A ClientEnd). IsFine [] s s' r) (sym is) (same_counts s s' same, λ are. tt)
 
-within_fine : (above : Bool) (Above Within Is : Type 0) (exchanges : Within → Exchanges) → (Above → Is) → ((is : Within) → AreReplies (outcomes_in (exchanges is).made) → Is)
-    → (is : MatchBool above Above Within) → AreReplies (outcomes_in (within_exchanges above Above Within exchanges is).made) → Is
-within_fine true Above Within Is exchanges beyond within is are = beyond is
-within_fine false Above Within Is exchanges beyond within is are = within is are
+within_fine : (above : Bool) (Above Within : Type 0) (Is : List Outcome → Type 0) (exchanges : Within → Exchanges) → (Above → Is []) → ((is : Within) → Is (outcomes_in (exchanges is).made))
+    → (is : MatchBool above Above Within) → Is (outcomes_in (within_exchanges above Above Within exchanges is).made)
+within_fine true Above Within Is exchanges beyond within is = beyond is
+within_fine false Above Within Is exchanges beyond within is = within is
 
 pub part_mounts : (uid gid : ℕ) (export : List ℕ) → PartFine (Mounts uid gid export) (tells_mounts uid gid export)
-part_mounts uid gid export s s' result is are =
+part_mounts uid gid export s s' result is =
     within_fine (nat_lt mount_path_max (length export)) (Fails (client.Budget mount_path_max) s s' result) (Request mnt_result (mnt_call uid gid export) s s' result)
-    (CountsFaults s s' result × ResultCanFollowReplies result) (tells_request mnt_result (mnt_call uid gid export) s s' result)
-    (fails_fine mount_path_max s s' result) (part_request mnt_result (mnt_call uid gid export) mnt_fine s s' result) is are
+    (λ (handed_over : List Outcome). IsFine handed_over s s' result) (tells_request mnt_result (mnt_call uid gid export) s s' result)
+    (fails_fine mount_path_max s s' result) (part_request mnt_result (mnt_call uid gid export) mnt_fine s s' result) is
 
 pub part_symlinks : (uid gid : ℕ) (dir name target : List ℕ) → PartFine (Symlinks uid gid dir name target) (tells_symlinks uid gid dir name target)
-part_symlinks uid gid dir name target s s' result is are =
+part_symlinks uid gid dir name target s s' result is =
     within_fine (nat_lt link_target_max (length target)) (Fails (client.Budget link_target_max) s s' result) (Request create_result (symlink_call uid gid dir name target) s s' result)
-    (CountsFaults s s' result × ResultCanFollowReplies result) (tells_request create_result (symlink_call uid gid dir name target) s s' result)
-    (fails_fine link_target_max s s' result) (part_request create_result (symlink_call uid gid dir name target) create_fine s s' result) is are
+    (λ (handed_over : List Outcome). IsFine handed_over s s' result) (tells_request create_result (symlink_call uid gid dir name target) s s' result)
+    (fails_fine link_target_max s s' result) (part_request create_result (symlink_call uid gid dir name target) create_fine s s' result) is
 
 pub part_finds : (uid gid : ℕ) (export path : List ℕ) → PartFine (Finds uid gid export path) (tells_finds uid gid export path)
 part_finds uid gid export path =
@@ -170,19 +173,19 @@ part_finds_parent uid gid export path =
 
 -- ---- Parts that have no text
 
-silent_fine : (s s' : SessionAt) (done : Result (Unit {0}) ClientEnd) (text : Result (List ℕ) ClientEnd) → IsSilent done text → CountsFaults s s' done → ResultCanFollowReplies done
-    → CountsFaults s s' text × ResultCanFollowReplies text
-silent_fine s s' (Ok done) (Ok text) silent counts fine = (counts, tt)
-silent_fine s s' (Ok done) (Err why) silent counts fine = absurd silent
-silent_fine s s' (Err end) (Ok text) silent counts fine = absurd silent
-silent_fine s s' (Err end) (Err why) silent counts fine =
-    subst (λ (e : ClientEnd). CountsFaults {A = List ℕ} s s' (Err e) × ResultCanFollowReplies {A = List ℕ} (Err e)) (sym silent) (counts_as (Unit {0}) (List ℕ) s s' end counts, fine)
+silent_fine : (handed_over : List Outcome) (s s' : SessionAt) (done : Result (Unit {0}) ClientEnd) (text : Result (List ℕ) ClientEnd) → IsSilent done text → IsFine handed_over s s' done → IsFine handed_over s s' text
+silent_fine handed_over s s' (Ok done) (Ok text) silent fine = (fine.0, λ are. tt)
+silent_fine handed_over s s' (Ok done) (Err why) silent fine = absurd silent
+silent_fine handed_over s s' (Err end) (Ok text) silent fine = absurd silent
+silent_fine handed_over s s' (Err end) (Err why) silent fine =
+    subst (λ (e : ClientEnd). IsFine handed_over {A = List ℕ} s s' (Err e)) (sym silent) (counts_as (Unit {0}) (List ℕ) s s' end fine.0, fine.1)
 
 pub part_reads_out : (uid gid : ℕ) (file : List ℕ) (out out' : SinkAt) → PartFine (ReadsOut uid gid file out out') (tells_reads_out uid gid file out out')
-part_reads_out uid gid file out out' s s' text (done, ((reads, counts), silent)) are =
-    silent_fine s s' done text silent counts.1 (reads_fine uid gid file s.bytes s'.bytes s.requester s'.requester out.taken out'.taken done reads are)
+part_reads_out uid gid file out out' s s' text (done, ((reads, counts), silent)) =
+    silent_fine (outcomes_in (tells_reads_out uid gid file out out' s s' text (done, ((reads, counts), silent))).made) s s' done text silent
+    (counts.1, λ are. reads_fine uid gid file s.bytes s'.bytes s.requester s'.requester out.taken out'.taken done reads are)
 
 pub part_writes_in : (uid gid : ℕ) (dir name : List ℕ) (input input' : SourceAt) → PartFine (WritesIn uid gid dir name input input') (tells_writes_in uid gid dir name input input')
-part_writes_in uid gid dir name input input' s s' text (done, ((writes, counts), silent)) are =
-    silent_fine s s' done text silent counts.1
-    (writes_fine uid gid dir name writes.handed writes.rest s.bytes s'.bytes s.requester s'.requester done writes.calls are)
+part_writes_in uid gid dir name input input' s s' text (done, ((writes, counts), silent)) =
+    silent_fine (outcomes_in (tells_writes_in uid gid dir name input input' s s' text (done, ((writes, counts), silent))).made) s s' done text silent
+    (counts.1, λ are. writes_fine uid gid dir name writes.handed writes.rest s.bytes s'.bytes s.requester s'.requester done writes.calls are)

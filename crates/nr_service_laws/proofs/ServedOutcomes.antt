@@ -142,5 +142,5 @@ served_clients_have_replies_lem reply_to adds opened link run both own served =
 pub served_commands_end_lem : ServedCommandsExcludeEnds
 served_commands_end_lem opened link c before after input input' out out' result (NotOpened end is fails same_input same_out) = tt
 served_commands_end_lem opened link c before after input input' out out' result (Opened dialed s s' opens prints closes) = λ ran reply_to adds both served.
-    replies_exclude_ends_lem c before after input input' out out' result (Opened dialed s s' opens prints closes)
-    (subst AreReplies ran.outcomes (served_clients_have_replies_lem reply_to adds opened link ran.run both ran.own served))
+    let excludes = replies_exclude_ends_lem c before after input input' out out' result (Opened dialed s s' opens prints closes) in
+    (excludes.0, excludes.2 (subst AreReplies ran.outcomes (served_clients_have_replies_lem reply_to adds opened link ran.run both ran.own served)))

@@ -1,5 +1,5 @@
--- The ends of a command whose calls have replies.
-use Rattle.std.specs.Prelude.{⊤, List, [], ◌∷◌, Result, Ok, Err}
+-- Ends that no command has, whatever its server does, and those that it hasn't if its calls have replies.
+use Rattle.std.specs.Prelude.{◌≡◌, ⊤, List, [], ◌∷◌, Result, Ok, Err}
 use Rattle.nr_outside.specs.Streams.{SinkAt, SourceAt}
 use Rattle.nr_words.specs.Lines.{Text}
 use Rattle.nr_words.specs.declared.commands.Client.{Client}
@@ -33,13 +33,14 @@ abbrev pub ResultCanFollowReplies : {A : Type 0} → Result A ClientEnd → Type
 ResultCanFollowReplies (Ok value) = ⊤
 ResultCanFollowReplies (Err end) = CanFollowReplies end
 
--- If all outcomes that a command handed over are replies, it ends by them, and the fault counts of its link rise only if it has no answer for that.
+-- A command that opened a session doesn't end for its dialer, and the fault counts of its link rise only if a call has no answer for that. If all
+-- outcomes that it handed over are replies, it ends by them.
 abbrev pub ExcludesEnds : (c : Client Text) (before after : DialerAt) (input input' : SourceAt) (out out' : SinkAt) (result : Result (Unit {0}) ClientEnd)
     → Runs c before after input input' out out' result → Type 0
 ExcludesEnds c before after input input' out out' result (NotOpened end is fails same_input same_out) = ⊤
 ExcludesEnds c before after input input' out out' result (Opened dialed s s' opens prints closes) =
-    AreReplies (outcomes_in (tells_text c.uid c.gid c.export c.action input input' out prints.written s s' prints.text prints.made).made) →
-    CountsFaults s s' result × ResultCanFollowReplies result
+    CountsFaults s s' result × (result ≡ Err client.DialFault → ⊥)
+    × (AreReplies (outcomes_in (tells_text c.uid c.gid c.export c.action input input' out prints.written s s' prints.text prints.made).made) → ResultCanFollowReplies result)
 
 abbrev pub RepliesExcludeEnds : Type 0
 RepliesExcludeEnds =

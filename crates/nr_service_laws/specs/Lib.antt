@@ -6,4 +6,5 @@ pub mod CommandEnds
 pub mod ServedCommands
 pub mod ServedLinks
 pub mod EndCauses
+pub mod PeerEnds
 pub mod CompleteCommands

@@ -4,6 +4,7 @@ ghost use Rattle.nr_service_laws.specs.CommandEnds.{RepliesExcludeEnds};
 ghost use Rattle.nr_service_laws.specs.CommandRuns.{CommandsHaveARun};
 ghost use Rattle.nr_service_laws.specs.CompleteCommands.{ServedCommandsComplete, ServedCommandsHaveCauses};
 ghost use Rattle.nr_service_laws.specs.EndCauses.{EndsHaveCauses, ServedCommandsEndForMemory};
+ghost use Rattle.nr_service_laws.specs.PeerEnds.{EndsSay};
 ghost use Rattle.nr_service_laws.specs.ServedCommands.{ServedClientsHaveReplies, ServedCommandsExcludeEnds};
 ghost use Rattle.nr_service_laws.specs.ServedLinks.{ServedClientsStayOpen, ServedCommandsAreNotClosed, ServedCommandsHaveNotEnded, ServedCommandsKeepLaws, ServedCommandsStayOpen};
 ghost use Rattle.nr_service_laws.specs.SessionMarks.{AsksHaveMarks, FollowsHaveMarks, FollowsOutcomes, MarksGoOn, ReadsHaveMarks, ReadsInOrder, SessionsBegin, WritesHaveMarks};
@@ -36,8 +37,8 @@ pub fn commands_have_a_run()
     ensures { CommandsHaveARun }
 {}
 
-/// A command that opened a session, and each outcome of which is a reply, ends neither for ERR_CHUNK (RFC 8166 section 4.5.3) nor for ERR_VERS
-/// (section 4.5.1) nor for its dialer. The fault counts of its link rise if and only if a call has no answer for that.
+/// A command that opened a session doesn't end for its dialer, and the fault counts of its link rise if and only if a call has no answer for that,
+/// whatever its server does. If each outcome is a reply, it ends neither for ERR_CHUNK (RFC 8166 section 4.5.3) nor for ERR_VERS (section 4.5.1).
 pub fn replies_exclude_ends()
     ensures { RepliesExcludeEnds }
 {}
@@ -68,9 +69,10 @@ pub fn commands_keep_the_law()
 
 /// A command that opened a session, and ends since a call has no answer, has the cause of that end when its link is hung up, whatever its server
 /// replies: at `Closed` no known byte of the source is left, a call is outstanding, all output is written, and the requester hasn't ended; at `Ended` it
-/// has ended for this reason, or memory ran out.
+/// has ended for this reason, or memory ran out (`causes`). Each other end is read of an outcome that was handed over, or a fault count rose (`says`).
 pub fn ends_have_causes()
-    ensures { EndsHaveCauses }
+    ensures causes { EndsHaveCauses }
+    ensures says { EndsSay }
 {}
 
 /// So a command over a matched link whose plain server keeps its law with each Wrote in full ends with `Ended` only if memory ran out.

@@ -1,2 +1,3 @@
 pub mod CommandStatuses
 pub mod ServerStatuses
+pub mod StatusCauses

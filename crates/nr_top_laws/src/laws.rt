@@ -2,6 +2,7 @@
 
 ghost use Rattle.nr_top_laws.specs.CommandStatuses.{ServedCommandsHaveStatuses};
 ghost use Rattle.nr_top_laws.specs.ServerStatuses.{ServersHaveStatuses};
+ghost use Rattle.nr_top_laws.specs.StatusCauses.{LinesAreRead, StatusesHaveCauses};
 
 /// A command of a client has status 0, 2, 6, 7, 10 or 11, or 4 and its server ended its stream, if its run is a side of a matched link, the server of
 /// which keeps its law with each Wrote in full, a plain server with a sane first tree answers its calls, and no fault count rises. It is not 4 if the
@@ -14,4 +15,13 @@ pub fn served_commands_have_statuses()
 /// standard error, of the acceptor.
 pub fn servers_have_statuses()
     ensures { ServersHaveStatuses }
+{}
+
+/// Whatever the server of a command of a client does, the status has its cause (`causes`): 3 only if the dialer's count of faults or of lost links rose;
+/// 4 only if no known byte of the link is left and a call was open; 5 only if the client's side has ended, or a reply is bad; 6, 7 and 8 only by what the
+/// server answered; 9 only if a count of faults rose: of the input, of the output, of standard error; 10 only for a bad path; 11 only at a limit. It is
+/// never 1 (`lines`).
+pub fn statuses_have_causes()
+    ensures causes { StatusesHaveCauses }
+    ensures lines { LinesAreRead }
 {}

@@ -5,4 +5,4 @@
 
 mod laws;
 
-pub use laws::{served_commands_have_statuses, servers_have_statuses};
+pub use laws::{served_commands_have_statuses, servers_have_statuses, statuses_have_causes};

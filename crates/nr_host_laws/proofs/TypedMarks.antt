@@ -1,0 +1,221 @@
+-- The marks of a connection over a source of bytes are of their types.
+use Rattle.std.proofs.Common.{◌≡◌, ℕ, zero, suc, ◌+◌, ◌-◌, ◌≤◌, Bool, true, false, cond, not, ◌&&◌, eqb, List, [], ◌∷◌, ◌++◌, length, take, drop, Option, None, Some, refl, sym, ap, ◌∙◌, subst, arith, append-nil}
+use Rattle.std.proofs.lemmas.List.{take-append-drop, length-append}
+use Rattle.std.specs.List.{AllByRecursion, flat_map}
+use Rattle.std.specs.Option.{option_map}
+use Rattle.std.specs.Io.KnownBytes.{Consumes}
+use Rattle.nr_xdr.specs.Item.{IsBytes}
+use Rattle.nr_xdr.proofs.Chains.{IsBytes_left, IsBytes_right}
+use Rattle.nr_wire.specs.declared.hello.Side.TheVariants.{Initiator, Responder}
+use Rattle.nr_link.specs.declared.end.End.{End}
+use Rattle.nr_outside.specs.declared.moment.Moment.{Moment}
+use Rattle.nr_reduce.specs.AtEachMark.{AtEachMark}
+use Rattle.nr_reduce.specs.declared.call.Submission.TheVariants as submissions
+use Rattle.nr_reduce.specs.History.{bytes_received, fed_at}
+use Rattle.nr_reduce.specs.Matched.{IsPrefixOf}
+use Rattle.nr_reduce.specs.Run.{server}
+use Rattle.nr_reduce.specs.Served.{ServedMark, first_ready, next_call}
+use Rattle.nr_reduce.specs.ServerState.{ReadyCall}
+use Rattle.nr_reduce.specs.declared.mark.Entry.{Entry}
+use Rattle.nr_reduce.specs.declared.mark.LinkParameters.{LinkParameters}
+use Rattle.nr_reduce.specs.declared.mark.Mark.{Mark}
+use Rattle.nr_reduce.specs.declared.mark.Mark.TheVariants as marks
+use Rattle.nr_reduce.proofs.Standing.{AtEachMark_more, itself}
+use Rattle.nr_laws.specs.Typed.{IsTyped, TypedMark}
+use Rattle.nr_laws.proofs.Basics.{each_append}
+use Rattle.nr_plain.specs.History.{AllPlaced, Answered, Opening, entries_in, setup_in}
+use Rattle.nr_plain.specs.Journal.{state_of}
+use Rattle.nr_plain.specs.Replies.{Answer, plain_answer, plain_reply}
+use Rattle.nr_plain.specs.Setup.{Setup}
+use Rattle.nr_byte_laws.specs.InBytes.{EntriesInBytes, EntryInBytes, IsInBytes}
+use Rattle.nr_byte_laws.proofs.ByteServers.{ready_bytes}
+use Rattle.nr_byte_laws.proofs.PlainBytes.{entries_bytes, plain_reply_bytes}
+use Rattle.nr_host.specs.Connections.{IsOwn, Outside, answer_of, answers_of}
+use Rattle.nr_host_laws.specs.OwnMarks.{is_own, other_marks, own_marks}
+use Rattle.nr_host_laws.specs.Streams.{ServesStream}
+use Rattle.nr_host_laws.specs.TypedMarks.{ConnectionsAreTyped, OthersInBytes}
+
+-- ---- A call that is executed
+
+first_bytes : (ready : List ReadyCall) (ended : Option End) (call : ReadyCall) → AllByRecursion (λ (r : ReadyCall). IsBytes r.payload) ready → first_ready ready ended ≡ Some call → IsBytes call.payload
+first_bytes ready (Some end) call h e = absurd cc
+first_bytes [] None call h e = absurd cc
+first_bytes (r ∷ ready) None call h e = let same : r ≡ call = cc in subst (λ (c : ReadyCall). IsBytes c.payload) same h.0
+
+next_bytes : (opened : LinkParameters) (link : ℕ) (run : List Mark) (call : ReadyCall) → IsTyped run → next_call opened link run ≡ Some call → IsBytes call.payload
+unfolding next_call
+next_bytes opened link run call typed e = first_bytes (server opened link run).state.ready (server opened link run).ended call (ready_bytes opened link run typed) e
+
+-- ---- Places of a journal
+
+take_more : {X : Type 0} (n k : ℕ) (xs : List X) → take (n + k) xs ≡ take n xs ++ take k (drop n xs)
+take_more zero k xs = let same : 0 + k ≡ k = omega arith in ap (λ (m : ℕ). take m xs) same
+take_more {X} (suc n) k [] = let same : suc n + k ≡ suc (n + k) = omega arith in ap (λ (m : ℕ). take {A = X} m []) same ∙ sym (nothing k)
+  where
+    nothing : (m : ℕ) → take {A = X} m [] ≡ []
+    nothing zero = refl
+    nothing (suc m) = refl
+take_more (suc n) k (x ∷ xs) = let same : suc n + k ≡ suc (n + k) = omega arith in ap (λ (m : ℕ). take m (x ∷ xs)) same ∙ ap (λ l. x ∷ l) (take_more n k xs)
+
+until_place : (J : List Entry) (n place : ℕ) → n ≤ place → EntriesInBytes (take n J) → EntriesInBytes (take (place - n) (drop n J)) → EntriesInBytes (take place J)
+until_place J n place le before between =
+    let at : n + (place - n) ≡ place = omega (arith, le) in
+    subst (λ (m : ℕ). EntriesInBytes (take m J)) at
+    (subst EntriesInBytes (sym (take_more n (place - n) J)) (each_append EntryInBytes (take n J) (take (place - n) (drop n J)) before between))
+
+and_own : (J : List Entry) (place : ℕ) (own : List Entry) → take (length own) (drop place J) ≡ own → EntriesInBytes (take place J) → EntriesInBytes own → EntriesInBytes (take (place + length own) J)
+and_own J place own there before added =
+    subst EntriesInBytes (sym (take_more place (length own) J ∙ ap (λ (l : List Entry). take place J ++ l) there)) (each_append EntryInBytes (take place J) own before added)
+
+take_twice : {X : Type 0} (n : ℕ) (xs : List X) → take n (take n xs) ≡ take n xs
+take_twice zero xs = refl
+take_twice (suc n) [] = refl
+take_twice (suc n) (x ∷ xs) = ap (λ l. x ∷ l) (take_twice n xs)
+
+take_front : {X : Type 0} (xs ys : List X) → take (length xs) (xs ++ ys) ≡ xs
+take_front [] ys = refl
+take_front (x ∷ xs) ys = ap (λ l. x ∷ l) (take_front xs ys)
+
+-- a reply by what stands before its place
+reply_at : (s : Setup) (J : List Entry) (place : ℕ) (moment : Moment) (payload reply : List ℕ) → IsInBytes s.tree → EntriesInBytes (take place J) → plain_reply s J place moment payload ≡ Some reply → IsBytes reply
+reply_at s J place moment payload reply tree until is =
+    plain_reply_bytes s (take place J) place moment payload reply tree until
+    (ap (λ (K : List Entry). option_map (λ (a : Answer). a.reply) (plain_answer s.parameters (state_of s K) moment payload)) (take_twice place J) ∙ is)
+
+-- ---- A run of a server's side
+
+own_bytes : (link l : ℕ) (bytes : List ℕ) → l ≡ link → fed_at link Responder (marks.Fed l Responder bytes) ≡ bytes
+own_bytes link l bytes same = ap (λ (b : Bool). cond (b && true) bytes []) (ap (λ (m : ℕ). eqb m link) same ∙ itself link)
+
+-- what is known of the marks made so far, and of those that follow
+record Goes (s : Setup) (J : List Entry) (opened : LinkParameters) (link : ℕ) (front run : List Mark) (n : ℕ) : Type 0 where
+  typed : IsTyped front
+  own : AtEachMark (λ earlier mark. IsOwn link mark) front run
+  served : AtEachMark (ServedMark IsPrefixOf opened link) front run
+  fed : IsBytes (flat_map (fed_at link Responder) run)
+  before : EntriesInBytes (take n J)
+  placed : AllPlaced s J n (flat_map answer_of run)
+  others : OthersInBytes J n (flat_map answer_of run)
+
+abbrev Typed : (front run : List Mark) → Type 0
+Typed front run = AtEachMark TypedMark front run × EntriesInBytes (flat_map entries_in (flat_map answer_of run))
+
+typed_from : (s : Setup) (J : List Entry) (opened : LinkParameters) (link : ℕ) → IsInBytes s.tree → (front run : List Mark) (n : ℕ) → Goes s J opened link front run n → Typed front run
+typed_from s J opened link tree front [] n g = (tt, tt)
+typed_from s J opened link tree front (marks.Fed l Responder bytes ∷ run) n g =
+    let here : IsBytes bytes = subst IsBytes (own_bytes link l bytes g.own.0) (IsBytes_left (fed_at link Responder (marks.Fed l Responder bytes)) (flat_map (fed_at link Responder) run) g.fed) in
+    let rest = typed_from s J opened link tree (front ++ marks.Fed l Responder bytes ∷ []) run n (record {
+      typed = AtEachMark_more TypedMark [] front (marks.Fed l Responder bytes) g.typed here;
+      own = g.own.1;
+      served = g.served.1;
+      fed = IsBytes_right (fed_at link Responder (marks.Fed l Responder bytes)) (flat_map (fed_at link Responder) run) g.fed;
+      before = g.before;
+      placed = g.placed;
+      others = g.others;
+    }) in
+    ((here, rest.0), rest.1)
+typed_from s J opened link tree front (marks.Wrote l Responder bytes ∷ run) n g =
+    let rest = typed_from s J opened link tree (front ++ marks.Wrote l Responder bytes ∷ []) run n (record {
+      typed = AtEachMark_more TypedMark [] front (marks.Wrote l Responder bytes) g.typed tt;
+      own = g.own.1;
+      served = g.served.1;
+      fed = g.fed;
+      before = g.before;
+      placed = g.placed;
+      others = g.others;
+    }) in
+    ((tt, rest.0), rest.1)
+typed_from s J opened link tree front (marks.Execute l xid moment payload place reply ∷ run) n g =
+    let mark = marks.Execute l xid moment payload place reply in
+    let call : Answered = record { moment = moment; payload = payload; place = place; reply = reply } in
+    let executed = g.served.0 g.own.0 in
+    let bytes : IsBytes payload = subst IsBytes (sym executed.conveyed) (next_bytes opened link front executed.call g.typed executed.is_next) in
+    let until : EntriesInBytes (take place J) = until_place J n place g.placed.0 g.before g.others.0 in
+    let here : IsBytes reply = reply_at s J place moment payload reply tree until g.placed.1.0 in
+    let added : EntriesInBytes (entries_in call) = entries_bytes moment payload reply bytes in
+    let rest = typed_from s J opened link tree (front ++ mark ∷ []) run (place + length (entries_in call)) (record {
+      typed = AtEachMark_more TypedMark [] front mark g.typed here;
+      own = g.own.1;
+      served = g.served.1;
+      fed = g.fed;
+      before = and_own J place (entries_in call) g.placed.1.1.0 until added;
+      placed = g.placed.1.1.1;
+      others = g.others.1;
+    }) in
+    ((here, rest.0), each_append EntryInBytes (entries_in call) (flat_map entries_in (flat_map answer_of run)) added rest.1)
+typed_from s J opened link tree front (marks.Fed l Initiator bytes ∷ run) n g = absurd g.own.0
+typed_from s J opened link tree front (marks.Wrote l Initiator bytes ∷ run) n g = absurd g.own.0
+typed_from s J opened link tree front (marks.Submit l call form answer ∷ run) n g = absurd g.own.0
+typed_from s J opened link tree front (marks.Done l xid outcome ∷ run) n g = absurd g.own.0
+typed_from s J opened link tree front (marks.Lost l xid ∷ run) n g = absurd g.own.0
+typed_from s J opened link tree front (marks.Forget l xid ∷ run) n g = absurd g.own.0
+typed_from s J opened link tree front (marks.Revoke l xid bytes ∷ run) n g = absurd g.own.0
+typed_from s J opened link tree front (marks.Drop l ∷ run) n g = absurd g.own.0
+
+-- ---- A connection
+
+given_bytes : (left : List ℕ) (after : Option (List ℕ)) (bytes : List ℕ) → Consumes (Some left) after bytes → IsBytes left → IsBytes bytes
+given_bytes left None bytes takes h = absurd takes
+given_bytes left (Some rest) bytes takes h = IsBytes_left bytes rest (subst IsBytes takes h)
+
+pub connections_are_typed_lem : ConnectionsAreTyped
+unfolding bytes_received answers_of
+connections_are_typed_lem terms link before after end first J left ended is =
+    let over = ended.runs.over first J is.history in
+    let opened : LinkParameters = record { first_xid = 1; first_stag = 1; wished = 1; granted = terms.credits } in
+    let all : IsBytes (flat_map (fed_at link Responder) ended.run ++ ended.ahead) =
+    given_bytes left after.left (flat_map (fed_at link Responder) ended.run ++ ended.ahead)
+    (subst (λ (o : Option (List ℕ)). Consumes o after.left (flat_map (fed_at link Responder) ended.run ++ ended.ahead)) is.known ended.runs.handed.from_left) is.bytes in
+    typed_from (setup_in first) (J ++ over.more) opened link is.tree [] ended.run (length J) (record {
+      typed = tt;
+      own = ended.runs.own;
+      served = ended.runs.served opened refl;
+      fed = IsBytes_left (flat_map (fed_at link Responder) ended.run) ended.ahead all;
+      before = subst EntriesInBytes (sym (take_front J over.more)) is.entries;
+      placed = over.placed;
+      others = is.others (J ++ over.more) over.seen;
+    })
+
+-- so is the stream of a connection that served all of it
+pub stream_is_typed : (credits : ℕ) (first : Opening) (J : List Entry) (link : ℕ) (before after : Outside) (stream : List ℕ) (served : ServesStream credits first J link before after stream) (opened : LinkParameters)
+    → opened.granted ≡ credits → IsBytes stream → IsInBytes (setup_in first).tree → EntriesInBytes J → OthersInBytes (J ++ served.over.more) (length J) (answers_of served.run) → IsTyped served.run
+unfolding bytes_received answers_of
+stream_is_typed credits first J link before after stream served opened same bytes tree entries others =
+    (typed_from (setup_in first) (J ++ served.over.more) opened link tree [] served.run (length J) (record {
+      typed = tt;
+      own = (served.made opened same).own;
+      served = (served.made opened same).served;
+      fed = subst IsBytes (sym served.fed) bytes;
+      before = subst EntriesInBytes (sym (take_front J served.over.more)) entries;
+      placed = served.over.placed;
+      others = others;
+    })).0
+
+-- ---- A run of both sides
+
+typed_anywhere : (before after : List Mark) (mark : Mark) → TypedMark before mark → TypedMark after mark
+typed_anywhere before after (marks.Submit l call form (submissions.Accepted xid)) h = h
+typed_anywhere before after (marks.Submit l call form (submissions.Refused why)) h = h
+typed_anywhere before after (marks.Submit l call form submissions.Dropped) h = h
+typed_anywhere before after (marks.Fed l side bytes) h = h
+typed_anywhere before after (marks.Wrote l side bytes) h = h
+typed_anywhere before after (marks.Execute l xid moment payload place reply) h = h
+typed_anywhere before after (marks.Done l xid outcome) h = h
+typed_anywhere before after (marks.Lost l xid) h = h
+typed_anywhere before after (marks.Forget l xid) h = h
+typed_anywhere before after (marks.Revoke l xid bytes) h = h
+typed_anywhere before after (marks.Drop l) h = h
+
+typed_parts : (link : ℕ) (front own others run : List Mark) → AtEachMark TypedMark own (own_marks link run) → AtEachMark TypedMark others (other_marks link run) → AtEachMark TypedMark front run
+typed_parts link front own others [] h k = tt
+typed_parts link front own others (mark ∷ run) h k = by (is_own link mark) (λ f o q. typed_parts link f o q run) h k
+  where
+    by : (b : Bool) → ((f o q : List Mark) → AtEachMark TypedMark o (own_marks link run) → AtEachMark TypedMark q (other_marks link run) → AtEachMark TypedMark f run)
+        → AtEachMark TypedMark own (cond b (mark ∷ own_marks link run) (own_marks link run)) → AtEachMark TypedMark others (cond (not b) (mark ∷ other_marks link run) (other_marks link run))
+        → AtEachMark TypedMark front (mark ∷ run)
+    by true rest h k = (typed_anywhere own front mark h.0, rest (front ++ mark ∷ []) (own ++ mark ∷ []) others h.1 k)
+    by false rest h k = (typed_anywhere others front mark k.0, rest (front ++ mark ∷ []) own (others ++ mark ∷ []) h k.1)
+
+-- a run whose server's side is typed, and whose other marks are
+pub both_typed : (link : ℕ) (run : List Mark) → IsTyped (own_marks link run) → IsTyped (other_marks link run) → IsTyped run
+both_typed link run own others = typed_parts link [] [] [] run own others
