@@ -8,7 +8,7 @@ pub returns-clause-served : goal.returns-clause-served
 returns-clause-served g c =
     let left = g.I.Source.left in let given = g.I.Source.given in let taken = g.O.Sink.taken in let faults = g.O.Sink.faults in
     let gave = g.C.Clock.gave in
-    let s = c.serve_link in
+    let s = c.serve_link-source in
     let source = c.new-source.ensures in let sink = c.new-sink.ensures in
     let source' = sym c.into_inner.ensures.source in let sink' = sym c.into_inner-2.ensures.sink in
     link_same c.args.credits c.args.records _ _ _ _ s.result.1
