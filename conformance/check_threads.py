@@ -4,9 +4,10 @@
 
 `work`: 64 connections for 20 seconds, each of which writes and reads a file of its own, and reads one that all read, beside a peer that says
 nothing, peers that are reset in the middle of a frame, and `put` and `get` of a mebibyte. `short`: 10,000 short connections. `crowd`: 1,500
-clients at once with one call each. `few`: a program built with a limit of two threads (--few; left out without it) and three peers that say
-nothing: a fourth client waits until one of them ends. The frames are those of docs/WIRE.md, with small calls inline. The resident memory of
-each server is printed. Exit status: 0 all as expected, 1 something differs, 2 no program."""
+clients at once with one call each. `few`: three peers that say nothing, at a program built with `THREADS` of nfsrdma's main.rt at 2 (--few;
+left out without it): a fourth client waits until one of them ends. The frames are those of docs/WIRE.md, with small calls inline. In `work`
+and `short` the server's resident memory after the connections may be that before them, with what the files take, and 8 MiB more. Exit status:
+0 all as expected, 1 something differs, 2 no program."""
 import argparse
 import os
 import random
@@ -38,6 +39,8 @@ STATUS, NEW_HANDLE, READ_COUNT, READ_DATA = 24, 32, 116, 128
 # a READ or WRITE of so many bytes fits a Send of 1024 bytes without a chunk
 PIECE = 512
 CONNECTIONS, PROCESSES = 64, 4
+# how much more memory a server may keep after its connections, in MiB
+ROOM = 8
 
 
 class Link:
@@ -141,7 +144,7 @@ def work_of_process(port: int, numbers: range, common: bytes, text: bytes, until
 def resident(pid: int) -> float:
     """The resident memory of a process, in mebibytes."""
     with open('/proc/%d/status' % pid, encoding='utf-8') as f:
-        return next(int(line.split()[1]) / 1024 for line in f if line.startswith('VmRSS'))
+        return next((int(line.split()[1]) / 1024 for line in f if line.startswith('VmRSS')), 0.0)
 
 
 class Tries:
@@ -205,6 +208,8 @@ class Tries:
         time.sleep(1)
         self.same('while one peer says nothing', server.poll(), None)
         after = resident(server.pid)
+        files = (CONNECTIONS * 16 * PIECE + rounds * len(large)) / (1 << 20)
+        self.same('resident memory after the work, %.1f MiB, is within bounds' % after, after <= before + files + ROOM, True)
         silent.close()
         self.ends('64 connections at work', server, total, journal + changes)
         print('work: %d calls, %d changes in %g seconds; resident %.1f MiB before, %.1f at work, %.1f after' % (
@@ -214,7 +219,7 @@ class Tries:
         """Short connections, one after another by each of several threads."""
         count, threads = 10000, 8
         port = free_port()
-        server = serve(self.program, self.folder, CONFIG % (port, count + 1))
+        server = serve(self.program, self.folder, CONFIG % (port, count + 2))
         with connect(port) as s:
             s.sendall(HELLO + CALL)
             s.shutdown(socket.SHUT_WR)
@@ -235,13 +240,15 @@ class Tries:
         running = [threading.Thread(target=some) for _ in range(threads)]
         for thread in running:
             thread.start()
-        while any(thread.is_alive() for thread in running) and server.poll() is None:
-            after = resident(server.pid) if server.poll() is None else after
-            time.sleep(0.05)
         for thread in running:
             thread.join()
-        self.ends('short connections', server, count + 1, 0)
-        print('short: %d connections in %.1f seconds; resident %.1f MiB before, %.1f near the end' % (count, time.time() - begun, before, after))
+        took = time.time() - begun
+        time.sleep(1)
+        after = resident(server.pid)
+        self.same('resident memory after short connections, %.1f MiB, is within bounds' % after, after <= before + ROOM, True)
+        connect(port).close()
+        self.ends('short connections', server, count + 2, 0)
+        print('short: %d connections in %.1f seconds; resident %.1f MiB before, %.1f after' % (count, took, before, after))
 
     def crowd(self) -> None:
         """Clients that all connect before the first is answered."""
