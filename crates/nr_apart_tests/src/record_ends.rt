@@ -1,5 +1,7 @@
 //! Connections over record-marked TCP, cut and failing at several offsets.
 
+ghost use Rattle.nr_turnstile.specs.Passes.{Rests};
+
 use crate::compare::same;
 use nr_links::{Clock, MemClock};
 use nr_nfs_base::{Time, Verifier};
@@ -7,6 +9,7 @@ use nr_outside::{MemSink, MemSource, Moment};
 use nr_plain::{Server, share};
 use nr_record_host::serve_records;
 use nr_tree::Tree;
+use nr_turnstile::{Machine, Pass, Turnstile};
 use nr_xdr::Octets;
 use std::alloc::Global;
 use std::process::Abort;
@@ -175,14 +178,18 @@ fn bytes(rt: &impl Abort, alloc: Global, words: &[u32], most: usize) -> Vec<u8> 
     bytes
 }
 
-fn server(rt: &impl Abort, alloc: Global) -> Server {
+/// A server of an empty directory, behind a turnstile.
+fn opened(rt: &impl Abort, alloc: Global) -> (Turnstile<Server>, Pass<Server>)
+    ensures { Rests result.0 result.1 }
+{
     let made = Time {
         seconds: 0,
         nanoseconds: 0,
     };
     let tree = Tree::root_only(alloc, made).expect(rt, "memory");
     let export = Octets::from_slice(alloc, b"/").expect(rt, "memory");
-    Server::open(tree, 1 << 40, Verifier { number: 1 }, export)
+    let server = Server::open(tree, 1 << 40, Verifier { number: 1 }, export);
+    share(alloc, server).expect(rt, "memory")
 }
 
 /// Serves a connection, and compares how it ends, what its sink takes, and how many moments the clock gave.
@@ -196,7 +203,7 @@ fn same_end<R: Abort + Wait>(
 ) {
     let (end, sent, moments) = want;
     let mut sink = MemSink::new(alloc, writes);
-    let (shared, mut pass) = share(alloc, server(rt, alloc)).expect(rt, "memory");
+    let (shared, mut pass) = opened(rt, alloc);
     let mut clock = MemClock::new(&MOMENTS);
     let got = serve_records(rt, alloc, source, &mut sink, &shared, &mut pass, &mut clock);
     let text = format!(in alloc; "{got:?}").expect(rt, "memory");
