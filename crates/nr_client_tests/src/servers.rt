@@ -5,6 +5,7 @@ ghost use Rattle.std.specs.Prelude.{◌<◌, ◌^◌};
 use crate::compare::same;
 use crate::host::Host;
 use crate::runs::{MOMENTS, plan, read_case, same_sent, same_text, source, words};
+use nr_host::ServeJob;
 use nr_jobs::{HandBack, Spawner};
 use nr_links::{Acceptor, MemAcceptor, MemClock, MemDialer, MemLink};
 use nr_outside::{MemSink, MemSource};
@@ -13,8 +14,8 @@ use std::alloc::Global;
 use std::process::Abort;
 
 /// Runs a server, and gives its status.
-pub(crate) fn run_server<A: Acceptor, P: Spawner>(
-    rt: &impl Host,
+pub(crate) fn run_server<H: Host, A: Acceptor, P: Spawner<ServeJob<A::Source, A::Sink, MemClock, H>>>(
+    rt: &H,
     alloc: Global,
     words: &[String],
     input: &mut MemSource,

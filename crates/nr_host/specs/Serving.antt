@@ -22,8 +22,8 @@ pub record Between : Type 0 where
 abbrev pub between : Option LinkLog → ℕ → ℕ → PassView → Between
 between ended lost started view = record { ended = ended; lost = lost; started = started; view = view }
 
--- A link was accepted, and the spawner counted one job more as started. Which job it is, no clause says: what `start` was
--- given is read in the code, and tests show it.
+-- A link was accepted, and the spawner counted one job of a connection more as started. That it is the job of this link
+-- is no clause: such a job owns a source and the sink of one link.
 pub record StartsLink (before after : Between) : Type 0 where
   pub made : MakesLink before.ended after.ended
   pub lost : after.lost ≡ before.lost

@@ -25,7 +25,7 @@ pub type Ends = Sequence<LinkEnd>;
 /// What a server served.
 #[derive(Drop)]
 pub struct Ran {
-    /// How many jobs the spawner counted as started.
+    /// How many jobs of connections the spawner counted as started.
     pub started: u64,
     /// How each other connection ended, in the order in which they were accepted.
     pub ends: Ends,
@@ -52,7 +52,12 @@ fn raise_trim_threshold(alloc: Global) {
 }
 
 /// Accepts a link and starts its job. If the job is handed back, runs it, takes in its pass, and hangs the link up.
-fn serve_next<A: Acceptor, C: Clock, P: Spawner, R: Threads + Wait + Copy + Drop + Send + 'static>(
+fn serve_next<
+    A: Acceptor,
+    C: Clock,
+    P: Spawner<ServeJob<A::Source, A::Sink, C, R>>,
+    R: Threads + Wait + Copy + Drop + Send + 'static,
+>(
     rt: R,
     alloc: Global,
     acceptor: &mut A,
@@ -119,7 +124,12 @@ where
 
 /// Takes one link more, and counts its job, or notes its end if it was served here. There is room for that first, so
 /// that no link is accepted in vain.
-fn serve_one<A: Acceptor, C: Clock, P: Spawner, R: Threads + Wait + Copy + Drop + Send + 'static>(
+fn serve_one<
+    A: Acceptor,
+    C: Clock,
+    P: Spawner<ServeJob<A::Source, A::Sink, C, R>>,
+    R: Threads + Wait + Copy + Drop + Send + 'static,
+>(
     rt: R,
     alloc: Global,
     acceptor: &mut A,
@@ -179,7 +189,12 @@ where
 }
 
 /// Accepts `connections` links, and starts the job of each or serves it here. Answers how many jobs were started.
-fn take_links<A: Acceptor, C: Clock, P: Spawner, R: Threads + Wait + Copy + Drop + Send + 'static>(
+fn take_links<
+    A: Acceptor,
+    C: Clock,
+    P: Spawner<ServeJob<A::Source, A::Sink, C, R>>,
+    R: Threads + Wait + Copy + Drop + Send + 'static,
+>(
     rt: R,
     alloc: Global,
     acceptor: &mut A,
@@ -241,7 +256,12 @@ where
 ///
 /// [`ServeFault::AcceptFault`] if the acceptor failed, as it does before it listens; [`ServeFault::Memory`] if there is
 /// no memory for another link or its end. What was served until then stays.
-pub fn serve<A: Acceptor, C: Clock, P: Spawner, R: Threads + Wait + Copy + Drop + Send + 'static>(
+pub fn serve<
+    A: Acceptor,
+    C: Clock,
+    P: Spawner<ServeJob<A::Source, A::Sink, C, R>>,
+    R: Threads + Wait + Copy + Drop + Send + 'static,
+>(
     rt: R,
     alloc: Global,
     acceptor: &mut A,

@@ -85,7 +85,7 @@ fn two_jobs_meet(rt: HostRuntime) {
     let two = Meet { rt, place: other };
     same(&rt, 0, spawner.start(rt, alloc, one).is_ok(), true);
     same(&rt, 1, spawner.start(rt, alloc, two).is_ok(), true);
-    spawner.finish(&rt);
+    Spawner::<Number>::finish(&mut spawner, &rt);
 }
 
 /// With a limit of one, the second of two jobs comes back while the first one waits for it. Once both have ended, there is room for a third.
@@ -101,9 +101,9 @@ fn one_job_at_once(rt: HostRuntime) {
         panic!(rt; "two jobs at once")
     };
     same(&rt, 1, two.run(), 2);
-    spawner.finish(&rt);
+    Spawner::<Number>::finish(&mut spawner, &rt);
     same(&rt, 2, spawner.start(rt, alloc, Number(3)).is_ok(), true);
-    spawner.finish(&rt);
+    Spawner::<Number>::finish(&mut spawner, &rt);
 }
 
 /// A spawner waits for a job that takes a while.
@@ -118,7 +118,7 @@ fn late_job(rt: HostRuntime) {
         spawner.start(rt, alloc, Late { rt, place }).is_ok(),
         true,
     );
-    spawner.finish(&rt);
+    Spawner::<Number>::finish(&mut spawner, &rt);
     let count = *other.count.lock(&rt);
     same(&rt, 1, count, 1);
 }

@@ -10,7 +10,7 @@ ghost use Rattle.nr_serve.specs.Serving.{acceptor_at, spawner_at, served_text};
 ghost use Rattle.nr_serve.specs.Stops.{Done, GivesOne, InRanges, LinksStopped, OpensServer, OpensShared, ReadsConfig, ServesAndPrints, ServesLinksOf, Stopped, StoppedPrinting, StoppedReading, StopsServing};
 
 use crate::stop::{ServeStop, stop_of_config, stop_of_read, stop_of_serve};
-use nr_host::serve;
+use nr_host::{ServeJob, serve};
 use nr_jobs::Spawner;
 use nr_links::{Acceptor, Clock};
 use nr_nfs_base::{Time, Verifier};
@@ -93,7 +93,7 @@ fn open_shared<C: Clock>(
 }
 
 /// Listens, and serves the connections of the configuration.
-fn serve_links<A: Acceptor, C: Clock, P: Spawner, R: Threads + Wait + Copy + Drop + Send + 'static>(
+fn serve_links<A: Acceptor, C: Clock, P: Spawner<ServeJob<A::Source, A::Sink, C, R>>, R: Threads + Wait + Copy + Drop + Send + 'static>(
     rt: R,
     alloc: Global,
     accept: &mut A,
@@ -165,7 +165,7 @@ fn serve_by<
     O: Sink,
     A: Acceptor,
     C: Clock,
-    P: Spawner,
+    P: Spawner<ServeJob<A::Source, A::Sink, C, R>>,
     R: Threads + Wait + Copy + Drop + Send + 'static,
 >(
     rt: R,
@@ -211,7 +211,7 @@ pub fn serve_config<
     O: Sink,
     A: Acceptor,
     C: Clock,
-    P: Spawner,
+    P: Spawner<ServeJob<A::Source, A::Sink, C, R>>,
     R: Threads + Wait + Copy + Drop + Send + 'static,
 >(
     rt: R,

@@ -13,6 +13,7 @@ use crate::client::run_client;
 use crate::drill::{ScriptSource, run_drill};
 use crate::report::answer_words;
 use crate::serving::run_server;
+use nr_host::ServeJob;
 use nr_jobs::Spawner;
 use nr_links::{Acceptor, Clock, Dialer, LinkSink, LinkSource};
 use nr_outside::{Sink, Source};
@@ -31,7 +32,7 @@ fn dispatch<
     D: Dialer<Source = P, Sink = Q>,
     A: Acceptor,
     C: Clock,
-    S: Spawner,
+    S: Spawner<ServeJob<A::Source, A::Sink, C, R>>,
     R: Threads + Wait + Copy + Drop + Send + 'static,
 >(
     rt: R,
@@ -104,7 +105,7 @@ pub fn run<
     D: Dialer<Source = P, Sink = Q>,
     A: Acceptor,
     C: Clock,
-    S: Spawner,
+    S: Spawner<ServeJob<A::Source, A::Sink, C, R>>,
     R: Threads + Wait + Copy + Drop + Send + 'static,
 >(
     rt: R,

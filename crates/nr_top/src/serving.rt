@@ -7,6 +7,7 @@ ghost use Rattle.nr_top.specs.Serving.{ReportsStop, ServeEnds};
 
 use crate::report::write_error;
 use crate::status::{BAD_INPUT, DONE, FAULT, LINK_FAULT, NO_MEMORY, OVER_BUDGET};
+use nr_host::ServeJob;
 use nr_jobs::Spawner;
 use nr_links::{Acceptor, Clock};
 use nr_outside::{Sink, Source};
@@ -38,7 +39,7 @@ pub fn run_server<
     E: Sink,
     A: Acceptor,
     C: Clock,
-    P: Spawner,
+    P: Spawner<ServeJob<A::Source, A::Sink, C, R>>,
     R: Threads + Wait + Copy + Drop + Send + 'static,
 >(
     rt: R,
