@@ -26,7 +26,7 @@ abbrev pub HasReply : List Outcome → Type 0
 HasReply handed_over = (payload : List ℕ) × IsAmong (outcomes.Reply payload) handed_over
 
 -- Each end by the outcomes that the command handed over, by its session when it was opened and when its link was hung up, and by its input and
--- its output. No session ends for its dialer. A refusal, a failure and a bad reply are those of a reply; ERR_CHUNK and ERR_VERS were received
+-- its output. No session ends for its dialer. At a refusal, a failure and a bad reply a reply was handed over; ERR_CHUNK and ERR_VERS were received
 -- (RFC 8166 section 4.5); a count of faults rose; or the call has the cause of its end.
 abbrev pub EndSays : List Outcome → (s s' : SessionAt) (input input' : SourceAt) (out out' : SinkAt) → ClientEnd → Type 0
 EndSays handed_over s s' input input' out out' client.DialFault = ⊥

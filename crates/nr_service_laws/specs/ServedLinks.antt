@@ -44,7 +44,7 @@ pub record IsServedBy (reply_to : List Entry → Moment → List ℕ → Option 
   pub limits : KeepsReplyLimits (server_with reply_to adds)
   pub plain : HasPlainReplies (server_with reply_to adds) link both
 
--- The server wrote all that it owes and executed each complete call, and all that either side wrote arrived. So it hasn't closed first.
+-- The server wrote all that it owes and executed each complete call, and all that either side wrote arrived.
 pub record OwesNothing (opened : LinkParameters) (link : ℕ) (both : List Mark) : Type 0 where
   pub written : HasWritten opened link Responder both
   pub nothing_waits : NothingInTransit opened link both

@@ -69,7 +69,7 @@ pub fn commands_keep_the_law()
 
 /// A command that opened a session, and ends since a call has no answer, has the cause of that end when its link is hung up, whatever its server
 /// replies: at `Closed` no known byte of the source is left, a call is outstanding, all output is written, and the requester hasn't ended; at `Ended` it
-/// has ended for this reason, or memory ran out (`causes`). Each other end is read of an outcome that was handed over, or a fault count rose (`says`).
+/// has ended for this reason, or memory ran out (`causes`). At each other end a reply or an error message was handed over, or a fault count rose (`says`).
 pub fn ends_have_causes()
     ensures causes { EndsHaveCauses }
     ensures says { EndsSay }

@@ -69,11 +69,11 @@ pub data StatusSays (status : ℕ) (end : ClientEnd) (dialer dialer' : DialerAt)
   LinkClosed : status ≡ statuses.link_closed → IsClosed last → StatusSays status end dialer dialer' input input' out out' err err' last given
   -- 5: the client's side has ended
   LinkBroken : status ≡ statuses.protocol_fault → IsBroken last → StatusSays status end dialer dialer' input input' out out' err err' last given
-  -- 5: or a reply is bad, at this offset, for this reason
+  -- 5: or it ends for a bad reply, at this offset, for this reason, and a reply came
   ReplyBad : status ≡ statuses.protocol_fault → (at reason : ℕ) → end ≡ client.BadReply at reason → HasReply given → StatusSays status end dialer dialer' input input' out out' err err' last given
-  -- 6: a reply refuses the call, or the export
+  -- 6: it ends for a refused call or export, and a reply came
   Refused : status ≡ statuses.refused → IsRefusal end → HasReply given → StatusSays status end dialer dialer' input input' out out' err err' last given
-  -- 7: a reply has the status of a failed procedure (RFC 1813 section 2.6)
+  -- 7: it ends for a failed procedure (RFC 1813 section 2.6), and a reply came
   NfsFailed : status ≡ statuses.nfs_failed → (why : Status) → end ≡ client.Nfs why → HasReply given → StatusSays status end dialer dialer' input input' out out' err err' last given
   -- 8: ERR_CHUNK or ERR_VERS came (RFC 8166 section 4.5)
   TransportError : status ≡ statuses.transport_error → IsAmong outcomes.Chunk given ⊎ ((low : ℕ) × ((high : ℕ) × IsAmong (outcomes.Version low high) given))

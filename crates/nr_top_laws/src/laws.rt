@@ -18,8 +18,8 @@ pub fn servers_have_statuses()
 {}
 
 /// Whatever the server of a command of a client does, the status has its cause (`causes`): 3 only if the dialer's count of faults or of lost links rose;
-/// 4 only if no known byte of the link is left and a call was open; 5 only if the client's side has ended, or a reply is bad; 6, 7 and 8 only by what the
-/// server answered; 9 only if a count of faults rose: of the input, of the output, of standard error; 10 only for a bad path; 11 only at a limit. It is
+/// 4 only if no known byte of the link is left and a call was open; 5 only if the client's side has ended, or a reply is bad; 6 and 7 only if a
+/// reply came, 8 only if ERR_CHUNK or ERR_VERS came; 9 only if a count of faults rose: of the input, of the output, of standard error; 10 only for a bad path; 11 only at a limit. It is
 /// never 1 (`lines`).
 pub fn statuses_have_causes()
     ensures causes { StatusesHaveCauses }
