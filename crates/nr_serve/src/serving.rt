@@ -93,7 +93,12 @@ fn open_shared<C: Clock>(
 }
 
 /// Listens, and serves the connections of the configuration.
-fn serve_links<A: Acceptor, C: Clock, P: Spawner<ServeJob<A::Source, A::Sink, C, R>>, R: Threads + Wait + Copy + Drop + Send + 'static>(
+fn serve_links<
+    A: Acceptor,
+    C: Clock,
+    P: Spawner<ServeJob<A::Source, A::Sink, C, R>>,
+    R: Threads + Wait + Copy + Drop + Send + 'static,
+>(
     rt: R,
     alloc: Global,
     accept: &mut A,
