@@ -14,7 +14,11 @@ use std::alloc::Global;
 use std::process::Abort;
 
 /// Runs a server, and gives its status.
-pub(crate) fn run_server<H: Host, A: Acceptor, P: Spawner<ServeJob<A::Source, A::Sink, MemClock, H>>>(
+pub(crate) fn run_server<
+    H: Host,
+    A: Acceptor,
+    P: Spawner<ServeJob<A::Source, A::Sink, MemClock, H>>,
+>(
     rt: &H,
     alloc: Global,
     words: &[String],
