@@ -80,7 +80,8 @@ fn dial<N: Net<Stream = TcpStream, Listener = TcpListener>>(
 /// Compares some words of what came back: their numbers, and what they are.
 fn same_words(rt: &impl Abort, row: usize, got: &[u8], want: &[(usize, u32)]) {
     for (at, word) in want.iter() {
-        match got.get(*at * 4..*at * 4 + 4) {
+        let from = at.saturating_mul(4);
+        match got.get(from..from.saturating_add(4)) {
             Some(bytes) => same(rt, row, bytes == word.to_be_bytes().as_slice(), true),
             None => panic!(rt; "row {row}: fewer words"),
         }
