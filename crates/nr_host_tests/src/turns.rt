@@ -1,6 +1,7 @@
 //! Calls of a server behind a turnstile, by two passes.
 
-ghost use Rattle.std.specs.Prelude.{◌≡◌, IfOk};
+ghost use Rattle.std.specs.Prelude.{◌^◌};
+ghost use Rattle.nr_tree.specs.Steps.{IsBelow};
 ghost use Rattle.nr_turnstile.specs.Passes.{Rests};
 
 use crate::compare::same;
@@ -43,11 +44,21 @@ fn bytes(rt: &impl Abort, alloc: Global, words: &[u32]) -> Vec<u8> {
     bytes
 }
 
+/// The tree of a drill.
+fn drill_tree(rt: &impl Abort, alloc: Global) -> Tree
+    ensures { IsBelow (2 ^ 62) result }
+{
+    match Tree::drill(alloc) {
+        Ok(tree) => tree,
+        Err(_) => panic!(rt; "memory"),
+    }
+}
+
 /// A server of the tree of a drill, behind a turnstile.
 fn drill(rt: &impl Abort, alloc: Global) -> (Turnstile<Server>, Pass<Server>)
     ensures { Rests result.0 result.1 }
 {
-    let tree = Tree::drill(alloc).expect(rt, "memory");
+    let tree = drill_tree(rt, alloc);
     let export = Octets::from_slice(alloc, b"/").expect(rt, "memory");
     let server = Server::open(tree, 1 << 40, Verifier { number: 1 }, export);
     share(alloc, server).expect(rt, "memory")
