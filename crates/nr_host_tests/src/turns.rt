@@ -48,10 +48,7 @@ fn bytes(rt: &impl Abort, alloc: Global, words: &[u32]) -> Vec<u8> {
 fn drill_tree(rt: &impl Abort, alloc: Global) -> Tree
     ensures { IsBelow (2 ^ 62) result }
 {
-    match Tree::drill(alloc) {
-        Ok(tree) => tree,
-        Err(_) => panic!(rt; "memory"),
-    }
+    Tree::drill(alloc).expect(rt, "memory")
 }
 
 /// A server of the tree of a drill, behind a turnstile.

@@ -2,5 +2,5 @@ use Rattle.std.proofs.Common.{arith}
 use Rattle.nr_host_tests.proofs.turns.drill_tree.Goals as goal
 use Rattle.nr_host_tests.proofs.Below.{below_end}
 
-pub returns-in-Ok : goal.returns-in-Ok
-returns-in-Ok g c = below_end 106 _ (omega arith) c.in-Ok.ensures.below
+pub returns : goal.returns
+returns g c = below_end 106 _ (omega arith) (rw (c.expect.ensures) at c.drill.ensures.below)
