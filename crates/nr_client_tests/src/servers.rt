@@ -17,7 +17,7 @@ use std::process::Abort;
 pub(crate) fn run_server<
     H: Host,
     A: Acceptor,
-    P: Spawner<ServeJob<A::Source, A::Sink, MemClock, H>>,
+    P: Spawner<ServeJob<A::Source, A::Sink, MemClock<'static>, H>>,
 >(
     rt: &H,
     alloc: Global,
