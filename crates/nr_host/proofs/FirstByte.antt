@@ -146,6 +146,7 @@ module _ (left given left' given' : Option (List ℕ)) (sink : SinkState) (gave 
     more = s.more;
     took = s.took;
     encode = s.encode;
+    limit = s.limit;
     order = s.order;
     serves = record {
       handed = hands_on left given left' given' after.left after.given (s.stream ++ s.unread) kept told s.serves.handed;

@@ -1,5 +1,5 @@
 -- Pieces of the stream, one after another, and the ends at them.
-use Rattle.std.proofs.Common.{◌≡◌, ◌≢◌, ℕ, zero, suc, le_refl, ◌+◌, ◌<◌, ◌≤◌, List, [], ◌∷◌, ◌++◌, length, take, Option, None, Some, Result, Err, inl, refl, sym, ap, ◌∙◌, subst, append-nil, arith}
+use Rattle.std.proofs.Common.{◌≡◌, ◌≢◌, ℕ, zero, suc, le_refl, ◌+◌, ◌<◌, ◌≤◌, List, [], ◌∷◌, ◌++◌, length, take, Option, None, Some, Result, Err, inl, refl, sym, ap, ◌∙◌, subst, arith}
 use Rattle.std.specs.Prelude.{IfErr}
 use Rattle.std.specs.Io.KnownBytes.{IsAtEnd}
 use Rattle.std.proofs.lemmas.List.{length-append, take_all}
@@ -10,7 +10,6 @@ use Rattle.nr_record.specs.Records.{Cut, contents, encodings}
 use Rattle.nr_record.specs.RecordsState.{RecordsState, RepresentsStream, read_in, rest_in}
 use Rattle.nr_record.specs.declared.fault.RecordFault.{RecordFault}
 use Rattle.nr_record.specs.declared.fault.RecordFault.TheVariants as faults
-use Rattle.nr_record.proofs.Above.{bad_above}
 use Rattle.nr_record.proofs.Unique.{begun_none}
 use Rattle.nr_plain.specs.History.{Answered, PassView}
 use Rattle.nr_record_host.specs.RecordRuns.{AllAnswered, Around, IsRecordsServed, Serves, around, written}
@@ -18,8 +17,9 @@ use Rattle.nr_record_host.specs.private.RecordSteps.{AnswerEnds, AnswersAll, Car
 use Rattle.nr_record_host.specs.declared.record_end.RecordEnd.{RecordEnd}
 use Rattle.nr_record_host.specs.declared.record_end.RecordEnd.TheVariants as ends
 use Rattle.nr_record_host.proofs.Executions.{serves_nothing, serves_read}
-use Rattle.nr_record_host.proofs.Readers.{go_on, none_cuts, none_more, none_unread, read_piece}
+use Rattle.nr_record_host.proofs.Readers.{go_on, none_cuts, none_unread, read_piece}
 use Rattle.nr_record_host.proofs.Ends.{all_answered, ended, nothing_ahead, still_nothing}
+use Rattle.nr_record_host.proofs.Above.{too_long}
 
 empty : (xs : List ℕ) → length xs ≡ 0 → xs ≡ []
 empty [] e = refl
@@ -64,7 +64,7 @@ module _ (k k1 : RecordsState) (piece : List ℕ) (feeds : (stream : List ℕ) (
       let h = a.live.read in
       ended before after (ends.Bad at reason) k' all xs [] (written xs) h (nothing_ahead before after all xs [] (written xs) a.live.serves) within tt refl
       ((let none : 0 ≤ 1 = omega arith in none), λ e. refl)
-      (inl (ap contents (none_more k' all xs h a.all), bad_above k' all (length xs) at reason h.stands bad))
+      (inl (too_long k' all xs at reason h bad a.all))
 
   -- memory ran out
   pub piece_out : (k' : RecordsState) (taken taken' : Option (List ℕ)) (gave gave' : Option (List Moment)) (view view' : PassView)
@@ -75,7 +75,7 @@ module _ (k k1 : RecordsState) (piece : List ℕ) (feeds : (stream : List ℕ) (
       let a = answers before left given all (live_fed before (around left given taken gave view) stream live) in
       let xs = a.live.exchanges in
       ended before after ends.Memory k' all xs [] (written xs) a.live.read (nothing_ahead before after all xs [] (written xs) a.live.serves) within tt
-      ([], append-nil (written xs)) (let none : 0 ≤ 1 = omega arith in none) tt
+      (inl refl) (let none : 0 ≤ 1 = omega arith in none) tt
 
   -- one of the two
   pub piece_fault : (k' : RecordsState) (fault : RecordFault) (taken taken' : Option (List ℕ)) (gave gave' : Option (List Moment)) (view view' : PassView)
@@ -218,11 +218,12 @@ out_at_once first = record {
   more = [];
   took = [];
   encode = record { cuts = []; fit = tt; records_are = refl; bytes_are = refl; begun = begun_none };
+  limit = tt;
   order = refl;
   serves = serves_nothing first;
   within = (let none : 0 ≤ read_max = omega arith in none);
   unread_is = tt;
-  took_is = ([], refl);
+  took_is = inl refl;
   more_is = (let none : 0 ≤ 1 = omega arith in none);
   cause = tt;
 }

@@ -125,6 +125,7 @@ completes before after ends.Closed cuts reads reads' writes writes' left_is with
       all = sym (append-nil (calls s.exchanges)) ∙ ap (λ (l : List (List ℕ)). calls s.exchanges ++ l) (sym answered.0) ∙ sym s.order ∙ sent.0;
       serves = subst (λ (m : List Moment). Serves before after (s.stream ++ s.unread) s.exchanges m (written s.exchanges)) s.more_is
           (subst (λ (t : List ℕ). Serves before after (s.stream ++ s.unread) s.exchanges s.more t) s.took_is s.serves);
+      left = over;
     }
 completes before after (ends.Cut at) cuts reads reads' writes writes' left_is within heads few s source sink no_read no_write =
     let (answered, (over, (some, more))) = s.cause in
@@ -133,7 +134,7 @@ completes before after (ends.Cut at) cuts reads reads' writes writes' left_is wi
 completes before after ends.LinkRead cuts reads reads' writes writes' left_is within heads few s source sink no_read no_write = no_read source
 completes before after ends.LinkWrite cuts reads reads' writes writes' left_is within heads few s source sink no_read no_write = no_write sink
 completes before after (ends.Bad at reason) cuts reads reads' writes writes' left_is within heads few s source sink no_read no_write = ⊎_elim
-    (λ (long : IsTooLong (s.stream ++ s.unread) s.others at reason). none_above before after cuts left_is within heads few (ends.Bad at reason) s at long.1.1)
+    (λ (long : IsTooLong (s.stream ++ s.unread) (calls s.exchanges) s.others at reason). none_above before after cuts left_is within heads few (ends.Bad at reason) s at long.fault.1)
     (λ (stop : IsNoCall (s.stream ++ s.unread) (calls s.exchanges) s.others at reason). no_stop before after cuts left_is within heads few (ends.Bad at reason) s at reason stop)
     s.cause
 completes before after (ends.Budget n) cuts reads reads' writes writes' left_is within heads few s source sink no_read no_write =

@@ -1,5 +1,5 @@
 -- How a connection ends: what was read, what was answered and what was not.
-use Rattle.std.proofs.Common.{◌≡◌, ℕ, ◌+◌, ◌≤◌, List, [], ◌∷◌, ◌++◌, length, true, false, Option, None, inl, inr, refl, sym, ap, ◌∙◌, subst, append_assoc, append-nil, arith}
+use Rattle.std.proofs.Common.{◌≡◌, ℕ, ◌+◌, ◌≤◌, List, [], ◌∷◌, ◌++◌, length, true, false, Option, None, inl, inr, refl, sym, ap, ◌∙◌, subst, append-nil, arith}
 use Rattle.std.specs.Prelude.{is_ok}
 use Rattle.nr_outside.specs.declared.moment.Moment.{Moment}
 use Rattle.nr_links.specs.Limits.{read_max}
@@ -7,23 +7,22 @@ use Rattle.nr_record.specs.Records.{contents, fragment}
 use Rattle.nr_record.specs.RecordsState.{IsAt, RecordsState, RepresentsStream, read_in, rest_in}
 use Rattle.nr_record.proofs.Above.{none_above}
 use Rattle.nr_record.proofs.Begun.{records_encoded}
-use Rattle.nr_reduce.specs.Matched.{IsPrefixOf}
 use Rattle.nr_rpc.specs.Reading.{call_of}
 use Rattle.nr_plain.specs.History.{Answered, PassView}
 use Rattle.nr_record_host.specs.private.Answering.{AnswersCall, BreaksOff, ExecutesNone, StopsAt}
-use Rattle.nr_record_host.specs.RecordRuns.{AllAnswered, Around, IsNoCall, IsRecordCause, IsRecordsServed, MoreAt, REASON_CALL, Serves, TookAt, UnreadAt, around, calls, written}
+use Rattle.nr_record_host.specs.RecordRuns.{AllAnswered, Around, BreaksOffIn, IsNoCall, IsRecordCause, IsRecordsServed, MoreAt, REASON_CALL, Serves, TookAt, UnreadAt, around, calls, written}
 use Rattle.nr_record_host.specs.private.RecordSteps.{AnswerEnds, AnswersAll, AnswersOn, HasRead, IsAnswered, IsPlace, end_at}
 use Rattle.nr_record_host.specs.declared.answering.Stop.{Stop}
 use Rattle.nr_record_host.specs.declared.answering.Stop.TheVariants as stops
 use Rattle.nr_record_host.specs.declared.record_end.RecordEnd.{RecordEnd}
 use Rattle.nr_record_host.specs.declared.record_end.RecordEnd.TheVariants as ends
-use Rattle.nr_record_host.proofs.Exchanges.{contents_both, written_end}
+use Rattle.nr_record_host.proofs.Exchanges.{contents_both, contents_within, written_end}
 use Rattle.nr_record_host.proofs.Executions.{serves_more, serves_none}
 use Rattle.nr_record_host.proofs.Readers.{begins, go_on, next_of, none_more, place_of, read_on}
 
 -- what was answered, what was not, and what the reader did not judge
 pub ended : (before after : Around) (end : RecordEnd) (k : RecordsState) (stream : List ℕ) (xs : List Answered) (more : List Moment) (took : List ℕ) (h : HasRead k stream xs)
-    → Serves before after stream xs more took → length stream ≤ read_max → UnreadAt end h.stands.unread → TookAt end took (written xs) → MoreAt end more
+    → Serves before after stream xs more took → length stream ≤ read_max → UnreadAt end h.stands.unread → TookAt end took xs → MoreAt end more
     → IsRecordCause after.left stream (rest_in h.stands) (calls xs) (contents (go_on k stream xs h).more) end → IsRecordsServed before after end
 ended before after end k stream xs more took h serves within unread_is took_is more_is cause =
     let s = h.stands in
@@ -39,6 +38,7 @@ ended before after end k stream xs more took h serves within unread_is took_is m
       more = more;
       took = took;
       encode = records_encoded k stream (length xs) s;
+      limit = contents_within s.cuts s.within;
       order = ap contents g.cuts_are ∙ contents_both h.done g.more ∙ ap (λ (l : List (List ℕ)). l ++ contents g.more) h.calls_are;
       serves = subst (λ (b : List ℕ). Serves before after b xs more took) split serves;
       within = subst (λ (b : List ℕ). length b ≤ read_max) split within;
@@ -89,12 +89,9 @@ answer_none k k' k'' taken taken' gave gave' view view' on none same before left
     subst (λ (l : RecordsState). IsAnswered before (around left given taken' gave' view') l stream) (sym same)
     (record { live = live'; all = none stream (length live'.exchanges) live'.read.stands })
 
-prefix_more : (front part all : List ℕ) → IsPrefixOf part all → IsPrefixOf (front ++ part) (front ++ all)
-prefix_more front part all (rest, is) = (rest, append_assoc front part rest ∙ ap (λ (l : List ℕ). front ++ l) is)
-
 -- the sink took a part of the last reply
 broken_off : (end : RecordEnd) (k k' : RecordsState) (taken taken' : Option (List ℕ)) (gave gave' : Option (List Moment)) (view view' : PassView) (call : List ℕ)
-    → ((unread : List ℕ) → UnreadAt end unread) → ((took all : List ℕ) → IsPrefixOf took all → TookAt end took all) → MoreAt end []
+    → ((unread : List ℕ) → UnreadAt end unread) → ((took : List ℕ) (xs : List Answered) → BreaksOffIn took xs → TookAt end took xs) → MoreAt end []
     → ((left : Option (List ℕ)) (stream rest : List ℕ) (answered others : List (List ℕ)) → IsRecordCause left stream rest answered others end)
     → ((stream : List ℕ) (n : ℕ) (s : RepresentsStream k stream n) → IsAt (contents s.cuts) n call × RepresentsStream k' stream (n + 1))
     → BreaksOff call taken taken' gave gave' view view' → AnswerEnds end k taken taken' gave gave' view view'
@@ -108,12 +105,12 @@ broken_off end k k' taken taken' gave gave' view view' call unread takes more ca
     (nothing_ahead before after stream ys [] (written xs ++ part)
     (serves_more before left given taken taken' gave gave' view view' (stream ++ []) xs (written xs) live.serves x part executes appends))
     within (unread h.stands.unread)
-    (takes (written xs ++ part) (written ys) (subst (IsPrefixOf (written xs ++ part)) (sym (written_end xs x)) (prefix_more (written xs) part (fragment true x.reply) is_part)))
+    (takes (written xs ++ part) ys (record { answered = xs; last = x; xs_are = refl; part = part; is_part = is_part; took_is = refl }))
     more (cause left stream (rest_in h.stands) (calls ys) (contents (go_on k' stream ys h).more))
 
 -- it took all replies, and the clock gave a moment in vain
 none_executed : (end : RecordEnd) (k : RecordsState) (taken taken' : Option (List ℕ)) (gave gave' : Option (List Moment)) (view view' : PassView)
-    → ((unread : List ℕ) → UnreadAt end unread) → ((took : List ℕ) → TookAt end took took) → ((m : Moment) → MoreAt end (m ∷ []))
+    → ((unread : List ℕ) → UnreadAt end unread) → ((xs : List Answered) → TookAt end (written xs) xs) → ((m : Moment) → MoreAt end (m ∷ []))
     → ((stream : List ℕ) (xs : List Answered) (left : Option (List ℕ)) (h : HasRead k stream xs) → IsRecordCause left stream (rest_in h.stands) (calls xs) (contents (go_on k stream xs h).more) end)
     → ExecutesNone taken taken' gave gave' view view' → AnswerEnds end k taken taken' gave gave' view view'
 none_executed end k taken taken' gave gave' view view' unread takes more cause (m, (gives, (found, taken_is))) before left given stream within live =
@@ -122,7 +119,7 @@ none_executed end k taken taken' gave gave' view view' unread takes more cause (
     ended before after end k stream xs (m ∷ []) (written xs) live.read
     (nothing_ahead before after stream xs (m ∷ []) (written xs)
     (serves_none before left given taken taken' gave gave' view view' (stream ++ []) xs (written xs) live.serves m gives found taken_is))
-    within (unread live.read.stands.unread) (takes (written xs)) (more m) (cause stream xs left live.read)
+    within (unread live.read.stands.unread) (takes xs) (more m) (cause stream xs left live.read)
 
 -- a record that isn't answered
 module _ (k k' : RecordsState) (taken taken' : Option (List ℕ)) (gave gave' : Option (List Moment)) (view view' : PassView) (call : List ℕ) (at : ℕ) (place : IsPlace k at)
@@ -144,14 +141,14 @@ module _ (k k' : RecordsState) (taken taken' : Option (List ℕ)) (gave gave' : 
 
   pub stop_ends : (stop : Stop) → StopsAt stop call taken taken' gave gave' view view' → AnswerEnds (end_at stop at) k taken taken' gave gave' view view'
   stop_ends stops.NotCall (none, no_head) =
-      none_executed (ends.Bad at REASON_CALL) k taken taken' gave gave' view view' (λ unread. tt) (λ took. refl) (λ m. (one_more m, λ e. absurd (omega (arith, e))))
+      none_executed (ends.Bad at REASON_CALL) k taken taken' gave gave' view view' (λ unread. tt) (λ xs. refl) (λ m. (one_more m, λ e. absurd (omega (arith, e))))
       (λ stream xs left h. inr (no_call no_head stream xs h)) none
   stop_ends stops.LinkWrite breaks =
-      broken_off ends.LinkWrite k k' taken taken' gave gave' view view' call (λ unread. tt) (λ took all is. is) refl (λ left stream rest answered others. tt) next breaks
+      broken_off ends.LinkWrite k k' taken taken' gave gave' view view' call (λ unread. tt) (λ took xs breaks. breaks) refl (λ left stream rest answered others. tt) next breaks
   stop_ends stops.Memory (inl none) =
-      none_executed ends.Memory k taken taken' gave gave' view view' (λ unread. tt) (λ took. ([], append-nil took)) one_more (λ stream xs left h. tt) none
+      none_executed ends.Memory k taken taken' gave gave' view view' (λ unread. tt) (λ xs. inl refl) one_more (λ stream xs left h. tt) none
   stop_ends stops.Memory (inr breaks) =
-      broken_off ends.Memory k k' taken taken' gave gave' view view' call (λ unread. tt) (λ took all is. is) (let none : 0 ≤ 1 = omega arith in none) (λ left stream rest answered others. tt) next breaks
+      broken_off ends.Memory k k' taken taken' gave gave' view view' call (λ unread. tt) (λ took xs breaks. inr breaks) (let none : 0 ≤ 1 = omega arith in none) (λ left stream rest answered others. tt) next breaks
 
 -- some were answered before it
 pub on_ends : (end : RecordEnd) (k k' : RecordsState) (taken taken' taken'' : Option (List ℕ)) (gave gave' gave'' : Option (List Moment)) (view view' view'' : PassView)

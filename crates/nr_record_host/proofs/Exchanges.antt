@@ -4,6 +4,7 @@ use Rattle.std.specs.List.{AllByRecursion}
 use Rattle.std.proofs.lemmas.List.{length-append}
 use Rattle.nr_outside.specs.declared.moment.Moment.{Moment}
 use Rattle.nr_record.specs.Records.{Cut, content, contents, fragment}
+use Rattle.nr_record.specs.RecordsState.{IsContentInLimit, IsInLimit}
 use Rattle.nr_plain.specs.History.{Answered}
 use Rattle.nr_record_host.specs.RecordRuns.{calls, moments, written}
 
@@ -33,6 +34,10 @@ length_end xs x = length-append xs (x ∷ [])
 pub length_contents : (cuts : List Cut) → length (contents cuts) ≡ length cuts
 length_contents [] = refl
 length_contents (c ∷ cuts) = ap suc (length_contents cuts)
+
+pub contents_within : (cuts : List Cut) → AllByRecursion IsContentInLimit cuts → AllByRecursion IsInLimit (contents cuts)
+contents_within [] all = tt
+contents_within (c ∷ cuts) all = (all.0, contents_within cuts all.1)
 
 pub length_calls : (xs : List Answered) → length (calls xs) ≡ length xs
 length_calls [] = refl

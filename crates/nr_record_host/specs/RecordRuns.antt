@@ -1,14 +1,15 @@
 -- A connection over record-marked TCP (RFC 5531 section 11): the calls that were answered, and what they say of its source, its sink, its
 -- clock and its pass; and how it ends, and why.
 use Rattle.std.specs.Prelude.{◌≡◌, ⊤, ℕ, ◌<◌, ◌≤◌, ◌⊎◌, true, false, List, [], ◌∷◌, ◌++◌, length, Option, None, Some, is_ok}
+use Rattle.std.specs.List.{AllByRecursion}
 use Rattle.std.specs.Io.KnownBytes.{Appends, IsAtEnd}
 use Rattle.nr_outside.specs.Content.{HandsOut}
 use Rattle.nr_outside.specs.Faults.{Rises}
 use Rattle.nr_outside.specs.declared.moment.Moment.{Moment}
 use Rattle.nr_links.specs.Limits.{read_max}
 use Rattle.nr_record.specs.Constants.{REASON_RECORD}
-use Rattle.nr_record.specs.Records.{IsAboveAt, RecordsEncode, fragment}
-use Rattle.nr_record.specs.RecordsState.{IsFaultOf}
+use Rattle.nr_record.specs.Records.{IsAboveAt, RecordsEncode, contents, fragment}
+use Rattle.nr_record.specs.RecordsState.{IsFaultOf, IsInLimit}
 use Rattle.nr_record.specs.declared.fault.RecordFault.TheVariants as faults
 use Rattle.nr_reduce.specs.Matched.{IsPrefixOf}
 use Rattle.nr_rpc.specs.Reading.{call_of}
@@ -68,18 +69,27 @@ pub record Serves (before after : Around) (bytes : List ℕ) (xs : List Answered
 
 -- ===== its end
 
--- The bytes that were read and not judged: some only after a record that ends the connection, or if memory ran out.
+-- The bytes that were read and not judged: some only after a record that ends the connection, after a failed write, or if memory ran out.
 abbrev pub UnreadAt : RecordEnd → List ℕ → Type 0
 UnreadAt (ends.Bad at reason) unread = ⊤
 UnreadAt ends.LinkWrite unread = ⊤
 UnreadAt ends.Memory unread = ⊤
 UnreadAt end unread = unread ≡ []
 
--- the bytes that the sink took: all replies, but that a write failed or memory ran out
-abbrev pub TookAt : RecordEnd → List ℕ → List ℕ → Type 0
-TookAt ends.LinkWrite took all = IsPrefixOf took all
-TookAt ends.Memory took all = IsPrefixOf took all
-TookAt end took all = took ≡ all
+-- the sink took all replies but the last, and a part of that, from its front
+pub record BreaksOffIn (took : List ℕ) (xs : List Answered) : Type 0 where
+  pub answered : List Answered
+  pub last : Answered
+  pub xs_are : xs ≡ answered ++ last ∷ []
+  pub part : List ℕ
+  pub is_part : IsPrefixOf part (fragment true last.reply)
+  pub took_is : took ≡ written answered ++ part
+
+-- the bytes that the sink took: all replies; or the last one broke off, if its write failed or memory ran out
+abbrev pub TookAt : RecordEnd → List ℕ → List Answered → Type 0
+TookAt ends.LinkWrite took xs = BreaksOffIn took xs
+TookAt ends.Memory took xs = (took ≡ written xs) ⊎ BreaksOffIn took xs
+TookAt end took xs = took ≡ written xs
 
 -- the moments that were given for no call that was executed: one at most, if a record has no call head or memory ran out
 abbrev pub MoreAt : RecordEnd → List Moment → Type 0
@@ -104,9 +114,11 @@ pub record IsNoCall (stream : List ℕ) (answered others : List (List ℕ)) (at 
   pub begins : BeginsAt stream answered at
   pub reason_is : reason ≡ REASON_CALL
 
--- a fragment takes its record above the limit, and all records before that were answered
-abbrev pub IsTooLong : List ℕ → List (List ℕ) → ℕ → ℕ → Type 0
-IsTooLong stream others at reason = (others ≡ []) × IsFaultOf stream (faults.Bad at reason)
+-- a fragment takes its record above the limit; the records that end before its header were answered, and no others
+pub record IsTooLong (stream : List ℕ) (answered others : List (List ℕ)) (at reason : ℕ) : Type 0 where
+  pub others_are : others ≡ []
+  pub fault : IsFaultOf stream (faults.Bad at reason)
+  pub before : contents fault.1.cuts ≡ answered
 
 -- all records were answered, and no fragment takes one above the limit
 abbrev pub AllAnswered : List ℕ → List (List ℕ) → Type 0
@@ -121,13 +133,13 @@ IsRecordCause left stream rest answered others (ends.Cut at) =
 IsRecordCause left stream rest answered others ends.LinkRead = AllAnswered stream others × (length stream < read_max)
 IsRecordCause left stream rest answered others ends.LinkWrite = ⊤
 IsRecordCause left stream rest answered others (ends.Bad at reason) =
-    IsTooLong stream others at reason ⊎ IsNoCall stream answered others at reason
+    IsTooLong stream answered others at reason ⊎ IsNoCall stream answered others at reason
 IsRecordCause left stream rest answered others (ends.Budget read) =
     AllAnswered stream others × ((read ≡ read_max) × (length stream ≡ read_max))
 IsRecordCause left stream rest answered others ends.Memory = ⊤
 
--- A connection was served to its end: `stream` and `unread` are the bytes that were read, `records` those of the stream, and `rest` what
--- follows them in it.
+-- A connection was served to its end: `stream` and `unread` are the bytes that were read, `records` those of the stream, each within the
+-- limit, and `rest` what follows them in it.
 pub record IsRecordsServed (before after : Around) (end : RecordEnd) : Type 0 where
   pub stream : List ℕ
   pub unread : List ℕ
@@ -138,11 +150,12 @@ pub record IsRecordsServed (before after : Around) (end : RecordEnd) : Type 0 wh
   pub more : List Moment
   pub took : List ℕ
   pub encode : RecordsEncode stream records rest
+  pub limit : AllByRecursion IsInLimit records
   pub order : records ≡ calls exchanges ++ others
   pub serves : Serves before after (stream ++ unread) exchanges more took
   pub within : length (stream ++ unread) ≤ read_max
   pub unread_is : UnreadAt end unread
-  pub took_is : TookAt end took (written exchanges)
+  pub took_is : TookAt end took exchanges
   pub more_is : MoreAt end more
   pub cause : IsRecordCause after.left (stream ++ unread) rest (calls exchanges) others end
 
