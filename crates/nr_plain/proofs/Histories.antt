@@ -215,9 +215,9 @@ stands_one kept kept' h h' client m payload reply place (first, (J, (i, stands, 
           (history_grows first J h client (xid_in payload) (entries_of_call m payload reply) i),
       (executes (setup_in first) J stands).stands,
       (
-        let x = executes (setup_in first) J stands in
-        both_of_calls (setup_in first) [] J (entries_of_call m payload reply) calls (of_call (setup_in first) J m payload reply place bytes x.place_is x.replied)
-      ),
+          let x = executes (setup_in first) J stands in
+          both_of_calls (setup_in first) [] J (entries_of_call m payload reply) calls (of_call (setup_in first) J m payload reply place bytes x.place_is x.replied)
+          ),
     ),
   ),
 )
@@ -253,7 +253,7 @@ pub opened_view : (first : Opening) (h : List HistoryEntry) (v : View HistoryEnt
     → ◌≡◌ {A = PassView} (record { seen = v.seen; mine = v.mine }) (record { seen = history first []; mine = 0 ∷ [] })
 opened_view first h v is e =
     same_view (record { seen = v.seen; mine = v.mine }) (record { seen = history first []; mine = 0 ∷ [] }) (ap (λ (w : View HistoryEntry). w.seen) e ∙ is)
-        (ap (λ (w : View HistoryEntry). w.mine) e ∙ ap (λ (l : List HistoryEntry). places (length l)) is)
+    (ap (λ (w : View HistoryEntry). w.mine) e ∙ ap (λ (l : List HistoryEntry). places (length l)) is)
 
 pub opened_room : (first : Opening) (h : List HistoryEntry) → h ≡ history first [] → length h < 2 ^ 63
 opened_room first h is = let one = ap length is in omega (arith, one)

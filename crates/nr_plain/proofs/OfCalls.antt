@@ -32,13 +32,14 @@ pub of_call : (s : Setup) (J : List Entry) (m : Moment) (payload reply : List �
 of_call s J m payload reply place bytes at replied = ⊎_elim
     (λ (none : entries_of_call m payload reply ≡ []). subst (λ (es : List Entry). AreOfCalls s J es) (sym none) tt)
     (λ (one : AddsOne m payload reply). subst (λ (es : List Entry). AreOfCalls s J es) (sym one.1) (
-    record {
-      moment = m;
-      payload = payload;
-      reply = reply;
-      bytes = bytes;
-      replied = subst (λ (k : ℕ). plain_reply s J k m payload ≡ Some reply) at replied;
-      adds = one.1;
-    },
-    tt))
+      record {
+        moment = m;
+        payload = payload;
+        reply = reply;
+        bytes = bytes;
+        replied = subst (λ (k : ℕ). plain_reply s J k m payload ≡ Some reply) at replied;
+        adds = one.1;
+      },
+      tt,
+    ))
     (few m payload reply)

@@ -52,8 +52,8 @@ pub record IsHistory (first : Opening) (J : List Entry) (h : List HistoryEntry) 
   pub is : h ≡ history first entries
   pub journal : entries_alone entries ≡ J
 
--- The entry that a call adds after the journal J: its payload is bytes, it is answered by the plain server at the end of J, and it adds
--- this entry alone.
+-- The entry is that of a call after the journal J: the payload of the call is bytes, the plain server answers it at the
+-- end of J, and it adds this entry alone.
 pub record IsOfCall (s : Setup) (J : List Entry) (e : Entry) : Type 0 where
   pub moment : Moment
   pub payload : List ℕ
@@ -62,7 +62,7 @@ pub record IsOfCall (s : Setup) (J : List Entry) (e : Entry) : Type 0 where
   pub replied : plain_reply s J (length J) moment payload ≡ Some reply
   pub adds : entries_of_call moment payload reply ≡ e ∷ []
 
--- Each of these entries, which follow J in this order, is the entry that a call adds after those before it.
+-- Each of these entries, which follow J in this order, is that of a call after those before it.
 abbrev pub AreOfCalls : Setup → (J more : List Entry) → Type 0
 AreOfCalls s J [] = ⊤
 AreOfCalls s J (e ∷ more) = IsOfCall s J e × AreOfCalls s (J ++ e ∷ []) more
@@ -115,7 +115,8 @@ pub record PassView : Type 0 where
 abbrev pub pass_view : {M : Type 0} → Pass M HistoryEntry → PassView
 pass_view p = record { seen = seen_by p; mine = mine_of p }
 
--- The pass has seen this server as it was opened, with an empty journal. Place 0 of the history, and no other, is its own.
+-- The pass has seen this server as it was opened, with an empty journal. Place 0 of the history, and no other, is its
+-- own.
 abbrev pub IsOpenedBy : PlainServerState → PassView → Type 0
 IsOpenedBy kept view = (first : Opening) × (first.value ≡ kept) × (view ≡ record { seen = history first []; mine = 0 ∷ [] })
 
