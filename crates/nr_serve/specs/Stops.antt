@@ -1,5 +1,5 @@
 -- Why a server wasn't opened, or stopped early, and what was done until then.
-use Rattle.std.specs.Prelude.{◌≡◌, ℕ, ◌+◌, ◌<◌, ◌≤◌, ◌⊎◌, List, [], length, Option, IfSome, None, Some}
+use Rattle.std.specs.Prelude.{◌≡◌, ℕ, ◌+◌, ◌<◌, ◌≤◌, ◌⊎◌, List, [], ◌∷◌, length, Option, IfSome, None, Some}
 use Rattle.nr_outside.specs.Faults.{Rises}
 use Rattle.nr_outside.specs.Streams.{SourceAt, SinkAt, ReadsAll, ReadsWithin, ReadsBeyond, Writes, WritesSome}
 use Rattle.nr_outside.specs.declared.moment.Moment.{Moment}
@@ -119,6 +119,7 @@ pub record OpensShared (settings : Settings Text) (before after : Option (List M
   pub first : Opening
   pub opens : Opens settings before after first
   pub empty : IsHistory first [] view.seen
+  pub own : view.mine ≡ 0 ∷ []
 
 -- links were taken, at the address and with the credits of the configuration, by a pass that knew and knows this
 pub record ServesLinks (settings : Settings Text) (before after : AcceptorAt) (spawner spawner' : SpawnerAt) (view view' : PassView) (ends : List LinkEnd) : Type 0 where
