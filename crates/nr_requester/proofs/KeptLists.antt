@@ -1,8 +1,8 @@
 -- How long the lists of a requester are.
-use Rattle.std.proofs.Common.{◌≡◌, ◌≢◌, ℕ, zero, suc, ◌+◌, ◌*◌, ◌<◌, ◌≤◌, Bool, true, false, not, cond, eqb, List, [], ◌∷◌, ◌++◌, length, map, Option, None, Some, refl, sym, ap, subst, ◌∙◌, arith, length-append}
+use Rattle.std.proofs.Common.{◌≡◌, ◌≢◌, ℕ, zero, suc, ◌+◌, ◌*◌, ◌<◌, ◌≤◌, Bool, true, false, not, cond, eqb, List, [], ◌∷◌, ◌++◌, length, map, Option, None, Some, refl, sym, ap, subst, ◌∙◌, inl, inr, arith, length-append}
 use Rattle.std.specs.Prelude.{is_some, IfSome}
 use Rattle.std.specs.List.{AllByRecursion, find}
-use Rattle.std.proofs.lemmas.Bool.{eqb-true, eq-eqb, ne_eqb}
+use Rattle.std.proofs.lemmas.Bool.{cases_lt, eqb-true, eq-eqb, ne_eqb}
 use Rattle.std.proofs.lemmas.List.{length-map}
 use Rattle.nr_header.specs.declared.header.RdmaSegment.{RdmaSegment}
 use Rattle.nr_regions.specs.RegisteredMemory.{Claim}
@@ -53,20 +53,29 @@ few_writes (o ∷ calls) h = (offers_one o o.call refl h.0, few_writes calls h.1
 
 all_but_one : (xid : ℕ) (answers : List AnsweredCall) → AreDistinct answers → length answers ≤ 1 + length (without_answer xid answers)
 all_but_one xid [] h = omega arith
-all_but_one xid (a ∷ answers) h = by (eqb a.xid xid) refl
+all_but_one xid (a ∷ answers) h = by (eqb a.xid xid) refl (all_but_one xid answers h.1)
   where
-    rest : length answers ≤ 1 + length (without_answer xid answers)
-    rest = all_but_one xid answers h.1
-
-    by : (b : Bool) → eqb a.xid xid ≡ b → length (a ∷ answers) ≤ 1 + length (without_answer xid (a ∷ answers))
-    by true is =
+    by : (b : Bool) → eqb a.xid xid ≡ b → length answers ≤ 1 + length (without_answer xid answers) → length (a ∷ answers) ≤ 1 + length (without_answer xid (a ∷ answers))
+    by true is rest =
         let others : AllByRecursion (λ (b : AnsweredCall). b.xid ≢ xid) answers = subst (λ (x : ℕ). AllByRecursion (λ (b : AnsweredCall). b.xid ≢ x) answers) (eqb-true a.xid xid is) h.0 in
-        omega (arith, ap (λ (w : Bool). length (cond (not w) (a ∷ without_answer xid answers) (without_answer xid answers))) is, ap (λ (xs : List AnsweredCall). length xs) (none_taken xid answers others))
-    by false is = omega (arith, ap (λ (w : Bool). length (cond (not w) (a ∷ without_answer xid answers) (without_answer xid answers))) is, rest)
+        let gone : without_answer xid (a ∷ answers) ≡ answers =
+        ap (λ (w : Bool). cond (not w) (a ∷ without_answer xid answers) (without_answer xid answers)) is ∙ none_taken xid answers others in
+        omega (arith, ap (λ (xs : List AnsweredCall). length xs) gone)
+    by false is rest =
+        let stays : without_answer xid (a ∷ answers) ≡ a ∷ without_answer xid answers =
+        ap (λ (w : Bool). cond (not w) (a ∷ without_answer xid answers) (without_answer xid answers)) is in
+        omega (arith, ap (λ (xs : List AnsweredCall). length xs) stays, rest)
 
 -- their xids are below this
 abbrev AreBelow : ℕ → List AnsweredCall → Type 0
 AreBelow next answers = AllByRecursion (λ (a : AnsweredCall). a.xid < next) answers
+
+strictly : (x n : ℕ) → x < suc n → eqb x n ≡ false → x < n
+strictly x n lt other =
+    elim (cases_lt x n) [
+      | inl less ↦ less
+      | inr ge ↦ absurd (let wrong : true ≡ false = sym (eq-eqb x n (omega (arith, lt, ge))) ∙ other in cc)
+    ]
 
 below_less : (n : ℕ) (answers : List AnsweredCall) → AreBelow (suc n) answers → AreBelow n (without_answer n answers)
 below_less n [] h = tt
@@ -74,10 +83,7 @@ below_less n (a ∷ answers) h = by (eqb a.xid n) refl (below_less n answers h.1
   where
     by : (b : Bool) → eqb a.xid n ≡ b → AreBelow n (without_answer n answers) → AreBelow n (cond (not b) (a ∷ without_answer n answers) (without_answer n answers))
     by true is rest = rest
-    by false is rest = (omega (arith, h.0, other), rest)
-      where
-        other : a.xid ≢ n
-        other e = absurd (let wrong : true ≡ false = sym (eq-eqb a.xid n e) ∙ is in cc)
+    by false is rest = (strictly a.xid n h.0 is, rest)
 
 few_answers : (next : ℕ) (answers : List AnsweredCall) → AreDistinct answers → AreBelow next answers → length answers ≤ next
 few_answers zero [] distinct below = omega arith
