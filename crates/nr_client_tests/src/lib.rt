@@ -12,6 +12,8 @@ mod ends;
 #[cfg(test)]
 mod host;
 #[cfg(test)]
+mod largest;
+#[cfg(test)]
 mod pieces;
 #[cfg(test)]
 mod reading;
