@@ -205,22 +205,20 @@ stands_none kept kept' h m payload reply place (first, (J, (i, stands, calls))) 
 pub stands_one : (kept kept' : PlainServerState) (h h' : List HistoryEntry) (client : ℕ) (m : Moment) (payload reply : List ℕ) (place : ℕ) → StandsFor kept h
     → IsBytes payload → ((s : Setup) (J : List Entry) → RepresentsJournal s J kept → ExecutesCall s J m payload reply place kept') → AddsOne m payload reply
     → h' ≡ h ++ entry_to_append client m payload reply ∷ [] → StandsFor kept' h'
-stands_one kept kept' h h' client m payload reply place (first, (J, (i, stands, calls))) bytes executes one more = (
-  first,
-  (
-    J ++ entries_of_call m payload reply,
-    (
-      subst (λ (l : List HistoryEntry). IsHistory first (J ++ entries_of_call m payload reply) l)
-          (sym (more ∙ ap (λ (l : List HistoryEntry). h ++ l) (appended client m payload reply one)))
-          (history_grows first J h client (xid_in payload) (entries_of_call m payload reply) i),
-      (executes (setup_in first) J stands).stands,
+stands_one kept kept' h h' client m payload reply place (first, (J, (i, stands, calls))) bytes executes one more =
+    let x = executes (setup_in first) J stands in
+    let es : List Entry = entries_of_call m payload reply in (
+      first,
       (
-          let x = executes (setup_in first) J stands in
-          both_of_calls (setup_in first) [] J (entries_of_call m payload reply) calls (of_call (setup_in first) J m payload reply place bytes x.place_is x.replied)
-          ),
-    ),
-  ),
-)
+        J ++ es,
+        (
+          subst (λ (l : List HistoryEntry). IsHistory first (J ++ es) l) (sym (more ∙ ap (λ (l : List HistoryEntry). h ++ l) (appended client m payload reply one)))
+              (history_grows first J h client (xid_in payload) es i),
+          x.stands,
+          both_of_calls (setup_in first) [] J es calls (of_call (setup_in first) J m payload reply place bytes x.place_is x.replied),
+        ),
+      ),
+    )
 
 pub some_journal : (kept : PlainServerState) (h : List HistoryEntry) → StandsFor kept h → (s : Setup) × ((J : List Entry) × RepresentsJournal s J kept)
 some_journal kept h (first, (J, (i, stands, calls))) = (setup_in first, (J, stands))

@@ -60,8 +60,8 @@ impl<K: Appended> EntryName<HistoryEntry> for EntryOfCall<K> {
     ghost entry = { K.appended };
 }
 
-/// Puts a server that was just opened in a turnstile. The pass has seen what it was opened as, which is its own place in
-/// the history, and no entry of its journal.
+/// Puts a server that was just opened in a turnstile. The pass has seen the server as it was opened, and no entry of its
+/// journal. Place 0 of the history, and no other, is its own.
 ///
 /// # Errors
 ///
