@@ -129,6 +129,7 @@ lists_fit e sent wished first next grant calls answers room i w =
       regions = few_regions (map stored_view calls);
       writes = few_writes calls i.offers;
       answers = few_answers next answers w.distinct (given next calls answers i.apart);
+      distinct = w.distinct;
       tickets = all_open r answers (are_apart r next calls refl i.rising i.apart) (all_found answers w.distinct);
       sends = omega (arith, count, w.counts.waiting, few_wait first e.link.state.send_queue.sends_left calls);
       responses = w.link.responses;
