@@ -25,7 +25,7 @@ cause_of F result b h end same is = subst (λ (r : Result (Unit {0}) ClientEnd).
 pub ends_have_causes_lem : EndsHaveCauses
 ends_have_causes_lem c before after input input' out out' result (NotOpened end is fails same_input same_out) = tt
 ends_have_causes_lem c before after input input' out out' result (Opened dialed s s' opens prints closes) = λ end is.
-    cause_of (PeerEnd (outcomes_in (tells_text c.uid c.gid c.export c.action input input' out prints.written s s' prints.text prints.made).made) (Rises input.faults input'.faults) (Rises out.faults out'.faults)) result
+    cause_of (PeerEnd c input (tells_text c.uid c.gid c.export c.action input input' out prints.written s s' prints.text prints.made).made (Rises input.faults input'.faults) (Rises out.faults out'.faults)) result
     s'.bytes s'.requester end is (given_by_peer c before dialed s s' input input' out out' result opens prints)
 
 -- ---- On a link that stays open
