@@ -55,19 +55,19 @@ without_any n m (suc kept) (r ∷ reads) ne = ap (λ (b : Bool). eqb r.number n 
 -- the reads of a call that begin
 any_more : (p : PendingRead → Bool) (reads more : List PendingRead) → list_any p more ≡ true → list_any p (reads ++ more) ≡ true
 any_more p [] more some = some
-any_more p (r ∷ reads) more some = by (p r)
+any_more p (r ∷ reads) more some = by (any_more p reads more some) (p r)
   where
-    by : (b : Bool) → (b || list_any p (reads ++ more)) ≡ true
-    by true = refl
-    by false = any_more p reads more some
+    by : list_any p (reads ++ more) ≡ true → (b : Bool) → (b || list_any p (reads ++ more)) ≡ true
+    by rest true = refl
+    by rest false = rest
 
 filter_first : (p : ℕ → Bool) (xs : List ℕ) (y : ℕ) (ys : List ℕ) → filter p xs ≡ y ∷ ys → p y ≡ true
 filter_first p [] y ys is = absurd (let wrong : [] ≡ y ∷ ys = is in cc)
 filter_first p (x ∷ xs) y ys is = by (p x) refl (filter_first p xs y ys) is
   where
     by : (b : Bool) → p x ≡ b → (filter p xs ≡ y ∷ ys → p y ≡ true) → cond b (x ∷ filter p xs) (filter p xs) ≡ y ∷ ys → p y ≡ true
-    by true yes rest e = (let same : x ≡ y = cc in ap p (sym same) ∙ yes)
-    by false no rest e = rest e
+    by true found rest e = (let same : x ≡ y = cc in ap p (sym same) ∙ found)
+    by false found rest e = rest e
 
 pub begun_unread : (number next start : ℕ) (read : List ReadSegment) (chunks : List ℕ) (old new : List ReadEntry) → chunks ≡ chunk_positions read → chunks ≡ start ∷ [] → map read_view new ≡ reads_more old number next read chunks → is_read (map read_view new) number ≡ false
 begun_unread number next start read chunks old new are one reads_are =
@@ -172,7 +172,7 @@ set_less calls later at c d is lt same le = record {
       omega (arith, all, part);
   count = λ n.
       let all = ap (λ (cs : List Pending). calls_share n cs + part_of number_of one_each n (get_or calls at d)) is ∙ share_set number_of one_each n calls at c d lt in
-      let part = ap (λ (m : ℕ). cond (eqb m n) 1 0) same in
+      let part = ap {B = ℕ} (λ (m : ℕ). cond (eqb m n) 1 0) same in
       omega (arith, all, part);
 }
 
