@@ -22,7 +22,7 @@ type Row = (&'static str, usize, u32, &'static str, usize);
 static ROWS: [Row; 4] = [
     ("put here / /a", SIZE, 0, "", 0),
     ("get here / /a", 0, 0, "", SIZE),
-    ("put here / /b", SIZE + 1, 11, "budget 16777216;", 0),
+    ("put here / /b", 16_777_217, 11, "budget 16777216;", 0),
     ("get here / /b", 0, 0, "", SIZE),
 ];
 
