@@ -11,7 +11,7 @@ use Rattle.nr_client.specs.declared.client_end.ClientEnd.TheVariants as client
 use Rattle.nr_client.specs.Transfers.{LinkBytes}
 use Rattle.nr_commands.specs.Running.Runs.{NotOpened, Opened}
 use Rattle.nr_service_laws.specs.EndCauses.{CauseAt, EndsHaveCauses, ServedCommandsEndForMemory}
-use Rattle.nr_service_laws.specs.Exchanges.{outcomes_in, tells_text}
+use Rattle.nr_service_laws.specs.Exchanges.{tells_text}
 use Rattle.nr_service_laws.proofs.AnyOutcomes.{PeerEnd, given_by_peer}
 use Rattle.nr_service_laws.proofs.Judged.{Any}
 use Rattle.nr_service_laws.proofs.JudgedParts.{GivenIs}

@@ -13,7 +13,7 @@ use Rattle.nr_reduce.specs.declared.mark.Mark.{Mark}
 use Rattle.nr_reduce.specs.declared.mark.Mark.TheVariants as marks
 use Rattle.nr_reduce.specs.History.{AcceptedCall, accepted_at, accepted_calls, bytes_received, fed_at}
 use Rattle.nr_reduce.proofs.Standing.{itself}
-use Rattle.nr_laws.specs.Typed.{IsTyped, TypedMark}
+use Rattle.nr_laws.specs.Typed.{TypedMark}
 use Rattle.nr_commands.specs.Running.Runs.{NotOpened, Opened}
 use Rattle.nr_service_laws.specs.ClientMarks.{IsOwn}
 use Rattle.nr_service_laws.specs.ServedCommands.{client_marks, is_client_mark}

@@ -1,5 +1,5 @@
 -- An end that is read of the outcome of a call of a command.
-use Rattle.std.specs.Prelude.{◌≡◌, ◌≢◌, ⊤, ℕ, ◌≤◌, ◌+◌, ◌⊎◌, List, [], ◌∷◌, ◌++◌, length, Result, Ok, Err}
+use Rattle.std.specs.Prelude.{◌≡◌, ◌≢◌, ⊤, ℕ, ◌≤◌, ◌+◌, ◌⊎◌, List, [], ◌∷◌, ◌++◌, length, Ok, Err}
 use Rattle.nr_xdr.specs.Fields.{word_at}
 use Rattle.nr_rpc.specs.declared.head.ReplyHead.{ReplyHead}
 use Rattle.nr_rpc.specs.declared.head.ReplyHead.TheVariants as heads
@@ -22,7 +22,7 @@ use Rattle.nr_client.specs.Results.{not_read}
 use Rattle.nr_client.specs.Walking.{object_result}
 use Rattle.nr_client.specs.Writing.{create_call, created_file, write_call, write_result}
 use Rattle.nr_service_laws.specs.Exchanges.{Exchange}
-use Rattle.nr_service_laws.specs.Exchanges.Exchange.{Answered, Forgotten, GivenUp, HandedOver, Submitted}
+use Rattle.nr_service_laws.specs.Exchanges.Exchange.{Answered, HandedOver, Submitted}
 
 -- ---- Calls that were answered
 

@@ -1,5 +1,5 @@
 -- That what is written down of a command as bytes are bytes.
-use Rattle.std.specs.Prelude.{◌≡◌, ⊤, ℕ, not, List, Option, Some, Result}
+use Rattle.std.specs.Prelude.{◌≡◌, ⊤, ℕ, not, List, Some, Result}
 use Rattle.std.specs.List.{AllByRecursion, filter}
 use Rattle.nr_xdr.specs.Item.{IsBytes}
 use Rattle.nr_outside.specs.Streams.{SinkAt, SourceAt}
