@@ -4,9 +4,9 @@ use Rattle.std.specs.List.{AllByRecursion, concat}
 use Rattle.std.proofs.lemmas.List.{length-append}
 use Rattle.nr_xdr.specs.Item.{IsBytes, bit, word, word_of}
 use Rattle.nr_xdr.proofs.WordBytes.{word_word_of}
-use Rattle.nr_record.specs.Constants.{REASON_RECORD, RECORD_MAX}
-use Rattle.nr_record.specs.Records.{Cut, IsAboveAt, RecordsEncode, contents, encoding, encodings, fragment, fragments}
-use Rattle.nr_record.specs.RecordsState.{IsContentInLimit, IsFaultOf, IsInLimit}
+use Rattle.nr_record.specs.Constants.{RECORD_MAX}
+use Rattle.nr_record.specs.Records.{Cut, IsAboveAt, contents, encoding, encodings, fragment, fragments}
+use Rattle.nr_record.specs.RecordsState.{IsContentInLimit, IsInLimit}
 use Rattle.nr_record.specs.declared.fault.RecordFault.TheVariants as faults
 use Rattle.nr_host.specs.LinkServing.{HELLO_BYTE}
 use Rattle.nr_host_laws.specs.LinkLaws.{HellosAreNoRecords}

@@ -1,5 +1,5 @@
 -- Links of `serve`: how they end, by what their client sends.
-use Rattle.std.proofs.Common.{◌≡◌, ℕ, ◌+◌, ◌<◌, ◌≤◌, ◌⊎◌, inl, inr, Bool, true, false, List, [], ◌∷◌, ◌++◌, length, Option, Some, None, refl, arith, subst, sym, ap, ◌∙◌}
+use Rattle.std.proofs.Common.{◌≡◌, ℕ, ◌<◌, ◌≤◌, inl, inr, Bool, true, false, List, [], ◌∷◌, length, Option, Some, None, refl, arith, subst, sym, ap, ◌∙◌}
 use Rattle.std.proofs.lemmas.Bool.{ltb-false}
 use Rattle.std.proofs.lemmas.List.{length-append}
 use Rattle.std.proofs.lemmas.Option.{none-some, same_Some}
@@ -22,7 +22,6 @@ use Rattle.nr_record_host.proofs.Readers.{encoding_some}
 use Rattle.nr_host.specs.Connections.{Outside}
 use Rattle.nr_host.specs.Ending.{SourceCount}
 use Rattle.nr_host.specs.LinkServing.{HELLO_BYTE, IsKindFor, LinkSinkCount, LinkSourceCount, LooksAndServes, holding}
-use Rattle.nr_host.specs.Serving.{Between, ServesLink}
 use Rattle.nr_host.specs.Steps.{outside}
 use Rattle.nr_host.specs.declared.conn_end.ConnEnd.{ConnEnd}
 use Rattle.nr_host.specs.declared.conn_end.ConnEnd.TheVariants as ends
@@ -66,7 +65,7 @@ some_bytes byte left e = absurd (omega (arith, ap length e))
 none_held : (held : Option ℕ) (left : Option (List ℕ)) → left_with held left ≡ Some [] → held ≡ None
 none_held None left e = refl
 none_held (Some byte) None e = absurd (none-some [] e)
-none_held (Some byte) (Some left) e = absurd (some_bytes byte left (same_Some [] (byte ∷ left) e))
+none_held (Some byte) (Some left) e = absurd (some_bytes byte left (same_Some (byte ∷ left) [] e))
 
 none_held_at : (held : Option ℕ) (left : Option (List ℕ)) (all bytes : List ℕ) → Consumes (Some all) (left_with held left) bytes → IsAtEnd (left_with held left) → held ≡ None
 none_held_at None left all bytes c e = refl

@@ -1,6 +1,6 @@
 -- Laws of links of `serve`, with record marks and without: a link whose client sends a complete stream is served to its
 -- end, and the first byte of a stream says what the link carries.
-use Rattle.std.specs.Prelude.{◌≡◌, ⊤, ℕ, ◌<◌, ◌≤◌, Bool, true, false, List, [], ◌∷◌, length, Option, Some}
+use Rattle.std.specs.Prelude.{◌≡◌, ⊤, ℕ, ◌<◌, ◌≤◌, Bool, true, false, List, [], ◌∷◌, length, Some}
 use Rattle.std.specs.List.{AllByRecursion}
 use Rattle.nr_xdr.specs.Item.{IsBytes}
 use Rattle.nr_outside.specs.Faults.{Rises}
