@@ -12,8 +12,6 @@ mod ends;
 #[cfg(test)]
 mod host;
 #[cfg(test)]
-mod largest;
-#[cfg(test)]
 mod pieces;
 #[cfg(test)]
 mod reading;
