@@ -94,7 +94,7 @@ module _ (settings : Settings Text) (before after : AcceptorAt) (spawner spawner
 
   pub serves_fewer : (stop : ServeStop) → LinksStopped stop settings before after spawner spawner' view view' → StoppedServing stop settings before after spawner spawner' gave gave'
   serves_fewer stop (inl (same, none), fault) = (inl (same, (none, (opens.opens.moment, opens.opens.gave))), fault)
-  serves_fewer stop (inr (ends, (less, links)), fault) = (inr (ends, (less, (opens.first, (view', serves_by ends links)))), fault)
+  serves_fewer stop (inr (ends, (less, (back, links))), fault) = (inr (ends, (less, (back, (opens.first, (view', serves_by ends links))))), fault)
 
 -- what was printed of them
 pub printed : {A : Type 0} (settings : Settings Text) (out out' : SinkAt) (before after : AcceptorAt) (spawner spawner' : SpawnerAt) (gave gave' : Option (List Moment)) (r : Result A ServeStop)
