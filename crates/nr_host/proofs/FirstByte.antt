@@ -16,7 +16,7 @@ use Rattle.nr_record_host.specs.RecordRuns.{Around, IsRecordsServed, around}
 use Rattle.nr_record_host.specs.declared.record_end.RecordEnd.{RecordEnd}
 use Rattle.nr_host.specs.Connections.{Outside, SinkState, answers_of}
 use Rattle.nr_host.specs.Ending.{Ended}
-use Rattle.nr_host.specs.LinkServing.{IsHeld, IsKindFor, IsKindOf, IsLinkServed, ServesLinkBy}
+use Rattle.nr_host.specs.LinkServing.{IsHeld, IsKindFor, IsKindOf, IsLinkServed, ServesByByte, ServesLinkBy}
 use Rattle.nr_host.specs.Steps.{CarriesTo, IsServed, outside, sink_state, with_failed}
 use Rattle.nr_host.specs.declared.conn_end.ConnEnd.{ConnEnd}
 use Rattle.nr_host.specs.declared.conn_end.ConnEnd.TheVariants as ends
@@ -84,6 +84,21 @@ still_held None byte left given left' given' left'' given'' h same = tt
 still_held (Some b) byte left given left' given' left'' given'' h same =
     let (byte_is, (left_is, given_is)) = same b refl in
     subst (λ (t : ℕ × (Option (List ℕ) × Option (List ℕ))). HandsOut left given t.1.0 t.1.1 (t.0 ∷ [])) (λ i. (sym byte_is i, (sym left_is i, sym given_is i))) h
+
+-- It was served as a source of which a byte was looked at: the byte, and the source that was given back, stand in place
+-- of what held them.
+pub served_looked : {S : Type 0} (left given : S → Option (List ℕ)) (credits byte : ℕ) (inner source inner' source' : S) (held held' : Option ℕ) (sink sink' : SinkState) (gave gave' : Option (List Moment)) (view view' : PassView)
+    (end : LinkEnd) → inner ≡ source → held ≡ Some byte → source' ≡ inner'
+    → ServesByByte credits byte (outside (left_with held (left inner)) (given_without held (given inner)) sink gave view) (outside (left_with held' (left inner')) (given_without held' (given inner')) sink' gave' view') end
+    → ServesByByte credits byte (outside (left_with (Some byte) (left source)) (given_without (Some byte) (given source)) sink gave view)
+    (outside (left_with held' (left source')) (given_without held' (given source')) sink' gave' view') end
+served_looked {S} left given credits byte inner source inner' source' held held' sink sink' gave gave' view view' end same is back served =
+    subst (λ (s : S). ServesByByte credits byte (outside (left_with (Some byte) (left s)) (given_without (Some byte) (given s)) sink gave view)
+    (outside (left_with held' (left source')) (given_without held' (given source')) sink' gave' view') end) same
+    (subst (λ (h : Option ℕ). ServesByByte credits byte (outside (left_with h (left inner)) (given_without h (given inner)) sink gave view)
+    (outside (left_with held' (left source')) (given_without held' (given source')) sink' gave' view') end) is
+    (subst (λ (s : S). ServesByByte credits byte (outside (left_with held (left inner)) (given_without held (given inner)) sink gave view)
+    (outside (left_with held' (left s)) (given_without held' (given s)) sink' gave' view') end) (sym back) served))
 
 -- no byte was held before the look
 pub none_held : (left left' : Option (List ℕ)) → Keeps (left_with None left) left' → Keeps left left'

@@ -29,14 +29,14 @@ returns-in-Ok-None-clause-served g c =
     let left = g.I.Source.left c.args.source in
     let given = g.I.Source.given c.args.source in
     let held = c.look.new.self.held in
-    let source = c.into_inner-in-Ok-None.result in
-    let (kept, told) = looked g.I.Source.left g.I.Source.given c.args.source source c.new-peeked.result c.look.new.self c.new-peeked.ensures c.into_inner-in-Ok-None.ensures
+    let source = c.into_inner.result in
+    let (kept, told) = looked g.I.Source.left g.I.Source.given c.args.source source c.new-peeked.result c.look.new.self c.new-peeked.ensures c.into_inner.ensures
     c.look.ensures.left c.look.ensures.given in
     let left' = left_with held (g.I.Source.left source) in
     let given' = given_without held (g.I.Source.given source) in
     let none : IsAtEnd (left_with held (g.I.Source.left c.look.new.self.inner)) =
     subst (λ (b : Option ℕ). IfNone b (IsAtEnd (left_with held (g.I.Source.left c.look.new.self.inner)))) c.in-Ok-None.field-0-is c.in-Ok-None.ensures.end in
-    let over : IsAtEnd left' = subst (λ s. IsAtEnd (left_with held (g.I.Source.left s))) (sym c.into_inner-in-Ok-None.ensures) none in
+    let over : IsAtEnd left' = subst (λ s. IsAtEnd (left_with held (g.I.Source.left s))) (sym c.into_inner.ensures) none in
     record {
       held = held;
       held_is = is_held held left given (g.I.Source.left source) (g.I.Source.given source) kept told;
