@@ -171,12 +171,13 @@ def vocabularies(crates: list[str]) -> dict[str, set[str]]:
 
 def check_names(page: str, text: str, words: set[str]) -> list[str]:
     out: list[str] = []
+    known = words | OTHER
     for n, span in spans(text):
         if SHELL.search(span) or ' ' in span.strip() and not re.match(r'^[\w:]+ [\w:]+$', span):
             continue
         for word in WORD.findall(span):
             stem = word.strip("'_.")
-            if len(stem) > 1 and not {word, stem} & (words | OTHER) and not PLACEHOLDER.match(word):
+            if len(stem) > 1 and word not in known and stem not in known and not PLACEHOLDER.match(word):
                 out.append('%s:%d: no name `%s` in the code (in `%s`)' % (page, n, word, span))
     return out
 
