@@ -73,7 +73,7 @@ def single_calls(t: Tries) -> None:
 
 
 def files(t: Tries) -> None:
-    """A file of five bytes, one of 16 MiB, and one that is too long."""
+    """A file of five bytes, one of 16 MiB, and two that are too long, one of them by a byte."""
     rng = random.Random(7)
     t.ends(['put', '/', '/a'], (0, b'', ''), b'hello')
     t.ends(['stat', '/', '/a'], (0, NEW_FILE.encode(), ''))
@@ -84,9 +84,10 @@ def files(t: Tries) -> None:
         content = rng.randbytes(size)
         t.ends(['put', '/', '/b'], (0, b'', ''), content)
         t.ends(['get', '/', '//b/'], (0, content, ''))
-    long = rng.randbytes(40 * MIB)
-    t.ends(['put', '/', '/c'], (11, b'', 'budget %d\n' % LIMIT), long)
-    t.ends(['get', '/', '/c'], (0, long[:LIMIT], ''))
+    for size in (LIMIT + 1, 40 * MIB):
+        long = rng.randbytes(size)
+        t.ends(['put', '/', '/c'], (11, b'', 'budget %d\n' % LIMIT), long)
+        t.ends(['get', '/', '/c'], (0, long[:LIMIT], ''))
     t.ends(['get', '/', '/none'], (7, b'', 'nfs 2\n'))
     t.ends(['rm', '/', '/b'], (0, b'', ''))
     t.ends(['get', '/', '/b'], (7, b'', 'nfs 2\n'))

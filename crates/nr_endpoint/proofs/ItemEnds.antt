@@ -40,7 +40,7 @@ left_one n end false ends is = ap (λ (w : Bool). map (λ (e : ℕ). e - n) (con
 pub left_kept : (n end : ℕ) (ends : List ℕ) → n < end → ends_left n (end ∷ ends) ≡ (end - n) ∷ ends_left n ends
 left_kept n end ends lt = left_one n end true ends (lt-ltb n end lt)
 
-left_gone : (n end : ℕ) (ends : List ℕ) → end ≤ n → ends_left n (end ∷ ends) ≡ ends_left n ends
+pub left_gone : (n end : ℕ) (ends : List ℕ) → end ≤ n → ends_left n (end ∷ ends) ≡ ends_left n ends
 left_gone n end ends le = left_one n end false ends (le-ltb n end le)
 
 pub left_twice : (n m : ℕ) (ends : List ℕ) → ends_left m (ends_left n ends) ≡ ends_left (n + m) ends

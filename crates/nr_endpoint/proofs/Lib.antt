@@ -33,6 +33,7 @@ pub mod ItemEnds
 pub mod OutputItems
 pub mod QueuedItems
 pub mod Bounds
+pub mod KeptLists
 pub mod Received
 pub mod OneDelivery
 pub mod ReceivedEvents

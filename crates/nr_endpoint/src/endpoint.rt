@@ -11,6 +11,7 @@ ghost use Rattle.nr_endpoint.specs.Calls.{after_call, after_calls, RepresentsCal
 ghost use Rattle.nr_endpoint.specs.Calls.Call.{Feed, FeedOne, OutOfMemory};
 ghost use Rattle.nr_endpoint.specs.EndpointState.{KeepsStaging};
 ghost use Rattle.nr_endpoint.specs.ReceiveQueue.{receives_kept};
+ghost use Rattle.nr_endpoint.specs.KeptLists.{ListsFit};
 ghost use Rattle.nr_link.specs.Limits.{open_reads_max};
 
 use crate::link::LinkSide;
@@ -127,6 +128,13 @@ impl Endpoint {
     {
         let _ = &self.staged;
         self.link.facts();
+    }
+
+    /// How long the lists are that an endpoint keeps beside its byte buffers, for the proofs of its owner. It does nothing.
+    pub fn list_facts(&self)
+        ensures { ListsFit self.now.link.state }
+    {
+        self.facts();
     }
 
     /// Takes the next frame of a piece, or all of it; answers what is left, which is nothing once the side has ended.

@@ -1,6 +1,7 @@
 //! Laws of an endpoint, over the calls that it stands for.
 
 ghost use Rattle.nr_endpoint.specs.ReceivedLaws.{EventsOfReceivedBytes, ReceivedBytes};
+ghost use Rattle.nr_endpoint.specs.KeptLists.{HeldRegionsAreRegistered, WaitingSendsHaveBytes};
 ghost use Rattle.nr_endpoint.specs.OutputLaws.{AllowedCallsJoin, FpdusFollowHello, OutputIsItems, SendsGoByItems, SendsWaitByItems, ResponsesGoByItems, SidesStayBounded};
 ghost use Rattle.nr_endpoint.specs.Laws.{PiecesJoin, StepsReach, StepsFeed, EndStays, KeepsLessThanFrame, EndedKeepsNothing, StreamIsKept, PlaceIsFed, MemoryFollowsEvents, PlacesAreAllowed, PlacesAreInOrder, ArrivalsRise, EventsAreDelivered, EventsAreInOrder, EventsFollowAccesses, OneFrameDeliversAtItsEnd, OneFrameDeliversOnce, ReadsAreAllowed, NothingElseIsRead, OtherFramesQueueNothing, OpenRegionHolds, ReleasedBufferHolds, ReleasedStaysClosed, ClaimsStay, NoFpduBeforeHello, FramesEndForThese, GrantsEndAlike, OffersDenyAlike, NoFrameStops, OthersComeFromStop, MemoryComesFromOutOfMemory, EndedQueuesNothing, EndIsKept, StopQueuesLast, OutOfMemoryQueuesNothing};
 
@@ -84,6 +85,13 @@ pub fn output_in_items()
 pub fn sides_stay_bounded()
     ensures bounds { SidesStayBounded }
     ensures greeted { FpdusFollowHello }
+{}
+
+/// The lists of a side that only its calls bound: at most as many Sends wait as there are bytes of FPDUs to write, and as many regions are held as were
+/// registered and not released.
+pub fn lists_stay_bounded()
+    ensures sends { WaitingSendsHaveBytes }
+    ensures regions { HeldRegionsAreRegistered }
 {}
 
 /// A hello ends a side only for the reasons 1 to 4, an FPDU only for the reasons 5 to 16 and 22, a denied access, a Send without a receive, or

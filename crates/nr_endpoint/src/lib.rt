@@ -42,8 +42,8 @@ pub use fault::{DrainFault, ReadRefused};
 pub use framing::RemoteWrite;
 pub use laws::{
     accesses_follow_bytes, claims_stay, ends_by_grants, events_follow_accesses, however_cut,
-    memory_follows_accesses, no_fpdu_before_hello, output_in_items, reasons_of_frames,
-    sides_stay_bounded, stream_is_kept,
+    lists_stay_bounded, memory_follows_accesses, no_fpdu_before_hello, output_in_items,
+    reasons_of_frames, sides_stay_bounded, stream_is_kept,
 };
 pub use offering::{Claims, Offered};
 pub use requests::RemoteRead;

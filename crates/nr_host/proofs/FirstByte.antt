@@ -1,10 +1,12 @@
 -- A link whose first byte was looked at.
 use Rattle.std.proofs.Common.{◌≡◌, ℕ, ◌+◌, ◌<◌, Bool, true, false, List, [], ◌∷◌, ◌++◌, length, Option, None, Some, inl, inr, arith, refl, sym, ap, subst, ◌∙◌, append-nil}
+use Rattle.std.specs.Option.{ForSome}
 use Rattle.std.specs.Io.KnownBytes.{Appends, Consumes, IsAtEnd, Keeps}
 use Rattle.nr_outside.specs.Content.{HandsOut}
 use Rattle.nr_outside.specs.declared.moment.Moment.{Moment}
 use Rattle.nr_links.specs.Limits.{read_max}
-use Rattle.nr_links.specs.Peeked.{given_without, left_with}
+use Rattle.nr_links.specs.Peeked.{PeekedState, before_last, given_without, left_with}
+use Rattle.nr_links.proofs.Held.{is_last}
 use Rattle.nr_endpoint.specs.LinkState.{initial_link}
 use Rattle.nr_wire.specs.declared.hello.Side.TheVariants.{Responder}
 use Rattle.nr_responder.specs.ResponderState.{end_of, opened_side}
@@ -14,7 +16,7 @@ use Rattle.nr_record_host.specs.RecordRuns.{Around, IsRecordsServed, around}
 use Rattle.nr_record_host.specs.declared.record_end.RecordEnd.{RecordEnd}
 use Rattle.nr_host.specs.Connections.{Outside, SinkState, answers_of}
 use Rattle.nr_host.specs.Ending.{Ended}
-use Rattle.nr_host.specs.LinkServing.{IsKindFor, IsKindOf, IsLinkServed, ServesLinkBy}
+use Rattle.nr_host.specs.LinkServing.{IsHeld, IsKindFor, IsKindOf, IsLinkServed, ServesByByte, ServesLinkBy}
 use Rattle.nr_host.specs.Steps.{CarriesTo, IsServed, outside, sink_state, with_failed}
 use Rattle.nr_host.specs.declared.conn_end.ConnEnd.{ConnEnd}
 use Rattle.nr_host.specs.declared.conn_end.ConnEnd.TheVariants as ends
@@ -54,12 +56,66 @@ hands_on left given left' given' left'' given'' bytes kept told h = record {
   to_given = appends_on given given' given'' bytes told h.to_given;
 }
 
--- no byte was held before
-pub not_held : (held : Option ℕ) (left left' : Option (List ℕ)) → held ≡ None → Keeps (left_with held left) left' → Keeps left left'
-not_held held left left' none kept = with_none left (subst (λ (h : Option ℕ). Keeps (left_with h left) left') none kept) where
-  with_none : (left : Option (List ℕ)) → Keeps (left_with None left) left' → Keeps left left'
-  with_none None k = tt
-  with_none (Some xs) k = k
+-- ---- a byte that was looked at
+
+handed_alone : (byte : ℕ) (left left' : Option (List ℕ)) → Keeps left (left_with (Some byte) left') → Consumes left left' (byte ∷ [])
+handed_alone byte None left' kept = tt
+handed_alone byte (Some xs) None kept = absurd kept
+handed_alone byte (Some xs) (Some ys) kept = sym kept
+
+given_by : (byte : ℕ) (xs ys : List ℕ) (o : Option (List ℕ)) → before_last byte ys ≡ o → Keeps (Some xs) o → ys ≡ xs ++ byte ∷ []
+given_by byte xs ys None is kept = absurd kept
+given_by byte xs ys (Some front) is kept = is_last byte ys front is ∙ ap (λ (l : List ℕ). l ++ byte ∷ []) kept
+
+given_alone : (byte : ℕ) (given given' : Option (List ℕ)) → Keeps given (given_without (Some byte) given') → Appends given given' (byte ∷ [])
+given_alone byte None given' kept = tt
+given_alone byte (Some xs) None kept = absurd kept
+given_alone byte (Some xs) (Some ys) kept = given_by byte xs ys (before_last byte ys) refl kept
+
+-- the source handed it out, and no other
+pub is_held : (held : Option ℕ) (left given left' given' : Option (List ℕ)) → Keeps left (left_with held left') → Keeps given (given_without held given') → IsHeld held left given left' given'
+is_held None left given left' given' kept told = tt
+is_held (Some byte) left given left' given' kept told = record { from_left = handed_alone byte left left' kept; to_given = given_alone byte given given' told }
+
+-- what was held at the look, if it is held yet
+pub still_held : (held : Option ℕ) (byte : ℕ) (left given left' given' left'' given'' : Option (List ℕ)) → IsHeld (Some byte) left given left' given'
+    → ForSome held (λ b. (b ≡ byte) × ((left'' ≡ left') × (given'' ≡ given'))) → IsHeld held left given left'' given''
+still_held None byte left given left' given' left'' given'' h same = tt
+still_held (Some b) byte left given left' given' left'' given'' h same =
+    let (byte_is, (left_is, given_is)) = same b refl in
+    subst (λ (t : ℕ × (Option (List ℕ) × Option (List ℕ))). HandsOut left given t.1.0 t.1.1 (t.0 ∷ [])) (λ i. (sym byte_is i, (sym left_is i, sym given_is i))) h
+
+-- It was served as a source of which a byte was looked at: the byte, and the source that was given back, stand in place
+-- of what held them.
+pub served_looked : {S : Type 0} (left given : S → Option (List ℕ)) (credits byte : ℕ) (inner source inner' source' : S) (held held' : Option ℕ) (sink sink' : SinkState) (gave gave' : Option (List Moment)) (view view' : PassView)
+    (end : LinkEnd) → inner ≡ source → held ≡ Some byte → source' ≡ inner'
+    → ServesByByte credits byte (outside (left_with held (left inner)) (given_without held (given inner)) sink gave view) (outside (left_with held' (left inner')) (given_without held' (given inner')) sink' gave' view') end
+    → ServesByByte credits byte (outside (left_with (Some byte) (left source)) (given_without (Some byte) (given source)) sink gave view)
+    (outside (left_with held' (left source')) (given_without held' (given source')) sink' gave' view') end
+served_looked {S} left given credits byte inner source inner' source' held held' sink sink' gave gave' view view' end same is back served =
+    subst (λ (s : S). ServesByByte credits byte (outside (left_with (Some byte) (left s)) (given_without (Some byte) (given s)) sink gave view)
+    (outside (left_with held' (left source')) (given_without held' (given source')) sink' gave' view') end) same
+    (subst (λ (h : Option ℕ). ServesByByte credits byte (outside (left_with h (left inner)) (given_without h (given inner)) sink gave view)
+    (outside (left_with held' (left source')) (given_without held' (given source')) sink' gave' view') end) is
+    (subst (λ (s : S). ServesByByte credits byte (outside (left_with held (left inner)) (given_without held (given inner)) sink gave view)
+    (outside (left_with held' (left s)) (given_without held' (given s)) sink' gave' view') end) (sym back) served))
+
+-- no byte was held before the look
+pub none_held : (left left' : Option (List ℕ)) → Keeps (left_with None left) left' → Keeps left left'
+none_held None left' kept = tt
+none_held (Some xs) left' kept = kept
+
+-- what a look at a source leaves of it
+pub looked : {S : Type 0} (left given : S → Option (List ℕ)) (source source' : S) (p p' : PeekedState S) → p ≡ record { inner = source; held = None } → source' ≡ p'.inner
+    → Keeps (left_with p.held (left p.inner)) (left_with p'.held (left p'.inner)) → Keeps (given_without p.held (given p.inner)) (given_without p'.held (given p'.inner))
+    → Keeps (left source) (left_with p'.held (left source')) × Keeps (given source) (given_without p'.held (given source'))
+looked {S} left given source source' p p' new same kept told = (
+  none_held (left source) (left_with p'.held (left source'))
+      (subst (λ (s : S). Keeps (left_with None (left source)) (left_with p'.held (left s))) (sym same)
+      (subst (λ (q : PeekedState S). Keeps (left_with q.held (left q.inner)) (left_with p'.held (left p'.inner))) new kept)),
+  subst (λ (s : S). Keeps (given source) (given_without p'.held (given s))) (sym same)
+      (subst (λ (q : PeekedState S). Keeps (given_without q.held (given q.inner)) (given_without p'.held (given p'.inner))) new told),
+)
 
 -- ---- nothing was read
 
@@ -89,10 +145,6 @@ module _ (credits : ℕ) (left given left' given' taken : Option (List ℕ)) (fa
   closes_at_once over =
       read_ends credits (first_outside left given taken faults gave view) (first_outside left' given' taken faults gave view) (opened_side credits) 0 ends.Closed begun over
       (ends_closed 0 (opened_side credits) lives refl refl) refl refl less refl
-
--- no byte was held before
-pub not_held_given : (held : Option ℕ) (given given' : Option (List ℕ)) → held ≡ None → Keeps (given_without held given) given' → Keeps given given'
-not_held_given held given given' none told = subst (λ (h : Option ℕ). Keeps (given_without h given) given') none told
 
 -- the first read failed, or handed out nothing
 pub kind_failed : (left left' : Option (List ℕ)) → Keeps left left' → IsKindFor left left' (link_ends.Rdma ends.LinkRead)
@@ -187,8 +239,8 @@ pub over_link : (credits : ℕ) (records : Bool) (before after : Outside) (end :
     → (calls : List Answered) × Over before.view calls after.view
 over_link credits false before after (link_ends.Rdma end) s = let (read, (failed, e)) = s 0 in (answers_of e.run, e.runs.over)
 over_link credits false before after (link_ends.Record end) s = absurd s
-over_link credits true before after (link_ends.Rdma end) (held, (s, kind)) = let (read, (failed, e)) = s 0 in (answers_of e.run, e.runs.over)
-over_link credits true before after (link_ends.Record end) (held, (s, kind)) = (s.exchanges, s.serves.over)
+over_link credits true before after (link_ends.Rdma end) s = let (read, (failed, e)) = s.serves 0 in (answers_of e.run, e.runs.over)
+over_link credits true before after (link_ends.Record end) s = (s.serves.exchanges, s.serves.serves.over)
 
 -- ---- the same, seen from outside
 

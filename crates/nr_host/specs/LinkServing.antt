@@ -1,6 +1,7 @@
 -- A link, which may carry RPC over RDMA or RPC over TCP with record marks (RFC 5531 section 11).
 use Rattle.std.specs.Prelude.{◌≡◌, ⊤, ◌⊎◌, ℕ, Bool, true, false, List, [], ◌∷◌, Option, None, Some}
 use Rattle.std.specs.Io.KnownBytes.{IsAtEnd, Keeps}
+use Rattle.nr_outside.specs.Content.{HandsOut}
 use Rattle.nr_links.specs.Peeked.{given_without, left_with}
 use Rattle.nr_record_host.specs.RecordRuns.{IsRecordsServed, around}
 use Rattle.nr_record_host.specs.RecordRuns as record_ends
@@ -29,7 +30,8 @@ IsKindOf byte (link_ends.Record end) = ¬ (byte ≡ HELLO_BYTE)
 abbrev pub ServesByByte : (credits byte : ℕ) → (before after : Outside) → LinkEnd → Type 0
 ServesByByte credits byte before after end = ServesLinkBy credits before after end × IsKindOf byte end
 
--- The first read failed, or handed out nothing: the link counts as RPC over RDMA. `left` and `left'` are the bytes still to come before and after.
+-- The first read failed, or handed out nothing: the link counts as RPC over RDMA. `left` and `left'` are the bytes
+-- still to come before and after.
 abbrev pub IsUnread : (left left' : Option (List ℕ)) → LinkEnd → Type 0
 IsUnread left left' (link_ends.Rdma ends.LinkRead) = Keeps left left'
 IsUnread left left' (link_ends.Rdma ends.Closed) = Keeps left left' × IsAtEnd left'
@@ -45,9 +47,18 @@ IsKindFor (Some (byte ∷ rest)) left' end = IsKindOf byte end ⊎ IsUnread (Som
 abbrev pub holding : Option ℕ → Outside → Outside
 holding held o = record o { left = left_with held o.left; given = given_without held o.given }
 
--- Its first byte was looked at, and it was served by that. `held` is that byte if it was never read.
-abbrev pub LooksAndServes : (credits : ℕ) → (before : Outside) → (held : Option ℕ) → (after : Outside) → LinkEnd → Type 0
-LooksAndServes credits before held after end = ServesLinkBy credits before (holding held after) end × IsKindFor before.left (left_with held after.left) end
+-- A byte that was looked at and not read: the source handed out that byte, and no other. So it is the first byte of the
+-- link, and the connection read nothing.
+abbrev pub IsHeld : Option ℕ → (left given left' given' : Option (List ℕ)) → Type 0
+IsHeld None left given left' given' = ⊤
+IsHeld (Some byte) left given left' given' = HandsOut left given left' given' (byte ∷ [])
+
+-- Its first byte was looked at, and it was served by that. `held` is that byte if the connection didn't read it.
+pub record LooksAndServes (credits : ℕ) (before after : Outside) (end : LinkEnd) : Type 0 where
+  pub held : Option ℕ
+  pub held_is : IsHeld held before.left before.given after.left after.given
+  pub serves : ServesLinkBy credits before (holding held after) end
+  pub kind : IsKindFor before.left (left_with held after.left) end
 
 -- without record marks it carries RPC over RDMA
 abbrev pub IsRdmaServed : (credits : ℕ) → (before after : Outside) → LinkEnd → Type 0
@@ -56,7 +67,7 @@ IsRdmaServed credits before after (link_ends.Record end) = ⊥
 
 abbrev pub IsLinkServed : (credits : ℕ) → (records : Bool) → (before after : Outside) → LinkEnd → Type 0
 IsLinkServed credits false before after end = IsRdmaServed credits before after end
-IsLinkServed credits true before after end = (held : Option ℕ) × LooksAndServes credits before held after end
+IsLinkServed credits true before after end = LooksAndServes credits before after end
 
 -- the fault counts of the source and of the sink
 abbrev pub LinkSourceCount : LinkEnd → ℕ → ℕ → Type 0

@@ -41,8 +41,8 @@ pub record JoinsPass (view own view' : PassView) : Type 0 where
   pub own_begins : Begins own.seen view'.seen
   pub mine : view'.mine ≡ in_order view.mine own.mine
 
--- A link was accepted, served to its end by a pass of its own, and hung up: its source, and the sink that has the same number. `opened` is the link
--- as it was accepted, `closed` as it was hung up. Its clock had given nothing.
+-- A link was accepted, served to its end by a pass of its own, and hung up: its source, and the sink that has the same
+-- number. `opened` is the link as it was accepted, `closed` as it was hung up. Its clock had given nothing.
 pub record ServesLink (credits : ℕ) (records : Bool) (before after : Between) (end : LinkEnd) : Type 0 where
   pub opened : EndedLink
   pub closed : EndedLink

@@ -17,7 +17,8 @@ use std::alloc::Global;
 use std::marker::Brand;
 use std::sync::{Arc, Wait};
 
-/// One connection, with all that it uses. The source and the sink are those of one link, and the pass is of the turnstile.
+/// One connection, with all that it uses. The source and the sink are those of one link, and the pass is of the
+/// turnstile.
 #[derive(Drop)]
 pub struct ServeJob<I: LinkSource, O: LinkSink, C, R> {
     pub rt: R,

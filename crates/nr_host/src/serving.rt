@@ -286,9 +286,10 @@ where
     ensures all { IfOk result (λ ran. (ran.started + length ran.ends ≡ connections) × (P.started spawner.new ≡ P.started spawner.old + ran.started)) }
     ensures back { IfOk result (λ ran. BackCount ran.ends (P.faults spawner.old) (P.faults spawner.new)) }
     ensures ended { P.ended spawner.new ≡ P.started spawner.new }
-    ensures err { OnErr result ((ends : List LinkEnd) × ((P.started spawner.new + length ends < P.started spawner.old + connections) × Serves credits records
+    ensures err { OnErr result ((ends : List LinkEnd) × ((P.started spawner.new + length ends < P.started spawner.old + connections) × (Serves credits records
         (between (A.ended acceptor.old) (A.lost acceptor.old) (P.started spawner.old) (pass_view pass.old)) ends
-        (between (A.ended acceptor.new) (A.lost acceptor.new) (P.started spawner.new) (pass_view pass.new)))) }
+        (between (A.ended acceptor.new) (A.lost acceptor.new) (P.started spawner.new) (pass_view pass.new))
+        × BackCount ends (P.faults spawner.old) (P.faults spawner.new)))) }
     ensures counted { MatchResult result
         (λ _. A.faults acceptor.new ≡ A.faults acceptor.old) (λ fault. AcceptorCount fault (A.faults acceptor.old) (A.faults acceptor.new)) }
     ensures asked { A.asked acceptor.new ≡ A.asked acceptor.old }

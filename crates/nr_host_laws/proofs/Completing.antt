@@ -1,9 +1,7 @@
 -- How a connection ends whose client sends a complete stream.
-use Rattle.std.proofs.Common.{◌≡◌, ℕ, ◌<◌, ◌≤◌, ◌⊎◌, inl, inr, Bool, true, false, List, [], ◌∷◌, ◌++◌, length, Option, Some, None, refl, arith, subst, sym, ap, ◌∙◌, append_assoc, append-nil}
-use Rattle.std.proofs.lemmas.Bool.{ltb-false}
+use Rattle.std.proofs.Common.{◌≡◌, ℕ, ◌<◌, ◌⊎◌, inl, inr, Bool, false, List, [], ◌∷◌, ◌++◌, length, Option, Some, None, refl, arith, subst, sym, ap, ◌∙◌, append_assoc, append-nil}
 use Rattle.std.proofs.lemmas.List.{length-append}
 use Rattle.std.proofs.lemmas.Option.{none-some}
-use Rattle.std.specs.Prelude.{MatchBool, nat_lt, ◌||◌}
 use Rattle.std.specs.Io.KnownBytes.{Appends, Consumes, IsAtEnd}
 use Rattle.nr_outside.specs.Faults.{Rises}
 use Rattle.nr_outside.specs.declared.moment.Moment.{Moment}
@@ -19,15 +17,13 @@ use Rattle.nr_reduce.specs.ServerState.{PendingCall}
 use Rattle.nr_host_laws.proofs.Lawful.{keep_the_law, with_credits}
 use Rattle.nr_reduce.specs.Served.{Served}
 use Rattle.nr_plain.specs.History.{IsHistory, Opening, setup_in}
-use Rattle.nr_host.specs.Serving.{split_off}
 use Rattle.nr_links.specs.Limits.{read_max}
-use Rattle.nr_links.specs.Links.{CountsLost, is_faulty}
 use Rattle.nr_host.specs.Connections.{Terms, Outside, Runs, TakesUntil, GivesAll, moments}
 use Rattle.nr_host.specs.Ending.{Ended, IsCause, IsIdle, SinkCount, SourceCount, begun_bytes, open_calls}
-use Rattle.nr_host.specs.Steps.{IsServed, outside, sink_state, with_failed}
+use Rattle.nr_host.specs.Steps.{IsServed, sink_state, with_failed}
 use Rattle.nr_host.specs.declared.conn_end.ConnEnd.{ConnEnd}
 use Rattle.nr_host.specs.declared.conn_end.ConnEnd.TheVariants as ends
-use Rattle.nr_host_laws.specs.Laws.{Completes, ConnectionsComplete, LinksComplete}
+use Rattle.nr_host_laws.specs.Laws.{Completes, ConnectionsComplete}
 use Rattle.nr_host_laws.specs.Streams.{MayHaveMade, IsCompleteStream, ServesStream}
 
 -- ---- What is read of a stream that is known
@@ -150,37 +146,3 @@ completes credits before after end source source' first J stream served sc kc qu
     let (read, (failed, e)) = served 0 in
     completes_by credits before after first J stream stands known complete end served
     (by_end credits before after first J stream stands known complete end source source' sc kc quiet fine read failed e)
-
--- ---- A link of `serve`
-
-not_lost : (source sink before after : ℕ) → CountsLost source sink before after → (Rises before after → ⊥) → is_faulty source sink ≡ false
-not_lost source sink before after counts fine = by (is_faulty source sink) counts
-  where
-    by : (faulty : Bool) → MatchBool faulty (Rises before after) (after ≡ before) → faulty ≡ false
-    by true rose = absurd (fine rose)
-    by false same = refl
-
-neither : (a b : Bool) → (a || b) ≡ false → (a ≡ false) × (b ≡ false)
-neither true b is = absurd cc
-neither false b is = (refl, is)
-
-no_fault : (source sink : ℕ) → is_faulty source sink ≡ false → (source ≡ 0) × (sink ≡ 0)
-no_fault source sink is =
-    let none : (nat_lt 0 source ≡ false) × (nat_lt 0 sink ≡ false) = neither (nat_lt 0 source) (nat_lt 0 sink) is in
-    let source_none : source ≤ 0 = ltb-false 0 source none.0 in
-    let sink_none : sink ≤ 0 = ltb-false 0 sink none.1 in
-    (omega (arith, source_none), omega (arith, sink_none))
-
-no_rise : (count : ℕ) → count ≡ 0 → Rises 0 count → ⊥
-no_rise count none (inl more) = absurd (omega (arith, none, more))
-no_rise count none (inr last) = absurd (omega (arith, none, last))
-
-pub links_complete : LinksComplete
-links_complete credits before after end first J stream served fine stands known complete =
-    let none : (served.source_faults ≡ 0) × (served.sink_faults ≡ 0) =
-    no_fault served.source_faults served.sink_faults (not_lost served.source_faults served.sink_faults before.lost after.lost served.lost fine) in
-    completes credits
-    (outside served.opened.left served.opened.given (sink_state served.opened.taken 0 false) served.gave (split_off before.view))
-    (outside served.closed.left served.closed.given (sink_state served.closed.taken served.sink_faults false) served.gave' served.own)
-    end 0 served.source_faults first J stream served.served served.source_count served.sink_count
-    (no_rise served.source_faults none.0) (no_rise served.sink_faults none.1) stands known complete

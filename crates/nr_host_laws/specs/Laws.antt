@@ -1,5 +1,6 @@
--- Laws of connections: those over a complete stream are served to their end; all but those that run out of memory keep the law of a link's server.
-use Rattle.std.specs.Prelude.{◌≡◌, ℕ, ◌⊎◌, List, [], ◌++◌, length, false, Bool, Option, Some}
+-- Laws of connections: those over a complete stream are served to their end; all but those that run out of memory keep
+-- the law of a link's server.
+use Rattle.std.specs.Prelude.{◌≡◌, ℕ, ◌⊎◌, List, [], ◌++◌, length, Bool, Option, Some}
 use Rattle.nr_xdr.specs.Item.{IsBytes}
 use Rattle.nr_outside.specs.Faults.{Rises}
 use Rattle.nr_outside.specs.declared.moment.Moment.{Moment}
@@ -26,11 +27,9 @@ use Rattle.nr_byte_laws.specs.InBytes.{EntriesInBytes, IsInBytes}
 use Rattle.nr_plain.specs.History.{IsHistory, Opening, setup_in}
 use Rattle.nr_host.specs.Connections.{Outside, answers_of}
 use Rattle.nr_host.specs.Ending.{Ended, SinkCount, SourceCount}
-use Rattle.nr_host.specs.Serving.{Between, ServesLink, split_off}
-use Rattle.nr_host.specs.Steps.{IsServed, outside, sink_state, with_failed}
+use Rattle.nr_host.specs.Steps.{IsServed, with_failed}
 use Rattle.nr_host.specs.declared.conn_end.ConnEnd.{ConnEnd}
 use Rattle.nr_host.specs.declared.conn_end.ConnEnd.TheVariants as ends
-use Rattle.nr_host.specs.declared.link_end.LinkEnd.TheVariants as link_ends
 use Rattle.nr_host_laws.specs.OwnMarks.{other_marks, own_marks}
 use Rattle.nr_host_laws.specs.Streams.{IsCompleteStream, ServesStream}
 use Rattle.nr_host_laws.specs.TypedMarks.{IsOverBytes, OthersInBytes}
@@ -40,16 +39,16 @@ abbrev pub Completes : ℕ → Opening → List Entry → (before after : Outsid
 Completes credits first J before after stream end =
     (end ≡ ends.Memory) ⊎ ((end ≡ ends.Closed) × ((link : ℕ) → ServesStream credits first J link before after stream))
 
--- A connection that doesn't run out of memory has marks, as the clause `served` of `serve_connection` says, of which the law of a link's
--- server holds in full: each Wrote writes all that is due.
+-- A connection that doesn't run out of memory has marks, as the clause `served` of `serve_connection` says, of which
+-- the law of a link's server holds in full: each Wrote writes all that is due.
 abbrev pub ConnectionsKeepTheLaw : Type 0
 ConnectionsKeepTheLaw =
     (credits : ℕ) (before after : Outside) (end : ConnEnd) → (end ≡ ends.Memory → ⊥) → IsServed credits before after end → (link : ℕ) →
     (read : ℕ) × ((failed : Bool) × ((ended : Ended (record { credits = credits; read = read }) link before (with_failed failed after) end)
     × ((opened : LinkParameters) → opened.granted ≡ credits → Served opened link ended.run)))
 
--- A connection over a source with a complete stream, with the clauses of `serve_connection`. No fault count rises: that of the source, or
--- of the sink.
+-- A connection over a source with a complete stream, with the clauses of `serve_connection`. No fault count rises: that
+-- of the source, or of the sink.
 abbrev pub ConnectionsComplete : Type 0
 ConnectionsComplete =
     (credits : ℕ) (before after : Outside) (end : ConnEnd) (source source' : ℕ) (first : Opening) (J : List Entry) (stream : List ℕ) →
@@ -58,22 +57,13 @@ ConnectionsComplete =
     IsHistory first J before.view.seen → before.left ≡ Some stream → IsCompleteStream credits (setup_in first) J stream →
     Completes credits first J before after stream end
 
--- A link of `serve`, of a server without record marks. The count of lost links doesn't rise.
-abbrev pub LinksComplete : Type 0
-LinksComplete =
-    (credits : ℕ) (before after : Between) (end : ConnEnd) (first : Opening) (J : List Entry) (stream : List ℕ) (served : ServesLink credits false before after (link_ends.Rdma end)) →
-    (Rises before.lost after.lost → ⊥) →
-    IsHistory first J before.view.seen → served.opened.left ≡ Some stream → IsCompleteStream credits (setup_in first) J stream →
-    Completes credits first J
-    (outside served.opened.left served.opened.given (sink_state served.opened.taken 0 false) served.gave (split_off before.view))
-    (outside served.closed.left served.closed.given (sink_state served.closed.taken served.sink_faults false) served.gave' served.own) stream end
-
 -- A client that sends nothing, or its hello alone, sends a complete stream, whatever the server stands for.
 abbrev pub StreamsWithoutCalls : Type 0
 StreamsWithoutCalls = (credits : ℕ) (s : Setup) (J : List Entry) → IsCompleteStream credits s J [] × IsCompleteStream credits s J (own_hello Initiator)
 
--- A connection that served a complete stream of bytes answered each Send of it: as many messages were completely written as Sends were received,
--- if the first tree of its server holds bytes, and the journal, and what others added to it meanwhile, has entries in bytes.
+-- A connection that served a complete stream of bytes answered each Send of it: as many messages were completely
+-- written as Sends were received, if the first tree of its server holds bytes, and the journal, and what others added
+-- to it meanwhile, has entries in bytes.
 abbrev pub SendsAreAnswered : Type 0
 SendsAreAnswered =
     (credits : ℕ) (first : Opening) (J : List Entry) (link : ℕ) (before after : Outside) (stream : List ℕ) (served : ServesStream credits first J link before after stream) →
@@ -82,9 +72,10 @@ SendsAreAnswered =
     items_written is_send_item (length (hello_due opened link Responder served.run)) (length (bytes_sent link Responder served.run)) (items_due opened link Responder served.run)
     ≡ (server opened link served.run).state.received.sends
 
--- No marks of a connection that ends with `Protocol` are those of the server's side of a run that meets the premises under which a matched link
--- never ends: those of `MatchedLinksStayOpen` of nr_laws, on the server's replies too. That the connection's own marks are of their types follows
--- from what it read: a source of known bytes, over a server with a tree in bytes, and entries in bytes; it is asked of the other marks alone.
+-- No marks of a connection that ends with `Protocol` are those of the server's side of a run that meets the premises
+-- under which a matched link never ends: those of `MatchedLinksStayOpen` of nr_laws, on the server's replies too. That
+-- the connection's own marks are of their types follows from what it read: a source of known bytes, over a server with
+-- a tree in bytes, and entries in bytes; it is asked of the other marks alone.
 abbrev pub MatchedConnectionsStay : Type 0
 MatchedConnectionsStay =
     (credits : ℕ) (before after : Outside) (why : End) (link read : ℕ) (failed : Bool)

@@ -17,9 +17,10 @@ use Rattle.nr_links.specs.Limits.{read_max}
 use Rattle.nr_host.specs.Connections.{Outside, IsOwn, IsQuiet, QuietMark, FrameMark, GivesAll, answers_of, moments}
 use Rattle.nr_host.specs.Ending.{IsIdle}
 
--- Marks that a connection may have made when it has read the first bytes of this stream, or all: it fed them frame by frame, and executed
--- each call that was complete, and wrote what was due, before the next frame. Each call was answered as the plain server answers at its
--- place in a journal that begins with the entries J, and goes on with its own and those of others.
+-- Marks that a connection may have made when it has read the first bytes of this stream, or all: it fed them frame by
+-- frame, and executed each call that was complete, and wrote what was due, before the next frame. Each call was
+-- answered as the plain server answers at its place in a journal that begins with the entries J, and goes on with its
+-- own and those of others.
 pub record MayHaveMade (s : Setup) (J : List Entry) (opened : LinkParameters) (link : ℕ) (stream : List ℕ) (run : List Mark) : Type 0 where
   pub own : AtEachMark (λ earlier mark. IsOwn link mark) [] run
   pub begins : IsPrefixOf (bytes_received link Responder run) stream
@@ -29,8 +30,9 @@ pub record MayHaveMade (s : Setup) (J : List Entry) (opened : LinkParameters) (l
   pub more : List Entry
   pub plain : AllPlaced s (J ++ more) (length J) (answers_of run)
 
--- A client's stream that a server which grants these credits reads to its end, after the entries J: it has fewer bytes than the maximum,
--- ends the server's side at none of them, and ends at no byte or after complete frames, when each call that it asks for can be answered.
+-- A client's stream that a server which grants these credits reads to its end, after the entries J: it has fewer bytes
+-- than the maximum, ends the server's side at none of them, and ends at no byte or after complete frames, when each
+-- call that it asks for can be answered.
 pub record IsCompleteStream (credits : ℕ) (s : Setup) (J : List Entry) (stream : List ℕ) : Type 0 where
   pub within : length stream < read_max
   pub frames : (input_of Initiator stream).rest ≡ []
@@ -40,9 +42,9 @@ pub record IsCompleteStream (credits : ℕ) (s : Setup) (J : List Entry) (stream
       MayHaveMade s J opened link stream run → bytes_received link Responder run ≡ stream → IsQuiet opened link run →
       (server opened link run).state.calls ≡ []
 
--- A connection served such a stream: it read and fed all of it and nothing else, the sink took all that was written, which is all that was
--- due, each call was executed at the moment that the clock gave and answered, at its place in the one journal that the pass has then seen. The
--- law of a link's server holds in full: each Wrote writes all that is due.
+-- A connection served such a stream: it read and fed all of it and nothing else, the sink took all that was written,
+-- which is all that was due, each call was executed at the moment that the clock gave and answered, at its place in the
+-- one journal that the pass has then seen. The law of a link's server holds in full: each Wrote writes all that is due.
 pub record ServesStream (credits : ℕ) (first : Opening) (J : List Entry) (link : ℕ) (before after : Outside) (stream : List ℕ) : Type 0 where
   pub run : List Mark
   pub fed : bytes_received link Responder run ≡ stream

@@ -15,8 +15,9 @@ abbrev pub OthersInBytes : List Entry → ℕ → List Answered → Type 0
 OthersInBytes J n [] = ⊤
 OthersInBytes J n (a ∷ calls) = EntriesInBytes (take (a.place - n) (drop n J)) × OthersInBytes J (a.place + length (entries_in a)) calls
 
--- A connection read a source with these bytes left, over a server that was opened so and had this journal, while these calls were answered: the
--- bytes are bytes, the first tree holds bytes, and the arguments of the entries are bytes, also of those that others added.
+-- A connection read a source with these bytes left, over a server that was opened so and had this journal, while these
+-- calls were answered: the bytes are bytes, the first tree holds bytes, and the arguments of the entries are bytes,
+-- also of those that others added.
 pub record IsOverBytes (first : Opening) (J : List Entry) (left : List ℕ) (before after : Outside) (calls : List Answered) : Type 0 where
   pub history : IsHistory first J before.view.seen
   pub known : before.left ≡ Some left

@@ -3,16 +3,19 @@ use Rattle.std.proofs.Common.{◌≡◌, ℕ, suc, ◌+◌, ◌<◌, ◌^◌, Bo
 use Rattle.std.specs.Prelude.{◌==◌, if◌then◌else◌}
 use Rattle.std.proofs.lemmas.List.{length-map, map-append}
 use Rattle.std.proofs.lemmas.Option.{none-some, same_Some}
+use Rattle.nr_xdr.specs.Item.{IsBytes}
 use Rattle.nr_outside.specs.declared.moment.Moment.{Moment}
 use Rattle.nr_reduce.specs.declared.mark.Entry.{Entry}
 use Rattle.nr_plain.specs.Added.{entries_of_call}
 use Rattle.nr_plain.specs.Setup.{Setup}
 use Rattle.nr_plain.specs.Stands.{PlainServerState, RepresentsJournal, ExecutesCall}
-use Rattle.nr_turnstile.specs.Rule.{Begins, Earlier, places_from}
+use Rattle.nr_turnstile.specs.Rule.{Begins, Earlier, opening_view, places, places_from}
+use Rattle.nr_turnstile.specs.declared.plays.View.{View}
 use Rattle.nr_plain.specs.declared.history_entry.HistoryEntry.{HistoryEntry}
 use Rattle.nr_plain.specs.declared.history_entry.HistoryEntry.TheVariants.{Opened, Added}
 use Rattle.nr_plain.specs.declared.history_entry.TaggedEntry.{TaggedEntry}
-use Rattle.nr_plain.specs.History.{Opening, setup_in, tagged, entries_alone, additions, history, IsHistory, StandsFor, closes_none, AddsOne, AddsNone, xid_in, entries_added, first_added, entry_to_append, PassView, OnlyOthersAdded, ExecutesAt}
+use Rattle.nr_plain.specs.History.{Opening, setup_in, tagged, entries_alone, additions, history, IsHistory, StandsFor, closes_none, AreOfCalls, AddsOne, AddsNone, xid_in, entries_added, first_added, entry_to_append, PassView, OnlyOthersAdded, ExecutesAt}
+use Rattle.nr_plain.proofs.OfCalls.{both_of_calls, later_of_calls, of_call}
 
 -- ===== histories and their entries
 
@@ -86,9 +89,10 @@ pub record Found (first : Opening) (J : List Entry) (seen : List HistoryEntry) (
   pub others : List Entry
   pub is : IsHistory first (J ++ others) seen
   pub stands : RepresentsJournal (setup_in first) (J ++ others) kept
+  pub of_calls : AreOfCalls (setup_in first) J others
 
 pub found : (first : Opening) (J : List Entry) (seen seen' : List HistoryEntry) (kept : PlainServerState) → IsHistory first J seen → Begins seen seen' → StandsFor kept seen' → Found first J seen' kept
-found first J seen seen' kept i (more, begins) (g, (K, (i', stands))) =
+found first J seen seen' kept i (more, begins) (g, (K, (i', stands, calls))) =
     let e : history g i'.entries ≡ history first i.entries ++ more = sym i'.is ∙ begins ∙ ap (λ (l : List HistoryEntry). l ++ more) i.is in
     let same : g ≡ first = same_opening first g i.entries i'.entries more e in
     let all : i'.entries ≡ i.entries ++ all_tagged_in more = later first g i.entries i'.entries more e in
@@ -100,6 +104,8 @@ found first J seen seen' kept i (more, begins) (g, (K, (i', stands))) =
       is = record { entries = i'.entries; is = i'.is ∙ ap (λ (f : Opening). history f i'.entries) same; journal = i'.journal ∙ journal };
       stands = subst (λ (l : List Entry). RepresentsJournal (setup_in first) l kept) journal
           (subst (λ (f : Opening). RepresentsJournal (setup_in f) K kept) same stands);
+      of_calls = later_of_calls (setup_in first) [] J others
+          (subst (λ (l : List Entry). AreOfCalls (setup_in first) [] l) journal (subst (λ (f : Opening). AreOfCalls (setup_in f) [] K) same calls));
     }
 
 pub others_added : (before at after : PassView) (kept : PlainServerState) → Begins before.seen at.seen → at.mine ≡ before.mine → StandsFor kept at.seen → after.seen ≡ at.seen → after.mine ≡ at.mine → OnlyOthersAdded before after
@@ -109,6 +115,7 @@ others_added before at after kept begins own stands same same_own first J i =
       others = f.others;
       begins = (begins.0, same ∙ begins.1);
       seen = subst (λ (h : List HistoryEntry). IsHistory first (J ++ f.others) h) (sym same) f.is;
+      of_calls = f.of_calls;
       mine_is = same_own ∙ own;
     }
 
@@ -118,6 +125,7 @@ none_added view first J i = record {
   others = [];
   begins = begins_itself view.seen;
   seen = subst (λ (l : List Entry). IsHistory first l view.seen) (sym (append-nil J)) i;
+  of_calls = tt;
   mine_is = refl;
 }
 
@@ -127,7 +135,7 @@ appended client m payload reply (entry, one) =
     ap (λ (es : List Entry). first_added (map (tagged client (xid_in payload)) es) ∷ []) one ∙ sym (ap (λ (es : List Entry). additions (map (tagged client (xid_in payload)) es)) one)
 
 module _ (before at after : PassView) (kept kept' : PlainServerState) (client : ℕ) (m : Moment) (payload reply : List ℕ) (place : ℕ) (begins : Begins before.seen at.seen) (own : at.mine ≡ before.mine) (stands : StandsFor kept at.seen)
-    (executes : (s : Setup) (J : List Entry) → RepresentsJournal s J kept → ExecutesCall s J m payload reply place kept') where
+    (bytes : IsBytes payload) (executes : (s : Setup) (J : List Entry) → RepresentsJournal s J kept → ExecutesCall s J m payload reply place kept') where
   pub executes_none : AddsNone m payload reply → after.seen ≡ at.seen → after.mine ≡ at.mine
       → (first : Opening) (J : List Entry) → IsHistory first J before.seen → ExecutesAt first J before after client m payload reply place
   executes_none none same same_own first J i =
@@ -141,6 +149,8 @@ module _ (before at after : PassView) (kept kept' : PlainServerState) (client : 
         place_is = x.place_is;
         replied = x.replied;
         seen = same ∙ sym (append-nil at.seen) ∙ ap (λ (es : List Entry). at.seen ++ additions (map (tagged client (xid_in payload)) es)) (sym none);
+        of_calls = both_of_calls (setup_in first) J f.others (entries_of_call m payload reply) f.of_calls
+            (of_call (setup_in first) (J ++ f.others) m payload reply place bytes x.place_is x.replied);
         mine_is = same_own ∙ own ∙ sym (append-nil before.mine) ∙ ap (λ (es : List Entry). before.mine ++ places_from (suc place) (length es)) (sym none);
       }
 
@@ -158,6 +168,8 @@ module _ (before at after : PassView) (kept kept' : PlainServerState) (client : 
         place_is = x.place_is;
         replied = x.replied;
         seen = more ∙ ap (λ (l : List HistoryEntry). at.seen ++ l) (appended client m payload reply (entry, one));
+        of_calls = both_of_calls (setup_in first) J f.others (entries_of_call m payload reply) f.of_calls
+            (of_call (setup_in first) (J ++ f.others) m payload reply place bytes x.place_is x.replied);
         mine_is = more_own ∙ ap (λ (l : List ℕ). l ++ length at.seen ∷ []) own ∙ ap (λ (n : ℕ). before.mine ++ n ∷ []) long
             ∙ ap (λ (es : List Entry). before.mine ++ places_from (suc place) (length es)) (sym one);
       }
@@ -165,49 +177,51 @@ module _ (before at after : PassView) (kept kept' : PlainServerState) (client : 
 -- ===== lengths
 
 pub entries_are : (kept : PlainServerState) (h : List HistoryEntry) (len n : ℕ) → ((s : Setup) (J : List Entry) → RepresentsJournal s J kept → len ≡ length J) → n ≡ len + 1 → StandsFor kept h → n ≡ length h
-entries_are kept h len n is more (first, (J, (i, stands))) =
+entries_are kept h len n is more (first, (J, (i, stands, calls))) =
     let long = history_length first J h i in let short = is (setup_in first) J stands in omega (arith, more, long, short)
 
 pub fits : (kept : PlainServerState) (h : List HistoryEntry) (len : ℕ) → ((s : Setup) (J : List Entry) → RepresentsJournal s J kept → len ≡ length J) → StandsFor kept h → length h < 2 ^ 63 → len + 1 < 2 ^ 63
-fits kept h len is (first, (J, (i, stands))) room =
+fits kept h len is (first, (J, (i, stands, calls))) room =
     let long = history_length first J h i in let short = is (setup_in first) J stands in omega (arith, room, long, short)
 
 -- after a call there is room for one entry more
 pub room_for_one : (kept kept' : PlainServerState) (h : List HistoryEntry) (m : Moment) (payload reply : List ℕ) (place : ℕ) → StandsFor kept h
     → ((s : Setup) (J : List Entry) → RepresentsJournal s J kept → ExecutesCall s J m payload reply place kept') → place < 2 ^ 60 → length h + 1 < 2 ^ 63
-room_for_one kept kept' h m payload reply place (first, (J, (i, stands))) executes less =
+room_for_one kept kept' h m payload reply place (first, (J, (i, stands, calls))) executes less =
     let long = history_length first J h i in let at = (executes (setup_in first) J stands).place_is in omega (arith, less, long, at)
 
 -- ===== what a server stands for after a call, as a history
 
 pub stands_none : (kept kept' : PlainServerState) (h : List HistoryEntry) (m : Moment) (payload reply : List ℕ) (place : ℕ) → StandsFor kept h
     → ((s : Setup) (J : List Entry) → RepresentsJournal s J kept → ExecutesCall s J m payload reply place kept') → AddsNone m payload reply → StandsFor kept' h
-stands_none kept kept' h m payload reply place (first, (J, (i, stands))) executes none = (
+stands_none kept kept' h m payload reply place (first, (J, (i, stands, calls))) executes none = (
   first,
   (
     J,
-    (i, subst (λ (l : List Entry). RepresentsJournal (setup_in first) l kept') (ap (λ (es : List Entry). J ++ es) none ∙ append-nil J) (executes (setup_in first) J stands).stands),
+    (i, subst (λ (l : List Entry). RepresentsJournal (setup_in first) l kept') (ap (λ (es : List Entry). J ++ es) none ∙ append-nil J) (executes (setup_in first) J stands).stands, calls),
   ),
 )
 
 pub stands_one : (kept kept' : PlainServerState) (h h' : List HistoryEntry) (client : ℕ) (m : Moment) (payload reply : List ℕ) (place : ℕ) → StandsFor kept h
-    → ((s : Setup) (J : List Entry) → RepresentsJournal s J kept → ExecutesCall s J m payload reply place kept') → AddsOne m payload reply
+    → IsBytes payload → ((s : Setup) (J : List Entry) → RepresentsJournal s J kept → ExecutesCall s J m payload reply place kept') → AddsOne m payload reply
     → h' ≡ h ++ entry_to_append client m payload reply ∷ [] → StandsFor kept' h'
-stands_one kept kept' h h' client m payload reply place (first, (J, (i, stands))) executes one more = (
-  first,
-  (
-    J ++ entries_of_call m payload reply,
-    (
-      subst (λ (l : List HistoryEntry). IsHistory first (J ++ entries_of_call m payload reply) l)
-          (sym (more ∙ ap (λ (l : List HistoryEntry). h ++ l) (appended client m payload reply one)))
-          (history_grows first J h client (xid_in payload) (entries_of_call m payload reply) i),
-      (executes (setup_in first) J stands).stands,
-    ),
-  ),
-)
+stands_one kept kept' h h' client m payload reply place (first, (J, (i, stands, calls))) bytes executes one more =
+    let x = executes (setup_in first) J stands in
+    let es : List Entry = entries_of_call m payload reply in (
+      first,
+      (
+        J ++ es,
+        (
+          subst (λ (l : List HistoryEntry). IsHistory first (J ++ es) l) (sym (more ∙ ap (λ (l : List HistoryEntry). h ++ l) (appended client m payload reply one)))
+              (history_grows first J h client (xid_in payload) es i),
+          x.stands,
+          both_of_calls (setup_in first) [] J es calls (of_call (setup_in first) J m payload reply place bytes x.place_is x.replied),
+        ),
+      ),
+    )
 
 pub some_journal : (kept : PlainServerState) (h : List HistoryEntry) → StandsFor kept h → (s : Setup) × ((J : List Entry) × RepresentsJournal s J kept)
-some_journal kept h (first, (J, (i, stands))) = (setup_in first, (J, stands))
+some_journal kept h (first, (J, (i, stands, calls))) = (setup_in first, (J, stands))
 
 -- ===== a server that was just opened
 
@@ -224,9 +238,20 @@ opened_stands kept first h is h_is (s, stands) = (
         count = stands.count;
         parameters = ap (λ (k : PlainServerState). k.parameters) (sym is);
       },
+      tt,
     ),
   ),
 )
+
+same_view : (a b : PassView) → a.seen ≡ b.seen → a.mine ≡ b.mine → a ≡ b
+same_view a b seen mine i = record { seen = seen i; mine = mine i }
+
+-- what the pass has seen, and its one place
+pub opened_view : (first : Opening) (h : List HistoryEntry) (v : View HistoryEntry) → h ≡ history first [] → v ≡ opening_view h
+    → ◌≡◌ {A = PassView} (record { seen = v.seen; mine = v.mine }) (record { seen = history first []; mine = 0 ∷ [] })
+opened_view first h v is e =
+    same_view (record { seen = v.seen; mine = v.mine }) (record { seen = history first []; mine = 0 ∷ [] }) (ap (λ (w : View HistoryEntry). w.seen) e ∙ is)
+    (ap (λ (w : View HistoryEntry). w.mine) e ∙ ap (λ (l : List HistoryEntry). places (length l)) is)
 
 pub opened_room : (first : Opening) (h : List HistoryEntry) → h ≡ history first [] → length h < 2 ^ 63
 opened_room first h is = let one = ap length is in omega (arith, one)

@@ -13,7 +13,7 @@ use Rattle.nr_plain.specs.Replies.{entries_if, cred_refusal}
 use Rattle.nr_plain.specs.Added.{entries_by_procedure, entries_by_cred, entries_by_head, entries_by_call, entries_of_call}
 use Rattle.nr_plain.specs.History.{AddsOne, AddsNone, CallsAddOneEntryAtMost}
 
-abbrev IsFew : List Entry → Type 0
+abbrev pub IsFew : List Entry → Type 0
 IsFew es = (es ≡ []) ⊎ ((e : Entry) × (es ≡ e ∷ []))
 
 few_if : (b : Bool) (e : Entry) → IsFew (entries_if b e)
@@ -40,7 +40,7 @@ few_call : (m : Moment) (payload reply : List ℕ) (r : Result CallHead ℕ) →
 few_call m payload reply (Ok head) = few_head m payload reply head
 few_call m payload reply (Err at) = inl refl
 
-few : (m : Moment) (payload reply : List ℕ) → IsFew (entries_of_call m payload reply)
+pub few : (m : Moment) (payload reply : List ℕ) → IsFew (entries_of_call m payload reply)
 few m payload reply = few_call m payload reply (call_of payload)
 
 pub one_at_most : CallsAddOneEntryAtMost

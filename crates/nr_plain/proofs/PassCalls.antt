@@ -13,6 +13,7 @@ use Rattle.nr_plain.specs.Replies.{Answer, plain_answer, plain_reply}
 use Rattle.nr_plain.specs.Setup.{Setup}
 use Rattle.nr_plain.specs.History.{AllPlaced, Answered, Executes, IsHistory, OnlyOthersAdded, Over, PassView, entries_in, own_places, own_places_of, setup_in, xid_in}
 use Rattle.nr_plain.specs.declared.history_entry.HistoryEntry.{HistoryEntry}
+use Rattle.nr_plain.proofs.OfCalls.{both_of_calls}
 use Rattle.nr_plain.proofs.Histories.{begins_itself, begins_on, history_grows}
 
 plain_stays : (s : Setup) (J more : List Entry) (place : ℕ) (m : Moment) (payload : List ℕ) → place ≤ length J → plain_reply s (J ++ more) place m payload ≡ plain_reply s J place m payload
@@ -80,6 +81,7 @@ over_none view first J i = record {
   more = [];
   begins = begins_itself view.seen;
   seen = subst (λ (l : List Entry). IsHistory first l view.seen) (sym (append-nil J)) i;
+  of_calls = tt;
   placed = (let same = ap length (append-nil J) in omega (arith, same));
   mine_is = sym (append-nil view.mine) ∙ ap (λ (l : List ℕ). view.mine ++ l) (sym own_none);
 }
@@ -100,6 +102,7 @@ over_executed before now after client m payload reply place calls over executes 
       begins = begins_on before.seen x.found after.seen (begins_on before.seen now.seen x.found o.begins x.begins) (_, x.seen);
       seen = subst (λ (l : List Entry). IsHistory first l after.seen) (sym all)
           (subst (λ (h : List HistoryEntry). IsHistory first (J1 ++ es) h) (sym x.seen) (history_grows first J1 x.found client (xid_in payload) es x.found_is));
+      of_calls = both_of_calls (setup_in first) J o.more (x.others ++ es) o.of_calls x.of_calls;
       placed = subst (λ (l : List Entry). AllPlaced (setup_in first) l (length J) (calls ++ a ∷ [])) (sym all)
           (place_last (setup_in first) J1 (length J) calls a (grow (setup_in first) (J ++ o.more) x.others (length J) calls o.placed) x.place_is
           (plain_stays (setup_in first) J1 es place m payload here ∙ x.replied)
@@ -119,6 +122,7 @@ over_others before now after calls over added first J i =
       more = o.more ++ f.others;
       begins = begins_on before.seen now.seen after.seen o.begins f.begins;
       seen = subst (λ (l : List Entry). IsHistory first l after.seen) all f.seen;
+      of_calls = both_of_calls (setup_in first) J o.more f.others o.of_calls f.of_calls;
       placed = subst (λ (l : List Entry). AllPlaced (setup_in first) l (length J) calls) all (grow (setup_in first) (J ++ o.more) f.others (length J) calls o.placed);
       mine_is = f.mine_is ∙ o.mine_is;
     }

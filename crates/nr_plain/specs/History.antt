@@ -1,8 +1,9 @@
 -- The history of a server in a turnstile: what it was opened as, and then its journal. What a pass has seen of it, and
 -- what a call under a turn makes of that.
-use Rattle.std.specs.Prelude.{◌≡◌, ℕ, suc, ◌+◌, ◌≤◌, ◌==◌, if◌then◌else◌, List, [], ◌∷◌, ◌++◌, length, map, take, drop, Option, None, Some, unwrap_or}
+use Rattle.std.specs.Prelude.{◌≡◌, ⊤, ℕ, suc, ◌+◌, ◌≤◌, ◌==◌, if◌then◌else◌, List, [], ◌∷◌, ◌++◌, length, map, take, drop, Option, None, Some, unwrap_or}
 use Rattle.std.specs.List.{flat_map}
 use Rattle.std.specs.declared.snapshot.Snapshot.{Snapshot}
+use Rattle.nr_xdr.specs.Item.{IsBytes}
 use Rattle.nr_outside.specs.declared.moment.Moment.{Moment}
 use Rattle.nr_rpc.specs.Reading.{call_of, xid_of_call}
 use Rattle.nr_rpc.specs.declared.cred.Cred.TheVariants as creds
@@ -51,17 +52,28 @@ pub record IsHistory (first : Opening) (J : List Entry) (h : List HistoryEntry) 
   pub is : h ≡ history first entries
   pub journal : entries_alone entries ≡ J
 
--- a server stands for the history of a server with its setup and its journal
+-- The entry is that of a call after the journal J: the payload of the call is bytes, the plain server answers it at the
+-- end of J, and it adds this entry alone.
+pub record IsOfCall (s : Setup) (J : List Entry) (e : Entry) : Type 0 where
+  pub moment : Moment
+  pub payload : List ℕ
+  pub reply : List ℕ
+  pub bytes : IsBytes payload
+  pub replied : plain_reply s J (length J) moment payload ≡ Some reply
+  pub adds : entries_of_call moment payload reply ≡ e ∷ []
+
+-- Each of these entries, which follow J in this order, is that of a call after those before it.
+abbrev pub AreOfCalls : Setup → (J more : List Entry) → Type 0
+AreOfCalls s J [] = ⊤
+AreOfCalls s J (e ∷ more) = IsOfCall s J e × AreOfCalls s (J ++ e ∷ []) more
+
+-- A server stands for the history of a server with its setup and its journal, each entry of which is that of a call.
 abbrev pub StandsFor : PlainServerState → List HistoryEntry → Type 0
-StandsFor kept h = (first : Opening) × ((J : List Entry) × (IsHistory first J h × RepresentsJournal (setup_in first) J kept))
+StandsFor kept h = (first : Opening) × ((J : List Entry) × (IsHistory first J h × RepresentsJournal (setup_in first) J kept × AreOfCalls (setup_in first) [] J))
 
 -- no entry closes a place
 abbrev pub closes_none : HistoryEntry → Option ℕ
 closes_none x = None
-
--- the history is that of this server as it was opened, with an empty journal
-abbrev pub IsOpenedBy : PlainServerState → List HistoryEntry → Type 0
-IsOpenedBy kept h = (first : Opening) × (first.value ≡ kept) × (h ≡ history first [])
 
 -- ===== what a call adds
 
@@ -103,12 +115,18 @@ pub record PassView : Type 0 where
 abbrev pub pass_view : {M : Type 0} → Pass M HistoryEntry → PassView
 pass_view p = record { seen = seen_by p; mine = mine_of p }
 
+-- The pass has seen this server as it was opened, with an empty journal. Place 0 of the history, and no other, is its
+-- own.
+abbrev pub IsOpenedBy : PlainServerState → PassView → Type 0
+IsOpenedBy kept view = (first : Opening) × (first.value ≡ kept) × (view ≡ record { seen = history first []; mine = 0 ∷ [] })
+
 -- A pass had seen a server that was opened so and has this journal. It has seen the history again, and only others have
--- added to it.
+-- added to it, each time the entry of a call.
 pub record OthersAddedTo (first : Opening) (J : List Entry) (before after : PassView) : Type 0 where
   pub others : List Entry
   pub begins : Begins before.seen after.seen
   pub seen : IsHistory first (J ++ others) after.seen
+  pub of_calls : AreOfCalls (setup_in first) J others
   pub mine_is : after.mine ≡ before.mine
 
 abbrev pub OnlyOthersAdded : (before after : PassView) → Type 0
@@ -116,7 +134,7 @@ OnlyOthersAdded before after = (first : Opening) (J : List Entry) → IsHistory 
 
 -- A call was executed under one turn of a pass. Others may have added entries to the journal before it. The reply is
 -- that of the plain server at the call's place, and the entry that the call adds, if any, is the last of the history,
--- and the pass's own.
+-- and the pass's own. All entries that were added, by others and by this call, are those of calls.
 pub record ExecutesAt (first : Opening) (J : List Entry) (before after : PassView) (client : ℕ) (m : Moment) (payload reply : List ℕ) (place : ℕ) : Type 0 where
   pub others : List Entry
   pub found : List HistoryEntry
@@ -125,6 +143,7 @@ pub record ExecutesAt (first : Opening) (J : List Entry) (before after : PassVie
   pub place_is : place ≡ length (J ++ others)
   pub replied : plain_reply (setup_in first) (J ++ others) place m payload ≡ Some reply
   pub seen : after.seen ≡ found ++ additions (entries_added client m payload reply)
+  pub of_calls : AreOfCalls (setup_in first) J (others ++ entries_of_call m payload reply)
   pub mine_is : after.mine ≡ before.mine ++ places_from (suc place) (length (entries_of_call m payload reply))
 
 abbrev pub Executes : (before after : PassView) → (client : ℕ) → Moment → (payload reply : List ℕ) → (place : ℕ) → Type 0
@@ -164,11 +183,13 @@ unfoldable pub own_places : List Answered → List ℕ
 own_places calls = flat_map own_places_of calls
 
 -- A pass had seen a server that was opened so and has the journal J, and has now seen more. These calls were answered
--- in between, and what they added is the pass's own. All else that was added is of others.
+-- in between, and what they added is the pass's own. All else that was added is of others. Each entry that was added is
+-- that of a call.
 pub record OverHistory (first : Opening) (J : List Entry) (before : PassView) (calls : List Answered) (after : PassView) : Type 0 where
   pub more : List Entry
   pub begins : Begins before.seen after.seen
   pub seen : IsHistory first (J ++ more) after.seen
+  pub of_calls : AreOfCalls (setup_in first) J more
   pub placed : AllPlaced (setup_in first) (J ++ more) (length J) calls
   pub mine_is : after.mine ≡ before.mine ++ own_places calls
 

@@ -3,6 +3,7 @@
 ghost use Rattle.std.specs.Prelude.{◌≡◌, ◌<◌, ◌≤◌, ◌^◌, List, length, IfOk, IfErr, IsOk, OnErr, MatchBool};
 ghost use Rattle.nr_reduce.specs.declared.mark.Entry.{Entry};
 ghost use Rattle.nr_rpc.specs.Reading.{call_of};
+ghost use Rattle.nr_xdr.specs.Item.{IsBytes};
 ghost use Rattle.nr_plain.specs.Setup.{Setup};
 ghost use Rattle.nr_plain.specs.Stands.{RepresentsJournal, ExecutesCall, IsCause};
 ghost use Rattle.nr_plain.specs.History.{AddsOne, AddsNone};
@@ -44,6 +45,7 @@ impl Server {
         ensures cause { IfErr result (λ e. IsCause e (call_of payload.now)) }
         ensures limit { IfOk result (λ r. length r.0.payload ≤ any_reply_max) }
         ensures room { IfOk result (λ r. r.0.place < 2 ^ 60) }
+        ensures bytes { IsBytes payload.now }
         ensures err { OnErr result (self.new ≡ self.old) }
     {
         let before = self.journal_len();

@@ -60,15 +60,15 @@ impl<K: Appended> EntryName<HistoryEntry> for EntryOfCall<K> {
     ghost entry = { K.appended };
 }
 
-/// Puts a server that was just opened in a turnstile. The pass has seen what it was opened as, and no entry of its
-/// journal.
+/// Puts a server that was just opened in a turnstile. The pass has seen the server as it was opened, and no entry of its
+/// journal. Place 0 of the history, and no other, is its own.
 ///
 /// # Errors
 ///
 /// If memory ran out. The server is dropped.
 pub fn share(alloc: Global, server: Server) -> Result<(Turnstile<Server>, Pass<Server>), AllocError>
     requires { (s : Setup) × RepresentsJournal s [] server }
-    ensures { IfOk result (λ t. Rests t.0 t.1 × IsOpenedBy server (seen_by t.1)) }
+    ensures { IfOk result (λ t. Rests t.0 t.1 × IsOpenedBy server (pass_view t.1)) }
 {
     let first = Snapshot::of(&server);
     put_in::<Brand>(alloc, server, &first)
@@ -82,7 +82,7 @@ fn put_in<K: First>(
     requires first { K.first ≡ history _first.now [] }
     requires is { _first.now.value ≡ server }
     requires stands { (s : Setup) × RepresentsJournal s [] server }
-    ensures { IfOk result (λ t. Rests t.0 t.1 × IsOpenedBy server (seen_by t.1)) }
+    ensures { IfOk result (λ t. Rests t.0 t.1 × IsOpenedBy server (pass_view t.1)) }
 {
     Turnstile::new::<Opened<K>>(alloc, server)
 }
@@ -154,6 +154,7 @@ pub fn journal_len<R: Wait>(rt: &R, shared: &Turnstile<Server>, pass: &mut Pass<
     ensures found { OnlyOthersAdded (pass_view pass.old) (pass_view pass.new) }
     ensures seen { length (seen_by pass.new) ≡ result + 1 }
     ensures len { (first : Opening) (J : List Entry) → IsHistory first J (seen_by pass.new) → result ≡ length J }
+    ensures below { result < 2 ^ 60 }
 {
     let mut turn = shared.take_turn(rt, pass);
     let len = turn.value().journal_len();

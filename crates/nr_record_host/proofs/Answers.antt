@@ -1,28 +1,27 @@
--- The answer to one record.
-use Rattle.std.proofs.Common.{◌≡◌, ℕ, ◌<◌, true, List, [], ◌++◌, length, take, drop, Option, refl, subst, take-append-drop}
+-- The answer to one record, whatever executes its call.
+use Rattle.std.proofs.Common.{◌≡◌, ℕ, ◌<◌, true, List, [], length, take, drop, Option, refl, sym, ap, ◌∙◌, subst, take-append-drop}
 use Rattle.std.specs.Io.KnownBytes.{Appends}
 use Rattle.std.proofs.KnownBytes.{Appends-nil}
 use Rattle.nr_outside.specs.declared.moment.Moment.{Moment}
-use Rattle.nr_links.specs.Moments.{Gives}
 use Rattle.nr_record.specs.Records.{fragment}
-use Rattle.nr_plain.specs.History.{Executes, PassView}
-use Rattle.nr_record_host.specs.RecordRuns.{NO_CLIENT}
-use Rattle.nr_record_host.specs.private.Answering.{AnswersCall, BreaksOff}
+use Rattle.nr_reduce.specs.Matched.{IsPrefixOf}
+use Rattle.nr_plain.specs.History.{Answered}
+use Rattle.nr_record_host.specs.private.Answering.{AnswersCall, BreaksOff, Executes}
 
-module _ (call : List ℕ) (taken taken' : Option (List ℕ)) (gave gave' : Option (List Moment)) (view view' : PassView) (moment : Moment) (place : ℕ) (reply : List ℕ)
-    (gives : Gives gave gave' moment) (executes : Executes view view' NO_CLIENT moment call reply place) where
-  module _ (bytes : List ℕ) (bytes_are : bytes ≡ fragment true reply) where
-    pub answered : Appends taken taken' bytes → AnswersCall call taken taken' gave gave' view view'
+module _ {S : Type 0} (Did : S → S → List Answered → List Moment → Type 0) (call : List ℕ) (u u' : S) (reply : List ℕ) (executes : Executes Did u u' call reply) where
+  module _ (taken taken' : Option (List ℕ)) (bytes : List ℕ) (bytes_are : bytes ≡ fragment true reply) where
+    pub answered : Appends taken taken' bytes → AnswersCall Did call taken taken' u u'
     answered appends =
-        (record { payload = call; moment = moment; place = place; reply = reply }, (refl, ((gives, executes), subst (Appends taken taken') bytes_are appends)))
+        let (x, (call_is, (reply_is, one))) = executes in
+        (x, (call_is, (one, subst (Appends taken taken') (bytes_are ∙ ap (fragment true) (sym reply_is)) appends)))
 
-    pub broken : (n : ℕ) × (n < length bytes) × Appends taken taken' (take n bytes) → BreaksOff call taken taken' gave gave' view view'
-    broken (n, short, appends) = (
-      record { payload = call; moment = moment; place = place; reply = reply },
-      (refl, ((gives, executes), (take n bytes, (subst (λ (all : List ℕ). (rest : List ℕ) × (take n bytes ++ rest ≡ all)) bytes_are (drop n bytes, take-append-drop n bytes), appends)))),
-    )
+    pub broken : (n : ℕ) × (n < length bytes) × Appends taken taken' (take n bytes) → BreaksOff Did call taken taken' u u'
+    broken (n, short, appends) =
+        let (x, (call_is, (reply_is, one))) = executes in
+        let is : bytes ≡ fragment true x.reply = bytes_are ∙ ap (fragment true) (sym reply_is) in
+        (x, (call_is, (one, (take n bytes, (subst (IsPrefixOf (take n bytes)) is (drop n bytes, take-append-drop n bytes), appends)))))
 
-module _ (call : List ℕ) (taken : Option (List ℕ)) (gave gave' : Option (List Moment)) (view view' : PassView) (moment : Moment) (place : ℕ) (reply : List ℕ)
-    (gives : Gives gave gave' moment) (executes : Executes view view' NO_CLIENT moment call reply place) where
-  pub unwritten : BreaksOff call taken taken gave gave' view view'
-  unwritten = (record { payload = call; moment = moment; place = place; reply = reply }, (refl, ((gives, executes), ([], ((fragment true reply, refl), Appends-nil taken)))))
+  pub unwritten : (taken : Option (List ℕ)) → BreaksOff Did call taken taken u u'
+  unwritten taken =
+      let (x, (call_is, (reply_is, one))) = executes in
+      (x, (call_is, (one, ([], ((fragment true x.reply, refl), Appends-nil taken)))))

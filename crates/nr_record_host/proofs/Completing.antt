@@ -1,7 +1,6 @@
 -- A record connection over a complete stream.
-use Rattle.std.proofs.Common.{◌≡◌, ℕ, ◌+◌, ◌*◌, ◌^◌, ◌<◌, ◌≤◌, Bool, true, false, List, [], ◌∷◌, ◌++◌, length, Option, None, Some, inl, inr, refl, sym, ap, ◌∙◌, subst, ⊎_elim, append_assoc, append-nil, arith}
-use Rattle.std.specs.Prelude.{is_ok}
-use Rattle.std.specs.List.{concat, AllByRecursion}
+use Rattle.std.proofs.Common.{◌≡◌, ℕ, ◌+◌, ◌*◌, ◌^◌, ◌<◌, true, false, List, [], ◌∷◌, ◌++◌, length, Option, None, Some, refl, sym, ap, ◌∙◌, subst, ⊎_elim, append_assoc, append-nil, arith}
+use Rattle.std.specs.List.{AllByRecursion}
 use Rattle.std.specs.Io.KnownBytes.{Consumes, IsAtEnd}
 use Rattle.std.proofs.lemmas.Bool.{true≢false}
 use Rattle.std.proofs.lemmas.List.{length-append}
@@ -15,9 +14,8 @@ use Rattle.nr_record.specs.RecordsState.{IsContentInLimit}
 use Rattle.nr_record.proofs.Above.{none_list}
 use Rattle.nr_record.proofs.Begun.{all_fit}
 use Rattle.nr_record.proofs.Unique.{begun_none, one_encoding, one_reading}
-use Rattle.nr_plain.specs.History.{Answered}
-use Rattle.nr_record_host.specs.RecordRuns.{AllAnswered, Around, IsNoCall, IsRecordsServed, IsTooLong, REASON_CALL, Serves, SinkCount, SourceCount, calls, written}
-use Rattle.nr_record_host.specs.Completing.{AnswersRecords, HasCallHead, IsComplete}
+use Rattle.nr_record_host.specs.RecordRuns.{Around, IsNoCall, IsRecordsServed, IsTooLong, Serves, SinkCount, SourceCount, calls, written}
+use Rattle.nr_record_host.specs.Completing.{HasCallHead, IsComplete}
 use Rattle.nr_record_host.specs.declared.record_end.RecordEnd.{RecordEnd}
 use Rattle.nr_record_host.specs.declared.record_end.RecordEnd.TheVariants as ends
 use Rattle.nr_record_host.proofs.Exchanges.{all_after, contents_both}

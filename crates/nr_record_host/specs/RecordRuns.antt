@@ -1,5 +1,5 @@
--- A connection over record-marked TCP (RFC 5531 section 11): the calls that were answered, and what they say of its source, its sink, its
--- clock and its pass; and how it ends, and why.
+-- A connection over record-marked TCP (RFC 5531 section 11): the calls that were answered, and what they say of its
+-- source, its sink, its clock and its pass; and how it ends, and why.
 use Rattle.std.specs.Prelude.{◌≡◌, ⊤, ℕ, ◌<◌, ◌≤◌, ◌⊎◌, true, false, List, [], ◌∷◌, ◌++◌, length, Option, None, Some, is_ok}
 use Rattle.std.specs.List.{AllByRecursion}
 use Rattle.std.specs.Io.KnownBytes.{Appends, IsAtEnd}
@@ -21,7 +21,8 @@ use Rattle.nr_record_host.specs.declared.record_end.RecordEnd.TheVariants as end
 abbrev pub REASON_CALL : ℕ
 REASON_CALL = 27
 
--- the number of the client at the other end, with which its entries stand in the server's history: none is told over TCP with record marks
+-- the number of the client at the other end, with which its entries stand in the server's history: none is told over
+-- TCP with record marks
 abbrev pub NO_CLIENT : ℕ
 NO_CLIENT = 0
 
@@ -59,8 +60,8 @@ abbrev pub GivesAll : Option (List Moment) → Option (List Moment) → List Mom
 GivesAll before None given = ⊤
 GivesAll before (Some after) given = (earlier : List Moment) × (before ≡ Some earlier) × (after ≡ earlier ++ given)
 
--- The source handed out these bytes, these calls were executed by the pass, each under a turn, the clock gave their moments and `more`, and
--- the sink took these bytes.
+-- The source handed out these bytes, these calls were executed by the pass, each under a turn, the clock gave their
+-- moments and `more`, and the sink took these bytes.
 pub record Serves (before after : Around) (bytes : List ℕ) (xs : List Answered) (more : List Moment) (took : List ℕ) : Type 0 where
   pub handed : HandsOut before.left before.given after.left after.given bytes
   pub taken : Appends before.taken after.taken took
@@ -69,7 +70,8 @@ pub record Serves (before after : Around) (bytes : List ℕ) (xs : List Answered
 
 -- ===== its end
 
--- The bytes that were read and not judged: some only after a record that ends the connection, after a failed write, or if memory ran out.
+-- The bytes that were read and not judged: some only after a record that ends the connection, after a failed write, or
+-- if memory ran out.
 abbrev pub UnreadAt : RecordEnd → List ℕ → Type 0
 UnreadAt (ends.Bad at reason) unread = ⊤
 UnreadAt ends.LinkWrite unread = ⊤
@@ -91,7 +93,8 @@ TookAt ends.LinkWrite took xs = BreaksOffIn took xs
 TookAt ends.Memory took xs = (took ≡ written xs) ⊎ BreaksOffIn took xs
 TookAt end took xs = took ≡ written xs
 
--- the moments that were given for no call that was executed: one at most, if a record has no call head or memory ran out
+-- the moments that were given for no call that was executed: one at most, if a record has no call head or memory ran
+-- out
 abbrev pub MoreAt : RecordEnd → List Moment → Type 0
 MoreAt (ends.Bad at reason) more = (length more ≤ 1) × (reason ≡ REASON_RECORD → more ≡ [])
 MoreAt ends.Memory more = length more ≤ 1
@@ -124,8 +127,8 @@ pub record IsTooLong (stream : List ℕ) (answered others : List (List ℕ)) (at
 abbrev pub AllAnswered : List ℕ → List (List ℕ) → Type 0
 AllAnswered stream others = (others ≡ []) × ((at : ℕ) → ¬ (IsAboveAt stream at))
 
--- Why it ended, by what the source has left, the stream that was read, what of it is no complete record, and the records that were answered
--- and those that were not.
+-- Why it ended, by what the source has left, the stream that was read, what of it is no complete record, and the
+-- records that were answered and those that were not.
 abbrev pub IsRecordCause : Option (List ℕ) → (stream rest : List ℕ) → (answered others : List (List ℕ)) → RecordEnd → Type 0
 IsRecordCause left stream rest answered others ends.Closed = AllAnswered stream others × (IsAtEnd left × ((rest ≡ []) × (length stream < read_max)))
 IsRecordCause left stream rest answered others (ends.Cut at) =
@@ -138,8 +141,8 @@ IsRecordCause left stream rest answered others (ends.Budget read) =
     AllAnswered stream others × ((read ≡ read_max) × (length stream ≡ read_max))
 IsRecordCause left stream rest answered others ends.Memory = ⊤
 
--- A connection was served to its end: `stream` and `unread` are the bytes that were read, `records` those of the stream, each within the
--- limit, and `rest` what follows them in it.
+-- A connection was served to its end: `stream` and `unread` are the bytes that were read, `records` those of the
+-- stream, each within the limit, and `rest` what follows them in it.
 pub record IsRecordsServed (before after : Around) (end : RecordEnd) : Type 0 where
   pub stream : List ℕ
   pub unread : List ℕ

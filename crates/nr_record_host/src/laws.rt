@@ -10,9 +10,9 @@ ghost use Rattle.nr_record_host.specs.RecordRuns.{Around, IsRecordsServed, SinkC
 ghost use Rattle.nr_record_host.specs.Completing.{HasCallHead, IsComplete};
 ghost use Rattle.nr_record_host.specs.declared.record_end.RecordEnd.{RecordEnd};
 
-/// A connection whose source is known to be the encodings of some records (RFC 5531 section 11), each within the limit and with a call head,
-/// in all fewer than 2^40 bytes, ends with `Closed` and has answered all of them, unless memory runs out or a fault count of its source or
-/// its sink rises.
+/// A connection whose source is known to be the encodings of some records (RFC 5531 section 11), each within the limit
+/// and with a call head, in all fewer than 2^40 bytes, ends with `Closed` and has answered all of them, unless memory
+/// runs out or a fault count of its source or its sink rises.
 pub fn record_connections_complete()
     ensures { (before after : Around) (end : RecordEnd) (cuts : List Cut) (reads reads' writes writes' : ℕ) →
         before.left ≡ Some (encodings cuts) → AllByRecursion IsContentInLimit cuts → AllByRecursion HasCallHead (contents cuts) → length (encodings cuts) < read_max →

@@ -62,3 +62,4 @@ pub mod MessageBodies
 pub mod FedBounds
 pub mod AnswerBounds
 pub mod StepBounds
+pub mod KeptLists

@@ -14,6 +14,7 @@ pub mod Remaining
 pub mod HeldBytes
 pub mod Views
 pub mod Laws
+pub mod KeptLists
 pub mod Takes
 pub mod Judged
 pub mod Fed

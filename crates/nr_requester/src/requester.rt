@@ -13,6 +13,7 @@ ghost use Rattle.nr_reduce.specs.declared.mark.Mark.TheVariants as marks;
 ghost use Rattle.nr_requester.specs.RequesterState.{queue_of};
 ghost use Rattle.nr_requester.specs.Standing.{RequesterRepresents, StandsOn, StaysOut};
 ghost use Rattle.nr_requester.specs.Fed.{fed_bytes};
+ghost use Rattle.nr_requester.specs.KeptLists.{ListsFit};
 ghost use Rattle.nr_requester.specs.OpenCalls.{found_call, found_answer, IsFresh, KeepsTickets};
 ghost use Rattle.nr_endpoint.specs.LinkState.{has_ended};
 ghost use Rattle.nr_requester.specs.AfterCalls.{opened_as, after_drain, sent_unless};
@@ -180,6 +181,13 @@ impl Requester {
     {
         let _ = &self.grant;
         self.endpoint.facts();
+    }
+
+    /// How long the lists are that a requester keeps beside its byte buffers, for the proofs of its owner. It does nothing.
+    pub fn list_facts(&self)
+        ensures { ListsFit self.now.state }
+    {
+        let _ = &self.grant;
     }
 
     /// Hands the output to a sink, in order: for `Ok` all that may be written, else the first bytes of it, and the rest stays. Takes no

@@ -43,7 +43,8 @@ use Rattle.nr_responder.proofs.Queues.{answered_queue}
 use Rattle.nr_responder.proofs.Marks.{executed_stands, represents}
 use Rattle.nr_responder.proofs.NextCalls.{next_is_lem}
 use Rattle.nr_responder.specs.ResponderState.{queue, end_of}
-use Rattle.nr_reduce.specs.ServerState.{PendingCall, ReadyCall, ServerState}
+use Rattle.nr_reduce.specs.ServerState.{PendingCall, PendingRead, ReadyCall, ServerState}
+use Rattle.nr_reduce.specs.ServerReads.{is_read}
 use Rattle.nr_responder.specs.ResponderState.{ResponderSide}
 use Rattle.nr_responder.specs.Keeping.{OwnXids}
 use Rattle.nr_responder.proofs.Executed.{without_call, none_out_lem}
@@ -312,6 +313,14 @@ inline_is_lem opened link run v xid h live_now first at call place own first_is 
   where
     by : (r : ReadyCall) (c : PendingCall) {p : Option (List ℕ)} → HasStream r p c → p ≡ None → is_some c.inline ≡ true
     by r c {p} holds none = ap (λ (o : Option (List ℕ)). is_some o) (subst (λ (q : Option (List ℕ)). HasStream r q c) none holds)
+
+-- nothing is left to be read for it
+pub next_read_lem : (opened : LinkParameters) (link : ℕ) (run : List Mark) (v : ResponderSide) (xid : ℕ) → ResponderRepresents opened link run v → end_of v ≡ None → slice_get v.ready 0 ≡ Some xid → (at : ℕ) (call : PendingCall) → slice_get v.calls at ≡ Some call → call.xid ≡ xid →
+    is_read v.fetching.reads call.number ≡ true
+next_read_lem opened link run v xid h live_now first at call place own =
+    let n : NextKept opened link run v xid = next_kept opened link run v xid h live_now first in
+    let f : Found n.call.xid (λ c. c.number ≡ n.call.number) n.server.calls at call = found n.call.xid (λ c. c.number ≡ n.call.number) n.server.calls at call n.xids n.ready.own (ap (λ (cs : List PendingCall). slice_get cs at) (sym n.calls) ∙ place) (own ∙ n.own) in
+    ap (λ (rs : List PendingRead). is_read rs call.number) n.reads ∙ ap (is_read n.server.reads) (ap (λ (c : PendingCall). c.number) (sym f.same) ∙ f.holds) ∙ n.ready.read
 
 pub none_any : (x : ℕ) (calls : List Pending) → ((k : ℕ) (d : Pending) → k < length calls → (get_or calls k d).xid ≢ x) → list_any (has x) (map call_view calls) ≡ false
 none_any x [] none = refl

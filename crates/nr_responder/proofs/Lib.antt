@@ -74,3 +74,4 @@ mod Windows
 mod BegunWindows
 mod PlacedPayloads
 mod PlacedReads
+mod ReadWindows

@@ -59,6 +59,23 @@ pub ended_as : (l m : LinkSide) (reason : ℕ) → (m ≡ after_call l (Stop rea
 ended_as l m reason (inl is) = stopped_as l m reason is
 ended_as l m reason (inr is) = memory_as l m is
 
+-- then it has ended
+over_if : (s t : LinkState) (o : Option End) → s.ended ≡ o → is_some t.ended ≡ true → is_some (cond (is_some o) s t).ended ≡ true
+over_if s t None same over = over
+over_if s t (Some end) same over = ap is_some same
+
+stopped_over : (l m : LinkSide) (reason : ℕ) → m ≡ after_call l (Stop reason) → is_some m.state.ended ≡ true
+unfolding after_call with_end
+stopped_over l m reason is = ap (λ (x : LinkSide). is_some x.state.ended) is ∙ over_if l.state (with_end_of (ends.Bad l.state.last reason) l.state) l.state.ended refl refl
+
+pub memory_over : (l m : LinkSide) → m ≡ after_call l OutOfMemory → is_some m.state.ended ≡ true
+unfolding after_call
+memory_over l m is = ap (λ (x : LinkSide). is_some x.state.ended) is ∙ over_if l.state (record l.state { ended = Some ends.Memory }) l.state.ended refl refl
+
+pub ended_over : (l m : LinkSide) (reason : ℕ) → (m ≡ after_call l (Stop reason)) ⊎ (m ≡ after_call l OutOfMemory) → is_some m.state.ended ≡ true
+ended_over l m reason (inl is) = stopped_over l m reason is
+ended_over l m reason (inr is) = memory_over l m is
+
 -- memory ran out of a side that hadn't ended: it ends for that, and queues nothing
 pub memory_ends : (l m : LinkSide) → l.state.ended ≡ None → m ≡ after_call l OutOfMemory → (m.state.ended ≡ Some ends.Memory) × (m.state.send_queue ≡ l.state.send_queue)
 unfolding after_call

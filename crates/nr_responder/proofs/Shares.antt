@@ -1,6 +1,7 @@
 -- Sums of sizes of items that have numbers.
-use Rattle.std.proofs.Common.{◌≡◌, ℕ, ◌+◌, ◌≤◌, Bool, true, false, not, ◌||◌, eqb, cond, List, [], ◌∷◌, ◌++◌, refl, sym, ap, ◌∙◌, arith}
-use Rattle.std.specs.List.{AllByRecursion, list_any, filter}
+use Rattle.std.proofs.Common.{◌≡◌, ◌≢◌, ℕ, zero, suc, ◌+◌, ◌<◌, ◌≤◌, Bool, true, false, not, ◌||◌, eqb, cond, List, [], ◌∷◌, ◌++◌, length, get_or, set, refl, sym, ap, ◌∙◌, arith}
+use Rattle.std.specs.List.{AllByRecursion, list_any, filter, remove}
+use Rattle.std.proofs.lemmas.Bool.{eq-eqb, ne_eqb}
 use Rattle.nr_responder.specs.HeldBytes.{sizes, share}
 
 -- so many times a number
@@ -62,3 +63,52 @@ owned_total number size most (n ∷ owners) xs h each =
 pub most_append : {X : Type 0} (most : ℕ) (xs ys : List X) → most_of most (xs ++ ys) ≡ most_of most xs + most_of most ys
 most_append most [] ys = omega arith
 most_append most (x ∷ xs) ys = (let rest = most_append most xs ys in omega (arith, rest))
+
+-- ---- One item
+
+-- the part of one item
+abbrev pub part_of : {X : Type 0} → (number size : X → ℕ) → ℕ → X → ℕ
+part_of number size n x = cond (eqb (number x) n) (size x) 0
+
+pub part_own : {X : Type 0} (number size : X → ℕ) (n : ℕ) (x : X) → number x ≡ n → part_of number size n x ≡ size x
+part_own number size n x same = ap (λ (b : Bool). cond b (size x) 0) (eq-eqb (number x) n same)
+
+pub part_other : {X : Type 0} (number size : X → ℕ) (n : ℕ) (x : X) → number x ≢ n → part_of number size n x ≡ 0
+part_other number size n x ne = ap (λ (b : Bool). cond b (size x) 0) (ne_eqb (number x) n ne)
+
+pub part_less : {X : Type 0} (number size : X → ℕ) (n : ℕ) (x y : X) → number x ≡ number y → size x ≤ size y → part_of number size n x ≤ part_of number size n y
+part_less number size n x y same le = (let is = ap (λ (m : ℕ). cond (eqb m n) (size x) 0) same in let few = by (eqb (number y) n) in omega (arith, is, few))
+  where
+    by : (b : Bool) → cond b (size x) 0 ≤ cond b (size y) 0
+    by true = le
+    by false = omega arith
+
+pub share_pushed : {X : Type 0} (number size : X → ℕ) (n : ℕ) (xs : List X) (x : X) → share number size n (xs ++ x ∷ []) ≡ share number size n xs + part_of number size n x
+share_pushed number size n xs x = (let sum = share_append number size n xs (x ∷ []) in omega (arith, sum))
+
+pub share_removed : {X : Type 0} (number size : X → ℕ) (n : ℕ) (xs : List X) (at : ℕ) (d : X) → at < length xs → share number size n (remove xs at) + part_of number size n (get_or xs at d) ≡ share number size n xs
+share_removed number size n [] at d lt = absurd (omega (arith, lt))
+share_removed number size n (x ∷ xs) zero d lt = omega arith
+share_removed number size n (x ∷ xs) (suc at) d lt = (let rest = share_removed number size n xs at d (omega (arith, lt)) in omega (arith, rest))
+
+pub share_set : {X : Type 0} (number size : X → ℕ) (n : ℕ) (xs : List X) (at : ℕ) (y d : X) → at < length xs → share number size n (set xs at y) + part_of number size n (get_or xs at d) ≡ share number size n xs + part_of number size n y
+share_set number size n [] at y d lt = absurd (omega (arith, lt))
+share_set number size n (x ∷ xs) zero y d lt = omega arith
+share_set number size n (x ∷ xs) (suc at) y d lt = (let rest = share_set number size n xs at y d (omega (arith, lt)) in omega (arith, rest))
+
+pub share_none : {X : Type 0} (number size : X → ℕ) (n : ℕ) (xs : List X) → list_any (λ x. eqb (number x) n) xs ≡ false → share number size n xs ≡ 0
+share_none number size n [] none = omega arith
+share_none number size n (x ∷ xs) none = by (eqb (number x) n) (share_none number size n xs) none
+  where
+    by : (b : Bool) → (list_any (λ y. eqb (number y) n) xs ≡ false → share number size n xs ≡ 0) → (b || list_any (λ y. eqb (number y) n) xs) ≡ false → cond b (size x) 0 + share number size n xs ≡ 0
+    by true rest e = absurd (let wrong : true ≡ false = e in cc)
+    by false rest e = (let none = rest e in omega (arith, none))
+
+-- if no item has the number, they have no size
+pub share_empty : {X : Type 0} (number size : X → ℕ) (n : ℕ) (xs : List X) → share number (λ x. 1) n xs ≡ 0 → share number size n xs ≡ 0
+share_empty number size n [] none = omega arith
+share_empty number size n (x ∷ xs) none = by (eqb (number x) n) (share_empty number size n xs) none
+  where
+    by : (b : Bool) → (share number (λ y. 1) n xs ≡ 0 → share number size n xs ≡ 0) → cond b 1 0 + share number (λ y. 1) n xs ≡ 0 → cond b (size x) 0 + share number size n xs ≡ 0
+    by true rest e = absurd (omega (arith, e))
+    by false rest e = (let none = rest (omega (arith, e)) in omega (arith, none))

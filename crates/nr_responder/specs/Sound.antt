@@ -1,5 +1,5 @@
 -- What a responder keeps of its own, whatever the marks.
-use Rattle.std.specs.Prelude.{◌≡◌, ◌≢◌, ◌⊎◌, ℕ, ◌+◌, ◌≤◌, true, false, is_some, List, [], ◌∷◌, length, map, sum_by, find, Option, None, Some, IfSome, All, slice_get, take, drop, vec_capacity}
+use Rattle.std.specs.Prelude.{◌≡◌, ◌≢◌, ◌⊎◌, ℕ, ◌+◌, ◌<◌, ◌≤◌, true, false, is_some, List, [], ◌∷◌, length, map, sum_by, find, Option, None, Some, IfSome, All, slice_get, take, drop, vec_capacity}
 use Rattle.std.specs.VecDeque.{deque_capacity}
 use Rattle.std.specs.List.{AllByRecursion}
 use Rattle.std.specs.Ordering.{nat_cmp}
@@ -23,6 +23,7 @@ use Rattle.nr_responder.specs.declared.call.Pending.{Pending}
 use Rattle.nr_responder.specs.declared.server_end.ServerEnd.{ServerEnd}
 use Rattle.nr_responder.specs.Fetching.{Fetching, SinkRegion, is_sink}
 use Rattle.nr_responder.specs.ResponderState.{ResponderSide, ResponderState, unsent}
+use Rattle.nr_responder.specs.HeldBytes.{share}
 use Rattle.nr_responder.specs.Rooms.{payload_room}
 use Rattle.nr_responder.specs.Views.{call_view, read_view, sink_view, HasLists}
 
@@ -158,6 +159,29 @@ ServerEndInvariantWith n r =
 
 abbrev pub ServerEndInvariant : ServerEnd → Type 0
 ServerEndInvariant r = ServerEndInvariantWith 0 r
+
+-- ---- A call of which nothing is left to be read has no bytes outside of a region
+
+-- how many bytes the buffers of sinks have for the payloads of calls whose Send has a number, and how many these calls are
+abbrev pub around_share : ℕ → List Pending → ℕ
+around_share n calls = share (λ c. c.number) (λ c. c.around) n calls
+
+abbrev pub calls_share : ℕ → List Pending → ℕ
+calls_share n calls = share (λ c. c.number) (λ c. 1) n calls
+
+-- If nothing is left to be read for the calls of a number, they have no bytes outside of a region; nor if two calls have that number.
+pub record WindowsAreRead (calls : List Pending) (reads : List ReadEntry) : Type 0 where
+  pub read : (n : ℕ) → is_read (map read_view reads) n ≡ true → around_share n calls ≡ 0
+  pub own : (n : ℕ) → 1 < calls_share n calls → around_share n calls ≡ 0
+
+-- the same, but for the number of the call whose read is done
+pub record OthersAreRead (done : ℕ) (calls : List Pending) (reads : List ReadEntry) : Type 0 where
+  pub read : (n : ℕ) → n ≢ done → is_read (map read_view reads) n ≡ true → around_share n calls ≡ 0
+  pub own : (n : ℕ) → 1 < calls_share n calls → around_share n calls ≡ 0
+
+-- while the side lives: a read that is done may end it before its call is ready
+abbrev pub WindowsInvariant : ServerEnd → Type 0
+WindowsInvariant r = r.endpoint.link.state.ended ≡ None → WindowsAreRead r.calls.items r.reads.items
 
 -- the call is the first that waits to be executed
 abbrev pub IsNext : ResponderSide → ℕ → Type 0

@@ -5,7 +5,7 @@ ghost use Rattle.std.specs.List.{list_all, list_any};
 ghost use Rattle.nr_header.specs.Constants.{PAYLOAD_MAX};
 ghost use Rattle.nr_header.specs.WithinLimits.{read_total};
 ghost use Rattle.nr_responder.specs.private.Handling.{FetchesCall, out};
-ghost use Rattle.nr_responder.specs.Sound.{state_of, InBuffer, ServerEndInvariant, ServerEndInvariantWith, SameInput};
+ghost use Rattle.nr_responder.specs.Sound.{state_of, InBuffer, ServerEndInvariant, ServerEndInvariantWith, SameInput, WindowsAreRead, WindowsInvariant};
 ghost use Rattle.nr_reduce.specs.ServerReads.{is_read};
 ghost use Rattle.nr_responder.specs.Fetching.{has_bytes, HasBytes};
 ghost use Rattle.nr_reduce.specs.Chunks.{item_position};
@@ -95,6 +95,7 @@ impl ServerEnd {
     /// A call with a read list.
     pub(crate) fn fetch(&mut self, call: Pending, read: &[ReadSegment])
         requires sound { ServerEndInvariantWith 1 self.old }
+        requires windows { WindowsAreRead self.old.calls.items self.old.reads.items }
         requires live { self.old.endpoint.link.state.ended ≡ None }
         requires frame { 0 < self.old.endpoint.link.state.place }
         requires call { InBuffer call }
@@ -103,6 +104,7 @@ impl ServerEnd {
         requires reads { read_total read.now ≤ PAYLOAD_MAX }
         requires fresh { is_read (map read_view self.old.reads.items) call.number ≡ true }
         ensures fetched { FetchesCall (state_of self.old) (state_of self.new) (call_view call) }
+        ensures windows { WindowsInvariant self.new }
         ensures sound { ServerEndInvariant self.new }
         ensures input { SameInput self.old.endpoint.link self.new.endpoint.link }
         ensures staging { self.new.endpoint.staging ≡ self.old.endpoint.staging }
@@ -117,6 +119,7 @@ impl ServerEnd {
     /// A call whose read list has bytes.
     fn fetch_chunks(&mut self, call: Pending, read: &[ReadSegment])
         requires sound { ServerEndInvariantWith 1 self.old }
+        requires windows { WindowsAreRead self.old.calls.items self.old.reads.items }
         requires live { self.old.endpoint.link.state.ended ≡ None }
         requires frame { 0 < self.old.endpoint.link.state.place }
         requires call { InBuffer call }
@@ -126,6 +129,7 @@ impl ServerEnd {
         requires bytes { HasBytes read.now }
         requires fresh { is_read (map read_view self.old.reads.items) call.number ≡ true }
         ensures fetched { FetchesCall (state_of self.old) (state_of self.new) (call_view call) }
+        ensures windows { WindowsInvariant self.new }
         ensures sound { ServerEndInvariant self.new }
         ensures input { SameInput self.old.endpoint.link self.new.endpoint.link }
         ensures staging { self.new.endpoint.staging ≡ self.old.endpoint.staging }
@@ -139,6 +143,7 @@ impl ServerEnd {
     /// A call with these chunks that have bytes.
     fn fetch_into(&mut self, call: Pending, chunks: &[u32], read: &[ReadSegment])
         requires sound { ServerEndInvariantWith 1 self.old }
+        requires windows { WindowsAreRead self.old.calls.items self.old.reads.items }
         requires live { self.old.endpoint.link.state.ended ≡ None }
         requires frame { 0 < self.old.endpoint.link.state.place }
         requires call { InBuffer call }
@@ -149,6 +154,7 @@ impl ServerEnd {
         requires chunks { chunks.now ≡ chunk_positions (call_view call).lists.read }
         requires fresh { is_read (map read_view self.old.reads.items) call.number ≡ true }
         ensures fetched { FetchesCall (state_of self.old) (state_of self.new) (call_view call) }
+        ensures windows { WindowsInvariant self.new }
         ensures sound { ServerEndInvariant self.new }
         ensures input { SameInput self.old.endpoint.link self.new.endpoint.link }
         ensures staging { self.new.endpoint.staging ≡ self.old.endpoint.staging }
@@ -168,6 +174,7 @@ impl ServerEnd {
     /// A call whose reads may begin: its payload is completed in the buffer of its sink if it can be.
     fn start(&mut self, call: Pending, chunks: &[u32], read: &[ReadSegment])
         requires sound { ServerEndInvariantWith 1 self.old }
+        requires windows { WindowsAreRead self.old.calls.items self.old.reads.items }
         requires live { self.old.endpoint.link.state.ended ≡ None }
         requires call { InBuffer call }
         requires empty { (call.around ≡ 0) × (call.room ≡ None) }
@@ -178,6 +185,7 @@ impl ServerEnd {
         requires own { list_any (λ c. c.number == call.number) self.old.calls.items ≡ false }
         requires fresh { is_read (map read_view self.old.reads.items) call.number ≡ true }
         ensures started { (state_of self.new ≡ reading_call (state_of self.old) (call_view call)) ⊎ (state_of self.new ≡ out (state_of self.old)) }
+        ensures windows { WindowsInvariant self.new }
         ensures sound { ServerEndInvariant self.new }
         ensures input { SameInput self.old.endpoint.link self.new.endpoint.link }
         ensures staging { self.new.endpoint.staging ≡ self.old.endpoint.staging }
@@ -192,6 +200,7 @@ impl ServerEnd {
     #[tactic(none)]
     fn start_reads(&mut self, call: Pending, chunks: &[u32], read: &[ReadSegment])
         requires sound { ServerEndInvariantWith 1 self.old }
+        requires windows { WindowsAreRead self.old.calls.items self.old.reads.items }
         requires live { self.old.endpoint.link.state.ended ≡ None }
         requires call { InBuffer call }
         requires empty { (call.around ≡ 0) × (call.room ≡ None) }
@@ -201,6 +210,7 @@ impl ServerEnd {
         requires stags { self.old.endpoint.link.state.memory.next + length chunks.now ≤ 2 ^ 32 }
         requires own { list_any (λ c. c.number == call.number) self.old.calls.items ≡ false }
         ensures started { (state_of self.new ≡ reading_call (state_of self.old) (call_view call)) ⊎ (state_of self.new ≡ out (state_of self.old)) }
+        ensures windows { WindowsInvariant self.new }
         ensures sound { ServerEndInvariant self.new }
         ensures input { SameInput self.old.endpoint.link self.new.endpoint.link }
         ensures staging { self.new.endpoint.staging ≡ self.old.endpoint.staging }
@@ -223,6 +233,7 @@ impl ServerEnd {
     /// A call whose reads may begin, and whose payload is completed in the buffer of its sink.
     fn start_in_place(&mut self, call: Pending, chunks: &[u32], read: &[ReadSegment], start: usize)
         requires sound { ServerEndInvariantWith 1 self.old }
+        requires windows { WindowsAreRead self.old.calls.items self.old.reads.items }
         requires live { self.old.endpoint.link.state.ended ≡ None }
         requires call { InBuffer call }
         requires empty { (call.around ≡ 0) × (call.room ≡ None) }
@@ -234,6 +245,7 @@ impl ServerEnd {
         requires fresh { is_read (map read_view self.old.reads.items) call.number ≡ true }
         requires window { FitsWindow self.old.sinks.items read.now chunks.now call start }
         ensures started { (state_of self.new ≡ reading_call (state_of self.old) (call_view call)) ⊎ (state_of self.new ≡ out (state_of self.old)) }
+        ensures windows { WindowsInvariant self.new }
         ensures sound { ServerEndInvariant self.new }
         ensures input { SameInput self.old.endpoint.link self.new.endpoint.link }
         ensures staging { self.new.endpoint.staging ≡ self.old.endpoint.staging }
@@ -258,6 +270,7 @@ impl ServerEnd {
     /// A call whose read list has no bytes: it is ready, or ends the link. Takes memory for a Terminate alone.
     fn complete_at_once(&mut self, call: Pending, read: &[ReadSegment])
         requires sound { ServerEndInvariantWith 1 self.old }
+        requires windows { WindowsAreRead self.old.calls.items self.old.reads.items }
         requires live { self.old.endpoint.link.state.ended ≡ None }
         requires frame { 0 < self.old.endpoint.link.state.place }
         requires call { InBuffer call }
@@ -266,6 +279,7 @@ impl ServerEnd {
         requires none { HasNoBytes read.now }
         requires fresh { is_read (map read_view self.old.reads.items) call.number ≡ true }
         ensures fetched { FetchesCall (state_of self.old) (state_of self.new) (call_view call) }
+        ensures windows { WindowsInvariant self.new }
         ensures sound { ServerEndInvariant self.new }
         ensures input { SameInput self.old.endpoint.link self.new.endpoint.link }
         ensures staging { self.new.endpoint.staging ≡ self.old.endpoint.staging }

@@ -10,7 +10,7 @@ ghost use Rattle.nr_endpoint.specs.Calls.{after_call, IsStopReason};
 ghost use Rattle.nr_endpoint.specs.Calls.Call.{Stop, Send, OutOfMemory};
 ghost use Rattle.nr_responder.specs.private.Handling.{out, Begins, Makes, OrOut};
 ghost use Rattle.nr_reduce.specs.ServerReads.{is_read};
-ghost use Rattle.nr_responder.specs.Sound.{state_of, HasRoom, InBuffer, ServerEndInvariant, ServerEndInvariantWith, SameInput};
+ghost use Rattle.nr_responder.specs.Sound.{state_of, HasRoom, InBuffer, ServerEndInvariant, ServerEndInvariantWith, SameInput, WindowsAreRead, WindowsInvariant};
 ghost use Rattle.nr_responder.specs.Views.{read_view, HasLists};
 
 use crate::answering::{chunk_error, version_error};
@@ -50,6 +50,7 @@ impl ServerEnd {
     pub(crate) fn run_out(&mut self)
         requires sound { ServerEndInvariant self.old }
         ensures out { state_of self.new ≡ out (state_of self.old) }
+        ensures windows { WindowsInvariant self.new }
         ensures sound { ServerEndInvariant self.new }
         ensures input { SameInput self.old.endpoint.link self.new.endpoint.link }
         ensures staging { self.new.endpoint.staging ≡ self.old.endpoint.staging }
@@ -64,6 +65,7 @@ impl ServerEnd {
         requires frame { 0 < self.old.endpoint.link.state.place }
         requires reason { IsStopReason reason }
         ensures ended { OrOut (state_of self.old) (after_call self.old.endpoint.link (Stop reason)) (state_of self.new) }
+        ensures windows { WindowsInvariant self.new }
         ensures sound { ServerEndInvariant self.new }
         ensures input { SameInput self.old.endpoint.link self.new.endpoint.link }
         ensures staging { self.new.endpoint.staging ≡ self.old.endpoint.staging }
@@ -74,11 +76,13 @@ impl ServerEnd {
     /// A message, which may make a call.
     pub(crate) fn message(&mut self, number: u64, buf: Octets, len: usize)
         requires sound { ServerEndInvariantWith 1 self.old }
+        requires windows { WindowsAreRead self.old.calls.items self.old.reads.items }
         requires live { self.old.endpoint.link.state.ended ≡ None }
         requires frame { 0 < self.old.endpoint.link.state.place }
         requires buf { IsReceive send_max buf }
         requires len { (FIXED_LEN ≤ len) × (len ≤ send_max) }
         ensures made { Makes (state_of self.old) number (take len buf) (state_of self.new) }
+        ensures windows { WindowsInvariant self.new }
         ensures sound { ServerEndInvariant self.new }
         ensures input { SameInput self.old.endpoint.link self.new.endpoint.link }
         ensures staging { self.new.endpoint.staging ≡ self.old.endpoint.staging }
@@ -92,11 +96,13 @@ impl ServerEnd {
     fn message_into(&mut self, number: u64, buf: Octets, len: usize, room: &mut ListsRoom)
         requires room { room.old ≡ no_lists }
         requires sound { ServerEndInvariantWith 1 self.old }
+        requires windows { WindowsAreRead self.old.calls.items self.old.reads.items }
         requires live { self.old.endpoint.link.state.ended ≡ None }
         requires frame { 0 < self.old.endpoint.link.state.place }
         requires buf { IsReceive send_max buf }
         requires len { (FIXED_LEN ≤ len) × (len ≤ send_max) }
         ensures made { Makes (state_of self.old) number (take len buf) (state_of self.new) }
+        ensures windows { WindowsInvariant self.new }
         ensures sound { ServerEndInvariant self.new }
         ensures input { SameInput self.old.endpoint.link self.new.endpoint.link }
         ensures staging { self.new.endpoint.staging ≡ self.old.endpoint.staging }
@@ -147,12 +153,14 @@ impl ServerEnd {
     /// Queues an error message for the message in this receive.
     fn refuse(&mut self, buf: Octets, made: Result<Octets, Memory>)
         requires sound { ServerEndInvariantWith 1 self.old }
+        requires windows { WindowsAreRead self.old.calls.items self.old.reads.items }
         requires live { self.old.endpoint.link.state.ended ≡ None }
         requires buf { IsReceive send_max buf }
         ensures link { (IfOk made (λ m. self.new.endpoint.link ≡ after_call self.old.endpoint.link (Send m)) × IsOk made) ⊎ (self.new.endpoint.link ≡ after_call self.old.endpoint.link OutOfMemory) }
         ensures same { (self.new.calls ≡ self.old.calls) × (self.new.ready ≡ self.old.ready) × (self.new.credits ≡ self.old.credits) }
         ensures reads { (self.new.reads.items ≡ self.old.reads.items) × (self.new.sinks.items ≡ self.old.sinks.items) }
         ensures staging { self.new.endpoint.staging ≡ self.old.endpoint.staging }
+        ensures windows { WindowsInvariant self.new }
         ensures sound { ServerEndInvariant self.new }
     {
         self.endpoint.facts();
@@ -164,6 +172,7 @@ impl ServerEnd {
     /// A call whose stream stands in its message: it is ready if that is an RPC call of its xid, else it ends the link.
     fn begin(&mut self, number: u64, buf: Octets, len: usize, stream_at: usize)
         requires sound { ServerEndInvariantWith 1 self.old }
+        requires windows { WindowsAreRead self.old.calls.items self.old.reads.items }
         requires live { self.old.endpoint.link.state.ended ≡ None }
         requires frame { 0 < self.old.endpoint.link.state.place }
         requires buf { IsReceive send_max buf }
@@ -172,6 +181,7 @@ impl ServerEnd {
         requires lists { HasLists (take len buf) }
         requires fresh { is_read (map read_view self.old.reads.items) number ≡ true }
         ensures begun { Begins (state_of self.old) (state_of self.new) number (take len buf) (lists_in (take len buf)) stream_at }
+        ensures windows { WindowsInvariant self.new }
         ensures sound { ServerEndInvariant self.new }
         ensures input { SameInput self.old.endpoint.link self.new.endpoint.link }
         ensures staging { self.new.endpoint.staging ≡ self.old.endpoint.staging }
@@ -200,11 +210,14 @@ impl ServerEnd {
     /// A call that is ready, with its payload if that was read. There is room for it.
     pub(crate) fn push(&mut self, call: Pending, payload: Option<Payload>)
         requires sound { ServerEndInvariantWith 1 self.old }
+        requires windows { WindowsAreRead self.old.calls.items self.old.reads.items }
+        requires read { (call.around ≡ 0) × (is_read (map read_view self.old.reads.items) call.number ≡ true) }
         requires call { InBuffer call }
         requires room { HasRoom self.old.endpoint.outside self.old.sinks.items self.old.reads.items call }
         ensures pushed { (self.new.calls.items ≡ self.old.calls.items ++ call ∷ []) × (self.new.ready.items ≡ self.old.ready.items ++ record { xid = call.xid; payload = payload } ∷ []) }
         ensures same { (self.new.endpoint ≡ self.old.endpoint) × (self.new.credits ≡ self.old.credits) }
         ensures reads { (self.new.reads.items ≡ self.old.reads.items) × (self.new.sinks.items ≡ self.old.sinks.items) }
+        ensures windows { WindowsInvariant self.new }
         ensures sound { ServerEndInvariant self.new }
     {
         self.endpoint.facts();

@@ -10,7 +10,7 @@ ghost use Rattle.nr_reduce.specs.declared.item.Of.TheVariants as of;
 ghost use Rattle.nr_responder.specs.Rooms.{payload_room};
 ghost use Rattle.nr_responder.specs.private.DoneReads.{IsOfCall, IsPlaced, ReadyMade};
 ghost use Rattle.nr_responder.specs.private.ReadsDone.{has_bad_chunk, read_payload, HandlesRead};
-ghost use Rattle.nr_responder.specs.Sound.{state_of, HasWindow, InBuffer, ServerEndInvariant, SameInput};
+ghost use Rattle.nr_responder.specs.Sound.{state_of, HasWindow, InBuffer, ServerEndInvariant, SameInput, OthersAreRead, WindowsInvariant};
 ghost use Rattle.nr_responder.specs.Views.{call_view, read_view};
 
 use crate::call::{OpenSink, Pending, ReadEntry, Ready, inline_item};
@@ -74,6 +74,7 @@ impl ServerEnd {
     /// the link.
     pub(crate) fn complete_in_place(&mut self, at: usize, done: ReadEntry, kept: usize)
         requires sound { ServerEndInvariant self.old }
+        requires windows { OthersAreRead done.number self.old.calls.items self.old.reads.items }
         requires live { self.old.endpoint.link.state.ended ≡ None }
         requires frame { 0 < self.old.endpoint.link.state.place }
         requires at { at < length self.old.calls.items }
@@ -83,6 +84,7 @@ impl ServerEnd {
         requires read { (d : Pending) → is_read (map read_view self.old.reads.items) (get_or self.old.calls.items at d).number ≡ true }
         requires window { (d : Pending) → HasWindow self.old.endpoint.outside self.old.sinks.items (get_or self.old.calls.items at d) }
         ensures handled { HandlesRead (state_of self.old) (read_view done) (map read_view self.old.reads.items) (state_of self.new) }
+        ensures windows { WindowsInvariant self.new }
         ensures sound { ServerEndInvariant self.new }
         ensures input { SameInput self.old.endpoint.link self.new.endpoint.link }
         ensures staging { self.new.endpoint.staging ≡ self.old.endpoint.staging }
@@ -110,6 +112,7 @@ impl ServerEnd {
     /// The call at this place, of which all is read, is ready with the payload that is completed in the buffer of its sink.
     fn ready_in_place(&mut self, at: usize, xid: u32, sink: (Item, usize, usize), kept: usize)
         requires sound { ServerEndInvariant self.old }
+        requires windows { (d : Pending) → OthersAreRead (get_or self.old.calls.items at d).number self.old.calls.items self.old.reads.items }
         requires live { self.old.endpoint.link.state.ended ≡ None }
         requires at { at < length self.old.calls.items }
         requires few { length self.old.ready.items < length self.old.calls.items }
@@ -120,6 +123,7 @@ impl ServerEnd {
         requires xid { (d : Pending) → (get_or self.old.calls.items at d).xid ≡ xid }
         requires whole { (d : Pending) → is_some (read_payload (state_of self.old) (call_view (get_or self.old.calls.items at d))) ≡ true }
         ensures made { (d : Pending) (payload : List ℕ) → read_payload (state_of self.old) (call_view (get_or self.old.calls.items at d)) ≡ Some payload → ReadyMade (state_of self.old) kept xid payload (state_of self.new) }
+        ensures windows { WindowsInvariant self.new }
         ensures sound { ServerEndInvariant self.new }
         ensures input { SameInput self.old.endpoint.link self.new.endpoint.link }
         ensures staging { self.new.endpoint.staging ≡ self.old.endpoint.staging }

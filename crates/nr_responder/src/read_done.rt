@@ -12,7 +12,7 @@ ghost use Rattle.nr_responder.specs.private.Reading.{opening, sink_bytes, with_o
 ghost use Rattle.nr_responder.specs.private.ReadsDone.{has_bad_chunk, reads_without, still_open, HandlesRead, NothingReady};
 ghost use Rattle.nr_responder.specs.private.DoneReads.{IsOfCall, ReadsOn, ReadyMade};
 ghost use Rattle.nr_responder.specs.Rooms.{payload_room};
-ghost use Rattle.nr_responder.specs.Sound.{claims_of, state_of, AreHeldFrom, HasSpace, InBuffer, IsRoom, ServerEndInvariant, SameInput};
+ghost use Rattle.nr_responder.specs.Sound.{claims_of, state_of, AreHeldFrom, HasSpace, InBuffer, IsRoom, ServerEndInvariant, SameInput, OthersAreRead, WindowsAreRead, WindowsInvariant};
 ghost use Rattle.nr_responder.specs.Views.{call_view, read_view, sink_view};
 
 use crate::answering::chunk_error;
@@ -160,6 +160,7 @@ impl ServerEnd {
     /// Opens the reads that may open, and closes the sinks that are over. An `Err` changes nothing: some may open, and memory ran out.
     fn read_on(&mut self, kept: usize) -> Result<(), Memory>
         requires sound { ServerEndInvariant self.old }
+        requires windows { WindowsAreRead self.old.calls.items self.old.reads.items }
         requires live { self.old.endpoint.link.state.ended ≡ None }
         ensures ok { OnOk result (ReadsOn self.old.endpoint.link.state kept self.old self.new) }
         ensures err { OnErr result (state_of self.new ≡ state_of self.old) }
@@ -167,6 +168,7 @@ impl ServerEnd {
         ensures ready { self.new.ready ≡ self.old.ready }
         ensures count { length self.new.calls.items ≡ length self.old.calls.items }
         ensures live { OnErr result (self.new.endpoint.link.state.ended ≡ None) }
+        ensures windows { WindowsInvariant self.new }
         ensures sound { ServerEndInvariant self.new }
         ensures staging { self.new.endpoint.staging ≡ self.old.endpoint.staging }
     {
@@ -183,10 +185,12 @@ impl ServerEnd {
     /// The call of the read that is done waits for more, or was answered or refused before.
     fn go_on(&mut self, done: ReadEntry, kept: usize)
         requires sound { ServerEndInvariant self.old }
+        requires windows { WindowsAreRead self.old.calls.items self.old.reads.items }
         requires live { self.old.endpoint.link.state.ended ≡ None }
         requires kept { kept ≡ still_open (read_view done) (map read_view self.old.reads.items) }
         requires nothing { NothingReady (state_of self.old) (read_view done) (map read_view self.old.reads.items) }
         ensures handled { HandlesRead (state_of self.old) (read_view done) (map read_view self.old.reads.items) (state_of self.new) }
+        ensures windows { WindowsInvariant self.new }
         ensures sound { ServerEndInvariant self.new }
         ensures input { SameInput self.old.endpoint.link self.new.endpoint.link }
         ensures staging { self.new.endpoint.staging ≡ self.old.endpoint.staging }
@@ -202,9 +206,11 @@ impl ServerEnd {
     /// A call is ready with this payload.
     fn make_ready(&mut self, xid: u32, payload: Payload, kept: usize)
         requires sound { ServerEndInvariant self.old }
+        requires windows { WindowsAreRead self.old.calls.items self.old.reads.items }
         requires live { self.old.endpoint.link.state.ended ≡ None }
         requires few { length self.old.ready.items < length self.old.calls.items }
         ensures made { ReadyMade (state_of self.old) kept xid payload (state_of self.new) }
+        ensures windows { WindowsInvariant self.new }
         ensures sound { ServerEndInvariant self.new }
         ensures input { SameInput self.old.endpoint.link self.new.endpoint.link }
         ensures staging { self.new.endpoint.staging ≡ self.old.endpoint.staging }
@@ -222,6 +228,7 @@ impl ServerEnd {
     /// The room of the payload of the call at this place, which is read.
     fn take_room_at(&mut self, at: usize) -> Room
         requires sound { ServerEndInvariant self.old }
+        requires windows { WindowsAreRead self.old.calls.items self.old.reads.items }
         requires at { at < length self.old.calls.items }
         requires read { (d : Pending) → is_read (map read_view self.old.reads.items) (get_or self.old.calls.items at d).number ≡ true }
         requires empty { (d : Pending) → (get_or self.old.calls.items at d).around ≡ 0 }
@@ -233,6 +240,7 @@ impl ServerEnd {
         ensures same { state_of self.new ≡ state_of self.old }
         ensures endpoint { self.new.endpoint ≡ self.old.endpoint }
         ensures ready { self.new.ready ≡ self.old.ready }
+        ensures windows { WindowsAreRead self.new.calls.items self.new.reads.items }
         ensures sound { ServerEndInvariant self.new }
     {
         match take_out_room(&mut self.calls[at]) {
@@ -244,6 +252,7 @@ impl ServerEnd {
     /// The call at this place is complete by the read that is done: it is ready, or ends the link.
     fn complete(&mut self, at: usize, done: ReadEntry, kept: usize)
         requires sound { ServerEndInvariant self.old }
+        requires windows { OthersAreRead done.number self.old.calls.items self.old.reads.items }
         requires live { self.old.endpoint.link.state.ended ≡ None }
         requires frame { 0 < self.old.endpoint.link.state.place }
         requires at { at < length self.old.calls.items }
@@ -253,6 +262,7 @@ impl ServerEnd {
         requires read { (d : Pending) → is_read (map read_view self.old.reads.items) (get_or self.old.calls.items at d).number ≡ true }
         requires space { (d : Pending) → HasSpace self.old.endpoint.outside self.old.sinks.items (get_or self.old.calls.items at d) }
         ensures handled { HandlesRead (state_of self.old) (read_view done) (map read_view self.old.reads.items) (state_of self.new) }
+        ensures windows { WindowsInvariant self.new }
         ensures sound { ServerEndInvariant self.new }
         ensures input { SameInput self.old.endpoint.link self.new.endpoint.link }
         ensures staging { self.new.endpoint.staging ≡ self.old.endpoint.staging }
@@ -267,6 +277,7 @@ impl ServerEnd {
     /// The same, if its payload is put together in a room of its own.
     fn complete_in_room(&mut self, at: usize, done: ReadEntry, kept: usize)
         requires sound { ServerEndInvariant self.old }
+        requires windows { OthersAreRead done.number self.old.calls.items self.old.reads.items }
         requires live { self.old.endpoint.link.state.ended ≡ None }
         requires frame { 0 < self.old.endpoint.link.state.place }
         requires at { at < length self.old.calls.items }
@@ -277,6 +288,7 @@ impl ServerEnd {
         requires empty { (d : Pending) → (get_or self.old.calls.items at d).around ≡ 0 }
         requires room { (d : Pending) → IsRoom (get_or self.old.calls.items at d).room }
         ensures handled { HandlesRead (state_of self.old) (read_view done) (map read_view self.old.reads.items) (state_of self.new) }
+        ensures windows { WindowsInvariant self.new }
         ensures sound { ServerEndInvariant self.new }
         ensures input { SameInput self.old.endpoint.link self.new.endpoint.link }
         ensures staging { self.new.endpoint.staging ≡ self.old.endpoint.staging }
@@ -310,6 +322,7 @@ impl ServerEnd {
     /// The call at this place is refused by ERR_CHUNK (RFC 8166 section 4.5.3), and its reads that wait are dropped.
     fn refuse_read(&mut self, at: usize, done: ReadEntry, kept: usize)
         requires sound { ServerEndInvariant self.old }
+        requires windows { OthersAreRead done.number self.old.calls.items self.old.reads.items }
         requires live { self.old.endpoint.link.state.ended ≡ None }
         requires at { at < length self.old.calls.items }
         requires call { (d : Pending) → IsOfCall (state_of self.old) (read_view done) kept at (call_view (get_or self.old.calls.items at d)) }
@@ -317,6 +330,7 @@ impl ServerEnd {
         requires empty { (d : Pending) → (get_or self.old.calls.items at d).around ≡ 0 }
         requires bad { (d : Pending) → has_bad_chunk (state_of self.old) (call_view (get_or self.old.calls.items at d)) (read_view done) (map read_view self.old.reads.items) ≡ true }
         ensures handled { HandlesRead (state_of self.old) (read_view done) (map read_view self.old.reads.items) (state_of self.new) }
+        ensures windows { WindowsInvariant self.new }
         ensures sound { ServerEndInvariant self.new }
         ensures input { SameInput self.old.endpoint.link self.new.endpoint.link }
         ensures staging { self.new.endpoint.staging ≡ self.old.endpoint.staging }
@@ -349,6 +363,7 @@ impl ServerEnd {
     /// The read that is done is of the call at this place.
     fn read_of_call(&mut self, at: usize, done: ReadEntry, kept: usize)
         requires sound { ServerEndInvariant self.old }
+        requires windows { OthersAreRead done.number self.old.calls.items self.old.reads.items }
         requires live { self.old.endpoint.link.state.ended ≡ None }
         requires frame { 0 < self.old.endpoint.link.state.place }
         requires at { at < length self.old.calls.items }
@@ -356,6 +371,7 @@ impl ServerEnd {
         requires space { (d : Pending) → HasSpace self.old.endpoint.outside self.old.sinks.items (get_or self.old.calls.items at d) }
         requires apart { (d : Pending) → (get_or self.old.calls.items at d).around ≢ 0 → done.position ≢ 0 }
         ensures handled { HandlesRead (state_of self.old) (read_view done) (map read_view self.old.reads.items) (state_of self.new) }
+        ensures windows { WindowsInvariant self.new }
         ensures sound { ServerEndInvariant self.new }
         ensures input { SameInput self.old.endpoint.link self.new.endpoint.link }
         ensures staging { self.new.endpoint.staging ≡ self.old.endpoint.staging }
@@ -377,9 +393,11 @@ impl ServerEnd {
     /// The oldest read is done.
     pub(crate) fn read_done(&mut self)
         requires sound { ServerEndInvariant self.old }
+        requires windows { WindowsAreRead self.old.calls.items self.old.reads.items }
         requires live { self.old.endpoint.link.state.ended ≡ None }
         requires frame { 0 < self.old.endpoint.link.state.place }
         ensures handled { (r : PendingRead) (rest : List PendingRead) → map read_view self.old.reads.items ≡ r ∷ rest → HandlesRead (state_of self.old) r rest (state_of self.new) }
+        ensures windows { WindowsInvariant self.new }
         ensures sound { ServerEndInvariant self.new }
         ensures input { SameInput self.old.endpoint.link self.new.endpoint.link }
         ensures staging { self.new.endpoint.staging ≡ self.old.endpoint.staging }

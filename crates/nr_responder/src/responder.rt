@@ -54,14 +54,15 @@ impl Model for Responder {
 
     ghost coded = { responder_code };
 
-    ghost use Rattle.nr_responder.specs.Sound.{rooms_of, state_of, with_staging, ServerEndInvariant};
+    ghost use Rattle.nr_responder.specs.Sound.{rooms_of, state_of, with_staging, ServerEndInvariant, WindowsInvariant};
     ghost use Rattle.nr_responder.specs.Standing.{RepresentsSome};
     ghost use Rattle.nr_responder.specs.HeldBytes.{IsBounded};
 
     ghost view = { λ r. record { side = state_of r.end; staging = r.end.endpoint.staging; rooms = rooms_of r.end.calls.items r.end.ready.items r.end.endpoint.outside } };
 
-    // It stands for some marks, and what it keeps is within bounds.
-    ghost invariant = { λ r. ServerEndInvariant r.end × (RepresentsSome (state_of r.end) × IsBounded (with_staging r.end)) };
+    // It stands for some marks, and what it keeps is within bounds. Of a call of which nothing is left to be read no bytes are outside of a
+    // region.
+    ghost invariant = { λ r. (ServerEndInvariant r.end × WindowsInvariant r.end) × (RepresentsSome (state_of r.end) × IsBounded (with_staging r.end)) };
 }
 
 impl Responder {

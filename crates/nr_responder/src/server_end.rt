@@ -25,7 +25,7 @@ ghost use Rattle.nr_responder.specs.Answering.{Answers};
 ghost use Rattle.nr_responder.specs.Draining.{Drains};
 ghost use Rattle.nr_responder.specs.private.Handling.{out, IsTaken, ReadsXid};
 ghost use Rattle.nr_responder.specs.ResponderState.{end_of, opened_side, posted_times, may_write, KeepsStaging};
-ghost use Rattle.nr_responder.specs.Sound.{state_of, with_staging, payloads_of, IsNext, ServerEndInvariant};
+ghost use Rattle.nr_responder.specs.Sound.{state_of, with_staging, payloads_of, IsNext, ServerEndInvariant, WindowsAreRead, WindowsInvariant};
 ghost use Rattle.nr_responder.specs.HeldBytes.{KeptFits, sent_reply_max};
 ghost use Rattle.nr_responder.specs.Standing.{RepresentsSome, ResponderRepresents, StaysBounded};
 ghost use Rattle.nr_responder.specs.Steps.{Fed, taken_of};
@@ -160,6 +160,7 @@ impl ServerEnd {
     /// The server end of a link that grants this number of credits.
     pub fn open(alloc: Global, credits: u32) -> Result<ServerEnd, Memory>
         ensures sound { IfOk result ServerEndInvariant }
+        ensures windows { IfOk result WindowsInvariant }
         ensures state { IfOk result (λ r. state_of r ≡ opened_side credits) }
         ensures live { IfOk result (λ r. end_of (state_of r) ≡ None) }
         ensures fed { IfOk result (λ r. fed_bytes r.endpoint.link ≡ 0) }
@@ -186,6 +187,7 @@ impl ServerEnd {
     /// Takes a piece of the client's stream. Once the side has ended it takes no more.
     pub fn feed(&mut self, piece: &[u8]) -> Result<(), End>
         requires sound { ServerEndInvariant self.old }
+        requires windows { WindowsInvariant self.old }
         requires within { fed_bytes self.old.endpoint.link + length piece.now ≤ 2 ^ 62 }
         ensures ended { result_err result ≡ end_of (state_of self.new) }
         ensures goes { Fed (state_of self.old) piece.now (state_of self.new) }
@@ -194,6 +196,7 @@ impl ServerEnd {
         ensures kept { is_some (end_of (state_of self.old)) ≡ true → with_staging self.new ≡ with_staging self.old }
         ensures within { fed_bytes self.new.endpoint.link ≤ fed_bytes self.old.endpoint.link + length piece.now }
         ensures staging { (opened : LinkParameters) (link : ℕ) (run : List Mark) → ResponderRepresents opened link run (state_of self.old) → KeepsStaging (with_staging self.old) (with_staging self.new) piece.now }
+        ensures windows { WindowsInvariant self.new }
         ensures sound { ServerEndInvariant self.new }
         ensures bounded { (opened : LinkParameters) (link : ℕ) (run : List Mark) → ResponderRepresents opened link run (state_of self.old) → KeptFits (state_of self.old) → KeptFits (state_of self.new) }
     {
@@ -214,6 +217,7 @@ impl ServerEnd {
     /// Takes a piece up to the end of the frame that it completes, or all of it. Once the side has ended it takes no more.
     pub fn feed_one(&mut self, piece: &[u8]) -> Result<usize, End>
         requires sound { ServerEndInvariant self.old }
+        requires windows { WindowsInvariant self.old }
         requires within { fed_bytes self.old.endpoint.link + length piece.now ≤ 2 ^ 62 }
         ensures ended { result_err result ≡ end_of (state_of self.new) }
         ensures taken { IfOk result (λ n. n ≡ bytes_taken self.old.endpoint.link.awaited self.old.endpoint.link.rest piece.now) }
@@ -225,6 +229,7 @@ impl ServerEnd {
         ensures kept { is_some (end_of (state_of self.old)) ≡ true → with_staging self.new ≡ with_staging self.old }
         ensures within { fed_bytes self.new.endpoint.link ≤ fed_bytes self.old.endpoint.link + length piece.now }
         ensures staging { (opened : LinkParameters) (link : ℕ) (run : List Mark) → ResponderRepresents opened link run (state_of self.old) → KeepsStaging (with_staging self.old) (with_staging self.new) piece.now }
+        ensures windows { WindowsInvariant self.new }
         ensures sound { ServerEndInvariant self.new }
         ensures bounded { (opened : LinkParameters) (link : ℕ) (run : List Mark) → ResponderRepresents opened link run (state_of self.old) → KeptFits (state_of self.old) → KeptFits (state_of self.new) }
     {
@@ -288,6 +293,7 @@ impl ServerEnd {
     /// Takes a piece up to the end of the frame that it completes, and all of it if the side ends; answers the bytes taken.
     fn step(&mut self, piece: &[u8]) -> usize
         requires sound { ServerEndInvariant self.old }
+        requires windows { WindowsInvariant self.old }
         requires live { self.old.endpoint.link.state.ended ≡ None }
         requires within { fed_bytes self.old.endpoint.link + length piece.now ≤ 2 ^ 62 }
         ensures taken { result ≡ (if is_some self.new.endpoint.link.state.ended then length piece.now else bytes_taken self.old.endpoint.link.awaited self.old.endpoint.link.rest piece.now) }
@@ -297,6 +303,7 @@ impl ServerEnd {
         ensures first { Fed (state_of self.old) (take (bytes_taken self.old.endpoint.link.awaited self.old.endpoint.link.rest piece.now) piece.now) (state_of self.new) }
         ensures staging { self.old.endpoint.link.state.receive_queue.deliveries ≡ [] → KeepsStaging (with_staging self.old) (with_staging self.new) piece.now }
         ensures rest { (self.new.endpoint.link.rest ≡ []) ⊎ (result ≡ length piece.now) }
+        ensures windows { WindowsInvariant self.new }
         ensures sound { ServerEndInvariant self.new }
         ensures within { fed_bytes self.new.endpoint.link ≤ fed_bytes self.old.endpoint.link + result }
         ensures bounded { (opened : LinkParameters) (link : ℕ) (run : List Mark) → ResponderRepresents opened link run (state_of self.old) → KeptFits (state_of self.old) → KeptFits (state_of self.new) }
@@ -318,8 +325,10 @@ impl ServerEnd {
     /// Takes what the link delivered, if anything.
     fn take_event(&mut self)
         requires sound { ServerEndInvariant self.old }
+        requires windows { WindowsAreRead self.old.calls.items self.old.reads.items }
         requires live { self.old.endpoint.link.state.ended ≡ None }
         ensures taken { IsTaken (state_of self.old) (state_of self.new) }
+        ensures windows { WindowsInvariant self.new }
         ensures sound { ServerEndInvariant self.new }
         ensures fed { fed_bytes self.new.endpoint.link ≤ fed_bytes self.old.endpoint.link }
         ensures rest { (self.new.endpoint.link.rest ≡ self.old.endpoint.link.rest) ⊎ (self.new.endpoint.link.rest ≡ []) }
@@ -342,6 +351,8 @@ impl ServerEnd {
     /// Queues the answer to the call at this place, which has this xid and is the first that is ready. An `Err` changes nothing.
     fn answer_at(&mut self, at: usize, xid: u32, reply: &[u8]) -> Result<Sent, Memory>
         requires sound { ServerEndInvariant self.old }
+        requires windows { WindowsAreRead self.old.calls.items self.old.reads.items }
+        requires none { (d : Pending) → (get_or self.old.calls.items at d).around ≡ 0 }
         requires live { self.old.endpoint.link.state.ended ≡ None }
         requires at { at < length self.old.calls.items }
         requires own { (d : Pending) → (get_or self.old.calls.items at d).xid ≡ xid }
@@ -352,13 +363,10 @@ impl ServerEnd {
         ensures err { OnErr result (with_staging self.new ≡ with_staging self.old) }
         ensures fed { fed_bytes self.new.endpoint.link ≡ fed_bytes self.old.endpoint.link }
         ensures staging { self.new.endpoint.staging ≡ self.old.endpoint.staging }
+        ensures windows { WindowsInvariant self.new }
         ensures sound { ServerEndInvariant self.new }
     {
         self.endpoint.facts();
-        // Nothing is left to be read for a call that is ready.
-        if self.calls[at].around != 0 {
-            return Err(Memory);
-        }
         let (stream, target) = ready_payload(&self.ready, &self.calls[at]);
         let sent = queue_answer(
             &mut self.endpoint,
@@ -378,6 +386,7 @@ impl ServerEnd {
     /// Queues the answer to the call with this xid, which is the first that is ready. An `Err` changes nothing.
     pub fn answer(&mut self, xid: u32, reply: &[u8]) -> Result<Sent, Memory>
         requires sound { ServerEndInvariant self.old }
+        requires windows { WindowsInvariant self.old }
         requires live { self.old.endpoint.link.state.ended ≡ None }
         requires next { IsNext (state_of self.old) xid }
         requires stands { RepresentsSome (state_of self.old) }
@@ -389,6 +398,7 @@ impl ServerEnd {
         ensures bounded { StaysBounded (state_of self.old) (state_of self.new) }
         ensures fed { fed_bytes self.new.endpoint.link ≡ fed_bytes self.old.endpoint.link }
         ensures staging { self.new.endpoint.staging ≡ self.old.endpoint.staging }
+        ensures windows { WindowsInvariant self.new }
         ensures sound { ServerEndInvariant self.new }
     {
         match place_of(self.calls.as_slice(), xid) {
@@ -401,11 +411,13 @@ impl ServerEnd {
     /// Hands the output to a sink, in order, and posts the receives of the answers that left.
     pub fn drain_into<K: Sink>(&mut self, sink: &mut K) -> Result<(), DrainFault>
         requires sound { ServerEndInvariant self.old }
+        requires windows { WindowsInvariant self.old }
         ensures taken { (n : ℕ) × (Drains (state_of self.old) (state_of self.new) (K.taken sink.old) (K.taken sink.new) n × OnOk result (n ≡ length (may_write (state_of self.old)))) }
         ensures counted { MatchResult result
             (λ _. K.faults sink.new ≡ K.faults sink.old) (λ e. (e ≡ drains.LinkWrite) × Rises (K.faults sink.old) (K.faults sink.new)) }
         ensures never_falls { K.faults sink.old ≤ K.faults sink.new }
         ensures fed { fed_bytes self.new.endpoint.link ≡ fed_bytes self.old.endpoint.link }
+        ensures windows { WindowsInvariant self.new }
         ensures sound { ServerEndInvariant self.new }
         ensures bounded { KeptFits (state_of self.old) → KeptFits (state_of self.new) }
         ensures staging { self.new.endpoint.staging ≡ self.old.endpoint.staging }

@@ -11,6 +11,7 @@ use Rattle.nr_reduce.specs.declared.mark.Entry.{Entry}
 use Rattle.nr_plain.specs.History.{IsHistory, IsOpenedBy, OnlyOthersAdded, Opening, PassView, setup_in}
 use Rattle.nr_plain.specs.Setup.{Setup}
 use Rattle.nr_plain.specs.Stands.{PlainServerState}
+use Rattle.nr_plain.proofs.OfCalls.{both_of_calls}
 use Rattle.nr_words.specs.declared.settings.Settings.{Settings}
 use Rattle.nr_words.specs.Lines.{Text}
 use Rattle.nr_host.specs.declared.link_end.LinkEnd.{LinkEnd}
@@ -24,7 +25,7 @@ use Rattle.nr_serve.specs.declared.stop.ServeStop.{ServeStop}
 use Rattle.nr_serve.proofs.Journals.{journal_after}
 
 -- the server that a configuration asks for stands behind a turnstile
-pub shares : (settings : Settings Text) (gave gave' : Option (List Moment)) (kept : PlainServerState) (view : PassView) → OpensServer settings gave gave' kept → IsOpenedBy kept view.seen
+pub shares : (settings : Settings Text) (gave gave' : Option (List Moment)) (kept : PlainServerState) (view : PassView) → OpensServer settings gave gave' kept → IsOpenedBy kept view
     → OpensShared settings gave gave' view
 shares settings gave gave' kept view opens (first, is, empty) = record {
   first = first;
@@ -33,7 +34,8 @@ shares settings gave gave' kept view opens (first, is, empty) = record {
     gave = opens.gave;
     setup = ap (λ (k : PlainServerState). record { tree = k.tree; parameters = k.parameters }) is ∙ same opens.stands.tree opens.stands.parameters;
   };
-  empty = record { entries = []; is = empty; journal = refl };
+  empty = record { entries = []; is = ap (λ (v : PassView). v.seen) empty; journal = refl };
+  own = ap (λ (v : PassView). v.mine) empty;
 }
   where
     s : Setup
@@ -61,26 +63,30 @@ serve_fault faults.Memory before mid after same is = is ∙ same
 
 module _ (settings : Settings Text) (before after : AcceptorAt) (spawner spawner' : SpawnerAt) (gave gave' : Option (List Moment)) (view view' : PassView) (opens : OpensShared settings gave gave' view) where
   serves_by : (ends : List LinkEnd) → ServesLinks settings before after spawner spawner' view view' ends → Serves settings before after spawner spawner' gave gave' ends opens.first view'
-  serves_by ends links = record { opened = view; opens = opens.opens; empty = opens.empty; listens = links.listens; serves = links.serves; waited = links.waited }
+  serves_by ends links = record { opened = view; opens = opens.opens; empty = opens.empty; own = opens.own; listens = links.listens; serves = links.serves; waited = links.waited }
 
   -- all links were served, and its own pass had one turn more
   pub serves_all : (last : PassView) → ServesLinksOf settings before after spawner spawner' view view' → OnlyOthersAdded view' last
       → (s : ServesConnections settings before after spawner spawner' gave gave') × IsHistory s.first s.journal last.seen
   serves_all last links turn =
       let links_are = links.serves.serves in
-      let (J, saw) = journal_after settings.credits settings.records opens.first [] (host.between before.ended before.lost spawner.started view) (host.between after.ended after.lost spawner'.started view') links_are.links links_are.all opens.empty in
-      let found = turn opens.first J saw in (
+      let (J, (knew, calls)) = journal_after settings.credits settings.records opens.first [] (host.between before.ended before.lost spawner.started view) (host.between after.ended after.lost spawner'.started view') links_are.links links_are.all opens.empty tt in
+      let found = turn opens.first J knew in (
         record {
           first = opens.first;
           ends = links.ends;
           view = view';
           last = last;
+          known = J;
           journal = J ++ found.others;
           serves = serves_by links.ends links.serves;
           all = links.all;
           back = links.back;
+          knew = knew;
           turn = turn;
           saw = found.seen;
+          begins = (found.others, refl);
+          of_calls = both_of_calls (setup_in opens.first) [] J found.others calls found.of_calls;
           unfailing = links.unfailing;
         },
         found.seen,
@@ -88,7 +94,7 @@ module _ (settings : Settings Text) (before after : AcceptorAt) (spawner spawner
 
   pub serves_fewer : (stop : ServeStop) → LinksStopped stop settings before after spawner spawner' view view' → StoppedServing stop settings before after spawner spawner' gave gave'
   serves_fewer stop (inl (same, none), fault) = (inl (same, (none, (opens.opens.moment, opens.opens.gave))), fault)
-  serves_fewer stop (inr (ends, (less, links)), fault) = (inr (ends, (less, (opens.first, (view', serves_by ends links)))), fault)
+  serves_fewer stop (inr (ends, (less, (back, links))), fault) = (inr (ends, (less, (back, (opens.first, (view', serves_by ends links))))), fault)
 
 -- what was printed of them
 pub printed : {A : Type 0} (settings : Settings Text) (out out' : SinkAt) (before after : AcceptorAt) (spawner spawner' : SpawnerAt) (gave gave' : Option (List Moment)) (r : Result A ServeStop)

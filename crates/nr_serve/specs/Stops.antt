@@ -1,5 +1,5 @@
 -- Why a server wasn't opened, or stopped early, and what was done until then.
-use Rattle.std.specs.Prelude.{◌≡◌, ℕ, ◌+◌, ◌<◌, ◌≤◌, ◌⊎◌, List, [], length, Option, IfSome, None, Some}
+use Rattle.std.specs.Prelude.{◌≡◌, ℕ, ◌+◌, ◌<◌, ◌≤◌, ◌⊎◌, List, [], ◌∷◌, length, Option, IfSome, None, Some}
 use Rattle.nr_outside.specs.Faults.{Rises}
 use Rattle.nr_outside.specs.Streams.{SourceAt, SinkAt, ReadsAll, ReadsWithin, ReadsBeyond, Writes, WritesSome}
 use Rattle.nr_outside.specs.declared.moment.Moment.{Moment}
@@ -44,14 +44,15 @@ StoppedReading stops.Output input input' = ⊥
 abbrev pub GivesOne : Option (List Moment) → Option (List Moment) → Type 0
 GivesOne gave gave' = (moment : Moment) × Gives gave gave' moment
 
--- Fewer links were taken than the configuration asks for; or the acceptor did not listen, no job was given to the spawner, and the clock gave the
--- moment of the root alone.
+-- Fewer links were taken than the configuration asks for, and the spawner's fault count rose if one of them was served
+-- here; or the acceptor did not listen, no job was given to the spawner, and the clock gave the moment of the root alone.
 abbrev pub ServesFewer : Settings Text → (before after : AcceptorAt) → (spawner spawner' : SpawnerAt) → (gave gave' : Option (List Moment)) → Type 0
 ServesFewer settings before after spawner spawner' gave gave' =
     (((after.asked ≡ before.asked) × ((after.ended ≡ before.ended) × (after.lost ≡ before.lost))) × ((spawner' ≡ spawner) × GivesOne gave gave'))
     ⊎ ((ends : List LinkEnd)
     × ((spawner'.started + length ends < spawner.started + settings.connections)
-    × ((first : Opening) × ((view : PassView) × Serves settings before after spawner spawner' gave gave' ends first view))))
+    × (host.BackCount ends spawner.faults spawner'.faults
+    × ((first : Opening) × ((view : PassView) × Serves settings before after spawner spawner' gave gave' ends first view)))))
 
 -- memory ran out, or the acceptor's count rose
 abbrev pub IsServeFault : ServeStop → (before after : ℕ) → Type 0
@@ -119,6 +120,7 @@ pub record OpensShared (settings : Settings Text) (before after : Option (List M
   pub first : Opening
   pub opens : Opens settings before after first
   pub empty : IsHistory first [] view.seen
+  pub own : view.mine ≡ 0 ∷ []
 
 -- links were taken, at the address and with the credits of the configuration, by a pass that knew and knows this
 pub record ServesLinks (settings : Settings Text) (before after : AcceptorAt) (spawner spawner' : SpawnerAt) (view view' : PassView) (ends : List LinkEnd) : Type 0 where
@@ -138,7 +140,8 @@ abbrev pub LinksStopped : ServeStop → Settings Text → (before after : Accept
 LinksStopped stop settings before after spawner spawner' view view' =
     ((((after.asked ≡ before.asked) × ((after.ended ≡ before.ended) × (after.lost ≡ before.lost))) × (spawner' ≡ spawner))
     ⊎ ((ends : List LinkEnd)
-    × ((spawner'.started + length ends < spawner.started + settings.connections) × ServesLinks settings before after spawner spawner' view view' ends)))
+    × ((spawner'.started + length ends < spawner.started + settings.connections)
+    × (host.BackCount ends spawner.faults spawner'.faults × ServesLinks settings before after spawner spawner' view view' ends))))
     × IsServeFault stop before.faults after.faults
 
 -- the ranges of a configuration

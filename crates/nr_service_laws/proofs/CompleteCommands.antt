@@ -1,5 +1,5 @@
 -- A command over a plain server that keeps its law is done, or ends for a cause that it has.
-use Rattle.std.proofs.Common.{◌≡◌, ℕ, true, false, List, length, Result, Ok, Err, refl, sym, ap, ◌∙◌}
+use Rattle.std.proofs.Common.{◌≡◌, ℕ, true, false, List, length, Result, Ok, Err, inl, inr, refl, sym, ap, subst, ◌∙◌}
 use Rattle.nr_outside.specs.Faults.{Rises}
 use Rattle.nr_outside.specs.Streams.{SinkAt, SourceAt}
 use Rattle.nr_link.specs.declared.end.End.{End}
@@ -12,12 +12,16 @@ use Rattle.nr_plain.specs.Setup.{Setup}
 use Rattle.nr_plain.proofs.PlainServers.{server_is_plain}
 use Rattle.std.specs.List.{AllByRecursion}
 use Rattle.nr_reduce.specs.Asked.{AskedSoFar}
+use Rattle.nr_reduce.specs.declared.call.Outcome.{Outcome}
 use Rattle.nr_reduce.specs.declared.mark.LinkParameters.{LinkParameters}
 use Rattle.nr_reduce.specs.declared.mark.Mark.{Mark}
 use Rattle.nr_client.specs.declared.call_end.CallEnd.TheVariants as calls
 use Rattle.nr_client.specs.declared.client_end.ClientEnd.{ClientEnd}
 use Rattle.nr_client.specs.declared.client_end.ClientEnd.TheVariants as client
+use Rattle.nr_words.specs.Lines.{Text}
+use Rattle.nr_words.specs.declared.commands.Action.{Action}
 use Rattle.nr_client.specs.Dialing.{DialerAt, OpenFails}
+use Rattle.nr_client.specs.Listing.{readdir_result}
 use Rattle.nr_commands.specs.Running.Runs.{NotOpened, Opened}
 use Rattle.nr_commands.specs.Sessions.{CountsFaults, SessionAt}
 use Rattle.nr_reply_laws.specs.Replies.{AnyValue, HasResults, IsHandle, ListsOn}
@@ -27,8 +31,8 @@ use Rattle.nr_service_laws.specs.Exchanges.{tells_text}
 use Rattle.nr_service_laws.specs.ClientMarks.{IsOwn}
 use Rattle.nr_service_laws.specs.ServedLinks.{IsServedBy}
 use Rattle.nr_service_laws.proofs.EndCauses.{served_end_for_memory_lem}
-use Rattle.nr_service_laws.proofs.Judged.{Any, GoesOn, Judgement, ResultIs}
-use Rattle.nr_service_laws.proofs.JudgedCommands.{opened_is}
+use Rattle.nr_service_laws.proofs.Judged.{Any, IsReadEnd, Judgement, ReaddirEnds, ResultIs}
+use Rattle.nr_service_laws.proofs.JudgedCommands.{WordsGive, opened_is}
 use Rattle.nr_service_laws.proofs.JudgedParts.{GivenIs}
 use Rattle.nr_service_laws.proofs.NotClosed.{served_not_closed_lem}
 use Rattle.nr_service_laws.proofs.ServedAnswers.{IsPlainSide, IsServedReply, exchanges_judged}
@@ -65,8 +69,12 @@ module _ (I O : Type 0) where
   from_results P V (Err (client.Budget count)) so has = absurd has
   from_results P V (Err client.Memory) so has = absurd has
 
-  goes_on : (listing : ReaddirOk) → ListsOn listing → GoesOn (OwnEnd I O) listing
-  goes_on listing on at stuck = absurd (let wrong : true ≡ false = sym stuck ∙ on in cc)
+  -- a READDIR that ends a list is refused, or the list is too long
+  readdir_ends_it : (o : Outcome) (end : ClientEnd) → HasResults ListsOn (readdir_result o) → ReaddirEnds o end → IsReadEnd (OwnEnd I O) end
+  readdir_ends_it o end has (inl is) = from_results {A = ReaddirOk} ListsOn Any (Err end) (λ v on. tt) (subst (λ (r : Result ReaddirOk ClientEnd). HasResults ListsOn r) is has)
+  readdir_ends_it o end has (inr (listing, (is, inl (stuck, same)))) =
+      absurd (let on = subst (λ (r : Result ReaddirOk ClientEnd). HasResults ListsOn r) is has in let wrong : true ≡ false = sym stuck ∙ on in cc)
+  readdir_ends_it o end has (inr (listing, (is, inr same))) = subst (λ (e : ClientEnd). IsReadEnd (OwnEnd I O) e) (sym same) tt
 
   judged_plainly : (setup : Setup) (uid gid : ℕ) → IsSane setup.tree → Judgement (IsServedReply setup) IsHandle (OwnEnd I O) uid gid
   judged_plainly setup uid gid sane = record {
@@ -82,11 +90,12 @@ module _ (I O : Type 0) where
         from_results AnyValue Any _ (λ v is. tt) (read_lem setup uid gid file offset count o holds some few (record { uid_fits = r.cred.1.1.0; gid_fits = r.cred.1.1.1.0 }) r.replied);
     written = λ file offset bytes o holds some few r.
         from_results AnyValue Any _ (λ v is. tt) (write_lem setup uid gid file offset bytes o holds some few (record { uid_fits = r.cred.1.1.0; gid_fits = r.cred.1.1.1.0 }) r.replied);
-    listed = λ dir cookie verifier o r.
-        from_results ListsOn (GoesOn (OwnEnd I O)) _ goes_on (readdir_lem setup uid gid dir cookie verifier o sane (record { uid_fits = r.cred.1.1.0; gid_fits = r.cred.1.1.1.0 }) r.replied);
-    bad_path = λ at. tt;
-    over_budget = λ count. tt;
+    listed = λ dir cookie verifier earlier o end before makes r ends how.
+        readdir_ends_it o end (readdir_lem setup uid gid dir cookie verifier o sane (record { uid_fits = r.cred.1.1.0; gid_fits = r.cred.1.1.1.0 }) r.replied) how;
   }
+
+  any_words : (export : List ℕ) (action : Action Text) (input : SourceAt) → WordsGive (OwnEnd I O) export action input
+  any_words export action input = record { export_long = λ long. tt; path_bad = λ at bad. tt; target_long = λ path target is long. tt; input_long = λ path is long. tt }
 
 -- ---- The end of a command
 
@@ -153,7 +162,8 @@ served_commands_have_causes_lem setup opened link c before after input input' ou
     let plain = plain_side setup opened link ran.run both ran.own ran.asked served in
     let server = by_server setup opened link ran.run both sane served in
     has_cause result s s' input input' out out'
-    (opened_is (IsServedReply setup) IsHandle (OwnEnd I O) c before dialed s s' input input' out out' result opens prints opened link (judged_plainly I O setup c.uid c.gid sane) (λ rose. rose) (λ rose. rose)
+    (opened_is (IsServedReply setup) IsHandle (OwnEnd I O) c before dialed s s' input input' out out' result opens prints opened link (judged_plainly I O setup c.uid c.gid sane)
+    (any_words I O c.export c.action input) (λ rose. rose) (λ rose. rose)
     session.fine session.first_xid session.first_stag session.wished (exchanges_judged setup opened link ran.run both made sane plain ran.marks_are))
     (served_commands_end_lem opened link c before after input input' out out' result (Opened dialed s s' opens prints closes) ran
     (λ entries moment payload. plain_reply setup entries (length entries) moment payload) entries_of_call both

@@ -11,7 +11,7 @@ use Rattle.nr_client.specs.declared.client_end.ClientEnd.TheVariants as client
 use Rattle.nr_client.specs.Transfers.{LinkBytes}
 use Rattle.nr_commands.specs.Running.Runs.{NotOpened, Opened}
 use Rattle.nr_service_laws.specs.EndCauses.{CauseAt, EndsHaveCauses, ServedCommandsEndForMemory}
-use Rattle.nr_service_laws.specs.Exchanges.{outcomes_in, tells_text}
+use Rattle.nr_service_laws.specs.Exchanges.{tells_text}
 use Rattle.nr_service_laws.proofs.AnyOutcomes.{PeerEnd, given_by_peer}
 use Rattle.nr_service_laws.proofs.Judged.{Any}
 use Rattle.nr_service_laws.proofs.JudgedParts.{GivenIs}
@@ -25,7 +25,7 @@ cause_of F result b h end same is = subst (λ (r : Result (Unit {0}) ClientEnd).
 pub ends_have_causes_lem : EndsHaveCauses
 ends_have_causes_lem c before after input input' out out' result (NotOpened end is fails same_input same_out) = tt
 ends_have_causes_lem c before after input input' out out' result (Opened dialed s s' opens prints closes) = λ end is.
-    cause_of (PeerEnd (outcomes_in (tells_text c.uid c.gid c.export c.action input input' out prints.written s s' prints.text prints.made).made) (Rises input.faults input'.faults) (Rises out.faults out'.faults)) result
+    cause_of (PeerEnd c input (tells_text c.uid c.gid c.export c.action input input' out prints.written s s' prints.text prints.made).made (Rises input.faults input'.faults) (Rises out.faults out'.faults)) result
     s'.bytes s'.requester end is (given_by_peer c before dialed s s' input input' out out' result opens prints)
 
 -- ---- On a link that stays open

@@ -1,6 +1,6 @@
 -- What each request makes of outcomes that are judged call by call.
-use Rattle.std.proofs.Common.{◌≡◌, ℕ, ◌%◌, ◌<◌, ◌≤◌, Bool, true, false, cond, List, [], ◌∷◌, ◌++◌, length, map, take, drop, fold, Result, Ok, Err, refl, sym, ap, subst, arith, ltb-true, mod-lt, length-take, length-drop}
-use Rattle.std.specs.Prelude.{nat_lt, ltb}
+use Rattle.std.proofs.Common.{◌≡◌, ℕ, ◌%◌, ◌<◌, ◌≤◌, Bool, true, false, cond, List, [], ◌∷◌, ◌++◌, length, map, take, drop, fold, Result, Ok, Err, inl, inr, refl, sym, ap, subst, ◌∙◌, arith, append-nil, append_assoc, ltb-true, mod-lt, length-take, length-drop}
+use Rattle.std.specs.Prelude.{◌⊎◌, nat_lt, ltb}
 use Rattle.nr_outside.specs.Whole.{input_max}
 use Rattle.nr_nfs_base.specs.Limits.{transfer_max}
 use Rattle.nr_nfs_base.specs.declared.attributes.Attributes.{Attributes}
@@ -14,7 +14,7 @@ use Rattle.nr_client.specs.declared.client_end.ClientEnd.{ClientEnd}
 use Rattle.nr_client.specs.declared.client_end.ClientEnd.TheVariants as client
 use Rattle.nr_client.specs.Following.{Next, go_on}
 use Rattle.nr_client.specs.Following.Next.{Calls, Returns}
-use Rattle.nr_client.specs.Listing.{entries_max, eof_offset, is_stuck, list_from, list_next, listed_after, listed_or, listed_with, no_progress, none_listed, readdir_call, readdir_result}
+use Rattle.nr_client.specs.Listing.{entries_max, eof_offset, is_stuck, list_from, list_next, listed_after, listed_or, no_progress, none_listed, readdir_call, readdir_result}
 use Rattle.nr_client.specs.Paths.{component_max, components_of, names_in, path_names, with_name}
 use Rattle.nr_client.specs.Reading.{FileRead, after_reply, next_read, piece_left, read_call, read_result, reading, with_data, with_size}
 use Rattle.nr_client.specs.Reading.FileRead.{NothingKnown, ReadEnds, SizeKnown}
@@ -22,6 +22,8 @@ use Rattle.nr_client.specs.Requests.{create_result, getattr_call, getattr_result
 use Rattle.nr_client.specs.Walking.{object_result, parent_along, parent_from, parent_next, walk_from, walk_next}
 use Rattle.nr_client.specs.Writing.{FileWrite, after_write_reply, create_call, created_file, next_write, piece_at, with_count, with_handle, write_call, write_end, write_result, writing}
 use Rattle.nr_client.specs.Writing.FileWrite.{Created, NotCreated, WriteEnds}
+use Rattle.nr_service_laws.specs.PeerEnds.{LacksName}
+use Rattle.nr_service_laws.specs.ReplyEnds.{AreAnswers}
 
 -- ---- Results
 
@@ -44,9 +46,11 @@ pub either_is : {A : Type 0} (V : A → Type 0) (F : ClientEnd → Type 0) (b : 
 either_is V F true x y f g = f
 either_is V F false x y f g = g
 
--- a reply that lists nothing and is not the end may be an end
-abbrev pub GoesOn : (ClientEnd → Type 0) → ReaddirOk → Type 0
-GoesOn F listing = (at : ℕ) → is_stuck listing ≡ true → F (client.BadReply at no_progress)
+-- how the outcome of a READDIR ends a list: it is no results; or these list nothing, and are not the end; or too much is listed
+abbrev pub ReaddirEnds : Outcome → ClientEnd → Type 0
+ReaddirEnds o end =
+    (readdir_result o ≡ Err end)
+    ⊎ ((listing : ReaddirOk) × ((readdir_result o ≡ Ok listing) × (((is_stuck listing ≡ true) × (end ≡ client.BadReply (eof_offset o) no_progress)) ⊎ (end ≡ client.Budget entries_max))))
 
 -- R judges the outcome of a call, V the file handles, F the ends. Each result of a call whose outcome is judged so has such a value or such an end.
 pub record Judgement (R : Call → Outcome → Type 0) (V : List ℕ → Type 0) (F : ClientEnd → Type 0) (uid gid : ℕ) : Type 0 where
@@ -61,16 +65,27 @@ pub record Judgement (R : Call → Outcome → Type 0) (V : List ℕ → Type 0)
   pub read : (file : List ℕ) (offset count : ℕ) (o : Outcome) → V file → 0 < count → count ≤ transfer_max → R (read_call uid gid file offset count) o → ResultIs Any F (read_result count o)
   pub written : (file : List ℕ) (offset : ℕ) (bytes : List ℕ) (o : Outcome) → V file → 0 < length bytes → length bytes ≤ transfer_max → R (write_call uid gid file offset bytes) o
       → ResultIs Any F (write_result (length bytes) o)
-  pub listed : (dir : List ℕ) (cookie : ℕ) (verifier : Verifier) (o : Outcome) → R (readdir_call uid gid dir cookie verifier) o → ResultIs (GoesOn F) F (readdir_result o)
-  pub bad_path : (at : ℕ) → F (client.BadPath at)
-  pub over_budget : (count : ℕ) → F (client.Budget count)
+  pub listed : (dir : List ℕ) (cookie : ℕ) (verifier : Verifier) (earlier : List Outcome) (o : Outcome) (end : ClientEnd) → AreAnswers R (list_next uid gid dir) earlier
+      → list_next uid gid dir earlier ≡ Calls (readdir_call uid gid dir cookie verifier) → R (readdir_call uid gid dir cookie verifier) o
+      → list_next uid gid dir (earlier ++ o ∷ []) ≡ Returns (Err end) → ReaddirEnds o end → IsReadEnd F end
+
+-- ---- What is listed
+
+ends_with : (o : Outcome) (end : ClientEnd) (so_far : _) (r : Result ReaddirOk ClientEnd) → readdir_result o ≡ r → listed_or so_far (eof_offset o) r ≡ Err end → ReaddirEnds o end
+ends_with o end so_far (Err e) is same = inl (is ∙ (let first : e ≡ end = cc in ap (λ (x : ClientEnd). Err x) first))
+ends_with o end so_far (Ok listing) is same =
+    inr (listing, (is, by (ltb entries_max (length (so_far.names ++ map (λ (entry : Entry). entry.name) listing.entries))) (is_stuck listing) refl _ same))
+  where
+    by : {A : Type 0} (long stuck : Bool) → is_stuck listing ≡ stuck → (x : A) → ◌≡◌ {A = Result A ClientEnd} (cond long (Err (client.Budget entries_max)) (cond stuck (Err (client.BadReply (eof_offset o) no_progress)) (Ok x))) (Err end)
+        → ((is_stuck listing ≡ true) × (end ≡ client.BadReply (eof_offset o) no_progress)) ⊎ (end ≡ client.Budget entries_max)
+    by true stuck stuck_is x same = (let e : client.Budget entries_max ≡ end = cc in inr (sym e))
+    by false true stuck_is x same = (let e : client.BadReply (eof_offset o) no_progress ≡ end = cc in inl (stuck_is, sym e))
+    by false false stuck_is x same = absurd (let wrong = same in cc)
+
+pub readdir_ends : (so_far : _) (o : Outcome) (end : ClientEnd) → listed_after so_far o ≡ Err end → ReaddirEnds o end
+readdir_ends so_far o end same = ends_with o end so_far (readdir_result o) refl same
 
 -- ---- Several calls
-
--- each of these outcomes is judged as one of the call that the request makes then
-abbrev pub AreAnswers : (Call → Outcome → Type 0) → {A : Type 0} → (List Outcome → Next A) → List Outcome → Type 0
-AreAnswers R request [] = Unit {0}
-AreAnswers R request (o ∷ later) = ((call : Call) × ((request [] ≡ Calls call) × R call o)) × AreAnswers R (λ os. request (o ∷ os)) later
 
 abbrev pub NextIs : {A : Type 0} → (A → Type 0) → (ClientEnd → Type 0) → Next A → Type 0
 NextIs V F (Calls call) = Unit {0}
@@ -100,6 +115,32 @@ pub answers_more : (R : Call → Outcome → Type 0) {A : Type 0} (request : Lis
 answers_more R request [] call o are is judged = ((call, (is, judged)), tt)
 answers_more R request (first ∷ outcomes) call o (one, are) is judged = (one, answers_more R (λ os. request (first ∷ os)) outcomes call o are is judged)
 
+-- ---- The components of a path
+
+-- a path gives names, or it is bad
+names_end : (components : List (ℕ × List ℕ)) (end : ClientEnd) → names_in components ≡ Err end → (at : ℕ) × (end ≡ client.BadPath at)
+names_end [] end is = absurd (let wrong = is in cc)
+names_end (component ∷ rest) end is = by (ltb component_max (length component.1)) (names_in rest) is (λ e same. names_end rest e same)
+  where
+    by : (b : Bool) (r : Result (List (List ℕ)) ClientEnd) → cond b (Err (client.BadPath component.0)) (with_name component.1 r) ≡ Err end
+        → ((e : ClientEnd) → r ≡ Err e → (at : ℕ) × (e ≡ client.BadPath at)) → (at : ℕ) × (end ≡ client.BadPath at)
+    by true r same more = (let e : client.BadPath component.0 ≡ end = cc in (component.0, sym e))
+    by false (Ok names) same more = absurd (let wrong = same in cc)
+    by false (Err e) same more = (let is : e ≡ end = cc in subst (λ (x : ClientEnd). (at : ℕ) × (x ≡ client.BadPath at)) is (more e refl))
+
+path_is : (F : ClientEnd → Type 0) (path : List ℕ) → ((at : ℕ) → path_names path ≡ Err (client.BadPath at) → F (client.BadPath at)) → ResultIs (λ (names : List (List ℕ)). path_names path ≡ Ok names) F (path_names path)
+path_is F path bad = by (path_names path) refl
+  where
+    by : (r : Result (List (List ℕ)) ClientEnd) → path_names path ≡ r → ResultIs (λ (names : List (List ℕ)). path_names path ≡ Ok names) F r
+    by (Ok names) is = is
+    by (Err end) is =
+        let found = names_end (components_of path) end is in
+        subst (λ (e : ClientEnd). IsReadEnd F e) (sym found.1) (bad found.0 (is ∙ ap (λ (e : ClientEnd). Err e) found.1))
+
+-- the same of a path that needs a name
+abbrev pub BadParent : (ClientEnd → Type 0) → List ℕ → Type 0
+BadParent F path = (at : ℕ) → LacksName path at → F (client.BadPath at)
+
 module _ (R : Call → Outcome → Type 0) (V : List ℕ → Type 0) (F : ClientEnd → Type 0) (uid gid : ℕ) (judge : Judgement R V F uid gid) where
   -- ---- Paths
 
@@ -119,29 +160,20 @@ module _ (R : Call → Outcome → Type 0) (V : List ℕ → Type 0) (F : Client
       (judge.found dir name o (at_call {A = List ℕ × List ℕ} R (lookup_call uid gid dir name) o one)) are
       (λ object is rest. parent_from_is object next names is later rest)
 
-  parent_along_is : (dir : List ℕ) (at : ℕ) (names : List (List ℕ)) → V dir → RequestIs R (λ (p : List ℕ × List ℕ). V p.0) F (parent_along uid gid dir at names)
-  parent_along_is dir at [] holds outcomes are = judge.bad_path at
-  parent_along_is dir at (name ∷ names) holds outcomes are = parent_from_is dir name names holds outcomes are
+  parent_along_is : (dir : List ℕ) (at : ℕ) (names : List (List ℕ)) → V dir → (names ≡ [] → F (client.BadPath at)) → RequestIs R (λ (p : List ℕ × List ℕ). V p.0) F (parent_along uid gid dir at names)
+  parent_along_is dir at [] holds none outcomes are = none refl
+  parent_along_is dir at (name ∷ names) holds none outcomes are = parent_from_is dir name names holds outcomes are
 
-  name_is : (name : List ℕ) (r : Result (List (List ℕ)) ClientEnd) → ResultIs Any F r → ResultIs Any F (with_name name r)
-  name_is name (Ok names) is = tt
-  name_is name (Err end) is = is
-
-  names_are : (components : List (ℕ × List ℕ)) → ResultIs Any F (names_in components)
-  names_are [] = tt
-  names_are (component ∷ rest) =
-      either_is Any F (ltb component_max (length component.1)) (Err (client.BadPath component.0)) (with_name component.1 (names_in rest))
-      (judge.bad_path component.0) (name_is component.1 (names_in rest) (names_are rest))
-
-  pub walk_is : (root path : List ℕ) → V root → RequestIs R V F (walk_next uid gid root path)
-  walk_is root path holds outcomes are =
-      go_on_is R Any V F (path_names path) (λ names. walk_from uid gid root names) outcomes (names_are (components_of path)) are
+  pub walk_is : (root path : List ℕ) → V root → ((at : ℕ) → path_names path ≡ Err (client.BadPath at) → F (client.BadPath at)) → RequestIs R V F (walk_next uid gid root path)
+  walk_is root path holds bad outcomes are =
+      go_on_is R (λ (names : List (List ℕ)). path_names path ≡ Ok names) V F (path_names path) (λ names. walk_from uid gid root names) outcomes (path_is F path bad) are
       (λ names is rest. walk_from_is root names holds outcomes rest)
 
-  pub parent_is : (root path : List ℕ) → V root → RequestIs R (λ (p : List ℕ × List ℕ). V p.0) F (parent_next uid gid root path)
-  parent_is root path holds outcomes are =
-      go_on_is R Any (λ (p : List ℕ × List ℕ). V p.0) F (path_names path) (λ names. parent_along uid gid root (length path) names) outcomes (names_are (components_of path)) are
-      (λ names is rest. parent_along_is root (length path) names holds outcomes rest)
+  pub parent_is : (root path : List ℕ) → V root → BadParent F path → RequestIs R (λ (p : List ℕ × List ℕ). V p.0) F (parent_next uid gid root path)
+  parent_is root path holds bad outcomes are =
+      go_on_is R (λ (names : List (List ℕ)). path_names path ≡ Ok names) (λ (p : List ℕ × List ℕ). V p.0) F (path_names path) (λ names. parent_along uid gid root (length path) names) outcomes
+      (path_is F path (λ at is. bad at (inl is))) are
+      (λ names is rest. parent_along_is root (length path) names holds (λ none. bad (length path) (inr (is ∙ ap (λ (n : List (List ℕ)). Ok n) none, refl))) outcomes rest)
 
   -- ---- A list
 
@@ -161,30 +193,33 @@ module _ (R : Call → Outcome → Type 0) (V : List ℕ → Type 0) (F : Client
   if_returned {A} false call result o made = at_call {A = A} R call o made
   if_returned true call result o (x, (is, judged)) = no_return _ result x is
 
-  stuck_is : {A : Type 0} (W : A → Type 0) (b : Bool) (at : ℕ) (x : Result A ClientEnd) → (b ≡ true → F (client.BadReply at no_progress)) → ResultIs W F x
-      → ResultIs W F (cond b (Err (client.BadReply at no_progress)) x)
-  stuck_is W true at x stuck is = stuck refl
-  stuck_is W false at x stuck is = is
+  -- the call that is made, if one is
+  is_call : {A : Type 0} (b : Bool) (result : Result A ClientEnd) (call x : Call) → ◌≡◌ {A = Next A} (cond b (Returns result) (Calls call)) (Calls x) → call ≡ x
+  is_call {A} true result call x is = no_return _ result x is
+  is_call {A} false result call x is = ap (call_in {A = A} call) is
 
-  listed_with_is : (so_far : _) (listing : ReaddirOk) (at : ℕ) → GoesOn F listing → ResultIs Any F (listed_with so_far listing at)
-  listed_with_is so_far listing at goes =
-      either_is Any F (ltb entries_max (length (so_far.names ++ map (λ (entry : Entry). entry.name) listing.entries))) _ _ (judge.over_budget entries_max)
-      (stuck_is Any (is_stuck listing) at _ (goes at) tt)
+  list_from_is : (dir : List ℕ) (earlier : List Outcome) (so_far : _) → AreAnswers R (list_next uid gid dir) earlier
+      → ((os : List Outcome) → list_next uid gid dir (earlier ++ os) ≡ list_from uid gid dir so_far os) → RequestIs R Any F (list_from uid gid dir so_far)
+  list_from_is dir earlier so_far answers same [] are = either_next Any so_far.eof (Returns (Ok so_far.names)) (Calls (readdir_call uid gid dir so_far.cookie so_far.verifier)) tt tt
+  list_from_is dir earlier so_far answers same (o ∷ later) ((x, (is, judged)), are) =
+      go_on_is R (λ more. listed_after so_far o ≡ Ok more) Any F (listed_after so_far o) (λ more. list_from uid gid dir more) later (by (listed_after so_far o) refl) are
+      (λ more goes rest. list_from_is dir (earlier ++ o ∷ []) more (answers_more R (list_next uid gid dir) earlier x o answers at_call judged)
+      (λ os. ap (list_next uid gid dir) (append_assoc earlier (o ∷ []) os) ∙ same (o ∷ os) ∙ ap (λ r. go_on r (λ m. list_from uid gid dir m os)) goes) later rest)
+    where
+      at_call : list_next uid gid dir earlier ≡ Calls x
+      at_call = sym (ap (list_next uid gid dir) (append-nil earlier)) ∙ same [] ∙ is
 
-  listed_or_is : (so_far : _) (at : ℕ) (r : Result ReaddirOk ClientEnd) → ResultIs (GoesOn F) F r → ResultIs Any F (listed_or so_far at r)
-  listed_or_is so_far at (Ok listing) goes = listed_with_is so_far listing at goes
-  listed_or_is so_far at (Err end) is = is
+      made : readdir_call uid gid dir so_far.cookie so_far.verifier ≡ x
+      made = is_call {A = List (List ℕ)} so_far.eof (Ok so_far.names) (readdir_call uid gid dir so_far.cookie so_far.verifier) x is
 
-  list_from_is : (dir : List ℕ) (so_far : _) → RequestIs R Any F (list_from uid gid dir so_far)
-  list_from_is dir so_far [] are = either_next Any so_far.eof (Returns (Ok so_far.names)) (Calls (readdir_call uid gid dir so_far.cookie so_far.verifier)) tt tt
-  list_from_is dir so_far (o ∷ later) (one, are) =
-      go_on_is R Any Any F (listed_after so_far o) (λ more. list_from uid gid dir more) later
-      (listed_or_is so_far (eof_offset o) (readdir_result o)
-      (judge.listed dir so_far.cookie so_far.verifier o (if_returned {A = List (List ℕ)} so_far.eof (readdir_call uid gid dir so_far.cookie so_far.verifier) (Ok so_far.names) o one))) are
-      (λ more is rest. list_from_is dir more later rest)
+      by : (r : _) → listed_after so_far o ≡ r → ResultIs (λ more. listed_after so_far o ≡ Ok more) F r
+      by (Ok more) goes = goes
+      by (Err end) ends =
+          judge.listed dir so_far.cookie so_far.verifier earlier o end answers (subst (λ (c : Call). list_next uid gid dir earlier ≡ Calls c) (sym made) at_call) (subst (λ (c : Call). R c o) (sym made) judged)
+          (same (o ∷ []) ∙ ap (λ r. go_on r (λ m. list_from uid gid dir m [])) ends) (readdir_ends so_far o end ends)
 
   pub list_is : (dir : List ℕ) → RequestIs R Any F (list_next uid gid dir)
-  list_is dir = list_from_is dir none_listed
+  list_is dir = list_from_is dir [] none_listed tt (λ os. refl)
 
   -- ---- A file that is read
 
@@ -254,17 +289,22 @@ module _ (R : Call → Outcome → Type 0) (V : List ℕ → Type 0) (F : Client
       with_count_is file at (write_result (length (piece_at input at)) o) is (judge.written file at (piece_at input at) o is fits.0 fits.1 made.0)
   one_write_is dir name input (WriteEnds end) o is (call, (same, judged)) = no_return _ (Err end) call same
 
-  next_write_is : (dir name input : List ℕ) (state : FileWrite) → WriteIs state → NextIs Any F (next_write uid gid dir name input state)
-  next_write_is dir name input NotCreated is = tt
-  next_write_is dir name input (Created file at) is =
+  within_is : (input : List ℕ) (b : Bool) → (b ≡ true → F (client.Budget input_max)) → ResultIs {A = Unit {0}} Any F (cond b (Err (client.Budget input_max)) (Ok tt))
+  within_is input true over = over refl
+  within_is input false over = tt
+
+  next_write_is : (dir name input : List ℕ) (state : FileWrite) → (input_max < length input → F (client.Budget input_max)) → WriteIs state → NextIs Any F (next_write uid gid dir name input state)
+  next_write_is dir name input NotCreated over is = tt
+  next_write_is dir name input (Created file at) over is =
       either_next Any (nat_lt at (length (take input_max input))) (Calls (write_call uid gid file at (piece_at input at))) (Returns (write_end input)) tt
-      (either_is Any F (nat_lt input_max (length input)) (Err (client.Budget input_max)) (Ok tt) (judge.over_budget input_max) tt)
-  next_write_is dir name input (WriteEnds end) is = is
+      (within_is input (nat_lt input_max (length input)) (λ long. over (ltb-true input_max (length input) long)))
+  next_write_is dir name input (WriteEnds end) over is = is
 
-  writing_from_is : (dir name input : List ℕ) (state : FileWrite) → WriteIs state → RequestIs R Any F (λ os. next_write uid gid dir name input (fold (after_write_reply input) state os))
-  writing_from_is dir name input state is [] are = next_write_is dir name input state is
-  writing_from_is dir name input state is (o ∷ later) (one, are) =
-      writing_from_is dir name input (after_write_reply input state o) (one_write_is dir name input state o is one) later are
+  writing_from_is : (dir name input : List ℕ) (state : FileWrite) → (input_max < length input → F (client.Budget input_max)) → WriteIs state
+      → RequestIs R Any F (λ os. next_write uid gid dir name input (fold (after_write_reply input) state os))
+  writing_from_is dir name input state over is [] are = next_write_is dir name input state over is
+  writing_from_is dir name input state over is (o ∷ later) (one, are) =
+      writing_from_is dir name input (after_write_reply input state o) over (one_write_is dir name input state o is one) later are
 
-  pub writing_is : (dir name input : List ℕ) → RequestIs R Any F (writing uid gid dir name input)
-  writing_is dir name input = writing_from_is dir name input NotCreated tt
+  pub writing_is : (dir name input : List ℕ) → (input_max < length input → F (client.Budget input_max)) → RequestIs R Any F (writing uid gid dir name input)
+  writing_is dir name input over = writing_from_is dir name input NotCreated over tt

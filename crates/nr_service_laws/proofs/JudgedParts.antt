@@ -1,24 +1,31 @@
 -- The ends of parts of a command whose outcomes are judged call by call, each with its cause if a call has no answer.
-use Rattle.std.proofs.Common.{◌≡◌, ◌<◌, ℕ, arith, Bool, true, false, List, [], ◌∷◌, ◌++◌, length, Option, Result, Ok, Err, inl, inr, refl, sym, ap, subst, ◌∙◌}
-use Rattle.std.specs.Prelude.{◌⊎◌, MatchBool, nat_lt}
+use Rattle.std.proofs.Common.{◌≡◌, ◌<◌, ℕ, arith, Bool, true, false, List, [], ◌∷◌, ◌++◌, length, ltb-true, Option, None, Some, Result, Ok, Err, inl, inr, refl, sym, ap, subst, ◌∙◌}
+use Rattle.std.specs.Prelude.{◌⊎◌, IfSome, MatchBool, nat_lt}
+use Rattle.std.specs.Io.KnownBytes.{Consumes}
 use Rattle.std.proofs.lemmas.List.{length-append, nil_from_length}
 use Rattle.nr_wire.specs.declared.hello.Side.TheVariants.{Initiator}
 use Rattle.nr_outside.specs.Faults.{Rises}
 use Rattle.nr_outside.specs.Streams.{SinkAt, SourceAt}
 use Rattle.nr_nfs_base.specs.Limits.{link_target_max}
+use Rattle.nr_outside.specs.Whole.{input_max}
 use Rattle.nr_words.specs.Limits.{mount_path_max}
 use Rattle.nr_link.specs.declared.end.End.TheVariants as ends
 use Rattle.nr_reduce.specs.declared.call.Call.{Call}
+use Rattle.nr_reduce.specs.declared.call.Form.TheVariants as forms
 use Rattle.nr_reduce.specs.declared.call.Outcome.{Outcome}
 use Rattle.nr_reduce.specs.declared.mark.LinkParameters.{LinkParameters}
 use Rattle.nr_reduce.specs.declared.mark.Mark.{Mark}
 use Rattle.nr_reduce.specs.declared.mark.Mark.TheVariants as marks
+use Rattle.nr_reduce.specs.ClientState.{ClientState}
 use Rattle.nr_reduce.specs.Credits.{calls_outstanding}
+use Rattle.nr_reduce.specs.EndRules.{EndState}
 use Rattle.nr_reduce.specs.History.{bytes_sent}
 use Rattle.nr_reduce.specs.Opening.{IsOpened}
 use Rattle.nr_reduce.specs.Run.{output_due}
+use Rattle.nr_reduce.specs.SubmitAnswer.{submit_answer}
 use Rattle.nr_requester.specs.RequesterState.{RequesterSide, queue_of}
-use Rattle.nr_requester.proofs.Accepting.{counts_as_client}
+use Rattle.nr_requester.specs.Answers.{answer_of}
+use Rattle.nr_requester.proofs.Accepting.{answers_as_client, counts_as_client}
 use Rattle.nr_client.specs.declared.call_end.CallEnd.{CallEnd}
 use Rattle.nr_client.specs.declared.call_end.CallEnd.TheVariants as calls
 use Rattle.nr_client.specs.declared.client_end.ClientEnd.{ClientEnd}
@@ -27,6 +34,7 @@ use Rattle.nr_client.specs.Calls.{ForgetsCalls}
 use Rattle.nr_client.specs.Ending.{IsCause, LinkCause}
 use Rattle.nr_client.specs.Following.{EndsWith, Follows, MakesCalls, Next, Unanswered}
 use Rattle.nr_client.specs.Following.Next.{Calls, Returns}
+use Rattle.nr_client.specs.Paths.{path_names}
 use Rattle.nr_client.specs.Reading.{EndsReading, InputFaults, OutputFaults, LeadsBy, OpenRead, ReadStep, ReadingAt, ReadsFile, reading, starts_at, xids_of}
 use Rattle.nr_client.specs.Reading.ReadStep.{MakesAlone, AsksAhead, TakesOldest}
 use Rattle.nr_client.specs.Reading.EndsReading.{EndsByReplies, OutputFails, NotAnswered, NotSubmitted, OldestForgotten}
@@ -42,9 +50,10 @@ use Rattle.nr_commands.specs.Commands.{Finds, FindsParent, IsSilent, Mounts, Rea
 use Rattle.nr_commands.specs.Sessions.{Fails, Part, Request, Requests, SessionAt, Text as Prints, Then}
 use Rattle.nr_service_laws.specs.ClientMarks.{StandsAt}
 use Rattle.nr_service_laws.specs.EndCauses.{CauseAt}
+use Rattle.nr_service_laws.specs.ReplyEnds.{AreAnswers}
 use Rattle.nr_service_laws.specs.Exchanges.{Exchange, Exchanges, Tells, asked_exchanges, followed_exchanges, made_exchanges, read_exchanges, step_exchanges, steps_exchanges, tells_finds, tells_finds_parent, tells_mounts, tells_none, tells_reads_out, tells_request, tells_requests, tells_symlinks, tells_then, tells_writes_in, within_exchanges, write_exchanges_by}
 use Rattle.nr_service_laws.specs.Exchanges.Exchange.{Answered, Forgotten, GivenUp, HandedOver, Submitted}
-use Rattle.nr_service_laws.proofs.Judged.{Any, AreAnswers, Judgement, NextIs, RequestIs, ResultIs, IsReadEnd, answers_more, parent_is, reading_is, walk_is, writing_is}
+use Rattle.nr_service_laws.proofs.Judged.{Any, BadParent, Judgement, NextIs, RequestIs, ResultIs, IsReadEnd, answers_more, parent_is, reading_is, walk_is, writing_is}
 use Rattle.nr_service_laws.proofs.Files.{does_reading_end, does_steps}
 use Rattle.nr_service_laws.proofs.OneCall.{client_still, written_still}
 use Rattle.nr_service_laws.proofs.Parts.{Has, has_mounts}
@@ -140,8 +149,8 @@ link_cause_at (calls.Ended end) b h cause = inr cause
 link_cause_at calls.LinkRead b h cause = cause
 link_cause_at calls.LinkWrite b h cause = tt
 link_cause_at calls.Closed b h cause = cause
-link_cause_at (calls.Spent left_over need) b h cause = tt
-link_cause_at (calls.TooLarge need room) b h cause = tt
+link_cause_at (calls.Spent left_over need) b h cause = absurd cause
+link_cause_at (calls.TooLarge need room) b h cause = absurd cause
 link_cause_at (calls.Budget count) b h cause = cause
 link_cause_at calls.Memory b h cause = tt
 
@@ -150,8 +159,8 @@ cause_at (calls.Ended end) b h call cause = inr cause
 cause_at calls.LinkRead b h call cause = cause
 cause_at calls.LinkWrite b h call cause = tt
 cause_at calls.Closed b h call cause = cause
-cause_at (calls.Spent left_over need) b h call cause = tt
-cause_at (calls.TooLarge need room) b h call cause = tt
+cause_at (calls.Spent left_over need) b h call cause = (call, cause)
+cause_at (calls.TooLarge need room) b h call cause = (call, cause)
 cause_at (calls.Budget count) b h call cause = cause
 cause_at calls.Memory b h call cause = tt
 
@@ -222,17 +231,31 @@ keeps_written opened link run h i (xid ∷ xids) live (j, (forgets, rest)) none 
     (none_left (bytes_sent link Initiator more) (queue_of j.state) (output_due opened link Initiator more) next.stands.keeps.kept.output
     (written_still opened link xid run (written_now opened link run h none live)))
 
+-- and it refuses the same calls
+keeps_answers : (opened : LinkParameters) (link : ℕ) (run : List Mark) (h i : RequesterSide) (xids : List ℕ) (call : Call) → IsLive opened link h run → ForgetsCalls xids h i
+    → answer_of i.state call forms.Auto ≡ answer_of h.state call forms.Auto
+keeps_answers opened link run h i [] call live same = ap (λ (x : RequesterSide). answer_of x.state call forms.Auto) same
+keeps_answers opened link run h i (xid ∷ xids) call live (j, (forgets, rest)) =
+    let next = forgets.0 opened link run live in
+    let more = run ++ marks.Forget link xid ∷ [] in
+    keeps_answers opened link more j i xids call next rest
+    ∙ answers_as_client opened link j more call forms.Auto next.stands
+    ∙ ap (λ (e : EndState ClientState). submit_answer opened e call forms.Auto) (client_still opened link xid run)
+    ∙ sym (answers_as_client opened link h run call forms.Auto live.stands)
+
 -- so a cause stays
 record KeepsCause (h i : RequesterSide) : Type 0 where
   ended : i.state.side.ended ≡ h.state.side.ended
   waiting : length i.state.outstanding ≡ length h.state.outstanding
   written : queue_of h.state ≡ [] → queue_of i.state ≡ []
+  answers : (call : Call) → answer_of i.state call forms.Auto ≡ answer_of h.state call forms.Auto
 
 keeps_cause : (opened : LinkParameters) (link : ℕ) (run : List Mark) (h i : RequesterSide) (xids : List ℕ) → IsLive opened link h run → ForgetsCalls xids h i → KeepsCause h i
 keeps_cause opened link run h i xids live forgets = record {
   ended = keeps_ended opened link run h i xids live forgets;
   waiting = keeps_waiting opened link run h i xids live forgets;
   written = keeps_written opened link run h i xids live forgets;
+  answers = λ call. keeps_answers opened link run h i xids call live forgets;
 }
 
 cause_kept : (end : CallEnd) (b : LinkBytes) (h i : RequesterSide) → KeepsCause h i → CauseAt end b h → CauseAt end b i
@@ -241,8 +264,8 @@ cause_kept (calls.Ended end) b h i same (inr is) = inr (same.ended ∙ is)
 cause_kept calls.LinkRead b h i same (is, rest) = (same.ended ∙ is, rest)
 cause_kept calls.LinkWrite b h i same cause = tt
 cause_kept calls.Closed b h i same (is, (at_end, (few, (some, none)))) = (same.ended ∙ is, (at_end, (few, (subst (λ (k : ℕ). 0 < k) (sym same.waiting) some, same.written none))))
-cause_kept (calls.Spent left_over need) b h i same cause = tt
-cause_kept (calls.TooLarge need room) b h i same cause = tt
+cause_kept (calls.Spent left_over need) b h i same (call, is) = (call, same.answers call ∙ is)
+cause_kept (calls.TooLarge need room) b h i same (call, is) = (call, same.answers call ∙ is)
 cause_kept (calls.Budget count) b h i same (is, rest) = (same.ended ∙ is, rest)
 cause_kept calls.Memory b h i same cause = tt
 
@@ -391,39 +414,40 @@ then_is {A} R V W F first next exchanges later has judge goes_on s s' result (in
 then_is {A} {B} R V W F first next exchanges later has judge goes_on s s' result (inr (end, (is, same))) before opened link run fine live are =
     subst (λ (r : Result B ClientEnd). GivenIs W F r s'.bytes s'.requester) (sym same) (judge s s' (Err end) is before opened link run fine live are)
 
-within_is : (above : Bool) (Above Within Is : Type 0) (exchanges : Within → Exchanges) (J : List Exchange → Type 0) → (Above → Is) → ((is : Within) → J (exchanges is).made → Is)
+within_is : (above : Bool) (Above Within Is : Type 0) (exchanges : Within → Exchanges) (J : List Exchange → Type 0) → (above ≡ true → Above → Is) → ((is : Within) → J (exchanges is).made → Is)
     → (is : MatchBool above Above Within) → J (within_exchanges above Above Within exchanges is).made → Is
-within_is true Above Within Is exchanges J beyond within is are = beyond is
+within_is true Above Within Is exchanges J beyond within is are = beyond refl is
 within_is false Above Within Is exchanges J beyond within is are = within is are
 
 module _ (R : Call → Outcome → Type 0) (V : List ℕ → Type 0) (F : ClientEnd → Type 0) (uid gid : ℕ) (judge : Judgement R V F uid gid) where
-  fails_is : {A : Type 0} (W : A → Type 0) (count : ℕ) (s s' : SessionAt) (result : Result A ClientEnd) → Fails (client.Budget count) s s' result → GivenIs W F result s'.bytes s'.requester
-  fails_is {A} W count s s' result (same, is) = subst (λ (r : Result A ClientEnd). GivenIs W F r s'.bytes s'.requester) (sym is) (judge.over_budget count)
+  fails_is : {A : Type 0} (W : A → Type 0) (count : ℕ) (s s' : SessionAt) (result : Result A ClientEnd) → F (client.Budget count) → Fails (client.Budget count) s s' result → GivenIs W F result s'.bytes s'.requester
+  fails_is {A} W count s s' result over (same, is) = subst (λ (r : Result A ClientEnd). GivenIs W F r s'.bytes s'.requester) (sym is) over
 
-  pub mounts_is : (export : List ℕ) → PartIs R V F (Mounts uid gid export) (tells_mounts uid gid export)
-  mounts_is export s s' result is before opened link run fine live are =
+  pub mounts_is : (export : List ℕ) → (mount_path_max < length export → F (client.Budget mount_path_max)) → PartIs R V F (Mounts uid gid export) (tells_mounts uid gid export)
+  mounts_is export over s s' result is before opened link run fine live are =
       within_is (nat_lt mount_path_max (length export)) (Fails (client.Budget mount_path_max) s s' result) (Request mnt_result (mnt_call uid gid export) s s' result)
       (GivenIs V F result s'.bytes s'.requester) (tells_request mnt_result (mnt_call uid gid export) s s' result) (AreJudged R before)
-      (fails_is V mount_path_max s s' result)
+      (λ above. fails_is V mount_path_max s s' result (over (ltb-true mount_path_max (length export) above)))
       (λ made judged. request_is R V F mnt_result (mnt_call uid gid export) (judge.mounted export) s s' result made before opened link run fine live judged) is are
 
-  pub symlinks_is : (dir name target : List ℕ) → PartIs R Any F (Symlinks uid gid dir name target) (tells_symlinks uid gid dir name target)
-  symlinks_is dir name target s s' result is before opened link run fine live are =
+  pub symlinks_is : (dir name target : List ℕ) → (link_target_max < length target → F (client.Budget link_target_max)) → PartIs R Any F (Symlinks uid gid dir name target) (tells_symlinks uid gid dir name target)
+  symlinks_is dir name target over s s' result is before opened link run fine live are =
       within_is (nat_lt link_target_max (length target)) (Fails (client.Budget link_target_max) s s' result) (Request create_result (symlink_call uid gid dir name target) s s' result)
       (GivenIs Any F result s'.bytes s'.requester) (tells_request create_result (symlink_call uid gid dir name target) s s' result) (AreJudged R before)
-      (fails_is Any link_target_max s s' result)
+      (λ above. fails_is Any link_target_max s s' result (over (ltb-true link_target_max (length target) above)))
       (λ made judged. request_is R Any F create_result (symlink_call uid gid dir name target) (judge.link_made dir name target) s s' result made before opened link run fine live judged) is are
 
-  pub finds_is : (export path : List ℕ) → PartIs R V F (Finds uid gid export path) (tells_finds uid gid export path)
-  finds_is export path =
+  pub finds_is : (export path : List ℕ) → (mount_path_max < length export → F (client.Budget mount_path_max)) → ((at : ℕ) → path_names path ≡ Err (client.BadPath at) → F (client.BadPath at))
+      → PartIs R V F (Finds uid gid export path) (tells_finds uid gid export path)
+  finds_is export path over bad =
       then_is R V V F (Mounts uid gid export) (λ root. Requests (walk_next uid gid root path)) (tells_mounts uid gid export) (λ root. tells_requests (walk_next uid gid root path))
-      (has_mounts uid gid export) (mounts_is export) (λ root holds. requests_is R V F (walk_next uid gid root path) (walk_is R V F uid gid judge root path holds))
+      (has_mounts uid gid export) (mounts_is export over) (λ root holds. requests_is R V F (walk_next uid gid root path) (walk_is R V F uid gid judge root path holds bad))
 
-  pub finds_parent_is : (export path : List ℕ) → PartIs R (λ (p : List ℕ × List ℕ). V p.0) F (FindsParent uid gid export path) (tells_finds_parent uid gid export path)
-  finds_parent_is export path =
+  pub finds_parent_is : (export path : List ℕ) → (mount_path_max < length export → F (client.Budget mount_path_max)) → BadParent F path → PartIs R (λ (p : List ℕ × List ℕ). V p.0) F (FindsParent uid gid export path) (tells_finds_parent uid gid export path)
+  finds_parent_is export path over bad =
       then_is R V (λ (p : List ℕ × List ℕ). V p.0) F (Mounts uid gid export) (λ root. Requests (parent_next uid gid root path)) (tells_mounts uid gid export) (λ root. tells_requests (parent_next uid gid root path))
-      (has_mounts uid gid export) (mounts_is export)
-      (λ root holds. requests_is R (λ (p : List ℕ × List ℕ). V p.0) F (parent_next uid gid root path) (parent_is R V F uid gid judge root path holds))
+      (has_mounts uid gid export) (mounts_is export over)
+      (λ root holds. requests_is R (λ (p : List ℕ × List ℕ). V p.0) F (parent_next uid gid root path) (parent_is R V F uid gid judge root path holds bad))
 
   -- parts that have no text
   silent_is : (s' : SessionAt) (done : Result (Unit {0}) ClientEnd) (text : Result (List ℕ) ClientEnd) → IsSilent done text → GivenIs Any F done s'.bytes s'.requester → GivenIs Any F text s'.bytes s'.requester
@@ -445,11 +469,19 @@ module _ (R : Call → Outcome → Type 0) (V : List ℕ → Type 0) (F : Client
       (reading_is R V F uid gid judge file holds) fine live are)
 
   writes_is : (dir name handed rest : List ℕ) (b c : LinkBytes) (h i : RequesterSide) (result : Result (Unit {0}) ClientEnd) (w : EndsWriting uid gid dir name handed rest b c h i result)
-      (before : List OpenRead) → (result ≡ Err client.InputFault → F client.InputFault) → AreJudged R before (write_exchanges_by uid gid dir name handed rest b c h i result w).made → GivenIs Any F result c i
-  writes_is dir name handed rest b c h i result (FollowsInput follows count ahead) before fault are =
-      follows_is R Any F (writing uid gid dir name (handed ++ rest)) b c h i result follows before (writing_is R V F uid gid judge dir name (handed ++ rest)) are
-  writes_is dir name handed rest b c h i result (InputFails outcomes is made ahead) before fault are = subst (λ (r : Result (Unit {0}) ClientEnd). GivenIs Any F r c i) (sym is) (fault is)
+      (before : List OpenRead) → (input_max < length (handed ++ rest) → F (client.Budget input_max)) → (result ≡ Err client.InputFault → F client.InputFault) → AreJudged R before (write_exchanges_by uid gid dir name handed rest b c h i result w).made → GivenIs Any F result c i
+  writes_is dir name handed rest b c h i result (FollowsInput follows count ahead) before over fault are =
+      follows_is R Any F (writing uid gid dir name (handed ++ rest)) b c h i result follows before (writing_is R V F uid gid judge dir name (handed ++ rest) over) are
+  writes_is dir name handed rest b c h i result (InputFails outcomes is made ahead) before over fault are = subst (λ (r : Result (Unit {0}) ClientEnd). GivenIs Any F r c i) (sym is) (fault is)
 
-  pub writes_in_is : (dir name : List ℕ) (input input' : SourceAt) → (Rises input.faults input'.faults → F client.InputFault) → PartIs R Any F (WritesIn uid gid dir name input input') (tells_writes_in uid gid dir name input input')
-  writes_in_is dir name input input' fault s s' text (done, ((writes, counts), silent)) before opened link run fine live are =
-      silent_is s' done text silent (writes_is dir name writes.handed writes.rest s.bytes s'.bytes s.requester s'.requester done writes.calls before (λ is. fault (input_rose done input.faults input'.faults counts.0 is)) are)
+  -- an input that was read is its bytes
+  whole_input : (handed rest : List ℕ) (left left' : Option (List ℕ)) → Consumes left left' handed → IfSome left' (λ known. rest ≡ known) → input_max < length (handed ++ rest) → IfSome left (λ known. input_max < length known)
+  whole_input handed rest None left' takes is long = tt
+  whole_input handed rest (Some left) None takes is long = absurd takes
+  whole_input handed rest (Some left) (Some known) takes is long =
+      subst (λ (bytes : List ℕ). input_max < length bytes) (ap (λ (r : List ℕ). handed ++ r) is ∙ sym takes) long
+
+  pub writes_in_is : (dir name : List ℕ) (input input' : SourceAt) → (IfSome input.left (λ known. input_max < length known) → F (client.Budget input_max)) → (Rises input.faults input'.faults → F client.InputFault) → PartIs R Any F (WritesIn uid gid dir name input input') (tells_writes_in uid gid dir name input input')
+  writes_in_is dir name input input' over fault s s' text (done, ((writes, counts), silent)) before opened link run fine live are =
+      silent_is s' done text silent (writes_is dir name writes.handed writes.rest s.bytes s'.bytes s.requester s'.requester done writes.calls before
+      (λ long. over (whole_input writes.handed writes.rest input.left input'.left writes.hands_out.from_left writes.is_rest long)) (λ is. fault (input_rose done input.faults input'.faults counts.0 is)) are)

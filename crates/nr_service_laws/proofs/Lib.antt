@@ -23,3 +23,4 @@ pub mod PeerEnds
 pub mod NotClosed
 pub mod ServedAnswers
 pub mod CompleteCommands
+pub mod TypedCommands

@@ -159,6 +159,6 @@ replies_exclude_ends_lem c before after input input' out out' result (Opened dia
     let made = (tells_text c.uid c.gid c.export c.action input input' out prints.written s s' prints.text prints.made).made in
     let fine = printed_fine (outcomes_in made) prints.text result prints.written out' s s' prints.prints (command_text c.uid c.gid c.export c.action input input' out prints.written s s' prints.text prints.made) in (
       fine.0,
-      not_dial (PeerEnd (outcomes_in made) (Rises input.faults input'.faults) (Rises out.faults out'.faults)) result s'.bytes s'.requester (given_by_peer c before dialed s s' input input' out out' result opens prints),
+      not_dial (PeerEnd c input made (Rises input.faults input'.faults) (Rises out.faults out'.faults)) result s'.bytes s'.requester (given_by_peer c before dialed s s' input input' out out' result opens prints),
       fine.1,
     )

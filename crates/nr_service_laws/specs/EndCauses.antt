@@ -6,10 +6,16 @@ use Rattle.nr_outside.specs.declared.moment.Moment.{Moment}
 use Rattle.nr_link.specs.declared.end.End.{End}
 use Rattle.nr_link.specs.declared.end.End.TheVariants as ends
 use Rattle.nr_links.specs.Limits.{read_max}
+use Rattle.nr_reduce.specs.declared.call.Call.{Call}
+use Rattle.nr_reduce.specs.declared.call.Form.TheVariants as forms
+use Rattle.nr_reduce.specs.declared.call.Refused.{Refused}
+use Rattle.nr_reduce.specs.declared.call.Refused.TheVariants as refusals
+use Rattle.nr_reduce.specs.declared.call.Submission.TheVariants as submissions
 use Rattle.nr_reduce.specs.declared.mark.Entry.{Entry}
 use Rattle.nr_reduce.specs.declared.mark.LinkParameters.{LinkParameters}
 use Rattle.nr_reduce.specs.declared.mark.Mark.{Mark}
 use Rattle.nr_reduce.specs.Opening.{IsOpened}
+use Rattle.nr_requester.specs.Answers.{answer_of}
 use Rattle.nr_requester.specs.RequesterState.{RequesterSide, queue_of}
 use Rattle.nr_words.specs.Lines.{Text}
 use Rattle.nr_words.specs.declared.commands.Client.{Client}
@@ -25,14 +31,18 @@ use Rattle.nr_service_laws.specs.CommandRuns.{IsCommandRun}
 use Rattle.nr_service_laws.specs.Exchanges.{tells_text}
 use Rattle.nr_service_laws.specs.ServedLinks.{IsServedBy}
 
+-- there is a call to which the requester answers this
+abbrev pub RefusesOne : RequesterSide → Refused → Type 0
+RefusesOne h why = (call : Call) × (answer_of h.state call forms.Auto ≡ submissions.Refused why)
+
 -- The cause of an end, by what is known of the link's bytes and by its requester. A requester of which memory ran out may be in any state.
 abbrev pub CauseAt : CallEnd → LinkBytes → RequesterSide → Type 0
 CauseAt (calls.Ended end) b h = (end ≡ ends.Memory) ⊎ (h.state.side.ended ≡ Some end)
 CauseAt calls.LinkRead b h = (h.state.side.ended ≡ None) × (b.read < read_max)
 CauseAt calls.LinkWrite b h = ⊤
 CauseAt calls.Closed b h = (h.state.side.ended ≡ None) × (IsAtEnd b.left × ((b.read < read_max) × ((0 < length h.state.outstanding) × (queue_of h.state ≡ []))))
-CauseAt (calls.Spent left_over need) b h = ⊤
-CauseAt (calls.TooLarge need room) b h = ⊤
+CauseAt (calls.Spent left_over need) b h = RefusesOne h (refusals.Spent left_over need)
+CauseAt (calls.TooLarge need room) b h = RefusesOne h (refusals.TooLarge need room)
 CauseAt (calls.Budget count) b h = (h.state.side.ended ≡ None) × ((count ≡ read_max) × (b.read ≡ read_max))
 CauseAt calls.Memory b h = ⊤
 

@@ -6,5 +6,7 @@ pub mod CommandEnds
 pub mod ServedCommands
 pub mod ServedLinks
 pub mod EndCauses
+pub mod ReplyEnds
 pub mod PeerEnds
 pub mod CompleteCommands
+pub mod TypedCommands

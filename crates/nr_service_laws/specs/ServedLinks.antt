@@ -44,7 +44,7 @@ pub record IsServedBy (reply_to : List Entry → Moment → List ℕ → Option 
   pub limits : KeepsReplyLimits (server_with reply_to adds)
   pub plain : HasPlainReplies (server_with reply_to adds) link both
 
--- The server wrote all that it owes and executed each complete call, and all that either side wrote arrived.
+-- The server wrote all that it owes. Each side received all that the other sent, and the server executed each complete call (`NothingInTransit`).
 pub record OwesNothing (opened : LinkParameters) (link : ℕ) (both : List Mark) : Type 0 where
   pub written : HasWritten opened link Responder both
   pub nothing_waits : NothingInTransit opened link both
@@ -81,8 +81,8 @@ SaysServed Says opened link c before after input input' out out' result (Opened 
     (reply_to : List Entry → Moment → List ℕ → Option (List ℕ)) (adds : Moment → List ℕ → List ℕ → List Entry) (both : List Mark) →
     IsOpened opened → IsServedBy reply_to adds opened link ran.run both → Says opened link both s'.requester
 
--- Both sides keep their laws so far, and the link is matched. If no write of the client failed, they keep their laws with each Wrote in full, and the
--- client the last grant.
+-- Both sides keep their laws so far, and the link is matched. Unless the command ends for a write of its link that failed, they keep their laws with
+-- each Wrote in full, and the client the last grant.
 abbrev pub ServedCommandsKeepLaws : Type 0
 ServedCommandsKeepLaws =
     (opened : LinkParameters) (link : ℕ) (c : Client Text) (before after : DialerAt) (input input' : SourceAt) (out out' : SinkAt) (result : Result (Unit {0}) ClientEnd)

@@ -7,6 +7,7 @@ ghost use Rattle.nr_service_laws.specs.EndCauses.{EndsHaveCauses, ServedCommands
 ghost use Rattle.nr_service_laws.specs.PeerEnds.{EndsSay};
 ghost use Rattle.nr_service_laws.specs.ServedCommands.{ServedClientsHaveReplies, ServedCommandsExcludeEnds};
 ghost use Rattle.nr_service_laws.specs.ServedLinks.{ServedClientsStayOpen, ServedCommandsAreNotClosed, ServedCommandsHaveNotEnded, ServedCommandsKeepLaws, ServedCommandsStayOpen};
+ghost use Rattle.nr_service_laws.specs.TypedCommands.{CommandsAreTyped, SidesAreTyped};
 ghost use Rattle.nr_service_laws.specs.SessionMarks.{AsksHaveMarks, FollowsHaveMarks, FollowsOutcomes, MarksGoOn, ReadsHaveMarks, ReadsInOrder, SessionsBegin, WritesHaveMarks};
 
 /// A session that was opened stands for the empty list of marks, whatever its server is opened with.
@@ -60,7 +61,8 @@ pub fn served_commands_stay_open()
 
 /// A command over a matched link whose plain server keeps its law with each Wrote in full: `laws` gives that the client keeps its own so far, and with
 /// each Wrote in full unless a write failed. So its requester has not ended when the link is hung up, unless memory ran out for a frame or a write failed
-/// (`open`). If the server wrote all that it owes, and all that was written arrived, the command doesn't end with `Closed` (`not_closed`).
+/// (`open`). If the server owes nothing (`OwesNothing`: it wrote all its output and executed each complete call, and all that either side wrote
+/// arrived), the command doesn't end with `Closed` (`not_closed`).
 pub fn commands_keep_the_law()
     ensures laws { ServedCommandsKeepLaws }
     ensures open { ServedCommandsHaveNotEnded }
@@ -69,7 +71,9 @@ pub fn commands_keep_the_law()
 
 /// A command that opened a session, and ends since a call has no answer, has the cause of that end when its link is hung up, whatever its server
 /// replies: at `Closed` no known byte of the source is left, a call is outstanding, all output is written, and the requester hasn't ended; at `Ended` it
-/// has ended for this reason, or memory ran out (`causes`). At each other end a reply or an error message was handed over, or a fault count rose (`says`).
+/// has ended for this reason, or memory ran out; at `Spent` and `TooLarge` it refuses a call for that (`causes`). Each other end has its cause too
+/// (`says`): a call was answered with an outcome that is read as this end, and whose bytes say so; a path of the command is bad; a limit of the command
+/// was passed; or a fault count rose.
 pub fn ends_have_causes()
     ensures causes { EndsHaveCauses }
     ensures says { EndsSay }
@@ -82,9 +86,16 @@ pub fn served_commands_end_for_memory()
 
 /// A command over a link of which `served_commands_end_for_memory` speaks, whose calls a plain server answers that was opened with a sane tree, is
 /// done or ends for a cause: `causes` gives that of each end. So if no fault count rises, it is done, or ends for a refusal of the server, a bad path, a
-/// limit or out of memory, or its server ended its stream; and not for the last if the server wrote all that it owes, and all that was written arrived
-/// (`complete`).
+/// limit or out of memory, or its server ended its stream; and not for the last if the server owes nothing (`complete`).
 pub fn served_commands_complete()
     ensures causes { ServedCommandsHaveCauses }
     ensures complete { ServedCommandsComplete }
+{}
+
+/// The marks of a command are of their types (`IsTyped` of nr_laws) if the bytes that its link's source had left are known and are bytes, and each call
+/// that it submitted is of bytes (`IsByteCall`): its calls are those of its words and of the outcomes, by `commands_have_a_run` (`commands`). A run of
+/// both sides is of its types if the marks of the client are, and the others (`sides`).
+pub fn commands_are_typed()
+    ensures commands { CommandsAreTyped }
+    ensures sides { SidesAreTyped }
 {}

@@ -7,8 +7,8 @@
 mod laws;
 
 pub use laws::{
-    commands_have_a_run, commands_keep_the_law, ends_have_causes, files_have_marks,
-    replies_exclude_ends, requests_have_marks, served_commands_complete,
+    commands_are_typed, commands_have_a_run, commands_keep_the_law, ends_have_causes,
+    files_have_marks, replies_exclude_ends, requests_have_marks, served_commands_complete,
     served_commands_end_for_memory, served_commands_have_replies, served_commands_stay_open,
     sessions_begin,
 };

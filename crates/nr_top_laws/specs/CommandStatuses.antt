@@ -43,7 +43,7 @@ IsAnsweredStatus status =
 abbrev pub IsCompleteStatus : ℕ → (left : Option (List ℕ)) → Type 0
 IsCompleteStatus status left = IsAnsweredStatus status ⊎ ((status ≡ statuses.link_closed) × IsAtEnd left)
 
--- Of a command that was not done. The status is not 4 if the server wrote all that it owes, and all that was written arrived.
+-- Of a command that was not done. The status is not 4 if the server owes nothing.
 abbrev pub RunHasStatus : (setup : Setup) (opened : LinkParameters) (link : ℕ) (c : Client Text) (status : ℕ) (dialer dialer' : DialerAt) (input input' : SourceAt) (out out' err err' : SinkAt) (end : ClientEnd)
     → Runs c dialer dialer' input input' out out' (Err end) → Type 0
 RunHasStatus setup opened link c status dialer dialer' input input' out out' err err' end (NotOpened why is fails same_input same_out) =

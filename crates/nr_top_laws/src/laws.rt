@@ -6,7 +6,7 @@ ghost use Rattle.nr_top_laws.specs.StatusCauses.{LinesAreRead, StatusesHaveCause
 
 /// A command of a client has status 0, 2, 6, 7, 10 or 11, or 4 and its server ended its stream, if its run is a side of a matched link, the server of
 /// which keeps its law with each Wrote in full, a plain server with a sane first tree answers its calls, and no fault count rises. It is not 4 if the
-/// server wrote all that it owes, and all that was written arrived.
+/// server owes nothing (`OwesNothing` of nr_service_laws).
 pub fn served_commands_have_statuses()
     ensures { ServedCommandsHaveStatuses }
 {}
@@ -18,9 +18,10 @@ pub fn servers_have_statuses()
 {}
 
 /// Whatever the server of a command of a client does, the status has its cause (`causes`): 3 only if the dialer's count of faults or of lost links rose;
-/// 4 only if no known byte of the link is left and a call was open; 5 only if the client's side has ended, or a reply is bad; 6 and 7 only if a
-/// reply came, 8 only if ERR_CHUNK or ERR_VERS came; 9 only if a count of faults rose: of the input, of the output, of standard error; 10 only for a bad path; 11 only at a limit. It is
-/// never 1 (`lines`).
+/// 4 only if no known byte of the link is left and a call was open; 5 only if the client's side has ended, or a call was answered with a bad reply; 6
+/// only if a call was answered with a reply that refuses it, or MNT with a status other than MNT3_OK; 7 only if a call was answered with a reply that has
+/// a status other than NFS3_OK; 8 only if one was answered with ERR_CHUNK or ERR_VERS; 9 only if a count of faults rose: of the input, of the output, of
+/// standard error; 10 only if the command's path is bad at that offset; 11 only if a limit was passed. It is never 1 (`lines`).
 pub fn statuses_have_causes()
     ensures causes { StatusesHaveCauses }
     ensures lines { LinesAreRead }

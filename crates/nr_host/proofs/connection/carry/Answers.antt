@@ -1,5 +1,5 @@
 use Rattle.nr_plain.specs.History.{pass_view}
-use Rattle.std.proofs.Common.{◌≡◌, ◌+◌, ◌<◌, ◌≤◌, ℕ, Bool, true, false, [], length, take, arith, refl, sym, ap, subst, ◌∙◌}
+use Rattle.std.proofs.Common.{◌≡◌, ◌+◌, ◌<◌, ℕ, Bool, true, false, [], length, take, arith, refl, sym, ap, subst, ◌∙◌}
 use Rattle.nr_outside.specs.Content.{HandsOut}
 use Rattle.nr_links.specs.Limits.{read_max}
 use Rattle.nr_host.specs.Ending.{SinkCount, SourceCount}

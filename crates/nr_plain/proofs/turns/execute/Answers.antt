@@ -51,7 +51,7 @@ put_back-requires-2 g c =
     let one = subst (λ (b : Bool). MatchBool b (AddsOne c.args.now c.args.payload.now r.0.payload) (AddsNone c.args.now c.args.payload.now r.0.payload)) c.if-not-adds.false c.in-Ok.ensures.adds in (
       w,
       c.append.ensures.held w (t.1.0, written _ _ w e, t.1.2),
-      stands_one f w seen _ c.args.client c.args.now c.args.payload.now r.0.payload r.0.place stood c.in-Ok.ensures.executed one
+      stands_one f w seen _ c.args.client c.args.now c.args.payload.now r.0.payload r.0.place stood c.execute_once.ensures.bytes c.in-Ok.ensures.executed one
           (ap (λ (v : View HistoryEntry). v.seen) c.append.ensures.step ∙ ap (λ (l : List ℕ). seen ++ entry_to_append c.args.client c.args.now c.args.payload.now l ∷ []) c.as_slice.ensures),
     )
 
@@ -74,7 +74,7 @@ returns-then-not-adds-clause-executed g c =
     let none = subst (λ (b : Bool). MatchBool b (AddsOne c.args.now c.args.payload.now r.0.payload) (AddsNone c.args.now c.args.payload.now r.0.payload)) c.if-not-adds.true c.in-Ok.ensures.adds in
     subst (λ (z : Pass PlainServerState HistoryEntry). Executes (pass_view c.args.pass.now) (pass_view z) c.args.client c.args.now c.args.payload.now r.0.payload r.0.place) (sym (c.pass-then-not-adds-1.given.1 (sym c.take_turn-turn.ensures.borrow)))
     (executes_none (pass_view c.args.pass.now) (pass_view q) (pass_view c.put_back-then-not-adds.new.self.1.0) f w c.args.client c.args.now c.args.payload.now r.0.payload r.0.place t.3 t.4 stood
-    c.in-Ok.ensures.executed none c.put_back-then-not-adds.ensures.1 c.put_back-then-not-adds.ensures.2)
+    c.execute_once.ensures.bytes c.in-Ok.ensures.executed none c.put_back-then-not-adds.ensures.1 c.put_back-then-not-adds.ensures.2)
 
 pub returns-clause-executed : goal.returns-clause-executed
 returns-clause-executed g c =
@@ -87,6 +87,6 @@ returns-clause-executed g c =
     subst (λ (z : Pass PlainServerState HistoryEntry). Executes (pass_view c.args.pass.now) (pass_view z) c.args.client c.args.now c.args.payload.now r.0.payload r.0.place)
     (sym (c.pass-2-1.given.1 (sym (c.append.ensures.same.1 ∙ c.take_turn-turn.ensures.borrow))))
     (executes_one (pass_view c.args.pass.now) (pass_view q) (pass_view c.put_back-2.new.self.1.0) f w c.args.client c.args.now c.args.payload.now r.0.payload r.0.place t.3 t.4 stood
-    c.in-Ok.ensures.executed one
+    c.execute_once.ensures.bytes c.in-Ok.ensures.executed one
     (c.put_back-2.ensures.1 ∙ ap (λ (v : View HistoryEntry). v.seen) c.append.ensures.step ∙ ap (λ (l : List ℕ). seen ++ entry_to_append c.args.client c.args.now c.args.payload.now l ∷ []) c.as_slice.ensures)
     (c.put_back-2.ensures.2 ∙ ap (λ (v : View HistoryEntry). v.mine) c.append.ensures.step))

@@ -26,14 +26,17 @@ returns-in-Ok-serve-clause-served g c =
 
 pub returns-in-Err-serve-clause-served : goal.returns-in-Err-serve-clause-served
 returns-in-Err-serve-clause-served g c =
-    let (ends, (less, all)) = c.in-Err-serve.ensures.err in
+    let (ends, (less, (all, back))) = c.in-Err-serve.ensures.err in
     subst (λ (stop : ServeStop). LinksStopped stop (config_settings c.args.config.now) (acceptor_at (g.A.Acceptor.asked c.args.accept.now) (g.A.Acceptor.ended c.args.accept.now) (g.A.Acceptor.lost c.args.accept.now) (g.A.Acceptor.faults c.args.accept.now)) (acceptor_at (g.A.Acceptor.asked c.serve.new.acceptor) (g.A.Acceptor.ended c.serve.new.acceptor) (g.A.Acceptor.lost c.serve.new.acceptor) (g.A.Acceptor.faults c.serve.new.acceptor)) (spawner_at (g.P.Spawner.started c.args.spawn.now) (g.P.Spawner.ended c.args.spawn.now) (g.P.Spawner.faults c.args.spawn.now)) (spawner_at (g.P.Spawner.started c.serve.new.spawner) (g.P.Spawner.ended c.serve.new.spawner) (g.P.Spawner.faults c.serve.new.spawner)) (pass_view c.args.pass.now) (pass_view c.serve.new.pass)) (sym c.stop_of_serve.ensures) (
       inr (
         ends,
         (
           less,
-          links_served (config_settings c.args.config.now) (acceptor_at (g.A.Acceptor.asked c.args.accept.now) (g.A.Acceptor.ended c.args.accept.now) (g.A.Acceptor.lost c.args.accept.now) (g.A.Acceptor.faults c.args.accept.now)) (acceptor_at (g.A.Acceptor.asked c.listen.new.self) (g.A.Acceptor.ended c.listen.new.self) (g.A.Acceptor.lost c.listen.new.self) (g.A.Acceptor.faults c.listen.new.self)) (acceptor_at (g.A.Acceptor.asked c.serve.new.acceptor) (g.A.Acceptor.ended c.serve.new.acceptor) (g.A.Acceptor.lost c.serve.new.acceptor) (g.A.Acceptor.faults c.serve.new.acceptor)) (spawner_at (g.P.Spawner.started c.args.spawn.now) (g.P.Spawner.ended c.args.spawn.now) (g.P.Spawner.faults c.args.spawn.now)) (spawner_at (g.P.Spawner.started c.serve.new.spawner) (g.P.Spawner.ended c.serve.new.spawner) (g.P.Spawner.faults c.serve.new.spawner)) (pass_view c.args.pass.now) (pass_view c.serve.new.pass) ends
-              (subst (Asks (g.A.Acceptor.asked c.args.accept.now) (g.A.Acceptor.asked c.listen.new.self)) c.as_str.ensures.value c.in-Ok.ensures.asked) c.listen.ensures.ended c.listen.ensures.lost c.serve.ensures.asked all c.serve.ensures.ended,
+          (
+            back,
+            links_served (config_settings c.args.config.now) (acceptor_at (g.A.Acceptor.asked c.args.accept.now) (g.A.Acceptor.ended c.args.accept.now) (g.A.Acceptor.lost c.args.accept.now) (g.A.Acceptor.faults c.args.accept.now)) (acceptor_at (g.A.Acceptor.asked c.listen.new.self) (g.A.Acceptor.ended c.listen.new.self) (g.A.Acceptor.lost c.listen.new.self) (g.A.Acceptor.faults c.listen.new.self)) (acceptor_at (g.A.Acceptor.asked c.serve.new.acceptor) (g.A.Acceptor.ended c.serve.new.acceptor) (g.A.Acceptor.lost c.serve.new.acceptor) (g.A.Acceptor.faults c.serve.new.acceptor)) (spawner_at (g.P.Spawner.started c.args.spawn.now) (g.P.Spawner.ended c.args.spawn.now) (g.P.Spawner.faults c.args.spawn.now)) (spawner_at (g.P.Spawner.started c.serve.new.spawner) (g.P.Spawner.ended c.serve.new.spawner) (g.P.Spawner.faults c.serve.new.spawner)) (pass_view c.args.pass.now) (pass_view c.serve.new.pass) ends
+                (subst (Asks (g.A.Acceptor.asked c.args.accept.now) (g.A.Acceptor.asked c.listen.new.self)) c.as_str.ensures.value c.in-Ok.ensures.asked) c.listen.ensures.ended c.listen.ensures.lost c.serve.ensures.asked all c.serve.ensures.ended,
+          ),
         ),
       ),
       serve_fault c.in-Err-serve.fault (g.A.Acceptor.faults c.args.accept.now) (g.A.Acceptor.faults c.listen.new.self) (g.A.Acceptor.faults c.serve.new.acceptor) c.in-Ok.ensures.counted c.in-Err-serve.ensures.counted,

@@ -15,7 +15,7 @@ pub invariant_of-self : goal.invariant_of-self
 invariant_of-self c =
     let s = c.self.invariant.1.0 in
     let both = c.answer.ensures.bounded.goes s.0 s.1.0 s.1.1.0 s.1.1.1 c.self.invariant.1.1.0 in
-    (c.answer.ensures.sound, (both.1, (both.0, ap (λ (bytes : List ℕ). length bytes) c.answer.ensures.staging ∙ c.self.invariant.1.1.1)))
+    ((c.answer.ensures.sound, c.answer.ensures.windows), (both.1, (both.0, ap (λ (bytes : List ℕ). length bytes) c.answer.ensures.staging ∙ c.self.invariant.1.1.1)))
 
 -- the result of the inner call, with the call that is given back
 abbrev AnswerStands : (before after : ResponderSide) (xid : ℕ) (reply : List ℕ) → Type 0

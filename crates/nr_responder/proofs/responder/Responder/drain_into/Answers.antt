@@ -17,4 +17,4 @@ pub invariant_of-self : goal.invariant_of-self
 invariant_of-self g c =
     let s = c.self.invariant.1.0 in
     let t = c.drain_into.ensures.taken in
-    (c.drain_into.ensures.sound, ((s.0, (s.1.0, (s.1.1.0 ++ marks.Wrote s.1.0 Responder (take t.0 (may_write (state_of c.self.inside.end))) ∷ [], t.1.0.stands s.0 s.1.0 s.1.1.0 s.1.1.1))), (c.drain_into.ensures.bounded c.self.invariant.1.1.0, ap (λ (bytes : List ℕ). length bytes) c.drain_into.ensures.staging ∙ c.self.invariant.1.1.1)))
+    ((c.drain_into.ensures.sound, c.drain_into.ensures.windows), ((s.0, (s.1.0, (s.1.1.0 ++ marks.Wrote s.1.0 Responder (take t.0 (may_write (state_of c.self.inside.end))) ∷ [], t.1.0.stands s.0 s.1.0 s.1.1.0 s.1.1.1))), (c.drain_into.ensures.bounded c.self.invariant.1.1.0, ap (λ (bytes : List ℕ). length bytes) c.drain_into.ensures.staging ∙ c.self.invariant.1.1.1)))

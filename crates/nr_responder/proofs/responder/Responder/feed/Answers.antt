@@ -11,7 +11,7 @@ use Rattle.nr_responder.proofs.responder.Responder.feed.Goals as goal
 pub invariant_of-self : goal.invariant_of-self
 invariant_of-self c =
     let s = c.self.invariant.1.0 in
-    (c.feed.ensures.sound, ((s.0, (s.1.0, (s.1.1.0 ++ marks.Fed s.1.0 Responder c.args.piece.now ∷ [], c.feed.ensures.stands s.0 s.1.0 s.1.1.0 s.1.1.1))), (c.feed.ensures.bounded s.0 s.1.0 s.1.1.0 s.1.1.1 c.self.invariant.1.1.0, (c.feed.ensures.staging s.0 s.1.0 s.1.1.0 s.1.1.1).len ∙ c.self.invariant.1.1.1)))
+    ((c.feed.ensures.sound, c.feed.ensures.windows), ((s.0, (s.1.0, (s.1.1.0 ++ marks.Fed s.1.0 Responder c.args.piece.now ∷ [], c.feed.ensures.stands s.0 s.1.0 s.1.1.0 s.1.1.1))), (c.feed.ensures.bounded s.0 s.1.0 s.1.1.0 s.1.1.1 c.self.invariant.1.1.0, (c.feed.ensures.staging s.0 s.1.0 s.1.1.0 s.1.1.1).len ∙ c.self.invariant.1.1.1)))
 
 pub returns-clause-staging : goal.returns-clause-staging
 returns-clause-staging c =

@@ -12,7 +12,7 @@ use Rattle.nr_responder.proofs.responder.Responder.feed_one.Goals as goal
 pub invariant_of-self : goal.invariant_of-self
 invariant_of-self c =
     let s = c.self.invariant.1.0 in
-    (c.feed_one.ensures.sound, ((s.0, (s.1.0, (s.1.1.0 ++ marks.Fed s.1.0 Responder (taken_of c.feed_one.result c.args.piece.now) ∷ [], c.feed_one.ensures.stands s.0 s.1.0 s.1.1.0 s.1.1.1))), (c.feed_one.ensures.bounded s.0 s.1.0 s.1.1.0 s.1.1.1 c.self.invariant.1.1.0, (c.feed_one.ensures.staging s.0 s.1.0 s.1.1.0 s.1.1.1).len ∙ c.self.invariant.1.1.1)))
+    ((c.feed_one.ensures.sound, c.feed_one.ensures.windows), ((s.0, (s.1.0, (s.1.1.0 ++ marks.Fed s.1.0 Responder (taken_of c.feed_one.result c.args.piece.now) ∷ [], c.feed_one.ensures.stands s.0 s.1.0 s.1.1.0 s.1.1.1))), (c.feed_one.ensures.bounded s.0 s.1.0 s.1.1.0 s.1.1.1 c.self.invariant.1.1.0, (c.feed_one.ensures.staging s.0 s.1.0 s.1.1.0 s.1.1.1).len ∙ c.self.invariant.1.1.1)))
 
 pub returns-clause-staging : goal.returns-clause-staging
 returns-clause-staging c =

@@ -3,9 +3,10 @@ use Rattle.std.specs.List.{list_any}
 use Rattle.nr_responder.specs.declared.call.Pending.{Pending}
 use Rattle.nr_responder.specs.Sound.{state_of, with_staging}
 use Rattle.nr_responder.specs.Views.{call_view, inline_of}
-use Rattle.nr_responder.proofs.Answered.{has, get_view, inline_is_lem, none_any, payload_there_lem, same_item}
+use Rattle.nr_responder.proofs.Answered.{has, get_view, inline_is_lem, none_any, payload_there_lem, same_item, next_read_lem}
 use Rattle.nr_responder.proofs.Counts.{answered_all}
 use Rattle.nr_responder.proofs.StepBounds.{answer_fits}
+use Rattle.nr_responder.proofs.ReadWindows.{none_outside}
 use Rattle.nr_responder.proofs.server_end.ServerEnd.answer.Goals as goal
 
 streams : (b : Bool) (stream : List ℕ) → is_some (inline_of b stream) ≡ true → b ≡ true
@@ -36,3 +37,16 @@ returns-clause-stands c = answered_all c.answer_at.result (state_of c.args.self.
 
 pub returns-clause-bounded : goal.returns-clause-bounded
 returns-clause-bounded c = record { goes = answer_fits c.answer_at.result (with_staging c.args.self.now) (with_staging c.answer_at.new.self) c.args.xid c.args.reply.now c.requires.live c.requires.next c.answer_at.ensures.answers c.answer_at.ensures.err }
+
+pub answer_at-requires-clause-windows : goal.answer_at-requires-clause-windows
+answer_at-requires-clause-windows c = c.requires.windows c.requires.live
+
+pub answer_at-requires-clause-none : goal.answer_at-requires-clause-none
+answer_at-requires-clause-none c = λ d.
+    let s = c.requires.stands in
+    let p : Pending = get_or c.args.self.now.calls.items c.in-Some.at d in
+    let place : c.in-Some.at < length c.args.self.now.calls.items = subst (λ (xs : List Pending). c.in-Some.at < length xs) c.as_slice.ensures.value c.in-Some.ensures.some.0 in
+    let own : p.xid ≡ c.args.xid = subst (λ (xs : List Pending). (get_or xs c.in-Some.at d).xid ≡ c.args.xid) c.as_slice.ensures.value (c.in-Some.ensures.some.1 d) in
+    none_outside c.args.self.now.calls.items c.in-Some.at d c.args.self.now.reads.items place
+    (next_read_lem s.0 s.1.0 s.1.1.0 (state_of c.args.self.now) c.args.xid s.1.1.1 c.requires.live c.requires.next c.in-Some.at (call_view p)
+    (get_view c.args.self.now.calls.items c.in-Some.at p place (same_item c.args.self.now.calls.items c.in-Some.at p d place)) own) (c.requires.windows c.requires.live)

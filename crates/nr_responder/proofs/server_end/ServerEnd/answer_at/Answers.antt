@@ -13,28 +13,29 @@ use Rattle.nr_responder.proofs.HeldSinks.{fetched_removed}
 use Rattle.nr_responder.proofs.Sounds.{sound_answered, sound_room_as}
 use Rattle.nr_responder.proofs.AnswerMessages.{message_short}
 use Rattle.nr_responder.proofs.OutputSteps.{writes_few}
+use Rattle.nr_responder.proofs.ReadWindows.{removed_windows}
 use Rattle.nr_responder.proofs.server_end.ServerEnd.answer_at.Goals as goal
 
 pub returns-clause-answers : goal.returns-clause-answers
 returns-clause-answers c =
     let q = c.in_ok-sent.ensures.queued in
-    let p : Pending = c.index-3.result.now in
+    let p : Pending = c.index-2.result.now in
     let stream : List ℕ = c.ready_payload-target.result.0.now in
     let paid = c.ready_payload-target.ensures.payload in
-    let whole : InBuffer p = subst InBuffer (sym c.index-3.ensures) (c.requires.sound.0.bufs c.args.at p c.requires.at) in
-    let own : p.xid ≡ c.args.xid = ap (λ (x : Pending). x.xid) c.index-3.ensures ∙ c.requires.own p in
+    let whole : InBuffer p = subst InBuffer (sym c.index-2.ensures) (c.requires.sound.0.bufs c.args.at p c.requires.at) in
+    let own : p.xid ≡ c.args.xid = ap (λ (x : Pending). x.xid) c.index-2.ensures ∙ c.requires.own p in
     let link = q.link ∙ ap (λ (x : ℕ). after_calls c.args.self.now.endpoint.link (answer_calls q.writes (message_for x c.args.self.now.credits (call_view p).lists (answer_to (call_view p) stream c.args.reply.now)))) own in
     let calls = ap (map call_view) c.remove-call.ensures.items ∙ map_removed call_view c.args.self.now.calls.items c.args.at in
     let ready : c.pop_front.new.self.items ≡ drop 1 c.args.self.now.ready.items = search rules in
     record {
       at = c.args.at;
       call = call_view p;
-      place = get_view c.args.self.now.calls.items c.args.at p c.requires.at c.index-3.ensures;
+      place = get_view c.args.self.now.calls.items c.args.at p c.requires.at c.index-2.ensures;
       own = own;
       stream = stream;
       payload = paid.0;
       first = paid.1.0;
-      conveyed = subst (λ (x : Pending). IsPayload (call_view x) paid.0 stream) (c.index-2.ensures ∙ sym (same_item c.args.self.now.calls.items c.args.at c.index-2.result.now p c.requires.at) ∙ sym c.index-3.ensures) paid.1.1;
+      conveyed = subst (λ (x : Pending). IsPayload (call_view x) paid.0 stream) (c.index.ensures ∙ sym (same_item c.args.self.now.calls.items c.args.at c.index.result.now p c.requires.at) ∙ sym c.index-2.ensures) paid.1.1;
       writes = q.writes;
       written = q.written;
       short = message_short c.args.xid c.args.self.now.credits (call_view p) stream c.args.reply.now whole.lists.within;
@@ -49,10 +50,13 @@ returns-clause-sound c =
     let one : InBuffer c.remove-call.result = subst InBuffer (sym c.remove-call.ensures.value) (c.requires.sound.0.bufs c.args.at c.remove-call.result c.requires.at) in (
       sound_room_as 0 c.queue_answer.new.endpoint.link.state c.remove-call.new.self.items c.pop_front.new.self.items c.push_back_reserved.new.self.items _ _ _ _ _ _ (search rules) (search rules) (search rules) (sound_answered c.args.self.now.endpoint.link.state c.queue_answer.new.endpoint.link.state (writes_output q.writes) _ c.args.at c.remove-call.result c.args.self.now.calls.items c.remove-call.new.self.items c.args.self.now.ready.items c.pop_front.new.self.items
           c.args.self.now.used.items c.push_back_reserved.new.self.items _ _ _ (ap (λ (l : LinkSide). l.state) (q.link ∙ answer_link c.args.self.now.endpoint.link q.writes _ c.requires.live)) c.requires.at one c.remove-call.ensures.items (search rules) c.requires.next (search rules) c.requires.sound.0),
-      fetched_removed c.args.self.now.endpoint c.queue_answer.new.endpoint c.args.at c.index.result.now c.args.self.now.calls.items c.remove-call.new.self.items c.args.self.now.reads.items c.args.self.now.sinks.items (ap (λ (l : LinkSide). l.state.memory) (q.link ∙ answer_link c.args.self.now.endpoint.link q.writes _ c.requires.live)) c.queue_answer.ensures.outside c.requires.at (ap (λ (x : Pending). x.around) (sym c.index.ensures) ∙ omega arith) c.remove-call.ensures.items c.requires.sound.1,
+      fetched_removed c.args.self.now.endpoint c.queue_answer.new.endpoint c.args.at c.index.result.now c.args.self.now.calls.items c.remove-call.new.self.items c.args.self.now.reads.items c.args.self.now.sinks.items (ap (λ (l : LinkSide). l.state.memory) (q.link ∙ answer_link c.args.self.now.endpoint.link q.writes _ c.requires.live)) c.queue_answer.ensures.outside c.requires.at (c.requires.none c.index.result.now) c.remove-call.ensures.items c.requires.sound.1,
     )
 
 pub returns-clause-fed : goal.returns-clause-fed
 returns-clause-fed c =
     let q = c.in_ok-sent.ensures.queued in
     answered_fed c.args.self.now.endpoint.link c.queue_answer.new.endpoint.link q.writes _ c.requires.live q.link
+
+pub returns-clause-windows : goal.returns-clause-windows
+returns-clause-windows c = λ live. removed_windows c.args.self.now.calls.items c.remove-call.new.self.items c.args.at c.index.result.now c.args.self.now.reads.items c.remove-call.ensures.items c.requires.at c.requires.windows

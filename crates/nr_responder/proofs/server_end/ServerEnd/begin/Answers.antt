@@ -23,3 +23,6 @@ push-requires-clause-room c = read_has_room c.args.self.now.endpoint.outside c.a
 
 pub end_for-requires-clause-sound : goal.end_for-requires-clause-sound
 end_for-requires-clause-sound c = sound_less c.args.self.now c.requires.sound
+
+pub push-requires-clause-read : goal.push-requires-clause-read
+push-requires-clause-read c = (refl, c.requires.fresh)

@@ -21,3 +21,6 @@ returns-in-Some-clause-fetched c = EndsFor c.in-Some.reason c.in-Some.ensures.re
 
 pub end_for-requires-clause-sound : goal.end_for-requires-clause-sound
 end_for-requires-clause-sound c = sound_less c.args.self.now c.requires.sound
+
+pub push-requires-clause-read : goal.push-requires-clause-read
+push-requires-clause-read c = (c.requires.empty.0, c.requires.fresh)

@@ -8,7 +8,7 @@ use Rattle.nr_responder.specs.declared.call.OpenSink.{OpenSink}
 use Rattle.nr_responder.specs.ResponderState.{ResponderSide}
 use Rattle.nr_responder.specs.private.DoneReads.{IsOfCall, IsReadyWith}
 use Rattle.nr_responder.specs.private.ReadsDone.{has_bad_chunk, read_payload}
-use Rattle.nr_responder.specs.Sound.{HasWindow, state_of}
+use Rattle.nr_responder.specs.Sound.{HasWindow, state_of, OthersAreRead}
 use Rattle.nr_responder.specs.Views.{call_view, read_view}
 use Rattle.nr_responder.proofs.Answered.{same_item}
 use Rattle.nr_responder.proofs.ClosedSinks.{no_sink}
@@ -67,3 +67,6 @@ returns-in-Some-clause-handled c =
     ends_for v v (state_of c.end_for.new.self) (read_view c.args.done) c.args.kept c.args.at (call_view p) c.in-Some.reason (subst (λ (x : Pending). IsOfCall v (read_view c.args.done) c.args.kept c.args.at (call_view x)) same (c.requires.call p))
     (subst (λ (x : Pending). has_bad_chunk v (call_view x) (read_view c.args.done) (map read_view c.args.self.now.reads.items) ≡ false) same (c.requires.fine p))
     (subst (λ (x : Pending). is_read (map read_view c.args.self.now.reads.items) x.number ≡ true) same (c.requires.read p)) c.in-Some.ensures.reason.1 (ap (by_payload (call_view p)) is ∙ c.in-Some.ensures.verdict) refl c.end_for.ensures.ended
+
+pub ready_in_place-requires-clause-windows : goal.ready_in_place-requires-clause-windows
+ready_in_place-requires-clause-windows c = λ d. subst (λ (n : ℕ). OthersAreRead n c.args.self.now.calls.items c.args.self.now.reads.items) (sym (c.requires.call d).own) c.requires.windows

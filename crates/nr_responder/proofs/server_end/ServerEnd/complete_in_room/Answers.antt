@@ -13,7 +13,8 @@ use Rattle.nr_reduce.specs.Chunks.{call_conveyed}
 use Rattle.nr_responder.specs.private.Reading.{sink_bytes}
 use Rattle.nr_reduce.specs.ServerReads.{is_read}
 use Rattle.std.proofs.Common.{false, true}
-use Rattle.nr_responder.proofs.DoneReads.{ends_for, readies}
+use Rattle.nr_responder.proofs.DoneReads.{ends_for, readies, no_call}
+use Rattle.nr_responder.proofs.ReadWindows.{done_none}
 use Rattle.nr_responder.proofs.server_end.ServerEnd.complete_in_room.Goals as goal
 
 pub returns-in-Ok-clause-handled : goal.returns-in-Ok-clause-handled
@@ -39,3 +40,6 @@ returns-in-Err-clause-handled c =
     ends_for v w (state_of c.end_for.new.self) (read_view c.args.done) c.args.kept c.args.at p c.in-Err.reason (subst (λ (x : PendingCall). IsOfCall v (read_view c.args.done) c.args.kept c.args.at x) same (c.requires.call d))
     (subst (λ (x : PendingCall). has_bad_chunk v x (read_view c.args.done) (map read_view c.args.self.now.reads.items) ≡ false) same (c.requires.fine d))
     (subst (λ (x : PendingCall). is_read (map read_view c.args.self.now.reads.items) x.number ≡ true) same (c.requires.read d)) c.in-Err.ensures.reason.1 judged c.take_room_at-room.ensures.same c.end_for.ensures.ended
+
+pub take_room_at-room-requires-clause-windows : goal.take_room_at-room-requires-clause-windows
+take_room_at-room-requires-clause-windows c = done_none c.args.done.number c.args.self.now.calls.items c.args.at no_call c.args.self.now.reads.items c.requires.at (c.requires.call no_call).own (c.requires.empty no_call) c.requires.windows

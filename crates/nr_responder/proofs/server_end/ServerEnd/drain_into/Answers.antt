@@ -73,3 +73,9 @@ returns-clause-fed g c =
 
 pub returns-clause-bounded : goal.returns-clause-bounded
 returns-clause-bounded g c = λ fit. (let t = returns-clause-taken g c in record { sinks = drained_fits _ _ t.0 t.1.0.state fit.sinks; output = drained_out _ _ t.0 t.1.0.state fit.output })
+
+pub returns-clause-windows : goal.returns-clause-windows
+returns-clause-windows g c = λ live.
+    let t = c.drain_into-result.ensures.taken in
+    let link = c.post_until.ensures.posted ∙ drained_link c.args.self.now.endpoint.link c.drain_into-result.new.self.link t.0 (length c.args.self.now.used.items - c.sends_waiting-left.result) t.3 in
+    c.requires.windows (sym (ap (λ (x : LinkSide). x.state.ended) link) ∙ live)

@@ -1,8 +1,9 @@
 use Rattle.nr_responder.specs.Sound.{state_of}
 use Rattle.nr_responder.proofs.Begun.{or_out}
 use Rattle.nr_responder.proofs.HeldSinks.{fetched_as}
-use Rattle.nr_responder.proofs.Posted.{ended_as}
+use Rattle.nr_responder.proofs.Posted.{ended_as, ended_over}
 use Rattle.nr_responder.proofs.Sounds.{sound_ended}
+use Rattle.nr_responder.proofs.Marks.{not_live}
 use Rattle.nr_responder.proofs.server_end.ServerEnd.end_for.Goals as goal
 
 pub returns-clause-ended : goal.returns-clause-ended
@@ -16,3 +17,6 @@ returns-clause-sound c = (
 
 pub returns-clause-input : goal.returns-clause-input
 returns-clause-input c = (ended_as c.args.self.now.endpoint.link c.stop.new.endpoint.link c.args.reason c.stop.ensures.link).input
+
+pub returns-clause-windows : goal.returns-clause-windows
+returns-clause-windows c = λ live. absurd (not_live c.stop.new.endpoint.link.state.ended live (ended_over c.args.self.now.endpoint.link c.stop.new.endpoint.link c.args.reason c.stop.ensures.link))

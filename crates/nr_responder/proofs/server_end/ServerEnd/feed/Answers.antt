@@ -25,6 +25,7 @@ pieces-init c = record {
   over = λ over. absurd (not_live c.args.self.now.endpoint.link.state.ended (sym c.end.ensures ∙ c.in_default.is) over);
   goes = WentOn (empty_fed (state_of c.args.self.now) c.facts.ensures.partial);
   sound = c.requires.sound;
+  windows = c.requires.windows;
   within = omega arith;
   staging = λ opened link run h. unchanged (with_staging c.args.self.now) c.args.piece.now;
   bounded = λ opened link run h fit. fit;
@@ -51,6 +52,7 @@ pieces-preserved c =
           (fed_join (state_of c.args.self.now) (state_of c.pieces.self) (state_of c.step-at.new.self) (take c.pieces.at c.args.piece.now) (take c.step-at.result (drop c.pieces.at c.args.piece.now)) c.pieces.invariant.goes live
           (subst (λ (bytes : List ℕ). Fed (state_of c.pieces.self) (take c.step-at.result bytes) (state_of c.step-at.new.self)) left c.step-at.ensures.goes));
       sound = c.step-at.ensures.sound;
+      windows = c.step-at.ensures.windows;
       within = omega (arith, c.step-at.ensures.within, c.pieces.invariant.within);
       staging = λ opened link run h.
           staging_on (with_staging c.args.self.now) (with_staging c.pieces.self) (with_staging c.step-at.new.self) c.pieces.at c.args.piece.now c.pieces-test.true c.pieces.invariant.first (c.pieces.invariant.staging opened link run h)

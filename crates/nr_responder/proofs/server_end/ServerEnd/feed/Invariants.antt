@@ -7,7 +7,7 @@ use Rattle.nr_responder.specs.HeldBytes.{KeptFits}
 use Rattle.nr_responder.specs.ResponderState.{KeepsStaging}
 use Rattle.nr_responder.specs.Standing.{ResponderRepresents}
 use Rattle.nr_responder.specs.Steps.{Fed}
-use Rattle.nr_responder.specs.Sound.{state_of, with_staging, ServerEndInvariant}
+use Rattle.nr_responder.specs.Sound.{state_of, with_staging, ServerEndInvariant, WindowsInvariant}
 use Rattle.nr_responder.proofs.Staging.{IsFirst}
 use Rattle.nr_responder.proofs.server_end.ServerEnd.feed.Given as goal
 
@@ -17,6 +17,7 @@ invariant-pieces l = record {
   over : is_some l.self.endpoint.link.state.ended ≡ true → l.at ≡ length l.fn.piece;
   goes : Fed (state_of l.fn.self) (take l.at l.fn.piece) (state_of l.self);
   sound : ServerEndInvariant l.self;
+  windows : WindowsInvariant l.self;
   within : fed_bytes l.self.endpoint.link ≤ fed_bytes l.fn.self.endpoint.link + l.at;
   staging : (opened : LinkParameters) (link : ℕ) (run : List Mark) → ResponderRepresents opened link run (state_of l.fn.self) → KeepsStaging (with_staging l.fn.self) (with_staging l.self) l.fn.piece;
   bounded : (opened : LinkParameters) (link : ℕ) (run : List Mark) → ResponderRepresents opened link run (state_of l.fn.self) → KeptFits (state_of l.fn.self) → KeptFits (state_of l.self);

@@ -12,6 +12,7 @@ use Rattle.nr_responder.proofs.HeldSinks.{empty_fetched, fetched_first}
 use Rattle.nr_responder.proofs.Opened.{opened_stands_lem, opened_lives, opened_queues}
 use Rattle.nr_responder.proofs.OutputBounds.{opened_out}
 use Rattle.nr_responder.proofs.StepBounds.{opened_fits}
+use Rattle.nr_responder.proofs.ReadWindows.{empty_windows}
 use Rattle.nr_responder.proofs.server_end.ServerEnd.open.Goals as goal
 
 pub returns-clause-sound : goal.returns-clause-sound
@@ -62,3 +63,6 @@ returns-clause-fed c = open_fed c.in_ok-endpoint.endpoint.link Responder c.args.
 
 pub returns-clause-bounded : goal.returns-clause-bounded
 returns-clause-bounded c = record { sinks = opened_fits _ c.args.credits (returns-clause-state c); output = opened_out _ c.args.credits (returns-clause-state c) }
+
+pub returns-clause-windows : goal.returns-clause-windows
+returns-clause-windows c = λ live. empty_windows c.in_ok-calls.calls.items c.new.result.items c.in_ok-calls.ensures.items

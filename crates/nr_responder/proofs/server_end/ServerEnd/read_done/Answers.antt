@@ -6,6 +6,7 @@ use Rattle.nr_responder.specs.private.ReadsDone.NothingReady.{Gone}
 use Rattle.nr_responder.specs.Sound.{state_of}
 use Rattle.nr_responder.specs.Views.{read_view}
 use Rattle.nr_responder.proofs.DoneReads.{call_is, find_none, first_read, kept_open, split_first}
+use Rattle.nr_responder.proofs.ReadWindows.{done_gone, first_done}
 use Rattle.nr_responder.proofs.server_end.ServerEnd.read_done.Goals as goal
 
 pub go_on-requires-clause-nothing : goal.go_on-requires-clause-nothing
@@ -29,3 +30,14 @@ returns-in-Some-clause-handled c = λ r rest is.
 pub returns-in-None-clause-handled : goal.returns-in-None-clause-handled
 returns-in-None-clause-handled c = λ r rest is.
     first_read (state_of c.args.self.now) (state_of c.go_on.new.self) c.args.self.now.reads.items c.remove-done.new.self.items c.remove-done.result r rest (search rules) c.remove-done.ensures.value c.remove-done.ensures.items is c.go_on.ensures.handled
+
+pub read_of_call-requires-clause-windows : goal.read_of_call-requires-clause-windows
+read_of_call-requires-clause-windows c =
+    let some : 0 < length c.args.self.now.reads.items = search rules in
+    first_done c.args.self.now.calls.items c.args.self.now.reads.items c.remove-done.new.self.items c.remove-done.result (split_first c.args.self.now.reads.items c.remove-done.new.self.items c.remove-done.result some c.remove-done.ensures.value c.remove-done.ensures.items) c.requires.windows
+
+pub go_on-requires-clause-windows : goal.go_on-requires-clause-windows
+go_on-requires-clause-windows c =
+    let some : 0 < length c.args.self.now.reads.items = search rules in
+    done_gone c.remove-done.result.number c.args.self.now.calls.items c.remove-done.new.self.items (subst (λ (xs : List Pending). (k : ℕ) (d : Pending) → k < length xs → (get_or xs k d).number ≢ c.remove-done.result.number) c.as_slice.ensures.value (c.in-None.ensures.none refl))
+    (first_done c.args.self.now.calls.items c.args.self.now.reads.items c.remove-done.new.self.items c.remove-done.result (split_first c.args.self.now.reads.items c.remove-done.new.self.items c.remove-done.result some c.remove-done.ensures.value c.remove-done.ensures.items) c.requires.windows)

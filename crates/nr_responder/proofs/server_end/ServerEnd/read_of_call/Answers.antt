@@ -7,6 +7,7 @@ use Rattle.nr_responder.specs.private.ReadsDone.NothingReady.{Waits}
 use Rattle.nr_responder.specs.Sound.{state_of}
 use Rattle.nr_responder.specs.Views.{call_view, read_view}
 use Rattle.nr_responder.proofs.DoneReads.{crowded, no_call}
+use Rattle.nr_responder.proofs.ReadWindows.{done_unread}
 use Rattle.nr_responder.proofs.server_end.ServerEnd.read_of_call.Goals as goal
 
 pub returns-then-len-clause-handled : goal.returns-then-len-clause-handled
@@ -22,3 +23,7 @@ go_on-requires-clause-nothing c =
     let own = c.requires.call no_call in
     Waits (call_view (get_or c.args.self.now.calls.items c.args.at no_call)) (record { found = own.found; fine = sym (c.has_bad_chunk.ensures no_call) ∙ c.if-has_bad_chunk.false })
     (ap (is_read (map read_view c.args.self.now.reads.items)) own.own ∙ ap (λ (rs : List ReadEntry). is_read (map read_view rs) c.args.done.number) (sym c.as_slice.ensures.value) ∙ sym c.is_read.ensures ∙ c.if-is_read.false)
+
+pub go_on-requires-clause-windows : goal.go_on-requires-clause-windows
+go_on-requires-clause-windows c =
+    done_unread c.args.done.number c.args.self.now.calls.items c.args.self.now.reads.items (ap (λ (rs : List ReadEntry). is_read (map read_view rs) c.args.done.number) (sym c.as_slice.ensures.value) ∙ sym c.is_read.ensures ∙ c.if-is_read.false) c.requires.windows

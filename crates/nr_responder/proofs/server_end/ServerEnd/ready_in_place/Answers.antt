@@ -1,4 +1,4 @@
-use Rattle.std.proofs.Common.{◌≡◌, ℕ, true, List, [], ◌∷◌, ◌++◌, take, drop, get_or, map, Some, is_some, refl, sym, ap, subst, ◌∙◌, arith, inl}
+use Rattle.std.proofs.Common.{◌≡◌, ℕ, true, List, [], ◌∷◌, ◌++◌, take, drop, get_or, map, Some, is_some, refl, sym, ap, subst, ◌∙◌, arith, inl, set}
 use Rattle.std.proofs.Math.Seq.{map-set_same}
 use Rattle.nr_reduce.specs.Chunks.{whole}
 use Rattle.nr_reduce.specs.ServerReads.{is_read}
@@ -14,6 +14,7 @@ use Rattle.nr_responder.proofs.ClosedSinks.{no_sink}
 use Rattle.nr_responder.proofs.DoneReads.{no_call}
 use Rattle.nr_responder.proofs.PlacedReads.{InPlace, emptied_around, in_place, is_placed, placed_fetched, placed_over, placed_state, readied_queues}
 use Rattle.nr_responder.proofs.ReadsGoOn.{opened_closed_queues}
+use Rattle.nr_responder.proofs.ReadWindows.{done_placed}
 use Rattle.nr_responder.proofs.server_end.ServerEnd.ready_in_place.Goals as goal
 
 pub close_with-buffer-requires-clause-at : goal.close_with-buffer-requires-clause-at
@@ -95,3 +96,10 @@ returns-in-Ok-clause-sound c =
       placed_fetched c.args.self.now.endpoint c.open_reads.new.endpoint c.close_with-buffer.new.endpoint c.args.at k.registration.stag p c.payload_in_place-payload.new.call h.call.outside (opening c.args.kept (map read_view c.args.self.now.reads.items)) c.args.self.now.calls.items _ c.args.self.now.reads.items c.args.self.now.sinks.items c.close_with-buffer.new.sinks.items
           opened c.open_reads.ensures.outside c.close_with-buffer.ensures.held c.close_with-buffer.ensures.short (λ n. c.close_with-buffer.ensures.less no_sink h.call.outside n) c.close_with-buffer.ensures.kept left c.requires.at c.index_mut.ensures.value c.payload_in_place-payload.ensures.call refl h.call.there h.call.size read c.requires.sound.1,
     )
+
+pub returns-in-Ok-clause-windows : goal.returns-in-Ok-clause-windows
+returns-in-Ok-clause-windows c = λ live.
+    let p : Pending = c.index_mut.result.now in
+    let new : Pending = c.payload_in_place-payload.new.call in
+    let number : new.number ≡ (get_or c.args.self.now.calls.items c.args.at p).number = ap (λ (x : Pending). x.number) c.payload_in_place-payload.ensures.call ∙ ap (λ (x : Pending). x.number) c.index_mut.ensures.value in
+    done_placed (get_or c.args.self.now.calls.items c.args.at p).number c.args.self.now.calls.items (set c.args.self.now.calls.items c.args.at new) c.args.at new p c.args.self.now.reads.items c.requires.at refl refl number (ap (λ (x : Pending). x.around) c.payload_in_place-payload.ensures.call) (c.requires.windows p)

@@ -17,3 +17,9 @@ returns-else-send_error-clause-sound c = (
       (inr (c.send_error.ensures.out c.if-send_error.false)) c.requires.sound.0,
   fetched_as c.args.self.now.endpoint c.send_error.new.endpoint c.args.self.now.calls.items c.args.self.now.reads.items c.args.self.now.sinks.items (memory_as c.args.self.now.endpoint.link c.send_error.new.endpoint.link (c.send_error.ensures.out c.if-send_error.false)).memory c.send_error.ensures.outside c.requires.sound.1,
 )
+
+pub returns-then-send_error-clause-windows : goal.returns-then-send_error-clause-windows
+returns-then-send_error-clause-windows c = λ live. c.requires.windows
+
+pub returns-else-send_error-clause-windows : goal.returns-else-send_error-clause-windows
+returns-else-send_error-clause-windows c = λ live. c.requires.windows

@@ -14,6 +14,7 @@ use Rattle.nr_responder.specs.Sound.{QueuesInvariant, InBuffer, payloads_of, sta
 use Rattle.nr_responder.specs.Views.{call_view, read_view, sink_view}
 use Rattle.nr_responder.proofs.DoneReads.{dropped_fetched, refused_ends, refused_fetched, refused_link, refused_sound, refuses}
 use Rattle.nr_responder.proofs.Removed.{map_removed}
+use Rattle.nr_responder.proofs.ReadWindows.{done_refused}
 use Rattle.nr_responder.proofs.server_end.ServerEnd.refuse_read.Goals as goal
 
 pub run_out-requires : goal.run_out-requires
@@ -65,3 +66,8 @@ returns-in-Ok-clause-sound c =
           c.args.self.now.sinks.items c.close_over.new.sinks.items c.drop_waiting.ensures c.requires.at (c.requires.empty d) c.remove-call.ensures.items opened c.queue_refusal.ensures.outside c.close_over.ensures.held c.close_over.ensures.short c.close_over.ensures.outside c.close_over.ensures.kept
           (c.close_over.ensures.sinks ∙ (λ i. left_sinks (map call_view (c.as_slice-in-Ok.ensures.value i)) (map read_view (c.as_slice-in-Ok-2.ensures.value i)) sinks)) c.requires.sound.1,
     )
+
+pub returns-in-Ok-clause-windows : goal.returns-in-Ok-clause-windows
+returns-in-Ok-clause-windows c = λ live.
+    let d : Pending = c.index.result.now in
+    done_refused c.args.done.number c.args.kept c.args.self.now.calls.items c.remove-call.new.self.items c.args.at d c.args.self.now.reads.items c.drop_waiting.new.reads.items c.requires.at (c.requires.call d).own (c.requires.empty d) c.remove-call.ensures.items c.drop_waiting.ensures c.requires.windows

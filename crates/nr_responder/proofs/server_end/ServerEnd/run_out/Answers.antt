@@ -3,8 +3,9 @@ use Rattle.nr_endpoint.specs.LinkState.{LinkSide}
 use Rattle.nr_responder.specs.private.Handling.{on_link}
 use Rattle.nr_responder.specs.Sound.{state_of}
 use Rattle.nr_responder.proofs.HeldSinks.{fetched_as}
-use Rattle.nr_responder.proofs.Posted.{memory_as}
+use Rattle.nr_responder.proofs.Posted.{memory_as, memory_over}
 use Rattle.nr_responder.proofs.Sounds.{sound_ended}
+use Rattle.nr_responder.proofs.Marks.{not_live}
 use Rattle.nr_responder.proofs.server_end.ServerEnd.run_out.Goals as goal
 
 pub returns-clause-out : goal.returns-clause-out
@@ -18,3 +19,6 @@ returns-clause-sound c = (
 
 pub returns-clause-input : goal.returns-clause-input
 returns-clause-input c = (memory_as c.args.self.now.endpoint.link c.run_out.new.self.link c.run_out.ensures.state).input
+
+pub returns-clause-windows : goal.returns-clause-windows
+returns-clause-windows c = λ live. absurd (not_live c.run_out.new.self.link.state.ended live (memory_over c.args.self.now.endpoint.link c.run_out.new.self.link c.run_out.ensures.state))

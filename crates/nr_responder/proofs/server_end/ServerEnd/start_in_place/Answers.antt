@@ -1,14 +1,16 @@
-use Rattle.std.proofs.Common.{◌∙◌, ℕ, ◌+◌, ◌-◌, length, List, refl, ap, subst, arith, inl, inr}
+use Rattle.std.proofs.Common.{◌∙◌, ℕ, ◌+◌, ◌-◌, length, List, refl, ap, subst, arith, inl, inr, [], sym}
 use Rattle.nr_header.specs.declared.header.ReadSegment.{ReadSegment}
 use Rattle.nr_endpoint.specs.LinkState.{LinkSide}
 use Rattle.nr_responder.specs.declared.server_end.ServerEnd.{ServerEnd}
 use Rattle.nr_responder.specs.private.Starting.{BeginsReads, with_around}
 use Rattle.nr_responder.specs.Sound.{SameInput, around_of, state_of}
 use Rattle.nr_responder.specs.Fetching.{open_sinks}
-use Rattle.nr_responder.specs.private.CallsRead.{sinks_from}
+use Rattle.nr_responder.specs.private.CallsRead.{sinks_from, chunk_positions}
 use Rattle.nr_responder.proofs.BegunWindows.{window_room}
 use Rattle.nr_responder.proofs.BegunReads.{around_in_buffer, call_fits, kept_fetched, window_apart, started_fetched, started_input, started_is, started_sound, stopped_is}
 use Rattle.nr_responder.proofs.Sounds.{sound_as}
+use Rattle.nr_responder.proofs.ReadWindows.{begun_windows, begun_unread}
+use Rattle.nr_reduce.specs.ServerReads.{reads_from}
 use Rattle.nr_responder.proofs.server_end.ServerEnd.start_in_place.Goals as goal
 
 pub begin_in_place-requires-clause-live : goal.begin_in_place-requires-clause-live
@@ -90,3 +92,14 @@ returns-in-Err-clause-input c = subst (λ (l : LinkSide). SameInput l c.run_out.
 
 pub returns-in-Err-clause-staging : goal.returns-in-Err-clause-staging
 returns-in-Err-clause-staging c = c.run_out.ensures.staging ∙ c.begin_in_place.ensures.staging
+
+pub returns-in-Ok-clause-windows : goal.returns-in-Ok-clause-windows
+returns-in-Ok-clause-windows c = λ live.
+    begun_windows c.args.self.now.calls.items c.push_around.new.calls.items (with_around c.args.call (c.args.call.len - c.args.call.stream_at + 3)) c.args.call.number c.args.self.now.reads.items c.begin_in_place.new.reads.items
+    (reads_from (sinks_from c.args.call.number c.args.self.now.endpoint.link.state.memory.next c.args.read.now c.args.chunks.now) c.args.call.number [] c.args.read.now)
+    c.in-Ok.ensures.ok.reads c.push_around.ensures.items refl c.requires.own
+    (λ some. begun_unread c.args.call.number c.args.self.now.endpoint.link.state.memory.next c.args.start c.args.read.now c.args.chunks.now c.args.self.now.reads.items c.begin_in_place.new.reads.items
+    (c.requires.chunks ∙ ap (λ (read : List ReadSegment). chunk_positions read) (sym c.requires.read)) c.requires.window.chunks_are c.in-Ok.ensures.ok.reads) c.requires.windows
+
+pub returns-in-Err-clause-windows : goal.returns-in-Err-clause-windows
+returns-in-Err-clause-windows c = c.run_out.ensures.windows

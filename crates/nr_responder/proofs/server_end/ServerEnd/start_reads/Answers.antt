@@ -1,4 +1,4 @@
-use Rattle.std.proofs.Common.{◌∙◌, ◌+◌, List, refl, ap, subst, arith, inl, inr}
+use Rattle.std.proofs.Common.{◌∙◌, ◌+◌, List, refl, ap, subst, arith, inl, inr, []}
 use Rattle.nr_header.specs.declared.header.ReadSegment.{ReadSegment}
 use Rattle.nr_endpoint.specs.LinkState.{LinkSide}
 use Rattle.nr_responder.specs.declared.server_end.ServerEnd.{ServerEnd}
@@ -9,6 +9,8 @@ use Rattle.nr_responder.specs.private.CallsRead.{sinks_from}
 use Rattle.nr_responder.proofs.Windows.{more_outside}
 use Rattle.nr_responder.proofs.BegunReads.{call_fits, in_buffer, kept_fetched, own_room, started_fetched, started_input, started_is, started_sound, stopped_is}
 use Rattle.nr_responder.proofs.Sounds.{sound_as}
+use Rattle.nr_responder.proofs.ReadWindows.{begun_windows}
+use Rattle.nr_reduce.specs.ServerReads.{reads_from}
 use Rattle.nr_responder.proofs.server_end.ServerEnd.start_reads.Goals as goal
 
 pub begin_reads-requires-clause-live : goal.begin_reads-requires-clause-live
@@ -78,3 +80,12 @@ returns-in-Err-clause-input c = subst (λ (l : LinkSide). SameInput l c.run_out.
 
 pub returns-in-Err-clause-staging : goal.returns-in-Err-clause-staging
 returns-in-Err-clause-staging c = c.run_out.ensures.staging ∙ c.begin_reads.ensures.staging
+
+pub returns-in-Ok-clause-windows : goal.returns-in-Ok-clause-windows
+returns-in-Ok-clause-windows c = λ live.
+    begun_windows c.args.self.now.calls.items c.push_reading.new.calls.items (with_room c.args.call c.in-Ok.room) c.args.call.number c.args.self.now.reads.items c.begin_reads.new.reads.items
+    (reads_from (sinks_from c.args.call.number c.args.self.now.endpoint.link.state.memory.next c.args.read.now c.args.chunks.now) c.args.call.number [] c.args.read.now)
+    c.in-Ok.ensures.ok.reads c.push_reading.ensures.items refl c.requires.own (λ some. absurd (some c.requires.empty.0)) c.requires.windows
+
+pub returns-in-Err-clause-windows : goal.returns-in-Err-clause-windows
+returns-in-Err-clause-windows c = c.run_out.ensures.windows

@@ -125,3 +125,9 @@ returns-in-Err-clause-bounded c = λ opened link run stands fit.
       sinks = failed_fits v c.args.piece.now m c.in-Err.end c.requires.live c.facts.ensures.partial (λ other. c.in-Err.ensures.state (λ e. other (let h : c.in-Err.end ≡ ends.Memory = cc in h))) (λ is. c.in-Err.ensures.memory (ap (λ (e : End). Err e) is)) fit.sinks;
       output = failed_out v c.args.piece.now m c.in-Err.end c.requires.live c.facts.ensures.partial (sym c.in-Err.ensures.ended) (λ other. c.in-Err.ensures.state (λ e. other (let h : c.in-Err.end ≡ ends.Memory = cc in h))) (λ is. c.in-Err.ensures.memory (ap (λ (e : End). Err e) is)) fit.output;
     }
+
+pub take_event-requires-clause-windows : goal.take_event-requires-clause-windows
+take_event-requires-clause-windows c = c.requires.windows c.requires.live
+
+pub returns-in-Err-clause-windows : goal.returns-in-Err-clause-windows
+returns-in-Err-clause-windows c = λ live. c.requires.windows c.requires.live

@@ -8,6 +8,7 @@ use Rattle.nr_responder.specs.Views.{call_view, read_view}
 use Rattle.nr_responder.proofs.Answered.{same_item}
 use Rattle.nr_responder.proofs.DoneReads.{emptied_sound}
 use Rattle.nr_responder.proofs.HeldSinks.{read_has_room}
+use Rattle.nr_responder.proofs.ReadWindows.{set_windows}
 use Rattle.nr_responder.proofs.server_end.ServerEnd.take_room_at.Goals as goal
 
 pub returns-clause-same : goal.returns-clause-same
@@ -27,3 +28,10 @@ returns-clause-sound c =
     (ap (λ (x : Pending). is_read (map read_view c.args.self.now.reads.items) x.number) c.take_out_room.ensures.call ∙ ap (λ (x : Pending). is_read (map read_view c.args.self.now.reads.items) x.number) c.index_mut.ensures.value ∙ c.requires.read d)
     (around ∙ c.requires.empty d) (let none = ap (λ (x : Pending). room_len x.room) c.take_out_room.ensures.call in omega (arith, none)))
     c.requires.at (around ∙ ap (λ (x : Pending). x.around) (same_item c.args.self.now.calls.items c.args.at c.take_out_room.new.call d c.requires.at)) c.requires.sound
+
+pub returns-clause-windows : goal.returns-clause-windows
+returns-clause-windows c =
+    let d : Pending = c.index_mut.result.now in
+    let number : c.take_out_room.new.call.number ≡ (get_or c.args.self.now.calls.items c.args.at d).number = ap (λ (x : Pending). x.number) c.take_out_room.ensures.call ∙ ap (λ (x : Pending). x.number) c.index_mut.ensures.value in
+    let around : c.take_out_room.new.call.around ≡ (get_or c.args.self.now.calls.items c.args.at d).around = ap (λ (x : Pending). x.around) c.take_out_room.ensures.call ∙ ap (λ (x : Pending). x.around) c.index_mut.ensures.value in
+    set_windows c.args.self.now.calls.items (set c.args.self.now.calls.items c.args.at c.take_out_room.new.call) c.args.at c.take_out_room.new.call d c.args.self.now.reads.items refl c.requires.at number (omega (arith, around)) c.requires.windows

@@ -1,4 +1,0 @@
-use Rattle.nr_apart_tests.proofs.additions.append.Given as goal
-
-abbrev pub ghosts-note : goal.ghosts-note
-ghosts-note g a = record { number = a._x }

@@ -1,0 +1,12 @@
+//! Tests of record marks (`nr_record`), and of connections over TCP with record marks (`nr_record_host`).
+#![tactic(auto)]
+
+#[cfg(test)]
+mod compare;
+mod pieces;
+#[cfg(test)]
+mod record_ends;
+#[cfg(test)]
+mod records;
+
+pub use pieces::{Seen, next_of, read_in_pieces};

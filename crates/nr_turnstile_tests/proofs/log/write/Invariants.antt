@@ -1,0 +1,4 @@
+use Rattle.nr_turnstile_tests.proofs.log.write.Given as goal
+
+abbrev pub ghosts-note : goal.ghosts-note
+ghosts-note g a = record { number = a._x }

@@ -1,0 +1,25 @@
+//! Tests of `nr_turnstile`, over three values that stand for a history: a counter, a list, and a desk of questions and
+//! answers; and over a value with a pass of another turnstile.
+#![tactic(auto)]
+
+mod additions;
+mod asks;
+#[cfg(test)]
+mod compare;
+mod counter;
+mod feeder;
+mod jobs;
+mod log;
+mod open;
+mod pumping;
+#[cfg(test)]
+mod turns;
+
+pub use additions::{append, sees};
+pub use asks::Desk;
+pub use counter::Counter;
+pub use feeder::Feeder;
+pub use jobs::Job;
+pub use log::{Log, counted, write};
+pub use open::open_feeder;
+pub use pumping::{pump, pump_twice};
