@@ -4,18 +4,19 @@
 # server with a file of 16 MiB. Beside `get` and `put` it prints what has no part in the raw bytes: a new file's bytes written, and an input
 # read piece by piece and sent in the passes of WRITEs, one at a time, to a server that keeps it. Run by hand, at the top of the
 # repository, once `rt run` has built nfsrdma and links_bench; or with the paths of both programs. It needs a C compiler, for bench/echo.c.
-# The least of several runs counts, of the two sides in turn.
+# The least of several runs counts, of the two sides in turn; TIMES says of how many. PART=0.02 makes a fiftieth of the calls, to see that
+# all runs.
 exec python3 - "${1:-crates/nfsrdma/out/nfsrdma}" "${2:-crates/links_bench/out/links_bench}" <<'PYTHON'
 import contextlib, os, re, socket, subprocess, sys, tempfile, time
 
 NFSRDMA, LINKS = map(os.path.abspath, sys.argv[1:3])
-TIMES = 5
+TIMES, PART = int(os.environ.get("TIMES", "5")), float(os.environ.get("PART", "1"))
 SIZE = 32_768
 FILE = 16 << 20
 # The frames of a GETATTR with an AUTH_SYS credential without a name and of its reply, in bytes: length 2, DDP and RDMAP header 18, transport
 # header 28, RPC message 72 and 112, CRC field 4.
 CALL, REPLY = 124, 164
-TURNS, CALLS = 20_000, 2_000
+TURNS, CALLS = int(20_000 * PART), int(2_000 * PART)
 
 
 def port():

@@ -1,8 +1,10 @@
 /* Records over TCP (RFC 5531 section 11), for bench/records.sh.
 
    records serve PORT REPLY        answers each record of one connection by one of REPLY bytes; no RPC, no tree
-   records call PORT KIND N OUT    N calls with OUT outstanding: getattr, read, write (of 32,768 bytes of file 2), or make: CREATE of
-                                   file 2 and 64 WRITEs; prints the microseconds of a call
+   records call PORT KIND N OUT    N calls with OUT outstanding: getattr, read, write (of 32,768 bytes of file f), or make: CREATE of f and
+                                   64 WRITEs, one at a time; prints the microseconds of a call
+   records call .. EXPORT MOUNT    the same at a server that gives other handles: MNT of EXPORT at port MOUNT and a LOOKUP of f get them.
+                                   Without these words the root has handle 1, f has handle 2, and replies come in order
    records raw PORT KIND N OUT     the same records to `serve`, whose replies are not read as RPC */
 #include <arpa/inet.h>
 #include <netinet/in.h>
@@ -17,6 +19,8 @@
 
 enum { SIZE = 32768, BLOCKS = 64, LAST = 0x7fffffff };
 static unsigned char in[1 << 17], out[1 << 17];
+/* The handles of the root and of the file f, after their length. */
+static struct handle { uint32_t size; unsigned char bytes[64]; } root = {8, {[7] = 1}}, file = {8, {[7] = 2}};
 
 static void put(unsigned char **at, uint32_t word) {
     word = htonl(word);
@@ -47,12 +51,44 @@ static int read_all(int s, unsigned char *bytes, size_t n) {
     return 1;
 }
 
-/* Reads a record of one fragment to `in`; its length, or -1 at the end. */
+/* Reads a record to `in`; its length, or -1 at the end. */
 static long read_record(int s) {
-    unsigned char head[4];
-    if (!read_all(s, head, 4)) return -1;
-    size_t n = get(head) & LAST;
-    if (n > sizeof in || !read_all(s, in, n)) exit(4);
+    for (size_t n = 0;;) {
+        unsigned char head[4];
+        if (!read_all(s, head, 4)) return -1;
+        size_t more = get(head) & LAST;
+        if (n + more > sizeof in || !read_all(s, in + n, more)) exit(4);
+        n += more;
+        if (get(head) > LAST) return n;
+    }
+}
+
+/* The head of a call with AUTH_NONE, after room for the mark. */
+static unsigned char *begin(uint32_t xid, uint32_t prog, uint32_t proc) {
+    unsigned char *at = out + 4;
+    uint32_t head[] = {xid, 0, 2, prog, 3, proc, 0, 0, 0, 0};
+    for (size_t k = 0; k < sizeof head / sizeof *head; k++) put(&at, head[k]);
+    return at;
+}
+
+static void put_opaque(unsigned char **at, const void *bytes, uint32_t n) {
+    put(at, n);
+    memset(*at, 0, (n + 3) / 4 * 4);
+    memcpy(*at, bytes, n);
+    *at += (n + 3) / 4 * 4;
+}
+
+static void get_handle(struct handle *h, const unsigned char *at) {
+    h->size = get(at);
+    if (h->size > sizeof h->bytes) exit(5);
+    memcpy(h->bytes, at + 4, h->size);
+}
+
+/* Writes the mark of the call that ends here; the length of its record. */
+static size_t end(unsigned char *at) {
+    size_t n = at - out;
+    at = out;
+    put(&at, 0x80000000u | (n - 4));
     return n;
 }
 
@@ -60,12 +96,12 @@ static long read_record(int s) {
 static size_t make_call(const char *kind, uint32_t xid, uint32_t i) {
     int make = !strcmp(kind, "make"), create = make && i == 0;
     int proc = create ? 8 : !strcmp(kind, "getattr") ? 1 : !strcmp(kind, "read") ? 6 : 7;
-    unsigned char *at = out + 4;
-    uint32_t head[] = {xid, 0, 2, 100003, 3, proc, 0, 0, 0, 0, 8, 0, create ? 1 : 2};
-    for (size_t k = 0; k < sizeof head / sizeof *head; k++) put(&at, head[k]);
+    unsigned char *at = begin(xid, 100003, proc);
+    struct handle *h = create || proc == 1 ? &root : &file;
+    put_opaque(&at, h->bytes, h->size);
     uint32_t block = (make ? i - 1 : i) % BLOCKS * SIZE;
     if (create) {
-        put(&at, 1), memcpy(at, "f\0\0", 4), at += 4;
+        put_opaque(&at, "f", 1);
         for (int k = 0; k < 7; k++) put(&at, 0);
     } else if (proc != 1) {
         put(&at, 0), put(&at, block), put(&at, SIZE);
@@ -74,23 +110,47 @@ static size_t make_call(const char *kind, uint32_t xid, uint32_t i) {
         put(&at, 2), put(&at, SIZE);
         memset(at, i, SIZE), at += SIZE;
     }
-    size_t n = at - out;
-    at = out;
-    put(&at, 0x80000000u | (n - 4));
-    return n;
+    return end(at);
 }
 
-static int calls(int s, const char *kind, long n, long outstanding, int raw) {
+/* Reads a reply to one of the calls from `low` to `high`, which has to have no error: neither of RPC nor of the procedure. */
+static void check_reply(int s, uint32_t low, uint32_t high, const char *kind) {
+    if (read_record(s) < 0) exit(4);
+    if (get(in) < low || get(in) > high || get(in + 8) || get(in + 20) || get(in + 24)) {
+        fprintf(stderr, "call %u of %s is refused: status %u\n", high, kind, get(in + 24));
+        exit(5);
+    }
+}
+
+static void mount(int s, const char *export) {
+    unsigned char *at = begin(1, 100005, 1);
+    put_opaque(&at, export, strlen(export));
+    send_all(s, out, end(at));
+    check_reply(s, 1, 1, "MNT");
+    get_handle(&root, in + 28);
+}
+
+static void look_up(int s) {
+    unsigned char *at = begin(1, 100003, 3);
+    put_opaque(&at, root.bytes, root.size);
+    put_opaque(&at, "f", 1);
+    send_all(s, out, end(at));
+    check_reply(s, 1, 1, "LOOKUP");
+    get_handle(&file, in + 28);
+}
+
+/* How the replies are read: as RPC, in order or in any order, or not at all. */
+enum reading { ORDER, ANY, RAW };
+
+static int calls(int s, const char *kind, long n, long outstanding, enum reading how) {
     long sent = 0, got = 0;
     double begun = now();
     while (got < n) {
         for (; sent < n && sent - got < outstanding; sent++) send_all(s, out, make_call(kind, sent + 1, sent));
-        if (read_record(s) < 0) return 4;
         got++;
-        if (!raw && (get(in) != (uint32_t)got || get(in + 8) || get(in + 20) || get(in + 24))) {
-            fprintf(stderr, "call %ld of %s is refused\n", got, kind);
-            return 5;
-        }
+        if (how == RAW && read_record(s) < 0) return 4;
+        if (how != RAW) check_reply(s, how == ANY ? 1 : got, how == ANY ? sent : got, kind);
+        if (got == 1 && !strcmp(kind, "make")) get_handle(&file, in + 32);
     }
     printf("%.3f\n", (now() - begun) / n * 1e6);
     return 0;
@@ -107,17 +167,31 @@ static int serve(int listening, size_t reply) {
     return 0;
 }
 
-int main(int count, char **words) {
-    if (count < 4) return 1;
+static int dial(int port) {
     int one = 1, s = socket(AF_INET, SOCK_STREAM, 0);
-    struct sockaddr_in at = {.sin_family = AF_INET, .sin_port = htons(atoi(words[2])), .sin_addr.s_addr = htonl(INADDR_LOOPBACK)};
-    if (!strcmp(words[1], "serve")) {
-        setsockopt(s, SOL_SOCKET, SO_REUSEADDR, &one, sizeof one);
-        if (bind(s, (void *)&at, sizeof at) || listen(s, 1)) return 2;
-        return serve(s, atol(words[3]));
-    }
-    if (count < 6) return 1;
-    if (connect(s, (void *)&at, sizeof at)) return 2;
+    struct sockaddr_in at = {.sin_family = AF_INET, .sin_port = htons(port), .sin_addr.s_addr = htonl(INADDR_LOOPBACK)};
+    if (connect(s, (void *)&at, sizeof at)) exit(2);
     setsockopt(s, IPPROTO_TCP, TCP_NODELAY, &one, sizeof one);
-    return calls(s, words[3], atol(words[4]), atol(words[5]), !strcmp(words[1], "raw"));
+    return s;
+}
+
+static int listen_at(int port) {
+    int one = 1, s = socket(AF_INET, SOCK_STREAM, 0);
+    struct sockaddr_in at = {.sin_family = AF_INET, .sin_port = htons(port), .sin_addr.s_addr = htonl(INADDR_LOOPBACK)};
+    setsockopt(s, SOL_SOCKET, SO_REUSEADDR, &one, sizeof one);
+    if (bind(s, (void *)&at, sizeof at) || listen(s, 1)) exit(2);
+    return s;
+}
+
+int main(int count, char **words) {
+    if (count == 4 && !strcmp(words[1], "serve")) return serve(listen_at(atoi(words[2])), atol(words[3]));
+    if (count != 6 && count != 8) return 1;
+    int s = dial(atoi(words[2]));
+    if (count == 8) {
+        int m = dial(atoi(words[7]));
+        mount(m, words[6]);
+        close(m);
+        if (strcmp(words[3], "make")) look_up(s);
+    }
+    return calls(s, words[3], atol(words[4]), atol(words[5]), !strcmp(words[1], "raw") ? RAW : count == 8 ? ANY : ORDER);
 }

@@ -1,14 +1,15 @@
 #!/bin/sh
 # Records over TCP (RFC 5531 section 11) over loopback: GETATTRs of `nfsrdma serve` with `record = true` beside raw round trips of the same
 # bytes, READs and WRITEs of 32 KiB, one at a time and with 16 outstanding, and the server's processor time a GETATTR. Run by hand, at the
-# top of the repository, once `rt run` has built nfsrdma; or with the path of the program. A second word is the port of another NFS server
-# on 127.0.0.1, whose root has handle 1 and file 2: it is measured in turn with the first. It needs a C compiler, for bench/records.c. The
-# least of several runs counts.
-exec python3 - "${1:-crates/nfsrdma/out/nfsrdma}" "${2:-}" <<'PYTHON'
+# top of the repository, once `rt run` has built nfsrdma; or with the path of the program. Three more words are the port of another NFS server
+# on 127.0.0.1, the path that it exports, and the port of its MOUNT: it is measured in turn with the first (bench/ganesha.sh starts one). It
+# needs a C compiler, for bench/records.c. The least of several runs counts; TIMES says of how many. PART=0.02
+# makes a fiftieth of the calls, to see that all runs.
+exec python3 - "${1:-crates/nfsrdma/out/nfsrdma}" "${2:-}" "${3:-}" "${4:-}" <<'PYTHON'
 import os, socket, subprocess, sys, tempfile, time
 
-NFSRDMA, OTHER = os.path.abspath(sys.argv[1]), sys.argv[2]
-TIMES = 5
+NFSRDMA, OTHER, MOUNTED = os.path.abspath(sys.argv[1]), sys.argv[2], sys.argv[3:]
+TIMES, PART = int(os.environ.get("TIMES", "5")), float(os.environ.get("PART", "1"))
 # kind, calls, outstanding, bytes of a reply, the least share of raw round trips that is asked for
 ROWS = (("getattr", 20_000, 1, 112, 0.7), ("getattr", 40_000, 16, 112, 0.7), ("read", 2_000, 1, 32_896, 0.25), ("read", 4_000, 16, 32_896, 0.5),
         ("write", 2_000, 1, 160, 0.25), ("write", 4_000, 16, 160, 0.25))
@@ -57,8 +58,8 @@ def main(folder):
         least[name] = min(value, least.get(name, value))
 
     for _ in range(TIMES):
-        for kind, count, outstanding, reply, _ in ROWS:
-            row = kind, outstanding
+        for kind, calls, outstanding, reply, _ in ROWS:
+            row, count = (kind, outstanding), int(calls * PART)
             port = free_port()
             child = subprocess.Popen([records, "serve", str(port), str(reply)])
             note(("raw", *row), micros(records, "raw", port, kind, count, outstanding))
@@ -70,7 +71,8 @@ def main(folder):
             note(("ours", *row), micros(records, "call", port, kind, count, outstanding))
             note(("seconds", *row), (used(child) - begun) / count * 1e6)
             if OTHER:
-                note(("other", *row), micros(records, "call", OTHER, kind, count, outstanding))
+                micros(records, "call", OTHER, "make", 65, 1, *MOUNTED)
+                note(("other", *row), micros(records, "call", OTHER, kind, count, outstanding, *MOUNTED))
     for kind, _, outstanding, _, goal in ROWS:
         row = kind, outstanding
         ours, raw = least["ours", *row], least["raw", *row]

@@ -59,6 +59,18 @@ class ReaddirRes(Structure):
     _fields_ = [('status', c_uint32), ('attributes', c_uint64 * 12), ('verifier', c_char * 8), ('entries', c_void_p), ('eof', c_uint32)]
 
 
+class LookupArgs(Structure):
+    _fields_ = [('dir', Handle), ('name', c_char_p)]
+
+
+class LookupRes(Structure):
+    _fields_ = [('status', c_uint32), ('object', Handle)]
+
+
+class WriteArgs(Structure):
+    _fields_ = [('file', Handle), ('offset', c_uint64), ('count', c_uint32), ('stable', c_uint32), ('len', c_uint32), ('data', c_char_p)]
+
+
 class PathconfRes(Structure):
     _fields_ = [('status', c_uint32), ('attributes', c_uint64 * 12), ('words', c_uint32 * 6)]
 
@@ -72,6 +84,8 @@ class Poll(Structure):
     _fields_ = [('fd', c_int)]
 
 
+# what handles point to
+HELD: list[object] = []
 CALLBACK = ctypes.CFUNCTYPE(None, c_void_p, c_int, c_void_p, c_void_p)
 
 
@@ -108,9 +122,16 @@ class Mount:
         self.nfs = c_void_p(lib.nfs_init_context())
         url = 'nfs://127.0.0.1%s?nfsport=%d&mountport=%d&version=3&auto-traverse-mounts=0' % (export, port, port)
         lib.nfs_parse_url_dir(self.nfs, url.encode())
-        lib.nfs_set_uid(self.nfs, 0)
-        lib.nfs_set_gid(self.nfs, 0)
+        self.as_user(0, 0)
         self.status = lib.nfs_mount(self.nfs, b'127.0.0.1', export.encode())
+
+    def as_user(self, uid: int, gid: int) -> None:
+        self.lib.nfs_set_uid(self.nfs, uid)
+        self.lib.nfs_set_gid(self.nfs, gid)
+
+    def root(self) -> Handle:
+        root = self.lib.nfs_get_rootfh(self.nfs).contents
+        return Handle(root.len, root.val)
 
     def call(self, name: str, *arguments: object) -> int:
         return int(getattr(self.lib, 'nfs_' + name)(self.nfs, *arguments))
@@ -198,13 +219,34 @@ def read_pathconf(result: int) -> object:
     return r.status, tuple(r.words)
 
 
-def listed(m: Mount) -> list[bytes]:
-    """The names of the root, by READDIR."""
+def read_status(result: int) -> object:
+    return cast(result, POINTER(c_uint32))[0]
+
+
+def handle_of(m: Mount, name: bytes) -> Handle:
+    """The handle of a file of the root, by LOOKUP."""
+    found = ctypes.create_string_buffer(64)
+
+    def read_object(result: int) -> object:
+        r = cast(result, POINTER(LookupRes)).contents
+        if r.status != 0:
+            return r.status
+        ctypes.memmove(found, r.object.val, r.object.len)
+        return Handle(r.object.len, ctypes.addressof(found))
+
+    handle = m.raw('lookup', LookupArgs(m.root(), name), read_object)
+    if not isinstance(handle, Handle):
+        raise OSError('LOOKUP of %r: %r' % (name, handle))
+    HELD.append(found)
+    return handle
+
+
+def listed(m: Mount, folder: Handle) -> list[bytes]:
+    """The names of a directory, by READDIR."""
     found: list[bytes] = []
     cookie = 0
-    root = m.lib.nfs_get_rootfh(m.nfs).contents
     while True:
-        arguments = ReaddirArgs(Handle(root.len, root.val), cookie, b'', 4096)
+        arguments = ReaddirArgs(folder, cookie, b'', 4096)
         got = m.raw('readdir', arguments, read_listing)
         if not isinstance(got, tuple):
             return [b'status %r' % (got,)]
@@ -222,13 +264,15 @@ def files(c: Checks, m: Mount) -> None:
     c.same('COMMIT', m.call('fsync', f), 0)
     c.same('READ of 16 MiB: the same bytes', m.read(f, 0, len(data) + 1) == data, True)
     c.same('READ past the end', m.read(f, len(data), 5), b'')
-    c.same('WRITE past a gap', m.write(f, len(data) + 100, b'end'), 3)
-    c.same('READ of the gap', m.read(f, len(data), 200), bytes(100) + b'end')
+    c.same('WRITE beyond 16 MiB is refused', m.write(f, len(data), b'x') < 0, True)
+    c.same('its status: NFS3ERR_FBIG', m.raw('write', WriteArgs(handle_of(m, b'f'), len(data), 1, 2, 1, b'x'), read_status), 27)
+    c.same('SETATTR of the size, by the handle', m.call('ftruncate', f, c_uint64(1000)), 0)
+    c.same('WRITE past a gap', m.write(f, 1100, b'end'), 3)
+    c.same('READ of the gap', m.read(f, 990, 200), data[990:1000] + bytes(100) + b'end')
     m.call('close', f)
     found = m.stat(b'/f')
     assert isinstance(found, Stat)
-    c.same('GETATTR', (found.mode, found.nlink, found.uid, found.gid, found.size, found.dev),
-           (0o100644, 1, 0, 0, len(data) + 103, 1))
+    c.same('GETATTR', (found.mode, found.nlink, found.uid, found.gid, found.size, found.dev), (0o100644, 1, 0, 0, 1103, 1))
     c.same('SETATTR of the mode', m.call('chmod', b'/f', 0o640), 0)
     c.same('SETATTR of owner and group', m.call('chown', b'/f', 12, 34), 0)
     c.same('SETATTR of the size', m.call('truncate', b'/f', c_uint64(7)), 0)
@@ -239,7 +283,13 @@ def files(c: Checks, m: Mount) -> None:
     c.same('GETATTR of all that', (found.mode, found.uid, found.gid, found.size, found.atime, found.mtime, found.mtime_nsec),
            (0o100640, 12, 34, 7, 1_000_000_000, 1_100_000_000, 6000))
     c.same('ACCESS', m.call('access', b'/f', 6), 0)
-    c.same('ACCESS of what has no x', m.call('access', b'/f', 1), -errno.EACCES)
+    # uid 0 has every right (docs/SERVER.md)
+    c.same('ACCESS of what has no x, by uid 0', m.call('access', b'/f', 1), 0)
+    for uid, gid, rights in ((12, 0, (0, 0)), (5, 34, (0, -errno.EACCES)), (5, 6, (-errno.EACCES, -errno.EACCES))):
+        m.as_user(uid, gid)
+        c.same('ACCESS r, w, x of mode 0640, by %d and %d' % (uid, gid), [m.call('access', b'/f', bit) for bit in (4, 2, 1)],
+               [*rights, -errno.EACCES])
+    m.as_user(0, 0)
     c.same('CREATE of what is there, then the size', m.call('close', m.opened('creat', b'/f', 0o644)), 0)
     c.same('LOOKUP of what is not there', m.stat(b'/none'), -errno.ENOENT)
 
@@ -259,7 +309,7 @@ def links(c: Checks, m: Mount) -> None:
     found = m.stat(b'/p')
     assert isinstance(found, Stat)
     c.same('GETATTR of the fifo', found.mode, 0o010600)
-    c.same('READDIR', sorted(listed(m)), [b'f', b'g', b'p', b's'])
+    c.same('READDIR', listed(m, m.root()), [b'f', b's', b'g', b'p'])
     c.same('READDIRPLUS', sorted(m.names(b'/')), [b'f', b'g', b'p', b's'])
     for name in (b'/f', b'/g', b'/p', b'/s'):
         c.same('REMOVE of %s' % name.decode(), m.call('unlink', name), 0)
@@ -273,7 +323,9 @@ def folders(c: Checks, m: Mount) -> None:
     names = [b'%05d' % i for i in range(5000)]
     for name in names:
         m.call('close', m.opened('creat', b'/d/' + name, 0o600))
-    c.same('READDIRPLUS of 5,000 entries', m.names(b'/d'), names)
+    c.same('READDIR of 5,000 entries', listed(m, handle_of(m, b'd')), names)
+    # libnfs gives the entries in another order than they came
+    c.same('READDIRPLUS of 5,000 entries', sorted(m.names(b'/d')), names)
     c.same('RMDIR of what has entries', m.call('rmdir', b'/d'), -errno.ENOTEMPTY)
     c.same('REMOVE of 5,000 entries', {m.call('unlink', b'/d/' + name) for name in names}, {0})
     c.same('RMDIR', m.call('rmdir', b'/d'), 0)
@@ -292,15 +344,15 @@ def session(c: Checks, lib: ctypes.CDLL, port: int) -> None:
     c.same('FSINFO: READ and WRITE of', (lib.nfs_get_readmax(m.nfs), lib.nfs_get_writemax(m.nfs)), (32768, 32768))
     space = Statvfs()
     c.same('FSSTAT', (m.call('statvfs', b'/', byref(space)), space.blocks * space.frsize), (0, CAPACITY))
-    root = lib.nfs_get_rootfh(m.nfs).contents
-    c.same('PATHCONF', m.raw('pathconf', Handle(root.len, root.val), read_pathconf), (0, (65535, 255, 1, 1, 0, 1)))
+    c.same('PATHCONF', m.raw('pathconf', m.root(), read_pathconf), (0, (65535, 255, 1, 1, 0, 1)))
     files(c, m)
     links(c, m)
     folders(c, m)
     c.same('UMNT', m.call('umount'), 0)
     lib.nfs_destroy_context(m.nfs)
     other = Mount(lib, port, '/other')
-    c.same('MNT of another path', other.status, -errno.ENOENT)
+    # libnfs gives another number for each version; MNT3ERR_NOENT is compared by check_commands.py
+    c.same('MNT of another path is refused', other.status < 0, True)
     lib.nfs_destroy_context(other.nfs)
 
 
@@ -336,7 +388,8 @@ def read_capture(c: Checks, port: int, path: str) -> None:
         line = ['tshark', '-r', path, '-d', 'tcp.port==%d,rpc' % port, '-Y', what, '-T', 'fields', '-e', 'frame.number']
         return len(subprocess.run(line, capture_output=True, check=True).stdout.splitlines())
 
-    c.same('tshark reads calls and replies', count('rpc') > 20_000, True)
+    frames = count('rpc')
+    c.same('tshark reads calls and replies, %d frames' % frames, frames > 20_000, True)
     c.same('records that tshark finds malformed', count('_ws.malformed || rpc.fragment.error || _ws.unreassembled'), 0)
 
 

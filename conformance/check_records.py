@@ -76,6 +76,8 @@ ROWS: list[tuple[str, list[bytes], bytes]] = [
     ('another version of NFS', [record(call(2, vers=4))], record(accepted(2, 2, words(3, 3)))),
     ('a procedure that is not there', [record(call(2, 22))], record(accepted(2, 3))),
     ('two calls in one record', [record(NULL + call(2))], record(accepted(1, 4))),
+    ('MNT', [record(call(2, 1, words(7) + b'/export\0', prog=100005))], record(accepted(2, 0, words(0, 8, 0, 1, 2, 1, 0)))),
+    ('MNT of another path', [record(call(2, 1, words(6) + b'/other\0\0', prog=100005))], record(accepted(2, 0, words(2)))),
     ('half a call', [record(NULL[:20])], b''),
     ('cut in a header', [record(NULL) + b'\x80\0'], REPLY),
     ('cut in a record', [record(NULL) + record(NULL)[:20]], REPLY),
@@ -85,6 +87,7 @@ ROWS: list[tuple[str, list[bytes], bytes]] = [
     ('above the limit', [words(0x00102001) + record(NULL)], b''),
     ('above the limit by its second fragment', [record(NULL) + words(4) + b'abcd' + words(0x80101ffd) + b'x' * 9], REPLY),
     ('a length of 2^31 - 1', [words(0xffffffff)], b''),
+    ('a length of 2^31 - 1, not the last fragment', [record(NULL) + words(0x7fffffff) + record(NULL)], REPLY),
     ('a header alone', [words(0x80102000)], b''),
     ('a record at the limit, of no call', [words(0x80000000 | RECORD_MAX) + bytes(4) + words(1) + bytes(RECORD_MAX - 8)], b''),
     ('a record at the limit, in fragments of one byte', [by_bytes(NULL + bytes(RECORD_MAX - len(NULL)))], record(accepted(1, 4))),
@@ -160,15 +163,15 @@ HELD: list[tuple[str, bytes]] = [
     ('half a record of one MiB', words(0x80102000) + bytes(RECORD_MAX // 2)),
     ('a record of one MiB but for its last byte', words(0x80102000) + bytes(RECORD_MAX - 1)),
     ('a million empty fragments', bytes(4 << 20)),
-    ('a hundred thousand fragments of one byte', (words(1) + b'\0') * 100_000),
+    ('a record of one MiB in fragments of one byte, but for its last', (words(1) + b'\0') * (RECORD_MAX - 1)),
 ]
 
 
-def held_memory(port: int, pid: int, name: str, sent: bytes, peers: int) -> bool:
-    """Peers that hold their connections: what each takes of the server's memory, beside a client that is served."""
+def held_memory(port: int, pid: int, before: int, name: str, sent: bytes, peers: int) -> bool:
+    """Peers that hold their connections: what each takes of the server's memory, beside a client that is served. What the allocator kept of
+    the peers of earlier rows counts too."""
     with connect(port) as client:
         good = one_call(client, 1)
-        before = resident(pid)
         links = [connect(port) for _ in range(peers)]
         for s in links:
             s.sendall(sent)
@@ -219,8 +222,9 @@ def run(program: str, peers: int) -> bool:
                 for name, pieces, want in ROWS:
                     got = answered(port, pieces)
                     good = check(name, got == want, (got[:80].hex(), want[:80].hex())) and good
+                before = resident(server.pid)
                 for name, sent in HELD:
-                    good = held_memory(port, server.pid, name, sent, held_peers) and good
+                    good = held_memory(port, server.pid, before, name, sent, held_peers) and good
                 good = random_peers(port, peers) and good
                 out, err = server.communicate(timeout=60)
                 good = check('served', (out, err, server.returncode) == ('served %d journal 0\n' % connections, '', 0), (out, err)) and good

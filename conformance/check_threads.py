@@ -3,11 +3,12 @@
     python3 conformance/check_threads.py [--program PROGRAM] [--few PROGRAM] [--seconds N] [--only WORD ..]
 
 `work`: 64 connections for 20 seconds, each of which writes and reads a file of its own, and reads one that all read, beside a peer that says
-nothing, peers that are reset in the middle of a frame, and `put` and `get` of a mebibyte. `short`: 10,000 short connections. `crowd`: 1,500
-clients at once with one call each. `few`: three peers that say nothing, at a program built with `THREADS` of nfsrdma's main.rt at 2 (--few;
-left out without it): a fourth client waits until one of them ends. The frames are those of docs/WIRE.md, with small calls inline. In `work`
-and `short` the server's resident memory after the connections may be that before them, with what the files take, and 8 MiB more. Exit status:
-0 all as expected, 1 something differs, 2 no program."""
+nothing, peers that are reset in the middle of a frame, `put` and `get` of a mebibyte, and such that are killed; then 64 more for a quarter of
+that time. `short`: 10,000 short connections. `crowd`: 1,500 clients at once with one call each. `few`: three peers that say nothing, at a
+program built with `THREADS` of nfsrdma's main.rt at 2 (--few; left out without it): a fourth client waits until one of them ends. The frames
+are those of docs/WIRE.md, with small calls inline. The server's resident memory after the connections may be that before them, with what the
+files take, and 8 MiB more, in `work` 32; the 64 more may add what their files take, and 4 MiB. Exit status: 0 all as expected, 1 something
+differs, 2 no program."""
 import argparse
 import os
 import random
@@ -20,7 +21,7 @@ import sys
 import tempfile
 import threading
 import time
-from concurrent.futures import ProcessPoolExecutor
+from concurrent.futures import Future, ProcessPoolExecutor
 
 from check_serve import ANSWERED, CALL, HELLO, ROOT, connect, free_port, serve, words
 
@@ -31,16 +32,19 @@ capacity = 1000000000000
 connections = %d
 write_verifier = "0000000000000001"
 '''
-NFS, CREATE, WRITE, READ = 100003, 8, 7, 6
+NFS, GETATTR, CREATE, WRITE, READ = 100003, 1, 8, 7, 6
 HANDLE_LEN = 8
 ROOT_HANDLE = words(HANDLE_LEN, 0, 1)
-# offsets in a reply: the status of the results, the handle of a CREATE, the count and the data of a READ (RFC 5531 section 9, RFC 1813)
-STATUS, NEW_HANDLE, READ_COUNT, READ_DATA = 24, 32, 116, 128
+# offsets in a reply: the status of the results, the handle of a CREATE, the count and the data of a READ, the size of a GETATTR (RFC 5531
+# section 9, RFC 1813)
+STATUS, NEW_HANDLE, READ_COUNT, READ_DATA, SIZE = 24, 32, 116, 128, 48
 # a READ or WRITE of so many bytes fits a Send of 1024 bytes without a chunk
 PIECE = 512
 CONNECTIONS, PROCESSES = 64, 4
 # how much more memory a server may keep after its connections, in MiB
 ROOM = 8
+# what the connections of a process came to: of each its calls, its changes, and what differed
+Part = Future[list[tuple[int, int, str]]]
 
 
 class Link:
@@ -93,6 +97,9 @@ class Link:
         got = struct.unpack('>I', reply[READ_COUNT:READ_COUNT + 4])[0]
         return reply[READ_DATA:READ_DATA + got]
 
+    def size(self, handle: bytes) -> int:
+        return int(struct.unpack('>Q', self.call(GETATTR, handle)[SIZE:SIZE + 8])[0])
+
     def reset(self, data: bytes) -> None:
         """Sends these bytes, and resets the connection."""
         self.socket.sendall(data)
@@ -141,6 +148,12 @@ def work_of_process(port: int, numbers: range, common: bytes, text: bytes, until
     return done
 
 
+def start_work(pool: ProcessPoolExecutor, port: int, first: int, common: bytes, text: bytes, seconds: float) -> list[Part]:
+    """Starts all connections, whose files have numbers from `first` on."""
+    until, each = time.time() + seconds, CONNECTIONS // PROCESSES
+    return [pool.submit(work_of_process, port, range(at, at + each), common, text, until) for at in range(first, first + CONNECTIONS, each)]
+
+
 def resident(pid: int) -> float:
     """The resident memory of a process, in mebibytes."""
     with open('/proc/%d/status' % pid, encoding='utf-8') as f:
@@ -171,10 +184,31 @@ class Tries:
         self.same('%s %s' % (name, path), (done.returncode, done.stderr), (0, b''))
         return done.stdout
 
+    def killed(self, port: int, beside: Link, number: int, data: bytes) -> int:
+        """A `get` is killed while it prints, and a `put` after the WRITEs of half of the data. Gives how many changes were made."""
+        get, put = ([self.program, name, '127.0.0.1:%d' % port, '/', path] for name, path in (('get', '/large0'), ('put', '/half%d' % number)))
+        client = subprocess.Popen(get, stdout=subprocess.PIPE)
+        assert client.stdout is not None
+        first = client.stdout.read(1000)
+        client.kill()
+        client.communicate()
+        handle, half = beside.create('half%d' % number), data[:len(data) // 2]
+        other = subprocess.Popen(put, stdin=subprocess.PIPE)
+        assert other.stdin is not None
+        other.stdin.write(half)
+        other.stdin.flush()
+        until = time.time() + 30
+        while beside.size(handle) < len(half) and time.time() < until:
+            time.sleep(0.05)
+        other.kill()
+        other.communicate()
+        self.same('killed in the middle', (first, client.returncode, beside.size(handle), other.returncode), (data[:1000], -9, len(half), -9))
+        return 2 + len(half) // 32768
+
     def work(self) -> None:
         """64 connections at work, and wrong peers beside them."""
         resets, rounds = 200, 10
-        total = 1 + 1 + CONNECTIONS + resets + 2 * rounds
+        total = 1 + 1 + 2 * CONNECTIONS + resets + 4 * rounds
         port = free_port()
         server = serve(self.program, self.folder, CONFIG % (port, total))
         silent = connect(port)
@@ -185,10 +219,8 @@ class Tries:
             first.write(common, at, text[at:at + PIECE])
         journal = 1 + len(text) // PIECE
         before = resident(server.pid)
-        until = time.time() + self.seconds
         with ProcessPoolExecutor(PROCESSES) as pool:
-            each = CONNECTIONS // PROCESSES
-            parts = [pool.submit(work_of_process, port, range(i * each, (i + 1) * each), common, text, until) for i in range(PROCESSES)]
+            parts = start_work(pool, port, 0, common, text, self.seconds)
             time.sleep(self.seconds / 4)
             for i in range(resets):
                 peer = Link(port)
@@ -199,21 +231,27 @@ class Tries:
             for i in range(rounds):
                 self.command(port, 'put', '/large%d' % i, large)
                 self.same('get of a mebibyte', self.command(port, 'get', '/large%d' % i, b'') == large, True)
-                journal += 1 + len(large) // 32768
+                journal += 1 + len(large) // 32768 + self.killed(port, first, i, large)
             at_work = resident(server.pid)
             done = [it for part in parts for it in part.result()]
+            first.socket.close()
+            time.sleep(1)
+            after = resident(server.pid)
+            done += [it for part in start_work(pool, port, CONNECTIONS, common, text, self.seconds / 4) for it in part.result()]
         self.wrong += [what for calls, changes, what in done if what]
         calls, changes = sum(it[0] for it in done), sum(it[1] for it in done)
-        first.socket.close()
         time.sleep(1)
         self.same('while one peer says nothing', server.poll(), None)
-        after = resident(server.pid)
-        files = (CONNECTIONS * 16 * PIECE + rounds * len(large)) / (1 << 20)
-        self.same('resident memory after the work, %.1f MiB, is within bounds' % after, after <= before + files + ROOM, True)
+        again = resident(server.pid)
+        own = CONNECTIONS * 16 * PIECE / (1 << 20)
+        files = own + rounds * 3 * len(large) / (2 << 20)
+        # the allocator keeps some of what each of its arenas had at its most
+        self.same('resident memory after the work, %.1f MiB, is within bounds' % after, after <= before + files + 4 * ROOM, True)
+        self.same('resident memory after more work, %.1f MiB, is within bounds' % again, again <= after + own + ROOM / 2, True)
         silent.close()
         self.ends('64 connections at work', server, total, journal + changes)
-        print('work: %d calls, %d changes in %g seconds; resident %.1f MiB before, %.1f at work, %.1f after' % (
-            calls, changes, self.seconds, before, at_work, after))
+        print('work: %d calls, %d changes in %g seconds; resident %.1f MiB before, %.1f at work, %.1f after, of which files %.1f; %.1f after more' % (
+            calls, changes, self.seconds * 1.25, before, at_work, after, files, again))
 
     def short(self) -> None:
         """Short connections, one after another by each of several threads."""
@@ -298,8 +336,10 @@ class Tries:
         port = free_port()
         server = serve(self.few, self.folder, CONFIG % (port, 5))
         connect(port).close()
+        # the thread of that one has to end, else it is one of the two
+        time.sleep(2)
         silent = [connect(port) for _ in range(3)]
-        time.sleep(0.5)
+        time.sleep(2)
         with connect(port) as fourth:
             fourth.sendall(HELLO + CALL)
             fourth.settimeout(3)

@@ -21,12 +21,16 @@ ROOT = os.path.dirname(os.path.dirname(os.path.abspath(__file__)))
 REFUSES = r'''
 #define _GNU_SOURCE
 #include <dlfcn.h>
+#include <fcntl.h>
 #include <stdlib.h>
 #include <unistd.h>
 static long left = -1, made;
 __attribute__((constructor)) static void begin(void) { const char *at = getenv("REFUSE_AT"); left = at ? atol(at) : 0; made = 0; }
-__attribute__((destructor)) static void end(void) { if (left > made) _exit(77); }
-static int refused(void) { return left > 0 && ++made == left; }
+static int refused(void) {
+    if (left <= 0 || ++made != left) return 0;
+    close(open(getenv("REFUSE_MARK"), O_CREAT | O_WRONLY, 0600));
+    return 1;
+}
 void *malloc(size_t n) { static void *(*f)(size_t); if (!f) f = dlsym(RTLD_NEXT, "malloc"); return refused() ? 0 : f(n); }
 void *realloc(void *p, size_t n) { static void *(*f)(void *, size_t); if (!f) f = dlsym(RTLD_NEXT, "realloc"); return refused() ? 0 : f(p, n); }
 '''
@@ -40,16 +44,28 @@ SCRIPTS = {
 }
 
 
-def run(program: str, library: str, script: str, at: int) -> tuple[int, bytes, bytes]:
-    env = dict(os.environ, LD_PRELOAD=library, REFUSE_AT=str(at))
-    done = subprocess.run([program, 'drill'], input=script.encode(), capture_output=True, env=env, check=False)
-    return done.returncode, done.stdout, done.stderr
+# stands for the status of a run in which no request was refused, since it made fewer
+FEWER = 77
 
 
-def stat(program: str, library: str, address: str, at: int) -> tuple[int, bytes, bytes]:
-    env = dict(os.environ, LD_PRELOAD=library, REFUSE_AT=str(at))
-    done = subprocess.run([program, 'stat', address, '/', '/'], capture_output=True, env=env, check=False)
-    return done.returncode, done.stdout, done.stderr
+def environment(library: str, at: int) -> dict[str, str]:
+    return dict(os.environ, LD_PRELOAD=library, REFUSE_AT=str(at), REFUSE_MARK='%s.%d' % (library, at))
+
+
+def status(library: str, at: int, returned: int) -> int:
+    """The status of a run, or FEWER. The library leaves a file if it refused a request."""
+    if at == 0:
+        return returned
+    try:
+        os.remove('%s.%d' % (library, at))
+    except FileNotFoundError:
+        return FEWER
+    return returned
+
+
+def run(program: str, library: str, words: list[str], given: bytes, at: int) -> tuple[int, bytes, bytes]:
+    done = subprocess.run([program, *words], input=given, capture_output=True, env=environment(library, at), check=False)
+    return status(library, at, done.returncode), done.stdout, done.stderr
 
 
 def answer(s: socket.socket) -> bytes:
@@ -70,8 +86,7 @@ def serve_some(program: str, library: str, folder: str, count: int, at: int) -> 
     port, path = free_port(), os.path.join(folder, 'config%d.toml' % at)
     with open(path, 'w', encoding='utf-8') as f:
         f.write(CONFIG % (port, count))
-    env = dict(os.environ, LD_PRELOAD=library, REFUSE_AT=str(at))
-    server = subprocess.Popen([program, 'serve', path], stdout=subprocess.PIPE, stderr=subprocess.PIPE, env=env)
+    server = subprocess.Popen([program, 'serve', path], stdout=subprocess.PIPE, stderr=subprocess.PIPE, env=environment(library, at))
     links: list[socket.socket] = []
     while server.poll() is None and len(links) < count:
         try:
@@ -85,7 +100,7 @@ def serve_some(program: str, library: str, folder: str, count: int, at: int) -> 
         got.append(answer(s))
         s.close()
     out, err = server.communicate(timeout=30)
-    return server.returncode, out, err, got
+    return status(library, at, server.returncode), out, err, got
 
 
 def served(count: int, g: tuple[object, ...]) -> bool:
@@ -105,7 +120,7 @@ def refuse_over_links(program: str, library: str, folder: str) -> int:
     server = subprocess.Popen([program, 'serve', path])
     connect(port).close()
     ends: dict[str, tuple[Callable[[int], tuple[object, ...]], Callable[[tuple[object, ...]], bool]]] = {
-        'stat': (lambda at: stat(program, library, '127.0.0.1:%d' % port, at),
+        'stat': (lambda at: run(program, library, ['stat', '127.0.0.1:%d' % port, '/', '/'], b'', at),
                  lambda g: g in ((2, b'', b'memory\n'), (3, b'', b'link fault\n'))),
         'serve, one connection': (lambda at: serve_some(program, library, folder, 1, at), lambda g: served(1, g)),
         'serve, two connections at once': (lambda at: serve_some(program, library, folder, 2, at), lambda g: served(2, g)),
@@ -115,7 +130,7 @@ def refuse_over_links(program: str, library: str, folder: str) -> int:
         while True:
             at += 1
             g = run_at(at)
-            if g[0] == 77:
+            if g[0] == FEWER:
                 break
             seen[str(g[0])] = seen.get(str(g[0]), 0) + 1
             if not may_be(g):
@@ -141,13 +156,11 @@ def main(argv: list[str]) -> int:
             f.write(REFUSES)
         subprocess.run(['cc', '-shared', '-fPIC', '-O1', '-o', library, source, '-ldl'], check=True)
         for name, script in SCRIPTS.items():
-            good = run(a.program, library, script, 0)
+            good = run(a.program, library, ['drill'], script.encode(), 0)
             count, step = 0, 64
             while True:
-                got = list(pool.map(lambda at: run(a.program, library, script, at), range(count + 1, count + step + 1)))
-                # a run that makes fewer requests ends as one of which none is refused, or by 77 at its end
-                fewer = [g[0] == 77 or g == good for g in got]
-                refused = max((i + 1 for i, f in enumerate(fewer) if not f), default=0)
+                got = list(pool.map(lambda at: run(a.program, library, ['drill'], script.encode(), at), range(count + 1, count + step + 1)))
+                refused = max((i + 1 for i, g in enumerate(got) if g[0] != FEWER), default=0)
                 for at, g in enumerate(got[:refused], count + 1):
                     if g != (2, b'', b'memory\n'):
                         wrong += 1
