@@ -7,7 +7,6 @@ use Rattle.nr_xdr.proofs.WordBytes.{word_word_of}
 use Rattle.nr_record.specs.Constants.{RECORD_MAX}
 use Rattle.nr_record.specs.Records.{Cut, IsAboveAt, contents, encoding, encodings, fragment, fragments}
 use Rattle.nr_record.specs.RecordsState.{IsContentInLimit, IsInLimit}
-use Rattle.nr_record.specs.declared.fault.RecordFault.TheVariants as faults
 use Rattle.nr_host.specs.LinkServing.{HELLO_BYTE}
 use Rattle.nr_host_laws.specs.LinkLaws.{HellosAreNoRecords}
 

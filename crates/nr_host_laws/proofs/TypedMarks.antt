@@ -1,6 +1,5 @@
 -- The marks of a connection over a source of bytes are of their types.
-use Rattle.std.proofs.Common.{◌≡◌, ℕ, zero, suc, ◌+◌, ◌-◌, ◌≤◌, Bool, true, false, cond, not, ◌&&◌, eqb, List, [], ◌∷◌, ◌++◌, length, take, drop, Option, None, Some, refl, sym, ap, ◌∙◌, subst, arith, append-nil}
-use Rattle.std.proofs.lemmas.List.{take-append-drop, length-append}
+use Rattle.std.proofs.Common.{◌≡◌, ℕ, zero, suc, ◌+◌, Bool, true, false, cond, not, ◌&&◌, eqb, List, [], ◌∷◌, ◌++◌, length, take, Option, None, Some, refl, sym, ap, ◌∙◌, subst}
 use Rattle.std.specs.List.{AllByRecursion, flat_map}
 use Rattle.std.specs.Option.{option_map}
 use Rattle.std.specs.Io.KnownBytes.{Consumes}
@@ -23,7 +22,7 @@ use Rattle.nr_reduce.specs.declared.mark.Mark.TheVariants as marks
 use Rattle.nr_reduce.proofs.Standing.{AtEachMark_more, itself}
 use Rattle.nr_laws.specs.Typed.{IsTyped, TypedMark}
 use Rattle.nr_laws.proofs.Basics.{each_append}
-use Rattle.nr_plain.specs.History.{AllPlaced, Answered, Opening, entries_in, setup_in}
+use Rattle.nr_plain.specs.History.{AllPlaced, Answered, AreOfCalls, Opening, entries_in, setup_in}
 use Rattle.nr_plain.specs.Journal.{state_of}
 use Rattle.nr_plain.specs.Replies.{Answer, plain_answer, plain_reply}
 use Rattle.nr_plain.specs.Setup.{Setup}
@@ -33,7 +32,7 @@ use Rattle.nr_byte_laws.proofs.PlainBytes.{entries_bytes, plain_reply_bytes}
 use Rattle.nr_host.specs.Connections.{IsOwn, Outside, answer_of, answers_of}
 use Rattle.nr_host_laws.specs.OwnMarks.{is_own, other_marks, own_marks}
 use Rattle.nr_host_laws.specs.Streams.{ServesStream}
-use Rattle.nr_host_laws.specs.TypedMarks.{ConnectionsAreTyped, OthersInBytes}
+use Rattle.nr_host_laws.specs.TypedMarks.{ConnectionsAreTyped}
 
 -- ---- A call that is executed
 
@@ -46,35 +45,27 @@ next_bytes : (opened : LinkParameters) (link : ℕ) (run : List Mark) (call : Re
 unfolding next_call
 next_bytes opened link run call typed e = first_bytes (server opened link run).state.ready (server opened link run).ended call (ready_bytes opened link run typed) e
 
--- ---- Places of a journal
+-- ---- The entries of a journal
 
-take_more : {X : Type 0} (n k : ℕ) (xs : List X) → take (n + k) xs ≡ take n xs ++ take k (drop n xs)
-take_more zero k xs = let same : 0 + k ≡ k = omega arith in ap (λ (m : ℕ). take m xs) same
-take_more {X} (suc n) k [] = let same : suc n + k ≡ suc (n + k) = omega arith in ap (λ (m : ℕ). take {A = X} m []) same ∙ sym (nothing k)
-  where
-    nothing : (m : ℕ) → take {A = X} m [] ≡ []
-    nothing zero = refl
-    nothing (suc m) = refl
-take_more (suc n) k (x ∷ xs) = let same : suc n + k ≡ suc (n + k) = omega arith in ap (λ (m : ℕ). take m (x ∷ xs)) same ∙ ap (λ l. x ∷ l) (take_more n k xs)
+front_bytes : (n : ℕ) (J : List Entry) → EntriesInBytes J → EntriesInBytes (take n J)
+front_bytes zero J h = tt
+front_bytes (suc n) [] h = tt
+front_bytes (suc n) (e ∷ J) h = (h.0, front_bytes n J h.1)
 
-until_place : (J : List Entry) (n place : ℕ) → n ≤ place → EntriesInBytes (take n J) → EntriesInBytes (take (place - n) (drop n J)) → EntriesInBytes (take place J)
-until_place J n place le before between =
-    let at : n + (place - n) ≡ place = omega (arith, le) in
-    subst (λ (m : ℕ). EntriesInBytes (take m J)) at
-    (subst EntriesInBytes (sym (take_more n (place - n) J)) (each_append EntryInBytes (take n J) (take (place - n) (drop n J)) before between))
+-- an entry of a call is in bytes, since the call's payload is bytes
+of_calls_bytes : (s : Setup) (J more : List Entry) → AreOfCalls s J more → EntriesInBytes more
+of_calls_bytes s J [] h = tt
+of_calls_bytes s J (e ∷ more) (one, rest) =
+    let here : EntriesInBytes (e ∷ []) = subst EntriesInBytes one.adds (entries_bytes one.moment one.payload one.reply one.bytes) in
+    (here.0, of_calls_bytes s (J ++ e ∷ []) more rest)
 
-and_own : (J : List Entry) (place : ℕ) (own : List Entry) → take (length own) (drop place J) ≡ own → EntriesInBytes (take place J) → EntriesInBytes own → EntriesInBytes (take (place + length own) J)
-and_own J place own there before added =
-    subst EntriesInBytes (sym (take_more place (length own) J ∙ ap (λ (l : List Entry). take place J ++ l) there)) (each_append EntryInBytes (take place J) own before added)
+all_bytes : (s : Setup) (J more : List Entry) → EntriesInBytes J → AreOfCalls s J more → EntriesInBytes (J ++ more)
+all_bytes s J more entries calls = each_append EntryInBytes J more entries (of_calls_bytes s J more calls)
 
 take_twice : {X : Type 0} (n : ℕ) (xs : List X) → take n (take n xs) ≡ take n xs
 take_twice zero xs = refl
 take_twice (suc n) [] = refl
 take_twice (suc n) (x ∷ xs) = ap (λ l. x ∷ l) (take_twice n xs)
-
-take_front : {X : Type 0} (xs ys : List X) → take (length xs) (xs ++ ys) ≡ xs
-take_front [] ys = refl
-take_front (x ∷ xs) ys = ap (λ l. x ∷ l) (take_front xs ys)
 
 -- a reply by what stands before its place
 reply_at : (s : Setup) (J : List Entry) (place : ℕ) (moment : Moment) (payload reply : List ℕ) → IsInBytes s.tree → EntriesInBytes (take place J) → plain_reply s J place moment payload ≡ Some reply → IsBytes reply
@@ -93,9 +84,8 @@ record Goes (s : Setup) (J : List Entry) (opened : LinkParameters) (link : ℕ) 
   own : AtEachMark (λ earlier mark. IsOwn link mark) front run
   served : AtEachMark (ServedMark IsPrefixOf opened link) front run
   fed : IsBytes (flat_map (fed_at link Responder) run)
-  before : EntriesInBytes (take n J)
+  entries : EntriesInBytes J
   placed : AllPlaced s J n (flat_map answer_of run)
-  others : OthersInBytes J n (flat_map answer_of run)
 
 abbrev Typed : (front run : List Mark) → Type 0
 Typed front run = AtEachMark TypedMark front run × EntriesInBytes (flat_map entries_in (flat_map answer_of run))
@@ -109,9 +99,8 @@ typed_from s J opened link tree front (marks.Fed l Responder bytes ∷ run) n g 
       own = g.own.1;
       served = g.served.1;
       fed = IsBytes_right (fed_at link Responder (marks.Fed l Responder bytes)) (flat_map (fed_at link Responder) run) g.fed;
-      before = g.before;
+      entries = g.entries;
       placed = g.placed;
-      others = g.others;
     }) in
     ((here, rest.0), rest.1)
 typed_from s J opened link tree front (marks.Wrote l Responder bytes ∷ run) n g =
@@ -120,9 +109,8 @@ typed_from s J opened link tree front (marks.Wrote l Responder bytes ∷ run) n 
       own = g.own.1;
       served = g.served.1;
       fed = g.fed;
-      before = g.before;
+      entries = g.entries;
       placed = g.placed;
-      others = g.others;
     }) in
     ((tt, rest.0), rest.1)
 typed_from s J opened link tree front (marks.Execute l xid moment payload place reply ∷ run) n g =
@@ -130,7 +118,7 @@ typed_from s J opened link tree front (marks.Execute l xid moment payload place 
     let call : Answered = record { moment = moment; payload = payload; place = place; reply = reply } in
     let executed = g.served.0 g.own.0 in
     let bytes : IsBytes payload = subst IsBytes (sym executed.conveyed) (next_bytes opened link front executed.call g.typed executed.is_next) in
-    let until : EntriesInBytes (take place J) = until_place J n place g.placed.0 g.before g.others.0 in
+    let until : EntriesInBytes (take place J) = front_bytes place J g.entries in
     let here : IsBytes reply = reply_at s J place moment payload reply tree until g.placed.1.0 in
     let added : EntriesInBytes (entries_in call) = entries_bytes moment payload reply bytes in
     let rest = typed_from s J opened link tree (front ++ mark ∷ []) run (place + length (entries_in call)) (record {
@@ -138,9 +126,8 @@ typed_from s J opened link tree front (marks.Execute l xid moment payload place 
       own = g.own.1;
       served = g.served.1;
       fed = g.fed;
-      before = and_own J place (entries_in call) g.placed.1.1.0 until added;
+      entries = g.entries;
       placed = g.placed.1.1.1;
-      others = g.others.1;
     }) in
     ((here, rest.0), each_append EntryInBytes (entries_in call) (flat_map entries_in (flat_map answer_of run)) added rest.1)
 typed_from s J opened link tree front (marks.Fed l Initiator bytes ∷ run) n g = absurd g.own.0
@@ -171,24 +158,22 @@ connections_are_typed_lem terms link before after end first J left ended is =
       own = ended.runs.own;
       served = ended.runs.served opened refl;
       fed = IsBytes_left (flat_map (fed_at link Responder) ended.run) ended.ahead all;
-      before = subst EntriesInBytes (sym (take_front J over.more)) is.entries;
+      entries = all_bytes (setup_in first) J over.more is.entries over.of_calls;
       placed = over.placed;
-      others = is.others (J ++ over.more) over.seen;
     })
 
 -- so is the stream of a connection that served all of it
 pub stream_is_typed : (credits : ℕ) (first : Opening) (J : List Entry) (link : ℕ) (before after : Outside) (stream : List ℕ) (served : ServesStream credits first J link before after stream) (opened : LinkParameters)
-    → opened.granted ≡ credits → IsBytes stream → IsInBytes (setup_in first).tree → EntriesInBytes J → OthersInBytes (J ++ served.over.more) (length J) (answers_of served.run) → IsTyped served.run
+    → opened.granted ≡ credits → IsBytes stream → IsInBytes (setup_in first).tree → EntriesInBytes J → IsTyped served.run
 unfolding bytes_received answers_of
-stream_is_typed credits first J link before after stream served opened same bytes tree entries others =
+stream_is_typed credits first J link before after stream served opened same bytes tree entries =
     (typed_from (setup_in first) (J ++ served.over.more) opened link tree [] served.run (length J) (record {
       typed = tt;
       own = (served.made opened same).own;
       served = (served.made opened same).served;
       fed = subst IsBytes (sym served.fed) bytes;
-      before = subst EntriesInBytes (sym (take_front J served.over.more)) entries;
+      entries = all_bytes (setup_in first) J served.over.more entries served.over.of_calls;
       placed = served.over.placed;
-      others = others;
     })).0
 
 -- ---- A run of both sides

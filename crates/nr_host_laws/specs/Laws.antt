@@ -1,12 +1,11 @@
 -- Laws of connections: those over a complete stream are served to their end; all but those that run out of memory keep
 -- the law of a link's server.
-use Rattle.std.specs.Prelude.{◌≡◌, ℕ, ◌⊎◌, List, [], ◌++◌, length, Bool, Option, Some}
+use Rattle.std.specs.Prelude.{◌≡◌, ℕ, ◌⊎◌, List, [], length, Bool, Option, Some}
 use Rattle.nr_xdr.specs.Item.{IsBytes}
 use Rattle.nr_outside.specs.Faults.{Rises}
 use Rattle.nr_outside.specs.declared.moment.Moment.{Moment}
 use Rattle.nr_link.specs.declared.end.End.{End}
 use Rattle.nr_reduce.specs.declared.mark.Mark.{Mark}
-use Rattle.nr_reduce.specs.declared.mark.Mark.TheVariants as marks
 use Rattle.nr_reduce.specs.KeepsReplyLimits.{KeepsReplyLimits}
 use Rattle.nr_reduce.specs.Opening.{IsOpened}
 use Rattle.nr_laws.specs.EndCauses.{KeepLaws}
@@ -25,14 +24,14 @@ use Rattle.nr_laws.specs.Typed.{IsTyped}
 use Rattle.nr_plain.specs.Setup.{Setup}
 use Rattle.nr_byte_laws.specs.InBytes.{EntriesInBytes, IsInBytes}
 use Rattle.nr_plain.specs.History.{IsHistory, Opening, setup_in}
-use Rattle.nr_host.specs.Connections.{Outside, answers_of}
+use Rattle.nr_host.specs.Connections.{Outside}
 use Rattle.nr_host.specs.Ending.{Ended, SinkCount, SourceCount}
 use Rattle.nr_host.specs.Steps.{IsServed, with_failed}
 use Rattle.nr_host.specs.declared.conn_end.ConnEnd.{ConnEnd}
 use Rattle.nr_host.specs.declared.conn_end.ConnEnd.TheVariants as ends
 use Rattle.nr_host_laws.specs.OwnMarks.{other_marks, own_marks}
 use Rattle.nr_host_laws.specs.Streams.{IsCompleteStream, ServesStream}
-use Rattle.nr_host_laws.specs.TypedMarks.{IsOverBytes, OthersInBytes}
+use Rattle.nr_host_laws.specs.TypedMarks.{IsOverBytes}
 
 -- `Closed`, after all of the stream, whatever number the link has in the marks; or memory ran out
 abbrev pub Completes : ℕ → Opening → List Entry → (before after : Outside) → List ℕ → ConnEnd → Type 0
@@ -62,13 +61,11 @@ abbrev pub StreamsWithoutCalls : Type 0
 StreamsWithoutCalls = (credits : ℕ) (s : Setup) (J : List Entry) → IsCompleteStream credits s J [] × IsCompleteStream credits s J (own_hello Initiator)
 
 -- A connection that served a complete stream of bytes answered each Send of it: as many messages were completely
--- written as Sends were received, if the first tree of its server holds bytes, and the journal, and what others added
--- to it meanwhile, has entries in bytes.
+-- written as Sends were received, if the first tree of its server holds bytes, and the journal has entries in bytes.
 abbrev pub SendsAreAnswered : Type 0
 SendsAreAnswered =
     (credits : ℕ) (first : Opening) (J : List Entry) (link : ℕ) (before after : Outside) (stream : List ℕ) (served : ServesStream credits first J link before after stream) →
     (opened : LinkParameters) → opened.granted ≡ credits → IsBytes stream → IsInBytes (setup_in first).tree → EntriesInBytes J →
-    OthersInBytes (J ++ served.over.more) (length J) (answers_of served.run) →
     items_written is_send_item (length (hello_due opened link Responder served.run)) (length (bytes_sent link Responder served.run)) (items_due opened link Responder served.run)
     ≡ (server opened link served.run).state.received.sends
 
@@ -81,6 +78,6 @@ MatchedConnectionsStay =
     (credits : ℕ) (before after : Outside) (why : End) (link read : ℕ) (failed : Bool)
     (ended : Ended (record { credits = credits; read = read }) link before (with_failed failed after) (ends.Protocol why))
     (first : Opening) (J : List Entry) (left : List ℕ) (reply_to : List Entry → Moment → List ℕ → Option (List ℕ)) (adds : Moment → List ℕ → List ℕ → List Entry) (opened : LinkParameters) (run : List Mark) →
-    opened.granted ≡ credits → own_marks link run ≡ ended.run → IsOverBytes first J left before (with_failed failed after) (answers_of ended.run) → IsTyped (other_marks link run) →
+    opened.granted ≡ credits → own_marks link run ≡ ended.run → IsOverBytes first J left before → IsTyped (other_marks link run) →
     IsOpened opened → KeepLaws opened link run → HasNoRevoke link run → AreConveyedOrRefused opened link run →
     KeepsReplyLimits (server_with reply_to adds) → HasPlainReplies (server_with reply_to adds) link run → ⊥
