@@ -9,7 +9,8 @@ of its specs/. Tests and benchmarks have a heading each in tests.md and benches.
 name in backticks on any page has to be there: a word of the code (on a crate's page of that crate, of those that it
 stands on or that stand on it), a file, a crate, a script.
 Lines have at most 160 characters, prose 120, table cells 40 words; links lead to a file; the words of CONTRIBUTING's
-house list stand in no prose. WIRE.md has a row for each reason and each other word of a Terminate.
+house list stand in no prose, at the beginning of a sentence neither. WIRE.md has a row for each reason and each other
+word of a Terminate. A page that sends its reader to measured.csv has a row there, or says that there is none.
 Exit status: 0, or 1 with a line for each difference."""
 import argparse
 import glob
@@ -24,12 +25,13 @@ LINE_MAX, PROSE_MAX, CELL_MAX = 160, 120, 40
 HOUSE = (
     (r'\bwhere\b', 'where: write if, when or that'),
     (r'\bbehind\b', 'behind: write after'),
-    (r'\bwhole\b', 'whole: write complete'),
+    (r'\bwhole\b(?!\.antt)', 'whole: write complete'),
     (r'\btold\b', 'told: write delivered or reported'),
     (r'\bwholly\b', 'wholly: write completely'),
     (r'\bso many\b', 'so many: write n or at most n'),
     (r'\bas it stands\b', 'as it stands: write the same as or equal to'),
-    (r'\b[Ww]ants? (?:of )?memory\b', 'want of memory: write out of memory'),
+    (r'\bwants? (?:of )?memory\b', 'want of memory: write out of memory'),
+    (r'\bfor want of\b', 'for want of: write since there is none'),
 )
 # words in backticks that are no names of the project: of the kit and of std, and placeholders
 OTHER = {'c6c6f000000', 'TITLE', 'WORDS', 'AT', 'Display', 'malloc', 'realloc', 'incremental', 'newer', 'csv', 'md', 'Lts', 'oantt', 'NAME', 'NAME_inner', 'MOD', 'FN', 'fattr3'}
@@ -169,12 +171,13 @@ def vocabularies(crates: list[str]) -> dict[str, set[str]]:
 
 def check_names(page: str, text: str, words: set[str]) -> list[str]:
     out: list[str] = []
+    known = words | OTHER
     for n, span in spans(text):
         if SHELL.search(span) or ' ' in span.strip() and not re.match(r'^[\w:]+ [\w:]+$', span):
             continue
         for word in WORD.findall(span):
             stem = word.strip("'_.")
-            if len(stem) > 1 and not {word, stem} & (words | OTHER) and not PLACEHOLDER.match(word):
+            if len(stem) > 1 and word not in known and stem not in known and not PLACEHOLDER.match(word):
                 out.append('%s:%d: no name `%s` in the code (in `%s`)' % (page, n, word, span))
     return out
 
@@ -198,7 +201,7 @@ def check_form(page: str, text: str) -> list[str]:
                     out.append('%s:%d: a cell of %d words' % (page, n, len(cell.split())))
         if not block and not house:
             prose = re.sub(r'`[^`]*`', '', line)
-            out += ['%s:%d: %s' % (page, n, why) for pattern, why in HOUSE if re.search(pattern, prose)]
+            out += ['%s:%d: %s' % (page, n, why) for pattern, why in HOUSE if re.search(pattern, prose, re.I)]
             for link in re.findall(r'\]\(([^)#]+)[^)]*\)', line):
                 if '://' not in link and not os.path.exists(os.path.join(ROOT, os.path.dirname(page), link)):
                     out.append('%s:%d: no file %s' % (page, n, link))
@@ -216,6 +219,21 @@ def check_reasons(crates: list[str]) -> list[str]:
     rows = {int(n) for n in re.findall(r'^\| (\d+) \|', table, re.M)}
     out = ['docs/WIRE.md: no row of the reason or word %d' % n for n in sorted(given - rows)]
     return out + ['docs/WIRE.md: the number %d is no reason or word' % n for n in sorted(rows - given)]
+
+
+def check_measured(crates: list[str]) -> list[str]:
+    """A page that names measured.csv has a row there, unless it says that there is none yet."""
+    rows = {x.split(',')[4] for x in read(os.path.join(ROOT, 'docs', 'maintaining', 'measured.csv')).splitlines()[1:] if x.count(',') > 4}
+    out: list[str] = []
+    for crate in crates:
+        page = 'docs/crates/%s.md' % crate
+        text = read(os.path.join(ROOT, page)) if os.path.exists(os.path.join(ROOT, page)) else ''
+        none = 'no row of it yet' in text or 'not been measured yet' in text
+        if 'measured.csv' in text and not none and crate not in rows:
+            out.append('%s: measured.csv has no row of it' % page)
+        if none and crate in rows:
+            out.append('%s: measured.csv has a row of it' % page)
+    return out
 
 
 def check_files(page: str, crate: str, text: str) -> list[str]:
@@ -270,7 +288,7 @@ def main(argv: list[str]) -> int:
     words = vocabularies(crates)
     pages = ['README.md', 'CONTRIBUTING.md', 'conformance/README.md', 'drills/README.md']
     pages += [os.path.relpath(x, ROOT) for x in sorted(glob.glob(os.path.join(ROOT, 'docs', '**', '*.md'), recursive=True))]
-    wrong = check_crates(crates) + check_reasons(crates)
+    wrong = check_crates(crates) + check_reasons(crates) + check_measured(crates)
     for page in pages:
         text = read(os.path.join(ROOT, page))
         name = os.path.splitext(os.path.basename(page))[0] if page.startswith('docs/crates/') else ''
