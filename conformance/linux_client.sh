@@ -3,7 +3,7 @@
 #
 #     sh conformance/linux_client.sh [PROGRAM [FOLDER]]
 #
-# It needs Debian's packages qemu-system-x86, busybox-static, cpio and xz-utils, and downloads Debian's cloud kernel into FOLDER (by default
+# It needs Debian's packages qemu-system-x86, busybox-static, cpio, kmod and xz-utils, and downloads Debian's cloud kernel into FOLDER (by default
 # a temporary one) by `apt-get download`. It prints what the machine shows. Exit status: 0 if every command of linux_client_init.sh gave the
 # status that stands there, 1 if not, 2 if something is missing. It takes some minutes: the machine is emulated.
 set -u
@@ -11,7 +11,7 @@ here=$(cd "$(dirname "$0")" && pwd)
 program=${1:-$here/../crates/nfsrdma/out/nfsrdma}
 folder=${2:-$(mktemp -d)}
 [ -x "$program" ] || { echo "no program at $program" >&2; exit 2; }
-for tool in qemu-system-x86_64 busybox cpio dpkg-deb; do
+for tool in qemu-system-x86_64 busybox cpio depmod xz dpkg-deb; do
     command -v $tool >/dev/null || { echo "no $tool" >&2; exit 2; }
 done
 program=$(realpath "$program")
@@ -66,7 +66,7 @@ END
 server=$!
 rm -f screen.txt
 timeout 900 qemu-system-x86_64 -accel tcg,thread=multi -cpu max -smp 1 -m 512 -kernel kernel/boot/vmlinuz-"$version" -initrd initrd.gz \
-    -append "console=ttyS0 edd=off nokaslr quiet nfsport=$port export=/export" -display none -vga none -no-reboot -monitor none \
+    -append "console=ttyS0 edd=off nokaslr no_timer_check quiet nfsport=$port export=/export" -display none -vga none -no-reboot -monitor none \
     -serial file:screen.txt -netdev user,id=n0 -device virtio-net-pci,netdev=n0,romfile=
 kill $server
 tr -d '\r' <screen.txt
