@@ -1,6 +1,7 @@
 //! Laws of a link.
 
 ghost use Rattle.std.specs.Prelude.{◌≡◌};
+ghost use Rattle.nr_link.specs.Agreement.{AgreementsAreBounded, SilenceAgreesNothing};
 ghost use Rattle.nr_link.specs.KeptSends.{JudgedAlike, KeptAlike, MessagesAlike};
 ghost use Rattle.nr_link.specs.Reasons as reasons;
 
@@ -25,4 +26,10 @@ pub fn stop_reasons_numbered()
     ensures chunks { REASON_CHUNKS ≡ reasons.REASON_CHUNKS }
     ensures version { REASON_VERSION ≡ reasons.REASON_VERSION }
     ensures stags { REASON_STAGS ≡ reasons.REASON_STAGS }
+{}
+
+/// Whatever the hellos of both sides say, a Send in each direction may have from 1,024 to 16,384 bytes; 1,024 if a side says nothing.
+pub fn agreements_bounded()
+    ensures bounded { AgreementsAreBounded }
+    ensures silence { SilenceAgreesNothing }
 {}

@@ -7,9 +7,11 @@
 //! link, in the order in which they are checked.
 #![tactic(auto)]
 
+mod agreement;
 pub mod constants;
 mod end;
 mod laws;
 
+pub use agreement::{Agreement, SideTerms};
 pub use end::End;
-pub use laws::{begun_sends_judged_alike, stop_reasons_numbered};
+pub use laws::{agreements_bounded, begun_sends_judged_alike, stop_reasons_numbered};

@@ -12,6 +12,26 @@ HELLO_REVISION = 1
 abbrev pub PRIVATE_MAX : ℕ
 PRIVATE_MAX = 512
 
+-- The private data of a hello that says terms (own): its length in bytes without and with the number of a client, the version that it
+-- names, the flags that say that such a number follows and that Sends with Invalidate are made or taken, and the maximum of units
+abbrev pub TERMS_LEN : ℕ
+TERMS_LEN = 8
+
+abbrev pub NUMBERED_TERMS_LEN : ℕ
+NUMBERED_TERMS_LEN = 16
+
+abbrev pub TERMS_VERSION : ℕ
+TERMS_VERSION = 1
+
+abbrev pub TERMS_NUMBER : ℕ
+TERMS_NUMBER = 1
+
+abbrev pub TERMS_INVALIDATE : ℕ
+TERMS_INVALIDATE = 2
+
+abbrev pub UNITS_MAX : ℕ
+UNITS_MAX = 16
+
 -- the flags of a hello: it asks for markers, it asks for a CRC, a reply refuses the connection
 abbrev pub FLAG_MARKERS : ℕ
 FLAG_MARKERS = 128

@@ -13,6 +13,19 @@ pub const FLAG_CRC: u8 = 0x40;
 /// The flag by which a reply refuses the connection.
 pub const FLAG_REJECT: u8 = 0x20;
 
+/// The length of the private data that says terms, in bytes, without the number of a client.
+pub const TERMS_LEN: usize = 8;
+/// The length of the private data that says terms and the number of a client, in bytes.
+pub const NUMBERED_TERMS_LEN: usize = 16;
+/// The version that private data with terms names.
+pub const TERMS_VERSION: u8 = 1;
+/// The flag of terms that says that the number of a client follows.
+pub const TERMS_NUMBER: u8 = 0x01;
+/// The flag of terms that says that the side makes or takes Sends with Invalidate.
+pub const TERMS_INVALIDATE: u8 = 0x02;
+/// The maximum of units that a side says.
+pub const UNITS_MAX: u32 = 16;
+
 /// The length of the length field that opens an FPDU, in bytes (RFC 5044 section 4).
 pub const LENGTH_LEN: usize = 2;
 /// The length of the CRC field that ends an FPDU, in bytes.

@@ -17,6 +17,7 @@ mod hello;
 mod laws;
 mod segment;
 mod stream;
+mod terms;
 mod words;
 mod write;
 
@@ -26,6 +27,7 @@ pub use laws::{
 };
 pub use segment::{NextSegment, Segment, next_segment};
 pub use stream::{Awaited, bytes_needed, whole_frame};
+pub use terms::{Terms, read_terms, write_terms};
 pub use words::hyper_at;
 pub use write::{
     payload_in, segment_header, segment_tail, tagged_header, ulpdu_size, untagged_header,
