@@ -14,7 +14,7 @@ use nr_wire::{read_terms, write_terms};
 #[derive(Clone, Copy, PartialEq, Eq)]
 pub struct SideTerms {
     /// The maximum length of a Send that it writes or takes, in units of 1,024 bytes: 1 to 16.
-    pub units: u32,
+    pub units: u8,
     /// The number of its client, or 0 if it has none.
     pub number: u64,
     /// It makes or takes Sends with Invalidate (RFC 5040 section 4).
@@ -92,8 +92,8 @@ impl Agreement {
             return Agreement::nothing();
         };
         Agreement {
-            up: SEND_MAX * initiator.sends.min(responder.receives),
-            down: SEND_MAX * responder.sends.min(initiator.receives),
+            up: SEND_MAX * u32::from(initiator.sends.min(responder.receives)),
+            down: SEND_MAX * u32::from(responder.sends.min(initiator.receives)),
             invalidates: initiator.invalidates && responder.invalidates,
         }
     }

@@ -24,7 +24,7 @@ pub const TERMS_NUMBER: u8 = 0x01;
 /// The flag of terms that says that the side makes or takes Sends with Invalidate.
 pub const TERMS_INVALIDATE: u8 = 0x02;
 /// The maximum of units that a side says.
-pub const UNITS_MAX: u32 = 16;
+pub const UNITS_MAX: u8 = 16;
 
 /// The length of the length field that opens an FPDU, in bytes (RFC 5044 section 4).
 pub const LENGTH_LEN: usize = 2;

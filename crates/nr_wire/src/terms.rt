@@ -13,9 +13,9 @@ use arrayvec::ArrayVec;
 #[derive(Clone, Copy, PartialEq, Eq)]
 pub struct Terms {
     /// The maximum length of a Send that it writes, in units of 1,024 bytes: 1 to 16.
-    pub sends: u32,
+    pub sends: u8,
     /// The maximum length of a Send that it takes, in units of 1,024 bytes: 1 to 16.
-    pub receives: u32,
+    pub receives: u8,
     /// The number of the client, or 0 if it has none.
     pub number: u64,
     /// It makes or takes Sends with Invalidate (RFC 5040 section 4).
@@ -31,17 +31,17 @@ fn terms_key() -> &'static [u8]
 }
 
 /// A number of units as a byte.
-fn units_byte(units: u32) -> u8
+fn units_byte(units: u8) -> u8
     ensures { result ≡ units_byte units }
 {
-    units.saturating_sub(1).min(UNITS_MAX - 1) as u8
+    units.saturating_sub(1).min(UNITS_MAX - 1)
 }
 
 /// The units of a byte.
-fn units_of_byte(byte: u8) -> u32
+fn units_of_byte(byte: u8) -> u8
     ensures { result ≡ units_of_byte byte }
 {
-    u32::from(byte).min(UNITS_MAX - 1) + 1
+    byte.min(UNITS_MAX - 1) + 1
 }
 
 /// The number of a client in private data with terms, or 0.
@@ -87,7 +87,7 @@ fn append(out: &mut ArrayVec<u8, NUMBERED_TERMS_LEN>, bytes: &[u8])
 /// The private data of a side with these units, from 1 to 16, for Sends in both directions, and with this number of a client,
 /// or 0: 8 bytes, or 16 with a number. Takes no memory.
 #[tactic(auto, unfolding(crate::specs::Terms::terms_encoding, crate::specs::Terms::terms_key, nr_xdr::specs::Item::hyper))]
-pub fn write_terms(units: u32, number: u64, invalidates: bool) -> ArrayVec<u8, NUMBERED_TERMS_LEN>
+pub fn write_terms(units: u8, number: u64, invalidates: bool) -> ArrayVec<u8, NUMBERED_TERMS_LEN>
     ensures bytes { result.items ≡ terms_encoding units number invalidates }
     ensures len { array_vec_len result ≤ NUMBERED_TERMS_LEN }
 {
