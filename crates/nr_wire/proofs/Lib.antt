@@ -7,3 +7,4 @@ pub mod HalfWords
 pub mod Hellos
 pub mod Controls
 pub mod Segments
+pub mod PrivateData

@@ -1,7 +1,7 @@
 -- What the private data of a hello says (RFC 5044 section 7.1). All of it is own: the bytes `NR01` and a version; a byte of flags; the
 -- maximum length of the Sends that the side writes, and of those that it takes, in units, each less one; and with a flag the number of the
 -- client, in eight bytes. What follows is ignored, as is any other private data.
-use Rattle.std.specs.Prelude.{ℕ, ◌+◌, ◌-◌, ◌*◌, min, Bool, not, ◌&&◌, ◌==◌, nat_eq, nat_le, if◌then◌else◌, List, [], ◌∷◌, ◌++◌, codes, length, slice_index, Option, None, Some}
+use Rattle.std.specs.Prelude.{◌≡◌, ℕ, ◌+◌, ◌-◌, ◌*◌, ◌^◌, ◌<◌, ◌≤◌, min, Bool, not, ◌&&◌, ◌==◌, nat_eq, nat_le, if◌then◌else◌, List, [], ◌∷◌, ◌++◌, codes, length, slice_index, Option, None, Some}
 use Rattle.std.specs.List.{starts_with}
 use Rattle.nr_xdr.specs.Item.{bit, hyper}
 use Rattle.nr_wire.specs.declared.terms.Terms.{Terms}
@@ -48,3 +48,8 @@ terms_in private =
       invalidates = has_bit TERMS_INVALIDATE (flags_in private);
     })
     else None
+
+-- What a side with 1 to UNITS_MAX units says is read so, whatever follows.
+abbrev pub TermsAreRead : Type 0
+TermsAreRead = (units number : ℕ) (invalidates : Bool) (more : List ℕ) → 1 ≤ units → units ≤ UNITS_MAX → number < 2 ^ 64 →
+    terms_in (terms_encoding units number invalidates ++ more) ≡ Some (record { sends = units; receives = units; number = number; invalidates = invalidates })

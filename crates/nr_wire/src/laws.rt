@@ -8,6 +8,7 @@ ghost use Rattle.nr_wire.specs.Hello.{Hello, IsAccepted, hello_encoding, hello_o
 ghost use Rattle.nr_wire.specs.Segment.{Segment, Fits, IsSupported, Reads, segment_of, encoding, payload_in, segment_header, segment_tail, ulpdu_size, fpdu_size};
 ghost use Rattle.nr_wire.specs.Next.{hello_in, segment_in, frame_answer};
 ghost use Rattle.nr_wire.specs.Next.Next.{Whole};
+ghost use Rattle.nr_wire.specs.Terms.{TermsAreRead};
 ghost use Rattle.nr_wire.specs.Stream.{Splits, split, frames_then, awaited_after, IsFrame, IsPartial};
 
 use crate::constants::FPDU_MAX;
@@ -20,6 +21,11 @@ pub fn round_trip()
         hello_in hello.side (hello_encoding hello ++ more) ≡ Whole hello (length (hello_encoding hello)) }
     ensures segment { (segment : Segment) (more : List ℕ) → IsSupported segment → Fits segment → ulpdu_size segment ≤ ULPDU_MAX →
         segment_in (encoding segment ++ more) ≡ Whole segment (length (encoding segment)) }
+{}
+
+/// What a side with 1 to 16 units says in the private data of its hello is read so, whatever follows.
+pub fn terms_are_read()
+    ensures { TermsAreRead }
 {}
 
 /// The encoding of a segment is what comes before its payload, the payload, and what follows it.

@@ -24,6 +24,7 @@ mod write;
 pub use hello::{Hello, NextHello, Side, read_hello};
 pub use laws::{
     frame_in_parts, however_cut, judged_alone, longest_fpdu, one_segment, one_split, round_trip,
+    terms_are_read,
 };
 pub use segment::{NextSegment, Segment, next_segment};
 pub use stream::{Awaited, bytes_needed, whole_frame};
