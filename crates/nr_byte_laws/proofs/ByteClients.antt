@@ -12,7 +12,7 @@ use Rattle.nr_regions.specs.declared.right.Right.{Right}
 use Rattle.nr_regions.specs.declared.right.Right.TheVariants.{Fetch, Fill}
 use Rattle.nr_link.specs.Frames.{Frame, is_hello}
 use Rattle.nr_link.specs.Output.{own_hello}
-use Rattle.nr_link.specs.ReceiveState.{ReadRequest, message_completed, read_request_of}
+use Rattle.nr_link.specs.ReceiveState.{ReadRequest, ReceiveState, begun_bytes, message_completed, read_request_of}
 use Rattle.nr_link.specs.Ending.{frame_segment, tagged_access}
 use Rattle.nr_reduce.specs.declared.call.Form.{Form}
 use Rattle.nr_reduce.specs.declared.call.Form.TheVariants as forms
@@ -29,18 +29,22 @@ use Rattle.nr_reduce.specs.Items.{reducible_item}
 use Rattle.nr_reduce.specs.OfferedRegions.{region_grants}
 use Rattle.nr_reduce.specs.Plans.{TooLarge, Buffer, plan_of, plan_in_form, inline_plan, given_within, given_total, within, plan_size, reduced_plan, reduced_plan_by, long_plan, offering, auto_offer, auto_plan, write_offer, given_read, buffer_if, buffers, has_segment, total, read_stag, write_stag, reply_stag}
 use Rattle.nr_reduce.specs.ClientState.{ClientState, OutstandingCall, call_payload, plan_for, client_memory_at}
-use Rattle.nr_reduce.specs.Client.{due_with_response, with_hello, client_rules, client_output, client_state_after, call_output, calls_output, response_output, segment_request, plan_or, outstanding_of, region_of, with_message, with_request, with_segment, revoked_call, initial_client}
-use Rattle.nr_reduce.specs.Run.{output_due}
+use Rattle.nr_reduce.specs.ClientMessages.{reply_verdict}
+use Rattle.nr_reduce.specs.Client.{outcomes_of, due_with_response, with_hello, client_rules, client_output, client_state_after, call_output, calls_output, response_output, segment_request, plan_or, outstanding_of, region_of, with_message, with_request, with_segment, revoked_call, initial_client}
+use Rattle.nr_reduce.specs.Run.{client, output_due}
 use Rattle.nr_laws.specs.Typed.{IsTyped}
+use Rattle.nr_byte_laws.specs.DueBytes.{CompletedInBytes}
 use Rattle.nr_laws.proofs.EventOutputs.{IsNext}
 use Rattle.nr_laws.proofs.Basics.{each_append, each_kept}
 use Rattle.nr_laws.proofs.Bytes.{bytes_both}
 use Rattle.nr_laws.proofs.CallTargets.{bytes_zeros, bytes_region}
 use Rattle.nr_laws.proofs.Words.{payload_bytes_lem, payload_by}
+use Rattle.nr_laws.proofs.ServerEvents.{received_bytes, completed_bytes}
 use Rattle.nr_laws.proofs.WrittenBytes.{message_bytes_lem}
 use Rattle.nr_script.proofs.ByteLists.{no_bytes_lem}
 use Rattle.nr_byte_laws.proofs.ByteStreams.{send_bytes, response_bytes_lem, hello_bytes_lem, final_bytes}
-use Rattle.nr_byte_laws.proofs.ByteRuns.{RegionOfBytes, AccessOfBytes, memory_bytes, regions_closed_lem, CarriesBytes, run_bytes}
+use Rattle.nr_byte_laws.proofs.ByteRuns.{RegionOfBytes, AccessOfBytes, memory_bytes, regions_closed_lem, CarriesBytes, KeepsBytes, run_bytes}
+use Rattle.nr_byte_laws.proofs.PayloadBytes.{IfBytes, MemoryOfBytes, brought_bytes}
 
 -- ===== plans
 
@@ -139,9 +143,14 @@ abbrev CallOfBytes : OutstandingCall → Type 0
 CallOfBytes o = IsBytes o.plan.inline
 
 record ClientOfBytes (k : ClientState) : Type 0 where
+  begun : IsBytes (begun_bytes k.received.begun)
   calls : AllByRecursion CallOfBytes k.outstanding
   regions : AllByRecursion RegionOfBytes k.regions
   accesses : AllByRecursion AccessOfBytes k.accesses_received
+  outcomes : AllByRecursion CompletedInBytes k.outcomes
+
+memory_of_bytes : (k : ClientState) (place : ℕ) → ClientOfBytes k → MemoryOfBytes (client_memory_at k place)
+memory_of_bytes k place h stag = memory_bytes (region_grants place k.regions) k.regions k.accesses_received stag h.regions h.accesses
 
 call_bytes : (o : LinkParameters) (msn : ℕ) (c : OutstandingCall) → CallOfBytes c → IsBytes (call_output o msn c)
 call_bytes o msn c h = send_bytes msn _ (message_bytes_lem c.xid o.wished c.stag c.plan h)
@@ -155,7 +164,7 @@ read_bytes_lem k place None h = no_bytes_lem
 read_bytes_lem k place (Some r) h =
     let memory = client_memory_at k place r.stag in
     response_bytes_lem r.sink r.sink_to (take r.size (drop r.to memory))
-    (IsBytes_take r.size (drop r.to memory) (IsBytes_drop r.to memory (memory_bytes (region_grants place k.regions) k.regions k.accesses_received r.stag h.regions h.accesses)))
+    (IsBytes_take r.size (drop r.to memory) (IsBytes_drop r.to memory (memory_of_bytes k place h r.stag)))
 
 client_written_lem : (o : LinkParameters) (k : ClientState) (e : RunEvent) → CarriesBytes (record { state = k; ended = None }) e → ClientOfBytes k → IsBytes (client_output o k e)
 unfolding client_output
@@ -173,34 +182,46 @@ client_written_lem o k (MemoryRevoked place xid) c h = no_bytes_lem
 client_written_lem o k (CallExecuted call) c h = no_bytes_lem
 client_written_lem o k (QueueWritten taken) c h = no_bytes_lem
 
-message_after : (k : ClientState) (place : ℕ) (m : Option (List ℕ)) → ClientOfBytes k → ClientOfBytes (with_message k place m)
-message_after k place None h = h
-message_after k place (Some m) h = record {
+message_after : (k : ClientState) (place : ℕ) (m : Option (List ℕ)) → IfBytes m → ClientOfBytes k → ClientOfBytes (with_message k place m)
+message_after k place None b h = h
+message_after k place (Some m) b h = record {
+  begun = h.begun;
   calls = each_kept CallOfBytes (λ o. not (eqb o.xid (word_at 0 m))) k.outstanding h.calls;
   regions = regions_closed_lem (λ r. eqb r.call (word_at 0 m)) place k.regions h.regions;
   accesses = h.accesses;
+  outcomes = each_append CompletedInBytes k.outcomes (outcomes_of (reply_verdict k place m)) h.outcomes (brought_bytes k place m b (memory_of_bytes k place h));
 }
 
 request_after : (k : ClientState) (due : ℕ) (q : Option ReadRequest) → ClientOfBytes k → ClientOfBytes (with_request k due q)
 request_after k due None h = h
-request_after k due (Some q) h = record { calls = h.calls; regions = h.regions; accesses = h.accesses }
+request_after k due (Some q) h = record { begun = h.begun; calls = h.calls; regions = h.regions; accesses = h.accesses; outcomes = h.outcomes }
 
 pub access_bytes : (f : Frame) (s : Segment) → IsBytes (payload_by s) → AllByRecursion AccessOfBytes (tagged_access f s)
 access_bytes f (Tagged last opcode stag to payload) h = (h, tt)
 access_bytes f (Untagged last opcode w queue msn offset payload) h = tt
 
-same_accesses : (k : ClientState) (place : ℕ) (m : Option (List ℕ)) (due : ℕ) (q : Option ReadRequest) → ClientOfBytes k → ClientOfBytes (with_request (with_message k place m) due q)
-same_accesses k place m due q h = request_after (with_message k place m) due q (message_after k place m h)
+same_accesses : (k : ClientState) (place : ℕ) (m : Option (List ℕ)) (due : ℕ) (q : Option ReadRequest) → IfBytes m → ClientOfBytes k → ClientOfBytes (with_request (with_message k place m) due q)
+same_accesses k place m due q b h = request_after (with_message k place m) due q (message_after k place m b h)
+
+completed_lem : (r : ReceiveState) (segment : Segment) → IsBytes (begun_bytes r.begun) → IsBytes (payload_by segment) → IfBytes (message_completed r segment)
+completed_lem r segment begun b = by (message_completed r segment) refl
+  where
+    by : (o : Option (List ℕ)) → message_completed r segment ≡ o → IfBytes o
+    by None is = tt
+    by (Some message) is = completed_bytes r segment message begun b is
 
 segment_after : (k : ClientState) (f : Frame) (r : Result Segment ℕ) → frame_segment f ≡ r → IsBytes f.bytes → ClientOfBytes k → ClientOfBytes (with_segment k f r)
 unfolding frame_segment
 segment_after k f (Err reason) is b h = h
 segment_after k f (Ok segment) is b h =
-    let m = same_accesses k f.end (message_completed k.received segment) (due_with_response k f segment) (read_request_of segment) h in
+    let own = payload_bytes_lem f.bytes segment b is in
+    let m = same_accesses k f.end (message_completed k.received segment) (due_with_response k f segment) (read_request_of segment) (completed_lem k.received segment h.begun own) h in
     record {
+      begun = received_bytes k.received segment h.begun own;
       calls = m.calls;
       regions = m.regions;
-      accesses = each_append AccessOfBytes k.accesses_received (tagged_access f segment) h.accesses (access_bytes f segment (payload_bytes_lem f.bytes segment b is));
+      accesses = each_append AccessOfBytes k.accesses_received (tagged_access f segment) h.accesses (access_bytes f segment own);
+      outcomes = m.outcomes;
     }
 
 mapped_calls : (g : OutstandingCall → OutstandingCall) (cs : List OutstandingCall) → ((c : OutstandingCall) → CallOfBytes c → CallOfBytes (g c)) → AllByRecursion CallOfBytes cs → AllByRecursion CallOfBytes (map g cs)
@@ -219,30 +240,44 @@ unfolding client_state_after
 client_after o place k (FrameReceived f) next c h = by (is_hello f)
   where
     by : (b : Bool) → ClientOfBytes (cond b (with_hello o k) (with_segment k f (frame_segment f)))
-    by true = record { calls = h.calls; regions = h.regions; accesses = h.accesses }
+    by true = record { begun = h.begun; calls = h.calls; regions = h.regions; accesses = h.accesses; outcomes = h.outcomes }
     by false = segment_after k f (frame_segment f) refl next.2 h
 client_after o place k (CallSubmitted p a) next c h =
     let plan = submitted_bytes k a c in
     record {
+      begun = h.begun;
       calls = each_append CallOfBytes k.outstanding (outstanding_of k a ∷ []) h.calls (plan.0, tt);
       regions = each_append RegionOfBytes k.regions (map (region_of a.xid p) (buffers k.stag (outstanding_of k a).plan)) h.regions (plan_regions a.xid p k.stag (outstanding_of k a).plan plan);
       accesses = h.accesses;
+      outcomes = h.outcomes;
     }
 client_after o place k (MemoryRevoked p xid) next c h = record {
+  begun = h.begun;
   calls = mapped_calls (revoked_call xid) k.outstanding (revoked_bytes_lem xid) h.calls;
   regions = regions_closed_lem (λ r. eqb r.call xid) p k.regions h.regions;
   accesses = h.accesses;
+  outcomes = h.outcomes;
 }
 client_after o place k (CallExecuted call) next c h = h
-client_after o place k (QueueWritten taken) next c h = record { calls = h.calls; regions = h.regions; accesses = h.accesses }
+client_after o place k (QueueWritten taken) next c h = record { begun = h.begun; calls = h.calls; regions = h.regions; accesses = h.accesses; outcomes = h.outcomes }
 
--- On every link of a run that is of its types, what its client has to write are bytes.
+client_keeps : (o : LinkParameters) → KeepsBytes (client_rules o) ClientOfBytes
+client_keeps o = record {
+  written = λ place k e next c h. client_written_lem o k e c h;
+  after = λ place k e next c h. client_after o place k e next c h;
+  last = final_bytes;
+}
+
+begins : (o : LinkParameters) → ClientOfBytes (initial_client o).state
+begins o = record { begun = no_bytes_lem; calls = tt; regions = tt; accesses = tt; outcomes = tt }
+
+-- On every link of a run that is of its types, what its client has to write are bytes, and so are the replies that messages brought to it.
 pub client_due : (o : LinkParameters) (link : ℕ) (run : List Mark) → IsTyped run → IsBytes (output_due o link Initiator run)
 unfolding output_due
 client_due o link run typed =
-    let all = run_bytes (client_rules o) ClientOfBytes (record {
-      written = λ place k e next c h. client_written_lem o k e c h;
-      after = λ place k e next c h. client_after o place k e next c h;
-      last = final_bytes;
-    }) (initial_client o) link Initiator run typed (record { calls = tt; regions = tt; accesses = tt }) in
+    let all = run_bytes (client_rules o) ClientOfBytes (client_keeps o) (initial_client o) link Initiator run typed (begins o) in
     bytes_both (own_hello Initiator) (output_for_all (client_rules o) (initial_client o) (events link Initiator run)) (hello_bytes_lem Initiator) all.0
+
+pub outcome_bytes : (o : LinkParameters) (link : ℕ) (run : List Mark) → IsTyped run → AllByRecursion CompletedInBytes (client o link run).state.outcomes
+unfolding client
+outcome_bytes o link run typed = (run_bytes (client_rules o) ClientOfBytes (client_keeps o) (initial_client o) link Initiator run typed (begins o)).1.outcomes

@@ -1,8 +1,8 @@
 -- What a server writes are bytes, whatever its client sends, and so is each payload that waits to be executed.
 use Rattle.std.specs.Prelude.{not, ◌||◌, min}
 use Rattle.std.specs.List.{AllByRecursion}
-use Rattle.std.proofs.Common.{◌≡◌, ℕ, ◌+◌, Bool, true, false, cond, eqb, ltb, leb, List, [], ◌∷◌, ◌++◌, length, take, drop, replicate, Option, None, Some, Result, Ok, Err, refl, sym, ap, subst}
-use Rattle.nr_xdr.specs.Item.{IsBytes, pad_len}
+use Rattle.std.proofs.Common.{◌≡◌, ℕ, ◌+◌, Bool, true, false, cond, eqb, ltb, leb, List, [], ◌∷◌, ◌++◌, length, take, drop, Option, None, Some, Result, Ok, Err, refl, sym, ap, subst}
+use Rattle.nr_xdr.specs.Item.{IsBytes}
 use Rattle.nr_xdr.specs.Fields.{word_at}
 use Rattle.nr_xdr.proofs.WordBytes.{IsBytes_take, IsBytes_drop}
 use Rattle.nr_wire.specs.declared.hello.Side.TheVariants.{Responder}
@@ -35,8 +35,8 @@ use Rattle.nr_reduce.specs.declared.mark.LinkParameters.{LinkParameters}
 use Rattle.nr_reduce.specs.History.{ExecutedCall}
 use Rattle.nr_reduce.specs.Events.{RunEvent}
 use Rattle.nr_reduce.specs.Events.RunEvent.{FrameReceived, CallSubmitted, MemoryRevoked, CallExecuted, QueueWritten}
-use Rattle.nr_reduce.specs.Items.{item_of, reducible_item, restored_payload}
-use Rattle.nr_reduce.specs.Chunks.{total_at, item_position, is_read_chunk_of_item, whole, whole_by, has_moved_length, call_stream, call_moved, call_conveyed}
+use Rattle.nr_reduce.specs.Items.{reducible_item}
+use Rattle.nr_reduce.specs.Chunks.{total_at, item_position, is_read_chunk_of_item, call_stream, call_moved, call_conveyed}
 use Rattle.nr_reduce.specs.OfferedRegions.{Region, region_grants}
 use Rattle.nr_reduce.specs.Holds.{Answer, Parts, parts_by, parts_in, answer_with, answer_for, fits_reply, answer_size, writes_into, first_chunk, no_segments, answer_writes, answer_body, answer_message, chunk_error, version_error}
 use Rattle.nr_reduce.specs.ServerState.{PendingCall, PendingRead, ReadyCall, ServerState, credit_word, next_stag, is_pending}
@@ -59,13 +59,10 @@ use Rattle.nr_laws.proofs.Words.{payload_bytes_lem, payload_by}
 use Rattle.nr_script.proofs.ByteLists.{no_bytes_lem}
 use Rattle.nr_byte_laws.proofs.ByteStreams.{header_bytes, send_bytes, write_bytes, request_bytes, hello_bytes_lem, refusing_bytes, final_bytes}
 use Rattle.nr_byte_laws.proofs.ByteRuns.{RegionOfBytes, AccessOfBytes, found_each, memory_bytes, regions_closed_lem, CarriesBytes, KeepsBytes, run_bytes}
+use Rattle.nr_byte_laws.proofs.PayloadBytes.{IfBytes, bytes_if, whole_bytes_lem}
 use Rattle.nr_byte_laws.proofs.ByteClients.{access_bytes}
 
 -- ===== messages and answers
-
-bytes_if : (b : Bool) (xs ys : List ℕ) → IsBytes xs → IsBytes ys → IsBytes (cond b xs ys)
-bytes_if true xs ys h g = h
-bytes_if false xs ys h g = g
 
 chunk_error_bytes : (xid credit : ℕ) → IsBytes (chunk_error xid credit)
 unfolding chunk_error
@@ -143,29 +140,6 @@ unfolding execution_output
 execution_bytes k e h = output_bytes_lem k e.xid (offer_of k e.xid) _ (target_bytes (offer_of k e.xid) _ e.reply (target_of (call_of e.payload)) h)
 
 -- ===== payloads
-
-restored_bytes : (i : Item) (stream moved : List ℕ) → IsBytes stream → IsBytes moved → IsBytes (restored_payload i stream moved)
-unfolding restored_payload
-restored_bytes i stream moved fits bytes =
-    bytes_both (take i.pos stream) (take i.len moved ++ (replicate (pad_len i.len) 0 ++ drop i.pos stream)) (IsBytes_take i.pos stream fits)
-    (bytes_both (take i.len moved) (replicate (pad_len i.len) 0 ++ drop i.pos stream) (IsBytes_take i.len moved bytes)
-    (bytes_both (replicate (pad_len i.len) 0) (drop i.pos stream) (bytes_zeros (pad_len i.len)) (IsBytes_drop i.pos stream fits)))
-
-abbrev pub IfBytes : Option (List ℕ) → Type 0
-IfBytes None = Unit {0}
-IfBytes (Some bytes) = IsBytes bytes
-
-whole_by_lem : (of : Of) (stream moved : List ℕ) (o : Option Item) → IsBytes stream → IsBytes moved → IfBytes (whole_by of stream moved o)
-whole_by_lem of stream moved None h g = tt
-whole_by_lem of stream moved (Some i) h g = by (has_moved_length of i moved)
-  where
-    by : (b : Bool) → IfBytes (cond b (Some (restored_payload i stream moved)) None)
-    by true = restored_bytes i stream moved h g
-    by false = tt
-
-whole_bytes_lem : (of : Of) (stream : List ℕ) (o : Option (List ℕ)) → IsBytes stream → IfBytes o → IfBytes (whole of stream o)
-whole_bytes_lem of stream None h g = h
-whole_bytes_lem of stream (Some moved) h g = whole_by_lem of stream moved (item_of of stream) h g
 
 stream_bytes : (inline : Option (List ℕ)) (chunk : ℕ → List ℕ) → IfBytes inline → ((p : ℕ) → IsBytes (chunk p)) → IsBytes (call_stream inline chunk)
 stream_bytes None chunk h each = each 0

@@ -1,5 +1,7 @@
 pub mod ByteStreams
 pub mod ByteRuns
+pub mod CallBytes
+pub mod PayloadBytes
 pub mod ByteClients
 pub mod ByteServers
 pub mod TreeBytes

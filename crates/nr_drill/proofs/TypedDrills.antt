@@ -1,17 +1,14 @@
 -- The run of a drill is of its types: what its script says is, and so are the replies with which calls are executed.
 use Rattle.std.specs.Prelude.{◌-◌, slice_get, slice_index_or, slice_set, replicate}
 use Rattle.std.specs.List.{AllByRecursion}
-use Rattle.std.proofs.Common.{◌≡◌, ℕ, zero, suc, ◌+◌, ◌^◌, ◌<◌, Bool, true, false, List, [], ◌∷◌, ◌++◌, length, map, take, drop, Option, None, Some, refl, sym, subst}
+use Rattle.std.proofs.Common.{◌≡◌, ℕ, zero, suc, ◌+◌, ◌^◌, ◌<◌, Bool, true, false, List, [], ◌∷◌, ◌++◌, length, take, drop, Option, None, Some, refl, sym, subst}
 use Rattle.nr_xdr.specs.Item.{IsBytes}
-use Rattle.nr_xdr.specs.Item.Item.{Unsigned}
 use Rattle.nr_xdr.proofs.WordBytes.{IsBytes_take, IsBytes_drop}
 use Rattle.nr_wire.specs.declared.hello.Side.{Side}
 use Rattle.nr_wire.specs.declared.hello.Side.TheVariants.{Initiator, Responder}
 use Rattle.nr_rpc.specs.declared.cred.Cred.{Cred}
 use Rattle.nr_rpc.specs.declared.cred.Cred.TheVariants as creds
-use Rattle.nr_rpc.specs.declared.head.CallHead.TheVariants.{Version2}
-use Rattle.nr_rpc.specs.Credential.{CredFits, sys_items, auth_of, no_verifier}
-use Rattle.nr_rpc.specs.Call.{version2_items, call_head}
+use Rattle.nr_rpc.specs.Credential.{CredFits}
 use Rattle.nr_reduce.specs.declared.call.Call.{Call}
 use Rattle.nr_reduce.specs.declared.call.Form.{Form}
 use Rattle.nr_reduce.specs.declared.call.Form.TheVariants as forms
@@ -23,7 +20,6 @@ use Rattle.nr_reduce.specs.declared.mark.LinkParameters.{LinkParameters}
 use Rattle.nr_reduce.specs.PlainJournal.{entries_added, journal}
 use Rattle.nr_reduce.specs.History.{CompletedCall, bytes_sent, is_dropped}
 use Rattle.nr_reduce.specs.OutcomesDue.{outcomes_due}
-use Rattle.nr_reduce.specs.ClientState.{call_payload}
 use Rattle.nr_reduce.specs.ServerState.{ReadyCall}
 use Rattle.nr_reduce.specs.SubmitAnswer.{submit_answer_after}
 use Rattle.nr_reduce.specs.Run.{server, output_due}
@@ -40,9 +36,9 @@ use Rattle.nr_drill.specs.Drill.{SerialServer, Setting, Drill, Pipes, plain_of, 
 use Rattle.nr_drill.specs.Follows.{after_line, Drains, Makes, MakeAll, Follows, setting_of, opened_drill}
 use Rattle.nr_drill.specs.InBytes.{RepliedMark, RepliedInBytes, ExecutedMark}
 use Rattle.nr_script.proofs.ByteLists.{no_bytes_lem}
-use Rattle.nr_script.proofs.ByteLists.{AreOfBytes, items_bytes}
 use Rattle.nr_byte_laws.proofs.ByteClients.{client_due}
 use Rattle.nr_byte_laws.proofs.ByteServers.{server_due}
+use Rattle.nr_byte_laws.proofs.CallBytes.{payload_is_bytes}
 
 -- ===== a drill that is of its types
 
@@ -119,23 +115,6 @@ handed_typed link None d h = h
 handed_typed link (Some c) d h = marked (marks.Done link c.xid c.outcome) d tt h
 
 -- ----- a call
-
-unsigned_all : (ns : List ℕ) → AreOfBytes (map Unsigned ns)
-unsigned_all [] = tt
-unsigned_all (n ∷ ns) = (tt, unsigned_all ns)
-
-auth_bytes_lem : (cred : Cred) → IsTypedCred cred → IsBytes (auth_of cred).body
-auth_bytes_lem creds.None h = no_bytes_lem
-auth_bytes_lem (creds.Sys stamp machine uid gid gids) h = items_bytes (sys_items stamp machine uid gid gids) (tt, (h.0, (tt, (tt, (tt, unsigned_all gids)))))
-auth_bytes_lem (creds.Other flavor) h = no_bytes_lem
-
-payload_is_bytes : (xid : ℕ) (call : Call) → IsTypedCred call.cred → IsBytes call.args → IsBytes (call_payload xid call)
-unfolding call_payload
-payload_is_bytes xid call cred args =
-    bytes_both (call_head (Version2 xid call.prog call.vers call.proc call.cred 0)) call.args
-    (items_bytes (version2_items xid call.prog call.vers call.proc (auth_of call.cred) no_verifier)
-    (tt, (tt, (tt, (tt, (tt, (tt, (tt, (auth_bytes_lem call.cred cred, (tt, (no_bytes_lem, tt)))))))))))
-    args
 
 cred_fits : (cred : Cred) → IsTypedCred cred → CredFits cred
 cred_fits creds.None h = tt

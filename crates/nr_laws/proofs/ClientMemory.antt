@@ -139,7 +139,7 @@ pub record IsAsked (opened : LinkParameters) (es : List RunEvent) (o : Outstandi
   pub own_plan : o.plan ≡ own.plan
   pub own_stag : o.stag ≡ own.stag
 
-abbrev EachAsked : LinkParameters → List RunEvent → List OutstandingCall → Type 0
+abbrev pub EachAsked : LinkParameters → List RunEvent → List OutstandingCall → Type 0
 EachAsked opened es [] = Unit {0}
 EachAsked opened es (o ∷ os) = IsAsked opened es o × EachAsked opened es os
 

@@ -47,6 +47,7 @@ pub mod SubmittedSends
 pub mod ConveyingAnswers
 pub mod ReturnedWrites
 pub mod BoundedSides
+pub mod FewSegments
 pub mod SegmentedMessages
 pub mod Completions
 pub mod Replied

@@ -1,9 +1,12 @@
 -- How much a side holds for its peer at a time, whatever the peer sends.
-use Rattle.std.specs.Prelude.{ℕ, ◌≤◌, List, length}
+use Rattle.std.specs.Prelude.{ℕ, ◌+◌, ◌≤◌, List, length, Option, None, Some}
+use Rattle.std.specs.List.{AllByRecursion}
 use Rattle.nr_link.specs.Limits.{open_reads_max}
 use Rattle.nr_reduce.specs.declared.mark.Mark.{Mark}
 use Rattle.nr_reduce.specs.declared.mark.LinkParameters.{LinkParameters}
-use Rattle.nr_reduce.specs.ClientState.{responses_owed}
+use Rattle.nr_reduce.specs.declared.outline.Plan.{Plan}
+use Rattle.nr_reduce.specs.Asked.{AskedSoFar}
+use Rattle.nr_reduce.specs.ClientState.{OutstandingCall, responses_owed}
 use Rattle.nr_reduce.specs.ServerReads.{open_reads}
 use Rattle.nr_reduce.specs.ServerState.{receives_in_use}
 use Rattle.nr_reduce.specs.Served.{ServedSoFar}
@@ -22,3 +25,21 @@ ServerReadsFew = (opened : LinkParameters) (link : ℕ) (run : List Mark) → le
 -- that haven't completely left.
 abbrev pub ServerUsesItsReceives : Type 0
 ServerUsesItsReceives = (opened : LinkParameters) (link : ℕ) (run : List Mark) → IsTyped run → ServedSoFar opened link run → receives_in_use (server opened link run).state ≤ opened.granted
+
+-- how many segments a chunk has, and how many the lists of a plan have together
+abbrev pub chunk_segments : Option (List ℕ) → ℕ
+chunk_segments None = 0
+chunk_segments (Some lengths) = length lengths
+
+abbrev pub segments_in : Plan → ℕ
+segments_in p = length p.read + (chunk_segments p.write + chunk_segments p.reply)
+
+-- the most segments for which the header of a Send has room: 4096 bytes, of which 28 are no segments, and a segment has at least 16 (RFC 8166
+-- section 4.3; the length of a Send is own)
+abbrev pub segments_max : ℕ
+segments_max = 254
+
+-- If a client keeps its law, the lists of each call that it has outstanding have at most as many.
+abbrev pub ClientOffersFewSegments : Type 0
+ClientOffersFewSegments = (opened : LinkParameters) (link : ℕ) (run : List Mark) → IsTyped run → AskedSoFar opened link run →
+    AllByRecursion (λ (o : OutstandingCall). segments_in o.plan ≤ segments_max) (client opened link run).state.outstanding

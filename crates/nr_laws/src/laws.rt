@@ -2,7 +2,7 @@
 
 ghost use Rattle.nr_laws.specs.Touches.{ClientAccessesAreAllowed, ServerAccessesAreAllowed, ServerRefusesRequests, RevokedMemoryIsFinal};
 ghost use Rattle.nr_laws.specs.Grant.{SubmitsWithinGrant};
-ghost use Rattle.nr_laws.specs.Bounds.{ClientOwesFewResponses, ServerReadsFew, ServerUsesItsReceives};
+ghost use Rattle.nr_laws.specs.Bounds.{ClientOffersFewSegments, ClientOwesFewResponses, ServerReadsFew, ServerUsesItsReceives};
 ghost use Rattle.nr_laws.specs.Places.{PlacesFollow};
 ghost use Rattle.nr_laws.specs.Once.{NoSendTwice, NoCallTwice, NoXidTwice};
 ghost use Rattle.nr_laws.specs.ChunkOutcomes.{ChunkHasCause, OthersHaveNoCause, CausedCallsComplete, NoOtherVersion, OffersArePlanned, NoOwnPlanIsRefused, AutoHasReplies, ChangesAreAnswered, ChunkAddsNothing};
@@ -58,9 +58,11 @@ pub fn chunk_outcomes()
 
 /// On every link, whatever the peer sends, a side holds little for it at a time. A client owes at most 8 Read Responses that haven't completely
 /// left, and a server has at most 8 Read Requests open. A server that keeps its law uses no more receives than it granted credits: those of pending
-/// calls, of a Send that is begun, and of answers that haven't completely left.
+/// calls, of a Send that is begun, and of answers that haven't completely left. The lists of each call that a client which keeps its law has outstanding
+/// have at most 254 segments together.
 pub fn sides_stay_bounded()
     ensures responses { ClientOwesFewResponses }
     ensures reads { ServerReadsFew }
     ensures receives { ServerUsesItsReceives }
+    ensures segments { ClientOffersFewSegments }
 {}

@@ -37,7 +37,7 @@ end_none (Calls call) b c h i given (end, (is, gone)) = unanswered_none call b c
 
 -- ---- Requests of several calls
 
-made_outcomes : {A : Type 0} (request : List Outcome → Next A) (outcomes : List Outcome) (b c : LinkBytes) (h i : RequesterSide) (made : MakesCalls request outcomes b c h i)
+pub made_outcomes : {A : Type 0} (request : List Outcome → Next A) (outcomes : List Outcome) (b c : LinkBytes) (h i : RequesterSide) (made : MakesCalls request outcomes b c h i)
     → outcomes_in (made_exchanges request outcomes b c h i made).made ≡ outcomes
 made_outcomes request [] b c h i made = refl
 made_outcomes request (outcome ∷ outcomes) b c h i (call, d, j, (is, (answers, rest))) =

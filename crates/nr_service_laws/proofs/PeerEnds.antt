@@ -1,5 +1,5 @@
 -- What the end of a command that opened a session says, whatever its server does.
-use Rattle.std.proofs.Common.{◌≡◌, List, Result, Err, subst}
+use Rattle.std.proofs.Common.{List, Result, Err, subst}
 use Rattle.nr_outside.specs.Faults.{Rises}
 use Rattle.nr_outside.specs.Streams.{SinkAt, SourceAt}
 use Rattle.nr_words.specs.Lines.{Text}

@@ -92,9 +92,10 @@ pub fn served_commands_complete()
     ensures complete { ServedCommandsComplete }
 {}
 
-/// The marks of a command are of their types (`IsTyped` of nr_laws) if the bytes that its link's source had left are known and are bytes, and each call
-/// that it submitted is of bytes (`IsByteCall`): its calls are those of its words and of the outcomes, by `commands_have_a_run` (`commands`). A run of
-/// both sides is of its types if the marks of the client are, and the others (`sides`).
+/// The marks of a command are of their types (`IsTyped` of nr_laws) if the bytes that its link's source had left are known and are bytes, its user and its
+/// group are 32-bit words, and what it names are bytes, with what `put` reads (`IsOfBytes`). Nothing is asked of its calls: the file handles in them come
+/// from replies, which are made of what the client was fed (`commands`). A run of both sides is of its types if the marks of the client are, and the
+/// others (`sides`).
 pub fn commands_are_typed()
     ensures commands { CommandsAreTyped }
     ensures sides { SidesAreTyped }

@@ -1,5 +1,5 @@
 -- What the status of a command of a client says, whatever its server does.
-use Rattle.std.proofs.Common.{◌≡◌, ◌<◌, ℕ, ltb, Bool, true, false, ◌||◌, List, Option, Some, Result, Ok, Err, inl, inr, refl, sym, ap, subst, ◌∙◌, arith, lt-ltb}
+use Rattle.std.proofs.Common.{◌≡◌, ℕ, ltb, Bool, true, false, ◌||◌, List, Option, Some, Result, Ok, Err, inl, inr, refl, sym, ap, subst, arith, lt-ltb}
 use Rattle.std.specs.Prelude.{◌⊎◌, MatchBool}
 use Rattle.nr_outside.specs.Faults.{Rises}
 use Rattle.nr_outside.specs.Streams.{SinkAt, SourceAt}
@@ -8,7 +8,6 @@ use Rattle.nr_link.specs.declared.end.End.TheVariants as ends
 use Rattle.nr_reduce.specs.declared.call.Refused.TheVariants as refusals
 use Rattle.nr_words.specs.Lines.{Text}
 use Rattle.nr_words.specs.declared.commands.Client.{Client}
-use Rattle.nr_client.specs.declared.call_end.CallEnd.{CallEnd}
 use Rattle.nr_client.specs.declared.call_end.CallEnd.TheVariants as calls
 use Rattle.nr_client.specs.declared.client_end.ClientEnd.{ClientEnd}
 use Rattle.nr_client.specs.declared.client_end.ClientEnd.TheVariants as client
@@ -20,7 +19,6 @@ use Rattle.nr_service_laws.specs.PeerEnds.{EndSays}
 use Rattle.nr_service_laws.proofs.PeerEnds.{ends_say_lem}
 use Rattle.nr_top.specs.Clients.{ReportsEnd, status_of}
 use Rattle.nr_top.specs.Clients.ClientEnds.{Done, NotDone}
-use Rattle.nr_top.specs.Ends.{Reported}
 use Rattle.nr_top.specs.Statuses as statuses
 use Rattle.nr_top_laws.specs.StatusCauses.{LinesAreRead, StatusSays, StatusesHaveCauses, exchanges_of, last_session}
 use Rattle.nr_top_laws.specs.StatusCauses.StatusSays.{BadPath, Fault, LinkBroken, LinkClosed, LinkFault, LinkIsRead, NfsFailed, NoMemory, NotSubmitted, OverBudget, Refused, ReplyBad, TransportError}

@@ -1,4 +1,4 @@
-use Rattle.nr_byte_laws.proofs.ByteClients.{client_due}
+use Rattle.nr_byte_laws.proofs.ByteClients.{client_due, outcome_bytes}
 use Rattle.nr_byte_laws.proofs.ByteServers.{ready_bytes, server_due}
 use Rattle.nr_byte_laws.proofs.laws.due_output_is_bytes.Goals as goal
 
@@ -10,3 +10,6 @@ returns-clause-server c = server_due
 
 pub returns-clause-payloads : goal.returns-clause-payloads
 returns-clause-payloads c = ready_bytes
+
+pub returns-clause-outcomes : goal.returns-clause-outcomes
+returns-clause-outcomes c = outcome_bytes
