@@ -1,4 +1,4 @@
-ghost use Rattle.std.specs.Prelude.{◌≡◌, IfOk, IfSome, OnErr, MatchResult, take, drop, length, ◌≤◌, ◌<◌};
+ghost use Rattle.std.specs.Prelude.{◌≡◌, IfOk, IfSome, OnErr, MatchResult, take, drop, length, ◌≤◌, ◌<◌, ◌++◌};
 ghost use Rattle.std.specs.Io.KnownBytes.{Appends, Keeps, IsAtEnd};
 ghost use Rattle.nr_outside.specs.Content.{HandsOut};
 ghost use Rattle.nr_outside.specs.Faults.{next_count};
@@ -97,6 +97,22 @@ impl<K: Sink> Sink for Counted<K> {
         }
         written
     }
+
+    fn write_vectored(&mut self, head: &[u8], body: &[u8]) -> Result<usize, Failed>
+        ensures link { self.new.link ≡ self.old.link }
+        ensures bound { IfOk result (λ n. n ≤ length (head.now ++ body.now)) }
+        ensures took { IfOk result (λ n. Appends (K.taken self.old.inner) (K.taken self.new.inner) (take n (head.now ++ body.now))) }
+        ensures progress { IfOk result (λ n. 0 < length (head.now ++ body.now) → 0 < n) }
+        ensures err_taken { OnErr result (Keeps (K.taken self.old.inner) (K.taken self.new.inner)) }
+        ensures counted { MatchResult result (λ _. self.new.faults ≡ self.old.faults) (λ _. self.new.faults ≡ next_count self.old.faults) }
+        ensures never_falls { self.old.faults ≤ self.new.faults }
+    {
+        let written = self.inner.write_vectored(head, body);
+        if written.is_err() {
+            self.faults = self.faults.saturating_add(1);
+        }
+        written
+    }
 }
 
 impl<S: Source> LinkSource for Counted<S> {
@@ -112,5 +128,9 @@ impl<K: Sink> LinkSink for Counted<K> {
 
     fn write_link(&mut self, piece: &[u8]) -> Result<usize, Failed> {
         self.write(piece)
+    }
+
+    fn write_link_vectored(&mut self, head: &[u8], body: &[u8]) -> Result<usize, Failed> {
+        self.write_vectored(head, body)
     }
 }

@@ -1,4 +1,4 @@
-ghost use Rattle.std.specs.Prelude.{◌≡◌, ℕ, ◌<◌, ◌≤◌, take, drop, length, IfOk, OnErr, IfSome, MatchResult};
+ghost use Rattle.std.specs.Prelude.{◌≡◌, ℕ, ◌<◌, ◌≤◌, ◌++◌, take, drop, length, IfOk, OnErr, IfSome, MatchResult};
 ghost use Rattle.std.specs.Io.KnownBytes.{Appends, Keeps, IsAtEnd};
 ghost use Rattle.nr_outside.specs.Faults.{Rises};
 ghost use Rattle.nr_outside.specs.Content.{HandsOut};
@@ -37,6 +37,17 @@ pub trait LinkSink: Sink {
         ensures bound { IfOk result (λ n. n ≤ length piece.now) }
         ensures took { IfOk result (λ n. Appends (Self.taken self.old) (Self.taken self.new) (take n piece.now)) }
         ensures progress { IfOk result (λ n. 0 < length piece.now → 0 < n) }
+        ensures err_taken { OnErr result (Keeps (Self.taken self.old) (Self.taken self.new)) }
+        ensures counted { MatchResult result
+            (λ _. Self.faults self.new ≡ Self.faults self.old) (λ _. Rises (Self.faults self.old) (Self.faults self.new)) }
+        ensures never_falls { Self.faults self.old ≤ Self.faults self.new };
+
+    /// As [`write_vectored`](Sink::write_vectored). The number of the link stays.
+    fn write_link_vectored(&mut self, head: &[u8], body: &[u8]) -> Result<usize, Failed>
+        ensures link { link self.new ≡ link self.old }
+        ensures bound { IfOk result (λ n. n ≤ length (head.now ++ body.now)) }
+        ensures took { IfOk result (λ n. Appends (Self.taken self.old) (Self.taken self.new) (take n (head.now ++ body.now))) }
+        ensures progress { IfOk result (λ n. 0 < length (head.now ++ body.now) → 0 < n) }
         ensures err_taken { OnErr result (Keeps (Self.taken self.old) (Self.taken self.new)) }
         ensures counted { MatchResult result
             (λ _. Self.faults self.new ≡ Self.faults self.old) (λ _. Rises (Self.faults self.old) (Self.faults self.new)) }

@@ -93,4 +93,8 @@ impl<K: LinkSink, N: LinkNumber> Sink for NumberedSink<K, N> {
     fn write(&mut self, piece: &[u8]) -> Result<usize, Failed> {
         self.sink.write_link(piece)
     }
+
+    fn write_vectored(&mut self, head: &[u8], body: &[u8]) -> Result<usize, Failed> {
+        self.sink.write_link_vectored(head, body)
+    }
 }

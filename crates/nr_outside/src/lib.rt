@@ -7,7 +7,7 @@
 //! Contracts say something of an object's bytes if the bytes are known to the proof. In memory they are: [`MemSource`] and
 //! [`MemSink`] fail at the calls that a list names, and a [`Pipe`] hands out what was written to it and keeps all of it.
 //! [`StdSource`] and [`StdSink`] are adapters over a reader and a writer of std. They count faults; their bytes are
-//! unknown. [`read_whole`] and [`write_whole`] move a complete input or output.
+//! unknown. [`read_whole`] and [`write_whole`] move a complete input or output, and [`write_whole_vectored`] one of two pieces.
 //!
 //! [`Moment`] is a moment of a clock.
 //!
@@ -32,4 +32,4 @@ pub use moment::Moment;
 pub use std_sink::StdSink;
 pub use std_source::StdSource;
 pub use traits::{Failed, Sink, Source};
-pub use whole::{INPUT_MAX, ReadEnd, read_whole, write_whole};
+pub use whole::{INPUT_MAX, ReadEnd, read_whole, write_whole, write_whole_vectored};
