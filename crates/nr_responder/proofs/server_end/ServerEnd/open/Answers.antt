@@ -9,7 +9,7 @@ use Rattle.nr_responder.specs.Sound.{fetching_of, xids_of}
 use Rattle.nr_endpoint.proofs.FedBytes.{open_fed}
 use Rattle.nr_wire.specs.declared.hello.Side.TheVariants.{Responder}
 use Rattle.nr_responder.proofs.HeldSinks.{empty_fetched, fetched_first}
-use Rattle.nr_responder.proofs.Opened.{opened_stands_lem, opened_lives, opened_queues}
+use Rattle.nr_responder.proofs.Opened.{opened_stands_lem, opened_lives, opened_length, opened_queues}
 use Rattle.nr_responder.proofs.OutputBounds.{opened_out}
 use Rattle.nr_responder.proofs.StepBounds.{opened_fits}
 use Rattle.nr_responder.proofs.ReadWindows.{empty_windows}
@@ -30,6 +30,7 @@ returns-clause-sound c =
         calls_fit = omega (arith, l.1.0, c.in_ok-calls.ensures.capacity);
         ready_fit = omega (arith, l.1.0, c.in_ok-ready.ensures.capacity);
         used_fit = omega (arith, l.1.0, c.in_ok-used.ensures.capacity);
+        receive_length = opened_length c.in_ok-endpoint.endpoint.link c.args.credits c.in_ok-endpoint.ensures.state;
       },
       empty_fetched c.in_ok-endpoint.endpoint c.in_ok-calls.calls.items c.new.result.items c.new-2.result.items c.new.ensures.items c.new-2.ensures.items (fetched_first c.in_ok-endpoint.endpoint c.args.credits c.in_ok-calls.calls.items c.in_ok-endpoint.ensures.state c.in_ok-endpoint.ensures.outside c.in_ok-calls.ensures.items),
     )
