@@ -28,6 +28,16 @@ fn sends(rt: &impl Abort, sink: &mut TcpSink, bytes: &[u8])
     same(rt, n, n == bytes.len(), true);
 }
 
+/// Ends the test if one write doesn't take both pieces.
+fn sends_both(rt: &impl Abort, sink: &mut TcpSink, head: &[u8], body: &[u8])
+    ensures { sink.new.link ≡ sink.old.link }
+{
+    let Ok(n) = sink.write_vectored(head, body) else {
+        panic!(rt; "no write")
+    };
+    same(rt, n, n == head.len() + body.len(), true);
+}
+
 /// Both directions carry bytes. The side that hangs up without reading leaves what it sent, and then the end.
 #[test]
 fn bytes_in_both_directions(rt: HostRuntime) {
@@ -45,7 +55,7 @@ fn bytes_in_both_directions(rt: HostRuntime) {
     let Ok((mut theirs, mut to_us)) = acceptor.accept() else {
         panic!(rt; "no link")
     };
-    sends(&rt, &mut to_them, b"hello");
+    sends_both(&rt, &mut to_them, b"hel", b"lo");
     reads(&rt, &mut theirs, b"hello");
     sends(&rt, &mut to_them, b"unread");
     sends(&rt, &mut to_us, b"ok");

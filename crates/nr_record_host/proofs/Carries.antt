@@ -76,7 +76,7 @@ module _ {S : Type 0} (Did : S → S → List Answered → List Moment → Type 
         let a = answers before left given all (live_fed before (loop_at left given taken u) stream live) in
         let xs = a.live.exchanges in
         ended Did before after ends.Memory k' all xs [] (written xs) a.live.read (nothing_ahead Did before after all xs [] (written xs) a.live.serves) within tt
-        (inl refl) (let none : 0 ≤ 1 = omega arith in none) tt
+        refl (let none : 0 ≤ 1 = omega arith in none) tt
 
     -- one of the two
     pub piece_fault : (k' : RecordsState) (fault : RecordFault) (taken taken' : Option (List ℕ)) (u u' : S)
@@ -224,7 +224,7 @@ module _ {S : Type 0} (Did : S → S → List Answered → List Moment → Type 
     serves = serves_nothing Did first none;
     within = (let none : 0 ≤ read_max = omega arith in none);
     unread_is = tt;
-    took_is = inl refl;
+    took_is = refl;
     more_is = (let none : 0 ≤ 1 = omega arith in none);
     cause = tt;
   }

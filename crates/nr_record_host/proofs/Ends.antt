@@ -1,5 +1,5 @@
 -- How a connection ends: what was read, what was answered and what was not.
-use Rattle.std.proofs.Common.{◌≡◌, ℕ, ◌+◌, ◌≤◌, List, [], ◌∷◌, ◌++◌, length, true, false, Option, None, inl, inr, refl, sym, ap, ◌∙◌, subst, append-nil, arith}
+use Rattle.std.proofs.Common.{◌≡◌, ℕ, ◌+◌, ◌≤◌, List, [], ◌∷◌, ◌++◌, length, true, false, Option, None, inr, refl, sym, ap, ◌∙◌, subst, append-nil, arith}
 use Rattle.std.specs.Prelude.{is_ok}
 use Rattle.nr_outside.specs.declared.moment.Moment.{Moment}
 use Rattle.nr_links.specs.Limits.{read_max}
@@ -10,7 +10,7 @@ use Rattle.nr_record.proofs.Begun.{records_encoded}
 use Rattle.nr_rpc.specs.Reading.{call_of}
 use Rattle.nr_plain.specs.History.{Answered}
 use Rattle.nr_record_host.specs.private.Answering.{AnswersCall, BreaksOff, DoesNone, StopsAt}
-use Rattle.nr_record_host.specs.RecordRuns.{AllAnswered, BreaksOffIn, IsNoCall, IsRecordCause, MoreAt, REASON_CALL, TookAt, UnreadAt, calls, written}
+use Rattle.nr_record_host.specs.RecordRuns.{AllAnswered, IsNoCall, IsRecordCause, MoreAt, REASON_CALL, TookAt, UnreadAt, calls, written}
 use Rattle.nr_record_host.specs.private.RecordSteps.{AnswerEnds, AnswersAll, AnswersOn, HasRead, IsAnswered, IsPlace, IsServedBy, Loop, ServesBy, end_at, loop_at}
 use Rattle.nr_record_host.specs.declared.answering.Stop.{Stop}
 use Rattle.nr_record_host.specs.declared.answering.Stop.TheVariants as stops
@@ -91,23 +91,19 @@ module _ {S : Type 0} (Did : S → S → List Answered → List Moment → Type 
       (record { live = live'; all = none stream (length live'.exchanges) live'.read.stands })
 
   -- the sink took a part of the last reply
-  broken_off : (end : RecordEnd) (k k' : RecordsState) (taken taken' : Option (List ℕ)) (u u' : S) (call : List ℕ)
-      → ((unread : List ℕ) → UnreadAt end unread) → ((took : List ℕ) (xs : List Answered) → BreaksOffIn took xs → TookAt end took xs) → MoreAt end []
-      → ((left : Option (List ℕ)) (stream rest : List ℕ) (answered others : List (List ℕ)) → IsRecordCause left stream rest answered others end)
+  broken_off : (k k' : RecordsState) (taken taken' : Option (List ℕ)) (u u' : S) (call : List ℕ)
       → ((stream : List ℕ) (n : ℕ) (s : RepresentsStream k stream n) → IsAt (contents s.cuts) n call × RepresentsStream k' stream (n + 1))
-      → BreaksOff Did call taken taken' u u' → AnswerEnds Did end k taken taken' u u'
-  broken_off end k k' taken taken' u u' call unread takes more cause next (x, (call_is, (executes, (part, (is_part, appends))))) before left given stream within live =
+      → BreaksOff Did call taken taken' u u' → AnswerEnds Did ends.LinkWrite k taken taken' u u'
+  broken_off k k' taken taken' u u' call next (x, (call_is, (executes, (part, (is_part, appends))))) before left given stream within live =
       let xs = live.exchanges in
       let (at, stands') = next stream (length xs) live.read.stands in
       let h = read_on k stream xs live.read call at k' x call_is stands' in
       let ys : List Answered = xs ++ x ∷ [] in
       let after = loop_at left given taken' u' in
-      ended before after end k' stream ys [] (written xs ++ part) h
+      ended before after ends.LinkWrite k' stream ys [] (written xs ++ part) h
       (nothing_ahead before after stream ys [] (written xs ++ part)
       (serves_more Did before left given taken taken' u u' (stream ++ []) xs (written xs) live.serves x part executes appends))
-      within (unread h.stands.unread)
-      (takes (written xs ++ part) ys (record { answered = xs; last = x; xs_are = refl; part = part; is_part = is_part; took_is = refl }))
-      more (cause left stream (rest_in h.stands) (calls ys) (contents (go_on k' stream ys h).more))
+      within tt (record { answered = xs; last = x; xs_are = refl; part = part; is_part = is_part; took_is = refl }) refl tt
 
   -- it took all replies, and the clock gave a moment in vain
   none_executed : (end : RecordEnd) (k : RecordsState) (taken taken' : Option (List ℕ)) (u u' : S)
@@ -144,12 +140,9 @@ module _ {S : Type 0} (Did : S → S → List Answered → List Moment → Type 
     stop_ends stops.NotCall (none, no_head) =
         none_executed (ends.Bad at REASON_CALL) k taken taken' u u' (λ unread. tt) (λ xs. refl) (λ m. (one_more m, λ e. absurd (omega (arith, e))))
         (λ stream xs left h. inr (no_call no_head stream xs h)) none
-    stop_ends stops.LinkWrite breaks =
-        broken_off ends.LinkWrite k k' taken taken' u u' call (λ unread. tt) (λ took xs breaks. breaks) refl (λ left stream rest answered others. tt) next breaks
-    stop_ends stops.Memory (inl none) =
-        none_executed ends.Memory k taken taken' u u' (λ unread. tt) (λ xs. inl refl) one_more (λ stream xs left h. tt) none
-    stop_ends stops.Memory (inr breaks) =
-        broken_off ends.Memory k k' taken taken' u u' call (λ unread. tt) (λ took xs breaks. inr breaks) (let none : 0 ≤ 1 = omega arith in none) (λ left stream rest answered others. tt) next breaks
+    stop_ends stops.LinkWrite breaks = broken_off k k' taken taken' u u' call next breaks
+    stop_ends stops.Memory none =
+        none_executed ends.Memory k taken taken' u u' (λ unread. tt) (λ xs. refl) one_more (λ stream xs left h. tt) none
 
   -- some were answered before it
   pub on_ends : (end : RecordEnd) (k k' : RecordsState) (taken taken' taken'' : Option (List ℕ)) (u u' u'' : S)

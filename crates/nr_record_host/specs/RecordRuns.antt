@@ -87,10 +87,9 @@ pub record BreaksOffIn (took : List ℕ) (xs : List Answered) : Type 0 where
   pub is_part : IsPrefixOf part (fragment true last.reply)
   pub took_is : took ≡ written answered ++ part
 
--- the bytes that the sink took: all replies; or the last one broke off, if its write failed or memory ran out
+-- the bytes that the sink took: all replies, or the last one broke off, if its write failed
 abbrev pub TookAt : RecordEnd → List ℕ → List Answered → Type 0
 TookAt ends.LinkWrite took xs = BreaksOffIn took xs
-TookAt ends.Memory took xs = (took ≡ written xs) ⊎ BreaksOffIn took xs
 TookAt end took xs = took ≡ written xs
 
 -- the moments that were given for no call that was executed: one at most, if a record has no call head or memory ran

@@ -52,7 +52,7 @@ type Row = (
     u32,
 );
 
-static ROWS: [Row; 21] = [
+static ROWS: [Row; 23] = [
     (&[], 0, &[], &[], &[], "Closed", 0, 0),
     (&[], 44, &[], &[], &[], "Closed", 28, 1),
     (&[], 44, &[1, 3, 20], &[], &[], "Closed", 28, 1),
@@ -104,9 +104,11 @@ static ROWS: [Row; 21] = [
     (&[], 88, &[44, 44], &[0], &[], "LinkRead", 0, 0),
     (&[], 88, &[44, 44], &[1], &[], "LinkRead", 28, 1),
     (&[], 88, &[44, 44], &[2], &[], "LinkRead", 56, 2),
-    // Each write fails in turn: nothing more is executed.
+    // Each write fails in turn, that of a header and that of a reply: nothing more is executed.
     (&[], 88, &[], &[], &[0], "LinkWrite", 0, 1),
-    (&[], 88, &[], &[], &[1], "LinkWrite", 28, 2),
+    (&[], 88, &[], &[], &[1], "LinkWrite", 4, 1),
+    (&[], 88, &[], &[], &[2], "LinkWrite", 28, 2),
+    (&[], 88, &[], &[], &[3], "LinkWrite", 32, 2),
     // A record above the limit, and one that is at it; the first by its second fragment, after a call.
     (
         &[0x00102001],

@@ -1,7 +1,7 @@
 -- What the answer to one record makes of the sink and of what executes calls. S has the states of that, and `Did first
 -- now xs more` says that from `first` to `now` these calls were executed, in order, and these moments were given for no
 -- call.
-use Rattle.std.specs.Prelude.{◌≡◌, ⊤, ℕ, ◌⊎◌, true, false, List, [], ◌∷◌, ◌++◌, Option, is_ok}
+use Rattle.std.specs.Prelude.{◌≡◌, ⊤, ℕ, true, false, List, [], ◌∷◌, ◌++◌, Option, is_ok}
 use Rattle.std.specs.Io.KnownBytes.{Appends}
 use Rattle.nr_outside.specs.Faults.{Rises}
 use Rattle.nr_outside.specs.declared.moment.Moment.{Moment}
@@ -50,7 +50,7 @@ module _ {S : Type 0} (Did : S → S → List Answered → List Moment → Type 
   abbrev pub StopsAt : Stop → List ℕ → (taken taken' : Option (List ℕ)) (u u' : S) → Type 0
   StopsAt stops.NotCall call taken taken' u u' = DoesNone taken taken' u u' × (is_ok (call_of call) ≡ false)
   StopsAt stops.LinkWrite call taken taken' u u' = BreaksOff call taken taken' u u'
-  StopsAt stops.Memory call taken taken' u u' = DoesNone taken taken' u u' ⊎ BreaksOff call taken taken' u u'
+  StopsAt stops.Memory call taken taken' u u' = DoesNone taken taken' u u'
 
 abbrev pub CountAt : Stop → ℕ → ℕ → Type 0
 CountAt stops.LinkWrite before after = Rises before after
