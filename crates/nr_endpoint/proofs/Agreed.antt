@@ -1,15 +1,15 @@
 -- What is agreed fits the receives of a side, and a side that says nothing agrees on nothing.
-use Rattle.std.proofs.Common.{◌≡◌, ℕ, ◌+◌, ◌-◌, ◌*◌, ◌≤◌, min, max, Bool, true, false, if◌then◌else◌, List, [], length, Option, None, Some, refl, ap, ◌∙◌, arith}
-use Rattle.std.proofs.Math.Nat.{min-le_left, min-le_right}
+use Rattle.std.proofs.Common.{◌≡◌, ℕ, ◌*◌, ◌≤◌, min, max, Bool, true, false, if◌then◌else◌, List, [], Option, None, Some, refl, ap, ◌∙◌, arith}
+use Rattle.std.proofs.Math.Nat.{min-le_right}
 use Rattle.nr_wire.specs.Constants.{UNITS_MAX}
 use Rattle.nr_wire.specs.declared.hello.Side.{Side}
 use Rattle.nr_wire.specs.declared.hello.Side.TheVariants.{Initiator, Responder}
 use Rattle.nr_wire.specs.declared.terms.Terms.{Terms}
 use Rattle.nr_wire.specs.Terms.{terms_in, terms_encoding, terms_key, units_byte, units_of_byte}
 use Rattle.nr_link.specs.declared.agreement.SideTerms.{SideTerms}
-use Rattle.nr_link.specs.Agreement.{initiator_private, responder_private, responder_private_by, agreement, agreed_by, nothing_agreed}
+use Rattle.nr_link.specs.Agreement.{initiator_private, responder_private, responder_private_by, agreement, agreed_by}
 use Rattle.nr_link.specs.Limits.{send_max}
-use Rattle.nr_endpoint.specs.Hellos.{own_private, side_agreement, received_max, receive_units, receive_length_for}
+use Rattle.nr_endpoint.specs.Hellos.{own_private, side_agreement, received_max, receive_length_for}
 use Rattle.nr_endpoint.specs.Judging.{reply_hello}
 
 -- these terms, if there are any, say n units in both directions

@@ -5,7 +5,7 @@ use Rattle.nr_link.specs.declared.agreement.SideTerms.{SideTerms}
 use Rattle.nr_link.specs.declared.agreement.Agreement.{Agreement}
 use Rattle.nr_link.specs.Agreement.{nothing_agreed, IsSendLimit}
 use Rattle.nr_endpoint.specs.Hellos.{received_max}
-use Rattle.nr_endpoint.specs.LinkState.{LinkState, initial_link}
+use Rattle.nr_endpoint.specs.LinkState.{initial_link}
 use Rattle.nr_endpoint.specs.Calls.{Call, after_calls}
 
 -- Until the peer's hello was accepted nothing is agreed. A Send of the peer is refused by what is agreed for its direction, and in each

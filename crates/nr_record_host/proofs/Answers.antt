@@ -8,7 +8,8 @@ use Rattle.nr_plain.specs.History.{Answered}
 use Rattle.nr_record_host.specs.private.Answering.{AnswersCall, BreaksOff, Executes}
 
 -- the header of a reply, and then the reply
-pub framed : (head bytes reply : List ℕ) (len : ℕ) → head ≡ header true len → len ≡ length reply → bytes ≡ reply → head ++ bytes ≡ fragment true reply
+pub framed : (head bytes reply : List ℕ) (len : ℕ) → head ≡ header true len → len ≡ length reply → bytes ≡ reply
+    → head ++ bytes ≡ fragment true reply
 framed head bytes reply len head_is len_is bytes_are = ap₂ (λ (l r : List ℕ). l ++ r) (head_is ∙ ap (header true) len_is) bytes_are
 
 module _ {S : Type 0} (Did : S → S → List Answered → List Moment → Type 0) (call : List ℕ) (u u' : S) (reply : List ℕ) (executes : Executes Did u u' call reply) where
