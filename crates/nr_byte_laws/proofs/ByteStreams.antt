@@ -159,9 +159,10 @@ key_bytes Responder = decided (key Responder) refl
 pub hello_bytes_lem : (side : Side) (private : List ℕ) → IsBytes private → IsBytes (hello_with side private)
 unfolding hello_with hello_encoding
 hello_bytes_lem side private h =
-    let fields : List ℕ = 0 ∷ HELLO_REVISION ∷ half_word (length private) in
-    let both : IsBytes (fields ++ private) = bytes_both fields private (bytes_more 0 (HELLO_REVISION ∷ half_word (length private)) (omega arith) (bytes_more HELLO_REVISION (half_word (length private)) (omega arith) (half_bytes (length private)))) h in
-    bytes_both (key side) (fields ++ private) (key_bytes side) both
+    let len : List ℕ = half_word (length private) in
+    let fields : List ℕ = 0 ∷ HELLO_REVISION ∷ len in
+    let own : IsBytes fields = bytes_more 0 (HELLO_REVISION ∷ len) (omega arith) (bytes_more HELLO_REVISION len (omega arith) (half_bytes (length private))) in
+    bytes_both (key side ++ fields) private (bytes_both (key side) fields (key_bytes side) own) h
 
 -- the private data of a hello
 terms_key_bytes : IsBytes terms_key
@@ -189,7 +190,7 @@ terms_bytes units number invalidates =
     let fields : List ℕ = terms_flags number invalidates ∷ unit ∷ unit ∷ [] in
     let own : IsBytes fields = bytes_more (terms_flags number invalidates) (unit ∷ unit ∷ []) (flags_small (not (eqb number 0)) invalidates)
     (bytes_more unit (unit ∷ []) (units_small units) (bytes_more unit [] (units_small units) no_bytes_lem)) in
-    bytes_both terms_key (fields ++ last) terms_key_bytes (bytes_both fields last own (number_bytes (eqb number 0) number))
+    bytes_both (terms_key ++ fields) last (bytes_both terms_key fields terms_key_bytes own) (number_bytes (eqb number 0) number)
 
 says_bytes : (o : Option SideTerms) → IsBytes (initiator_says o)
 unfolding initiator_private
