@@ -12,7 +12,7 @@ use Rattle.nr_wire.specs.Hello.{hello_encoding, key}
 use Rattle.nr_wire.specs.Segment.{Segment, control, header, payload_in, opcode_in, ulpdu_size, tail_len, encoding as frame_of}
 use Rattle.nr_wire.specs.Segment.Segment.{Tagged, Untagged}
 use Rattle.nr_link.specs.Limits.{segment_max}
-use Rattle.nr_link.specs.Output.{msn_word, cut, segment_count, segment_payload, send, write, read_response, read_request, terminate_message, own_hello, refusing_hello}
+use Rattle.nr_link.specs.Output.{msn_word, cut, segment_count, segment_payload, send, write, read_response, read_request, terminate_message, hello_with, own_hello, refusing_hello}
 use Rattle.nr_link.specs.Ending.{final_output}
 use Rattle.nr_link.specs.declared.end.End.{End}
 use Rattle.nr_link.specs.declared.end.End.TheVariants as ends
@@ -144,7 +144,7 @@ unfolding terminate_message
 terminate_bytes n = segment_bytes_lem (Untagged true OPCODE_TERMINATE 0 QUEUE_TERMINATE 1 0 (word n)) terminate_small (word_bytes n)
 
 pub hello_bytes_lem : (side : Side) → IsBytes (own_hello side)
-unfolding own_hello hello_encoding key half_word
+unfolding hello_with hello_encoding key half_word
 hello_bytes_lem Initiator = decided (own_hello Initiator) refl
 hello_bytes_lem Responder = decided (own_hello Responder) refl
 

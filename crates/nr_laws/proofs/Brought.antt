@@ -17,7 +17,7 @@ use Rattle.nr_wire.proofs.Splits.{split_append, split_frames}
 use Rattle.nr_wire.proofs.Segments.{encoding_again}
 use Rattle.nr_wire.proofs.Hellos.{hello_again}
 use Rattle.nr_wire.specs.Constants.{ULPDU_MAX}
-use Rattle.nr_link.specs.Output.{own_hello}
+use Rattle.nr_link.specs.Output.{hello_with, own_hello}
 use Rattle.nr_link.specs.Frames.{Frame, frames_from, frames_completed, is_hello}
 use Rattle.nr_link.specs.Ending.{frame_segment}
 use Rattle.nr_link.proofs.Streams.{frames_from_append, frames_completed_split}
@@ -76,7 +76,7 @@ pub record IsHelloFrame (side : Side) (frame : List ℕ) : Type 0 where
   pub says : hello_of side frame ≡ Ok (record { side = side; flags = 0; private = [] })
 
 pub hello_is : (side : Side) → IsHelloFrame side (own_hello side)
-unfolding own_hello hello_in
+unfolding hello_with hello_in
 hello_is side =
     let hello : Hello = record { side = side; flags = 0; private = [] } in
     let frame = hello_encoding hello in

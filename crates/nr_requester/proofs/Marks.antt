@@ -251,6 +251,7 @@ link_opened opened link staging = record {
   has_hello = refl;
   receive_length = refl;
   message_max = refl;
+  terms = refl;
   received = refl;
   receive = refl;
   none_lent = refl;

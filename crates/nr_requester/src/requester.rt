@@ -105,7 +105,7 @@ impl Requester {
         ensures staging { IfOk result (λ r. length r.staging ≡ FPDU_MAX) }
         ensures fed { IfOk result (λ r. fed_bytes r ≡ 0) }
     {
-        let endpoint = Endpoint::open(alloc, Side::Initiator, 1, first_stag)?;
+        let endpoint = Endpoint::open(alloc, Side::Initiator, 1, first_stag, None)?;
         Ok(Requester {
             alloc,
             endpoint,

@@ -294,6 +294,7 @@ reading_keeps opened k s frame c h is some =
       received = told_h.received;
       receive_length = told_h.receive_length;
       message_max = told_h.message_max;
+      terms = told_h.terms;
       free = (let all = told_h.free in omega (arith, all, count));
       lent = (let all = told_h.lent in omega (arith, all, count));
       told = refl;

@@ -20,6 +20,7 @@ use Rattle.nr_endpoint.specs.LinkState.{LinkState, LinkSide}
 use Rattle.nr_endpoint.specs.Judging.{segment_end, next_frame, with_frame, with_fpdu, with_peer_hello, with_segment_by, with_end_of, reply_hello}
 use Rattle.nr_endpoint.specs.Laws.{IsFrameEnd, IsFrameReason}
 use Rattle.nr_endpoint.proofs.EndLaws.{effect_ended, frames_end_for_these}
+use Rattle.nr_endpoint.proofs.Agreed.{silent_agrees, silent_reply}
 use Rattle.nr_reduce.specs.declared.mark.LinkParameters.{LinkParameters}
 use Rattle.nr_reduce.specs.OfferedRegions.{region_grants}
 use Rattle.nr_reduce.specs.Events.RunEvent.{FrameReceived}
@@ -172,7 +173,8 @@ hello_link opened k s frame hello h is none = record {
   side = h.side;
   received = h.received;
   receive_length = h.receive_length;
-  message_max = h.message_max;
+  message_max = silent_agrees s.terms s.side hello.private h.terms;
+  terms = h.terms;
   free = h.free;
   lent = h.lent;
   told = h.told;
@@ -180,7 +182,7 @@ hello_link opened k s frame hello h is none = record {
   memory = holds_later k.regions k.accesses_received s.place (s.place + length frame) s.memory (omega arith) is.accesses h.memory;
   next = h.next;
   queue =
-      subst (λ (side : Side). QueueKeeps (with_own_hello k) (with_hello (reply_hello side) s.send_queue)) (sym h.side)
+      subst (λ (bytes : List ℕ). QueueKeeps (with_own_hello k) (with_hello bytes s.send_queue)) (sym (silent_reply s.terms s.side Responder hello.private h.terms h.side))
       (greeted_has k.written k.due k.messages_queued k.requests_sent k.message_ends (own_hello Responder) s.send_queue none h.queue);
 }
 

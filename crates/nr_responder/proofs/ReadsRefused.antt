@@ -300,6 +300,7 @@ sent_last opened k f a rest calls message t h fewer =
       received = h.received;
       receive_length = h.receive_length;
       message_max = h.message_max;
+      terms = h.terms;
       free = (let all = h.free in omega (arith, all, fewer, one));
       lent = (let all = h.lent in omega (arith, all, fewer, one));
       told = h.told;

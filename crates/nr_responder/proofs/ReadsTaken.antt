@@ -168,6 +168,7 @@ takes_last opened k so_far v frame x rest h long r reads = record {
   received = h.link.received;
   receive_length = h.link.receive_length;
   message_max = h.link.message_max;
+  terms = h.link.terms;
   free = h.link.free;
   lent = h.link.lent;
   told = h.link.told;

@@ -24,6 +24,7 @@ use Rattle.nr_endpoint.specs.LinkState.{LinkState, LinkSide}
 use Rattle.nr_endpoint.specs.Judging.{next_frame, with_frame, with_peer_hello, with_end_of, reply_hello}
 use Rattle.nr_endpoint.specs.Calls.{after_call}
 use Rattle.nr_endpoint.specs.Calls.Call.{NextEvent, Stop, Send}
+use Rattle.nr_endpoint.proofs.Agreed.{silent_reply}
 use Rattle.nr_reduce.specs.declared.mark.LinkParameters.{LinkParameters}
 use Rattle.nr_reduce.specs.OfferedRegions.{region_grants}
 use Rattle.nr_reduce.specs.Events.RunEvent.{FrameReceived}
@@ -87,7 +88,7 @@ greeted opened k so_far v frame hello h place none some reads =
     record {
       keeps = subst (λ (e : EndState ServerState). KeepsEnd opened e (behind so_far frame) (on_link v (record { awaited = Fpdu; rest = []; state = with_peer_hello f (Ok hello) s }))) (sym server.0) (inl (refl, keeps));
       output =
-          ap (λ (side : Side). queued_bytes (with_hello (reply_hello side) s.send_queue)) h.link.side
+          ap (λ (bytes : List ℕ). queued_bytes (with_hello bytes s.send_queue)) (silent_reply s.terms s.side Responder hello.private h.link.terms h.link.side)
           ∙ hello_queue (own_hello Responder) s.send_queue none
           ∙ ap (λ (bytes : List ℕ). queued_bytes s.send_queue ++ bytes) (sym server.1);
     }

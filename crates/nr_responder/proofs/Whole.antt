@@ -262,6 +262,7 @@ refused_keeps opened k s bytes message h is some =
       received = told_h.received;
       receive_length = told_h.receive_length;
       message_max = told_h.message_max;
+      terms = told_h.terms;
       free = omega (arith, told_h.free, more, one);
       lent = omega (arith, told_h.lent, more, one);
       told = told_h.told;

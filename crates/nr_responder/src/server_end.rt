@@ -129,6 +129,7 @@ pub(crate) fn send_error(endpoint: &mut Endpoint, made: Result<Octets, Memory>) 
 fn post_until(endpoint: &mut Endpoint, used: &mut VecDeque<Octets>, left: usize)
     requires left { left ≤ length used.old.items }
     requires lent { length used.old.items ≤ endpoint.old.link.state.receive_queue.lent + left }
+    requires receives { endpoint.old.link.state.receive_queue.receive_length ≡ send_max }
     requires bufs { All (IsReceive send_max) used.old.items }
     ensures posted { endpoint.new.link ≡ posted_times (length used.old.items - left) endpoint.old.link }
     ensures left { length used.new.items ≡ left }
@@ -171,7 +172,7 @@ impl ServerEnd {
         let ready = VecDeque::with_capacity(alloc, credits as usize)?;
         let used = VecDeque::with_capacity(alloc, credits as usize)?;
         let calls = Vec::with_capacity(alloc, credits as usize)?;
-        let endpoint = Endpoint::open(alloc, Side::Responder, credits, 1)?;
+        let endpoint = Endpoint::open(alloc, Side::Responder, credits, 1, None)?;
         Ok(ServerEnd {
             endpoint,
             calls,
