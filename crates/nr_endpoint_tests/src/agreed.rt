@@ -21,28 +21,28 @@ static TWO_UNITS: [u32; 7] = [
     0x0100_0101,
 ];
 
-/// How the private data of a request begins, and its length, up to which zeros follow; the hello that a responder of two units answers; what
-/// is agreed, from the initiator and from the responder.
-type Row = (&'static [u8], usize, &'static [u32], (u32, u32));
+/// How the private data of a request begins, and its length, up to which zeros follow; whether a responder of two units answers it with
+/// private data; what is agreed, from the initiator and from the responder.
+type Row = (&'static [u8], usize, bool, (u32, u32));
 
 static ANSWERED: [Row; 13] = [
     // No terms: nothing, seven bytes, another name, another version.
-    (b"", 0, &REPLY, (1024, 1024)),
-    (b"NR01\x01\x00\x03", 7, &REPLY, (1024, 1024)),
-    (b"NR02\x01\x00\x03\x03", 8, &REPLY, (1024, 1024)),
-    (b"NR01\x02\x00\x03\x03", 8, &REPLY, (1024, 1024)),
+    (b"", 0, false, (1024, 1024)),
+    (b"NR01\x01\x00\x03", 7, false, (1024, 1024)),
+    (b"NR02\x01\x00\x03\x03", 8, false, (1024, 1024)),
+    (b"NR01\x02\x00\x03\x03", 8, false, (1024, 1024)),
     // Four units, and in each direction one.
-    (b"NR01\x01\x00\x03\x03", 8, &TWO_UNITS, (2048, 2048)),
-    (b"NR01\x01\x00\x00\x03", 8, &TWO_UNITS, (1024, 2048)),
-    (b"NR01\x01\x00\x03\x00", 8, &TWO_UNITS, (2048, 1024)),
+    (b"NR01\x01\x00\x03\x03", 8, true, (2048, 2048)),
+    (b"NR01\x01\x00\x00\x03", 8, true, (1024, 2048)),
+    (b"NR01\x01\x00\x03\x00", 8, true, (2048, 1024)),
     // 16 units, and 17 and 256, which count as 16.
-    (b"NR01\x01\x00\x0f\x0f", 8, &TWO_UNITS, (2048, 2048)),
-    (b"NR01\x01\x00\x10\x10", 8, &TWO_UNITS, (2048, 2048)),
-    (b"NR01\x01\x00\xff\xff", 8, &TWO_UNITS, (2048, 2048)),
+    (b"NR01\x01\x00\x0f\x0f", 8, true, (2048, 2048)),
+    (b"NR01\x01\x00\x10\x10", 8, true, (2048, 2048)),
+    (b"NR01\x01\x00\xff\xff", 8, true, (2048, 2048)),
     // Flags that nobody knows, a number of a client, and what follows.
-    (b"NR01\x01\xfc\x01\x01", 8, &TWO_UNITS, (2048, 2048)),
-    (b"NR01\x01\x01\x01\x01", 16, &TWO_UNITS, (2048, 2048)),
-    (b"NR01\x01\x00\x01\x01", 512, &TWO_UNITS, (2048, 2048)),
+    (b"NR01\x01\xfc\x01\x01", 8, true, (2048, 2048)),
+    (b"NR01\x01\x01\x01\x01", 16, true, (2048, 2048)),
+    (b"NR01\x01\x00\x01\x01", 512, true, (2048, 2048)),
 ];
 
 /// A side with this number of units that says nothing else.
@@ -75,7 +75,8 @@ fn answers(rt: &impl Abort, alloc: Global, row: usize, cells: Row) {
     let hello = request(rt, alloc, cells.0, cells.1);
     same(rt, row, endpoint.feed(rt, hello.as_slice()), Ok(()));
     same(rt, row, endpoint.endpoint().agreed(), cells.3);
-    writes(rt, alloc, row, &mut endpoint, cells.2, &[]);
+    let answer: &[u32] = if cells.2 { &TWO_UNITS } else { &REPLY };
+    writes(rt, alloc, row, &mut endpoint, answer, &[]);
     drop(endpoint);
 }
 
