@@ -30,4 +30,6 @@ mod segments;
 #[cfg(test)]
 mod short_sink;
 #[cfg(test)]
+mod terms;
+#[cfg(test)]
 mod vectors;

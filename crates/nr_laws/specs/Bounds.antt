@@ -1,6 +1,7 @@
 -- How much a side holds for its peer at a time, whatever the peer sends.
-use Rattle.std.specs.Prelude.{ℕ, ◌+◌, ◌≤◌, List, length, Option, None, Some}
+use Rattle.std.specs.Prelude.{ℕ, ◌+◌, ◌*◌, ◌≤◌, List, length, Option, None, Some}
 use Rattle.std.specs.List.{AllByRecursion}
+use Rattle.nr_header.specs.Constants.{HEADER_LEN_MIN}
 use Rattle.nr_link.specs.Limits.{open_reads_max}
 use Rattle.nr_reduce.specs.declared.mark.Mark.{Mark}
 use Rattle.nr_reduce.specs.declared.mark.LinkParameters.{LinkParameters}
@@ -34,12 +35,8 @@ chunk_segments (Some lengths) = length lengths
 abbrev pub segments_in : Plan → ℕ
 segments_in p = length p.read + (chunk_segments p.write + chunk_segments p.reply)
 
--- the most segments for which the header of a Send has room: 4096 bytes, of which 28 are no segments, and a segment has at least 16 (RFC 8166
--- section 4.3; the length of a Send is own)
-abbrev pub segments_max : ℕ
-segments_max = 254
-
--- If a client keeps its law, the lists of each call that it has outstanding have at most as many.
+-- If a client keeps its law, the lists of each call that it has outstanding have together at most the segments for which a Send has room: its
+-- header has HEADER_LEN_MIN bytes that are no segments, and 16 or more for each segment (RFC 8166 section 4.3). In 1024 bytes that is 62.
 abbrev pub ClientOffersFewSegments : Type 0
 ClientOffersFewSegments = (opened : LinkParameters) (link : ℕ) (run : List Mark) → IsTyped run → AskedSoFar opened link run →
-    AllByRecursion (λ (o : OutstandingCall). segments_in o.plan ≤ segments_max) (client opened link run).state.outstanding
+    AllByRecursion (λ (o : OutstandingCall). HEADER_LEN_MIN + 16 * segments_in o.plan ≤ (client opened link run).state.up_max) (client opened link run).state.outstanding
