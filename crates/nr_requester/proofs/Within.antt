@@ -21,7 +21,7 @@ use Rattle.nr_regions.proofs.Totals.{sound_initial}
 use Rattle.nr_regions.specs.Table.{region_len}
 use Rattle.nr_link.specs.declared.end.End.{End}
 use Rattle.nr_link.specs.Limits.{send_max, open_reads_max}
-use Rattle.nr_link.specs.Output.{own_hello}
+use Rattle.nr_link.specs.Output.{hello_with, own_hello}
 use Rattle.nr_endpoint.specs.EndpointState.{EndpointState}
 use Rattle.nr_endpoint.specs.SendQueue.{SendQueue, with_send, written}
 use Rattle.nr_endpoint.specs.LinkState.{LinkState, LinkSide, has_ended, initial_link}
@@ -67,7 +67,7 @@ first_regions first_stag fits = (
 )
 
 hello_is : length (own_hello Initiator) ≡ HELLO_LEN
-unfolding own_hello hello_encoding key half_word
+unfolding hello_with hello_encoding key half_word
 hello_is = refl
 
 hello_small : length (own_hello Initiator) ≤ HELLO_LEN

@@ -398,6 +398,7 @@ reading_takes opened k input v frame w queue_number msn offset payload c h behin
       credits = h.credits;
       reads = refl;
       sinks = sym (open_append k.regions regions);
+      silent = h.silent;
       payloads = payloads_pushed k.calls k.reads c k.ready v.fetching.payloads none h.server.ready h.payloads;
       quiet = λ e. absurd (omega (arith, e, behind_hello));
     } in

@@ -6,6 +6,7 @@ use Rattle.nr_wire.specs.declared.hello.Side.TheVariants.{Initiator, Responder}
 use Rattle.nr_link.specs.Input.{initial_input}
 use Rattle.nr_regions.specs.RegisteredMemory.{initial_memory, live_region, held_region}
 use Rattle.nr_endpoint.specs.LinkState.{LinkSide, initial_link, initial_state}
+use Rattle.nr_reduce.specs.Opening.{ServerOpened}
 use Rattle.nr_reduce.specs.declared.mark.LinkParameters.{LinkParameters}
 use Rattle.nr_reduce.specs.ServerState as server
 use Rattle.nr_reduce.specs.Server.{initial_server}
@@ -65,9 +66,9 @@ link_first opened = record {
   queue = record { due_is = refl; ends_are = sym (ends_none 0 0); each = tt; sends = refl; requests_are = refl; responses = refl };
 }
 
-keeps_first : (opened : LinkParameters) → Keeps opened (server.initial_server_state opened) (initial_input Initiator) (opened_state opened.granted (initial_link Responder opened.granted 1))
+keeps_first : (opened : LinkParameters) → opened.server ≡ None → Keeps opened (server.initial_server_state opened) (initial_input Initiator) (opened_state opened.granted (initial_link Responder opened.granted 1))
 unfolding initial_link
-keeps_first opened = record {
+keeps_first opened silent = record {
   link = link_first opened;
   input = record { awaited = refl; rest = refl; place = refl };
   begins = BeforeHello refl refl refl refl;
@@ -77,6 +78,7 @@ keeps_first opened = record {
   credits = refl;
   reads = refl;
   sinks = refl;
+  silent = silent;
   payloads = tt;
   quiet = λ e. (refl, refl);
 }
@@ -85,16 +87,16 @@ queue_first : (opened : LinkParameters) → queue (opened_state opened.granted (
 unfolding initial_link
 queue_first opened = refl
 
-pub opened_stands_lem : (opened : LinkParameters) (link : ℕ) (credits : ℕ) (l : LinkSide) → opened.granted ≡ credits → l ≡ initial_link Responder credits 1 → ResponderRepresents opened link [] (opened_state credits l)
+pub opened_stands_lem : (opened : LinkParameters) (link : ℕ) (credits : ℕ) (l : LinkSide) → ServerOpened opened credits → l ≡ initial_link Responder credits 1 → ResponderRepresents opened link [] (opened_state credits l)
 opened_stands_lem opened link credits l same is =
     let first : RepresentsServer opened link [] (opened_state opened.granted (initial_link Responder opened.granted 1)) = record {
       end = initial_server opened;
       input = initial_input Initiator;
       stands = subst (λ (bytes : List ℕ). ServerRepresents opened link (initial_server opened) (initial_input Initiator) bytes []) (sym (queue_first opened)) (server_begins_lem opened link);
-      keeps = inl (refl, keeps_first opened);
+      keeps = inl (refl, keeps_first opened same.1);
     } in
     subst (λ (x : LinkSide). ResponderRepresents opened link [] (opened_state credits x)) (sym is)
-    (subst (λ (n : ℕ). ResponderRepresents opened link [] (opened_state n (initial_link Responder n 1))) same (inl first))
+    (subst (λ (n : ℕ). ResponderRepresents opened link [] (opened_state n (initial_link Responder n 1))) same.0 (inl first))
 
 pub opened_lives : (l : LinkSide) (credits : ℕ) → l ≡ initial_link Responder credits 1 → l.state.ended ≡ None
 unfolding initial_link

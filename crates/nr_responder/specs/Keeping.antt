@@ -139,6 +139,7 @@ pub record Keeps (opened : LinkParameters) (k : ServerState) (input_now : InputS
   pub credits : v.credits ≡ k.credit
   pub reads : v.fetching.reads ≡ k.reads
   pub sinks : v.fetching.sinks ≡ open_sinks k.regions
+  pub silent : opened.server ≡ None
   pub payloads : ArePayloads k.calls k.ready v.fetching.payloads
   pub quiet : v.link.state.place ≡ 0 → (v.ready ≡ []) × (k.message_ends ≡ [])
 

@@ -16,6 +16,7 @@ ghost use Rattle.nr_endpoint.specs.Calls.Call.{Stop, Send, OutOfMemory};
 ghost use Rattle.std.specs.Result.{result_err};
 ghost use Rattle.nr_wire.specs.declared.hello.Side.TheVariants.{Responder as ResponderSide};
 ghost use Rattle.nr_link.specs.declared.end.End.TheVariants as ends;
+ghost use Rattle.nr_reduce.specs.Opening.{ServerOpened};
 ghost use Rattle.nr_reduce.specs.declared.mark.LinkParameters.{LinkParameters};
 ghost use Rattle.nr_reduce.specs.declared.mark.Mark.{Mark};
 ghost use Rattle.nr_reduce.specs.declared.mark.Mark.TheVariants as marks;
@@ -165,7 +166,7 @@ impl ServerEnd {
         ensures live { IfOk result (λ r. end_of (state_of r) ≡ None) }
         ensures fed { IfOk result (λ r. fed_bytes r.endpoint.link ≡ 0) }
         ensures staging { IfOk result (λ r. length r.endpoint.staging ≡ FPDU_MAX) }
-        ensures stands { IfOk result (λ r. (opened : LinkParameters) (link : ℕ) → opened.granted ≡ credits → ResponderRepresents opened link [] (state_of r)) }
+        ensures stands { IfOk result (λ r. (opened : LinkParameters) (link : ℕ) → ServerOpened opened credits → ResponderRepresents opened link [] (state_of r)) }
         ensures bounded { IfOk result (λ r. KeptFits (state_of r)) }
     {
         let ready = VecDeque::with_capacity(alloc, credits as usize)?;
