@@ -1,207 +1,154 @@
 //! Tests of nr_nfs_base: values in words, and the offset of each field.
 
-use crate::compare::{Want, again, bytes_of, encoded_as, row_gives, same};
+use crate::compare::{Tables, bytes_of, encoded_as, field, same};
 use nr_nfs_base::*;
 use nr_xdr::{Memory, Octets, Reader, RoomWriter};
 use std::alloc::Global;
 use std::process::Abort;
 
-#[derive(Clone, Copy)]
-enum Type {
-    Word,
-    Hyper,
-    Boolean,
-    Nothing,
-    Time,
-    Verifier,
-    FileType,
-    StableHow,
+type Values = (u32, (u64, (bool, ((), ValuesFromTime))));
+
+type ValuesFromTime = (Time, (Verifier, (FileType, (StableHow, ValuesFromTimeHow))));
+
+type ValuesFromTimeHow = (
     TimeHow,
-    Answer,
-    MountAnswer,
-    SpecialData,
+    (
+        StatusUnion<u32, ()>,
+        (
+            StatusUnion<(), u32, MountStatus>,
+            (SpecialData, ValuesFromAttributes),
+        ),
+    ),
+);
+
+type ValuesFromAttributes = (
     Attributes,
-    PostOpAttributes,
-    WccAttributes,
-    WccData,
+    (
+        Option<Attributes>,
+        (WccAttributes, (WccData, ValuesFromSetTime)),
+    ),
+);
+
+type ValuesFromSetTime = (
     SetTime,
-    SetAttributes,
-    Handle,
-    PostOpHandle,
-    Name,
-    Path,
-    Data,
-    MountPath,
-    LinkedList,
-    Array,
-}
+    (SetAttributes, (Handle, (Option<Handle>, ValuesFromName))),
+);
 
-/// Reads the bytes as a value of the type, and writes that.
-fn again_as(kind: Type, alloc: Global, bytes: &[u8]) -> Result<Octets, ValueFault> {
-    match kind {
-        Type::Word => again::<u32>(alloc, bytes),
-        Type::Hyper => again::<u64>(alloc, bytes),
-        Type::Boolean => again::<bool>(alloc, bytes),
-        Type::Nothing => again::<()>(alloc, bytes),
-        Type::Time => again::<Time>(alloc, bytes),
-        Type::Verifier => again::<Verifier>(alloc, bytes),
-        Type::FileType => again::<FileType>(alloc, bytes),
-        Type::StableHow => again::<StableHow>(alloc, bytes),
-        Type::TimeHow => again::<TimeHow>(alloc, bytes),
-        Type::Answer => again::<StatusUnion<u32, ()>>(alloc, bytes),
-        Type::MountAnswer => again::<StatusUnion<(), u32, MountStatus>>(alloc, bytes),
-        Type::SpecialData => again::<SpecialData>(alloc, bytes),
-        Type::Attributes => again::<Attributes>(alloc, bytes),
-        Type::PostOpAttributes => again::<Option<Attributes>>(alloc, bytes),
-        Type::WccAttributes => again::<WccAttributes>(alloc, bytes),
-        Type::WccData => again::<WccData>(alloc, bytes),
-        _ => other_again_as(kind, alloc, bytes),
-    }
-}
+type ValuesFromName = (Name, (Path, (Data, (MountPath, ValuesFromLinkedList))));
 
-/// The same of the types that are not matched there: those that are set, and those of any length.
-fn other_again_as(kind: Type, alloc: Global, bytes: &[u8]) -> Result<Octets, ValueFault> {
-    match kind {
-        Type::SetTime => again::<SetTime>(alloc, bytes),
-        Type::SetAttributes => again::<SetAttributes>(alloc, bytes),
-        Type::Handle => again::<Handle>(alloc, bytes),
-        Type::PostOpHandle => again::<Option<Handle>>(alloc, bytes),
-        Type::Name => again::<Name>(alloc, bytes),
-        Type::Path => again::<Path>(alloc, bytes),
-        Type::Data => again::<Data>(alloc, bytes),
-        Type::MountPath => again::<MountPath>(alloc, bytes),
-        Type::LinkedList => again::<LinkedList<u32>>(alloc, bytes),
-        _ => again::<Array<u32>>(alloc, bytes),
-    }
-}
+type ValuesFromLinkedList = (LinkedList<u32>, (Array<u32>, ()));
 
-use Want::{Bad, Same, Words};
-
-struct Row(Type, &'static [u32], Want);
-
-const FATTR: [u32; 21] = [
-    2, 0o755, 3, 1, 2, 0, 4096, 0, 8192, 5, 6, 0, 1, 0, 9, 10, 11, 12, 13, 14, 15,
-];
-
-static TABLE: [Row; 76] = [
-    // RFC 4506 sections 4.2, 4.5, 4.4
-    Row(Type::Word, &[0xffff_ffff], Same),
-    Row(Type::Word, &[], Bad(0)),
-    Row(Type::Word, &[1, 2], Bad(4)),
-    Row(Type::Hyper, &[1, 2], Same),
-    Row(Type::Hyper, &[1], Bad(0)),
-    Row(Type::Boolean, &[0], Same),
-    Row(Type::Boolean, &[1], Same),
-    Row(Type::Boolean, &[2], Bad(0)),
-    Row(Type::Nothing, &[], Same),
-    Row(Type::Nothing, &[0], Bad(0)),
-    // RFC 1813 section 2.5, nfstime3
-    Row(Type::Time, &[1, 2], Same),
-    Row(Type::Time, &[1], Bad(4)),
-    Row(Type::Time, &[1, 2, 3], Bad(8)),
-    // RFC 1813 section 2.5, writeverf3
-    Row(Type::Verifier, &[0x0102_0304, 5], Same),
-    // RFC 1813 section 2.5, ftype3
-    Row(Type::FileType, &[1], Same),
-    Row(Type::FileType, &[7], Same),
-    Row(Type::FileType, &[0], Bad(0)),
-    Row(Type::FileType, &[8], Bad(0)),
-    // RFC 1813 section 3.3.7, stable_how
-    Row(Type::StableHow, &[0], Same),
-    Row(Type::StableHow, &[2], Same),
-    Row(Type::StableHow, &[3], Bad(0)),
-    // RFC 1813 section 2.5, time_how
-    Row(Type::TimeHow, &[0], Same),
-    Row(Type::TimeHow, &[2], Same),
-    Row(Type::TimeHow, &[3], Bad(0)),
-    // RFC 1813 section 2.5, nfsstat3
-    Row(Type::Answer, &[0, 7], Same),
-    Row(Type::Answer, &[1], Same),
-    Row(Type::Answer, &[10008], Same),
-    Row(Type::Answer, &[3], Bad(0)),
-    Row(Type::Answer, &[10009], Bad(0)),
-    Row(Type::Answer, &[1, 7], Bad(4)),
-    // RFC 1813 section 5.1.5, mountstat3
-    Row(Type::MountAnswer, &[0], Same),
-    Row(Type::MountAnswer, &[1, 7], Same),
-    Row(Type::MountAnswer, &[10006, 7], Same),
-    Row(Type::MountAnswer, &[10007, 7], Bad(0)),
-    // RFC 1813 section 2.5, specdata3 and fattr3
-    Row(Type::SpecialData, &[5, 6], Same),
-    Row(Type::Attributes, &FATTR, Same),
-    Row(Type::PostOpAttributes, &[0], Same),
-    Row(
-        Type::PostOpAttributes,
-        &[
-            1, 2, 0o755, 3, 1, 2, 0, 4096, 0, 8192, 5, 6, 0, 1, 0, 9, 10, 11, 12, 13, 14, 15,
-        ],
-        Same,
-    ),
-    Row(Type::PostOpAttributes, &[2], Bad(0)),
-    Row(Type::PostOpAttributes, &[1, 8], Bad(4)),
-    // RFC 1813 section 2.5, wcc_attr and wcc_data
-    Row(Type::WccAttributes, &[0, 1, 2, 3, 4, 5], Same),
-    Row(Type::WccData, &[0, 0], Same),
-    Row(Type::WccData, &[1, 0, 1, 2, 3, 4, 5, 0], Same),
-    Row(Type::WccData, &[1, 0, 1, 2, 3, 4, 5, 2], Bad(28)),
-    // RFC 1813 section 2.5, set_mtime and sattr3
-    Row(Type::SetTime, &[0], Same),
-    Row(Type::SetTime, &[1], Same),
-    Row(Type::SetTime, &[2, 8, 9], Same),
-    Row(Type::SetTime, &[2, 8], Bad(8)),
-    Row(Type::SetTime, &[3], Bad(0)),
-    Row(Type::SetAttributes, &[0, 0, 0, 0, 0, 0], Same),
-    Row(
-        Type::SetAttributes,
-        &[1, 0o644, 1, 10, 1, 20, 1, 0, 5, 2, 8, 9, 1],
-        Same,
-    ),
-    Row(Type::SetAttributes, &[0, 0, 0, 0, 0, 3], Bad(20)),
-    // RFC 1813 section 2.5, nfs_fh3
-    Row(Type::Handle, &[0], Same),
-    Row(Type::Handle, &[8, 0, 1], Same),
-    // section 2.4, NFS3_FHSIZE: the count 64 and 64 bytes; the count 65, alone and with all bytes and pads
-    Row(Type::Handle, &[64; 17], Same),
-    Row(Type::Handle, &[65], Bad(0)),
-    Row(Type::Handle, &[65; 18], Bad(0)),
-    Row(Type::PostOpHandle, &[0], Same),
-    Row(Type::PostOpHandle, &[1, 8, 0, 1], Same),
-    // RFC 1813 section 2.5, filename3; RFC 4506 section 4.11: `a.txt`
-    Row(
-        Type::Name,
-        &[5, 0x612e_7478, 0x7400_00ff],
-        Words(&[5, 0x612e_7478, 0x7400_0000]),
-    ),
-    Row(Type::Name, &[5, 0x612e_7478], Bad(0)),
-    // names, link paths and data have no limit: 256 bytes and 1028
-    Row(Type::Name, &[256; 65], Same),
-    Row(Type::Path, &[1028; 258], Same),
-    Row(Type::Data, &[1028; 258], Same),
-    // RFC 1813 section 5.1.5, dirpath
-    Row(Type::MountPath, &[1, 0x2f00_0000], Same),
-    // section 5.1.4, MNTPATHLEN: the count 1024 and 1024 bytes; the count 1025, alone and with all bytes and pads
-    Row(Type::MountPath, &[1024; 257], Same),
-    Row(Type::MountPath, &[1025], Bad(0)),
-    Row(Type::MountPath, &[1025; 258], Bad(0)),
-    // RFC 4506 section 4.19
-    Row(Type::LinkedList, &[0], Same),
-    Row(Type::LinkedList, &[1, 7, 0], Same),
-    Row(Type::LinkedList, &[1, 7, 1, 8, 1, 9, 0], Same),
-    Row(Type::LinkedList, &[1, 7], Bad(8)),
-    // RFC 4506 section 4.13
-    Row(Type::Array, &[0], Same),
-    Row(Type::Array, &[1, 7], Same),
-    Row(Type::Array, &[3, 7, 8, 9], Same),
-    Row(Type::Array, &[2, 7], Bad(8)),
-];
+static VALUES: &str = "\
+Word: RFC 4506 sections 4.2, 4.5, 4.4\n\
+ffffffff\n\
+|bad 0\n\
+1 2|bad 4\n\
+= Hyper\n\
+1 2\n\
+1|bad 0\n\
+= Boolean\n\
+0\n\
+1\n\
+2|bad 0\n\
+= Nothing\n\
+\n\
+0|bad 0\n\
+= Time: RFC 1813 section 2.5, nfstime3\n\
+1 2\n\
+1|bad 4\n\
+1 2 3|bad 8\n\
+= Verifier: RFC 1813 section 2.5, writeverf3\n\
+1020304 5\n\
+= FileType: RFC 1813 section 2.5, ftype3\n\
+1\n\
+7\n\
+0|bad 0\n\
+8|bad 0\n\
+= StableHow: RFC 1813 section 3.3.7, stable_how\n\
+0\n\
+2\n\
+3|bad 0\n\
+= TimeHow: RFC 1813 section 2.5, time_how\n\
+0\n\
+2\n\
+3|bad 0\n\
+= Answer: RFC 1813 section 2.5, nfsstat3\n\
+0 7\n\
+1\n\
+2718\n\
+3|bad 0\n\
+2719|bad 0\n\
+1 7|bad 4\n\
+= MountAnswer: RFC 1813 section 5.1.5, mountstat3\n\
+0\n\
+1 7\n\
+2716 7\n\
+2717 7|bad 0\n\
+= SpecialData: RFC 1813 section 2.5, specdata3 and fattr3\n\
+5 6\n\
+= Attributes\n\
+2 1ed 3 1 2 0 1000 0 2000 5 6 0 1 0 9 a b c d e f\n\
+= PostOpAttributes\n\
+0\n\
+1 2 1ed 3 1 2 0 1000 0 2000 5 6 0 1 0 9 a b c d e f\n\
+2|bad 0\n\
+1 8|bad 4\n\
+= WccAttributes: RFC 1813 section 2.5, wcc_attr and wcc_data\n\
+0 1 2 3 4 5\n\
+= WccData\n\
+0 0\n\
+1 0 1 2 3 4 5 0\n\
+1 0 1 2 3 4 5 2|bad 28\n\
+= SetTime: RFC 1813 section 2.5, set_mtime and sattr3\n\
+0\n\
+1\n\
+2 8 9\n\
+2 8|bad 8\n\
+3|bad 0\n\
+= SetAttributes\n\
+0*6\n\
+1 1a4 1 a 1 14 1 0 5 2 8 9 1\n\
+0*5 3|bad 20\n\
+= Handle: RFC 1813 section 2.5, nfs_fh3\n\
+0\n\
+8 0 1\n\
+# section 2.4, NFS3_FHSIZE: the count 64 and 64 bytes; the count 65, alone and with all bytes and pads\n\
+40*17\n\
+41|bad 0\n\
+41*18|bad 0\n\
+= PostOpHandle\n\
+0\n\
+1 8 0 1\n\
+= Name: RFC 1813 section 2.5, filename3; RFC 4506 section 4.11: `a.txt`\n\
+5 612e7478 740000ff|5 612e7478 74000000\n\
+5 612e7478|bad 0\n\
+# names, link paths and data have no limit: 256 bytes and 1028\n\
+100*65\n\
+= Path\n\
+404*258\n\
+= Data\n\
+404*258\n\
+= MountPath: RFC 1813 section 5.1.5, dirpath\n\
+1 2f000000\n\
+# section 5.1.4, MNTPATHLEN: the count 1024 and 1024 bytes; the count 1025, alone and with all bytes and pads\n\
+400*257\n\
+401|bad 0\n\
+401*258|bad 0\n\
+= LinkedList: RFC 4506 section 4.19\n\
+0\n\
+1 7 0\n\
+1 7 1 8 1 9 0\n\
+1 7|bad 8\n\
+= Array: RFC 4506 section 4.13\n\
+0\n\
+1 7\n\
+3 7 8 9\n\
+2 7|bad 8\n\
+";
 
 #[test]
 fn each_row_is_read_and_written(rt: HostRuntime) {
-    for (row, Row(kind, words, want)) in TABLE.iter().enumerate() {
-        let bytes = bytes_of(&rt, rt.alloc(), words);
-        let got = again_as(*kind, rt.alloc(), &bytes);
-        row_gives(&rt, rt.alloc(), row, got, words, *want);
-    }
+    Values::same_tables(&rt, rt.alloc(), VALUES);
 }
 
 /// The length of a name that is made, taken apart and made again.
@@ -247,7 +194,7 @@ fn numbered_front(alloc: Global, bytes: &[u8]) -> Option<(u32, usize)> {
 fn an_enumeration_stands_among_others(rt: HostRuntime) {
     let bytes = five_values(rt.alloc()).expect(&rt, "memory").into_vec();
     same(&rt, 0, numbered_front(rt.alloc(), &bytes), Some((5, 4)));
-    let want = bytes_of(&rt, rt.alloc(), &[5, 1, 0, 1, 0, 2]);
+    let want = bytes_of(&rt, rt.alloc(), "5 1 0 1 0 2");
     same(&rt, 1, bytes, want);
 }
 
@@ -313,14 +260,10 @@ fn each_field_has_its_place(rt: HostRuntime) {
         rt.alloc(),
         0,
         &(attributes, (wcc, (set, other))),
-        &[
-            &[
-                4, 0o644, 2, 1000, 100, 3, 4, 5, 6, 7, 8, 9, 10, 11, 12, 13, 14, 15, 16, 17, 18,
-            ],
-            &[1, 1, 2, 15, 16, 17, 18, 0],
-            &[1, 0o600, 1, 1000, 0, 1, 3, 4, 1, 2, 15, 16],
-            &[0, 0, 1, 100, 0, 2, 13, 14, 0],
-        ],
+        "4 1a4 2 3e8 64 3 4 5 6 7 8 9 a b c d e f 10 11 12 \
+1 1 2 f 10 11 12 0 \
+1 180 1 3e8 0 1 3 4 1 2 f 10 \
+0 0 1 64 0 2 d e 0",
     );
 }
 
@@ -354,64 +297,59 @@ fn place_of(field: Field, bytes: &[u8]) -> Option<usize> {
     }
 }
 
-struct Skipped(Field, &'static [u32], Option<usize>);
+/// Ends the test if the field is not found at the offset that a row names after its words, or is found if it names none.
+fn skipped(rt: &impl Abort, alloc: Global, which: Field, text: &str) {
+    for (row, text) in text.lines().enumerate() {
+        let (words, at) = field(text);
+        let bytes = bytes_of(rt, alloc, words);
+        same(rt, row, place_of(which, &bytes), at.parse::<usize>().ok());
+    }
+}
 
 // What follows the fields that are skipped isn't looked at.
-static SKIPPED: [Skipped; 23] = [
-    // RFC 1813 section 3.3.7: file, offset, count and stable
-    Skipped(Field::WriteData, &[8, 0, 1, 0, 0, 5, 2, 5], Some(28)),
-    Skipped(Field::WriteData, &[0, 0, 0, 5, 0], Some(20)),
-    Skipped(Field::WriteData, &[8, 0, 1, 0, 0, 5, 3, 5], None),
-    Skipped(Field::WriteData, &[8, 0, 1, 0, 0, 5], None),
-    Skipped(Field::WriteData, &[65; 25], None),
-    // section 3.3.10: directory, name and attributes
-    Skipped(
-        Field::SymlinkPath,
-        &[8, 0, 1, 1, 0x6100_0000, 0, 0, 0, 0, 0, 0, 9],
-        Some(44),
-    ),
-    Skipped(
-        Field::SymlinkPath,
-        &[0, 0, 1, 0o777, 1, 2, 1, 3, 1, 4, 5, 1, 2, 6, 7],
-        Some(60),
-    ),
-    Skipped(Field::SymlinkPath, &[0, 0, 0, 0, 0, 0, 3, 0], None),
-    Skipped(Field::SymlinkPath, &[0, 0, 2, 0, 0, 0, 0, 0], None),
-    // section 3.3.6: file and offset
-    Skipped(Field::ReadCount, &[8, 0, 1, 0, 4096, 100], Some(20)),
-    Skipped(Field::ReadCount, &[8, 0, 1, 0], None),
-    // sections 3.3.16 and 3.3.17: directory, cookie and verifier, and dircount
-    Skipped(Field::ReaddirCount, &[8, 0, 1, 0, 3, 0, 0], Some(28)),
-    Skipped(Field::ReaddirCount, &[8, 0, 1, 0, 3, 0], None),
-    Skipped(
-        Field::ReaddirplusMaxcount,
-        &[8, 0, 1, 0, 3, 0, 0, 512],
-        Some(32),
-    ),
-    Skipped(Field::ReaddirplusMaxcount, &[8, 0, 1, 0, 3, 0, 0], None),
-    // section 3.3.6: status, attributes, count and eof
-    Skipped(Field::ReadData, &[0, 0, 5, 1, 5], Some(16)),
-    Skipped(
-        Field::ReadData,
-        &[
-            0, 1, 2, 0o755, 3, 1, 2, 0, 4096, 0, 8192, 5, 6, 0, 1, 0, 9, 10, 11, 12, 13, 14, 15, 5,
-            0,
-        ],
-        Some(100),
-    ),
-    Skipped(Field::ReadData, &[70, 0, 5, 1, 5], None),
-    Skipped(Field::ReadData, &[0, 0, 5, 2, 5], None),
-    Skipped(Field::ReadData, &[0, 1, 8], None),
-    // section 3.3.5: status and attributes
-    Skipped(Field::ReadlinkPath, &[0, 0, 5], Some(8)),
-    Skipped(Field::ReadlinkPath, &[0, 2, 5], None),
-    Skipped(Field::ReadlinkPath, &[22, 0], None),
-];
-
 #[test]
 fn fields_are_found_without_memory(rt: HostRuntime) {
-    for (row, Skipped(field, words, want)) in SKIPPED.iter().enumerate() {
-        let bytes = bytes_of(&rt, rt.alloc(), words);
-        same(&rt, row, place_of(*field, &bytes), *want);
-    }
+    // RFC 1813 section 3.3.7: file, offset, count and stable
+    skipped(
+        &rt,
+        rt.alloc(),
+        Field::WriteData,
+        "8 0 1 0 0 5 2 5|28\n0*3 5 0|20\n8 0 1 0 0 5 3 5\n8 0 1 0 0 5\n41*25",
+    );
+    // section 3.3.10: directory, name and attributes
+    skipped(
+        &rt,
+        rt.alloc(),
+        Field::SymlinkPath,
+        "8 0 1 1 61000000 0*6 9|44\n0 0 1 1ff 1 2 1 3 1 4 5 1 2 6 7|60\n0*6 3 0\n0 0 2 0*5",
+    );
+    // section 3.3.6: file and offset
+    skipped(
+        &rt,
+        rt.alloc(),
+        Field::ReadCount,
+        "8 0 1 0 1000 64|20\n8 0 1 0",
+    );
+    // sections 3.3.16 and 3.3.17: directory, cookie and verifier, and dircount
+    skipped(
+        &rt,
+        rt.alloc(),
+        Field::ReaddirCount,
+        "8 0 1 0 3 0 0|28\n8 0 1 0 3 0",
+    );
+    skipped(
+        &rt,
+        rt.alloc(),
+        Field::ReaddirplusMaxcount,
+        "8 0 1 0 3 0 0 200|32\n8 0 1 0 3 0 0",
+    );
+    // section 3.3.6: status, attributes, count and eof
+    skipped(
+        &rt,
+        rt.alloc(),
+        Field::ReadData,
+        "0 0 5 1 5|16\n0 1 2 1ed 3 1 2 0 1000 0 2000 5 6 0 1 0 9 a b c d e f 5 0|100\n46 0 5 1 5\n0 0 5 2 5\n0 1 8",
+    );
+    // section 3.3.5: status and attributes
+    skipped(&rt, rt.alloc(), Field::ReadlinkPath, "0 0 5|8\n0 2 5\n16 0");
 }

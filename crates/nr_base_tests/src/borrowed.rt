@@ -27,17 +27,17 @@ fn call_of_a_borrowed_credential(rt: HostRuntime) {
         args_at: 7,
     };
     let written = write_call_of(rt.alloc(), target, &cred, b"hiho").expect(&rt, "memory");
-    let words = &[1, 0, 2, 100_003, 3, 4, 6, 0, 0, 0, 0x6869_686f];
+    let words = "1 0 2 186a3 3 4 6 0*3 6869686f";
     same(&rt, 0, written.into_vec(), bytes_of(&rt, rt.alloc(), words));
     let head = write_call_head(rt.alloc(), target, &cred).expect(&rt, "memory");
-    let words = &[1, 0, 2, 100_003, 3, 4, 6, 0, 0, 0];
+    let words = "1 0 2 186a3 3 4 6 0*3";
     same(&rt, 1, head.into_vec(), bytes_of(&rt, rt.alloc(), words));
 }
 
 // RFC 8166 section 4.3: RDMA_MSG with a write chunk of one segment of 5 bytes; its stream begins after 52 bytes.
 #[test]
 fn header_read_into_a_room(rt: HostRuntime) {
-    let words = &[9, 1, 16, 0, 0, 1, 1, 7, 5, 0, 0, 0, 0];
+    let words = "9 1 10 0 0 1 1 7 5 0*4";
     let bytes = bytes_of(&rt, rt.alloc(), words);
     let mut room = ListsRoom::new();
     let fields = read_header_into(bytes.as_slice(), &mut room);
@@ -65,7 +65,7 @@ fn results_of_read_with_borrowed_data(rt: HostRuntime) {
     same(&rt, 0, done.bytes().len(), 2);
     let results = StatusUnion::Done(done);
     let written = write_read_res(&results, RoomWriter::new(rt.alloc())).expect(&rt, "memory");
-    let words = &[0, 0, 2, 1, 2, 0x6869_0000];
+    let words = "0 0 2 1 2 68690000";
     same(
         &rt,
         1,
@@ -85,28 +85,28 @@ fn read_of(alloc: Global, bytes: &[u8]) -> Option<usize> {
 // The same results, and without their data.
 #[test]
 fn results_of_read_are_borrowed(rt: HostRuntime) {
-    let bytes = bytes_of(&rt, rt.alloc(), &[0, 0, 2, 1, 2, 0x6869_0000]);
+    let bytes = bytes_of(&rt, rt.alloc(), "0 0 2 1 2 68690000");
     same(&rt, 0, read_of(rt.alloc(), bytes.as_slice()), Some(2));
-    let bytes = bytes_of(&rt, rt.alloc(), &[0, 0, 2, 1, 2]);
+    let bytes = bytes_of(&rt, rt.alloc(), "0 0 2 1 2");
     same(&rt, 1, read_of(rt.alloc(), bytes.as_slice()), None);
 }
 
 #[test]
 fn header_without_chunks(rt: HostRuntime) {
     let written = write_plain(rt.alloc(), 9, 16).expect(&rt, "memory");
-    let words = &[9, 1, 16, 0, 0, 0, 0];
+    let words = "9 1 10 0*4";
     same(&rt, 0, written.into_vec(), bytes_of(&rt, rt.alloc(), words));
 }
 
 /// The version word, the error, and the message (RFC 8166 sections 4.5.1 and 4.5.3).
-static ERRORS: [(u32, TransportError, &[u32]); 3] = [
+static ERRORS: [(u32, TransportError, &str); 3] = [
     (
         7,
         TransportError::Vers { low: 1, high: 2 },
-        &[9, 7, 16, 4, 1, 1, 2],
+        "9 7 10 4 1 1 2",
     ),
-    (1, TransportError::Chunk, &[9, 1, 16, 4, 2]),
-    (3, TransportError::Chunk, &[9, 3, 16, 4, 2]),
+    (1, TransportError::Chunk, "9 1 10 4 2"),
+    (3, TransportError::Chunk, "9 3 10 4 2"),
 ];
 
 #[test]
@@ -141,9 +141,9 @@ fn one_segment(rt: &impl Abort, alloc: Global) -> ChunkLists
 }
 
 /// RDMA_NOMSG if the stream is in a chunk, else RDMA_MSG.
-static KINDS: [(bool, &[u32]); 2] = [
-    (false, &[9, 1, 16, 0, 1, 8, 11, 12, 13, 14, 0, 0, 0]),
-    (true, &[9, 1, 16, 1, 1, 8, 11, 12, 13, 14, 0, 0, 0]),
+static KINDS: [(bool, &str); 2] = [
+    (false, "9 1 10 0 1 8 b c d e 0*3"),
+    (true, "9 1 10 1 1 8 b c d e 0*3"),
 ];
 
 /// A header of 13 words, by its lists, and what a write chunk and a reply chunk of one segment add (RFC 8166 section 4.3).

@@ -4,7 +4,7 @@ ghost use Rattle.std.specs.Prelude.{IfOk};
 ghost use Rattle.nr_header.specs.Header.{CanWriteHeader};
 ghost use Rattle.nr_header.specs.WithinLimits.{IsMessage};
 
-use crate::compare::{bytes_of, joined, put_words, same};
+use crate::compare::{bytes_of, put, put_word, same};
 use nr_header::*;
 use nr_xdr::Octets;
 use std::alloc::Global;
@@ -32,105 +32,70 @@ fn read_as(bytes: &[u8]) -> Read {
 
 const MOST: u32 = 0xffff_ffff;
 
-static MESSAGES: [(&[u32], Read); 46] = [
-    (&[], Read::Short),
-    (&[1, 1, 16], Read::Short),
-    (&[1, 1, 16, 0, 0, 0, 0], Read::Header),
+static MESSAGES: [(&str, Read); 46] = [
+    ("", Read::Short),
+    ("1 1 10", Read::Short),
+    ("1 1 10 0*4", Read::Header),
     // Versions.
-    (&[1, 0, 16, 0, 0, 0, 0], Read::Version(0)),
-    (&[1, 2, 16, 0], Read::Version(2)),
-    (&[1, 2, 16, 0, 0, 0, 0], Read::Version(2)),
-    (&[1, MOST, 16, 3], Read::Version(MOST)),
+    ("1 0 10 0*4", Read::Version(0)),
+    ("1 2 10 0", Read::Version(2)),
+    ("1 2 10 0*4", Read::Version(2)),
+    ("1 ffffffff 10 3", Read::Version(MOST)),
     // Complete error messages of any version, and others: another code, or other bytes than those of the code.
-    (&[1, 2, 16, 4, 1, 1, 3], Read::Header),
-    (&[1, 1, 16, 4, 2], Read::Header),
-    (&[1, 7, 16, 4, 2], Read::Header),
-    (&[1, 1, 16, 4], Read::Kind(4)),
-    (&[1, 1, 16, 4, 1], Read::Kind(4)),
-    (&[1, 1, 16, 4, 1, 1], Read::Kind(4)),
-    (&[1, 1, 16, 4, 1, 1, 1, 7], Read::Kind(4)),
-    (&[1, 2, 16, 4, 1, 1, 1, 7], Read::Version(2)),
-    (&[1, 1, 16, 4, 2, 0], Read::Kind(4)),
-    (&[1, 1, 16, 4, 2, 0, 0], Read::Kind(4)),
-    (&[1, 1, 16, 4, 3], Read::Kind(4)),
-    (&[1, 2, 16, 4, 3], Read::Version(2)),
+    ("1 2 10 4 1 1 3", Read::Header),
+    ("1 1 10 4 2", Read::Header),
+    ("1 7 10 4 2", Read::Header),
+    ("1 1 10 4", Read::Kind(4)),
+    ("1 1 10 4 1", Read::Kind(4)),
+    ("1 1 10 4 1 1", Read::Kind(4)),
+    ("1 1 10 4 1*3 7", Read::Kind(4)),
+    ("1 2 10 4 1*3 7", Read::Version(2)),
+    ("1 1 10 4 2 0", Read::Kind(4)),
+    ("1 1 10 4 2 0 0", Read::Kind(4)),
+    ("1 1 10 4 3", Read::Kind(4)),
+    ("1 2 10 4 3", Read::Version(2)),
     // Other kinds.
-    (&[1, 1, 16, 2, 0, 0, 0], Read::Kind(2)),
-    (&[1, 1, 16, 3, 0, 0, 0], Read::Kind(3)),
-    (&[1, 1, 16, 5], Read::Kind(5)),
-    (&[1, 1, 16, MOST, 0, 0, 0], Read::Kind(MOST)),
+    ("1 1 10 2 0*3", Read::Kind(2)),
+    ("1 1 10 3 0*3", Read::Kind(3)),
+    ("1 1 10 5", Read::Kind(5)),
+    ("1 1 10 ffffffff 0*3", Read::Kind(MOST)),
     // Lists that run past the message, and a list word that is neither 0 nor 1.
-    (&[1, 1, 16, 0, 0, 0], Read::BadChunks(24)),
-    (&[1, 1, 16, 0, 1, 4, 1, 1, 0], Read::BadChunks(32)),
-    (&[1, 1, 16, 0, 2, 0, 0], Read::BadChunks(16)),
-    (&[1, 1, 16, 0, 0, 0, 2], Read::BadChunks(24)),
+    ("1 1 10 0*3", Read::BadChunks(24)),
+    ("1 1 10 0 1 4 1 1 0", Read::BadChunks(32)),
+    ("1 1 10 0 2 0 0", Read::BadChunks(16)),
+    ("1 1 10 0*3 2", Read::BadChunks(24)),
     // Positions.
+    ("1 1 10 0 1 0 1 1 0*5", Read::BadChunks(16)),
+    ("1 1 10 1 1 0 1 1 0*5", Read::Header),
+    ("1 1 10 0 1 4 1 1 0 0 1 8 1 1 0*5", Read::BadChunks(40)),
     (
-        &[1, 1, 16, 0, 1, 0, 1, 1, 0, 0, 0, 0, 0],
-        Read::BadChunks(16),
-    ),
-    (&[1, 1, 16, 1, 1, 0, 1, 1, 0, 0, 0, 0, 0], Read::Header),
-    (
-        &[1, 1, 16, 0, 1, 4, 1, 1, 0, 0, 1, 8, 1, 1, 0, 0, 0, 0, 0],
-        Read::BadChunks(40),
-    ),
-    (
-        &[
-            1, 1, 16, 1, 1, 4, 1, 1, 0, 0, 1, 0, 1, 1, 0, 0, 1, 8, 1, 1, 0, 0, 0, 0, 0,
-        ],
+        "1 1 10 1 1 4 1 1 0 0 1 0 1 1 0 0 1 8 1 1 0*5",
         Read::BadChunks(64),
     ),
     // Segments that end at 2^64, and past it.
+    ("1 1 10 0 1 4 1 1 ffffffff ffffffff 0*3", Read::Header),
     (
-        &[1, 1, 16, 0, 1, 4, 1, 1, MOST, MOST, 0, 0, 0],
-        Read::Header,
-    ),
-    (
-        &[1, 1, 16, 0, 1, 4, 1, 2, MOST, MOST, 0, 0, 0],
+        "1 1 10 0 1 4 1 2 ffffffff ffffffff 0*3",
         Read::BadChunks(16),
     ),
+    ("1 1 10 0 0 1 1 9 1 ffffffff ffffffff 0 0", Read::Header),
     (
-        &[1, 1, 16, 0, 0, 1, 1, 9, 1, MOST, MOST, 0, 0],
-        Read::Header,
-    ),
-    (
-        &[1, 1, 16, 0, 0, 1, 1, 9, 2, MOST, MOST, 0, 0],
+        "1 1 10 0 0 1 1 9 2 ffffffff ffffffff 0 0",
         Read::BadChunks(28),
     ),
-    (
-        &[1, 1, 16, 0, 0, 0, 1, 1, 9, 2, MOST, MOST],
-        Read::BadChunks(32),
-    ),
+    ("1 1 10 0*3 1 1 9 2 ffffffff ffffffff", Read::BadChunks(32)),
     // Counts.
-    (&[1, 1, 16, 0, 0, 1, 17], Read::BadChunks(24)),
-    (&[1, 1, 16, 0, 0, 0, 1, 17], Read::BadChunks(28)),
-    (
-        &[1, 1, 16, 0, 0, 1, 0, 1, 0, 1, 0, 1, 0, 0, 0],
-        Read::Header,
-    ),
-    (
-        &[1, 1, 16, 0, 0, 1, 0, 1, 0, 1, 0, 1, 0, 1, 0, 0, 0],
-        Read::BadChunks(52),
-    ),
+    ("1 1 10 0 0 1 11", Read::BadChunks(24)),
+    ("1 1 10 0*3 1 11", Read::BadChunks(28)),
+    ("1 1 10 0 0 1 0 1 0 1 0 1 0*3", Read::Header),
+    ("1 1 10 0 0 1 0 1 0 1 0 1 0 1 0*3", Read::BadChunks(52)),
     // Bytes after the lists, and the lengths of the read list.
-    (&[1, 1, 16, 1, 0, 0, 0, 7], Read::BadChunks(28)),
-    (
-        &[1, 1, 16, 0, 1, 4, 1, 40957, 0, 0, 0, 0, 0, 7],
-        Read::BadChunks(52),
-    ),
-    (
-        &[1, 1, 16, 0, 1, 4, 1, 40956, 0, 0, 0, 0, 0, 7],
-        Read::Header,
-    ),
-    (
-        &[1, 1, 16, 1, 1, 0, 1, 40961, 0, 0, 0, 0, 0],
-        Read::BadChunks(52),
-    ),
-    (&[1, 1, 16, 1, 1, 0, 1, 40960, 0, 0, 0, 0, 0], Read::Header),
-    (
-        &[1, 1, 16, 1, 1, 4, 1, MOST, 0, 0, 0, 0, 0],
-        Read::BadChunks(52),
-    ),
+    ("1 1 10 1 0*3 7", Read::BadChunks(28)),
+    ("1 1 10 0 1 4 1 9ffd 0*5 7", Read::BadChunks(52)),
+    ("1 1 10 0 1 4 1 9ffc 0*5 7", Read::Header),
+    ("1 1 10 1 1 0 1 a001 0*5", Read::BadChunks(52)),
+    ("1 1 10 1 1 0 1 a000 0*5", Read::Header),
+    ("1 1 10 1 1 4 1 ffffffff 0*5", Read::BadChunks(52)),
 ];
 
 #[test]
@@ -145,30 +110,31 @@ fn messages(rt: HostRuntime) {
     same(&rt, 46, read_as(&[0; 15]), Read::Short);
 }
 
-fn put_times(rt: &impl Abort, bytes: &mut Vec<u8>, words: &[u32], times: u32) {
+fn put_times(rt: &impl Abort, bytes: &mut Vec<u8>, words: &str, times: u32) {
     for _ in 0..times {
-        put_words(rt, bytes, words);
+        put(rt, bytes, words);
     }
 }
 
 /// A list of `count` segments after a word that says that it is there.
 fn put_chunk(rt: &impl Abort, bytes: &mut Vec<u8>, count: u32) {
-    put_words(rt, bytes, &[1, count]);
-    put_times(rt, bytes, &[1, 1, 0, 0], count);
+    put_word(rt, bytes, 1);
+    put_word(rt, bytes, count);
+    put_times(rt, bytes, "1 1 0 0", count);
 }
 
 /// RDMA_MSG by five counts: of read entries, of segments in the first write chunk, in the second, and in the reply chunk, and
 /// of words of a stream.
 fn message(rt: &impl Abort, alloc: Global, counts: [u32; 5]) -> Vec<u8> {
     let [entries, first, second, reply, stream] = counts;
-    let mut bytes = bytes_of(rt, alloc, &[1, 1, 16, 0]);
-    put_times(rt, &mut bytes, &[1, 4, 1, 1, 0, 0], entries);
-    put_words(rt, &mut bytes, &[0]);
+    let mut bytes = bytes_of(rt, alloc, "1 1 10 0");
+    put_times(rt, &mut bytes, "1 4 1 1 0 0", entries);
+    put_word(rt, &mut bytes, 0);
     put_chunk(rt, &mut bytes, first);
     put_chunk(rt, &mut bytes, second);
-    put_words(rt, &mut bytes, &[0]);
+    put_word(rt, &mut bytes, 0);
     put_chunk(rt, &mut bytes, reply);
-    put_times(rt, &mut bytes, &[7], stream);
+    put_times(rt, &mut bytes, "7", stream);
     bytes
 }
 
@@ -214,23 +180,12 @@ fn entry(position: u32, handle: u32) -> ReadSegment {
     }
 }
 
-/// A write list of two chunks and a reply chunk.
-const WRITE_AND_REPLY: [u32; 23] = [
-    1, 2, 21, 22, 23, 24, 25, 26, MOST, 28, 1, 1, 25, 26, MOST, 28, 0, 1, 1, 21, 22, 23, 24,
-];
+// Each has a read list of two entries, a write list of two chunks and a reply chunk.
+const MSG_WORDS: &str =
+    "1020304 1 20 0 1 8 b c d e 1 8 1f c d e 0 1 2 15 16 17 18 19 1a ffffffff 1c 1 1 19 1a ffffffff 1c 0 1 1 15 16 17 18 6869686f";
 
-const MSG_WORDS: [&[u32]; 4] = [
-    &[0x0102_0304, 1, 32, 0],
-    &[1, 8, 11, 12, 13, 14, 1, 8, 31, 12, 13, 14, 0],
-    &WRITE_AND_REPLY,
-    &[0x6869_686f],
-];
-
-const NOMSG_WORDS: [&[u32]; 3] = [
-    &[0x0102_0304, 1, 32, 1],
-    &[1, 0, 11, 12, 13, 14, 1, 0, 31, 12, 13, 14, 0],
-    &WRITE_AND_REPLY,
-];
+const NOMSG_WORDS: &str =
+    "1020304 1 20 1 1 0 b c d e 1 0 1f c d e 0 1 2 15 16 17 18 19 1a ffffffff 1c 1 1 19 1a ffffffff 1c 0 1 1 15 16 17 18";
 
 /// The kind; of ERR_VERS the version word, the lowest and the highest version, of ERR_CHUNK the version word; and the offset
 /// of the stream.
@@ -296,17 +251,17 @@ fn header_again(rt: &impl Abort, alloc: Global, row: usize, bytes: &[u8], want: 
     drop(read);
 }
 
-static HEADERS: [(&[&[u32]], ([u32; 4], usize)); 4] = [
-    (&MSG_WORDS, ([0; 4], 160)),
-    (&NOMSG_WORDS, ([1, 0, 0, 0], 0)),
-    (&[&[0x0102_0304, 7, 32, 4, 1, 2, 5]], ([2, 7, 2, 5], 0)),
-    (&[&[0x0102_0304, 3, 32, 4, 2]], ([3, 3, 0, 0], 0)),
+static HEADERS: [(&str, ([u32; 4], usize)); 4] = [
+    (MSG_WORDS, ([0; 4], 160)),
+    (NOMSG_WORDS, ([1, 0, 0, 0], 0)),
+    ("1020304 7 20 4 1 2 5", ([2, 7, 2, 5], 0)),
+    ("1020304 3 20 4 2", ([3, 3, 0, 0], 0)),
 ];
 
 #[test]
 fn headers_read(rt: HostRuntime) {
-    for (row, (parts, want)) in HEADERS.iter().enumerate() {
-        let bytes = joined(&rt, rt.alloc(), parts);
+    for (row, (words, want)) in HEADERS.iter().enumerate() {
+        let bytes = bytes_of(&rt, rt.alloc(), words);
         header_again(&rt, rt.alloc(), row, &bytes, *want);
     }
 }
@@ -355,9 +310,8 @@ fn lists_in(rt: &impl Abort, read: &Result<Header, HeaderFault>) {
 
 #[test]
 fn lists_read(rt: HostRuntime) {
-    let messages: [&[&[u32]]; 2] = [&MSG_WORDS, &NOMSG_WORDS];
-    for parts in messages {
-        let bytes = joined(&rt, rt.alloc(), parts);
+    for words in [MSG_WORDS, NOMSG_WORDS] {
+        let bytes = bytes_of(&rt, rt.alloc(), words);
         let read = read_header(&bytes);
         lists_in(&rt, &read);
         drop(read);
@@ -397,9 +351,9 @@ fn long_header_written(rt: &impl Abort, alloc: Global) -> Octets {
 
 /// The words of that header.
 fn long_header_words(rt: &impl Abort, alloc: Global) -> Vec<u8> {
-    let mut bytes = bytes_of(rt, alloc, &[0x0102_0304, 1, 32, 0]);
-    put_times(rt, &mut bytes, &[1, 4, 9, 12, 13, 14], 17);
-    put_words(rt, &mut bytes, &[0, 0, 0]);
+    let mut bytes = bytes_of(rt, alloc, "1020304 1 20 0");
+    put_times(rt, &mut bytes, "1 4 9 c d e", 17);
+    put(rt, &mut bytes, "0*3");
     bytes
 }
 

@@ -58,36 +58,33 @@ fn reply_answer(bytes: &[u8]) -> Result<([u32; 4], usize), usize> {
     }
 }
 
-static REPLIES: [(&[u32], Result<([u32; 4], usize), usize>); 23] = [
+static REPLIES: [(&str, Result<([u32; 4], usize), usize>); 23] = [
     // Heads that are written as they are read.
-    (&[1, 1, 0, 0, 0, 0], Ok(([0, 1, 0, 0], 24))),
-    (&[1, 1, 0, 0, 0, 1], Ok(([0, 1, 1, 0], 24))),
-    (&[7, 1, 0, 0, 0, 5], Ok(([0, 7, 5, 0], 24))),
-    (
-        &[7, 1, 0, 0, 0, 0xffff_ffff],
-        Ok(([0, 7, 0xffff_ffff, 0], 24)),
-    ),
-    (&[9, 1, 0, 0, 0, 2, 3, 5], Ok(([1, 9, 3, 5], 0))),
-    (&[9, 1, 0, 0, 0, 2, 5, 3], Ok(([1, 9, 5, 3], 0))),
-    (&[9, 1, 1, 0, 2, 7], Ok(([2, 9, 2, 7], 0))),
-    (&[9, 1, 1, 0, 7, 2], Ok(([2, 9, 7, 2], 0))),
-    (&[1, 1, 1, 1, 5], Ok(([3, 1, 5, 0], 0))),
+    ("1 1 0*4", Ok(([0, 1, 0, 0], 24))),
+    ("1 1 0*3 1", Ok(([0, 1, 1, 0], 24))),
+    ("7 1 0*3 5", Ok(([0, 7, 5, 0], 24))),
+    ("7 1 0*3 ffffffff", Ok(([0, 7, 0xffff_ffff, 0], 24))),
+    ("9 1 0*3 2 3 5", Ok(([1, 9, 3, 5], 0))),
+    ("9 1 0*3 2 5 3", Ok(([1, 9, 5, 3], 0))),
+    ("9 1 1 0 2 7", Ok(([2, 9, 2, 7], 0))),
+    ("9 1 1 0 7 2", Ok(([2, 9, 7, 2], 0))),
+    ("1*4 5", Ok(([3, 1, 5, 0], 0))),
     // A verifier of another flavor, and results.
-    (&[1, 1, 0, 6, 4, 9, 0, 8], Ok(([0, 1, 0, 0], 28))),
-    (&[1, 1, 0, 1, 8, 9, 9, 4], Ok(([0, 1, 4, 0], 32))),
-    (&[9, 1, 0, 6, 1, 9, 2, 3, 5], Ok(([1, 9, 3, 5], 0))),
+    ("1 1 0 6 4 9 0 8", Ok(([0, 1, 0, 0], 28))),
+    ("1 1 0 1 8 9 9 4", Ok(([0, 1, 4, 0], 32))),
+    ("9 1 0 6 1 9 2 3 5", Ok(([1, 9, 3, 5], 0))),
     // No replies.
-    (&[], Err(0)),
-    (&[1], Err(4)),
-    (&[1, 0, 0, 0, 0, 0], Err(4)),
-    (&[1, 2, 0, 0, 0, 0], Err(4)),
-    (&[1, 1, 2, 0, 0, 0], Err(8)),
-    (&[1, 1, 0, 0, 401, 0], Err(16)),
-    (&[1, 1, 0, 0, 4], Err(16)),
-    (&[1, 1, 0, 0, 0, 2, 3], Err(28)),
-    (&[1, 1, 1, 2, 0], Err(12)),
-    (&[1, 1, 1, 0, 2], Err(20)),
-    (&[1, 1, 1, 1], Err(16)),
+    ("", Err(0)),
+    ("1", Err(4)),
+    ("1 0*5", Err(4)),
+    ("1 2 0*4", Err(4)),
+    ("1 1 2 0*3", Err(8)),
+    ("1 1 0 0 191 0", Err(16)),
+    ("1 1 0 0 4", Err(16)),
+    ("1 1 0*3 2 3", Err(28)),
+    ("1*3 2 0", Err(12)),
+    ("1*3 0 2", Err(20)),
+    ("1*4", Err(16)),
 ];
 
 #[test]
@@ -101,7 +98,7 @@ fn replies(rt: HostRuntime) {
 }
 
 /// Ends the test if a reply head with these words, and two bytes of results, is not written as the words of its row.
-fn reply_written_as(rt: &impl Abort, alloc: Global, row: usize, head: [u32; 4], words: &[u32]) {
+fn reply_written_as(rt: &impl Abort, alloc: Global, row: usize, head: [u32; 4], words: &str) {
     let mut want = bytes_of(rt, alloc, words);
     want.extend_from_slice(b"hi").expect(rt, "memory");
     let written = write_reply(alloc, &reply_head(head), b"hi").expect(rt, "memory");
@@ -117,7 +114,7 @@ fn head_in_room(alloc: Global, head: [u32; 4], size: usize) -> Result<Octets, Me
 #[test]
 fn a_reply_head_in_room(rt: HostRuntime) {
     let head = head_in_room(rt.alloc(), [0, 7, 5, 0], 24).expect(&rt, "memory");
-    let want = bytes_of(&rt, rt.alloc(), &[7, 1, 0, 0, 0, 5]);
+    let want = bytes_of(&rt, rt.alloc(), "7 1 0*3 5");
     same(&rt, 0, head.into_vec(), want);
 }
 
@@ -140,7 +137,7 @@ static REPLY_BODIES: [(u32, Result<([u32; 4], usize), usize>); 2] = [
 #[test]
 fn longest_bodies_of_replies(rt: HostRuntime) {
     for (row, (count, want)) in REPLY_BODIES.iter().enumerate() {
-        let bytes = counted(&rt, rt.alloc(), &[1, 1, 0, 3], *count);
+        let bytes = counted(&rt, rt.alloc(), "1 1 0 3", *count);
         same(&rt, row, reply_answer(&bytes), *want);
     }
 }

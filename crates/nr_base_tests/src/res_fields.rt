@@ -1,7 +1,6 @@
 //! Tests of nr_nfs_res: the offset of each field.
 
 use crate::compare::encoded_as;
-use crate::res::ATTRIBUTES;
 use nr_nfs_base::{
     Attributes, FileType, Handle, Name, SpecialData, StatusUnion, Time, WccAttributes, WccData,
 };
@@ -63,16 +62,14 @@ fn each_field_has_its_place(rt: HostRuntime) {
         rt.alloc(),
         0,
         &(fsstat, (fsinfo, (pathconf, other))),
-        &[
-            &[0, 1, 2, 3, 4, 5, 6, 7, 8, 9, 10, 11, 12, 13],
-            &[0, 1, 2, 3, 4, 5, 6, 7, 8, 9, 10, 11, 12],
-            &[0, 1, 2, 1, 1, 0, 0],
-            &[0, 1, 2, 1, 0, 1, 0],
-        ],
+        "0 1 2 3 4 5 6 7 8 9 a b c d \
+0 1 2 3 4 5 6 7 8 9 a b c \
+0 1 2 1 1 0 0 \
+0 1 2 1 0 1 0",
     );
 }
 
-// RFC 1813 section 2.5, fattr3: the fields of ATTRIBUTES
+// RFC 1813 section 2.5, fattr3: the fields of `fattr3` in `compare.rt`
 const DIRECTORY: Attributes = Attributes {
     file_type: FileType::Dir,
     mode: 0o755,
@@ -115,7 +112,7 @@ fn a_lookup_has_the_attributes_of_the_object_first(rt: HostRuntime) {
         rt.alloc(),
         0,
         &lookup_res(&rt, rt.alloc()),
-        &[&[0, 8, 0, 1], &ATTRIBUTES, &[0]],
+        "0 8 0 1 post_op_attr 0",
     );
 }
 
@@ -161,15 +158,20 @@ fn entry_plus(rt: &impl Abort, alloc: Global) -> EntryPlus {
 #[test]
 fn an_entry_has_its_fields(rt: HostRuntime) {
     // section 3.3.16
-    let parts: [&[u32]; 1] = [&[1, 2, 1, 0x6100_0000, 3, 4]];
-    encoded_as(&rt, rt.alloc(), 0, &entry(&rt, rt.alloc()), &parts);
+    encoded_as(
+        &rt,
+        rt.alloc(),
+        0,
+        &entry(&rt, rt.alloc()),
+        "1 2 1 61000000 3 4",
+    );
 }
 
 #[test]
 fn an_entry_with_attributes_has_its_fields(rt: HostRuntime) {
     // section 3.3.17
-    let parts: [&[u32]; 1] = [&[1, 2, 1, 0x6100_0000, 3, 4, 0, 0]];
-    encoded_as(&rt, rt.alloc(), 0, &entry_plus(&rt, rt.alloc()), &parts);
+    let entry = entry_plus(&rt, rt.alloc());
+    encoded_as(&rt, rt.alloc(), 0, &entry, "1 2 1 61000000 3 4 0 0");
 }
 
 #[test]
@@ -179,6 +181,11 @@ fn directories_have_their_places(rt: HostRuntime) {
         from_dir: before(0x1_0000_0002),
         to_dir: before(0x3_0000_0004),
     };
-    let parts: [&[u32]; 2] = [&[1, 1, 2, 8, 9, 8, 9, 0], &[1, 3, 4, 8, 9, 8, 9, 0]];
-    encoded_as(&rt, rt.alloc(), 0, &rename, &parts);
+    encoded_as(
+        &rt,
+        rt.alloc(),
+        0,
+        &rename,
+        "1 1 2 8 9 8 9 0 1 3 4 8 9 8 9 0",
+    );
 }

@@ -3,7 +3,7 @@
 ghost use Rattle.nr_rpc.specs.Call.{CanWriteCall};
 ghost use Rattle.nr_rpc.specs.Credential.{CanWriteCred};
 
-use crate::compare::{bytes_of, put_words, same};
+use crate::compare::{bytes_of, put, put_word, same};
 use nr_rpc::*;
 use nr_xdr::Octets;
 use std::alloc::Global;
@@ -66,34 +66,11 @@ fn short_want(want: Result<CallWords, usize>) -> (Option<u32>, bool) {
 
 const NONE: ([u32; 7], usize) = ([0; 7], 0);
 
-static CALLS: [(&[u32], Result<CallWords, usize>); 26] = [
-    (
-        &[1, 0, 2, 100_003, 3, 0, 0, 0, 0, 0],
-        Ok(([2, 1, 100_003, 3, 0], 40, NONE)),
-    ),
+static CALLS: [(&str, Result<CallWords, usize>); 26] = [
+    ("1 0 2 186a3 3 0*5", Ok(([2, 1, 100_003, 3, 0], 40, NONE))),
     // AUTH_SYS: stamp 5, machine `nfsrdma`, user 7, group 8, further group 9; a pad byte that isn't 0; arguments follow.
     (
-        &[
-            0x0102_0304,
-            0,
-            2,
-            100_005,
-            3,
-            1,
-            1,
-            32,
-            5,
-            7,
-            0x6e66_7372,
-            0x646d_6100,
-            7,
-            8,
-            1,
-            9,
-            0,
-            0,
-            0x6869_0000,
-        ],
+        "1020304 0 2 186a5 3 1 1 20 5 7 6e667372 646d6100 7 8 1 9 0 0 68690000",
         Ok((
             [2, 0x0102_0304, 100_005, 3, 1],
             72,
@@ -101,77 +78,57 @@ static CALLS: [(&[u32], Result<CallWords, usize>); 26] = [
         )),
     ),
     (
-        &[
-            1,
-            0,
-            2,
-            7,
-            6,
-            5,
-            1,
-            36,
-            5,
-            7,
-            0x6e66_7372,
-            0x646d_61ff,
-            70,
-            80,
-            2,
-            90,
-            91,
-            0,
-            0,
-        ],
+        "1 0 2 7 6 5 1 24 5 7 6e667372 646d61ff 46 50 2 5a 5b 0 0",
         Ok(([2, 1, 7, 6, 5], 76, ([1, 1, 5, 70, 80, 2, 90], 7))),
     ),
     // AUTH_NONE with a body; other flavors of the credential and of the verifier.
     (
-        &[1, 0, 2, 100_003, 3, 0, 0, 4, 7, 0, 0],
+        "1 0 2 186a3 3 0 0 4 7 0 0",
         Ok(([2, 1, 100_003, 3, 0], 44, NONE)),
     ),
     (
-        &[1, 0, 2, 100_003, 3, 0, 5, 4, 7, 6, 4, 9],
+        "1 0 2 186a3 3 0 5 4 7 6 4 9",
         Ok(([2, 1, 100_003, 3, 0], 48, ([5, 0, 0, 0, 0, 0, 0], 0))),
     ),
     (
-        &[1, 0, 2, 100_003, 3, 0, 0, 0, 1, 8, 9, 9],
+        "1 0 2 186a3 3 0*3 1 8 9 9",
         Ok(([2, 1, 100_003, 3, 0], 48, NONE)),
     ),
     // Flavor 1 whose body is empty, has bytes after AUTH_SYS, or has 17 further groups.
     (
-        &[1, 0, 2, 100_003, 3, 0, 1, 0, 0, 0],
+        "1 0 2 186a3 3 0 1 0*3",
         Ok(([2, 1, 100_003, 3, 0], 40, ([1, 0, 0, 0, 0, 0, 0], 0))),
     ),
     (
-        &[1, 0, 2, 100_003, 3, 0, 1, 24, 0, 0, 0, 0, 0, 7, 0, 0],
+        "1 0 2 186a3 3 0 1 18 0*5 7 0 0",
         Ok(([2, 1, 100_003, 3, 0], 64, ([1, 0, 0, 0, 0, 0, 0], 0))),
     ),
     (
-        &[1, 0, 2, 100_003, 3, 0, 1, 20, 0, 0, 0, 0, 17, 0, 0],
+        "1 0 2 186a3 3 0 1 14 0*4 11 0 0",
         Ok(([2, 1, 100_003, 3, 0], 60, ([1, 0, 0, 0, 0, 0, 0], 0))),
     ),
     // Other versions of RPC.
-    (&[1, 0, 3], Ok(([3, 1, 0, 0, 0], 0, NONE))),
-    (&[9, 0, 0, 4, 5], Ok(([0, 9, 0, 0, 0], 0, NONE))),
-    (&[9, 0, 1], Ok(([1, 9, 0, 0, 0], 0, NONE))),
+    ("1 0 3", Ok(([3, 1, 0, 0, 0], 0, NONE))),
+    ("9 0 0 4 5", Ok(([0, 9, 0, 0, 0], 0, NONE))),
+    ("9 0 1", Ok(([1, 9, 0, 0, 0], 0, NONE))),
     (
-        &[0xffff_ffff, 0, 0xffff_ffff],
+        "ffffffff 0 ffffffff",
         Ok(([0xffff_ffff, 0xffff_ffff, 0, 0, 0], 0, NONE)),
     ),
     // No call heads.
-    (&[], Err(0)),
-    (&[1], Err(4)),
-    (&[1, 0], Err(8)),
-    (&[1, 0, 2], Err(12)),
-    (&[1, 1, 2, 100_003, 3, 0, 0, 0, 0, 0], Err(4)),
-    (&[1, 1, 3], Err(4)),
-    (&[1, 2, 2], Err(4)),
-    (&[1, 0, 2, 100_003, 3], Err(20)),
-    (&[1, 0, 2, 100_003, 3, 0, 0, 401], Err(28)),
-    (&[1, 0, 2, 100_003, 3, 0, 0, 400], Err(28)),
-    (&[1, 0, 2, 100_003, 3, 0, 0, 0, 0, 401], Err(36)),
-    (&[1, 0, 2, 100_003, 3, 0, 0, 0, 0], Err(36)),
-    (&[1, 0, 2, 100_003, 3, 0, 0, 0, 0, 5, 7], Err(36)),
+    ("", Err(0)),
+    ("1", Err(4)),
+    ("1 0", Err(8)),
+    ("1 0 2", Err(12)),
+    ("1 1 2 186a3 3 0*5", Err(4)),
+    ("1 1 3", Err(4)),
+    ("1 2 2", Err(4)),
+    ("1 0 2 186a3 3", Err(20)),
+    ("1 0 2 186a3 3 0 0 191", Err(28)),
+    ("1 0 2 186a3 3 0 0 190", Err(28)),
+    ("1 0 2 186a3 3 0*4 191", Err(36)),
+    ("1 0 2 186a3 3 0*4", Err(36)),
+    ("1 0 2 186a3 3 0*4 5 7", Err(36)),
 ];
 
 #[test]
@@ -199,8 +156,7 @@ fn calls_in_short(rt: HostRuntime) {
 
 #[test]
 fn targets(rt: HostRuntime) {
-    let words = &[7, 0, 2, 100_005, 3, 1, 5, 4, 9, 6, 0, 8];
-    let bytes = bytes_of(&rt, rt.alloc(), words);
+    let bytes = bytes_of(&rt, rt.alloc(), "7 0 2 186a5 3 1 5 4 9 6 0 8");
     let target = CallTarget {
         xid: 7,
         prog: 100_005,
@@ -218,9 +174,9 @@ fn put_zeros(rt: &impl Abort, bytes: &mut Vec<u8>, count: u32) {
 }
 
 /// These words, the count of a body, and 103 words of zeros: room for a body of up to 404 bytes.
-pub(crate) fn counted(rt: &impl Abort, alloc: Global, before: &[u32], count: u32) -> Vec<u8> {
+pub(crate) fn counted(rt: &impl Abort, alloc: Global, before: &str, count: u32) -> Vec<u8> {
     let mut bytes = bytes_of(rt, alloc, before);
-    put_words(rt, &mut bytes, &[count]);
+    put_word(rt, &mut bytes, count);
     put_zeros(rt, &mut bytes, 412);
     bytes
 }
@@ -231,11 +187,11 @@ fn args_at(alloc: Global, bytes: &[u8]) -> Result<usize, usize> {
 }
 
 // Bodies whose bytes are all there: 400 are read, 401 are refused at their count.
-static CALL_BODIES: [(&[u32], u32, Result<usize, usize>); 4] = [
-    (&[1, 0, 2, 100_003, 3, 0, 5], 400, Ok(440)),
-    (&[1, 0, 2, 100_003, 3, 0, 5], 401, Err(28)),
-    (&[1, 0, 2, 100_003, 3, 0, 0, 0, 6], 400, Ok(440)),
-    (&[1, 0, 2, 100_003, 3, 0, 0, 0, 6], 401, Err(36)),
+static CALL_BODIES: [(&str, u32, Result<usize, usize>); 4] = [
+    ("1 0 2 186a3 3 0 5", 400, Ok(440)),
+    ("1 0 2 186a3 3 0 5", 401, Err(28)),
+    ("1 0 2 186a3 3 0*3 6", 400, Ok(440)),
+    ("1 0 2 186a3 3 0*3 6", 401, Err(36)),
 ];
 
 #[test]
@@ -249,12 +205,15 @@ fn longest_bodies_of_calls(rt: HostRuntime) {
 /// A call of AUTH_SYS: `body` is the length of the credential's body, `machine` that of the machine's name, which takes 64
 /// words, and `groups` the number of further groups.
 fn sys_call(rt: &impl Abort, alloc: Global, body: u32, machine: u32, groups: u32) -> Vec<u8> {
-    let head = [1, 0, 2, 100_003, 3, 0, 1, body, 0, machine];
-    let mut bytes = bytes_of(rt, alloc, &head);
+    let mut bytes = bytes_of(rt, alloc, "1 0 2 186a3 3 0 1");
+    put_word(rt, &mut bytes, body);
+    put_word(rt, &mut bytes, 0);
+    put_word(rt, &mut bytes, machine);
     put_zeros(rt, &mut bytes, 256);
-    put_words(rt, &mut bytes, &[7, 8, groups]);
+    put(rt, &mut bytes, "7 8");
+    put_word(rt, &mut bytes, groups);
     for _ in 0..groups {
-        put_words(rt, &mut bytes, &[9]);
+        put_word(rt, &mut bytes, 9);
     }
     put_zeros(rt, &mut bytes, 8);
     bytes
@@ -308,14 +267,7 @@ fn sys_cred(rt: &impl Abort, alloc: Global) -> Cred
 }
 
 /// Ends the test if a call with these arguments is not written as these words.
-fn written_as(
-    rt: &impl Abort,
-    alloc: Global,
-    row: usize,
-    head: &CallHead,
-    args: &[u8],
-    words: &[u32],
-)
+fn written_as(rt: &impl Abort, alloc: Global, row: usize, head: &CallHead, args: &[u8], words: &str)
     requires { CanWriteCall head.now }
 {
     let written = write_call(alloc, head, args)
@@ -326,28 +278,7 @@ fn written_as(
 
 #[test]
 fn sys_call_written(rt: HostRuntime) {
-    let words = &[
-        1,
-        0,
-        2,
-        100_003,
-        3,
-        0,
-        1,
-        36,
-        5,
-        7,
-        0x6e66_7372,
-        0x646d_6100,
-        7,
-        8,
-        2,
-        9,
-        10,
-        0,
-        0,
-        0x6869_686f,
-    ];
+    let words = "1 0 2 186a3 3 0 1 24 5 7 6e667372 646d6100 7 8 2 9 a 0 0 6869686f";
     let head = call_head(sys_cred(&rt, rt.alloc()));
     written_as(&rt, rt.alloc(), 0, &head, b"hiho", words);
     same(&rt, 1, Gids::new().is_empty(), true);
@@ -356,15 +287,15 @@ fn sys_call_written(rt: HostRuntime) {
 #[test]
 fn other_calls_written(rt: HostRuntime) {
     let none = call_head(Cred::None);
-    let words = &[1, 0, 2, 100_003, 3, 0, 0, 0, 0, 0];
+    let words = "1 0 2 186a3 3 0*5";
     written_as(&rt, rt.alloc(), 0, &none, &[], words);
     let other = call_head(Cred::Other { flavor: 6 });
-    let words = &[1, 0, 2, 100_003, 3, 0, 6, 0, 0, 0];
+    let words = "1 0 2 186a3 3 0 6 0*3";
     written_as(&rt, rt.alloc(), 1, &other, &[], words);
 }
 
 #[test]
 fn other_version_written(rt: HostRuntime) {
     let version = CallHead::Other { xid: 1, rpcvers: 3 };
-    written_as(&rt, rt.alloc(), 0, &version, &[], &[1, 0, 3]);
+    written_as(&rt, rt.alloc(), 0, &version, &[], "1 0 3");
 }
