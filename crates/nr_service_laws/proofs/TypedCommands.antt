@@ -148,12 +148,10 @@ pub commands_are_typed_lem : CommandsAreTyped
 unfolding bytes_received
 commands_are_typed_lem opened link c before after input input' out out' result (NotOpened end is fails same_input same_out) = tt
 commands_are_typed_lem opened link c before after input input' out out' result (Opened dialed s s' opens prints closes) = λ ran is of.
-    let typed : IsTyped ran.run =
     typed_from opened link [] ran.run tt ran.own
     (IsBytes_left (flat_map (fed_at link Initiator) ran.run) ran.ahead
     (given_bytes is.left s'.bytes.left (flat_map (fed_at link Initiator) ran.run ++ ran.ahead)
     (subst (λ (o : Option (List ℕ)). Consumes o s'.bytes.left (flat_map (fed_at link Initiator) ran.run ++ ran.ahead)) is.known ran.left) is.bytes))
     ran.asked
     (with_bytes ran.run (exchanged link (tells_text c.uid c.gid c.export c.action input input' out prints.written s s' prints.text prints.made).made (without_bytes ran.run) ran.marks_are
-    (command_calls c.uid c.gid c.export c.action input input' out prints.written s s' prints.text prints.made (of.uid, of.gid) of.export of.names))) in
-    (typed, λ both own others. sides_are_typed_lem link both (subst IsTyped (sym own) typed) others)
+    (command_calls c.uid c.gid c.export c.action input input' out prints.written s s' prints.text prints.made (of.uid, of.gid) of.export of.names)))

@@ -48,24 +48,22 @@ pub record IsOfBytes (c : Client Text) (input : SourceAt) : Type 0 where
   pub export : IsBytes c.export
   pub names : NamesBytes c.action input
 
--- the marks that are not of the client of this link
-abbrev pub other_marks : ℕ → List Mark → List Mark
-other_marks link both = filter (λ mark. not (is_client_mark link mark)) both
-
--- Then the marks of such a command over such a source are of their types: its calls too, though the file handles in them come from replies. So is a
--- run of both sides whose client made them, if its other marks are.
+-- Then the marks of such a command over such a source are of their types: its calls too, though the file handles in them come from replies.
 abbrev pub CommandIsTyped : (opened : LinkParameters) (link : ℕ) (c : Client Text) (before after : DialerAt) (input input' : SourceAt) (out out' : SinkAt) (result : Result (Unit {0}) ClientEnd)
     → (runs : Runs c before after input input' out out' result) → Type 0
 CommandIsTyped opened link c before after input input' out out' result (NotOpened end is fails same_input same_out) = ⊤
 CommandIsTyped opened link c before after input input' out out' result (Opened dialed s s' opens prints closes) =
     (ran : IsCommandRun opened link s s' dialed.ended after.ended result (tells_text c.uid c.gid c.export c.action input input' out prints.written s s' prints.text prints.made)) →
-    IsOverBytes s → IsOfBytes c input →
-    IsTyped ran.run × ((both : List Mark) → client_marks link both ≡ ran.run → IsTyped (other_marks link both) → IsTyped both)
+    IsOverBytes s → IsOfBytes c input → IsTyped ran.run
 
 abbrev pub CommandsAreTyped : Type 0
 CommandsAreTyped =
     (opened : LinkParameters) (link : ℕ) (c : Client Text) (before after : DialerAt) (input input' : SourceAt) (out out' : SinkAt) (result : Result (Unit {0}) ClientEnd)
     (runs : Runs c before after input input' out out' result) → CommandIsTyped opened link c before after input input' out out' result runs
+
+-- the marks that are not of the client of this link
+abbrev pub other_marks : ℕ → List Mark → List Mark
+other_marks link both = filter (λ mark. not (is_client_mark link mark)) both
 
 -- A run is of its types if the marks of the client of a link are, and the others.
 abbrev pub SidesAreTyped : Type 0
