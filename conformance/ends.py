@@ -8,14 +8,14 @@ from values import Fn, Value, call
 RUN = 'Rattle.nr_reduce.specs.Run'
 USES = (
     'use Rattle.nr_wire.specs.declared.hello.Side.TheVariants.{Initiator, Responder}',
-    'use Rattle.nr_link.specs.Output.{own_hello}',
+    'use Rattle.nr_reduce.specs.Hellos.{client_hello}',
     'use Rattle.nr_reduce.specs.Events.{events_at}',
     'use Rattle.nr_reduce.specs.EndRules.{next_end_state, output_for}',
     'use Rattle.nr_reduce.specs.Client.{client_rules, initial_client}',
     'use Rattle.nr_reduce.specs.Server.{server_rules, initial_server}',
 )
 ROLES = {
-    'Initiator': 'Initiator', 'Responder': 'Responder', 'hello': 'own_hello Initiator',
+    'Initiator': 'Initiator', 'Responder': 'Responder', 'hello': 'λ opened. client_hello opened',
     'events': 'λ link side before mark. events_at link side before mark',
     'first Initiator': 'λ opened. initial_client opened', 'first Responder': 'λ opened. initial_server opened',
     'next Initiator': 'λ opened state event. next_end_state (client_rules opened) state event',
@@ -45,7 +45,7 @@ class Ends:
     def end(self, opened: Value, link: int, side: str, run: list[Value]) -> tuple[Value, list[int]]:
         """The state of an end after these marks, and its output due."""
         ask = self.role
-        hello = list(ask['hello']) if side == 'Initiator' else []
+        hello = list(call(ask['hello'], opened)) if side == 'Initiator' else []
         first: tuple[list[Value], Value, list[int]] = ([], call(ask['first ' + side], opened), hello)
         marks, state, due = self.known.get((link, side), first)
         if len(marks) > len(run) or any(a is not b for a, b in zip(marks, run)):

@@ -170,7 +170,7 @@ class Link:
 
     def __init__(self, names: Roles, run: Recorded, number: int, found: list[Finding]) -> None:
         self.names, self.run, self.number, self.found = names, run, number, found
-        self.opened = names.make('opened', dict(next(x for x in run['opened'] if x['link'] == number)))
+        self.opened = names.opened(next(x for x in run['opened'] if x['link'] == number))
         self.ends = {'client': names.ask('first_client', self.opened), 'server': names.ask('first_server', self.opened)}
         self.marks: list[Value] = []
         self.matched = self.is_matched()

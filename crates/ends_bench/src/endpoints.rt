@@ -134,7 +134,7 @@ impl Peer {
 fn opened(alloc: Global, side: Side, receives: u32) -> Option<Endpoint>
     ensures { IfSome result (λ e. fed_bytes e.link ≡ 0) }
 {
-    Endpoint::open(alloc, side, receives, 1).ok()
+    Endpoint::open(alloc, side, receives, 1, None).ok()
 }
 
 /// A Send from one peer to the other, which takes it.

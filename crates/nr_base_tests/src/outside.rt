@@ -288,3 +288,29 @@ fn whole_outputs_in_parts(rt: HostRuntime) {
     whole_writes(&rt, 15, &mut narrow, &wants);
     same(&rt, 17, narrow.into_inner().room, 0);
 }
+
+/// Writes each head and body completely: what the call answers.
+fn whole_pairs<K: Sink>(
+    rt: &impl Abort,
+    row: usize,
+    sink: &mut K,
+    wants: &[(&[u8], &[u8], Result<(), Failed>)],
+) {
+    for (head, body, want) in wants {
+        same(rt, row, write_whole_vectored(sink, head, body), *want);
+    }
+}
+
+#[test]
+fn whole_outputs_of_two_pieces(rt: HostRuntime) {
+    // The body of the first pair is to fail.
+    let mut memory = mem_sink(&rt, rt.alloc());
+    let wants: [(&[u8], &[u8], Result<(), Failed>); 4] = [
+        (b"ab", b"cd", Err(Failed)),
+        (b"ef", b"ghi", Ok(())),
+        (b"", b"j", Ok(())),
+        (b"", b"", Ok(())),
+    ];
+    whole_pairs(&rt, 18, &mut memory, &wants);
+    same(&rt, 18, memory.bytes(), b"abefghij".as_slice());
+}

@@ -11,7 +11,7 @@ use Rattle.nr_wire.specs.Segment.Segment.{Tagged, Untagged}
 use Rattle.nr_regions.specs.declared.right.Right.{Right}
 use Rattle.nr_regions.specs.declared.right.Right.TheVariants.{Fetch, Fill}
 use Rattle.nr_link.specs.Frames.{Frame, is_hello}
-use Rattle.nr_link.specs.Output.{own_hello}
+use Rattle.nr_reduce.specs.Hellos.{client_hello}
 use Rattle.nr_link.specs.ReceiveState.{ReadRequest, ReceiveState, begun_bytes, message_completed, read_request_of}
 use Rattle.nr_link.specs.Ending.{frame_segment, tagged_access}
 use Rattle.nr_reduce.specs.declared.call.Form.{Form}
@@ -42,7 +42,7 @@ use Rattle.nr_laws.proofs.Words.{payload_bytes_lem, payload_by}
 use Rattle.nr_laws.proofs.ServerEvents.{received_bytes, completed_bytes}
 use Rattle.nr_laws.proofs.WrittenBytes.{message_bytes_lem}
 use Rattle.nr_script.proofs.ByteLists.{no_bytes_lem}
-use Rattle.nr_byte_laws.proofs.ByteStreams.{send_bytes, response_bytes_lem, hello_bytes_lem, final_bytes}
+use Rattle.nr_byte_laws.proofs.ByteStreams.{send_bytes, response_bytes_lem, client_hello_bytes, final_bytes}
 use Rattle.nr_byte_laws.proofs.ByteRuns.{RegionOfBytes, AccessOfBytes, memory_bytes, regions_closed_lem, CarriesBytes, KeepsBytes, run_bytes}
 use Rattle.nr_byte_laws.proofs.PayloadBytes.{IfBytes, MemoryOfBytes, brought_bytes}
 
@@ -276,7 +276,7 @@ pub client_due : (o : LinkParameters) (link : ℕ) (run : List Mark) → IsTyped
 unfolding output_due
 client_due o link run typed =
     let all = run_bytes (client_rules o) ClientOfBytes (client_keeps o) (initial_client o) link Initiator run typed (begins o) in
-    bytes_both (own_hello Initiator) (output_for_all (client_rules o) (initial_client o) (events link Initiator run)) (hello_bytes_lem Initiator) all.0
+    bytes_both (client_hello o) (output_for_all (client_rules o) (initial_client o) (events link Initiator run)) (client_hello_bytes o) all.0
 
 pub outcome_bytes : (o : LinkParameters) (link : ℕ) (run : List Mark) → IsTyped run → AllByRecursion CompletedInBytes (client o link run).state.outcomes
 unfolding client

@@ -23,7 +23,8 @@ use Rattle.nr_link.specs.declared.end.End.{End}
 use Rattle.nr_link.specs.declared.end.End.TheVariants as ends
 use Rattle.nr_link.specs.Reasons.{REASON_XID}
 use Rattle.nr_link.specs.Frames.{Frame, is_hello}
-use Rattle.nr_link.specs.Output.{own_hello, refusing_hello, write}
+use Rattle.nr_link.specs.Output.{refusing_hello, write}
+use Rattle.nr_reduce.specs.Hellos.{server_hello}
 use Rattle.nr_link.specs.ReceiveState.{begun_bytes}
 use Rattle.nr_wire.specs.Constants.{REASON_FLAGS}
 use Rattle.nr_link.specs.Ending.{frame_segment, tagged_access, final_output, rejection, last_output}
@@ -57,7 +58,7 @@ use Rattle.nr_laws.proofs.EachEffect.EffectCase.{Unchanged, OfMessage, OfRead, O
 use Rattle.nr_laws.proofs.ServerEvents.{received_bytes, completed_bytes}
 use Rattle.nr_laws.proofs.Words.{payload_bytes_lem, payload_by}
 use Rattle.nr_script.proofs.ByteLists.{no_bytes_lem}
-use Rattle.nr_byte_laws.proofs.ByteStreams.{header_bytes, send_bytes, write_bytes, request_bytes, hello_bytes_lem, refusing_bytes, final_bytes}
+use Rattle.nr_byte_laws.proofs.ByteStreams.{header_bytes, send_bytes, write_bytes, request_bytes, server_hello_bytes, refusing_bytes, final_bytes}
 use Rattle.nr_byte_laws.proofs.ByteRuns.{RegionOfBytes, AccessOfBytes, found_each, memory_bytes, regions_closed_lem, CarriesBytes, KeepsBytes, run_bytes}
 use Rattle.nr_byte_laws.proofs.PayloadBytes.{IfBytes, bytes_if, whole_bytes_lem}
 use Rattle.nr_byte_laws.proofs.ByteClients.{access_bytes}
@@ -316,7 +317,7 @@ requests_bytes msn (r ∷ reads) = bytes_both _ (requests_from (msn + 1) reads) 
 server_written_lem : (o : LinkParameters) (place : ℕ) (k : ServerState) (e : RunEvent) → IsNext place e → CarriesBytes (record { state = k; ended = None }) e → ServerOfBytes k → IsBytes (server_output o k e)
 unfolding server_output
 server_written_lem o place k (FrameReceived f) next c h =
-    bytes_if (is_hello f) (own_hello Responder) (effect_output k (frame_effect k f)) (hello_bytes_lem Responder)
+    bytes_if (is_hello f) (server_hello o f) (effect_output k (frame_effect k f)) (server_hello_bytes o f)
     (bytes_both (sends_from (k.messages_queued + 1) (frame_effect k f).errors) (requests_from (k.requests_sent + 1) (newly_open_reads (frame_effect k f)))
     (sends_bytes (k.messages_queued + 1) (frame_effect k f).errors (frame_effect_lem k f next.2 h).errors) (requests_bytes (k.requests_sent + 1) (newly_open_reads (frame_effect k f))))
 server_written_lem o place k (CallSubmitted p a) next c h = no_bytes_lem
@@ -366,7 +367,7 @@ server_after : (o : LinkParameters) (place : ℕ) (k : ServerState) (e : RunEven
 unfolding server_state_after
 server_after o place k (FrameReceived f) next c h = by (is_hello f)
   where
-    by : (b : Bool) → ServerOfBytes (cond b (with_own_hello k) (with_effect k f (frame_effect k f)))
+    by : (b : Bool) → ServerOfBytes (cond b (with_own_hello o k f) (with_effect k f (frame_effect k f)))
     by true = record { begun = h.begun; calls = h.calls; regions = h.regions; accesses = h.accesses; ready = h.ready }
     by false = frame_after k f next.2 h
 server_after o place k (CallSubmitted p a) next c h = h

@@ -1,18 +1,26 @@
 -- What ends write are bytes, if what it carries is.
 use Rattle.std.specs.Prelude.{ℕ, ◌+◌, ◌*◌, ◌<◌, ◌==◌, Bool, true, false, List, [], ◌∷◌, ◌++◌, replicate, drop, Option, None, Some}
 use Rattle.std.specs.List.{range_with_len}
-use Rattle.std.proofs.Common.{refl, ltb, cond, arith}
+use Rattle.std.proofs.Common.{◌-◌, ◌&&◌, not, length, eqb, refl, ltb, cond, arith}
+use Rattle.std.proofs.Math.Nat.{min-le_right}
 use Rattle.nr_xdr.specs.Item.{Item, IsBytes, bit, word, hyper}
 use Rattle.nr_xdr.proofs.WordBytes.{IsBytes_take, IsBytes_drop}
 use Rattle.nr_wire.specs.declared.hello.Side.{Side}
 use Rattle.nr_wire.specs.declared.hello.Side.TheVariants.{Initiator, Responder}
-use Rattle.nr_wire.specs.Constants.{OPCODE_WRITE, OPCODE_READ_REQUEST, OPCODE_READ_RESPONSE, OPCODE_SEND, OPCODE_TERMINATE, QUEUE_SEND, QUEUE_READ_REQUEST, QUEUE_TERMINATE}
+use Rattle.nr_wire.specs.declared.terms.Terms.{Terms}
+use Rattle.nr_wire.specs.Terms.{terms_key, terms_flags, units_byte, number_encoding, terms_encoding, terms_in}
+use Rattle.nr_link.specs.declared.agreement.SideTerms.{SideTerms}
+use Rattle.nr_link.specs.Agreement.{initiator_private, responder_private, responder_private_by}
+use Rattle.nr_link.specs.Frames.{Frame}
+use Rattle.nr_reduce.specs.declared.mark.LinkParameters.{LinkParameters}
+use Rattle.nr_reduce.specs.Hellos.{client_hello, client_private, server_hello, server_private, private_of, initiator_says, responder_says}
+use Rattle.nr_wire.specs.Constants.{HELLO_REVISION, TERMS_NUMBER, TERMS_INVALIDATE, UNITS_MAX, OPCODE_WRITE, OPCODE_READ_REQUEST, OPCODE_READ_RESPONSE, OPCODE_SEND, OPCODE_TERMINATE, QUEUE_SEND, QUEUE_READ_REQUEST, QUEUE_TERMINATE}
 use Rattle.nr_wire.specs.Fields.{half_word}
 use Rattle.nr_wire.specs.Hello.{hello_encoding, key}
 use Rattle.nr_wire.specs.Segment.{Segment, control, header, payload_in, opcode_in, ulpdu_size, tail_len, encoding as frame_of}
 use Rattle.nr_wire.specs.Segment.Segment.{Tagged, Untagged}
 use Rattle.nr_link.specs.Limits.{segment_max}
-use Rattle.nr_link.specs.Output.{msn_word, cut, segment_count, segment_payload, send, write, read_response, read_request, terminate_message, own_hello, refusing_hello}
+use Rattle.nr_link.specs.Output.{msn_word, cut, segment_count, segment_payload, send, write, read_response, read_request, terminate_message, hello_with, refusing_hello}
 use Rattle.nr_link.specs.Ending.{final_output}
 use Rattle.nr_link.specs.declared.end.End.{End}
 use Rattle.nr_link.specs.declared.end.End.TheVariants as ends
@@ -143,10 +151,72 @@ terminate_bytes : (n : ℕ) → IsBytes (terminate_message n)
 unfolding terminate_message
 terminate_bytes n = segment_bytes_lem (Untagged true OPCODE_TERMINATE 0 QUEUE_TERMINATE 1 0 (word n)) terminate_small (word_bytes n)
 
-pub hello_bytes_lem : (side : Side) → IsBytes (own_hello side)
-unfolding own_hello hello_encoding key half_word
-hello_bytes_lem Initiator = decided (own_hello Initiator) refl
-hello_bytes_lem Responder = decided (own_hello Responder) refl
+key_bytes : (side : Side) → IsBytes (key side)
+unfolding key
+key_bytes Initiator = decided (key Initiator) refl
+key_bytes Responder = decided (key Responder) refl
+
+pub hello_bytes_lem : (side : Side) (private : List ℕ) → IsBytes private → IsBytes (hello_with side private)
+unfolding hello_with hello_encoding
+hello_bytes_lem side private h =
+    let len : List ℕ = half_word (length private) in
+    let fields : List ℕ = 0 ∷ HELLO_REVISION ∷ len in
+    let own : IsBytes fields = bytes_more 0 (HELLO_REVISION ∷ len) (omega arith) (bytes_more HELLO_REVISION len (omega arith) (half_bytes (length private))) in
+    bytes_both (key side ++ fields) private (bytes_both (key side) fields (key_bytes side) own) h
+
+-- the private data of a hello
+terms_key_bytes : IsBytes terms_key
+unfolding terms_key
+terms_key_bytes = decided terms_key refl
+
+number_bytes : (b : Bool) (number : ℕ) → IsBytes (cond b [] (hyper number))
+number_bytes true number = no_bytes_lem
+number_bytes false number = hyper_bytes number
+
+flags_small : (a b : Bool) → TERMS_NUMBER * bit a + TERMS_INVALIDATE * bit b < 256
+flags_small true true = omega arith
+flags_small true false = omega arith
+flags_small false true = omega arith
+flags_small false false = omega arith
+
+units_small : (units : ℕ) → units_byte units < 256
+units_small units = omega (arith, min-le_right (units - 1) (UNITS_MAX - 1))
+
+terms_bytes : (units number : ℕ) (invalidates : Bool) → IsBytes (terms_encoding units number invalidates)
+unfolding terms_encoding
+terms_bytes units number invalidates =
+    let last : List ℕ = number_encoding number in
+    let unit : ℕ = units_byte units in
+    let fields : List ℕ = terms_flags number invalidates ∷ unit ∷ unit ∷ [] in
+    let own : IsBytes fields = bytes_more (terms_flags number invalidates) (unit ∷ unit ∷ []) (flags_small (not (eqb number 0)) invalidates)
+    (bytes_more unit (unit ∷ []) (units_small units) (bytes_more unit [] (units_small units) no_bytes_lem)) in
+    bytes_both (terms_key ++ fields) last (bytes_both terms_key fields terms_key_bytes own) (number_bytes (eqb number 0) number)
+
+says_bytes : (o : Option SideTerms) → IsBytes (initiator_says o)
+unfolding initiator_private
+says_bytes None = no_bytes_lem
+says_bytes (Some t) = by (eqb t.units 1 && (eqb t.number 0 && not t.invalidates))
+  where
+    by : (b : Bool) → IsBytes (cond b [] (terms_encoding t.units t.number t.invalidates))
+    by true = no_bytes_lem
+    by false = terms_bytes t.units t.number t.invalidates
+
+answers_bytes : (o : Option SideTerms) (initiator : List ℕ) → IsBytes (responder_says o initiator)
+unfolding responder_private
+answers_bytes None initiator = no_bytes_lem
+answers_bytes (Some t) initiator = by (terms_in initiator)
+  where
+    by : (said : Option Terms) → IsBytes (responder_private_by t said)
+    by None = no_bytes_lem
+    by (Some terms) = terms_bytes t.units 0 t.invalidates
+
+pub client_hello_bytes : (o : LinkParameters) → IsBytes (client_hello o)
+unfolding client_hello
+client_hello_bytes o = hello_bytes_lem Initiator (client_private o) (says_bytes o.client)
+
+pub server_hello_bytes : (o : LinkParameters) (f : Frame) → IsBytes (server_hello o f)
+unfolding server_hello
+server_hello_bytes o f = hello_bytes_lem Responder (server_private o f) (answers_bytes o.server (private_of f))
 
 pub refusing_bytes : IsBytes refusing_hello
 unfolding refusing_hello hello_encoding key half_word

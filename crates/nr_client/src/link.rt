@@ -2,6 +2,7 @@
 
 ghost use Rattle.std.specs.Prelude.{◌≡◌, ◌≤◌, ℕ, true, is_some, nat_lt, length, [], IfOk, IfErr, OnErr};
 ghost use Rattle.nr_rpc.specs.Credential.{CanWriteCred};
+ghost use Rattle.nr_reduce.specs.Opening.{ClientOpened};
 ghost use Rattle.nr_reduce.specs.declared.mark.LinkParameters.{LinkParameters};
 ghost use Rattle.nr_requester.specs.Standing.{RequesterRepresents};
 ghost use Rattle.nr_requester.specs.AfterCalls.{opened_as};
@@ -50,7 +51,7 @@ impl<I: Source, O: Sink> Link<I, O> {
     /// The client end of a new link. It wishes for this many credits. After out of memory the source and the sink come back.
     pub fn open(alloc: Global, source: I, sink: O, credits: u32) -> Result<Link<I, O>, (I, O)>
         ensures state { IfOk result (λ c. c ≡ record { requester = opened_as 1 1 credits c.requester.staging; source = source; sink = sink; read = 0 }) }
-        ensures stands { IfOk result (λ c. (opened : LinkParameters) (link : ℕ) → opened.first_xid ≡ 1 → opened.first_stag ≡ 1 → opened.wished ≡ credits → RequesterRepresents opened link c.requester []) }
+        ensures stands { IfOk result (λ c. (opened : LinkParameters) (link : ℕ) → opened.first_xid ≡ 1 → opened.first_stag ≡ 1 → ClientOpened opened credits → RequesterRepresents opened link c.requester []) }
         ensures returned { IfErr result (λ link. (link.0 ≡ source) × (link.1 ≡ sink)) }
     {
         let Ok(buf) = vec![in alloc; 0u8; PIECE_MAX] else {

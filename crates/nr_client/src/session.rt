@@ -4,6 +4,7 @@ ghost use Rattle.std.specs.Prelude.{◌≡◌, ℕ, [], OnOk, IfOk, IfErr, IfSom
 ghost use Rattle.nr_nfs_base.specs.declared.attributes.Attributes.{Attributes};
 ghost use Rattle.nr_links.specs.Asked.{Asks as AsksFor};
 ghost use Rattle.nr_links.specs.Links.{CountsLost, EndsLink, HasOpenLink, IsNewLink, IsTold, MakesLink, ended_link};
+ghost use Rattle.nr_reduce.specs.Opening.{ClientOpened};
 ghost use Rattle.nr_reduce.specs.declared.mark.LinkParameters.{LinkParameters};
 ghost use Rattle.nr_requester.specs.AfterCalls.{opened_as};
 ghost use Rattle.nr_requester.specs.Standing.{RequesterRepresents};
@@ -72,7 +73,7 @@ impl<P: LinkSource, Q: LinkSink, N: LinkNumber> Session<NumberedSource<P, N>, Nu
         ensures fresh { IfOk result (λ s. IsNewLink (P.given s.link.source.source) (Q.taken s.link.sink.sink) (P.faults s.link.source.source) (Q.faults s.link.sink.sink)) }
         ensures told { IfOk result (λ s. IsTold (D.ended dialer.new) (P.given s.link.source.source) (P.left s.link.source.source) (Q.taken s.link.sink.sink)) }
         ensures state { IfOk result (λ s. (s.link.requester ≡ opened_as 1 1 session_credits s.link.requester.staging) × ((s.link.read ≡ 0) × ((s.uid ≡ uid) × (s.gid ≡ gid)))) }
-        ensures stands { IfOk result (λ s. (opened : LinkParameters) (link : ℕ) → opened.first_xid ≡ 1 → opened.first_stag ≡ 1 → opened.wished ≡ session_credits → RequesterRepresents opened link s.link.requester []) }
+        ensures stands { IfOk result (λ s. (opened : LinkParameters) (link : ℕ) → opened.first_xid ≡ 1 → opened.first_stag ≡ 1 → ClientOpened opened session_credits → RequesterRepresents opened link s.link.requester []) }
         ensures err { IfErr result (λ end. OpenFails end addr.now (dialer_at (D.asked dialer.old) (D.ended dialer.old) (D.lost dialer.old) (D.faults dialer.old))
             (dialer_at (D.asked dialer.new) (D.ended dialer.new) (D.lost dialer.new) (D.faults dialer.new))) }
         ensures counted { OnOk result (D.faults dialer.new ≡ D.faults dialer.old) }

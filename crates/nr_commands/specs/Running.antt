@@ -3,6 +3,7 @@ use Rattle.std.specs.Prelude.{◌≡◌, ℕ, List, [], IfSome, Result, Ok, Err}
 use Rattle.nr_outside.specs.Streams.{SinkAt, SourceAt, Writes, WritesSome}
 use Rattle.nr_links.specs.Asked.{Asks as AsksFor}
 use Rattle.nr_links.specs.Links.{CountsLost, EndsLink, IsNewLink, IsTold, MakesLink, ended_link}
+use Rattle.nr_reduce.specs.Opening.{ClientOpened}
 use Rattle.nr_reduce.specs.declared.mark.LinkParameters.{LinkParameters}
 use Rattle.nr_requester.specs.AfterCalls.{opened_as}
 use Rattle.nr_requester.specs.Standing.{RequesterRepresents}
@@ -26,7 +27,7 @@ pub record Opens (addr : List ℕ) (before after : DialerAt) (s : SessionAt) : T
   pub fresh : IsNewLink s.bytes.given s.bytes.taken s.source_faults s.sink_faults
   pub nothing_read : s.bytes.read ≡ 0
   pub requester : s.requester ≡ opened_as 1 1 session_credits s.requester.staging
-  pub stands : (opened : LinkParameters) (link : ℕ) → opened.first_xid ≡ 1 → opened.first_stag ≡ 1 → opened.wished ≡ session_credits → RequesterRepresents opened link s.requester []
+  pub stands : (opened : LinkParameters) (link : ℕ) → opened.first_xid ≡ 1 → opened.first_stag ≡ 1 → ClientOpened opened session_credits → RequesterRepresents opened link s.requester []
   pub none_lost : after.lost ≡ before.lost
   pub unfailing : after.faults ≡ before.faults
 

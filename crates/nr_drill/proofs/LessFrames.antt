@@ -18,7 +18,6 @@ use Rattle.nr_wire.proofs.Splits.{split_append, split_frames, split_Splits}
 use Rattle.nr_link.specs.Frames.{Frame, frames_from, frames_of, frames_completed, is_hello}
 use Rattle.nr_link.specs.Ending.{frame_segment}
 use Rattle.nr_link.proofs.Streams.{frames_from_append, frames_completed_split}
-use Rattle.nr_link.specs.Output.{own_hello}
 use Rattle.nr_reduce.specs.declared.mark.Mark.{Mark}
 use Rattle.nr_reduce.specs.declared.mark.LinkParameters.{LinkParameters}
 use Rattle.nr_reduce.specs.History.{bytes_received}
@@ -35,7 +34,9 @@ use Rattle.nr_laws.proofs.Outputs.{Output, bytes_of, bytes_of_all, message_of_ca
 use Rattle.nr_laws.proofs.Outputs.Output.{AHello, ASegment}
 use Rattle.nr_link.specs.ReceiveState.{begun_bytes}
 use Rattle.nr_laws.proofs.Completions.{completed_by, begun_by, completed_from}
-use Rattle.nr_laws.proofs.Brought.{AreFrom, encoding_is, hello_is}
+use Rattle.nr_reduce.specs.Hellos.{client_hello}
+use Rattle.nr_laws.proofs.Brought.{AreFrom, encoding_is}
+use Rattle.nr_laws.proofs.FirstHellos.{client_hello_is}
 use Rattle.nr_laws.proofs.EventOutputs.{whole_bytes}
 use Rattle.nr_laws.proofs.ClientSays.{HasHello, accepted_in, asked}
 use Rattle.nr_laws.proofs.ClientRun.{client_outs, client_outputs}
@@ -91,13 +92,13 @@ unfolding split
 split_none a = refl
 
 -- its hello and the segments after it
-stream_frames : (outs : List Output) → AreFrom Fpdu outs → frames_of Initiator (own_hello Initiator ++ bytes_of_all outs) ≡ frames_from 0 (own_hello Initiator ∷ map bytes_of outs)
+stream_frames : (o : LinkParameters) (outs : List Output) → AreFrom Fpdu outs → frames_of Initiator (client_hello o ++ bytes_of_all outs) ≡ frames_from 0 (client_hello o ∷ map bytes_of outs)
 unfolding frames_of
-stream_frames outs h =
+stream_frames o outs h =
     let a = HelloFrom Initiator in
-    let fs = own_hello Initiator ∷ map bytes_of outs in
-    ap (λ (xs : List ℕ). frames_from 0 (split a xs).frames) (ap (λ (xs : List ℕ). own_hello Initiator ++ xs) (sym (concat_bytes outs)) ∙ sym (append-nil (concat fs)))
-    ∙ ap (λ (s : Split). frames_from 0 s.frames) (split_frames a fs [] ((hello_is Initiator).is_frame, are_frames outs h))
+    let fs = client_hello o ∷ map bytes_of outs in
+    ap (λ (xs : List ℕ). frames_from 0 (split a xs).frames) (ap (λ (xs : List ℕ). client_hello o ++ xs) (sym (concat_bytes outs)) ∙ sym (append-nil (concat fs)))
+    ∙ ap (λ (s : Split). frames_from 0 s.frames) (split_frames a fs [] ((client_hello_is o).is_frame, are_frames outs h))
     ∙ ap (λ (xs : List (List ℕ)). frames_from 0 (fs ++ xs)) (split_none (awaited_after a fs)) ∙ ap (λ (xs : List (List ℕ)). frames_from 0 xs) (append-nil fs)
 
 -- ===== how many of them are Sends
@@ -130,11 +131,11 @@ segments_sends b place (ASegment s ∷ outs) some h =
     one_more_lem f later (is_send_segment (Ok s)) read
     ∙ counted b s (completed_from (begun_by b s) outs) (sends_among later) (segments_sends (begun_by b s) (place + length (encoding s)) outs (omega (arith, some)) h.1)
 
-stream_sends : (outs : List Output) → AreFrom Fpdu outs → sends_among (frames_of Initiator (own_hello Initiator ++ bytes_of_all outs)) ≡ length (completed_from None outs)
-stream_sends outs h =
-    let n = length (own_hello Initiator) in
-    let some : 0 < 0 + n = (let a = (hello_is Initiator).is_frame.fields in let b = fields_some (HelloFrom Initiator) in omega (arith, a, b)) in
-    ap sends_among (stream_frames outs h) ∙ segments_sends None (0 + n) outs some h
+stream_sends : (o : LinkParameters) (outs : List Output) → AreFrom Fpdu outs → sends_among (frames_of Initiator (client_hello o ++ bytes_of_all outs)) ≡ length (completed_from None outs)
+stream_sends o outs h =
+    let n = length (client_hello o) in
+    let some : 0 < 0 + n = (let a = (client_hello_is o).is_frame.fields in let b = fields_some (HelloFrom Initiator) in omega (arith, a, b)) in
+    ap sends_among (stream_frames o outs h) ∙ segments_sends None (0 + n) outs some h
 
 -- ===== on a link whose client hasn't ended
 
@@ -163,7 +164,7 @@ sends_waiting o link run way typed asked_so lives heard carried =
     let calls = asked o (events link Initiator run) in
     let knows : k.has_hello ≡ true = has_hello_lem (whole_bytes link Initiator run) k.has_hello (whole_some link run heard) (t.says.greeted lives) in
     let all : sends_among (frames_of Initiator (got ++ way)) ≡ length (completed_from None (client_outs o link run)) =
-    ap (λ (xs : List ℕ). sends_among (frames_of Initiator xs)) (carried ∙ t.bytes) ∙ stream_sends (client_outs o link run) t.says.words in
+    ap (λ (xs : List ℕ). sends_among (frames_of Initiator xs)) (carried ∙ t.bytes) ∙ stream_sends o (client_outs o link run) t.says.words in
     let said : length (completed_from None (client_outs o link run)) ≡ length calls =
     ap (λ (ms : List (List ℕ)). length ms) (t.says.completes.completed ∙ (λ i. cond (knows i) (map (message_of_call o) calls) [])) ∙ length-map calls (message_of_call o) in
     let accepted : length calls ≡ k.calls_accepted = as_many_calls (start o) o.first_stag (accepted_in (events link Initiator run)) ∙ sym t.says.count in

@@ -11,7 +11,7 @@ use Rattle.nr_wire.specs.Stream.{Split, split}
 use Rattle.nr_wire.proofs.Splits.{split_frame}
 use Rattle.nr_link.specs.declared.end.End.{End}
 use Rattle.nr_link.specs.Frames.{Frame, frames_from, frames_of, frames_completed}
-use Rattle.nr_link.specs.Output.{own_hello}
+use Rattle.nr_reduce.specs.Hellos.{client_hello, server_hello}
 use Rattle.nr_reduce.specs.declared.mark.Mark.{Mark}
 use Rattle.nr_reduce.specs.declared.mark.Mark.TheVariants as marks
 use Rattle.nr_reduce.specs.declared.mark.LinkParameters.{LinkParameters}
@@ -26,7 +26,8 @@ use Rattle.nr_reduce.specs.Server.{server_rules, server_end, server_output}
 use Rattle.nr_reduce.specs.Run.{client, server, output_due}
 use Rattle.nr_reduce.proofs.Steps.{server_one, output_due_down_one}
 use Rattle.nr_reduce.proofs.Standing.{itself, received_one}
-use Rattle.nr_laws.proofs.Brought.{hello_is}
+use Rattle.nr_laws.proofs.Brought.{IsHelloFrame}
+use Rattle.nr_laws.proofs.FirstHellos.{client_hello_is, server_hello_is}
 use Rattle.nr_laws.proofs.ServerEnds.{hello_goes}
 use Rattle.nr_script.specs.declared.script.Line.{Line}
 use Rattle.nr_script.specs.declared.script.Line.TheVariants as lines
@@ -107,8 +108,8 @@ lines_heard s clients link (line ∷ others) old new e h = lines_heard s clients
 
 -- ===== the hello is one frame
 
-hello_frame : Side → Frame
-hello_frame side = record { at = 0; end = 0 + length (own_hello side); bytes = own_hello side }
+hello_frame : List ℕ → Frame
+hello_frame hello = record { at = 0; end = 0 + length hello; bytes = hello }
 
 split_none : (side : Side) → (split Fpdu []).frames ≡ []
 unfolding split
@@ -118,46 +119,46 @@ none_framed : (side : Side) → frames_of side [] ≡ []
 unfolding frames_of split
 none_framed side = refl
 
-hello_frames : (side : Side) → frames_of side (own_hello side) ≡ hello_frame side ∷ []
+hello_frames : (side : Side) (hello : List ℕ) → IsHelloFrame side hello → frames_of side hello ≡ hello_frame hello ∷ []
 unfolding frames_of hello_frame
-hello_frames side =
-    ap (λ (xs : List ℕ). frames_from 0 (split (HelloFrom side) xs).frames) (sym (append-nil (own_hello side)))
-    ∙ ap (λ (s : Split). frames_from 0 s.frames) (split_frame (HelloFrom side) (own_hello side) [] (hello_is side).is_frame)
-    ∙ ap (λ (fs : List (List ℕ)). frames_from 0 (own_hello side ∷ fs)) (split_none side)
+hello_frames side hello read =
+    ap (λ (xs : List ℕ). frames_from 0 (split (HelloFrom side) xs).frames) (sym (append-nil hello))
+    ∙ ap (λ (s : Split). frames_from 0 s.frames) (split_frame (HelloFrom side) hello [] read.is_frame)
+    ∙ ap (λ (fs : List (List ℕ)). frames_from 0 (hello ∷ fs)) (split_none side)
 
 some_frame : (f : Frame) (fs more : List Frame) → fs ≡ f ∷ more → fs ≢ []
 some_frame f [] more e = absurd cc
 some_frame f (x ∷ fs) more e = λ none. absurd cc
 
-begins_heard : (side : Side) (stream more : List ℕ) → stream ≡ own_hello side ++ more → frames_of side stream ≢ []
-begins_heard side stream more is =
-    subst (λ (xs : List ℕ). frames_of side xs ≢ []) (sym is) (still_heard side (own_hello side) more (some_frame (hello_frame side) (frames_of side (own_hello side)) [] (hello_frames side)))
+begins_heard : (side : Side) (hello stream more : List ℕ) → IsHelloFrame side hello → stream ≡ hello ++ more → frames_of side stream ≢ []
+begins_heard side hello stream more read is =
+    subst (λ (xs : List ℕ). frames_of side xs ≢ []) (sym is) (still_heard side hello more (some_frame (hello_frame hello) (frames_of side hello) [] (hello_frames side hello read)))
 
 -- the first frame of the client that a server receives
-first_completed : (piece more : List ℕ) → piece ≡ own_hello Initiator ++ more → (fs : List Frame) × (frames_completed Initiator [] piece ≡ hello_frame Initiator ∷ fs)
-first_completed piece more is =
-    let fs = frames_completed Initiator (own_hello Initiator) more in (
+first_completed : (hello piece more : List ℕ) → IsHelloFrame Initiator hello → piece ≡ hello ++ more → (fs : List Frame) × (frames_completed Initiator [] piece ≡ hello_frame hello ∷ fs)
+first_completed hello piece more read is =
+    let fs = frames_completed Initiator hello more in (
       fs,
       completed_is Initiator [] piece
           ∙ ap (λ (old : List Frame). drop (length old) (frames_of Initiator piece)) (none_framed Initiator)
-          ∙ ap (λ (xs : List ℕ). frames_of Initiator xs) is ∙ frames_one Initiator (own_hello Initiator) more ∙ ap (λ (old : List Frame). old ++ fs) (hello_frames Initiator),
+          ∙ ap (λ (xs : List ℕ). frames_of Initiator xs) is ∙ frames_one Initiator hello more ∙ ap (λ (old : List Frame). old ++ fs) (hello_frames Initiator hello read),
     )
 
 -- a server answers it with its own, whatever else it knows
-answers_hello : (o : LinkParameters) (r : EndState ServerState) (es : List RunEvent) → r.ended ≡ None →
-    (more : List ℕ) × (output_for_all (server_rules o) r (FrameReceived (hello_frame Initiator) ∷ es) ≡ own_hello Responder ++ more)
+answers_hello : (o : LinkParameters) (hello : List ℕ) (r : EndState ServerState) (es : List RunEvent) → IsHelloFrame Initiator hello → r.ended ≡ None →
+    (more : List ℕ) × (output_for_all (server_rules o) r (FrameReceived (hello_frame hello) ∷ es) ≡ server_hello o (hello_frame hello) ++ more)
 unfolding server_output hello_frame
-answers_hello o r es lives =
-    let event = FrameReceived (hello_frame Initiator) in
+answers_hello o hello r es read lives =
+    let event = FrameReceived (hello_frame hello) in
     let more = output_for_all (server_rules o) (next_end_state (server_rules o) r event) es in
-    let goes : server_end o r.state event ≡ None = hello_goes o r.state (hello_frame Initiator) refl refl in (
+    let goes : server_end o r.state event ≡ None = hello_goes o r.state (hello_frame hello) refl read in (
       more,
       ap (λ (xs : List ℕ). xs ++ more)
           (ap (λ (e : Option End). output_for_in (server_rules o) r.state event e) lives
           ∙ ap (λ (e : Option End). output_for_by (server_rules o) r.state event e) goes),
     )
 
-client_begins_lem : (o : LinkParameters) (link : ℕ) (run : List Mark) → (more : List ℕ) × (output_due o link Initiator run ≡ own_hello Initiator ++ more)
+client_begins_lem : (o : LinkParameters) (link : ℕ) (run : List Mark) → (more : List ℕ) × (output_due o link Initiator run ≡ client_hello o ++ more)
 unfolding output_due
 client_begins_lem o link run = (output_for_all (client_rules o) (initial_client o) (events link Initiator run), refl)
 
@@ -205,18 +206,18 @@ fed_standing link side [] rest d = refl
 fed_standing link side (b ∷ piece) rest d = no_drop link d.marks (marks.Fed link side (b ∷ piece)) refl
 
 -- what is due to the server of the link once it is fed the client's hello
-fed_due : (o : LinkParameters) (link : ℕ) (piece more : List ℕ) (rest : Pipes) (d : Drill) → piece ≡ own_hello Initiator ++ more → Fresh o link d.marks →
-    (left : List ℕ) × (output_due o link Responder (after_feeding link Responder piece rest d).marks ≡ own_hello Responder ++ left)
-fed_due o link [] more rest d is h = absurd (begins_heard Initiator [] more is (none_framed Initiator))
+fed_due : (o : LinkParameters) (link : ℕ) (piece more : List ℕ) (rest : Pipes) (d : Drill) → piece ≡ client_hello o ++ more → Fresh o link d.marks →
+    (left : List ℕ) × (output_due o link Responder (after_feeding link Responder piece rest d).marks ≡ server_hello o (hello_frame (client_hello o)) ++ left)
+fed_due o link [] more rest d is h = absurd (begins_heard Initiator (client_hello o) [] more (client_hello_is o) is (none_framed Initiator))
 fed_due o link (b ∷ piece) more rest d is h =
     let run = d.marks in
     let all = b ∷ piece in
     let mark = marks.Fed link Responder all in
-    let first = first_completed all more is in
-    let events_are : events_at link Responder run mark ≡ FrameReceived (hello_frame Initiator) ∷ map FrameReceived first.0 =
+    let first = first_completed (client_hello o) all more (client_hello_is o) is in
+    let events_are : events_at link Responder run mark ≡ FrameReceived (hello_frame (client_hello o)) ∷ map FrameReceived first.0 =
     own link (map FrameReceived (frames_completed Initiator (bytes_received link Responder run) all))
     ∙ ap (λ (got : List ℕ). map FrameReceived (frames_completed Initiator got all)) h.got ∙ ap (λ (fs : List Frame). map FrameReceived fs) first.1 in
-    let answer = answers_hello o (server o link run) (map FrameReceived first.0) h.lives in (
+    let answer = answers_hello o (client_hello o) (server o link run) (map FrameReceived first.0) (client_hello_is o) h.lives in (
       answer.0,
       output_due_down_one o link run mark
           ∙ (λ i. h.due i ++ output_for_all (server_rules o) (server o link run) (events_are i))
@@ -244,10 +245,10 @@ opening_heard s link d h standing c fresh =
     let c_two = carries_up s link n one k_one c_one in
     let stands_two : is_dropped link two.marks ≡ false = l_two.dropped ∙ fed_standing link Responder (take n up) rest one ∙ stands_one in
     let begins = client_begins_lem o link one.marks in
-    let sent : bytes_received link Responder one.marks ++ up ≡ own_hello Initiator ++ begins.0 = (c_one.carried stands_one).up ∙ (all_written_lem s link one k_one).0 ∙ begins.1 in
+    let sent : bytes_received link Responder one.marks ++ up ≡ client_hello o ++ begins.0 = (c_one.carried stands_one).up ∙ (all_written_lem s link one k_one).0 ∙ begins.1 in
     let whole : take n up ≡ up = take_all n up (omega arith) in
-    let piece : take n up ≡ own_hello Initiator ++ begins.0 = whole ∙ ap (λ (got : List ℕ). got ++ up) (sym fresh_one.got) ∙ sent in
-    let got_two : bytes_received link Responder two.marks ≡ own_hello Initiator ++ begins.0 =
+    let piece : take n up ≡ client_hello o ++ begins.0 = whole ∙ ap (λ (got : List ℕ). got ++ up) (sym fresh_one.got) ∙ sent in
+    let got_two : bytes_received link Responder two.marks ≡ client_hello o ++ begins.0 =
     l_two.got ∙ fed_got link Responder (take n up) rest one ∙ ap (λ (xs : List ℕ). bytes_received link Responder one.marks ++ xs) whole ∙ sent in
     let due = fed_due o link (take n up) begins.0 rest one piece fresh_one in
     let down = (pipes_of link two).down in
@@ -256,13 +257,13 @@ opening_heard s link d h standing c fresh =
     let rest_two : Pipes = record (pipes_of link two) { down = drop m down } in
     let three = settled s link (after_outcomes s link fed_two) in
     let l_three = leaves_through o link fed_two.marks (after_outcomes s link fed_two).marks three.marks (outcomes_leave s o link fed_two) (settled_leaves s o link (after_outcomes s link fed_two)) in
-    let got_three : bytes_received link Initiator three.marks ≡ own_hello Responder ++ due.0 =
+    let got_three : bytes_received link Initiator three.marks ≡ server_hello o (hello_frame (client_hello o)) ++ due.0 =
     l_three.heard ∙ fed_got link Initiator (take m down) rest_two two ∙ ap (λ (xs : List ℕ). bytes_received link Initiator two.marks ++ xs) (take_all m down (omega arith))
     ∙ (c_two.carried stands_two).down ∙ (all_written_lem s link two k_two).1 ∙ l_two.due_down ∙ due.1 in
     let extends = down_adds s link m two in
-    let server_two : frames_of Initiator (bytes_received link Responder two.marks) ≢ [] = begins_heard Initiator (bytes_received link Responder two.marks) begins.0 got_two in
+    let server_two : frames_of Initiator (bytes_received link Responder two.marks) ≢ [] = begins_heard Initiator (client_hello o) (bytes_received link Responder two.marks) begins.0 (client_hello_is o) got_two in
     record {
-      client = begins_heard Responder (bytes_received link Initiator three.marks) due.0 got_three;
+      client = begins_heard Responder (server_hello o (hello_frame (client_hello o))) (bytes_received link Initiator three.marks) due.0 (server_hello_is o (hello_frame (client_hello o))) got_three;
       server = subst (λ (run : List Mark). frames_of Initiator (bytes_received link Responder run) ≢ []) (sym extends.marks.is)
           (subst (λ (xs : List ℕ). frames_of Initiator xs ≢ []) (sym (received_both link Responder two.marks extends.marks.added)) (still_heard Initiator (bytes_received link Responder two.marks) (bytes_received link Responder extends.marks.added) server_two));
     }

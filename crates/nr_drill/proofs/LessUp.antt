@@ -18,7 +18,7 @@ use Rattle.nr_wire.proofs.Splits.{split_Splits}
 use Rattle.nr_link.specs.declared.end.End.{End}
 use Rattle.nr_link.specs.Frames.{Frame, frames_from, frames_of, frames_completed, is_hello}
 use Rattle.nr_link.specs.Limits.{open_reads_max}
-use Rattle.nr_link.specs.Output.{own_hello}
+use Rattle.nr_reduce.specs.Hellos.{server_hello}
 use Rattle.nr_link.specs.ReceiveState.{begun_bytes}
 use Rattle.nr_link.specs.Ending.{frame_segment}
 use Rattle.nr_link.proofs.Streams.{frames_completed_split}
@@ -120,7 +120,7 @@ not_send f appended none = (λ i. cond (sym appended i) false (is_send_segment (
 frame_lowers : (o : LinkParameters) (k : ServerState) (f : Frame) → is_hello f ≡ false → is_send f ≡ false → Lowers k (server_state_after o k (FrameReceived f)) (server_output o k (FrameReceived f))
 unfolding server_state_after server_output frame_effect
 frame_lowers o k f appended none =
-    subst (λ (b : Bool). Lowers k (cond b (with_own_hello k) (with_effect k f e)) (cond b (own_hello Responder) (effect_output k e))) (sym appended) (by (effect_lessens k f (frame_segment f) (not_send f appended none)))
+    subst (λ (b : Bool). Lowers k (cond b (with_own_hello o k f) (with_effect k f e)) (cond b (server_hello o f) (effect_output k e))) (sym appended) (by (effect_lessens k f (frame_segment f) (not_send f appended none)))
   where
     e : FrameEffect
     e = frame_effect k f

@@ -1,5 +1,5 @@
 -- The marks that a script makes, in order.
-use Rattle.std.specs.Prelude.{Bool, true, false, ◌&&◌, is_none, ◌≡◌, ℕ, zero, suc, ◌+◌, List, [], ◌∷◌}
+use Rattle.std.specs.Prelude.{Bool, true, false, ◌&&◌, is_none, ◌≡◌, ℕ, zero, suc, ◌+◌, List, [], ◌∷◌, None}
 use Rattle.std.specs.List.{list_all}
 use Rattle.nr_reduce.specs.declared.mark.LinkParameters.{LinkParameters}
 use Rattle.nr_reduce.specs.declared.mark.Mark.{Mark}
@@ -49,7 +49,7 @@ MakeAll s clients (line ∷ others) old new = (mid : Drill) × Makes s clients l
 
 -- what the ends of each link are opened with, by the credits of the script
 abbrev pub opened_with : ℕ → LinkParameters
-opened_with credits = record { first_xid = 1; first_stag = 1; wished = credits; granted = credits }
+opened_with credits = record { first_xid = 1; first_stag = 1; wished = credits; granted = credits; client = None; server = None }
 
 abbrev pub parameters_of : Opening → ℕ → LinkParameters
 parameters_of opening link = opened_with opening.credits

@@ -5,7 +5,7 @@ use Rattle.nr_wire.specs.Segment.{Segment}
 use Rattle.nr_regions.specs.Access.{Allowed}
 use Rattle.nr_regions.specs.RegisteredMemory.{Access}
 use Rattle.nr_link.specs.Frames.{Frame, is_hello}
-use Rattle.nr_link.specs.Output.{own_hello}
+use Rattle.nr_reduce.specs.Hellos.{client_hello}
 use Rattle.nr_link.specs.ReceiveState.{ReadRequest, read_request_of}
 use Rattle.nr_link.specs.Ending.{frame_segment, access_of}
 use Rattle.nr_reduce.specs.declared.call.Outcome.{Outcome}
@@ -48,7 +48,7 @@ pub record KeepsMemory (opened : LinkParameters) (link : ℕ) (run : List Mark) 
   pub server_holds : (r : Region) → Contains (server opened link run).state.regions r →
       HoldsAllowed (server_rules opened) (initial_server opened) (events link Responder run) (grants_of opened link Responder run) r (placed_bytes opened link Responder run r.stag)
   pub disclosed : (offset byte : ℕ) → slice_get (bytes_sent link Initiator run) offset ≡ Some byte →
-      (slice_get (own_hello Initiator) offset ≡ Some byte) ⊎ IsSentFor opened (events link Initiator run) offset byte
+      (slice_get (client_hello opened) offset ≡ Some byte) ⊎ IsSentFor opened (events link Initiator run) offset byte
   pub revoked : (before : List Mark) (xid : ℕ) (bytes : List ℕ) → MarkAt run before (marks.Revoke link xid bytes) → IsUnchanged opened link run before xid bytes
   pub done : (before : List Mark) (xid : ℕ) (outcome : Outcome) (r : Region) → MarkAt run before (marks.Done link xid outcome) →
       Contains (client opened link before).state.regions r → r.call ≡ xid → IsHandedBack opened link run before r

@@ -4,6 +4,7 @@ use Rattle.std.proofs.Common.{◌≡◌, ◌≢◌, ℕ, ◌≤◌, Bool, true, 
 use Rattle.std.proofs.Math.Seq.{take-length}
 use Rattle.nr_wire.specs.declared.hello.Side.{Side}
 use Rattle.nr_wire.specs.declared.hello.Side.TheVariants.{Initiator, Responder}
+use Rattle.nr_reduce.specs.Opening.{ClientOpened, ServerOpened}
 use Rattle.nr_reduce.specs.declared.mark.LinkParameters.{LinkParameters}
 use Rattle.nr_reduce.specs.declared.mark.Mark.{Mark}
 use Rattle.nr_reduce.specs.declared.mark.Mark.TheVariants as marks
@@ -123,8 +124,8 @@ abbrev empty_pipe : TransitState
 empty_pipe = record { waiting = []; kept = 0 }
 
 pub fresh_link : (number credits : ℕ) (client : RequesterSide) (server : ResponderSide) (up down : TransitState) (calls : List AwaitedCall) → client ≡ opened_as 1 1 credits client.staging → up ≡ empty_pipe → down ≡ empty_pipe → calls ≡ [] →
-    ((opened : LinkParameters) (l : ℕ) → opened.first_xid ≡ 1 → opened.first_stag ≡ 1 → opened.wished ≡ credits → RequesterRepresents opened l client []) → end_of server ≡ None →
-    ((opened : LinkParameters) (l : ℕ) → opened.granted ≡ credits → ResponderRepresents opened l [] server) → IsFresh number credits (link_view number client server up down false 0 calls)
+    ((opened : LinkParameters) (l : ℕ) → opened.first_xid ≡ 1 → opened.first_stag ≡ 1 → ClientOpened opened credits → RequesterRepresents opened l client []) → end_of server ≡ None →
+    ((opened : LinkParameters) (l : ℕ) → ServerOpened opened credits → ResponderRepresents opened l [] server) → IsFresh number credits (link_view number client server up down false 0 calls)
 fresh_link number credits client server up down calls opened no_up no_down none asks live serves = record {
   number = refl;
   pipes = (λ i. record { up = (no_up i).waiting; down = (no_down i).waiting });

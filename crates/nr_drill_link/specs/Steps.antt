@@ -2,6 +2,7 @@
 use Rattle.std.specs.Prelude.{◌≡◌, ◌≢◌, ℕ, ◌≤◌, List, [], ◌∷◌, ◌++◌, length, None, false}
 use Rattle.std.specs.List.{AllByRecursion}
 use Rattle.nr_wire.specs.declared.hello.Side.TheVariants.{Initiator, Responder}
+use Rattle.nr_reduce.specs.Opening.{ClientOpened, ServerOpened}
 use Rattle.nr_reduce.specs.declared.mark.Mark.{Mark}
 use Rattle.nr_reduce.specs.declared.mark.Mark.TheVariants as marks
 use Rattle.nr_reduce.specs.declared.mark.LinkParameters.{LinkParameters}
@@ -69,8 +70,8 @@ pub record IsFresh (link credits : ℕ) (v : DrillLinkState) : Type 0 where
   pub awaited : v.awaited ≡ []
   pub client_live : v.client.state.side.ended ≡ None
   pub server_live : end_of v.server ≡ None
-  pub client : (opened : LinkParameters) (l : ℕ) → opened.first_xid ≡ 1 → opened.first_stag ≡ 1 → opened.wished ≡ credits → RequesterRepresents opened l v.client []
-  pub server : (opened : LinkParameters) (l : ℕ) → opened.granted ≡ credits → ResponderRepresents opened l [] v.server
+  pub client : (opened : LinkParameters) (l : ℕ) → opened.first_xid ≡ 1 → opened.first_stag ≡ 1 → ClientOpened opened credits → RequesterRepresents opened l v.client []
+  pub server : (opened : LinkParameters) (l : ℕ) → ServerOpened opened credits → ResponderRepresents opened l [] v.server
 
 -- a client was drained: these are all bytes that it had to write
 pub record ClientWrites (before after : RequesterSide) (bytes : List ℕ) : Type 0 where

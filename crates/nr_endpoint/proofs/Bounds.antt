@@ -17,6 +17,7 @@ use Rattle.nr_link.specs.Limits.{open_reads_max}
 use Rattle.nr_link.specs.Output.{read_response}
 use Rattle.nr_link.specs.ReceiveState.{is_send, begun_bytes, read_request_in, send_continued}
 use Rattle.nr_link.specs.SegmentFaults.{ExpectedResponse, is_begun}
+use Rattle.nr_link.specs.declared.agreement.SideTerms.{SideTerms}
 use Rattle.nr_endpoint.specs.SendQueue.{with_end, written}
 use Rattle.nr_endpoint.specs.ReceiveQueue.{DeliveredEvent, ReceiveQueue, with_segment, with_read_done, lent_for, sends_begun, messages_in, receives_kept, message_deliveries}
 use Rattle.nr_endpoint.specs.ReceiveQueue.DeliveredEvent.{MessageReceived, ReadDone}
@@ -210,9 +211,9 @@ unfolding after_calls
 calls_bounded opened link [] may is = is
 calls_bounded opened link (call ∷ calls) may is = calls_bounded opened (after_call link call) calls may.1 (call_bounded opened link call may.0 is)
 
-initial_bounded : (side : Side) (receives first_stag : ℕ) → IsBounded receives (initial_link side receives first_stag).state
+initial_bounded : (side : Side) (receives first_stag : ℕ) (terms : Option SideTerms) → IsBounded receives (initial_link side receives first_stag terms).state
 unfolding initial_link
-initial_bounded side receives first_stag = record { reads = omega arith; responses = omega arith; sum = omega arith; same = refl }
+initial_bounded side receives first_stag terms = record { reads = omega arith; responses = omega arith; sum = omega arith; same = refl }
 
 pub sides_stay_bounded_lem : SidesStayBounded
-sides_stay_bounded_lem side receives first_stag calls may = calls_bounded receives (initial_link side receives first_stag) calls may (initial_bounded side receives first_stag)
+sides_stay_bounded_lem side receives first_stag terms calls may = calls_bounded receives (initial_link side receives first_stag terms) calls may (initial_bounded side receives first_stag terms)

@@ -21,6 +21,7 @@ use Rattle.nr_link.specs.SegmentFaults.{Readiness, SegmentReason, segment_reason
 use Rattle.nr_link.specs.SegmentFaults.SegmentReason.{Reason, NoBuffer, AccessDenied, PeerTerminated}
 use Rattle.nr_link.specs.Ending.{end_of_fault, denied_at, access_of}
 use Rattle.nr_xdr.specs.Fields.{word_at}
+use Rattle.nr_link.specs.declared.agreement.SideTerms.{SideTerms}
 use Rattle.nr_endpoint.specs.LinkState.{LinkState, LinkSide, has_ended, initial_link}
 use Rattle.nr_endpoint.specs.Judging.{readiness, missing_access, segment_end, next_frame, with_frame, with_segment_by, with_fpdu, with_peer_hello, with_effect, with_read_response}
 use Rattle.nr_endpoint.specs.Calls.{Call, IsStopReason, after_call, after_calls}
@@ -309,21 +310,21 @@ calls_caused done link (call ∷ calls) is =
     subst (λ (all : List Call). IfSome (after_calls (after_call link call) calls).state.ended (HasCause all)) (append_assoc done (call ∷ []) calls)
     (calls_caused (done ++ call ∷ []) (after_call link call) calls (call_caused done link call is))
 
-initial_live : (side : Side) (receives first_stag : ℕ) → (initial_link side receives first_stag).state.ended ≡ None
+initial_live : (side : Side) (receives first_stag : ℕ) (terms : Option SideTerms) → (initial_link side receives first_stag terms).state.ended ≡ None
 unfolding initial_link
-initial_live side receives first_stag = refl
+initial_live side receives first_stag terms = refl
 
-cause_of_lem : (side : Side) (receives first_stag : ℕ) (calls : List Call) (end : End) → (after_calls (initial_link side receives first_stag) calls).state.ended ≡ Some end → HasCause calls end
-cause_of_lem side receives first_stag calls end is =
-    let start : LinkSide = initial_link side receives first_stag in
-    subst (λ (e : Option End). IfSome e (HasCause calls)) is (calls_caused [] start calls (not_ended_lem (HasCause []) start.state.ended (initial_live side receives first_stag)))
+cause_of_lem : (side : Side) (receives first_stag : ℕ) (terms : Option SideTerms) (calls : List Call) (end : End) → (after_calls (initial_link side receives first_stag terms) calls).state.ended ≡ Some end → HasCause calls end
+cause_of_lem side receives first_stag terms calls end is =
+    let start : LinkSide = initial_link side receives first_stag terms in
+    subst (λ (e : Option End). IfSome e (HasCause calls)) is (calls_caused [] start calls (not_ended_lem (HasCause []) start.state.ended (initial_live side receives first_stag terms)))
 
 stopped : (calls : List Call) (reason : ℕ) → ((a : Awaited) × IsFrameReason a reason) ⊎ Contains calls (Stop reason) → IsStopReason reason → Contains calls (Stop reason)
 stopped calls reason (inl frame) stops = absurd (no_frame_stops frame.0 reason frame.1 stops)
 stopped calls reason (inr stop) stops = stop
 
 pub others_come_from_stop : OthersComeFromStop
-others_come_from_stop side receives first_stag calls at reason is stops = stopped calls reason (cause_of_lem side receives first_stag calls (ends.Bad at reason) is) stops
+others_come_from_stop side receives first_stag terms calls at reason is stops = stopped calls reason (cause_of_lem side receives first_stag terms calls (ends.Bad at reason) is) stops
 
 pub memory_comes_from_out_of_memory : MemoryComesFromOutOfMemory
-memory_comes_from_out_of_memory side receives first_stag calls is = cause_of_lem side receives first_stag calls ends.Memory is
+memory_comes_from_out_of_memory side receives first_stag terms calls is = cause_of_lem side receives first_stag terms calls ends.Memory is

@@ -13,6 +13,7 @@ use Rattle.nr_wire.proofs.Frames.{whole_from}
 use Rattle.nr_wire.proofs.Feedings.{feeding_after_step-whole, feeding_after_step-partial, feeding_after_step-ended}
 use Rattle.nr_link.specs.declared.end.End.{End}
 use Rattle.nr_link.specs.Frames.{Frame}
+use Rattle.nr_link.specs.declared.agreement.SideTerms.{SideTerms}
 use Rattle.nr_endpoint.specs.FedBytes.{fed_bytes}
 use Rattle.nr_endpoint.specs.ReceiveQueue.{DeliveredEvent, lent_for}
 use Rattle.nr_endpoint.specs.ReceiveQueue.DeliveredEvent.{MessageReceived}
@@ -138,9 +139,9 @@ message_lent before after number invalidated bytes first is =
     let one : lent_for before.state.receive_queue.deliveries ≡ 1 = ap (λ (n : List DeliveredEvent). lent_for n) first in
     omega (arith, lent, one)
 
-pub open_fed : (l : LinkSide) (side : Side) (receives stag : ℕ) → l ≡ initial_link side receives stag → fed_bytes l ≡ 0
+pub open_fed : (l : LinkSide) (side : Side) (receives stag : ℕ) (terms : Option SideTerms) → l ≡ initial_link side receives stag terms → fed_bytes l ≡ 0
 unfolding initial_link
-open_fed l side receives stag is = ap (λ (x : LinkSide). fed_bytes x) is
+open_fed l side receives stag terms is = ap (λ (x : LinkSide). fed_bytes x) is
 
 pub register_fed : (before after : LinkSide) (buf : List ℕ) (right : Right) → after ≡ after_call before (Register buf right) → fed_bytes after ≡ fed_bytes before
 unfolding after_call

@@ -8,6 +8,7 @@ use Rattle.nr_wire.specs.Segment.{segment_of}
 use Rattle.nr_link.specs.declared.end.End.{End}
 use Rattle.nr_link.specs.declared.end.End.TheVariants as ends
 use Rattle.nr_link.specs.Frames.{Frame}
+use Rattle.nr_link.specs.declared.agreement.SideTerms.{SideTerms}
 use Rattle.nr_endpoint.specs.LinkState.{LinkState, LinkSide, has_ended, initial_link}
 use Rattle.nr_endpoint.specs.Judging.{next_frame, with_frame, with_fpdu, with_peer_hello}
 use Rattle.nr_endpoint.specs.Calls.{Call, after_call, after_calls}
@@ -70,10 +71,10 @@ unfolding after_calls
 calls_greeted link [] greeted = greeted
 calls_greeted link (call ∷ calls) greeted = calls_greeted (after_call link call) calls (call_greeted link call greeted)
 
-initial_greeted : (side : Side) (receives first_stag : ℕ) → Greeted (initial_link side receives first_stag).awaited (initial_link side receives first_stag).state
+initial_greeted : (side : Side) (receives first_stag : ℕ) (terms : Option SideTerms) → Greeted (initial_link side receives first_stag terms).awaited (initial_link side receives first_stag terms).state
 unfolding initial_link
-initial_greeted side receives first_stag = λ live is. absurd cc
+initial_greeted side receives first_stag terms = λ live is. absurd cc
 
 pub fpdus_follow_hello : FpdusFollowHello
-fpdus_follow_hello side receives first_stag calls =
-    calls_greeted (initial_link side receives first_stag) calls (initial_greeted side receives first_stag)
+fpdus_follow_hello side receives first_stag terms calls =
+    calls_greeted (initial_link side receives first_stag terms) calls (initial_greeted side receives first_stag terms)

@@ -11,6 +11,7 @@ use Rattle.nr_wire.specs.Hello.{Hello, hello_of}
 use Rattle.nr_wire.specs.Segment.{Segment, segment_of}
 use Rattle.nr_wire.specs.Segment.Segment.{Tagged, Untagged}
 use Rattle.nr_regions.specs.RegisteredMemory.{after_place}
+use Rattle.nr_link.specs.declared.agreement.SideTerms.{SideTerms}
 use Rattle.nr_link.specs.declared.end.End.{End}
 use Rattle.nr_link.specs.declared.end.End.TheVariants as ends
 use Rattle.nr_link.specs.Frames.{Frame}
@@ -29,13 +30,13 @@ awaits_hello (HelloFrom side) = true
 awaits_hello Fpdu = false
 
 -- a side to which the peer's hello didn't come yet, after these bytes were written
-record IsEarly (side : Side) (out : List ℕ) (a : Awaited) (s : LinkState) : Type 0 where
+record IsEarly (side : Side) (terms : Option SideTerms) (out : List ℕ) (a : Awaited) (s : LinkState) : Type 0 where
   pub start : s.place ≡ 0
   pub awaited : has_ended s ≡ false → awaits_hello a ≡ true
-  pub alone : IsHelloAlone side (has_ended s) (out ++ s.send_queue.hello)
+  pub alone : IsHelloAlone side terms (has_ended s) (out ++ s.send_queue.hello)
 
-abbrev Early : Side → List ℕ → Awaited → LinkState → Type 0
-Early side out a s = (s.side ≡ side) × (s.has_hello ≡ false → IsEarly side out a s)
+abbrev Early : Side → Option SideTerms → List ℕ → Awaited → LinkState → Type 0
+Early side terms out a s = (s.side ≡ side) × (s.has_hello ≡ false → IsEarly side terms out a s)
 
 -- ---- A frame
 
@@ -44,26 +45,26 @@ by_reason true = inr (refl, refl)
 by_reason false = inl refl
 
 -- a side that rejects the peer's hello
-rejected : (side : Side) (out hello : List ℕ) (at reason : ℕ) (gone : Bool) → gone ≡ false → IsHelloAlone side gone (out ++ hello) →
-    IsHelloAlone side true (out ++ (hello ++ rejection side (ends.Bad at reason)))
-rejected Initiator out hello at reason gone live alone = ap (λ (xs : List ℕ). out ++ xs) (append-nil hello) ∙ alone
-rejected Responder out hello at reason gone live (inr (ended, is)) = absurd (let h : true ≡ false = sym ended ∙ live in cc)
-rejected Responder out hello at reason gone live (inl none) =
+rejected : (side : Side) (terms : Option SideTerms) (out hello : List ℕ) (at reason : ℕ) (gone : Bool) → gone ≡ false → IsHelloAlone side terms gone (out ++ hello) →
+    IsHelloAlone side terms true (out ++ (hello ++ rejection side (ends.Bad at reason)))
+rejected Initiator terms out hello at reason gone live alone = ap (λ (xs : List ℕ). out ++ xs) (append-nil hello) ∙ alone
+rejected Responder terms out hello at reason gone live (inr (ended, is)) = absurd (let h : true ≡ false = sym ended ∙ live in cc)
+rejected Responder terms out hello at reason gone live (inl none) =
     let same : out ++ (hello ++ cond (eqb reason REASON_FLAGS) refusing_hello []) ≡ cond (eqb reason REASON_FLAGS) refusing_hello [] =
     sym (append_assoc out hello (cond (eqb reason REASON_FLAGS) refusing_hello [])) ∙ ap (λ (xs : List ℕ). xs ++ cond (eqb reason REASON_FLAGS) refusing_hello []) none in
     subst (λ (xs : List ℕ). (xs ≡ []) ⊎ ((true ≡ true) × (xs ≡ refusing_hello))) (sym same) (by_reason (eqb reason REASON_FLAGS))
 
-hello_early : (side : Side) (out : List ℕ) (a : Awaited) (s : LinkState) (f : Frame) (r : Result Hello ℕ) → has_ended s ≡ false → Early side out a s →
-    Early side out Fpdu (with_peer_hello f r s)
+hello_early : (side : Side) (terms : Option SideTerms) (out : List ℕ) (a : Awaited) (s : LinkState) (f : Frame) (r : Result Hello ℕ) → has_ended s ≡ false → Early side terms out a s →
+    Early side terms out Fpdu (with_peer_hello f r s)
 unfolding with_peer_hello with_end
-hello_early side out a s f (Ok hello) live early = (early.0, λ none. absurd (let h : true ≡ false = none in cc))
-hello_early side out a s f (Err reason) live early = (
+hello_early side terms out a s f (Ok hello) live early = (early.0, λ none. absurd (let h : true ≡ false = none in cc))
+hello_early side terms out a s f (Err reason) live early = (
   early.0,
   λ none. record {
     start = (early.1 none).start;
     awaited = λ ended. absurd (let h : true ≡ false = ended in cc);
-    alone = subst (λ (own : Side). IsHelloAlone side true (out ++ (s.send_queue.hello ++ rejection own (ends.Bad f.at reason)))) (sym early.0)
-        (rejected side out s.send_queue.hello f.at reason (has_ended s) live (early.1 none).alone);
+    alone = subst (λ (own : Side). IsHelloAlone side terms true (out ++ (s.send_queue.hello ++ rejection own (ends.Bad f.at reason)))) (sym early.0)
+        (rejected side terms out s.send_queue.hello f.at reason (has_ended s) live (early.1 none).alone);
   },
 )
 
@@ -87,42 +88,42 @@ unfolding with_fpdu
 fpdu_side s f (Ok segment) = segment_side s f segment (segment_end s f segment)
 fpdu_side s f (Err reason) = (refl, refl)
 
-frame_early : (side : Side) (out : List ℕ) (a : Awaited) (s : LinkState) (frame : List ℕ) → has_ended s ≡ false → Early side out a s → Early side out Fpdu (with_frame s a frame)
-frame_early side out (HelloFrom other) s frame live early = hello_early side out (HelloFrom other) s (next_frame s frame) (hello_of other frame) live early
-frame_early side out Fpdu s frame live early =
+frame_early : (side : Side) (terms : Option SideTerms) (out : List ℕ) (a : Awaited) (s : LinkState) (frame : List ℕ) → has_ended s ≡ false → Early side terms out a s → Early side terms out Fpdu (with_frame s a frame)
+frame_early side terms out (HelloFrom other) s frame live early = hello_early side terms out (HelloFrom other) s (next_frame s frame) (hello_of other frame) live early
+frame_early side terms out Fpdu s frame live early =
     let same : SameSide s (with_fpdu (next_frame s frame) (segment_of frame) s) = fpdu_side s (next_frame s frame) (segment_of frame) in
     (same.0 ∙ early.0, λ none. absurd (let h : false ≡ true = (early.1 (sym same.1 ∙ none)).awaited live in cc))
 
 -- ---- A call
 
 -- a call that queues FPDUs at most
-unless_early : (side : Side) (out : List ℕ) (a : Awaited) (s after : LinkState) (b : Bool) → after.side ≡ s.side → after.has_hello ≡ s.has_hello → after.place ≡ s.place →
-    after.ended ≡ s.ended → after.send_queue.hello ≡ s.send_queue.hello → Early side out a s → Early side out a (cond b s after)
-unless_early side out a s after true own has place gone hello early = early
-unless_early side out a s after false own has place gone hello early = (
+unless_early : (side : Side) (terms : Option SideTerms) (out : List ℕ) (a : Awaited) (s after : LinkState) (b : Bool) → after.side ≡ s.side → after.has_hello ≡ s.has_hello → after.place ≡ s.place →
+    after.ended ≡ s.ended → after.send_queue.hello ≡ s.send_queue.hello → Early side terms out a s → Early side terms out a (cond b s after)
+unless_early side terms out a s after true own has place gone hello early = early
+unless_early side terms out a s after false own has place gone hello early = (
   own ∙ early.0,
   λ none.
-      let e : IsEarly side out a s = early.1 (sym has ∙ none) in
+      let e : IsEarly side terms out a s = early.1 (sym has ∙ none) in
       record {
         start = place ∙ e.start;
         awaited = λ live. e.awaited (ap (λ (x : Option End). is_some x) (sym gone) ∙ live);
-        alone = subst (λ (x : Option End). IsHelloAlone side (is_some x) (out ++ after.send_queue.hello)) (sym gone)
-            (subst (λ (xs : List ℕ). IsHelloAlone side (has_ended s) (out ++ xs)) (sym hello) e.alone);
+        alone = subst (λ (x : Option End). IsHelloAlone side terms (is_some x) (out ++ after.send_queue.hello)) (sym gone)
+            (subst (λ (xs : List ℕ). IsHelloAlone side terms (has_ended s) (out ++ xs)) (sym hello) e.alone);
       },
 )
 
-ended_alone : (side : Side) (b : Bool) (bytes : List ℕ) → IsHelloAlone side b bytes → IsHelloAlone side true bytes
-ended_alone Initiator b bytes is = is
-ended_alone Responder b bytes (inl none) = inl none
-ended_alone Responder b bytes (inr (gone, is)) = inr (refl, is)
+ended_alone : (side : Side) (terms : Option SideTerms) (b : Bool) (bytes : List ℕ) → IsHelloAlone side terms b bytes → IsHelloAlone side terms true bytes
+ended_alone Initiator terms b bytes is = is
+ended_alone Responder terms b bytes (inl none) = inl none
+ended_alone Responder terms b bytes (inr (gone, is)) = inr (refl, is)
 
-drained_early : (side : Side) (out : List ℕ) (a : Awaited) (s : LinkState) (n : ℕ) → Early side out a s →
-    Early side (out ++ take n (writable s.has_hello s.send_queue)) a (record s { send_queue = written n s.send_queue })
+drained_early : (side : Side) (terms : Option SideTerms) (out : List ℕ) (a : Awaited) (s : LinkState) (n : ℕ) → Early side terms out a s →
+    Early side terms (out ++ take n (writable s.has_hello s.send_queue)) a (record s { send_queue = written n s.send_queue })
 unfolding written
-drained_early side out a s n early = (
+drained_early side terms out a s n early = (
   early.0,
   λ none.
-      let e : IsEarly side out a s = early.1 none in
+      let e : IsEarly side terms out a s = early.1 none in
       let hello : List ℕ = s.send_queue.hello in
       let all : writable s.has_hello s.send_queue ≡ hello = ap (λ (b : Bool). hello ++ cond b s.send_queue.fpdus []) none ∙ append-nil hello in
       let same : (out ++ take n (writable s.has_hello s.send_queue)) ++ drop n hello ≡ out ++ hello =
@@ -130,60 +131,60 @@ drained_early side out a s n early = (
       record {
         start = e.start;
         awaited = e.awaited;
-        alone = subst (λ (xs : List ℕ). IsHelloAlone side (has_ended s) xs) (sym same) e.alone;
+        alone = subst (λ (xs : List ℕ). IsHelloAlone side terms (has_ended s) xs) (sym same) e.alone;
       },
 )
 
-no_more_lem : (side : Side) (out : List ℕ) (a : Awaited) (s : LinkState) → Early side out a s → Early side (out ++ []) a s
-no_more_lem side out a s early = subst (λ (xs : List ℕ). Early side xs a s) (sym (append-nil out)) early
+no_more_lem : (side : Side) (terms : Option SideTerms) (out : List ℕ) (a : Awaited) (s : LinkState) → Early side terms out a s → Early side terms (out ++ []) a s
+no_more_lem side terms out a s early = subst (λ (xs : List ℕ). Early side terms xs a s) (sym (append-nil out)) early
 
-either_early : (side : Side) (out : List ℕ) (a : Awaited) (s after : LinkState) (b : Bool) → Early side out a s → Early side out a after → Early side out a (cond b s after)
-either_early side out a s after true early later = early
-either_early side out a s after false early later = later
+either_early : (side : Side) (terms : Option SideTerms) (out : List ℕ) (a : Awaited) (s after : LinkState) (b : Bool) → Early side terms out a s → Early side terms out a after → Early side terms out a (cond b s after)
+either_early side terms out a s after true early later = early
+either_early side terms out a s after false early later = later
 
-call_early : (side : Side) (out : List ℕ) (link : LinkSide) (call : Call) → MayBeCalled link call → Early side out link.awaited link.state →
-    Early side (out ++ bytes_drained link call) (after_call link call).awaited (after_call link call).state
+call_early : (side : Side) (terms : Option SideTerms) (out : List ℕ) (link : LinkSide) (call : Call) → MayBeCalled link call → Early side terms out link.awaited link.state →
+    Early side terms (out ++ bytes_drained link call) (after_call link call).awaited (after_call link call).state
 unfolding after_call with_end
-call_early side out link (Feed piece) may early =
-    no_more_lem side out (after_call link (Feed piece)).awaited (after_call link (Feed piece)).state (feed_keeps (Early side out) (frame_early side out) link piece early)
-call_early side out link (FeedOne piece) may early =
-    no_more_lem side out (after_call link (FeedOne piece)).awaited (after_call link (FeedOne piece)).state (feed_one_keeps (Early side out) (frame_early side out) link piece early)
-call_early side out link NextEvent may early = no_more_lem side out link.awaited _ (early.0, λ none. let e = early.1 none in record { start = e.start; awaited = e.awaited; alone = e.alone })
-call_early side out link Post may early = no_more_lem side out link.awaited _ (early.0, λ none. let e = early.1 none in record { start = e.start; awaited = e.awaited; alone = e.alone })
-call_early side out link (Stop reason) may early = no_more_lem side out link.awaited _ (either_early side out link.awaited link.state _ (has_ended link.state) early (early.0, λ none. absurd (let e = early.1 none in omega (arith, may, e.start))))
-call_early side out link OutOfMemory may early = no_more_lem side out link.awaited _ (either_early side out link.awaited link.state _ (has_ended link.state) early (
+call_early side terms out link (Feed piece) may early =
+    no_more_lem side terms out (after_call link (Feed piece)).awaited (after_call link (Feed piece)).state (feed_keeps (Early side terms out) (frame_early side terms out) link piece early)
+call_early side terms out link (FeedOne piece) may early =
+    no_more_lem side terms out (after_call link (FeedOne piece)).awaited (after_call link (FeedOne piece)).state (feed_one_keeps (Early side terms out) (frame_early side terms out) link piece early)
+call_early side terms out link NextEvent may early = no_more_lem side terms out link.awaited _ (early.0, λ none. let e = early.1 none in record { start = e.start; awaited = e.awaited; alone = e.alone })
+call_early side terms out link Post may early = no_more_lem side terms out link.awaited _ (early.0, λ none. let e = early.1 none in record { start = e.start; awaited = e.awaited; alone = e.alone })
+call_early side terms out link (Stop reason) may early = no_more_lem side terms out link.awaited _ (either_early side terms out link.awaited link.state _ (has_ended link.state) early (early.0, λ none. absurd (let e = early.1 none in omega (arith, may, e.start))))
+call_early side terms out link OutOfMemory may early = no_more_lem side terms out link.awaited _ (either_early side terms out link.awaited link.state _ (has_ended link.state) early (
   early.0,
   λ none. let e = early.1 none in record {
     start = e.start;
     awaited = λ ended. absurd (let h : true ≡ false = ended in cc);
-    alone = ended_alone side (has_ended link.state) (out ++ link.state.send_queue.hello) e.alone;
+    alone = ended_alone side terms (has_ended link.state) (out ++ link.state.send_queue.hello) e.alone;
   },
 ))
-call_early side out link (Send message) may early = no_more_lem side out link.awaited _ (unless_early side out link.awaited link.state _ (has_ended link.state) refl refl refl refl refl early)
-call_early side out link (WriteRemote stag to bytes) may early = no_more_lem side out link.awaited _ (unless_early side out link.awaited link.state _ (has_ended link.state) refl refl refl refl refl early)
-call_early side out link (ReadRemote sink at stag to len) may early = no_more_lem side out link.awaited _ (unless_early side out link.awaited link.state _ (has_ended link.state) refl refl refl refl refl early)
-call_early side out link (Drain count) may early = drained_early side out link.awaited link.state count early
-call_early side out link (Register buf right) may early = no_more_lem side out link.awaited _ (early.0, λ none. let e = early.1 none in record { start = e.start; awaited = e.awaited; alone = e.alone })
-call_early side out link (Release stag) may early = no_more_lem side out link.awaited _ (early.0, λ none. let e = early.1 none in record { start = e.start; awaited = e.awaited; alone = e.alone })
+call_early side terms out link (Send message) may early = no_more_lem side terms out link.awaited _ (unless_early side terms out link.awaited link.state _ (has_ended link.state) refl refl refl refl refl early)
+call_early side terms out link (WriteRemote stag to bytes) may early = no_more_lem side terms out link.awaited _ (unless_early side terms out link.awaited link.state _ (has_ended link.state) refl refl refl refl refl early)
+call_early side terms out link (ReadRemote sink at stag to len) may early = no_more_lem side terms out link.awaited _ (unless_early side terms out link.awaited link.state _ (has_ended link.state) refl refl refl refl refl early)
+call_early side terms out link (Drain count) may early = drained_early side terms out link.awaited link.state count early
+call_early side terms out link (Register buf right) may early = no_more_lem side terms out link.awaited _ (early.0, λ none. let e = early.1 none in record { start = e.start; awaited = e.awaited; alone = e.alone })
+call_early side terms out link (Release stag) may early = no_more_lem side terms out link.awaited _ (early.0, λ none. let e = early.1 none in record { start = e.start; awaited = e.awaited; alone = e.alone })
 
-calls_early : (side : Side) (out : List ℕ) (link : LinkSide) (calls : List Call) → MayAllBeCalled link calls → Early side out link.awaited link.state →
-    Early side (out ++ bytes_written link calls) (after_calls link calls).awaited (after_calls link calls).state
+calls_early : (side : Side) (terms : Option SideTerms) (out : List ℕ) (link : LinkSide) (calls : List Call) → MayAllBeCalled link calls → Early side terms out link.awaited link.state →
+    Early side terms (out ++ bytes_written link calls) (after_calls link calls).awaited (after_calls link calls).state
 unfolding after_calls
-calls_early side out link [] may early = no_more_lem side out link.awaited link.state early
-calls_early side out link (call ∷ calls) may early =
-    subst (λ (xs : List ℕ). Early side xs (after_calls (after_call link call) calls).awaited (after_calls (after_call link call) calls).state)
+calls_early side terms out link [] may early = no_more_lem side terms out link.awaited link.state early
+calls_early side terms out link (call ∷ calls) may early =
+    subst (λ (xs : List ℕ). Early side terms xs (after_calls (after_call link call) calls).awaited (after_calls (after_call link call) calls).state)
     (append_assoc out (bytes_drained link call) (bytes_written (after_call link call) calls))
-    (calls_early side (out ++ bytes_drained link call) (after_call link call) calls may.1 (call_early side out link call may.0 early))
+    (calls_early side terms (out ++ bytes_drained link call) (after_call link call) calls may.1 (call_early side terms out link call may.0 early))
 
-initial_early : (side : Side) (receives first_stag : ℕ) → Early side [] (initial_link side receives first_stag).awaited (initial_link side receives first_stag).state
+initial_early : (side : Side) (receives first_stag : ℕ) (terms : Option SideTerms) → Early side terms [] (initial_link side receives first_stag terms).awaited (initial_link side receives first_stag terms).state
 unfolding initial_link
-initial_early Initiator receives first_stag = (refl, λ none. record { start = refl; awaited = λ live. refl; alone = refl })
-initial_early Responder receives first_stag = (refl, λ none. record { start = refl; awaited = λ live. refl; alone = inl refl })
+initial_early Initiator receives first_stag terms = (refl, λ none. record { start = refl; awaited = λ live. refl; alone = refl })
+initial_early Responder receives first_stag terms = (refl, λ none. record { start = refl; awaited = λ live. refl; alone = inl refl })
 
 pub no_fpdu_before_hello_lem : NoFpduBeforeHello
-no_fpdu_before_hello_lem side receives first_stag calls may none =
-    let start : LinkSide = initial_link side receives first_stag in
+no_fpdu_before_hello_lem side receives first_stag terms calls may none =
+    let start : LinkSide = initial_link side receives first_stag terms in
     let s : LinkState = (after_calls start calls).state in
     let all : writable s.has_hello s.send_queue ≡ s.send_queue.hello = ap (λ (b : Bool). s.send_queue.hello ++ cond b s.send_queue.fpdus []) none ∙ append-nil s.send_queue.hello in
-    subst (λ (xs : List ℕ). IsHelloAlone side (has_ended s) (bytes_written start calls ++ xs)) (sym all)
-    ((calls_early side [] start calls may (initial_early side receives first_stag)).1 none).alone
+    subst (λ (xs : List ℕ). IsHelloAlone side terms (has_ended s) (bytes_written start calls ++ xs)) (sym all)
+    ((calls_early side terms [] start calls may (initial_early side receives first_stag terms)).1 none).alone

@@ -21,6 +21,7 @@ use Rattle.nr_link.specs.Ending.{final_output}
 use Rattle.nr_link.specs.Limits.{open_reads_max}
 use Rattle.nr_link.specs.Output.{read_request, read_response, write}
 use Rattle.nr_link.specs.ReceiveState.{ReadRequest, read_request_of}
+use Rattle.nr_link.specs.declared.agreement.SideTerms.{SideTerms}
 use Rattle.nr_endpoint.specs.SendQueue.{SendQueue, ends_left, next_number, send_output, with_send, with_write, with_request, with_end, written}
 use Rattle.nr_endpoint.specs.ReceiveQueue.{receives_kept}
 use Rattle.nr_endpoint.specs.LinkState.{LinkState, LinkSide, has_ended, initial_link}
@@ -176,12 +177,12 @@ unfolding after_calls
 calls_send link [] fit = fit
 calls_send link (call ∷ calls) fit = calls_send (after_call link call) calls (call_sends link call fit)
 
-initial_sends : (side : Side) (receives first_stag : ℕ) → SendsFit (initial_link side receives first_stag).state.send_queue
+initial_sends : (side : Side) (receives first_stag : ℕ) (terms : Option SideTerms) → SendsFit (initial_link side receives first_stag terms).state.send_queue
 unfolding initial_link
-initial_sends side receives first_stag = (omega arith, λ k. omega arith)
+initial_sends side receives first_stag terms = (omega arith, λ k. omega arith)
 
 pub waiting_sends_have_bytes : WaitingSendsHaveBytes
-waiting_sends_have_bytes side receives first_stag calls = (calls_send (initial_link side receives first_stag) calls (initial_sends side receives first_stag)).0
+waiting_sends_have_bytes side receives first_stag terms calls = (calls_send (initial_link side receives first_stag terms) calls (initial_sends side receives first_stag terms)).0
 
 -- n regions are held before a call, and m after it
 abbrev Moves : LinkSide → Call → ℕ → Type 0
@@ -232,10 +233,10 @@ calls_count link (call ∷ calls) n may counts =
     let moved = call_counts link call n may.0 counts in
     omega (arith, moved.2, calls_count (after_call link call) calls moved.0 may.1 moved.1)
 
-initial_counts : (side : Side) (receives first_stag : ℕ) → Counts 0 (initial_link side receives first_stag).state.memory
+initial_counts : (side : Side) (receives first_stag : ℕ) (terms : Option SideTerms) → Counts 0 (initial_link side receives first_stag terms).state.memory
 unfolding initial_link initial_memory
-initial_counts side receives first_stag = (λ stag le. ap (λ (o : Option Region). is_some o) (get-empty nat_cmp stag), len-empty nat_cmp Region)
+initial_counts side receives first_stag terms = (λ stag le. ap (λ (o : Option Region). is_some o) (get-empty nat_cmp stag), len-empty nat_cmp Region)
 
 pub held_regions_are_registered : HeldRegionsAreRegistered
-held_regions_are_registered side receives first_stag calls may =
-    omega (arith, calls_count (initial_link side receives first_stag) calls 0 may (initial_counts side receives first_stag))
+held_regions_are_registered side receives first_stag terms calls may =
+    omega (arith, calls_count (initial_link side receives first_stag terms) calls 0 may (initial_counts side receives first_stag terms))

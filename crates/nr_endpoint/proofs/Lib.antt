@@ -16,6 +16,7 @@ pub mod Pieces
 pub mod CutLaws
 pub mod MemoryLaws
 pub mod ReadLaws
+pub mod Agreed
 pub mod AlongFrames
 pub mod HelloLaws
 pub mod HelloFirst
@@ -34,6 +35,7 @@ pub mod OutputItems
 pub mod QueuedItems
 pub mod Bounds
 pub mod KeptLists
+pub mod SidesAgree
 pub mod Received
 pub mod OneDelivery
 pub mod ReceivedEvents

@@ -10,7 +10,7 @@ use Rattle.nr_wire.specs.Segment.Segment.{Untagged}
 use Rattle.nr_wire.specs.Constants.{OPCODE_READ_REQUEST}
 use Rattle.nr_regions.specs.RegisteredMemory.{bytes_at}
 use Rattle.nr_link.specs.ReceiveState.{read_request_in}
-use Rattle.nr_link.specs.Output.{cut, send, segment_count, read_response, terminate_message, own_hello, refusing_hello, read_request}
+use Rattle.nr_link.specs.Output.{cut, send, segment_count, read_response, terminate_message, hello_with, refusing_hello, read_request}
 use Rattle.nr_link.specs.Ending.{final_output, rejection}
 use Rattle.nr_link.specs.declared.end.End.{End}
 use Rattle.nr_endpoint.specs.SendQueue.{SendQueue, output_len, with_hello, with_response, with_end}
@@ -53,9 +53,9 @@ pub request_some : (msn sink at size stag to : ℕ) → 1 ≤ length (read_reque
 unfolding read_request
 request_some msn sink at size stag to = encoding_some _
 
-own_some : (side : Side) → 1 ≤ length (own_hello side)
-unfolding own_hello
-own_some side = hello_some _
+own_some : (side : Side) (private : List ℕ) → 1 ≤ length (hello_with side private)
+unfolding hello_with
+own_some side private = hello_some _
 
 refusing_some : 1 ≤ length refusing_hello
 unfolding refusing_hello
@@ -63,8 +63,8 @@ refusing_some = hello_some _
 
 -- ---- The queue has more output with it
 
-pub hello_queues : (q : SendQueue) → output_len q < output_len (with_hello (reply_hello Responder) q)
-hello_queues q = omega (arith, own_some Responder, length-append q.hello (own_hello Responder))
+pub hello_queues : (private : List ℕ) (q : SendQueue) → output_len q < output_len (with_hello (reply_hello Responder private) q)
+hello_queues private q = omega (arith, own_some Responder private, length-append q.hello (hello_with Responder private))
 
 response_queues : (stag to : ℕ) (bytes : List ℕ) (q : SendQueue) → output_len q < output_len (with_response stag to bytes q)
 response_queues stag to bytes q = omega (arith, response_some stag to bytes, length-append q.fpdus (read_response stag to bytes))

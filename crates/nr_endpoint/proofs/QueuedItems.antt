@@ -15,15 +15,17 @@ use Rattle.nr_wire.specs.Feeding.{feeding_after, feeding_after_step, feeding_aft
 use Rattle.nr_wire.proofs.Feedings.{feeding_after_step-ended, feeding_after_step-whole, feeding_after_step-partial}
 use Rattle.nr_wire.proofs.Splits.{split_whole, split_partial}
 use Rattle.nr_regions.specs.RegisteredMemory.{RegisteredMemory, after_place, bytes_at}
+use Rattle.nr_link.specs.declared.agreement.SideTerms.{SideTerms}
 use Rattle.nr_link.specs.declared.end.End.{End}
 use Rattle.nr_link.specs.declared.end.End.TheVariants as ends
 use Rattle.nr_link.specs.Frames.{Frame}
-use Rattle.nr_link.specs.Output.{own_hello, refusing_hello}
+use Rattle.nr_link.specs.Output.{hello_with, refusing_hello}
 use Rattle.nr_link.specs.ReceiveState.{ReadRequest, read_request_of}
 use Rattle.nr_link.specs.Ending.{rejection}
 use Rattle.nr_link.specs.OutputItem.{OutputItem}
 use Rattle.nr_link.specs.OutputItem.OutputItem.{SendItem, WriteItem, ReadRequestItem, ReadResponseItem, LastItem}
 use Rattle.nr_endpoint.specs.SendQueue.{SendQueue, with_end, with_response, with_send, with_write, with_request, next_number, writable}
+use Rattle.nr_endpoint.specs.Hellos.{own_private, first_private}
 use Rattle.nr_endpoint.specs.LinkState.{LinkState, LinkSide, has_ended, initial_link}
 use Rattle.nr_endpoint.specs.Judging.{segment_end, next_frame, with_frame, with_segment_by, with_fpdu, with_peer_hello, with_effect, with_read_request, with_read_response, reply_hello, fetch_access}
 use Rattle.nr_endpoint.specs.Calls.{Call, IsStopReason, after_call, after_calls}
@@ -74,24 +76,28 @@ last_greeting side end q = record { hello = refl; fpdus = refl; sends = sym (app
 
 -- ---- The hello
 
+-- the hello of a side, by whether the peer's was accepted and why it ended
+abbrev hello_by : LinkState → Bool → Option End → List ℕ
+hello_by s = hello_queued s.side s.terms s.private
+
 -- once the peer's hello was accepted, all of its own was queued
-same_hello : (side : Side) (has : Bool) (e f : Option End) → has ≡ true → hello_queued side has e ≡ hello_queued side has f
-same_hello Initiator has e f is = refl
-same_hello Responder has e f is =
-    ap (λ (b : Bool). cond b (own_hello Responder) (rejection_by Responder e)) is ∙ sym (ap (λ (b : Bool). cond b (own_hello Responder) (rejection_by Responder f)) is)
+same_hello : (side : Side) (terms : Option SideTerms) (private : List ℕ) (has : Bool) (e f : Option End) → has ≡ true → hello_queued side terms private has e ≡ hello_queued side terms private has f
+same_hello Initiator terms private has e f is = refl
+same_hello Responder terms private has e f is =
+    ap (λ (b : Bool). cond b (hello_with Responder private) (rejection_by Responder e)) is ∙ sym (ap (λ (b : Bool). cond b (hello_with Responder private) (rejection_by Responder f)) is)
 
 -- an end with no rejection
-ended_hello : (side : Side) (has : Bool) (end : End) → rejection side end ≡ [] → hello_queued side has (Some end) ≡ hello_queued side has None
-ended_hello Initiator has end none = refl
-ended_hello Responder has end none = ap (λ (bytes : List ℕ). cond has (own_hello Responder) bytes) none
+ended_hello : (side : Side) (terms : Option SideTerms) (private : List ℕ) (has : Bool) (end : End) → rejection side end ≡ [] → hello_queued side terms private has (Some end) ≡ hello_queued side terms private has None
+ended_hello Initiator terms private has end none = refl
+ended_hello Responder terms private has end none = ap (λ (bytes : List ℕ). cond has (hello_with Responder private) bytes) none
 
-replied : (side : Side) → hello_queued side false None ++ reply_hello side ≡ hello_queued side true None
-replied Initiator = append-nil (own_hello Initiator)
-replied Responder = refl
+replied : (side : Side) (terms : Option SideTerms) (before private : List ℕ) → hello_queued side terms before false None ++ reply_hello side private ≡ hello_queued side terms private true None
+replied Initiator terms before private = append-nil (hello_with Initiator (first_private terms Initiator))
+replied Responder terms before private = refl
 
-rejected : (side : Side) (end : End) → hello_queued side false None ++ rejection side end ≡ hello_queued side false (Some end)
-rejected Initiator end = append-nil (own_hello Initiator)
-rejected Responder end = refl
+rejected : (side : Side) (terms : Option SideTerms) (private : List ℕ) (end : End) → hello_queued side terms private false None ++ rejection side end ≡ hello_queued side terms private false (Some end)
+rejected Initiator terms private end = append-nil (hello_with Initiator (first_private terms Initiator))
+rejected Responder terms private end = refl
 
 not_ended_lem : (e : Option End) → is_some e ≡ false → e ≡ None
 not_ended_lem None is = refl
@@ -103,32 +109,32 @@ hello_output : (side : Side) (out : List ℕ) (items : List OutputItem) (s : Lin
     OutputIs out items (HelloFrom side) s → OutputIs out (items ++ hello_items f r) Fpdu (with_peer_hello f r s)
 unfolding with_peer_hello
 hello_output side out items s f (Ok hello) live is =
-    let all : hello_queued s.side s.has_hello s.ended ≡ hello_queued s.side false None = λ i. hello_queued s.side (is.awaits live i) (not_ended_lem s.ended live i) in
-    let before : QueueIs (hello_queued s.side false None) false out items s.send_queue =
-    subst (λ (e : Option End). QueueIs (hello_queued s.side false e) false out items s.send_queue) (not_ended_lem s.ended live)
-    (subst (λ (b : Bool). QueueIs (hello_queued s.side b s.ended) b out items s.send_queue) (is.awaits live) is.queue) in
-    let more : QueueIs (hello_queued s.side false None ++ reply_hello s.side) true out items (record s.send_queue { hello = s.send_queue.hello ++ reply_hello s.side }) =
-    with_greeting (hello_queued s.side false None) (reply_hello s.side) true out items s.send_queue _ refl before in
+    let own : List ℕ = own_private s.terms s.side hello.private in
+    let before : QueueIs (hello_queued s.side s.terms s.private false None) false out items s.send_queue =
+    subst (λ (e : Option End). QueueIs (hello_queued s.side s.terms s.private false e) false out items s.send_queue) (not_ended_lem s.ended live)
+    (subst (λ (b : Bool). QueueIs (hello_queued s.side s.terms s.private b s.ended) b out items s.send_queue) (is.awaits live) is.queue) in
+    let more : QueueIs (hello_queued s.side s.terms s.private false None ++ reply_hello s.side own) true out items (record s.send_queue { hello = s.send_queue.hello ++ reply_hello s.side own }) =
+    with_greeting (hello_queued s.side s.terms s.private false None) (reply_hello s.side own) true out items s.send_queue _ refl before in
     record {
       awaits = λ going. refl;
-      queue = subst (λ (list : List OutputItem). QueueIs (hello_queued s.side true s.ended) true out list (record s.send_queue { hello = s.send_queue.hello ++ reply_hello s.side })) (sym (append-nil items))
-          (subst (λ (bytes : List ℕ). QueueIs bytes true out items (record s.send_queue { hello = s.send_queue.hello ++ reply_hello s.side }))
-          (replied s.side ∙ ap (λ (e : Option End). hello_queued s.side true e) (sym (not_ended_lem s.ended live))) more);
+      queue = subst (λ (list : List OutputItem). QueueIs (hello_queued s.side s.terms own true s.ended) true out list (record s.send_queue { hello = s.send_queue.hello ++ reply_hello s.side own })) (sym (append-nil items))
+          (subst (λ (bytes : List ℕ). QueueIs bytes true out items (record s.send_queue { hello = s.send_queue.hello ++ reply_hello s.side own }))
+          (replied s.side s.terms s.private own ∙ ap (λ (e : Option End). hello_queued s.side s.terms own true e) (sym (not_ended_lem s.ended live))) more);
     }
 hello_output side out items s f (Err reason) live is =
     let end : End = ends.Bad f.at reason in
-    let before : QueueIs (hello_queued s.side false None) false out items s.send_queue =
-    subst (λ (e : Option End). QueueIs (hello_queued s.side false e) false out items s.send_queue) (not_ended_lem s.ended live)
-    (subst (λ (b : Bool). QueueIs (hello_queued s.side b s.ended) b out items s.send_queue) (is.awaits live) is.queue) in
-    let more : QueueIs (hello_queued s.side false None ++ rejection s.side end) false out items (record s.send_queue { hello = s.send_queue.hello ++ rejection s.side end }) =
-    with_greeting (hello_queued s.side false None) (rejection s.side end) false out items s.send_queue _ refl before in
-    let all : QueueIs (hello_queued s.side false (Some end)) false out (items ++ LastItem end ∷ []) (with_end s.side end s.send_queue) =
-    subst (λ (bytes : List ℕ). QueueIs bytes false out (items ++ LastItem end ∷ []) (with_end s.side end s.send_queue)) (rejected s.side end)
-    (with_item (hello_queued s.side false None ++ rejection s.side end) false out items (record s.send_queue { hello = s.send_queue.hello ++ rejection s.side end }) (with_end s.side end s.send_queue) (LastItem end)
+    let before : QueueIs (hello_queued s.side s.terms s.private false None) false out items s.send_queue =
+    subst (λ (e : Option End). QueueIs (hello_queued s.side s.terms s.private false e) false out items s.send_queue) (not_ended_lem s.ended live)
+    (subst (λ (b : Bool). QueueIs (hello_queued s.side s.terms s.private b s.ended) b out items s.send_queue) (is.awaits live) is.queue) in
+    let more : QueueIs (hello_queued s.side s.terms s.private false None ++ rejection s.side end) false out items (record s.send_queue { hello = s.send_queue.hello ++ rejection s.side end }) =
+    with_greeting (hello_queued s.side s.terms s.private false None) (rejection s.side end) false out items s.send_queue _ refl before in
+    let all : QueueIs (hello_queued s.side s.terms s.private false (Some end)) false out (items ++ LastItem end ∷ []) (with_end s.side end s.send_queue) =
+    subst (λ (bytes : List ℕ). QueueIs bytes false out (items ++ LastItem end ∷ []) (with_end s.side end s.send_queue)) (rejected s.side s.terms s.private end)
+    (with_item (hello_queued s.side s.terms s.private false None ++ rejection s.side end) false out items (record s.send_queue { hello = s.send_queue.hello ++ rejection s.side end }) (with_end s.side end s.send_queue) (LastItem end)
     (last_greeting s.side end s.send_queue) more) in
     record {
       awaits = λ going. absurd (let h : true ≡ false = going in cc);
-      queue = subst (λ (b : Bool). QueueIs (hello_queued s.side b (Some end)) b out (items ++ LastItem end ∷ []) (with_end s.side end s.send_queue)) (sym (is.awaits live)) all;
+      queue = subst (λ (b : Bool). QueueIs (hello_queued s.side s.terms s.private b (Some end)) b out (items ++ LastItem end ∷ []) (with_end s.side end s.send_queue)) (sym (is.awaits live)) all;
     }
 
 other_reason : (reason : ℕ) → REASON_FLAGS < reason → cond (eqb reason REASON_FLAGS) refusing_hello [] ≡ []
@@ -146,27 +152,28 @@ no_rejection Responder place ends.Memory is = absurd is
 
 -- a live side that awaits an FPDU ends
 fpdu_ended : (out : List ℕ) (items : List OutputItem) (s : LinkState) (end : End) → has_ended s ≡ false → rejection s.side end ≡ [] → s.has_hello ≡ true →
-    OutputIs out items Fpdu s → QueueIs (hello_queued s.side s.has_hello (Some end)) s.has_hello out (items ++ LastItem end ∷ []) (with_end s.side end s.send_queue)
+    OutputIs out items Fpdu s → QueueIs (hello_queued s.side s.terms s.private s.has_hello (Some end)) s.has_hello out (items ++ LastItem end ∷ []) (with_end s.side end s.send_queue)
 fpdu_ended out items s end live none has is =
-    subst (λ (bytes : List ℕ). QueueIs bytes s.has_hello out (items ++ LastItem end ∷ []) (with_end s.side end s.send_queue)) (same_hello s.side s.has_hello s.ended (Some end) has)
+    subst (λ (bytes : List ℕ). QueueIs bytes s.has_hello out (items ++ LastItem end ∷ []) (with_end s.side end s.send_queue)) (same_hello s.side s.terms s.private s.has_hello s.ended (Some end) has)
     (with_item (own_output_hello s) s.has_hello out items s.send_queue (with_end s.side end s.send_queue) (LastItem end) (last_item_lem s.side end s.send_queue none) is.queue)
 
 -- the fields that an effect keeps, and what it queues
 pub record EffectQueues (s : LinkState) (segment : Segment) (after : LinkState) : Type 0 where
   pub side : after.side ≡ s.side
+  pub own : hello_by after ≡ hello_by s
   pub has : after.has_hello ≡ s.has_hello
   pub ended : after.ended ≡ s.ended
   pub queue : after.send_queue ≡ with_read_request (read_request_of segment) s.memory s.send_queue
 
 placed_queues : (s : LinkState) (b last : Bool) (n : ℕ) (stag to : ℕ) (payload : List ℕ) (opcode : ℕ) → EffectQueues s (Tagged last opcode stag to payload)
     (cond b (with_read_response last n (record s { memory = after_place s.memory stag to payload })) (record s { memory = after_place s.memory stag to payload }))
-placed_queues s true last n stag to payload opcode = record { side = refl; has = refl; ended = refl; queue = refl }
-placed_queues s false last n stag to payload opcode = record { side = refl; has = refl; ended = refl; queue = refl }
+placed_queues s true last n stag to payload opcode = record { side = refl; own = refl; has = refl; ended = refl; queue = refl }
+placed_queues s false last n stag to payload opcode = record { side = refl; own = refl; has = refl; ended = refl; queue = refl }
 
 pub effect_queues : (s : LinkState) (segment : Segment) → EffectQueues s segment (with_effect segment s)
 unfolding with_effect
 effect_queues s (Tagged last opcode stag to payload) = placed_queues s (eqb opcode OPCODE_READ_RESPONSE) last (length payload) stag to payload opcode
-effect_queues s (Untagged last opcode w queue msn offset payload) = record { side = refl; has = refl; ended = refl; queue = refl }
+effect_queues s (Untagged last opcode w queue msn offset payload) = record { side = refl; own = refl; has = refl; ended = refl; queue = refl }
 
 response_queue : (all : List ℕ) (has : Bool) (out : List ℕ) (items : List OutputItem) (m : RegisteredMemory) (q : SendQueue) (r : Option ReadRequest) → QueueIs all has out items q →
     QueueIs all has out (items ++ response_items m r) (with_read_request r m q)
@@ -185,13 +192,13 @@ segment_output out items s f segment None live of_frame is =
     let e : EffectQueues s segment (with_effect segment s) = effect_queues s segment in
     record {
       awaits = λ going. e.has ∙ is.awaits live;
-      queue = subst (λ (q : SendQueue). QueueIs (hello_queued (with_effect segment s).side (with_effect segment s).has_hello (with_effect segment s).ended) (with_effect segment s).has_hello out
+      queue = subst (λ (q : SendQueue). QueueIs (hello_by (with_effect segment s) (with_effect segment s).has_hello (with_effect segment s).ended) (with_effect segment s).has_hello out
           (items ++ response_items s.memory (read_request_of segment)) q) (sym e.queue)
-          (subst (λ (k : Side). QueueIs (hello_queued k (with_effect segment s).has_hello (with_effect segment s).ended) (with_effect segment s).has_hello out
-          (items ++ response_items s.memory (read_request_of segment)) (with_read_request (read_request_of segment) s.memory s.send_queue)) (sym e.side)
-          (subst (λ (b : Bool). QueueIs (hello_queued s.side b (with_effect segment s).ended) b out
+          (subst (λ (k : Bool → Option End → List ℕ). QueueIs (k (with_effect segment s).has_hello (with_effect segment s).ended) (with_effect segment s).has_hello out
+          (items ++ response_items s.memory (read_request_of segment)) (with_read_request (read_request_of segment) s.memory s.send_queue)) (sym e.own)
+          (subst (λ (b : Bool). QueueIs (hello_by s b (with_effect segment s).ended) b out
           (items ++ response_items s.memory (read_request_of segment)) (with_read_request (read_request_of segment) s.memory s.send_queue)) (sym e.has)
-          (subst (λ (x : Option End). QueueIs (hello_queued s.side s.has_hello x) s.has_hello out
+          (subst (λ (x : Option End). QueueIs (hello_queued s.side s.terms s.private s.has_hello x) s.has_hello out
           (items ++ response_items s.memory (read_request_of segment)) (with_read_request (read_request_of segment) s.memory s.send_queue)) (sym e.ended)
           (response_queue (own_output_hello s) s.has_hello out items s.memory s.send_queue (read_request_of segment) is.queue))));
     }
@@ -266,14 +273,14 @@ step_output out items link piece false true is w holds =
 -- ---- A call
 
 -- a call that queues one item unless the side has ended
-unless_queues : (out : List ℕ) (items : List OutputItem) (a : Awaited) (s after : LinkState) (item : OutputItem) (b : Bool) → after.side ≡ s.side → after.has_hello ≡ s.has_hello → after.ended ≡ s.ended →
+unless_queues : (out : List ℕ) (items : List OutputItem) (a : Awaited) (s after : LinkState) (item : OutputItem) (b : Bool) → hello_by after ≡ hello_by s → after.has_hello ≡ s.has_hello → after.ended ≡ s.ended →
     HasItem s.send_queue item after.send_queue → OutputIs out items a s → OutputIs out (items ++ cond b [] (item ∷ [])) a (cond b s after)
 unless_queues out items a s after item true own has ended more is = subst (λ (list : List OutputItem). OutputIs out list a s) (sym (append-nil items)) is
 unless_queues out items a s after item false own has ended more is = record {
   awaits = λ going. has ∙ is.awaits (ap (λ (x : Option End). is_some x) (sym ended) ∙ going);
-  queue = subst (λ (k : Side). QueueIs (hello_queued k after.has_hello after.ended) after.has_hello out (items ++ item ∷ []) after.send_queue) (sym own)
-      (subst (λ (b : Bool). QueueIs (hello_queued s.side b after.ended) b out (items ++ item ∷ []) after.send_queue) (sym has)
-      (subst (λ (x : Option End). QueueIs (hello_queued s.side s.has_hello x) s.has_hello out (items ++ item ∷ []) after.send_queue) (sym ended)
+  queue = subst (λ (k : Bool → Option End → List ℕ). QueueIs (k after.has_hello after.ended) after.has_hello out (items ++ item ∷ []) after.send_queue) (sym own)
+      (subst (λ (b : Bool). QueueIs (hello_queued s.side s.terms s.private b after.ended) b out (items ++ item ∷ []) after.send_queue) (sym has)
+      (subst (λ (x : Option End). QueueIs (hello_queued s.side s.terms s.private s.has_hello x) s.has_hello out (items ++ item ∷ []) after.send_queue) (sym ended)
       (with_item (own_output_hello s) s.has_hello out items s.send_queue after.send_queue item more is.queue)));
 }
 
@@ -299,7 +306,7 @@ stop_output : (out : List ℕ) (items : List OutputItem) (a : Awaited) (s : Link
 stop_output out items a s end none live is = record {
   awaits = λ going. absurd (let h : true ≡ false = going in cc);
   queue = subst (λ (bytes : List ℕ). QueueIs bytes s.has_hello out (items ++ LastItem end ∷ []) (with_end s.side end s.send_queue))
-      (ap (λ (x : Option End). hello_queued s.side s.has_hello x) (not_ended_lem s.ended live) ∙ sym (ended_hello s.side s.has_hello end none))
+      (ap (λ (x : Option End). hello_queued s.side s.terms s.private s.has_hello x) (not_ended_lem s.ended live) ∙ sym (ended_hello s.side s.terms s.private s.has_hello end none))
       (with_item (own_output_hello s) s.has_hello out items s.send_queue (with_end s.side end s.send_queue) (LastItem end) (last_item_lem s.side end s.send_queue none) is.queue);
 }
 
@@ -312,7 +319,7 @@ memory_output : (out : List ℕ) (items : List OutputItem) (a : Awaited) (s : Li
 memory_output out items a s live is = subst (λ (list : List OutputItem). OutputIs out list a (record s { ended = Some ends.Memory })) (sym (append-nil items)) (record {
   awaits = λ going. absurd (let h : true ≡ false = going in cc);
   queue = subst (λ (bytes : List ℕ). QueueIs bytes s.has_hello out items s.send_queue)
-      (ap (λ (x : Option End). hello_queued s.side s.has_hello x) (not_ended_lem s.ended live) ∙ sym (ended_hello s.side s.has_hello ends.Memory (no_memory_rejection s.side))) is.queue;
+      (ap (λ (x : Option End). hello_queued s.side s.terms s.private s.has_hello x) (not_ended_lem s.ended live) ∙ sym (ended_hello s.side s.terms s.private s.has_hello ends.Memory (no_memory_rejection s.side))) is.queue;
 })
 
 abbrev no_items_lem : List OutputItem
@@ -377,41 +384,41 @@ calls_keep out items link (call ∷ calls) may is =
     (append_assoc items (call_items link call) (items_queued (after_call link call) calls))
     (calls_keep (out ++ bytes_drained link call) (items ++ call_items link call) (after_call link call) calls may.1 (call_keeps out items link call may.0 is)))
 
-initial_output : (side : Side) (receives first_stag : ℕ) → Along [] [] (initial_link side receives first_stag)
+initial_output : (side : Side) (receives first_stag : ℕ) (terms : Option SideTerms) → Along [] [] (initial_link side receives first_stag terms)
 unfolding initial_link
-initial_output Initiator receives first_stag = record {
+initial_output Initiator receives first_stag terms = record {
   awaits = λ live. refl;
   queue = record { greeted = 0; gone = 0; hello = refl; fpdus = refl; written = refl; within = omega arith; order = inl refl; early = λ none. (refl, omega arith); sends = refl; responses = refl; left = refl };
 }
-initial_output Responder receives first_stag = record {
+initial_output Responder receives first_stag terms = record {
   awaits = λ live. refl;
   queue = record { greeted = 0; gone = 0; hello = refl; fpdus = refl; written = refl; within = omega arith; order = inl refl; early = λ none. (refl, omega arith); sends = refl; responses = refl; left = refl };
 }
 
-output_of : (side : Side) (receives first_stag : ℕ) (calls : List Call) → AreAllowedCalls (initial_link side receives first_stag) calls →
-    Along (bytes_written (initial_link side receives first_stag) calls) (items_queued (initial_link side receives first_stag) calls) (after_calls (initial_link side receives first_stag) calls)
-output_of side receives first_stag calls may = calls_keep [] [] (initial_link side receives first_stag) calls may (initial_output side receives first_stag)
+output_of : (side : Side) (receives first_stag : ℕ) (terms : Option SideTerms) (calls : List Call) → AreAllowedCalls (initial_link side receives first_stag terms) calls →
+    Along (bytes_written (initial_link side receives first_stag terms) calls) (items_queued (initial_link side receives first_stag terms) calls) (after_calls (initial_link side receives first_stag terms) calls)
+output_of side receives first_stag terms calls may = calls_keep [] [] (initial_link side receives first_stag terms) calls may (initial_output side receives first_stag terms)
 
 pub output_is_items_lem : OutputIsItems
-output_is_items_lem side receives first_stag calls may =
-    output_whole (own_output_hello (after_calls (initial_link side receives first_stag) calls).state) (after_calls (initial_link side receives first_stag) calls).state.has_hello
-    (bytes_written (initial_link side receives first_stag) calls) (items_queued (initial_link side receives first_stag) calls) (after_calls (initial_link side receives first_stag) calls).state.send_queue
-    (output_of side receives first_stag calls may).queue
+output_is_items_lem side receives first_stag terms calls may =
+    output_whole (own_output_hello (after_calls (initial_link side receives first_stag terms) calls).state) (after_calls (initial_link side receives first_stag terms) calls).state.has_hello
+    (bytes_written (initial_link side receives first_stag terms) calls) (items_queued (initial_link side receives first_stag terms) calls) (after_calls (initial_link side receives first_stag terms) calls).state.send_queue
+    (output_of side receives first_stag terms calls may).queue
 
 pub sends_go_by_items : SendsGoByItems
-sends_go_by_items side receives first_stag calls may =
-    sends_count (own_output_hello (after_calls (initial_link side receives first_stag) calls).state) (after_calls (initial_link side receives first_stag) calls).state.has_hello
-    (bytes_written (initial_link side receives first_stag) calls) (items_queued (initial_link side receives first_stag) calls) (after_calls (initial_link side receives first_stag) calls).state.send_queue
-    (output_of side receives first_stag calls may).queue
+sends_go_by_items side receives first_stag terms calls may =
+    sends_count (own_output_hello (after_calls (initial_link side receives first_stag terms) calls).state) (after_calls (initial_link side receives first_stag terms) calls).state.has_hello
+    (bytes_written (initial_link side receives first_stag terms) calls) (items_queued (initial_link side receives first_stag terms) calls) (after_calls (initial_link side receives first_stag terms) calls).state.send_queue
+    (output_of side receives first_stag terms calls may).queue
 
 pub responses_go_by_items : ResponsesGoByItems
-responses_go_by_items side receives first_stag calls may =
-    responses_count (own_output_hello (after_calls (initial_link side receives first_stag) calls).state) (after_calls (initial_link side receives first_stag) calls).state.has_hello
-    (bytes_written (initial_link side receives first_stag) calls) (items_queued (initial_link side receives first_stag) calls) (after_calls (initial_link side receives first_stag) calls).state.send_queue
-    (output_of side receives first_stag calls may).queue
+responses_go_by_items side receives first_stag terms calls may =
+    responses_count (own_output_hello (after_calls (initial_link side receives first_stag terms) calls).state) (after_calls (initial_link side receives first_stag terms) calls).state.has_hello
+    (bytes_written (initial_link side receives first_stag terms) calls) (items_queued (initial_link side receives first_stag terms) calls) (after_calls (initial_link side receives first_stag terms) calls).state.send_queue
+    (output_of side receives first_stag terms calls may).queue
 
 pub sends_wait_by_items : SendsWaitByItems
-sends_wait_by_items side receives first_stag calls may =
-    waiting_count (own_output_hello (after_calls (initial_link side receives first_stag) calls).state) (after_calls (initial_link side receives first_stag) calls).state.has_hello
-    (bytes_written (initial_link side receives first_stag) calls) (items_queued (initial_link side receives first_stag) calls) (after_calls (initial_link side receives first_stag) calls).state.send_queue
-    (output_of side receives first_stag calls may).queue
+sends_wait_by_items side receives first_stag terms calls may =
+    waiting_count (own_output_hello (after_calls (initial_link side receives first_stag terms) calls).state) (after_calls (initial_link side receives first_stag terms) calls).state.has_hello
+    (bytes_written (initial_link side receives first_stag terms) calls) (items_queued (initial_link side receives first_stag terms) calls) (after_calls (initial_link side receives first_stag terms) calls).state.send_queue
+    (output_of side receives first_stag terms calls may).queue

@@ -1,5 +1,5 @@
 -- A receive queue after one more segment, and after an event was delivered.
-use Rattle.std.proofs.Common.{◌≡◌, ℕ, ◌+◌, ◌-◌, Bool, true, not, if◌then◌else◌, List, [], ◌∷◌, ◌++◌, drop, None, sym, ap, arith}
+use Rattle.std.proofs.Common.{◌≡◌, ℕ, ◌+◌, ◌-◌, Bool, true, false, cond, not, if◌then◌else◌, List, [], ◌∷◌, ◌++◌, drop, None, refl, sym, ap, arith}
 use Rattle.std.proofs.lemmas.List.{append-nil}
 use Rattle.nr_wire.specs.Segment.Segment.{Untagged}
 use Rattle.nr_wire.specs.Constants.{OPCODE_SEND, OPCODE_READ_REQUEST}
@@ -37,3 +37,8 @@ read_told q left is =
     let lent : q.lent ≡ q.lent + lent_for q.deliveries = omega (arith, none) in
     let rest : left ≡ drop 1 q.deliveries = ap (drop 1) (sym is) in
     λ i. record { receives = q.receives; receive_length = q.receive_length; received = q.received; free = q.free; lent = lent i; deliveries = rest i }
+
+-- a delivery changes no receive
+pub same_length : (b : Bool) (q : ReceiveQueue) → (cond b (delivered q) q).receive_length ≡ q.receive_length
+same_length true q = refl
+same_length false q = refl

@@ -6,7 +6,7 @@ use Rattle.nr_link.specs.SegmentFaults.{ExpectedResponse}
 use Rattle.nr_endpoint.specs.declared.requests.RemoteRead.{RemoteRead}
 use Rattle.nr_endpoint.specs.SendQueue.{SendQueue, next_number, with_send, with_request}
 use Rattle.nr_endpoint.specs.LinkState.{LinkSide, LinkState, has_ended}
-use Rattle.nr_endpoint.specs.Calls.{Call, after_call, after_calls, with_state, unless_ended}
+use Rattle.nr_endpoint.specs.Calls.{Call, after_call, after_calls, with_state}
 use Rattle.nr_endpoint.specs.Calls.Call.{Send}
 use Rattle.nr_endpoint.specs.Requesting.{after_reads, after_send_reads, last_request_after, read_call, read_calls, requests_output, response_of, send_read_calls, with_read_requests}
 

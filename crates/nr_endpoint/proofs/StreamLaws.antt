@@ -14,6 +14,7 @@ use Rattle.nr_link.specs.declared.end.End.{End}
 use Rattle.nr_link.specs.Frames.{Frame}
 use Rattle.nr_link.specs.Input.{InputState, input_of, input_after}
 use Rattle.nr_link.proofs.Inputs.{input_of_append, input_of_none}
+use Rattle.nr_link.specs.declared.agreement.SideTerms.{SideTerms}
 use Rattle.nr_endpoint.specs.LinkState.{LinkState, LinkSide, has_ended, peer, initial_link}
 use Rattle.nr_endpoint.specs.Judging.{segment_end, next_frame, with_frame, with_segment_by, with_fpdu, with_peer_hello}
 use Rattle.nr_endpoint.specs.Calls.{Call, after_call, after_calls}
@@ -191,19 +192,19 @@ calls_fed from link bytes (call ∷ calls) fed =
     subst (λ (x : List ℕ). IsFed from (after_calls (after_call link call) calls) x) (append_assoc bytes (bytes_in_call link call) (bytes_fed (after_call link call) calls))
     (calls_fed from (after_call link call) (bytes ++ bytes_in_call link call) calls (call_fed from link bytes call fed))
 
-initial_fed : (side : Side) (receives first_stag : ℕ) → IsFed (peer side) (initial_link side receives first_stag) []
+initial_fed : (side : Side) (receives first_stag : ℕ) (terms : Option SideTerms) → IsFed (peer side) (initial_link side receives first_stag terms) []
 unfolding initial_link
-initial_fed side receives first_stag = record {
-  keeps = λ live. subst (KeepsInput (initial_link side receives first_stag)) (sym (input_of_none (peer side))) (record { awaited = refl; rest = refl; place = refl });
+initial_fed side receives first_stag terms = record {
+  keeps = λ live. subst (KeepsInput (initial_link side receives first_stag terms)) (sym (input_of_none (peer side))) (record { awaited = refl; rest = refl; place = refl });
   within = omega arith;
 }
 
-pub stream_fed : (side : Side) (receives first_stag : ℕ) (calls : List Call) →
-    IsFed (peer side) (after_calls (initial_link side receives first_stag) calls) (bytes_fed (initial_link side receives first_stag) calls)
-stream_fed side receives first_stag calls = calls_fed (peer side) (initial_link side receives first_stag) [] calls (initial_fed side receives first_stag)
+pub stream_fed : (side : Side) (receives first_stag : ℕ) (terms : Option SideTerms) (calls : List Call) →
+    IsFed (peer side) (after_calls (initial_link side receives first_stag terms) calls) (bytes_fed (initial_link side receives first_stag terms) calls)
+stream_fed side receives first_stag terms calls = calls_fed (peer side) (initial_link side receives first_stag terms) [] calls (initial_fed side receives first_stag terms)
 
 pub stream_is_kept_lem : StreamIsKept
-stream_is_kept_lem side receives first_stag calls = (stream_fed side receives first_stag calls).keeps
+stream_is_kept_lem side receives first_stag terms calls = (stream_fed side receives first_stag terms calls).keeps
 
 pub place_is_fed : PlaceIsFed
-place_is_fed side receives first_stag calls = (stream_fed side receives first_stag calls).within
+place_is_fed side receives first_stag terms calls = (stream_fed side receives first_stag terms calls).within

@@ -3,6 +3,7 @@ use Rattle.std.proofs.Common.{◌≡◌, ℕ, ◌+◌, ◌-◌, ◌≤◌, Bool,
 use Rattle.std.proofs.lemmas.List.{length-take, length-replicate}
 use Rattle.nr_wire.specs.Constants.{OPCODE_READ_REQUEST, OPCODE_SEND}
 use Rattle.nr_wire.specs.Segment.Segment.{Untagged}
+use Rattle.nr_link.specs.declared.agreement.SideTerms.{SideTerms}
 use Rattle.nr_link.specs.ReceiveState.{ReadRequest, begun_bytes, read_request_in}
 use Rattle.nr_regions.specs.RegisteredMemory.{bytes_at}
 use Rattle.nr_endpoint.specs.SendQueue.{SendQueue, with_response}
@@ -16,17 +17,17 @@ use Rattle.nr_endpoint.specs.Counted.{IsCounted}
 kept_len : (n : ℕ) (bytes : List ℕ) → length (kept_within n bytes) ≡ length bytes
 kept_len n bytes = omega (arith, length-append (take n bytes) (replicate (length bytes - n) 0), length-take n bytes, length-replicate {A = ℕ} (length bytes - n) 0)
 
-pub counted_send : (greeted : Bool) (q : ReceiveQueue) (last : Bool) (payload : List ℕ) (place most n : ℕ) → IsCounted greeted q place most → length payload + 1 ≤ n →
-    IsCounted greeted (with_segment (Untagged last OPCODE_SEND 0 0 0 0 payload) q) (place + n) most
+pub counted_send : (terms : Option SideTerms) (greeted : Bool) (q : ReceiveQueue) (last : Bool) (payload : List ℕ) (place most n : ℕ) → IsCounted terms greeted q place most → length payload + 1 ≤ n →
+    IsCounted terms greeted (with_segment (Untagged last OPCODE_SEND 0 0 0 0 payload) q) (place + n) most
 unfolding with_segment
-counted_send greeted q true payload place most n counted some = record {
+counted_send terms greeted q true payload place most n counted some = record {
   bytes = omega (arith, counted.bytes, some);
   waiting = omega (arith, counted.waiting, some, length-append q.deliveries (MessageReceived (q.received.sends + 1) None (begun_bytes q.received.begun ++ payload) ∷ []));
   greeted = λ h. omega (arith, counted.greeted h);
   receive = counted.receive;
   fits = counted.fits;
 }
-counted_send greeted q false payload place most n counted some = record {
+counted_send terms greeted q false payload place most n counted some = record {
   bytes = omega (arith, counted.bytes, some, kept_len q.receive_length (begun_bytes q.received.begun ++ payload), length-append (begun_bytes q.received.begun) payload);
   waiting = omega (arith, counted.waiting, length-append q.deliveries []);
   greeted = λ h. omega (arith, counted.greeted h);
@@ -38,10 +39,10 @@ kept_same : (n : ℕ) (begun : Option (List ℕ)) → length (begun_bytes (begun
 kept_same n None = refl
 kept_same n (Some bytes) = kept_len n bytes
 
-pub counted_request : (greeted : Bool) (q : ReceiveQueue) (place most n : ℕ) → IsCounted greeted q place most → 1 ≤ n →
-    IsCounted greeted (with_segment (Untagged true OPCODE_READ_REQUEST 0 0 0 0 []) q) (place + n) most
+pub counted_request : (terms : Option SideTerms) (greeted : Bool) (q : ReceiveQueue) (place most n : ℕ) → IsCounted terms greeted q place most → 1 ≤ n →
+    IsCounted terms greeted (with_segment (Untagged true OPCODE_READ_REQUEST 0 0 0 0 []) q) (place + n) most
 unfolding with_segment
-counted_request greeted q place most n counted some = record {
+counted_request terms greeted q place most n counted some = record {
   bytes = omega (arith, counted.bytes, some, kept_same q.receive_length q.received.begun);
   waiting = omega (arith, counted.waiting, length-append q.deliveries []);
   greeted = λ h. omega (arith, counted.greeted h);
@@ -50,19 +51,19 @@ counted_request greeted q place most n counted some = record {
 }
 
 pub took_send : (s : LinkState) (q : ReceiveQueue) (last : Bool) (payload frame : List ℕ) → q ≡ with_segment (Untagged last OPCODE_SEND 0 0 0 0 payload) s.receive_queue →
-    record { side = s.side; has_hello = s.has_hello; last = s.place; place = s.place + length frame; ended = s.ended; receive_queue = q; reads = s.reads; memory = s.memory; send_queue = s.send_queue; message_max = s.message_max }
+    record { side = s.side; has_hello = s.has_hello; last = s.place; place = s.place + length frame; ended = s.ended; receive_queue = q; reads = s.reads; memory = s.memory; send_queue = s.send_queue; terms = s.terms; private = s.private; agreed = s.agreed; message_max = s.message_max }
     ≡ after_frame (next_frame s frame) (with_effect (Untagged last OPCODE_SEND 0 0 0 0 payload) s)
 unfolding with_effect
 took_send s q last payload frame is =
-    λ i. record { side = s.side; has_hello = s.has_hello; last = s.place; place = s.place + length frame; ended = s.ended; receive_queue = is i; reads = s.reads; memory = s.memory; send_queue = s.send_queue; message_max = s.message_max }
+    λ i. record { side = s.side; has_hello = s.has_hello; last = s.place; place = s.place + length frame; ended = s.ended; receive_queue = is i; reads = s.reads; memory = s.memory; send_queue = s.send_queue; terms = s.terms; private = s.private; agreed = s.agreed; message_max = s.message_max }
 
 pub took_request : (s : LinkState) (q : ReceiveQueue) (sends : SendQueue) (r : ReadRequest) (bytes payload frame : List ℕ) → q ≡ with_segment (Untagged true OPCODE_READ_REQUEST 0 0 0 0 []) s.receive_queue →
     sends ≡ with_response r.sink r.sink_to bytes s.send_queue → r ≡ read_request_in payload → bytes ≡ bytes_at s.memory (fetch_access r) →
-    record { side = s.side; has_hello = s.has_hello; last = s.place; place = s.place + length frame; ended = s.ended; receive_queue = q; reads = s.reads; memory = s.memory; send_queue = sends; message_max = s.message_max }
+    record { side = s.side; has_hello = s.has_hello; last = s.place; place = s.place + length frame; ended = s.ended; receive_queue = q; reads = s.reads; memory = s.memory; send_queue = sends; terms = s.terms; private = s.private; agreed = s.agreed; message_max = s.message_max }
     ≡ after_frame (next_frame s frame) (with_effect (Untagged true OPCODE_READ_REQUEST 0 0 0 0 payload) s)
 unfolding with_effect with_segment
 took_request s q sends r bytes payload frame is queued request fetched =
-    (λ i. record { side = s.side; has_hello = s.has_hello; last = s.place; place = s.place + length frame; ended = s.ended; receive_queue = is i; reads = s.reads; memory = s.memory; send_queue = queued i; message_max = s.message_max })
+    (λ i. record { side = s.side; has_hello = s.has_hello; last = s.place; place = s.place + length frame; ended = s.ended; receive_queue = is i; reads = s.reads; memory = s.memory; send_queue = queued i; terms = s.terms; private = s.private; agreed = s.agreed; message_max = s.message_max })
     ∙ (λ i. record {
       side = s.side;
       has_hello = s.has_hello;
@@ -73,6 +74,9 @@ took_request s q sends r bytes payload frame is queued request fetched =
       reads = s.reads;
       memory = s.memory;
       send_queue = with_response r.sink r.sink_to (fetched i) s.send_queue;
+      terms = s.terms;
+      private = s.private;
+      agreed = s.agreed;
       message_max = s.message_max;
     })
     ∙ (λ i. record {
@@ -85,6 +89,9 @@ took_request s q sends r bytes payload frame is queued request fetched =
       reads = s.reads;
       memory = s.memory;
       send_queue = with_response (request i).sink (request i).sink_to (bytes_at s.memory (fetch_access (request i))) s.send_queue;
+      terms = s.terms;
+      private = s.private;
+      agreed = s.agreed;
       message_max = s.message_max;
     })
 

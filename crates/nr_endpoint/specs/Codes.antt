@@ -14,6 +14,8 @@ use Rattle.nr_regions.specs.Windows.{outside_code}
 use Rattle.nr_regions.specs.Code.{memory_code}
 use Rattle.nr_link.specs.declared.end.End.{End}
 use Rattle.nr_link.specs.declared.end.End.TheVariants as ends
+use Rattle.nr_link.specs.declared.agreement.SideTerms.{SideTerms}
+use Rattle.nr_link.specs.declared.agreement.Agreement.{Agreement}
 use Rattle.nr_link.specs.ReceiveState.{ReceiveState}
 use Rattle.nr_link.specs.SegmentFaults.{ExpectedResponse}
 use Rattle.nr_endpoint.specs.SendQueue.{SendQueue}
@@ -122,12 +124,25 @@ send_queue_code =
 abbrev pub read_code : Coded ExpectedResponse
 read_code = code_by (ℕ × (ℕ × ℕ)) (coded× coded_ℕ (coded× coded_ℕ coded_ℕ)) (λ r. (r.sink, (r.at, r.left))) (λ p. record { sink = p.0; at = p.1.0; left = p.1.1 }) (λ _. refl)
 
+abbrev pub terms_code : Coded SideTerms
+terms_code = code_by (ℕ × (ℕ × Bool)) (coded× coded_ℕ (coded× coded_ℕ coded_bool)) (λ t. (t.units, (t.number, t.invalidates))) (λ p. record { units = p.0; number = p.1.0; invalidates = p.1.1 }) (λ _. refl)
+
+abbrev pub agreement_code : Coded Agreement
+agreement_code = code_by (ℕ × (ℕ × Bool)) (coded× coded_ℕ (coded× coded_ℕ coded_bool)) (λ a. (a.up, (a.down, a.invalidates))) (λ p. record { up = p.0; down = p.1.0; invalidates = p.1.1 }) (λ _. refl)
+
+-- what a side says, and what is agreed
+abbrev pub Said : Type 0
+Said = Option SideTerms × (List ℕ × (Agreement × ℕ))
+
+abbrev pub said_code : Coded Said
+said_code = coded× (coded_option terms_code) (coded× (coded_list coded_ℕ) (coded× agreement_code coded_ℕ))
+
 abbrev pub state_code : Coded LinkState
 state_code =
-    code_by (Side × (Bool × (ℕ × (ℕ × (Option End × (ReceiveQueue × (List ExpectedResponse × (RegisteredMemory × (SendQueue × ℕ)))))))))
-    (coded× side_code (coded× coded_bool (coded× coded_ℕ (coded× coded_ℕ (coded× (coded_option end_code) (coded× receive_queue_code (coded× (coded_list read_code) (coded× memory_code (coded× send_queue_code coded_ℕ)))))))))
-    (λ s. (s.side, (s.has_hello, (s.last, (s.place, (s.ended, (s.receive_queue, (s.reads, (s.memory, (s.send_queue, s.message_max))))))))))
-    (λ p. record { side = p.0; has_hello = p.1.0; last = p.1.1.0; place = p.1.1.1.0; ended = p.1.1.1.1.0; receive_queue = p.1.1.1.1.1.0; reads = p.1.1.1.1.1.1.0; memory = p.1.1.1.1.1.1.1.0; send_queue = p.1.1.1.1.1.1.1.1.0; message_max = p.1.1.1.1.1.1.1.1.1 }) (λ _. refl)
+    code_by (Side × (Bool × (ℕ × (ℕ × (Option End × (ReceiveQueue × (List ExpectedResponse × (RegisteredMemory × (SendQueue × Said)))))))))
+    (coded× side_code (coded× coded_bool (coded× coded_ℕ (coded× coded_ℕ (coded× (coded_option end_code) (coded× receive_queue_code (coded× (coded_list read_code) (coded× memory_code (coded× send_queue_code said_code)))))))))
+    (λ s. (s.side, (s.has_hello, (s.last, (s.place, (s.ended, (s.receive_queue, (s.reads, (s.memory, (s.send_queue, (s.terms, (s.private, (s.agreed, s.message_max)))))))))))))
+    (λ p. record { side = p.0; has_hello = p.1.0; last = p.1.1.0; place = p.1.1.1.0; ended = p.1.1.1.1.0; receive_queue = p.1.1.1.1.1.0; reads = p.1.1.1.1.1.1.0; memory = p.1.1.1.1.1.1.1.0; send_queue = p.1.1.1.1.1.1.1.1.0; terms = p.1.1.1.1.1.1.1.1.1.0; private = p.1.1.1.1.1.1.1.1.1.1.0; agreed = p.1.1.1.1.1.1.1.1.1.1.1.0; message_max = p.1.1.1.1.1.1.1.1.1.1.1.1 }) (λ _. refl)
 
 abbrev pub link_code : Coded LinkSide
 link_code =

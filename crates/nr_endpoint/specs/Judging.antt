@@ -15,12 +15,13 @@ use Rattle.nr_regions.specs.RegisteredMemory.{RegisteredMemory, Access, denial, 
 use Rattle.nr_link.specs.declared.end.End.{End}
 use Rattle.nr_link.specs.declared.end.End.TheVariants as ends
 use Rattle.nr_link.specs.Frames.{Frame}
-use Rattle.nr_link.specs.Output.{own_hello}
+use Rattle.nr_link.specs.Output.{hello_with}
 use Rattle.nr_link.specs.ReceiveState.{ReadRequest, read_request_of}
 use Rattle.nr_link.specs.SegmentFaults.{ExpectedResponse, Readiness, segment_reason}
 use Rattle.nr_link.specs.Ending.{access_of, end_of_fault}
 use Rattle.nr_endpoint.specs.SendQueue.{SendQueue, with_hello, with_response, with_end}
 use Rattle.nr_endpoint.specs.ReceiveQueue.{with_segment, with_read_done}
+use Rattle.nr_endpoint.specs.Hellos.{own_private, side_agreement, received_max}
 use Rattle.nr_endpoint.specs.LinkState.{LinkState}
 
 -- ---- What ends the side
@@ -101,12 +102,22 @@ with_fpdu f (Ok segment) s = with_segment_by f segment (segment_end s f segment)
 with_fpdu f (Err reason) s = with_end_of (ends.Bad f.at reason) s
 
 -- A responder answers the initiator's hello by its own (RFC 5044 section 7.1).
-abbrev pub reply_hello : Side → List ℕ
-reply_hello Initiator = []
-reply_hello Responder = own_hello Responder
+abbrev pub reply_hello : Side → (private : List ℕ) → List ℕ
+reply_hello Initiator private = []
+reply_hello Responder private = hello_with Responder private
+
+-- the peer's hello was accepted: what both said is what is agreed
+abbrev pub with_privates : (own heard : List ℕ) → LinkState → LinkState
+with_privates own heard s = record s {
+  has_hello = true;
+  send_queue = with_hello (reply_hello s.side own) s.send_queue;
+  private = own;
+  agreed = side_agreement s.side own heard;
+  message_max = received_max s.side (side_agreement s.side own heard);
+}
 
 unfoldable pub with_peer_hello : Frame → Result Hello ℕ → LinkState → LinkState
-with_peer_hello f (Ok hello) s = after_frame f (record s { has_hello = true; send_queue = with_hello (reply_hello s.side) s.send_queue })
+with_peer_hello f (Ok hello) s = after_frame f (with_privates (own_private s.terms s.side hello.private) hello.private s)
 with_peer_hello f (Err reason) s = with_end_of (ends.Bad f.at reason) s
 
 -- after the next frame

@@ -21,10 +21,12 @@ use Rattle.nr_link.specs.Frames.{Frame}
 use Rattle.nr_link.specs.Input.{InputState, input_of}
 use Rattle.nr_link.specs.ReceiveState.{ReceiveState, message_completed, ReadRequest, read_request_of}
 use Rattle.nr_link.specs.Ending.{tagged_access, final_output, frame_end}
-use Rattle.nr_link.specs.Output.{own_hello, refusing_hello}
+use Rattle.nr_link.specs.Output.{hello_with, refusing_hello}
+use Rattle.nr_link.specs.declared.agreement.SideTerms.{SideTerms}
 use Rattle.nr_endpoint.specs.SendQueue.{SendQueue, with_response, writable, written}
 use Rattle.nr_endpoint.specs.ReceiveQueue.{DeliveredEvent, message_deliveries}
 use Rattle.nr_endpoint.specs.ReceiveQueue.DeliveredEvent.{ReadDone}
+use Rattle.nr_endpoint.specs.Hellos.{first_private}
 use Rattle.nr_endpoint.specs.LinkState.{LinkState, LinkSide, has_ended, peer, initial_link}
 use Rattle.nr_endpoint.specs.Judging.{readiness, segment_end, fetch_access, next_frame, with_frame}
 use Rattle.nr_endpoint.specs.Calls.{Call, IsStopReason, after_call, after_calls}
@@ -53,12 +55,12 @@ EndStays = (link : LinkSide) (piece : List ℕ) → has_ended link.state ≡ tru
 
 -- After any calls a side keeps less than a frame, and a side that has ended keeps no input.
 abbrev pub KeepsLessThanFrame : Type 0
-KeepsLessThanFrame = (side : Side) (receives first_stag : ℕ) (calls : List Call) →
-    IsPartial (after_calls (initial_link side receives first_stag) calls).awaited (after_calls (initial_link side receives first_stag) calls).rest
+KeepsLessThanFrame = (side : Side) (receives first_stag : ℕ) (terms : Option SideTerms) (calls : List Call) →
+    IsPartial (after_calls (initial_link side receives first_stag terms) calls).awaited (after_calls (initial_link side receives first_stag terms) calls).rest
 
 abbrev pub EndedKeepsNothing : Type 0
-EndedKeepsNothing = (side : Side) (receives first_stag : ℕ) (calls : List Call) →
-    has_ended (after_calls (initial_link side receives first_stag) calls).state ≡ true → (after_calls (initial_link side receives first_stag) calls).rest ≡ []
+EndedKeepsNothing = (side : Side) (receives first_stag : ℕ) (terms : Option SideTerms) (calls : List Call) →
+    has_ended (after_calls (initial_link side receives first_stag terms) calls).state ≡ true → (after_calls (initial_link side receives first_stag terms) calls).rest ≡ []
 
 -- ---- What is kept of the stream
 
@@ -89,14 +91,14 @@ pub record KeepsInput (link : LinkSide) (input : InputState) : Type 0 where
 -- Until a side has ended, what it keeps is the rest of the bytes that were fed after their complete frames, and its offset is the end
 -- of these frames.
 abbrev pub StreamIsKept : Type 0
-StreamIsKept = (side : Side) (receives first_stag : ℕ) (calls : List Call) →
-    let start = initial_link side receives first_stag in
+StreamIsKept = (side : Side) (receives first_stag : ℕ) (terms : Option SideTerms) (calls : List Call) →
+    let start = initial_link side receives first_stag terms in
     has_ended (after_calls start calls).state ≡ false → KeepsInput (after_calls start calls) (input_of (peer side) (bytes_fed start calls))
 
 -- Ended or not, its offset and what it keeps are no more than the bytes that were fed.
 abbrev pub PlaceIsFed : Type 0
-PlaceIsFed = (side : Side) (receives first_stag : ℕ) (calls : List Call) →
-    let start = initial_link side receives first_stag in
+PlaceIsFed = (side : Side) (receives first_stag : ℕ) (terms : Option SideTerms) (calls : List Call) →
+    let start = initial_link side receives first_stag terms in
     let link = after_calls start calls in
     link.state.place + length link.rest ≤ length (bytes_fed start calls)
 
@@ -391,16 +393,16 @@ bytes_written link (call ∷ calls) = bytes_drained link call ++ bytes_written (
 
 -- An initiator writes its hello, and a responder nothing, but for the hello with which it rejects a connection and ends
 -- (RFC 5044 section 7.1).
-abbrev pub IsHelloAlone : Side → Bool → List ℕ → Type 0
-IsHelloAlone Initiator ended bytes = bytes ≡ own_hello Initiator
-IsHelloAlone Responder ended bytes = (bytes ≡ []) ⊎ ((ended ≡ true) × (bytes ≡ refusing_hello))
+abbrev pub IsHelloAlone : Side → Option SideTerms → Bool → List ℕ → Type 0
+IsHelloAlone Initiator terms ended bytes = bytes ≡ hello_with Initiator (first_private terms Initiator)
+IsHelloAlone Responder terms ended bytes = (bytes ≡ []) ⊎ ((ended ≡ true) × (bytes ≡ refusing_hello))
 
 -- Until the peer's hello was accepted, that is all that was written and that may be written.
 abbrev pub NoFpduBeforeHello : Type 0
-NoFpduBeforeHello = (side : Side) (receives first_stag : ℕ) (calls : List Call) → MayAllBeCalled (initial_link side receives first_stag) calls →
-    let start = initial_link side receives first_stag in
+NoFpduBeforeHello = (side : Side) (receives first_stag : ℕ) (terms : Option SideTerms) (calls : List Call) → MayAllBeCalled (initial_link side receives first_stag terms) calls →
+    let start = initial_link side receives first_stag terms in
     let s = (after_calls start calls).state in
-    s.has_hello ≡ false → IsHelloAlone side (has_ended s) (bytes_written start calls ++ writable s.has_hello s.send_queue)
+    s.has_hello ≡ false → IsHelloAlone side terms (has_ended s) (bytes_written start calls ++ writable s.has_hello s.send_queue)
 
 -- ---- Why a side ends
 
@@ -426,12 +428,12 @@ NoFrameStops = (a : Awaited) (reason : ℕ) → IsFrameReason a reason → IsSto
 
 -- So a side that ended for such a reason was stopped for it, and a side that ended out of memory ran out of it.
 abbrev pub OthersComeFromStop : Type 0
-OthersComeFromStop = (side : Side) (receives first_stag : ℕ) (calls : List Call) (at reason : ℕ) →
-    (after_calls (initial_link side receives first_stag) calls).state.ended ≡ Some (ends.Bad at reason) → IsStopReason reason → Contains calls (Stop reason)
+OthersComeFromStop = (side : Side) (receives first_stag : ℕ) (terms : Option SideTerms) (calls : List Call) (at reason : ℕ) →
+    (after_calls (initial_link side receives first_stag terms) calls).state.ended ≡ Some (ends.Bad at reason) → IsStopReason reason → Contains calls (Stop reason)
 
 abbrev pub MemoryComesFromOutOfMemory : Type 0
-MemoryComesFromOutOfMemory = (side : Side) (receives first_stag : ℕ) (calls : List Call) →
-    (after_calls (initial_link side receives first_stag) calls).state.ended ≡ Some ends.Memory → Contains calls OutOfMemory
+MemoryComesFromOutOfMemory = (side : Side) (receives first_stag : ℕ) (terms : Option SideTerms) (calls : List Call) →
+    (after_calls (initial_link side receives first_stag terms) calls).state.ended ≡ Some ends.Memory → Contains calls OutOfMemory
 
 -- Grants deny what the memory denies, of each access of a frame that ends here.
 abbrev pub DeniesAlike : RegisteredMemory → List Grant → ℕ → Type 0

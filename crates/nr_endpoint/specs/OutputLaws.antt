@@ -12,13 +12,15 @@ use Rattle.nr_link.specs.declared.end.End.{End}
 use Rattle.nr_link.specs.declared.end.End.TheVariants as ends
 use Rattle.nr_link.specs.Limits.{open_reads_max}
 use Rattle.nr_link.specs.Frames.{Frame}
-use Rattle.nr_link.specs.Output.{own_hello}
+use Rattle.nr_link.specs.Output.{hello_with}
 use Rattle.nr_link.specs.OutputItem.{OutputItem, items_encoding, is_send_item, is_response_item, items_written, items_left}
 use Rattle.nr_link.specs.OutputItem.OutputItem.{SendItem, WriteItem, ReadRequestItem, ReadResponseItem, LastItem}
 use Rattle.nr_link.specs.ReceiveState.{ReadRequest, read_request_of}
 use Rattle.nr_link.specs.Ending.{rejection}
+use Rattle.nr_link.specs.declared.agreement.SideTerms.{SideTerms}
 use Rattle.nr_endpoint.specs.SendQueue.{next_number, writable}
 use Rattle.nr_endpoint.specs.ReceiveQueue.{receives_kept}
+use Rattle.nr_endpoint.specs.Hellos.{first_private}
 use Rattle.nr_endpoint.specs.LinkState.{LinkState, LinkSide, has_ended, initial_link}
 use Rattle.nr_endpoint.specs.Judging.{segment_end, fetch_access, next_frame, with_frame}
 use Rattle.nr_endpoint.specs.Calls.{Call, IsStopReason, after_call, after_calls}
@@ -81,12 +83,12 @@ rejection_by side (Some end) = rejection side end
 
 -- All of its hello that a side has queued: an initiator's is there from the start, a responder's answers that of the initiator, or rejects
 -- the connection (RFC 5044 section 7.1).
-abbrev pub hello_queued : Side → Bool → Option End → List ℕ
-hello_queued Initiator has_hello ended = own_hello Initiator
-hello_queued Responder has_hello ended = if has_hello then own_hello Responder else rejection_by Responder ended
+abbrev pub hello_queued : Side → Option SideTerms → (private : List ℕ) → Bool → Option End → List ℕ
+hello_queued Initiator terms private has_hello ended = hello_with Initiator (first_private terms Initiator)
+hello_queued Responder terms private has_hello ended = if has_hello then hello_with Responder private else rejection_by Responder ended
 
 abbrev pub own_output_hello : LinkState → List ℕ
-own_output_hello s = hello_queued s.side s.has_hello s.ended
+own_output_hello s = hello_queued s.side s.terms s.private s.has_hello s.ended
 
 -- ---- What the calls ask
 
@@ -119,30 +121,30 @@ AllowedCallsJoin = (start : LinkSide) (calls more : List Call) → AreAllowedCal
 
 -- What was written and then what is queued is the hello and then the encodings of the items, in order.
 abbrev pub OutputIsItems : Type 0
-OutputIsItems = (side : Side) (receives first_stag : ℕ) (calls : List Call) → AreAllowedCalls (initial_link side receives first_stag) calls →
-    let start = initial_link side receives first_stag in
+OutputIsItems = (side : Side) (receives first_stag : ℕ) (terms : Option SideTerms) (calls : List Call) → AreAllowedCalls (initial_link side receives first_stag terms) calls →
+    let start = initial_link side receives first_stag terms in
     let s = (after_calls start calls).state in
     bytes_written start calls ++ (s.send_queue.hello ++ s.send_queue.fpdus) ≡ own_output_hello s ++ items_encoding (items_queued start calls)
 
 -- The Sends that have left are those of the items that were written completely, and the Sends that wait and the Read Responses owed are
 -- those that weren't, by the number of bytes written. The count of Sends saturates at 2 ^ 64 - 1.
 abbrev pub SendsGoByItems : Type 0
-SendsGoByItems = (side : Side) (receives first_stag : ℕ) (calls : List Call) → AreAllowedCalls (initial_link side receives first_stag) calls →
-    let start = initial_link side receives first_stag in
+SendsGoByItems = (side : Side) (receives first_stag : ℕ) (terms : Option SideTerms) (calls : List Call) → AreAllowedCalls (initial_link side receives first_stag terms) calls →
+    let start = initial_link side receives first_stag terms in
     let s = (after_calls start calls).state in
     s.send_queue.sends_left
     ≡ min (items_written is_send_item (length (own_output_hello s)) (length (bytes_written start calls)) (items_queued start calls)) (2 ^ 64 - 1)
 
 abbrev pub SendsWaitByItems : Type 0
-SendsWaitByItems = (side : Side) (receives first_stag : ℕ) (calls : List Call) → AreAllowedCalls (initial_link side receives first_stag) calls →
-    let start = initial_link side receives first_stag in
+SendsWaitByItems = (side : Side) (receives first_stag : ℕ) (terms : Option SideTerms) (calls : List Call) → AreAllowedCalls (initial_link side receives first_stag terms) calls →
+    let start = initial_link side receives first_stag terms in
     let s = (after_calls start calls).state in
     length s.send_queue.send_ends
     ≡ items_left is_send_item (length (own_output_hello s)) (length (bytes_written start calls)) (items_queued start calls)
 
 abbrev pub ResponsesGoByItems : Type 0
-ResponsesGoByItems = (side : Side) (receives first_stag : ℕ) (calls : List Call) → AreAllowedCalls (initial_link side receives first_stag) calls →
-    let start = initial_link side receives first_stag in
+ResponsesGoByItems = (side : Side) (receives first_stag : ℕ) (terms : Option SideTerms) (calls : List Call) → AreAllowedCalls (initial_link side receives first_stag terms) calls →
+    let start = initial_link side receives first_stag terms in
     let s = (after_calls start calls).state in
     length s.send_queue.response_ends
     ≡ items_left is_response_item (length (own_output_hello s)) (length (bytes_written start calls)) (items_queued start calls)
@@ -156,11 +158,11 @@ pub record IsBounded (opened : ℕ) (s : LinkState) : Type 0 where
   pub same : s.receive_queue.receives ≡ opened
 
 abbrev pub SidesStayBounded : Type 0
-SidesStayBounded = (side : Side) (receives first_stag : ℕ) (calls : List Call) → AreAllowedCalls (initial_link side receives first_stag) calls →
-    IsBounded receives (after_calls (initial_link side receives first_stag) calls).state
+SidesStayBounded = (side : Side) (receives first_stag : ℕ) (terms : Option SideTerms) (calls : List Call) → AreAllowedCalls (initial_link side receives first_stag terms) calls →
+    IsBounded receives (after_calls (initial_link side receives first_stag terms) calls).state
 
 -- A side that awaits an FPDU and hasn't ended has accepted the peer's hello.
 abbrev pub FpdusFollowHello : Type 0
-FpdusFollowHello = (side : Side) (receives first_stag : ℕ) (calls : List Call) →
-    let link = after_calls (initial_link side receives first_stag) calls in
+FpdusFollowHello = (side : Side) (receives first_stag : ℕ) (terms : Option SideTerms) (calls : List Call) →
+    let link = after_calls (initial_link side receives first_stag terms) calls in
     has_ended link.state ≡ false → link.awaited ≡ Fpdu → link.state.has_hello ≡ true

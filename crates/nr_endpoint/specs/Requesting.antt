@@ -1,5 +1,5 @@
 -- Several Read Requests at once, all or none, after a Send if there is one (RFC 5040 section 4.4).
-use Rattle.std.specs.Prelude.{◌≡◌, ℕ, ◌+◌, ◌^◌, ◌<◌, List, [], ◌∷◌, ◌++◌, map}
+use Rattle.std.specs.Prelude.{ℕ, ◌+◌, ◌^◌, ◌<◌, List, [], ◌∷◌, ◌++◌, map}
 use Rattle.nr_link.specs.Output.{read_request}
 use Rattle.nr_link.specs.SegmentFaults.{ExpectedResponse}
 use Rattle.nr_endpoint.specs.declared.requests.RemoteRead.{RemoteRead}

@@ -4,7 +4,7 @@ use Rattle.std.specs.List.{filter}
 use Rattle.nr_wire.specs.declared.hello.Side.{Side}
 use Rattle.nr_wire.specs.declared.hello.Side.TheVariants.{Initiator, Responder}
 use Rattle.nr_link.specs.declared.end.End.{End}
-use Rattle.nr_link.specs.Output.{msn_word, terminate_message, send, write, read_response, read_request, own_hello}
+use Rattle.nr_link.specs.Output.{msn_word, terminate_message, send, write, read_response, read_request, hello_with}
 use Rattle.nr_link.specs.Ending.{final_output, rejection}
 
 -- The bytes of the hello and of the FPDUs that weren't written yet. For each Send and for each Read Response among the FPDUs, in
@@ -24,12 +24,12 @@ abbrev pub output_len : SendQueue → ℕ
 output_len q = length q.hello + length q.fpdus
 
 -- An initiator has its hello to write from the start.
-abbrev pub first_hello : Side → List ℕ
-first_hello Initiator = own_hello Initiator
-first_hello Responder = []
+abbrev pub first_hello : Side → (private : List ℕ) → List ℕ
+first_hello Initiator private = hello_with Initiator private
+first_hello Responder private = []
 
-abbrev pub initial_queue : Side → SendQueue
-initial_queue side = record { hello = first_hello side; fpdus = []; send_ends = []; response_ends = []; sends_left = 0; last_send = 0; last_request = 0 }
+abbrev pub initial_queue : Side → (private : List ℕ) → SendQueue
+initial_queue side private = record { hello = first_hello side private; fpdus = []; send_ends = []; response_ends = []; sends_left = 0; last_send = 0; last_request = 0 }
 
 -- the number after another (RFC 5041 section 4.3)
 abbrev pub next_number : ℕ → ℕ

@@ -8,7 +8,7 @@ ghost use Rattle.std.specs.FinMap.{get, insert, remove};
 ghost use Rattle.nr_regions.specs.RegisteredMemory.{Claim, IsHeld, buffer_around, bytes_in, bytes_held, claim_of, held_region, nothing_outside, outside_held, outside_window, window_bytes};
 ghost use Rattle.nr_link.specs.declared.end.End.{End};
 ghost use Rattle.nr_link.specs.declared.end.End.TheVariants as ends;
-ghost use Rattle.nr_link.specs.Limits.{send_max, open_reads_max};
+ghost use Rattle.nr_link.specs.Limits.{open_reads_max};
 ghost use Rattle.nr_endpoint.specs.declared.fault.ReadRefused.TheVariants as refusals;
 ghost use Rattle.nr_endpoint.specs.declared.fault.DrainFault.TheVariants as drains;
 ghost use Rattle.nr_endpoint.specs.SendQueue.{writable, output_len};
@@ -29,13 +29,22 @@ use nr_regions::{Regions, Registration, Right, Why};
 use nr_xdr::{Memory, Octets};
 
 impl Endpoint {
+    /// The maximum length of a Send in bytes: from the initiator, and from the responder. The hellos of both sides agree on it; until the
+    /// peer's was accepted, and if one of them says nothing, it is 1,024 in both directions. Takes no memory.
+    pub fn agreed(&self) -> (u32, u32)
+        ensures up { result.0 ≡ self.now.link.state.agreed.up }
+        ensures down { result.1 ≡ self.now.link.state.agreed.down }
+    {
+        (self.link.agreed.up, self.link.agreed.down)
+    }
+
     /// Takes the next event; `None` if and only if none waits. It comes after all tagged segments that arrived before it. Takes no memory.
     pub fn next_event(&mut self) -> Option<Event>
         // The events are delivered in order, each only after bytes came, so `stop` may be called with it.
         ensures event { self.old.link.state.receive_queue.deliveries ≡ option_to_list (option_map delivery result) ++ self.new.link.state.receive_queue.deliveries }
         ensures waits { is_some result ≡ nat_lt 0 (length self.old.link.state.receive_queue.deliveries) }
         ensures place { is_some result ≡ true → 0 < self.new.link.state.place }
-        ensures buffer { IfSome result (HasBuffer send_max) }
+        ensures buffer { IfSome result (HasBuffer self.new.link.state.receive_queue.receive_length) }
         ensures state { self.new.link ≡ (if is_some result then after_call self.old.link NextEvent else self.old.link) }
         ensures stands { is_some result ≡ true → StandsOn self.old.link NextEvent self.new.link }
         ensures room { self.new.room ≡ self.old.room }
@@ -49,7 +58,7 @@ impl Endpoint {
     /// A buffer that an event lent is a receive again. Takes no memory.
     pub fn post(&mut self, buf: Octets)
         requires lent { 0 < self.old.link.state.receive_queue.lent }
-        requires len { length buf ≡ send_max }
+        requires len { length buf ≡ self.old.link.state.receive_queue.receive_length }
         ensures state { self.new.link ≡ after_call self.old.link Post }
         ensures stands { StandsOn self.old.link Post self.new.link }
         ensures room { self.new.room ≡ self.old.room }
@@ -355,7 +364,7 @@ impl Endpoint {
     /// regions, and the output.
     pub fn held(&self) -> u128
         ensures is { result ≡ bytes_kept self.now }
-        ensures bound { result ≤ FPDU_MAX + send_max * self.now.link.state.receive_queue.receives + bytes_held self.now.link.state.memory
+        ensures bound { result ≤ FPDU_MAX + self.now.link.state.receive_queue.receive_length * self.now.link.state.receive_queue.receives + bytes_held self.now.link.state.memory
             + outside_held self.now.outside + length self.now.link.state.send_queue.hello + length self.now.link.state.send_queue.fpdus }
         ensures most { result ≤ 2 ^ 127 + 2 ^ 64 }
     {

@@ -16,7 +16,7 @@ ghost use Rattle.nr_link.specs.Limits.{open_reads_max};
 
 use crate::link::LinkSide;
 use crate::staging::{stage_frame, whole_in_piece};
-use nr_link::End;
+use nr_link::{End, SideTerms};
 use nr_wire::constants::FPDU_MAX;
 use nr_wire::{Awaited, Side, bytes_needed, whole_frame};
 use nr_xdr::Memory;
@@ -59,21 +59,23 @@ fn peer(side: Side) -> Side
 }
 
 impl Endpoint {
-    /// A side of a link, with this number of receives. The first region gets this STag, which isn't 0.
+    /// A side of a link, with this number of receives, each of the units of its terms. The first region gets this STag, which isn't 0.
+    /// What its hello says is in `terms`: with `None` it says nothing, and answers nothing that the peer's says.
     pub fn open(
         alloc: Global,
         side: Side,
         receives: u32,
         first_stag: u32,
+        terms: Option<SideTerms>,
     ) -> Result<Endpoint, Memory>
         requires { 0 < first_stag }
-        ensures state { IfOk result (λ e. e.link ≡ initial_link side receives first_stag) }
+        ensures state { IfOk result (λ e. e.link ≡ initial_link side receives first_stag terms) }
         ensures staging { IfOk result (λ e. length e.staging ≡ FPDU_MAX) }
         ensures outside { IfOk result (λ e. e.outside ≡ empty) }
-        ensures stands { IfOk result (λ e. RepresentsCalls (initial_link side receives first_stag) [] e.link) }
+        ensures stands { IfOk result (λ e. RepresentsCalls (initial_link side receives first_stag terms) [] e.link) }
     {
         Ok(Endpoint {
-            link: LinkSide::new(alloc, side, receives, first_stag)?,
+            link: LinkSide::new(alloc, side, receives, first_stag, terms)?,
             awaited: Awaited::Hello(peer(side)),
             staging: vec![in alloc; 0u8; FPDU_MAX]?,
             staged: 0,

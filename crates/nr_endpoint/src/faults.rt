@@ -3,7 +3,7 @@
 ghost use Rattle.std.specs.Prelude.{◌≡◌, ◌+◌, ◌^◌, ◌<◌, ◌≤◌, length, Some};
 ghost use Rattle.nr_wire.specs.Segment.{IsSupported, payload_in};
 ghost use Rattle.nr_wire.specs.View.{segment as plain};
-ghost use Rattle.nr_link.specs.ReceiveState.{read_request_in};
+ghost use Rattle.nr_link.specs.ReceiveState.{is_send, read_request_in};
 ghost use Rattle.nr_link.specs.declared.end.End.TheVariants as ends;
 ghost use Rattle.nr_link.specs.SegmentFaults.{is_malformed, next_msn, next_offset};
 ghost use Rattle.nr_link.specs.Frames.{Frame};
@@ -57,6 +57,13 @@ pub fn read_request(payload: &[u8]) -> ReadRequest
     }
 }
 
+/// Whether an opcode is that of a Send.
+pub fn is_send(opcode: u8) -> bool
+    ensures { result ≡ is_send opcode }
+{
+    opcode == OPCODE_SEND
+}
+
 /// The kind of a tagged segment.
 pub fn kind_of(opcode: u8) -> Kind
     ensures { result ≡ kind_of opcode }
@@ -103,7 +110,7 @@ impl LinkSide {
                 if fault.is_some() {
                     return fault;
                 }
-                if opcode == OPCODE_SEND {
+                if is_send(opcode) {
                     return self.send_fault(last, msn, payload);
                 }
                 if opcode == OPCODE_READ_REQUEST {

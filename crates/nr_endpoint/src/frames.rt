@@ -1,22 +1,21 @@
 //! Complete frames of the peer.
 
 ghost use Rattle.std.specs.Prelude.{◌≡◌, ◌+◌, ◌^◌, ◌<◌, ◌≤◌, length, IfOk};
-ghost use Rattle.std.specs.Result.{result_err};
 ghost use Rattle.nr_wire.specs.Hello.{hello_of};
 ghost use Rattle.nr_wire.specs.Segment.{IsSupported, payload_in, segment_of};
 ghost use Rattle.nr_wire.specs.Stream.{IsFrame};
-ghost use Rattle.nr_wire.specs.View.{segment as plain, result_view};
+ghost use Rattle.nr_wire.specs.View.{hello as plain_hello, segment as plain, result_view};
 
-use nr_wire::{Awaited, NextHello, NextSegment, Segment, Side, next_segment, read_hello};
+use nr_wire::{Awaited, Hello, NextHello, NextSegment, Segment, Side, next_segment, read_hello};
 
-/// Why a hello of this side is refused, if it is (RFC 5044 section 7.1).
-pub fn hello_reason(side: Side, frame: &[u8]) -> Option<u32>
+/// The hello of this side that a frame holds, or the reason for which it is refused (RFC 5044 section 7.1).
+pub fn hello_in_frame(side: Side, frame: &[u8]) -> Result<Hello<'_>, u32>
     requires { IsFrame (Awaited.Hello side) frame.now }
-    ensures { result ≡ result_err (hello_of side frame.now) }
+    ensures { result_view plain_hello result ≡ hello_of side frame.now }
 {
     match read_hello(side, frame) {
-        NextHello::Whole { .. } => None,
-        NextHello::Bad { reason } => Some(reason),
+        NextHello::Whole { hello, .. } => Ok(hello),
+        NextHello::Bad { reason } => Err(reason),
         NextHello::More => unreachable!(),
     }
 }

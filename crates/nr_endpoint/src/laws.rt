@@ -1,6 +1,7 @@
 //! Laws of an endpoint, over the calls that it stands for.
 
 ghost use Rattle.nr_endpoint.specs.ReceivedLaws.{EventsOfReceivedBytes, ReceivedBytes};
+ghost use Rattle.nr_endpoint.specs.AgreedLaws.{SidesAgree};
 ghost use Rattle.nr_endpoint.specs.KeptLists.{HeldRegionsAreRegistered, WaitingSendsHaveBytes};
 ghost use Rattle.nr_endpoint.specs.OutputLaws.{AllowedCallsJoin, FpdusFollowHello, OutputIsItems, SendsGoByItems, SendsWaitByItems, ResponsesGoByItems, SidesStayBounded};
 ghost use Rattle.nr_endpoint.specs.Laws.{PiecesJoin, StepsReach, StepsFeed, EndStays, KeepsLessThanFrame, EndedKeepsNothing, StreamIsKept, PlaceIsFed, MemoryFollowsEvents, PlacesAreAllowed, PlacesAreInOrder, ArrivalsRise, EventsAreDelivered, EventsAreInOrder, EventsFollowAccesses, OneFrameDeliversAtItsEnd, OneFrameDeliversOnce, ReadsAreAllowed, NothingElseIsRead, OtherFramesQueueNothing, OpenRegionHolds, ReleasedBufferHolds, ReleasedStaysClosed, ClaimsStay, NoFpduBeforeHello, FramesEndForThese, GrantsEndAlike, OffersDenyAlike, NoFrameStops, OthersComeFromStop, MemoryComesFromOutOfMemory, EndedQueuesNothing, EndIsKept, StopQueuesLast, OutOfMemoryQueuesNothing};
@@ -85,6 +86,12 @@ pub fn output_in_items()
 pub fn sides_stay_bounded()
     ensures bounds { SidesStayBounded }
     ensures greeted { FpdusFollowHello }
+{}
+
+/// What a side agrees with its peer, whatever both say: nothing until the peer's hello was accepted, and then from 1,024 to 16,384 bytes for
+/// a Send in each direction. A Send of the peer that is longer than what is agreed for its direction ends the side.
+pub fn sides_agree()
+    ensures { SidesAgree }
 {}
 
 /// The lists of a side that only its calls bound: at most as many Sends wait as there are bytes of FPDUs to write, and as many regions are held as were

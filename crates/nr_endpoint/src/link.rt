@@ -5,20 +5,25 @@ ghost use Rattle.std.specs.Bool.{OnFalse};
 ghost use Rattle.std.specs.FinMap.{empty};
 ghost use Rattle.nr_wire.specs.Stream.{IsFrame};
 ghost use Rattle.nr_wire.specs.Segment.{IsSupported, payload_in, segment_of};
+ghost use Rattle.arrayvec.specs.ArrayVec.{array_vec_len};
 ghost use Rattle.nr_wire.specs.View.{segment as plain};
 ghost use Rattle.nr_wire.specs.Hello.{hello_of};
 ghost use Rattle.nr_link.specs.declared.end.End.TheVariants as ends;
 ghost use Rattle.nr_endpoint.specs.LinkState.{initial_state};
 ghost use Rattle.nr_endpoint.specs.SendQueue.{output_len};
 ghost use Rattle.nr_endpoint.specs.SegmentEnds.{IsUntagged};
-ghost use Rattle.nr_endpoint.specs.Judging.{segment_end, with_end_of, with_segment_by, with_fpdu, with_peer_hello, with_frame, next_frame};
+ghost use Rattle.nr_endpoint.specs.Judging.{segment_end, with_end_of, with_segment_by, with_fpdu, with_peer_hello, with_privates, with_frame, after_frame, next_frame};
+ghost use Rattle.nr_endpoint.specs.Hellos.{own_private};
 
-use crate::constants::SEND_MAX;
-use crate::frames::{hello_reason, segment_in_frame};
+use crate::frames::{hello_in_frame, segment_in_frame};
+use crate::hellos::{
+    Private, first_private, own_private, receive_length, received_max, side_agreement,
+};
 use crate::reads::Reads;
 use crate::receive_queue::ReceiveQueue;
 use crate::send_queue::SendQueue;
-use nr_link::End;
+use nr_link::constants::SEND_MAX;
+use nr_link::{Agreement, End, SideTerms};
 use nr_regions::Regions;
 use nr_wire::{Awaited, Segment, Side};
 use nr_xdr::Memory;
@@ -37,6 +42,9 @@ pub struct LinkSide {
     pub(crate) reads: Reads,
     pub(crate) regions: Regions,
     pub(crate) send_queue: SendQueue,
+    pub(crate) terms: Option<SideTerms>,
+    pub(crate) private: Private,
+    pub(crate) agreed: Agreement,
     pub(crate) message_max: u64,
 }
 
@@ -52,25 +60,27 @@ impl Model for LinkSide {
     ghost use Rattle.nr_endpoint.specs.Views.{expected};
     ghost use Rattle.nr_endpoint.specs.Counted.{IsCounted};
 
-    ghost view = { λ l. record { state = record { side = l.side; has_hello = l.has_hello; last = l.last; place = l.place; ended = l.ended; receive_queue = l.receive_queue; reads = map expected l.reads.items; memory = l.regions.memory; send_queue = l.send_queue; message_max = l.message_max }; room = l.regions.room; outside = l.regions.outside } };
+    ghost view = { λ l. record { state = record { side = l.side; has_hello = l.has_hello; last = l.last; place = l.place; ended = l.ended; receive_queue = l.receive_queue; reads = map expected l.reads.items; memory = l.regions.memory; send_queue = l.send_queue; terms = l.terms; private = l.private.items; agreed = l.agreed; message_max = l.message_max }; room = l.regions.room; outside = l.regions.outside } };
 
-    ghost invariant = { λ l. IsCounted l.has_hello l.receive_queue l.place l.message_max };
+    ghost invariant = { λ l. IsCounted l.terms l.has_hello l.receive_queue l.place l.message_max };
 }
 
 impl LinkSide {
-    /// A side as the link is opened. The first region gets this STag, which isn't 0.
+    /// A side as the link is opened, with what its hello says. The first region gets this STag, which isn't 0.
     pub fn new(
         alloc: Global,
         side: Side,
         receives: u32,
         first_stag: u32,
+        terms: Option<SideTerms>,
     ) -> Result<LinkSide, Memory>
         requires { 0 < first_stag }
-        ensures state { IfOk result (λ l. l.state ≡ initial_state side receives first_stag) }
+        ensures state { IfOk result (λ l. l.state ≡ initial_state side receives first_stag terms) }
         ensures outside { IfOk result (λ l. l.outside ≡ empty) }
     {
-        let send_queue = SendQueue::new(alloc, side)?;
-        let receive_queue = ReceiveQueue::new(alloc, receives, SEND_MAX)?;
+        let private = first_private(terms, side);
+        let send_queue = SendQueue::new(alloc, side, private.as_slice())?;
+        let receive_queue = ReceiveQueue::new(alloc, receives, receive_length(terms))?;
         Ok(LinkSide {
             side,
             has_hello: false,
@@ -81,7 +91,10 @@ impl LinkSide {
             reads: Reads::new(),
             regions: Regions::new(alloc, first_stag),
             send_queue,
-            message_max: SEND_MAX as u64,
+            terms,
+            private,
+            agreed: Agreement::nothing(),
+            message_max: u64::from(SEND_MAX),
         })
     }
 
@@ -146,13 +159,30 @@ impl LinkSide {
         ensures room { self.new.room ≡ self.old.room }
         ensures outside { self.new.outside ≡ self.old.outside }
     {
-        if let Some(reason) = hello_reason(side, frame) {
-            return self.end_with(End::Bad {
+        match hello_in_frame(side, frame) {
+            Ok(hello) => self.accept_hello(hello.private, frame),
+            Err(reason) => self.end_with(End::Bad {
                 at: self.place,
                 reason,
-            });
+            }),
         }
-        self.send_queue.queue_hello(self.side)?;
+    }
+
+    /// The peer's hello, which this frame holds and which has this private data, is accepted. A responder answers it.
+    fn accept_hello(&mut self, heard: &[u8], frame: &[u8]) -> Result<(), Memory>
+        requires some { 0 < length frame.now }
+        requires within { self.old.state.place + length frame.now ≤ 2 ^ 62 }
+        ensures ok { OnOk result (self.new.state ≡ after_frame (next_frame self.old.state frame.now) (with_privates (own_private self.old.state.terms self.old.state.side heard.now) heard.now self.old.state)) }
+        ensures err { OnErr result (self.new.state ≡ self.old.state) }
+        ensures queued { OnErr result (output_len self.old.state.send_queue < output_len (with_privates (own_private self.old.state.terms self.old.state.side heard.now) heard.now self.old.state).send_queue) }
+        ensures room { self.new.room ≡ self.old.room }
+        ensures outside { self.new.outside ≡ self.old.outside }
+    {
+        let own = own_private(self.terms, self.side, heard);
+        self.send_queue.queue_hello(self.side, own.as_slice())?;
+        self.agreed = side_agreement(self.side, own.as_slice(), heard);
+        self.message_max = u64::from(received_max(self.side, self.agreed));
+        self.private = own;
         self.has_hello = true;
         self.last = self.place;
         self.place += frame.len() as u64;

@@ -6,7 +6,7 @@ ghost use Rattle.std.specs.Io.KnownBytes.{Appends};
 ghost use Rattle.nr_outside.specs.Faults.{Rises};
 ghost use Rattle.std.specs.FinMap.{get, insert, remove};
 ghost use Rattle.nr_regions.specs.RegisteredMemory.{IsHeld, after_register, after_release, buffer_around, bytes_held, bytes_in, claim_of, held_region, nothing_outside, outside_held, outside_window, window_bytes};
-ghost use Rattle.nr_link.specs.Limits.{send_max, open_reads_max};
+ghost use Rattle.nr_link.specs.Limits.{open_reads_max};
 ghost use Rattle.nr_link.specs.declared.end.End.TheVariants as ends;
 ghost use Rattle.nr_endpoint.specs.declared.fault.ReadRefused.TheVariants as refusals;
 ghost use Rattle.nr_endpoint.specs.SendQueue.{with_send, with_write, with_request, writable, written};
@@ -63,7 +63,7 @@ impl LinkSide {
     pub fn next_event(&mut self) -> Option<Event>
         ensures event { self.old.state.receive_queue.deliveries ≡ option_to_list (option_map delivery result) ++ self.new.state.receive_queue.deliveries }
         ensures waits { is_some result ≡ nat_lt 0 (length self.old.state.receive_queue.deliveries) }
-        ensures buffer { IfSome result (HasBuffer send_max) }
+        ensures buffer { IfSome result (HasBuffer self.new.state.receive_queue.receive_length) }
         ensures after { self.new.state ≡ (if is_some result then record self.old.state { receive_queue = delivered self.old.state.receive_queue } else self.old.state) }
         ensures room { self.new.room ≡ self.old.room }
         ensures outside { self.new.outside ≡ self.old.outside }
@@ -74,7 +74,7 @@ impl LinkSide {
     /// A buffer that an event lent is a receive again. Takes no memory.
     pub fn post(&mut self, buf: Octets)
         requires lent { 0 < self.old.state.receive_queue.lent }
-        requires len { length buf ≡ send_max }
+        requires len { length buf ≡ self.old.state.receive_queue.receive_length }
         ensures state { self.new.state ≡ record self.old.state { receive_queue = posted self.old.state.receive_queue } }
         ensures room { self.new.room ≡ self.old.room }
         ensures outside { self.new.outside ≡ self.old.outside }
@@ -274,7 +274,7 @@ impl LinkSide {
     /// How many bytes the receives have that are not lent.
     fn receives_held(&self) -> u128
         ensures is { result ≡ self.now.state.receive_queue.receive_length * receives_kept self.now.state.receive_queue }
-        ensures bound { result ≤ send_max * self.now.state.receive_queue.receives }
+        ensures bound { result ≤ self.now.state.receive_queue.receive_length * self.now.state.receive_queue.receives }
         ensures most { result ≤ 2 ^ 126 }
     {
         let receive_length = self.receive_queue.receive_length() as u128;
@@ -284,7 +284,7 @@ impl LinkSide {
     /// How many bytes the receives that are not lent, the buffers of the regions and the output have.
     pub fn held(&self) -> u128
         ensures is { result ≡ bytes_of self.now.state + outside_held self.now.outside }
-        ensures bound { result ≤ send_max * self.now.state.receive_queue.receives + bytes_held self.now.state.memory + outside_held self.now.outside
+        ensures bound { result ≤ self.now.state.receive_queue.receive_length * self.now.state.receive_queue.receives + bytes_held self.now.state.memory + outside_held self.now.outside
             + length self.now.state.send_queue.hello + length self.now.state.send_queue.fpdus }
         ensures most { result ≤ 2 ^ 127 }
     {

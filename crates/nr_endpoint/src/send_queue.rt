@@ -3,6 +3,7 @@
 ghost use Rattle.std.specs.Prelude.{◌≡◌, ℕ, ◌+◌, ◌-◌, ◌^◌, ◌<◌, ◌≤◌, [], ◌++◌, if◌then◌else◌, length, take, drop, All, IfOk, OnOk, OnErr, MatchResult, min};
 ghost use Rattle.std.specs.Bool.{OnTrue};
 ghost use Rattle.std.specs.Io.KnownBytes.{Appends};
+ghost use Rattle.nr_wire.specs.Constants.{PRIVATE_MAX};
 ghost use Rattle.nr_wire.specs.Hello.{hello_encoding};
 ghost use Rattle.nr_link.specs.Output.{refusing_hello};
 ghost use Rattle.nr_link.specs.Ending.{final_output, rejection};
@@ -57,8 +58,15 @@ impl Model for SendQueue {
 }
 
 /// Puts a side's hello at the end. An `Err` leaves the bytes as they were.
-fn push_hello(out: &mut BytesMut, alloc: Global, side: Side, flags: u8) -> Result<(), Memory>
-    ensures ok { OnOk result (out.new.items ≡ out.old.items ++ hello_encoding (record { side = side; flags = flags; private = [] })) }
+fn push_hello(
+    out: &mut BytesMut,
+    alloc: Global,
+    side: Side,
+    flags: u8,
+    private: &[u8],
+) -> Result<(), Memory>
+    requires { length private.now ≤ PRIVATE_MAX }
+    ensures ok { OnOk result (out.new.items ≡ out.old.items ++ hello_encoding (record { side = side; flags = flags; private = private.now })) }
     ensures err { OnErr result (out.new.items ≡ out.old.items) }
 {
     let hello = write_hello(
@@ -66,7 +74,7 @@ fn push_hello(out: &mut BytesMut, alloc: Global, side: Side, flags: u8) -> Resul
         &Hello {
             side,
             flags,
-            private: &[],
+            private,
         },
     )?;
     out.extend_from_slice(hello.as_slice())?;
@@ -165,14 +173,15 @@ fn write_queue<K: Sink>(
 }
 
 impl SendQueue {
-    /// A side's queue as the link is opened: an initiator has its hello to write.
-    #[tactic(auto, unfolding(nr_link::specs::Output::own_hello))]
-    pub fn new(alloc: Global, side: Side) -> Result<SendQueue, Memory>
-        ensures { IfOk result (λ q. q ≡ initial_queue side) }
+    /// A side's queue as the link is opened: an initiator has its hello to write, with this private data.
+    #[tactic(auto, unfolding(nr_link::specs::Output::hello_with))]
+    pub fn new(alloc: Global, side: Side, private: &[u8]) -> Result<SendQueue, Memory>
+        requires { length private.now ≤ PRIVATE_MAX }
+        ensures { IfOk result (λ q. q ≡ initial_queue side private.now) }
     {
         let mut hello = BytesMut::new(alloc);
         if side == Side::Initiator {
-            push_hello(&mut hello, alloc, side, 0)?;
+            push_hello(&mut hello, alloc, side, 0, private)?;
         }
         Ok(SendQueue {
             alloc,
@@ -186,16 +195,18 @@ impl SendQueue {
         })
     }
 
-    /// A responder's hello, which answers the initiator's; an initiator's own was queued before. An `Err` changes nothing.
-    #[tactic(auto, unfolding(nr_link::specs::Output::own_hello))]
-    pub fn queue_hello(&mut self, side: Side) -> Result<(), Memory>
-        ensures ok { OnOk result (self.new ≡ with_hello (reply_hello side) self.old) }
+    /// A responder's hello with this private data, which answers the initiator's; an initiator's own was queued before. An `Err` changes
+    /// nothing.
+    #[tactic(auto, unfolding(nr_link::specs::Output::hello_with))]
+    pub fn queue_hello(&mut self, side: Side, private: &[u8]) -> Result<(), Memory>
+        requires { length private.now ≤ PRIVATE_MAX }
+        ensures ok { OnOk result (self.new ≡ with_hello (reply_hello side private.now) self.old) }
         ensures err { OnErr result (self.new ≡ self.old) }
-        ensures queued { OnErr result (output_len self.old < output_len (with_hello (reply_hello side) self.old)) }
+        ensures queued { OnErr result (output_len self.old < output_len (with_hello (reply_hello side private.now) self.old)) }
     {
         match side {
             Side::Initiator => Ok(()),
-            Side::Responder => push_hello(&mut self.hello, self.alloc, side, 0),
+            Side::Responder => push_hello(&mut self.hello, self.alloc, side, 0, private),
         }
     }
 
@@ -396,7 +407,13 @@ impl SendQueue {
         ensures queued { OnErr result (output_len self.old < output_len (with_end side end self.old)) }
     {
         if is_rejection(side, end) {
-            return push_hello(&mut self.hello, self.alloc, Side::Responder, FLAG_REJECT);
+            return push_hello(
+                &mut self.hello,
+                self.alloc,
+                Side::Responder,
+                FLAG_REJECT,
+                &[],
+            );
         }
         match terminate_word(end) {
             None => Ok(()),

@@ -5,7 +5,7 @@ ghost use Rattle.nr_endpoint.specs.Calls.{IsStopReason};
 
 use crate::short_sink::ShortSink;
 use nr_endpoint::{DrainFault, Endpoint, Event, ReadRefused};
-use nr_link::End;
+use nr_link::{End, SideTerms};
 use nr_outside::MemSink;
 use nr_regions::{Registration, Right};
 use nr_wire::Side;
@@ -86,10 +86,20 @@ fn stop_reason(rt: &impl Abort, reason: u32) -> u32
 }
 
 impl TestEndpoint {
-    /// An endpoint with two receives, whose first region has STag 1.
+    /// An endpoint with two receives, whose first region has STag 1, and whose hello says nothing.
     pub fn open(rt: &impl Abort, alloc: Global, side: Side) -> TestEndpoint {
+        TestEndpoint::open_with(rt, alloc, side, None)
+    }
+
+    /// The same with these terms.
+    pub fn open_with(
+        rt: &impl Abort,
+        alloc: Global,
+        side: Side,
+        terms: Option<SideTerms>,
+    ) -> TestEndpoint {
         TestEndpoint {
-            endpoint: Endpoint::open(alloc, side, 2, 1).expect(rt, "memory"),
+            endpoint: Endpoint::open(alloc, side, 2, 1, terms).expect(rt, "memory"),
             most: 0,
             least: 0,
             region: None,

@@ -4,6 +4,8 @@
 #![tactic(auto)]
 
 #[cfg(test)]
+mod agreed;
+#[cfg(test)]
 mod compare;
 #[cfg(test)]
 mod endpoint;

@@ -8,6 +8,7 @@ use Rattle.nr_outside.proofs.Moves.{HandsOut_nil}
 use Rattle.nr_outside.specs.declared.moment.Moment.{Moment}
 use Rattle.nr_endpoint.specs.LinkState.{initial_link}
 use Rattle.nr_wire.specs.declared.hello.Side.TheVariants.{Responder}
+use Rattle.nr_reduce.specs.Opening.{ServerOpened}
 use Rattle.nr_reduce.specs.declared.mark.Mark.{Mark}
 use Rattle.nr_reduce.specs.declared.mark.LinkParameters.{LinkParameters}
 use Rattle.nr_reduce.specs.History.{bytes_received, bytes_sent}
@@ -59,7 +60,7 @@ has_read read some most = (some, most)
 -- nothing more is read, and the connection ends
 pub carried : (credits : ℕ) (before now : Outside) (v : ResponderSide) (read : ℕ) (end : ConnEnd) → CarriesTo credits before now v read → AheadAt end [] → MoreAt end []
     → ReadAt end read → FailedAt end now.sink.failed
-    → ((opened : LinkParameters) (link : ℕ) (run : List Mark) → ResponderRepresents opened link run v → AllQuiet (record { credits = credits; read = read }) link run → opened.granted ≡ credits
+    → ((opened : LinkParameters) (link : ℕ) (run : List Mark) → ResponderRepresents opened link run v → AllQuiet (record { credits = credits; read = read }) link run → ServerOpened opened credits
     → length (bytes_received link Responder run) ≡ read → IsCause opened link run now.left end)
     → IsServed credits before now end
 carried credits before now v read end carries ahead more most failed cause link =
@@ -161,7 +162,7 @@ module _ (left given taken : Option (List ℕ)) (faults : ℕ) (gave : Option (L
   }
 
   pub opened : (credits : ℕ) (v : ResponderSide) → v ≡ opened_side credits → end_of v ≡ None
-      → ((opened : LinkParameters) (link : ℕ) → opened.granted ≡ credits → ResponderRepresents opened link [] v) → CarriesTo credits first first v 0
+      → ((opened : LinkParameters) (link : ℕ) → ServerOpened opened credits → ResponderRepresents opened link [] v) → CarriesTo credits first first v 0
   unfolding initial_link
   opened credits v is live stands link = (
     [],

@@ -121,7 +121,7 @@ looked {S} left given source source' p p' new same kept told = (
 
 module _ (credits : ℕ) (left given left' given' taken : Option (List ℕ)) (faults : ℕ) (gave : Option (List Moment)) (view : PassView) (kept : Keeps left left') (told : Keeps given given') where
   lives : end_of (opened_side credits) ≡ None
-  lives = opened_lives (initial_link Responder credits 1) credits refl
+  lives = opened_lives (initial_link Responder credits 1 None) credits refl
 
   now : Outside
   now = first_outside left' given' taken faults gave view
@@ -129,7 +129,7 @@ module _ (credits : ℕ) (left given left' given' taken : Option (List ℕ)) (fa
   begun : CarriesTo credits (first_outside left given taken faults gave view) (first_outside left' given' taken faults gave view) (opened_side credits) (0 + 0)
   begun =
       nothing_read credits (first_outside left given taken faults gave view) left given left' given' (sink_state taken faults false) gave view (opened_side credits) 0
-      (opened left given taken faults gave view credits (opened_side credits) refl lives (λ o link same. opened_stands_lem o link credits (initial_link Responder credits 1) same refl))
+      (opened left given taken faults gave view credits (opened_side credits) refl lives (λ o link same. opened_stands_lem o link credits (initial_link Responder credits 1 None) same refl))
       (hands_none left given left' given' kept told)
 
   less : 0 + 0 < read_max

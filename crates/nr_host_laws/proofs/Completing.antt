@@ -7,6 +7,7 @@ use Rattle.nr_outside.specs.Faults.{Rises}
 use Rattle.nr_outside.specs.declared.moment.Moment.{Moment}
 use Rattle.nr_wire.specs.declared.hello.Side.TheVariants.{Initiator, Responder}
 use Rattle.nr_link.specs.Input.{input_of}
+use Rattle.nr_reduce.specs.Opening.{ServerOpened}
 use Rattle.nr_reduce.specs.declared.mark.Mark.{Mark}
 use Rattle.nr_reduce.specs.declared.mark.Entry.{Entry}
 use Rattle.nr_reduce.specs.declared.mark.LinkParameters.{LinkParameters}
@@ -69,7 +70,7 @@ module _ (credits : ℕ) (before after : Outside) (first : Opening) (J : List En
       subst (λ (l : Option (List ℕ)). Consumes l after.left (bytes_received link Responder run ++ ahead)) known r.handed.from_left
 
   made_by : (read link : ℕ) (failed : Bool) (ahead : List ℕ) (more : List Moment) (run : List Mark) → Runs (terms_of credits read) link before (with_failed failed after) ahead more run
-      → (opened : LinkParameters) → opened.granted ≡ credits → MayHaveMade (setup_in first) J opened link stream run
+      → (opened : LinkParameters) → ServerOpened opened credits → MayHaveMade (setup_in first) J opened link stream run
   made_by read link failed ahead more run r opened same = record {
     own = r.own;
     begins = read_first after.left stream (bytes_received link Responder run) ahead (consumed read link failed ahead more run r);
@@ -83,11 +84,11 @@ module _ (credits : ℕ) (before after : Outside) (first : Opening) (J : List En
   -- a connection that read all of it, and is idle, has closed
   closed : (read link : ℕ) (failed : Bool) (ahead : List ℕ) (more : List Moment) (run : List Mark) → Runs (terms_of credits read) link before (with_failed failed after) ahead more run
       → ahead ≡ [] → more ≡ [] → failed ≡ false
-      → ((opened : LinkParameters) → opened.granted ≡ credits → IsIdle opened link run × IsAtEnd after.left)
-      → ((opened : LinkParameters) → opened.granted ≡ credits → Served opened link run)
+      → ((opened : LinkParameters) → ServerOpened opened credits → IsIdle opened link run × IsAtEnd after.left)
+      → ((opened : LinkParameters) → ServerOpened opened credits → Served opened link run)
       → ServesStream credits first J link before after stream
   closed read link failed ahead more run r none no_more fine idle served =
-      let at : IsAtEnd after.left = (idle (with_credits credits) refl).1 in
+      let at : IsAtEnd after.left = (idle (with_credits credits) (refl, refl)).1 in
       let all : (bytes_received link Responder run ≡ stream) × (after.left ≡ Some []) = read_all after.left stream (bytes_received link Responder run) ahead (consumed read link failed ahead more run r) none at in
       record {
         run = run;
@@ -115,17 +116,17 @@ module _ (credits : ℕ) (before after : Outside) (first : Opening) (J : List En
   by_end ends.LinkWrite source source' sc kc quiet fine read failed e = absurd (fine kc)
   by_end (ends.Protocol why) source source' sc kc quiet fine read failed e =
       let opened : LinkParameters = with_credits credits in
-      absurd (none-some why (sym (complete.stays opened 0 e.run refl (made_by read 0 failed e.ahead e.more e.run e.runs opened refl)) ∙ (e.cause opened refl).0))
+      absurd (none-some why (sym (complete.stays opened 0 e.run (refl, refl) (made_by read 0 failed e.ahead e.more e.run e.runs opened (refl, refl))) ∙ (e.cause opened (refl, refl)).0))
   by_end (ends.Budget most) source source' sc kc quiet fine read failed e =
       let opened : LinkParameters = with_credits credits in
-      absurd (no_longer (bytes_received 0 Responder e.run) stream (made_by read 0 failed e.ahead e.more e.run e.runs opened refl).begins complete.within (e.cause opened refl).1.1)
+      absurd (no_longer (bytes_received 0 Responder e.run) stream (made_by read 0 failed e.ahead e.more e.run e.runs opened (refl, refl)).begins complete.within (e.cause opened (refl, refl)).1.1)
   by_end (ends.Cut at calls) source source' sc kc quiet fine read failed e =
       let opened : LinkParameters = with_credits credits in
-      let why : IsCause opened 0 e.run after.left (ends.Cut at calls) = e.cause opened refl in
+      let why : IsCause opened 0 e.run after.left (ends.Cut at calls) = e.cause opened (refl, refl) in
       let all : (bytes_received 0 Responder e.run ≡ stream) × (after.left ≡ Some []) =
       read_all after.left stream (bytes_received 0 Responder e.run) e.ahead (consumed read 0 failed e.ahead e.more e.run e.runs) e.ahead_is why.1.0 in
       absurd (by (ap (λ (l : List ℕ). (input_of Initiator l).rest) all.0 ∙ complete.frames)
-      (complete.answered opened 0 e.run refl (made_by read 0 failed e.ahead e.more e.run e.runs opened refl) all.0 why.0.quiet) why.1.1.1.1)
+      (complete.answered opened 0 e.run (refl, refl) (made_by read 0 failed e.ahead e.more e.run e.runs opened (refl, refl)) all.0 why.0.quiet) why.1.1.1.1)
     where
       by : (input_of Initiator (bytes_received 0 Responder e.run)).rest ≡ [] → (server (with_credits credits) 0 e.run).state.calls ≡ []
           → (0 < begun_bytes 0 e.run) ⊎ (0 < open_calls (with_credits credits) 0 e.run) → ⊥

@@ -7,7 +7,7 @@ use Rattle.nr_outside.specs.declared.moment.Moment.{Moment}
 use Rattle.nr_link.specs.declared.end.End.{End}
 use Rattle.nr_reduce.specs.declared.mark.Mark.{Mark}
 use Rattle.nr_reduce.specs.KeepsReplyLimits.{KeepsReplyLimits}
-use Rattle.nr_reduce.specs.Opening.{IsOpened}
+use Rattle.nr_reduce.specs.Opening.{IsOpened, ServerOpened}
 use Rattle.nr_laws.specs.EndCauses.{KeepLaws}
 use Rattle.nr_laws.specs.PlainLinks.{HasPlainReplies, server_with}
 use Rattle.nr_laws.specs.Stays.{AreConveyedOrRefused, HasNoRevoke}
@@ -44,7 +44,7 @@ abbrev pub ConnectionsKeepTheLaw : Type 0
 ConnectionsKeepTheLaw =
     (credits : ℕ) (before after : Outside) (end : ConnEnd) → (end ≡ ends.Memory → ⊥) → IsServed credits before after end → (link : ℕ) →
     (read : ℕ) × ((failed : Bool) × ((ended : Ended (record { credits = credits; read = read }) link before (with_failed failed after) end)
-    × ((opened : LinkParameters) → opened.granted ≡ credits → Served opened link ended.run)))
+    × ((opened : LinkParameters) → ServerOpened opened credits → Served opened link ended.run)))
 
 -- A connection over a source with a complete stream, with the clauses of `serve_connection`. No fault count rises: that
 -- of the source, or of the sink.
@@ -65,7 +65,7 @@ StreamsWithoutCalls = (credits : ℕ) (s : Setup) (J : List Entry) → IsComplet
 abbrev pub SendsAreAnswered : Type 0
 SendsAreAnswered =
     (credits : ℕ) (first : Opening) (J : List Entry) (link : ℕ) (before after : Outside) (stream : List ℕ) (served : ServesStream credits first J link before after stream) →
-    (opened : LinkParameters) → opened.granted ≡ credits → IsBytes stream → IsInBytes (setup_in first).tree → EntriesInBytes J →
+    (opened : LinkParameters) → ServerOpened opened credits → IsBytes stream → IsInBytes (setup_in first).tree → EntriesInBytes J →
     items_written is_send_item (length (hello_due opened link Responder served.run)) (length (bytes_sent link Responder served.run)) (items_due opened link Responder served.run)
     ≡ (server opened link served.run).state.received.sends
 
@@ -78,6 +78,6 @@ MatchedConnectionsStay =
     (credits : ℕ) (before after : Outside) (why : End) (link read : ℕ) (failed : Bool)
     (ended : Ended (record { credits = credits; read = read }) link before (with_failed failed after) (ends.Protocol why))
     (first : Opening) (J : List Entry) (left : List ℕ) (reply_to : List Entry → Moment → List ℕ → Option (List ℕ)) (adds : Moment → List ℕ → List ℕ → List Entry) (opened : LinkParameters) (run : List Mark) →
-    opened.granted ≡ credits → own_marks link run ≡ ended.run → IsOverBytes first J left before → IsTyped (other_marks link run) →
+    ServerOpened opened credits → own_marks link run ≡ ended.run → IsOverBytes first J left before → IsTyped (other_marks link run) →
     IsOpened opened → KeepLaws opened link run → HasNoRevoke link run → AreConveyedOrRefused opened link run →
     KeepsReplyLimits (server_with reply_to adds) → HasPlainReplies (server_with reply_to adds) link run → ⊥

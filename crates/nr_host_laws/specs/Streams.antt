@@ -3,6 +3,7 @@ use Rattle.std.specs.Prelude.{◌≡◌, ℕ, ◌<◌, List, [], ◌++◌, lengt
 use Rattle.std.specs.Io.KnownBytes.{Appends}
 use Rattle.nr_wire.specs.declared.hello.Side.TheVariants.{Initiator, Responder}
 use Rattle.nr_link.specs.Input.{input_of}
+use Rattle.nr_reduce.specs.Opening.{ServerOpened}
 use Rattle.nr_reduce.specs.declared.mark.Mark.{Mark}
 use Rattle.nr_reduce.specs.declared.mark.Entry.{Entry}
 use Rattle.nr_reduce.specs.declared.mark.LinkParameters.{LinkParameters}
@@ -36,9 +37,9 @@ pub record MayHaveMade (s : Setup) (J : List Entry) (opened : LinkParameters) (l
 pub record IsCompleteStream (credits : ℕ) (s : Setup) (J : List Entry) (stream : List ℕ) : Type 0 where
   pub within : length stream < read_max
   pub frames : (input_of Initiator stream).rest ≡ []
-  pub stays : (opened : LinkParameters) (link : ℕ) (run : List Mark) → opened.granted ≡ credits →
+  pub stays : (opened : LinkParameters) (link : ℕ) (run : List Mark) → ServerOpened opened credits →
       MayHaveMade s J opened link stream run → (server opened link run).ended ≡ None
-  pub answered : (opened : LinkParameters) (link : ℕ) (run : List Mark) → opened.granted ≡ credits →
+  pub answered : (opened : LinkParameters) (link : ℕ) (run : List Mark) → ServerOpened opened credits →
       MayHaveMade s J opened link stream run → bytes_received link Responder run ≡ stream → IsQuiet opened link run →
       (server opened link run).state.calls ≡ []
 
@@ -53,7 +54,7 @@ pub record ServesStream (credits : ℕ) (first : Opening) (J : List Entry) (link
   pub taken : Appends before.sink.taken after.sink.taken (bytes_sent link Responder run)
   pub gave : GivesAll before.gave after.gave (moments run)
   pub over : OverHistory first J before.view (answers_of run) after.view
-  pub made : (opened : LinkParameters) → opened.granted ≡ credits → MayHaveMade (setup_in first) J opened link stream run
-  pub served : (opened : LinkParameters) → opened.granted ≡ credits → Served opened link run
-  pub idle : (opened : LinkParameters) → opened.granted ≡ credits → IsIdle opened link run
-  pub answered : (opened : LinkParameters) → opened.granted ≡ credits → (server opened link run).state.calls ≡ []
+  pub made : (opened : LinkParameters) → ServerOpened opened credits → MayHaveMade (setup_in first) J opened link stream run
+  pub served : (opened : LinkParameters) → ServerOpened opened credits → Served opened link run
+  pub idle : (opened : LinkParameters) → ServerOpened opened credits → IsIdle opened link run
+  pub answered : (opened : LinkParameters) → ServerOpened opened credits → (server opened link run).state.calls ≡ []

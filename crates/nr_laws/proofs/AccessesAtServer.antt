@@ -82,7 +82,7 @@ effect_accesses regions all_down s h once =
 
 after_effect : (opened : LinkParameters) (s : ServerState) (f : Frame) → is_hello f ≡ false → server_state_after opened s (FrameReceived f) ≡ with_effect s f (frame_effect s f)
 unfolding server_state_after
-after_effect opened s f is = λ i. cond (is i) (with_own_hello s) (with_effect s f (frame_effect s f))
+after_effect opened s f is = λ i. cond (is i) (with_own_hello opened s f) (with_effect s f (frame_effect s f))
 
 pub accessed_frame_up : (opened : LinkParameters) (k : ClientState) (s : ServerState) (d all_up all_down : List FrameContent) (place : ℕ) (f : Frame) → AccessesAgree opened k s d all_up all_down place → is_hello f ≡ false → EffectOffered k.regions (frame_effect s f)
     → ((x : ℕ) → given_to x (all_down ++ server_frames opened s (FrameReceived f)) (server_state_after opened s (FrameReceived f)).calls ≤ 1)
@@ -102,8 +102,8 @@ pub accessed_hello_up : (opened : LinkParameters) (k : ClientState) (s : ServerS
     → AccessesAgree opened k (server_state_after opened s (FrameReceived f)) d all_up (all_down ++ server_frames opened s (FrameReceived f)) place
 accessed_hello_up opened k s d all_up all_down place f h is =
     subst (λ (u : ServerState). AccessesAgree opened k u d all_up (all_down ++ server_frames opened s (FrameReceived f)) place) (sym (after_hello opened s f is))
-    (subst (λ (ps : List FrameContent). AccessesAgree opened k (with_own_hello s) d all_up (all_down ++ ps) place) (sym (says_hello opened s f is))
-    (says_more opened k s (with_own_hello s) d all_up all_down (HelloFrame ∷ []) place h h.calls h.waiting (tt, tt)))
+    (subst (λ (ps : List FrameContent). AccessesAgree opened k (with_own_hello opened s f) d all_up (all_down ++ ps) place) (sym (says_hello opened s f is))
+    (says_more opened k s (with_own_hello opened s f) d all_up all_down (HelloFrame ∷ []) place h h.calls h.waiting (tt, tt)))
 
 -- ---- A call is executed
 

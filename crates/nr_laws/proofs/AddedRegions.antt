@@ -51,7 +51,7 @@ ends_from number place stag lists (p ∷ ps) =
 frame_adds : (opened : LinkParameters) (k : ServerState) (f : Frame) → is_hello f ≡ false → without_ends (server_state_after opened k (FrameReceived f)).regions ≡ without_ends k.regions ++ without_ends (chunks_in k f (frame_segment f))
 unfolding server_state_after
 frame_adds opened k f behind =
-    ap (λ (b : Bool). without_ends (cond b (with_own_hello k) (with_effect k f (frame_effect k f))).regions) behind
+    ap (λ (b : Bool). without_ends (cond b (with_own_hello opened k f) (with_effect k f (frame_effect k f))).regions) behind
     ∙ ends_closed (is_over (frame_effect k f).calls (frame_effect k f).reads) f.end (frame_effect k f).regions
     ∙ ap without_ends (frame_chunks k f) ∙ ends_append k.regions (chunks_in k f (frame_segment f))
 
@@ -108,8 +108,8 @@ adds_none opened es (FrameReceived f) none stays = by (is_hello f) refl
     k : ServerState
     k = server_by opened es
 
-    by : (b : Bool) → is_hello f ≡ b → without_ends (cond (is_hello f) (with_own_hello k) (with_effect k f (frame_effect k f))).regions ≡ without_ends k.regions
-    by true is = ap (λ (b : Bool). without_ends (cond b (with_own_hello k) (with_effect k f (frame_effect k f))).regions) is
+    by : (b : Bool) → is_hello f ≡ b → without_ends (cond (is_hello f) (with_own_hello opened k f) (with_effect k f (frame_effect k f))).regions ≡ without_ends k.regions
+    by true is = ap (λ (b : Bool). without_ends (cond b (with_own_hello opened k f) (with_effect k f (frame_effect k f))).regions) is
     by false is =
         frame_adds opened k f is
         ∙ ap (λ (xs : List Region). without_ends k.regions ++ without_ends xs) (no_chunks_lem opened es f stays is (λ c made. none f c refl made) (frame_segment f) refl)
@@ -144,7 +144,7 @@ event_stays opened k (FrameReceived f) place r until there = by (is_hello f)
     more : Contains (frame_effect k f).regions r
     more = subst (λ (xs : List Region). Contains xs r) (sym (frame_chunks k f)) (Contains-append_left k.regions (chunks_in k f (frame_segment f)) r there)
 
-    by : (b : Bool) → Contains (cond b (with_own_hello k) (with_effect k f (frame_effect k f))).regions r
+    by : (b : Bool) → Contains (cond b (with_own_hello opened k f) (with_effect k f (frame_effect k f))).regions r
     by true = there
     by false = closed_stays (is_over (frame_effect k f).calls (frame_effect k f).reads) f.end place r until more.0 (frame_effect k f).regions more.1 more.2
 event_stays opened k (CallSubmitted p a) place r until there = there

@@ -9,8 +9,8 @@ use Rattle.nr_wire.specs.Segment.{Segment, encoding, header, payload_in, ulpdu_s
 use Rattle.nr_wire.specs.Segment.Segment.{Tagged}
 use Rattle.nr_link.specs.declared.end.End.{End}
 use Rattle.nr_link.specs.Frames.{Frame, is_hello}
-use Rattle.nr_link.specs.Output.{own_hello}
 use Rattle.nr_link.specs.Ending.{frame_segment, frame_end, hello_end}
+use Rattle.nr_reduce.specs.Hellos.{server_hello}
 use Rattle.nr_reduce.specs.declared.mark.LinkParameters.{LinkParameters}
 use Rattle.nr_reduce.specs.Events.RunEvent.{FrameReceived}
 use Rattle.nr_reduce.specs.OfferedRegions.{region_grants}
@@ -18,6 +18,7 @@ use Rattle.nr_reduce.specs.ClientState.{ClientState}
 use Rattle.nr_reduce.specs.ServerState.{ServerState}
 use Rattle.nr_reduce.specs.ServerFrames.{FrameEffect, effect_in, frame_effect}
 use Rattle.nr_reduce.specs.Server.{server_end, server_state_after, server_output, server_readiness, or_refusal, refusal_end, newly_open_reads, effect_output, with_effect, with_own_hello, received_by}
+use Rattle.nr_laws.proofs.FirstHellos.{first_hello, first_of_server}
 use Rattle.nr_laws.proofs.FrameContents.{FrameContent, numbered_segment, frame_bytes, output_bytes, total_of, sends_in, requests_in, hellos_in, effect_frames, server_frames, Carries, SentMessage, CompletesMessage, part_segment, last_segment}
 use Rattle.nr_laws.proofs.FrameContents.FrameContent.{HelloFrame, PartFrame, SendFrame, RequestFrame, TaggedFrame}
 use Rattle.nr_laws.proofs.LinkInvariants.{Transit, TotalsAgree, PendingAgree}
@@ -86,17 +87,17 @@ pub says_frame : (opened : LinkParameters) (s : ServerState) (f : Frame) → is_
 unfolding server_frames
 says_frame opened s f is = λ i. cond (is i) (HelloFrame ∷ []) (effect_frames (frame_effect s f))
 
-pub after_hello : (opened : LinkParameters) (s : ServerState) (f : Frame) → is_hello f ≡ true → server_state_after opened s (FrameReceived f) ≡ with_own_hello s
+pub after_hello : (opened : LinkParameters) (s : ServerState) (f : Frame) → is_hello f ≡ true → server_state_after opened s (FrameReceived f) ≡ with_own_hello opened s f
 unfolding server_state_after
-after_hello opened s f is = λ i. cond (is i) (with_own_hello s) (with_effect s f (frame_effect s f))
+after_hello opened s f is = λ i. cond (is i) (with_own_hello opened s f) (with_effect s f (frame_effect s f))
 
-output_hello : (opened : LinkParameters) (s : ServerState) (f : Frame) → is_hello f ≡ true → server_output opened s (FrameReceived f) ≡ own_hello Responder
+output_hello : (opened : LinkParameters) (s : ServerState) (f : Frame) → is_hello f ≡ true → server_output opened s (FrameReceived f) ≡ server_hello opened f
 unfolding server_output
-output_hello opened s f is = λ i. cond (is i) (own_hello Responder) (effect_output s (frame_effect s f))
+output_hello opened s f is = λ i. cond (is i) (server_hello opened f) (effect_output s (frame_effect s f))
 
 output_frame : (opened : LinkParameters) (s : ServerState) (f : Frame) → is_hello f ≡ false → server_output opened s (FrameReceived f) ≡ effect_output s (frame_effect s f)
 unfolding server_output
-output_frame opened s f is = λ i. cond (is i) (own_hello Responder) (effect_output s (frame_effect s f))
+output_frame opened s f is = λ i. cond (is i) (server_hello opened f) (effect_output s (frame_effect s f))
 
 -- ---- What is kept
 
@@ -137,7 +138,7 @@ messages_said opened k s u d all_up all_down w l =
 pub record ServerTook (opened : LinkParameters) (k : ClientState) (s : ServerState) (u d all_up all_down : List FrameContent) (w : Transit) (p : FrameContent) (rest : List FrameContent) (f : Frame) : Type 0 where
   pub said : List FrameContent
   pub said_is : said ≡ server_frames opened s (FrameReceived f)
-  pub output : server_output opened s (FrameReceived f) ≡ output_bytes Responder (total_of sends_in all_down) (total_of requests_in all_down) said
+  pub output : server_output opened s (FrameReceived f) ≡ output_bytes opened Responder (total_of sends_in all_down) (total_of requests_in all_down) said
   pub linked : EndsAgree opened k (server_state_after opened s (FrameReceived f)) (u ++ p ∷ []) d all_up (all_down ++ said) (taken_up w rest said)
 
 -- the payload of an FPDU of bytes is bytes
@@ -149,13 +150,13 @@ payload_bytes segment h =
     IsBytes_right front (payload_in segment) (IsBytes_left (front ++ payload_in segment) tail h)
 
 -- a hello that is due changes no call
-pub waits_greeted : (s : ServerState) → PendingAgree s → PendingAgree (with_own_hello s)
-waits_greeted s h = record { numbers = h.numbers; xids = h.xids; calls_below = h.calls_below; reads_below = h.reads_below; ready_apart = h.ready_apart; ready_calls = h.ready_calls; whole_calls = h.whole_calls }
+pub waits_greeted : (opened : LinkParameters) (s : ServerState) (f : Frame) → PendingAgree s → PendingAgree (with_own_hello opened s f)
+waits_greeted opened s f h = record { numbers = h.numbers; xids = h.xids; calls_below = h.calls_below; reads_below = h.reads_below; ready_apart = h.ready_apart; ready_calls = h.ready_calls; whole_calls = h.whole_calls }
 
 -- the client's hello
 took_hello : (opened : LinkParameters) (k : ClientState) (s : ServerState) (u d all_up all_down : List FrameContent) (w : Transit) (rest : List FrameContent) (f : Frame) → EndsAgree opened k s u d all_up all_down w → w.up ≡ HelloFrame ∷ rest
-    → u ≡ [] → is_hello f ≡ true → ServerTook opened k s u d all_up all_down w HelloFrame rest f
-took_hello opened k s u d all_up all_down w rest f l first none is =
+    → u ≡ [] → is_hello f ≡ true → f.bytes ≡ first_hello opened Initiator → ServerTook opened k s u d all_up all_down w HelloFrame rest f
+took_hello opened k s u d all_up all_down w rest f l first none is bytes =
     let says = says_hello opened s f is in
     let after = after_hello opened s f is in
     let empty : all_down ≡ [] = stream_none all_down l.stream_down (l.hellos_down ∙ ap (total_of hellos_in) none) in
@@ -164,10 +165,10 @@ took_hello opened k s u d all_up all_down w rest f l first none is =
     record {
       said = HelloFrame ∷ [];
       said_is = sym says;
-      output = output_hello opened s f is ∙ sym (append-nil (own_hello Responder));
+      output = output_hello opened s f is ∙ first_of_server opened f bytes ∙ sym (append-nil (first_hello opened Responder));
       linked =
           server_linked opened k s (server_state_after opened s (FrameReceived f)) u d all_up all_down w HelloFrame rest (HelloFrame ∷ []) l first counts
-          (subst (λ (t : ServerState). PendingAgree t) (sym after) (waits_greeted s l.waits)) (subst (λ (t : ServerState). CallsFit t.calls) (sym after) l.fits)
+          (subst (λ (t : ServerState). PendingAgree t) (sym after) (waits_greeted opened s f l.waits)) (subst (λ (t : ServerState). CallsFit t.calls) (sym after) l.fits)
           (subst (λ (ps : List FrameContent). IsOutput (ps ++ HelloFrame ∷ [])) (sym empty) tt) refl
           (omega (arith, ap (λ (t : ServerState). t.received.sends) after)) (omega (arith, ap (λ (t : ServerState). t.received.requests) after)) (omega (arith, ap (λ (t : ServerState). t.requests_sent) after))
           (subst (λ (t : ServerState). IsBytes (begun_bytes t.received.begun)) (sym after) l.bytes_up);
@@ -187,8 +188,8 @@ took_frame opened k s u d all_up all_down w p rest f r l first behind is some no
       said = said;
       said_is = sym (says_frame opened s f behind);
       output =
-          output_frame opened s f behind ∙ step_said s (frame_effect s f)
-          ∙ (λ i. output_bytes Responder (messages_said opened k s u d all_up all_down w l i) (l.requests_sent i) said);
+          output_frame opened s f behind ∙ step_said opened s (frame_effect s f)
+          ∙ (λ i. output_bytes opened Responder (messages_said opened k s u d all_up all_down w l i) (l.requests_sent i) said);
       linked =
           server_linked opened k s (server_state_after opened s (FrameReceived f)) u d all_up all_down w p rest said l first counts waits
           (subst CallsFit (ap (λ (e : FrameEffect). e.calls) effect ∙ ap (λ (t : ServerState). t.calls) (sym after)) fine.fit)
@@ -208,7 +209,7 @@ message_bytes h message completes front rest = subst IsBytes completes (bytes_bo
 
 -- a frame after the hello
 took_piece : (opened : LinkParameters) (k : ClientState) (s : ServerState) (u d all_up all_down : List FrameContent) (w : Transit) (p : FrameContent) (rest : List FrameContent) (f : Frame) → EndsAgree opened k s u d all_up all_down w → w.up ≡ p ∷ rest
-    → IsWritable p → 0 < total_of hellos_in all_down → Carries s.received.sends s.received.requests f p → IsBytes f.bytes → f.bytes ≡ frame_bytes Initiator (numbered_segment s.received.sends s.received.requests p)
+    → IsWritable p → 0 < total_of hellos_in all_down → Carries s.received.sends s.received.requests f p → IsBytes f.bytes → f.bytes ≡ frame_bytes opened Initiator (numbered_segment s.received.sends s.received.requests p)
     → server_end opened s (FrameReceived f) ≡ None → ServerTook opened k s u d all_up all_down w p rest f
 took_piece opened k s u d all_up all_down w HelloFrame rest f l first proper some piece bytes is stays = absurd proper
 took_piece opened k s u d all_up all_down w (PartFrame offset payload) rest f l first proper some piece bytes is stays =
@@ -238,25 +239,25 @@ took_piece opened k s u d all_up all_down w (TaggedFrame last opcode stag to pay
     (pending_agree_tagged_up opened s f last opcode stag to payload l.waits piece goes_on) (omega arith) (omega arith) l.bytes_up
 
 pub server_took : (opened : LinkParameters) (k : ClientState) (s : ServerState) (u d all_up all_down : List FrameContent) (w : Transit) (p : FrameContent) (rest : List FrameContent) (n r place : ℕ) → EndsAgree opened k s u d all_up all_down w → w.up ≡ p ∷ rest
-    → n ≡ total_of sends_in u → r ≡ total_of requests_in u → IsPlace u place → IsBytes (frame_bytes Initiator (numbered_segment n r p))
-    → server_end opened s (FrameReceived (frame_of (frame_bytes Initiator (numbered_segment n r p)) place)) ≡ None
-    → ServerTook opened k s u d all_up all_down w p rest (frame_of (frame_bytes Initiator (numbered_segment n r p)) place)
+    → n ≡ total_of sends_in u → r ≡ total_of requests_in u → IsPlace u place → IsBytes (frame_bytes opened Initiator (numbered_segment n r p))
+    → server_end opened s (FrameReceived (frame_of (frame_bytes opened Initiator (numbered_segment n r p)) place)) ≡ None
+    → ServerTook opened k s u d all_up all_down w p rest (frame_of (frame_bytes opened Initiator (numbered_segment n r p)) place)
 server_took opened k s [] d all_up all_down w p rest n r place l first sends requests at bytes stays =
     let stream : IsOutput (p ∷ (rest ++ w.queued_up)) = subst IsOutput (sym l.parts_up ∙ ap (λ (ps : List FrameContent). ps ++ w.queued_up) first) l.stream_up in
     let hello : p ≡ HelloFrame = stream_first p (rest ++ w.queued_up) stream in
-    let f = frame_of (frame_bytes Initiator (numbered_segment n r p)) place in
+    let f = frame_of (frame_bytes opened Initiator (numbered_segment n r p)) place in
     subst (λ (q : FrameContent). ServerTook opened k s [] d all_up all_down w q rest f) (sym hello)
-    (took_hello opened k s [] d all_up all_down w rest f l (first ∙ ap (λ (q : FrameContent). q ∷ rest) hello) refl (ap (λ (x : ℕ). eqb x 0) at))
+    (took_hello opened k s [] d all_up all_down w rest f l (first ∙ ap (λ (q : FrameContent). q ∷ rest) hello) refl (ap (λ (x : ℕ). eqb x 0) at) (ap (λ (q : FrameContent). frame_bytes opened Initiator (numbered_segment n r q)) hello))
 server_took opened k s (q ∷ u) d all_up all_down w p rest n r place l first sends requests at bytes stays =
     let stream : IsOutput (q ∷ u ++ p ∷ (rest ++ w.queued_up)) = subst IsOutput (sym l.parts_up ∙ ap (λ (ps : List FrameContent). q ∷ u ++ (ps ++ w.queued_up)) first) l.stream_up in
     let proper = stream_at_lem q u p (rest ++ w.queued_up) stream in
-    let f = frame_of (frame_bytes Initiator (numbered_segment n r p)) place in
+    let f = frame_of (frame_bytes opened Initiator (numbered_segment n r p)) place in
     let n_is : n ≡ s.received.sends = sends ∙ sym l.sends_up in
     let r_is : r ≡ s.received.requests = requests ∙ sym l.requests_up in
     let begun : 0 < total_of hellos_in (q ∷ u) = hello_there q u (p ∷ (rest ++ w.queued_up)) stream in
     took_piece opened k s (q ∷ u) d all_up all_down w p rest f l first proper (omega (arith, begun, l.hellos_down))
-    (subst (λ (x : ℕ). Carries x s.received.requests f p) n_is (subst (λ (x : ℕ). Carries n x f p) r_is (is_piece Initiator n r place p (proper_one n r p proper) at)))
-    bytes (λ i. frame_bytes Initiator (numbered_segment (n_is i) (r_is i) p)) stays
+    (subst (λ (x : ℕ). Carries x s.received.requests f p) n_is (subst (λ (x : ℕ). Carries n x f p) r_is (is_piece opened Initiator n r place p (proper_one n r p proper) at)))
+    bytes (λ i. frame_bytes opened Initiator (numbered_segment (n_is i) (r_is i) p)) stays
   where
     hello_there : (q : FrameContent) (ps qs : List FrameContent) → IsOutput (q ∷ ps ++ qs) → 0 < total_of hellos_in (q ∷ ps)
     hello_there HelloFrame ps qs h = omega arith

@@ -83,10 +83,10 @@ none_more : (xs more : List ℕ) → more ≡ [] → xs ++ more ≡ xs
 none_more xs more e = ap (λ (ys : List ℕ). xs ++ ys) e ∙ append-nil xs
 
 client_preserves : (opened : LinkParameters) (link : ℕ) (run : List Mark) (mark : Mark) (j : RunAgrees opened link run) (event : RunEvent) (said : List FrameContent) (w : Transit) → ((f : Frame) → event ≢ FrameReceived f)
-    → EndsAgree opened (client_state_after opened j.k event) j.s j.u j.d (j.all_up ++ said) j.all_down w → client_output opened j.k event ≡ output_bytes Initiator (total_of sends_in j.all_up) (total_of requests_in j.all_up) said
+    → EndsAgree opened (client_state_after opened j.k event) j.s j.u j.d (j.all_up ++ said) j.all_down w → client_output opened j.k event ≡ output_bytes opened Initiator (total_of sends_in j.all_up) (total_of requests_in j.all_up) said
     → events_at link Initiator run mark ≡ event ∷ [] → events_at link Responder run mark ≡ [] → fed_at link Initiator mark ≡ [] → fed_at link Responder mark ≡ [] → written_at link Responder mark ≡ []
-    → bytes_sent link Initiator run ++ written_at link Initiator mark ≡ output_bytes Initiator 0 0 (j.u ++ w.up) → w.down ≡ j.w.down
-    → (IsOpened opened → WithinGrant opened link run mark → Guards opened j.k j.s j.u j.d j.all_up j.all_down j.w (place_of j.u) → Guards opened (client_state_after opened j.k event) j.s j.u j.d (j.all_up ++ said) j.all_down w (place_of j.u))
+    → bytes_sent link Initiator run ++ written_at link Initiator mark ≡ output_bytes opened Initiator 0 0 (j.u ++ w.up) → w.down ≡ j.w.down
+    → (IsOpened opened → WithinGrant opened link run mark → Guards opened j.k j.s j.u j.d j.all_up j.all_down j.w (place_of opened j.u) → Guards opened (client_state_after opened j.k event) j.s j.u j.d (j.all_up ++ said) j.all_down w (place_of opened j.u))
     → (TypedMark run mark → NotRevokedMark link run mark → AccessesAgree opened j.k j.s j.d j.all_up j.all_down (length (bytes_received link Initiator run))
     → AccessesAgree opened (client_state_after opened j.k event) j.s j.d (j.all_up ++ said) j.all_down (length (bytes_received link Initiator run)))
     → MarkAgrees opened link run mark j
@@ -108,19 +108,19 @@ client_preserves opened link run mark j event said w other linked output own the
       frames_up = ap (λ (xs : List ℕ). (split (HelloFrom Initiator) xs).frames) (none_more (bytes_received link Responder run) (fed_at link Responder mark) fed_r) ∙ j.frames_up;
       frames_down = ap (λ (xs : List ℕ). (split (HelloFrom Responder) xs).frames) (none_more (bytes_received link Initiator run) (fed_at link Initiator mark) fed_i) ∙ j.frames_down;
       sent_up = sent;
-      sent_down = none_more (bytes_sent link Responder run) (written_at link Responder mark) wrote_r ∙ j.sent_down ∙ ap (λ (ps : List FrameContent). output_bytes Responder 0 0 (j.d ++ ps)) (sym same);
+      sent_down = none_more (bytes_sent link Responder run) (written_at link Responder mark) wrote_r ∙ j.sent_down ∙ ap (λ (ps : List FrameContent). output_bytes opened Responder 0 0 (j.d ++ ps)) (sym same);
       bytes_up = subst IsBytes (sym (none_more (bytes_received link Responder run) (fed_at link Responder mark) fed_r)) j.bytes_up;
       bytes_down = subst IsBytes (sym (none_more (bytes_received link Initiator run) (fed_at link Initiator mark) fed_i)) j.bytes_down;
-      guarded = λ o within g. guards_up opened (client_state_after opened j.k event) j.s j.u j.d (j.all_up ++ said) j.all_down w (place_of j.u) (guarded o within g);
+      guarded = λ o within g. guards_up opened (client_state_after opened j.k event) j.s j.u j.d (j.all_up ++ said) j.all_down w (place_of opened j.u) (guarded o within g);
       accessed = λ o typed kept g h. accesses_up opened (client_state_after opened j.k event) j.s j.d (j.all_up ++ said) j.all_down (length (bytes_received link Initiator run)) (accessed typed kept h);
     }
 
 server_preserves : (opened : LinkParameters) (link : ℕ) (run : List Mark) (mark : Mark) (j : RunAgrees opened link run) (event : RunEvent) (said : List FrameContent) (w : Transit) → ((f : Frame) → event ≢ FrameReceived f)
-    → EndsAgree opened j.k (server_state_after opened j.s event) j.u j.d j.all_up (j.all_down ++ said) w → server_output opened j.s event ≡ output_bytes Responder (total_of sends_in j.all_down) (total_of requests_in j.all_down) said
+    → EndsAgree opened j.k (server_state_after opened j.s event) j.u j.d j.all_up (j.all_down ++ said) w → server_output opened j.s event ≡ output_bytes opened Responder (total_of sends_in j.all_down) (total_of requests_in j.all_down) said
     → events_at link Initiator run mark ≡ [] → events_at link Responder run mark ≡ event ∷ [] → fed_at link Initiator mark ≡ [] → fed_at link Responder mark ≡ [] → written_at link Initiator mark ≡ []
-    → bytes_sent link Responder run ++ written_at link Responder mark ≡ output_bytes Responder 0 0 (j.d ++ w.down) → w.up ≡ j.w.up
-    → (IsOpened opened → Guards opened j.k j.s j.u j.d j.all_up j.all_down j.w (place_of j.u) → Guards opened j.k (server_state_after opened j.s event) j.u j.d j.all_up (j.all_down ++ said) w (place_of j.u))
-    → (Guards opened j.k j.s j.u j.d j.all_up j.all_down j.w (place_of j.u) → AccessesAgree opened j.k j.s j.d j.all_up j.all_down (length (bytes_received link Initiator run))
+    → bytes_sent link Responder run ++ written_at link Responder mark ≡ output_bytes opened Responder 0 0 (j.d ++ w.down) → w.up ≡ j.w.up
+    → (IsOpened opened → Guards opened j.k j.s j.u j.d j.all_up j.all_down j.w (place_of opened j.u) → Guards opened j.k (server_state_after opened j.s event) j.u j.d j.all_up (j.all_down ++ said) w (place_of opened j.u))
+    → (Guards opened j.k j.s j.u j.d j.all_up j.all_down j.w (place_of opened j.u) → AccessesAgree opened j.k j.s j.d j.all_up j.all_down (length (bytes_received link Initiator run))
     → AccessesAgree opened j.k (server_state_after opened j.s event) j.d j.all_up (j.all_down ++ said) (length (bytes_received link Initiator run)))
     → MarkAgrees opened link run mark j
 server_preserves opened link run mark j event said w other linked output theirs own fed_i fed_r wrote_i sent same guarded accessed =
@@ -140,11 +140,11 @@ server_preserves opened link run mark j event said w other linked output theirs 
       output_down = ap (λ (es : List RunEvent). output_for_all (server_rules opened) (live j.s) es) own ∙ one.output ∙ output;
       frames_up = ap (λ (xs : List ℕ). (split (HelloFrom Initiator) xs).frames) (none_more (bytes_received link Responder run) (fed_at link Responder mark) fed_r) ∙ j.frames_up;
       frames_down = ap (λ (xs : List ℕ). (split (HelloFrom Responder) xs).frames) (none_more (bytes_received link Initiator run) (fed_at link Initiator mark) fed_i) ∙ j.frames_down;
-      sent_up = none_more (bytes_sent link Initiator run) (written_at link Initiator mark) wrote_i ∙ j.sent_up ∙ ap (λ (ps : List FrameContent). output_bytes Initiator 0 0 (j.u ++ ps)) (sym same);
+      sent_up = none_more (bytes_sent link Initiator run) (written_at link Initiator mark) wrote_i ∙ j.sent_up ∙ ap (λ (ps : List FrameContent). output_bytes opened Initiator 0 0 (j.u ++ ps)) (sym same);
       sent_down = sent;
       bytes_up = subst IsBytes (sym (none_more (bytes_received link Responder run) (fed_at link Responder mark) fed_r)) j.bytes_up;
       bytes_down = subst IsBytes (sym (none_more (bytes_received link Initiator run) (fed_at link Initiator mark) fed_i)) j.bytes_down;
-      guarded = λ o within g. guards_down opened j.k (server_state_after opened j.s event) j.u j.d j.all_up (j.all_down ++ said) w (place_of j.u) (guarded o g);
+      guarded = λ o within g. guards_down opened j.k (server_state_after opened j.s event) j.u j.d j.all_up (j.all_down ++ said) w (place_of opened j.u) (guarded o g);
       accessed = λ o typed kept g h. accesses_down opened j.k (server_state_after opened j.s event) j.d j.all_up (j.all_down ++ said) (length (bytes_received link Initiator run)) (accessed g h);
     }
 
@@ -168,8 +168,8 @@ submit_preserves opened link run call form xid j h =
     (append-nil (bytes_sent link Initiator run) ∙ j.sent_up) refl
     (λ o within g.
     let room : length j.k.outstanding < j.k.grant = room_of opened link run j (within refl) in
-    subst (λ (ps : List FrameContent). Guards opened (client_state_after opened j.k (CallSubmitted place a)) j.s j.u j.d (j.all_up ++ ps) j.all_down (up_more j.w ps) (place_of j.u)) (sym m.said_is)
-    (guards_submit opened j.k j.s j.u j.d j.all_up j.all_down j.w (place_of j.u) place a h.plan j.linked g planned own h.xids limits room))
+    subst (λ (ps : List FrameContent). Guards opened (client_state_after opened j.k (CallSubmitted place a)) j.s j.u j.d (j.all_up ++ ps) j.all_down (up_more j.w ps) (place_of opened j.u)) (sym m.said_is)
+    (guards_submit opened j.k j.s j.u j.d j.all_up j.all_down j.w (place_of opened j.u) place a h.plan j.linked g planned own h.xids limits room))
     (λ typed kept agree.
     let stags : j.k.stag + regions_needed h.plan ≤ numbers_end = subst (λ (r : EndState ClientState). r.state.stag + regions_needed h.plan ≤ numbers_end) j.client_is h.stags in
     subst (λ (ps : List FrameContent). AccessesAgree opened (client_state_after opened j.k (CallSubmitted place a)) j.s j.d (j.all_up ++ ps) j.all_down place) (sym m.said_is)
@@ -201,10 +201,10 @@ wrote_up_preserves opened link run bytes j all =
     (sym (append-nil j.all_up)) (written_up opened j.k j.s j.u j.d j.all_up j.all_down j.w n takes ends j.linked) in
     client_preserves opened link run (marks.Wrote link Initiator bytes) j (QueueWritten (length bytes)) [] (record { queued_up = []; up = j.w.up ++ j.w.queued_up; queued_down = j.w.queued_down; down = j.w.down }) (λ f e. absurd cc) l refl
     (own_events link (QueueWritten (length bytes) ∷ [])) (other_events (eqb link link) (QueueWritten (length bytes) ∷ [])) refl refl (other_bytes (eqb link link) bytes)
-    (ap (λ (xs : List ℕ). bytes_sent link Initiator run ++ xs) (own_bytes link bytes) ∙ all ∙ j.due_up ∙ ap (λ (ps : List FrameContent). output_bytes Initiator 0 0 ps) (sym j.linked.parts_up)) refl
+    (ap (λ (xs : List ℕ). bytes_sent link Initiator run ++ xs) (own_bytes link bytes) ∙ all ∙ j.due_up ∙ ap (λ (ps : List FrameContent). output_bytes opened Initiator 0 0 ps) (sym j.linked.parts_up)) refl
     (λ o within g.
-    guards_down opened (client_state_after opened j.k (QueueWritten (length bytes))) j.s j.u j.d j.all_up j.all_down (record { queued_up = []; up = j.w.up ++ j.w.queued_up; queued_down = j.w.queued_down; down = j.w.down }) (place_of j.u)
-    (guards_written_up opened j.k j.s j.u j.d j.all_up j.all_down j.w (place_of j.u) n takes ends g))
+    guards_down opened (client_state_after opened j.k (QueueWritten (length bytes))) j.s j.u j.d j.all_up j.all_down (record { queued_up = []; up = j.w.up ++ j.w.queued_up; queued_down = j.w.queued_down; down = j.w.down }) (place_of opened j.u)
+    (guards_written_up opened j.k j.s j.u j.d j.all_up j.all_down j.w (place_of opened j.u) n takes ends g))
     (λ typed kept agree.
     accesses_down opened (client_state_after opened j.k (QueueWritten (length bytes))) j.s j.d j.all_up j.all_down (length (bytes_received link Initiator run))
     (accessed_written_up n opened j.k j.s j.d j.all_up j.all_down (length (bytes_received link Initiator run)) agree))
@@ -219,7 +219,7 @@ revoke_preserves opened link run xid bytes j =
     (own_events link (MemoryRevoked place xid ∷ [])) (other_events (eqb link link) (MemoryRevoked (length (bytes_received link Responder run)) xid ∷ [])) refl refl refl
     (append-nil (bytes_sent link Initiator run) ∙ j.sent_up) refl
     (λ o within g.
-    guards_down opened (client_state_after opened j.k (MemoryRevoked place xid)) j.s j.u j.d j.all_up j.all_down j.w (place_of j.u) (guards_revoke opened j.k j.s j.u j.d j.all_up j.all_down j.w (place_of j.u) place xid g))
+    guards_down opened (client_state_after opened j.k (MemoryRevoked place xid)) j.s j.u j.d j.all_up j.all_down j.w (place_of opened j.u) (guards_revoke opened j.k j.s j.u j.d j.all_up j.all_down j.w (place_of opened j.u) place xid g))
     (λ typed kept agree. absurd (kept refl))
 
 pub wrote_down_preserves : (opened : LinkParameters) (link : ℕ) (run : List Mark) (bytes : List ℕ) (j : RunAgrees opened link run) → bytes_sent link Responder run ++ bytes ≡ output_due opened link Responder run
@@ -233,10 +233,10 @@ wrote_down_preserves opened link run bytes j all =
     (sym (append-nil j.all_down)) (written_down opened j.k j.s j.u j.d j.all_up j.all_down j.w n takes ends j.linked) in
     server_preserves opened link run (marks.Wrote link Responder bytes) j (QueueWritten (length bytes)) [] (record { queued_up = j.w.queued_up; up = j.w.up; queued_down = []; down = j.w.down ++ j.w.queued_down }) (λ f e. absurd cc) l refl
     (other_events (eqb link link) (QueueWritten (length bytes) ∷ [])) (own_events link (QueueWritten (length bytes) ∷ [])) refl refl (other_bytes (eqb link link) bytes)
-    (ap (λ (xs : List ℕ). bytes_sent link Responder run ++ xs) (own_bytes link bytes) ∙ all ∙ j.due_down ∙ ap (λ (ps : List FrameContent). output_bytes Responder 0 0 ps) (sym j.linked.parts_down)) refl
+    (ap (λ (xs : List ℕ). bytes_sent link Responder run ++ xs) (own_bytes link bytes) ∙ all ∙ j.due_down ∙ ap (λ (ps : List FrameContent). output_bytes opened Responder 0 0 ps) (sym j.linked.parts_down)) refl
     (λ o g.
-    guards_up opened j.k (server_state_after opened j.s (QueueWritten (length bytes))) j.u j.d j.all_up j.all_down (record { queued_up = j.w.queued_up; up = j.w.up; queued_down = []; down = j.w.down ++ j.w.queued_down }) (place_of j.u)
-    (guards_written_down opened j.k j.s j.u j.d j.all_up j.all_down j.w (place_of j.u) n takes ends g))
+    guards_up opened j.k (server_state_after opened j.s (QueueWritten (length bytes))) j.u j.d j.all_up j.all_down (record { queued_up = j.w.queued_up; up = j.w.up; queued_down = []; down = j.w.down ++ j.w.queued_down }) (place_of opened j.u)
+    (guards_written_down opened j.k j.s j.u j.d j.all_up j.all_down j.w (place_of opened j.u) n takes ends g))
     (λ g agree.
     accesses_up opened j.k (server_state_after opened j.s (QueueWritten (length bytes))) j.d j.all_up j.all_down (length (bytes_received link Initiator run))
     (accessed_written_down n opened j.k j.s j.d j.all_up j.all_down (length (bytes_received link Initiator run)) agree))
@@ -269,8 +269,8 @@ execute_preserves opened link run xid moment payload place reply j h =
     (other_events (eqb link link) (CallExecuted e ∷ [])) (own_events link (CallExecuted e ∷ [])) refl refl refl
     (append-nil (bytes_sent link Responder run) ∙ j.sent_down) refl
     (λ o g.
-    subst (λ (ps : List FrameContent). Guards opened j.k (server_state_after opened j.s (CallExecuted e)) j.u j.d j.all_up (j.all_down ++ ps) (record { queued_up = j.w.queued_up; up = j.w.up; queued_down = j.w.queued_down ++ ps; down = j.w.down }) (place_of j.u)) (sym m.said_is)
-    (guards_execute opened j.k j.s j.u j.d j.all_up j.all_down j.w (place_of j.u) e h.call first.0 o j.linked g j.linked.fits first.1 h.own))
+    subst (λ (ps : List FrameContent). Guards opened j.k (server_state_after opened j.s (CallExecuted e)) j.u j.d j.all_up (j.all_down ++ ps) (record { queued_up = j.w.queued_up; up = j.w.up; queued_down = j.w.queued_down ++ ps; down = j.w.down }) (place_of opened j.u)) (sym m.said_is)
+    (guards_execute opened j.k j.s j.u j.d j.all_up j.all_down j.w (place_of opened j.u) e h.call first.0 o j.linked g j.linked.fits first.1 h.own))
     (λ g agree.
     subst (λ (ps : List FrameContent). AccessesAgree opened j.k (server_state_after opened j.s (CallExecuted e)) j.d j.all_up (j.all_down ++ ps) (length (bytes_received link Initiator run))) (sym m.said_is)
     (accessed_execute opened j.k j.s j.d j.all_up j.all_down (length (bytes_received link Initiator run)) e h.call first.0 agree first.1 h.own j.linked.waits.whole_calls g.numbers

@@ -56,26 +56,26 @@ pub record RunAgrees (opened : LinkParameters) (link : ℕ) (run : List Mark) : 
   pub client_is : client opened link run ≡ live k
   pub server_is : server opened link run ≡ live s
   pub linked : EndsAgree opened k s u d all_up all_down w
-  pub frames_up : (split (HelloFrom Initiator) (bytes_received link Responder run)).frames ≡ frames_at Initiator 0 0 u
-  pub frames_down : (split (HelloFrom Responder) (bytes_received link Initiator run)).frames ≡ frames_at Responder 0 0 d
-  pub sent_up : bytes_sent link Initiator run ≡ output_bytes Initiator 0 0 (u ++ w.up)
-  pub sent_down : bytes_sent link Responder run ≡ output_bytes Responder 0 0 (d ++ w.down)
-  pub due_up : output_due opened link Initiator run ≡ output_bytes Initiator 0 0 all_up
-  pub due_down : output_due opened link Responder run ≡ output_bytes Responder 0 0 all_down
+  pub frames_up : (split (HelloFrom Initiator) (bytes_received link Responder run)).frames ≡ frames_at opened Initiator 0 0 u
+  pub frames_down : (split (HelloFrom Responder) (bytes_received link Initiator run)).frames ≡ frames_at opened Responder 0 0 d
+  pub sent_up : bytes_sent link Initiator run ≡ output_bytes opened Initiator 0 0 (u ++ w.up)
+  pub sent_down : bytes_sent link Responder run ≡ output_bytes opened Responder 0 0 (d ++ w.down)
+  pub due_up : output_due opened link Initiator run ≡ output_bytes opened Initiator 0 0 all_up
+  pub due_down : output_due opened link Responder run ≡ output_bytes opened Responder 0 0 all_down
   pub bytes_up : IsBytes (bytes_received link Responder run)
   pub bytes_down : IsBytes (bytes_received link Initiator run)
 
 -- how far the frames went that the server received
-abbrev pub place_of : List FrameContent → ℕ
-place_of u = length (concat (frames_at Initiator 0 0 u))
+abbrev pub place_of : LinkParameters → List FrameContent → ℕ
+place_of opened u = length (concat (frames_at opened Initiator 0 0 u))
 
 -- ---- One mark more
 
-pub joined : (side : Side) (ps qs : List FrameContent) → output_bytes side 0 0 ps ++ output_bytes side (total_of sends_in ps) (total_of requests_in ps) qs ≡ output_bytes side 0 0 (ps ++ qs)
-joined side ps qs =
+pub joined : (opened : LinkParameters) (side : Side) (ps qs : List FrameContent) → output_bytes opened side 0 0 ps ++ output_bytes opened side (total_of sends_in ps) (total_of requests_in ps) qs ≡ output_bytes opened side 0 0 (ps ++ qs)
+joined opened side ps qs =
     let sends : total_of sends_in ps ≡ 0 + total_of sends_in ps = omega arith in
     let reads : total_of requests_in ps ≡ 0 + total_of requests_in ps = omega arith in
-    (λ i. output_bytes side 0 0 ps ++ output_bytes side (sends i) (reads i) qs) ∙ sym (spelled_append side 0 0 ps qs)
+    (λ i. output_bytes opened side 0 0 ps ++ output_bytes opened side (sends i) (reads i) qs) ∙ sym (spelled_append opened side 0 0 ps qs)
 
 -- what a mark does to it
 pub record MarkAgrees (opened : LinkParameters) (link : ℕ) (run : List Mark) (mark : Mark) (j : RunAgrees opened link run) : Type 0 where
@@ -89,17 +89,17 @@ pub record MarkAgrees (opened : LinkParameters) (link : ℕ) (run : List Mark) (
   pub linked : EndsAgree opened k s u d (j.all_up ++ said_up) (j.all_down ++ said_down) w
   pub client : end_state_after (client_rules opened) (live j.k) (events_at link Initiator run mark) ≡ live k
   pub server : end_state_after (server_rules opened) (live j.s) (events_at link Responder run mark) ≡ live s
-  pub output_up : output_for_all (client_rules opened) (live j.k) (events_at link Initiator run mark) ≡ output_bytes Initiator (total_of sends_in j.all_up) (total_of requests_in j.all_up) said_up
-  pub output_down : output_for_all (server_rules opened) (live j.s) (events_at link Responder run mark) ≡ output_bytes Responder (total_of sends_in j.all_down) (total_of requests_in j.all_down) said_down
-  pub frames_up : (split (HelloFrom Initiator) (bytes_received link Responder run ++ fed_at link Responder mark)).frames ≡ frames_at Initiator 0 0 u
-  pub frames_down : (split (HelloFrom Responder) (bytes_received link Initiator run ++ fed_at link Initiator mark)).frames ≡ frames_at Responder 0 0 d
-  pub sent_up : bytes_sent link Initiator run ++ written_at link Initiator mark ≡ output_bytes Initiator 0 0 (u ++ w.up)
-  pub sent_down : bytes_sent link Responder run ++ written_at link Responder mark ≡ output_bytes Responder 0 0 (d ++ w.down)
+  pub output_up : output_for_all (client_rules opened) (live j.k) (events_at link Initiator run mark) ≡ output_bytes opened Initiator (total_of sends_in j.all_up) (total_of requests_in j.all_up) said_up
+  pub output_down : output_for_all (server_rules opened) (live j.s) (events_at link Responder run mark) ≡ output_bytes opened Responder (total_of sends_in j.all_down) (total_of requests_in j.all_down) said_down
+  pub frames_up : (split (HelloFrom Initiator) (bytes_received link Responder run ++ fed_at link Responder mark)).frames ≡ frames_at opened Initiator 0 0 u
+  pub frames_down : (split (HelloFrom Responder) (bytes_received link Initiator run ++ fed_at link Initiator mark)).frames ≡ frames_at opened Responder 0 0 d
+  pub sent_up : bytes_sent link Initiator run ++ written_at link Initiator mark ≡ output_bytes opened Initiator 0 0 (u ++ w.up)
+  pub sent_down : bytes_sent link Responder run ++ written_at link Responder mark ≡ output_bytes opened Responder 0 0 (d ++ w.down)
   pub bytes_up : IsBytes (bytes_received link Responder run ++ fed_at link Responder mark)
   pub bytes_down : IsBytes (bytes_received link Initiator run ++ fed_at link Initiator mark)
-  pub guarded : IsOpened opened → WithinGrant opened link run mark → Guards opened j.k j.s j.u j.d j.all_up j.all_down j.w (place_of j.u)
-      → Guards opened k s u d (j.all_up ++ said_up) (j.all_down ++ said_down) w (place_of u)
-  pub accessed : IsOpened opened → TypedMark run mark → NotRevokedMark link run mark → Guards opened j.k j.s j.u j.d j.all_up j.all_down j.w (place_of j.u)
+  pub guarded : IsOpened opened → WithinGrant opened link run mark → Guards opened j.k j.s j.u j.d j.all_up j.all_down j.w (place_of opened j.u)
+      → Guards opened k s u d (j.all_up ++ said_up) (j.all_down ++ said_down) w (place_of opened u)
+  pub accessed : IsOpened opened → TypedMark run mark → NotRevokedMark link run mark → Guards opened j.k j.s j.u j.d j.all_up j.all_down j.w (place_of opened j.u)
       → AccessesAgree opened j.k j.s j.d j.all_up j.all_down (length (bytes_received link Initiator run)) → AccessesAgree opened k s d (j.all_up ++ said_up) (j.all_down ++ said_down) (length (bytes_received link Initiator run))
 
 unfoldable pub preserved : (opened : LinkParameters) (link : ℕ) (run : List Mark) (mark : Mark) (j : RunAgrees opened link run) → MarkAgrees opened link run mark j → RunAgrees opened link (run ++ mark ∷ [])
@@ -124,13 +124,13 @@ preserved opened link run mark j g =
       due_up =
           output_due_up_one opened link run mark
           ∙ (λ i. j.due_up i ++ output_for_all (client_rules opened) (j.client_is i) (events_at link Initiator run mark))
-          ∙ ap (λ (xs : List ℕ). output_bytes Initiator 0 0 j.all_up ++ xs) g.output_up
-          ∙ joined Initiator j.all_up g.said_up;
+          ∙ ap (λ (xs : List ℕ). output_bytes opened Initiator 0 0 j.all_up ++ xs) g.output_up
+          ∙ joined opened Initiator j.all_up g.said_up;
       due_down =
           output_due_down_one opened link run mark
           ∙ (λ i. j.due_down i ++ output_for_all (server_rules opened) (j.server_is i) (events_at link Responder run mark))
-          ∙ ap (λ (xs : List ℕ). output_bytes Responder 0 0 j.all_down ++ xs) g.output_down
-          ∙ joined Responder j.all_down g.said_down;
+          ∙ ap (λ (xs : List ℕ). output_bytes opened Responder 0 0 j.all_down ++ xs) g.output_down
+          ∙ joined opened Responder j.all_down g.said_down;
       bytes_up = subst IsBytes (sym up) g.bytes_up;
       bytes_down = subst IsBytes (sym down) g.bytes_down;
     }
@@ -183,54 +183,54 @@ none_preserve opened link run mark j own theirs fed_i fed_r wrote_i wrote_r = re
   sent_down = ap (λ (xs : List ℕ). bytes_sent link Responder run ++ xs) wrote_r ∙ append-nil (bytes_sent link Responder run) ∙ j.sent_down;
   bytes_up = subst IsBytes (sym (ap (λ (xs : List ℕ). bytes_received link Responder run ++ xs) fed_r ∙ append-nil (bytes_received link Responder run))) j.bytes_up;
   bytes_down = subst IsBytes (sym (ap (λ (xs : List ℕ). bytes_received link Initiator run ++ xs) fed_i ∙ append-nil (bytes_received link Initiator run))) j.bytes_down;
-  guarded = λ o within g. guards_all opened j.k j.s j.u j.d j.all_up j.all_down j.w (place_of j.u) g;
+  guarded = λ o within g. guards_all opened j.k j.s j.u j.d j.all_up j.all_down j.w (place_of opened j.u) g;
   accessed = λ o typed kept g h.
       accesses_down opened j.k j.s j.d j.all_up (j.all_down ++ []) (length (bytes_received link Initiator run)) (accesses_up opened j.k j.s j.d j.all_up j.all_down (length (bytes_received link Initiator run)) h);
 }
 
 -- ---- A Fed
 
-some_frames : (side : Side) (a : Awaited) (n r : ℕ) (ps : List FrameContent) → IsOf side a → AreWritableFrom a n r ps → AreSome (frames_at side n r ps)
-some_frames side a n r [] of h = tt
-some_frames side a n r (p ∷ ps) of h =
-    let f = proper_frame side a (numbered_segment n r p) of h.0 in
-    (omega (arith, f.fields, fields_some a), some_frames side Fpdu (n + sends_in p) (r + requests_in p) ps tt h.1)
+some_frames : (opened : LinkParameters) (side : Side) (a : Awaited) (n r : ℕ) (ps : List FrameContent) → IsOf side a → AreWritableFrom a n r ps → AreSome (frames_at opened side n r ps)
+some_frames opened side a n r [] of h = tt
+some_frames opened side a n r (p ∷ ps) of h =
+    let f = proper_frame opened side a (numbered_segment n r p) of h.0 in
+    (omega (arith, f.fields, fields_some a), some_frames opened side Fpdu (n + sends_in p) (r + requests_in p) ps tt h.1)
 
 some_right : (xs ys : List (List ℕ)) → AreSome (xs ++ ys) → AreSome ys
 some_right [] ys h = h
 some_right (x ∷ xs) ys h = some_right xs ys h.1
 
-at_place_lem : (side : Side) (ps : List FrameContent) → AreSome (frames_at side 0 0 ps) → IsPlace ps (length (concat (frames_at side 0 0 ps)))
-at_place_lem side [] h = refl
-at_place_lem side (p ∷ ps) h =
-    omega (arith, h.0, length-append (frame_bytes side (numbered_segment 0 0 p)) (concat (frames_at side (0 + sends_in p) (0 + requests_in p) ps)))
+at_place_lem : (opened : LinkParameters) (side : Side) (ps : List FrameContent) → AreSome (frames_at opened side 0 0 ps) → IsPlace ps (length (concat (frames_at opened side 0 0 ps)))
+at_place_lem opened side [] h = refl
+at_place_lem opened side (p ∷ ps) h =
+    omega (arith, h.0, length-append (frame_bytes opened side (numbered_segment 0 0 p)) (concat (frames_at opened side (0 + sends_in p) (0 + requests_in p) ps)))
 
 -- the new frames of some more bytes, with what the loops over their frames ask
-pub record ArrivedFrames (side : Side) (got bytes : List ℕ) (came way : List FrameContent) : Type 0 where
+pub record ArrivedFrames (opened : LinkParameters) (side : Side) (got bytes : List ℕ) (came way : List FrameContent) : Type 0 where
   pub new : List FrameContent
   pub left : List FrameContent
   pub parts : way ≡ new ++ left
-  pub frames : frames_completed side got bytes ≡ frames_from (length (concat (frames_at side 0 0 came))) (frames_at side (0 + total_of sends_in came) (0 + total_of requests_in came) new)
-  pub all : (split (HelloFrom side) (got ++ bytes)).frames ≡ frames_at side 0 0 (came ++ new)
-  pub some : AreSome (frames_at side (0 + total_of sends_in came) (0 + total_of requests_in came) new)
-  pub bytes_are : IsBytes (concat (frames_at side (0 + total_of sends_in came) (0 + total_of requests_in came) new))
-  pub place : IsPlace came (length (concat (frames_at side 0 0 came)))
+  pub frames : frames_completed side got bytes ≡ frames_from (length (concat (frames_at opened side 0 0 came))) (frames_at opened side (0 + total_of sends_in came) (0 + total_of requests_in came) new)
+  pub all : (split (HelloFrom side) (got ++ bytes)).frames ≡ frames_at opened side 0 0 (came ++ new)
+  pub some : AreSome (frames_at opened side (0 + total_of sends_in came) (0 + total_of requests_in came) new)
+  pub bytes_are : IsBytes (concat (frames_at opened side (0 + total_of sends_in came) (0 + total_of requests_in came) new))
+  pub place : IsPlace came (length (concat (frames_at opened side 0 0 came)))
 
-pub arrives : (side : Side) (got bytes sent : List ℕ) (came way later : List FrameContent) → IsOutput (came ++ (way ++ later)) → (split (HelloFrom side) got).frames ≡ frames_at side 0 0 came → sent ≡ output_bytes side 0 0 (came ++ way)
-    → IsPrefixOf (got ++ bytes) sent → IsBytes (got ++ bytes) → ArrivedFrames side got bytes came way
-arrives side got bytes sent came way later stream before is prefix typed =
+pub arrives : (opened : LinkParameters) (side : Side) (got bytes sent : List ℕ) (came way later : List FrameContent) → IsOutput (came ++ (way ++ later)) → (split (HelloFrom side) got).frames ≡ frames_at opened side 0 0 came → sent ≡ output_bytes opened side 0 0 (came ++ way)
+    → IsPrefixOf (got ++ bytes) sent → IsBytes (got ++ bytes) → ArrivedFrames opened side got bytes came way
+arrives opened side got bytes sent came way later stream before is prefix typed =
     let front : IsOutput (came ++ way) = stream_left (came ++ way) later (subst IsOutput (sym (append_assoc came way later)) stream) in
     let proper = stream_proper side (came ++ way) front in
-    let m = fed side got bytes prefix.0 came way proper before (prefix.1 ∙ is) in
-    let old = frames_at side 0 0 came in
-    let news = frames_at side (0 + total_of sends_in came) (0 + total_of requests_in came) m.new in
+    let m = fed opened side got bytes prefix.0 came way proper before (prefix.1 ∙ is) in
+    let old = frames_at opened side 0 0 came in
+    let news = frames_at opened side (0 + total_of sends_in came) (0 + total_of requests_in came) m.new in
     let parts : came ++ way ≡ (came ++ m.new) ++ m.left = ap (λ (ps : List FrameContent). came ++ ps) m.parts ∙ sym (append_assoc came m.new m.left) in
     let known : IsOutput (came ++ m.new) = stream_left (came ++ m.new) m.left (subst IsOutput parts front) in
-    let some : AreSome (old ++ news) = subst AreSome (frames_append side 0 0 came m.new) (some_frames side (HelloFrom side) 0 0 (came ++ m.new) refl (stream_proper side (came ++ m.new) known)) in
+    let some : AreSome (old ++ news) = subst AreSome (frames_append opened side 0 0 came m.new) (some_frames opened side (HelloFrom side) 0 0 (came ++ m.new) refl (stream_proper side (came ++ m.new) known)) in
     let sp = split_Splits (HelloFrom side) (got ++ bytes) in
     let whole : IsBytes (concat (split (HelloFrom side) (got ++ bytes)).frames) = IsBytes_left (concat (split (HelloFrom side) (got ++ bytes)).frames) (split (HelloFrom side) (got ++ bytes)).rest (subst IsBytes sp.whole typed) in
-    let both : concat (split (HelloFrom side) (got ++ bytes)).frames ≡ concat old ++ concat news = ap concat (m.all ∙ frames_append side 0 0 came m.new) ∙ concat-append old news in
-    let known_came : AreSome old = some_frames side (HelloFrom side) 0 0 came refl (stream_proper side came (stream_left came m.new known)) in
+    let both : concat (split (HelloFrom side) (got ++ bytes)).frames ≡ concat old ++ concat news = ap concat (m.all ∙ frames_append opened side 0 0 came m.new) ∙ concat-append old news in
+    let known_came : AreSome old = some_frames opened side (HelloFrom side) 0 0 came refl (stream_proper side came (stream_left came m.new known)) in
     record {
       new = m.new;
       left = m.left;
@@ -239,7 +239,7 @@ arrives side got bytes sent came way later stream before is prefix typed =
       all = m.all;
       some = some_right old news some;
       bytes_are = IsBytes_right (concat old) (concat news) (subst IsBytes both whole);
-      place = at_place_lem side came known_came;
+      place = at_place_lem opened side came known_came;
     }
 
 -- ---- Each kind of mark, of this link
@@ -258,11 +258,11 @@ pub other_events : (b : Bool) (es : List RunEvent) → if_own (b && false) es �
 other_events true es = refl
 other_events false es = refl
 
-place_more : (u new : List FrameContent) → place_of u + length (concat (frames_at Initiator (0 + total_of sends_in u) (0 + total_of requests_in u) new)) ≡ place_of (u ++ new)
-place_more u new =
-    let old = frames_at Initiator 0 0 u in
-    let more = frames_at Initiator (0 + total_of sends_in u) (0 + total_of requests_in u) new in
-    sym (ap (λ (fs : List (List ℕ)). length (concat fs)) (frames_append Initiator 0 0 u new) ∙ ap (λ (xs : List ℕ). length xs) (concat-append old more) ∙ length-append (concat old) (concat more))
+place_more : (opened : LinkParameters) (u new : List FrameContent) → place_of opened u + length (concat (frames_at opened Initiator (0 + total_of sends_in u) (0 + total_of requests_in u) new)) ≡ place_of opened (u ++ new)
+place_more opened u new =
+    let old = frames_at opened Initiator 0 0 u in
+    let more = frames_at opened Initiator (0 + total_of sends_in u) (0 + total_of requests_in u) new in
+    sym (ap (λ (fs : List (List ℕ)). length (concat fs)) (frames_append opened Initiator 0 0 u new) ∙ ap (λ (xs : List ℕ). length xs) (concat-append old more) ∙ length-append (concat old) (concat more))
 
 -- the server is fed bytes
 pub fed_up_preserves : (opened : LinkParameters) (link : ℕ) (run : List Mark) (bytes : List ℕ) (j : RunAgrees opened link run) → IsPrefixOf (bytes_received link Responder run ++ bytes) (bytes_sent link Initiator run) → IsBytes bytes
@@ -272,11 +272,11 @@ fed_up_preserves opened link run bytes j prefix typed unended =
     let got = bytes_received link Responder run in
     let all_typed : IsBytes (got ++ bytes) = bytes_both got bytes j.bytes_up typed in
     let stream : IsOutput (j.u ++ (j.w.up ++ j.w.queued_up)) = subst IsOutput (sym j.linked.parts_up) j.linked.stream_up in
-    let a = arrives Initiator got bytes (bytes_sent link Initiator run) j.u j.w.up j.w.queued_up stream j.frames_up j.sent_up prefix all_typed in
-    let place = length (concat (frames_at Initiator 0 0 j.u)) in
+    let a = arrives opened Initiator got bytes (bytes_sent link Initiator run) j.u j.w.up j.w.queued_up stream j.frames_up j.sent_up prefix all_typed in
+    let place = length (concat (frames_at opened Initiator 0 0 j.u)) in
     let n = 0 + total_of sends_in j.u in
     let r = 0 + total_of requests_in j.u in
-    let es = events_of place (frames_at Initiator n r a.new) in
+    let es = events_of place (frames_at opened Initiator n r a.new) in
     let events_are : events_at link Responder run mark ≡ es = own_events link (map FrameReceived (frames_completed Initiator got bytes)) ∙ ap (λ (fs : List Frame). map FrameReceived fs) a.frames in
     let state : end_state_after (server_rules opened) (server opened link run) (events_at link Responder run mark) ≡ end_state_after (server_rules opened) (live j.s) es =
     λ i. end_state_after (server_rules opened) (j.server_is i) (events_are i) in
@@ -300,12 +300,12 @@ fed_up_preserves opened link run bytes j prefix typed unended =
       output_down = ap (λ (xs : List RunEvent). output_for_all (server_rules opened) (live j.s) xs) events_are ∙ m.output;
       frames_up = ap (λ (xs : List ℕ). (split (HelloFrom Initiator) (got ++ xs)).frames) up ∙ a.all;
       frames_down = ap (λ (xs : List ℕ). (split (HelloFrom Responder) xs).frames) (ap (λ (xs : List ℕ). bytes_received link Initiator run ++ xs) down ∙ append-nil (bytes_received link Initiator run)) ∙ j.frames_down;
-      sent_up = append-nil (bytes_sent link Initiator run) ∙ j.sent_up ∙ ap (λ (ps : List FrameContent). output_bytes Initiator 0 0 ps) (sym parts);
+      sent_up = append-nil (bytes_sent link Initiator run) ∙ j.sent_up ∙ ap (λ (ps : List FrameContent). output_bytes opened Initiator 0 0 ps) (sym parts);
       sent_down = append-nil (bytes_sent link Responder run) ∙ j.sent_down;
       bytes_up = subst (λ (xs : List ℕ). IsBytes (got ++ xs)) (sym up) all_typed;
       guarded = λ o within g.
-          subst (λ (x : ℕ). Guards opened j.k m.after (j.u ++ a.new) j.d (j.all_up ++ []) (j.all_down ++ m.said) (taken_up j.w a.left m.said) x) (place_more j.u a.new)
-          (guards_down opened j.k m.after (j.u ++ a.new) j.d j.all_up (j.all_down ++ m.said) (taken_up j.w a.left m.said) (place_of j.u + length (concat (frames_at Initiator n r a.new))) (m.guarded o g));
+          subst (λ (x : ℕ). Guards opened j.k m.after (j.u ++ a.new) j.d (j.all_up ++ []) (j.all_down ++ m.said) (taken_up j.w a.left m.said) x) (place_more opened j.u a.new)
+          (guards_down opened j.k m.after (j.u ++ a.new) j.d j.all_up (j.all_down ++ m.said) (taken_up j.w a.left m.said) (place_of opened j.u + length (concat (frames_at opened Initiator n r a.new))) (m.guarded o g));
       accessed = λ o typed_mark kept g h.
           let reached = length (bytes_received link Initiator run) in
           accesses_down opened j.k m.after j.d j.all_up (j.all_down ++ m.said) reached (m.accessed o g reached h);
@@ -320,11 +320,11 @@ fed_down_preserves opened link run bytes j prefix typed unended =
     let got = bytes_received link Initiator run in
     let all_typed : IsBytes (got ++ bytes) = bytes_both got bytes j.bytes_down typed in
     let stream : IsOutput (j.d ++ (j.w.down ++ j.w.queued_down)) = subst IsOutput (sym j.linked.parts_down) j.linked.stream_down in
-    let a = arrives Responder got bytes (bytes_sent link Responder run) j.d j.w.down j.w.queued_down stream j.frames_down j.sent_down prefix all_typed in
-    let place = length (concat (frames_at Responder 0 0 j.d)) in
+    let a = arrives opened Responder got bytes (bytes_sent link Responder run) j.d j.w.down j.w.queued_down stream j.frames_down j.sent_down prefix all_typed in
+    let place = length (concat (frames_at opened Responder 0 0 j.d)) in
     let n = 0 + total_of sends_in j.d in
     let r = 0 + total_of requests_in j.d in
-    let es = events_of place (frames_at Responder n r a.new) in
+    let es = events_of place (frames_at opened Responder n r a.new) in
     let events_are : events_at link Initiator run mark ≡ es = own_events link (map FrameReceived (frames_completed Responder got bytes)) ∙ ap (λ (fs : List Frame). map FrameReceived fs) a.frames in
     let state : end_state_after (client_rules opened) (client opened link run) (events_at link Initiator run mark) ≡ end_state_after (client_rules opened) (live j.k) es =
     λ i. end_state_after (client_rules opened) (j.client_is i) (events_are i) in
@@ -349,11 +349,11 @@ fed_down_preserves opened link run bytes j prefix typed unended =
       frames_up = ap (λ (xs : List ℕ). (split (HelloFrom Initiator) xs).frames) (ap (λ (xs : List ℕ). bytes_received link Responder run ++ xs) up ∙ append-nil (bytes_received link Responder run)) ∙ j.frames_up;
       frames_down = ap (λ (xs : List ℕ). (split (HelloFrom Responder) (got ++ xs)).frames) down ∙ a.all;
       sent_up = append-nil (bytes_sent link Initiator run) ∙ j.sent_up;
-      sent_down = append-nil (bytes_sent link Responder run) ∙ j.sent_down ∙ ap (λ (ps : List FrameContent). output_bytes Responder 0 0 ps) (sym parts);
+      sent_down = append-nil (bytes_sent link Responder run) ∙ j.sent_down ∙ ap (λ (ps : List FrameContent). output_bytes opened Responder 0 0 ps) (sym parts);
       bytes_up = subst IsBytes (sym (ap (λ (xs : List ℕ). bytes_received link Responder run ++ xs) up ∙ append-nil (bytes_received link Responder run))) j.bytes_up;
       bytes_down = subst (λ (xs : List ℕ). IsBytes (got ++ xs)) (sym down) all_typed;
       guarded = λ o within g.
-          guards_up opened m.after j.s j.u (j.d ++ a.new) (j.all_up ++ m.said) j.all_down (down_one j.w m.said a.left) (place_of j.u) (m.guarded o (place_of j.u) g);
+          guards_up opened m.after j.s j.u (j.d ++ a.new) (j.all_up ++ m.said) j.all_down (down_one j.w m.said a.left) (place_of opened j.u) (m.guarded o (place_of opened j.u) g);
       accessed = λ o typed_mark kept g h.
           let reached = length (bytes_received link Initiator run) in
           accesses_up opened m.after j.s (j.d ++ a.new) (j.all_up ++ m.said) j.all_down reached (m.accessed reached h);

@@ -392,7 +392,7 @@ frame_receives opened k f stays h = by (is_hello f) refl
     by_segment behind (Err reason) is = absurd (refused reason behind is)
     by_segment behind (Ok s) is = effect_receives opened.granted k f s (frame_effect k f) is (frame_keeps opened k f s behind is stays) h
 
-    by : (b : Bool) → is_hello f ≡ b → receives_in_use (cond b (with_own_hello k) (with_effect k f (frame_effect k f))) ≤ opened.granted
+    by : (b : Bool) → is_hello f ≡ b → receives_in_use (cond b (with_own_hello opened k f) (with_effect k f (frame_effect k f))) ≤ opened.granted
     by true behind = h
     by false behind = by_segment behind (frame_segment f) refl
 

@@ -1,13 +1,13 @@
 -- On a matched link the frames that a side receives are the first hellos and segments that the other side writes, each read as it
 -- was written.
-use Rattle.std.proofs.Common.{◌≡◌, ℕ, suc, ◌+◌, ◌≤◌, ◌<◌, Bool, true, false, cond, ◌&&◌, eqb, List, [], ◌∷◌, ◌++◌, length, take, drop, map, Result, Ok, Err, refl, sym, ap, subst, ◌∙◌, arith, append_assoc, append-nil, take_all, take-append-drop, zero, lit≤, ne_eqb}
+use Rattle.std.proofs.Common.{◌≡◌, ℕ, suc, ◌+◌, ◌≤◌, ◌<◌, Bool, true, false, cond, ◌&&◌, eqb, List, [], ◌∷◌, ◌++◌, length, take, drop, map, Result, Ok, Err, refl, sym, ap, subst, ◌∙◌, arith, append_assoc, append-nil, take_all, take-append-drop, zero, ne_eqb}
 use Rattle.std.specs.List.{concat}
-use Rattle.std.proofs.lemmas.List.{take_at}
+use Rattle.std.proofs.lemmas.List.{take_at, drop_at, length-append}
 use Rattle.nr_wire.specs.declared.hello.Side.{Side}
 use Rattle.nr_wire.specs.declared.hello.Side.TheVariants.{Initiator, Responder}
 use Rattle.nr_wire.specs.declared.stream.Awaited.{Awaited}
 use Rattle.nr_wire.specs.declared.stream.Awaited.TheVariants.{Hello as HelloFrom, Fpdu}
-use Rattle.nr_wire.specs.Hello.{Hello, hello_encoding, hello_of, hello_len, is_refused_by}
+use Rattle.nr_wire.specs.Hello.{Hello, key, hello_encoding, hello_of, hello_len, is_refused_by}
 use Rattle.nr_wire.specs.Segment.{Segment, segment_of, encoding, fpdu_len, IsSupported, Fits, ulpdu_size}
 use Rattle.nr_wire.specs.Next.{frame_answer, hello_in, segment_in}
 use Rattle.nr_wire.specs.Next.Next.{Whole, More}
@@ -15,9 +15,10 @@ use Rattle.nr_wire.specs.Stream.{Split, split, frames_then, is_whole, frame_len,
 use Rattle.nr_wire.proofs.Frames.{whole_from, fields_some}
 use Rattle.nr_wire.proofs.Splits.{split_append, split_frames}
 use Rattle.nr_wire.proofs.Segments.{encoding_again}
-use Rattle.nr_wire.proofs.Hellos.{hello_again}
-use Rattle.nr_wire.specs.Constants.{ULPDU_MAX}
-use Rattle.nr_link.specs.Output.{own_hello}
+use Rattle.nr_wire.proofs.Hellos.{hello_again, length_key}
+use Rattle.nr_wire.specs.Constants.{HELLO_LEN, HELLO_REVISION, PRIVATE_MAX, ULPDU_MAX}
+use Rattle.nr_wire.specs.Fields.{half_word}
+use Rattle.nr_link.specs.Output.{hello_with}
 use Rattle.nr_link.specs.Frames.{Frame, frames_from, frames_completed, is_hello}
 use Rattle.nr_link.specs.Ending.{frame_segment}
 use Rattle.nr_link.proofs.Streams.{frames_from_append, frames_completed_split}
@@ -73,31 +74,47 @@ unrefused Responder = refl
 
 pub record IsHelloFrame (side : Side) (frame : List ℕ) : Type 0 where
   pub is_frame : IsFrame (HelloFrom side) frame
-  pub says : hello_of side frame ≡ Ok (record { side = side; flags = 0; private = [] })
+  pub private : List ℕ
+  pub says : hello_of side frame ≡ Ok (record { side = side; flags = 0; private = private })
 
-pub hello_is : (side : Side) → IsHelloFrame side (own_hello side)
-unfolding own_hello hello_in
-hello_is side =
-    let hello : Hello = record { side = side; flags = 0; private = [] } in
+-- the fields after the key
+fields_length : (n : ℕ) → length (0 ∷ HELLO_REVISION ∷ half_word n) ≡ 4
+unfolding half_word
+fields_length n = refl
+
+pub hello_is : (side : Side) (private : List ℕ) → length private ≤ PRIVATE_MAX → IsHelloFrame side (hello_with side private)
+unfolding hello_with hello_in
+hello_is side private short =
+    let hello : Hello = record { side = side; flags = 0; private = private } in
     let frame = hello_encoding hello in
-    let read : hello_in side (frame ++ []) ≡ Whole hello (length frame) = hello_again hello [] (unrefused side, lit≤ tt) in
+    let read : hello_in side (frame ++ []) ≡ Whole hello (length frame) = hello_again hello [] (unrefused side, short) in
     let found : hello_in side frame ≡ Whole hello (length frame) = rw append-nil at read in
     let j = judged_whole (is_whole (HelloFrom side) frame) (hello_of side (take (hello_len side frame) frame)) hello (hello_len side frame) (length frame) found in
     let all : take (hello_len side frame) frame ≡ frame = take_all (hello_len side frame) frame (omega (arith, j.len_is)) in
-    record { is_frame = frame_from (HelloFrom side) frame j.is_whole j.len_is; says = ap (hello_of side) (sym all) ∙ j.says }
+    record { is_frame = frame_from (HelloFrom side) frame j.is_whole j.len_is; private = private; says = ap (hello_of side) (sym all) ∙ j.says }
+
+-- the private data follows the fields
+pub hello_private : (side : Side) (private : List ℕ) → drop HELLO_LEN (hello_with side private) ≡ private
+unfolding hello_with hello_encoding
+hello_private side private =
+    let fields : List ℕ = 0 ∷ HELLO_REVISION ∷ half_word (length private) in
+    let opening : List ℕ = key side ++ fields in
+    let fields_len : length fields ≡ 4 = fields_length (length private) in
+    let long : length opening ≡ HELLO_LEN = omega (arith, length_key side, fields_len, length-append (key side) fields) in
+    drop_at opening private HELLO_LEN long
 
 -- ---- What a side writes: its hello first, and then segments
 
 abbrev pub AreFrom : Awaited → List Output → Type 0
 AreFrom a [] = Unit {0}
-AreFrom (HelloFrom side) (AHello bytes ∷ outs) = (bytes ≡ own_hello side) × AreFrom Fpdu outs
+AreFrom (HelloFrom side) (AHello bytes ∷ outs) = IsHelloFrame side bytes × AreFrom Fpdu outs
 AreFrom (HelloFrom side) (ASegment s ∷ outs) = ⊥
 AreFrom Fpdu (AHello bytes ∷ outs) = ⊥
 AreFrom Fpdu (ASegment s ∷ outs) = IsWord s × AreFrom Fpdu outs
 
 from_frames : (a : Awaited) (outs : List Output) → AreFrom a outs → AreFrames a (map bytes_of outs)
 from_frames a [] h = tt
-from_frames (HelloFrom side) (AHello bytes ∷ outs) h = (subst (λ (b : List ℕ). IsFrame (HelloFrom side) b) (sym h.0) (hello_is side).is_frame, from_frames Fpdu outs h.1)
+from_frames (HelloFrom side) (AHello bytes ∷ outs) h = (h.0.is_frame, from_frames Fpdu outs h.1)
 from_frames (HelloFrom side) (ASegment s ∷ outs) h = absurd h
 from_frames Fpdu (AHello bytes ∷ outs) h = absurd h
 from_frames Fpdu (ASegment s ∷ outs) h = ((encoding_is s h.0).is_frame, from_frames Fpdu outs h.1)
@@ -272,10 +289,8 @@ later_brought place (ASegment s ∷ outs) some h =
 pub all_brought : (side : Side) (outs : List Output) → AreFrom (HelloFrom side) outs → EachBrought (frames_from 0 (map bytes_of outs)) outs
 all_brought side [] h = tt
 all_brought side (AHello bytes ∷ outs) h =
-    let frame = (hello_is side).is_frame in
-    let least = frame.fields in
-    let long = ap (λ (b : List ℕ). length b) h.0 in
-    ((refl, refl), later_brought (0 + length bytes) outs (omega (arith, least, fields_some (HelloFrom side), long)) h.1)
+    let least = h.0.is_frame.fields in
+    ((refl, refl), later_brought (0 + length bytes) outs (omega (arith, least, fields_some (HelloFrom side))) h.1)
 all_brought side (ASegment s ∷ outs) h = absurd h
 
 -- what a side receives of what its peer writes

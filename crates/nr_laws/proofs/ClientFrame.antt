@@ -123,7 +123,7 @@ client_linked opened k t s u d all_up all_down w p rest said l first counts outs
 pub record ClientTook (opened : LinkParameters) (k : ClientState) (s : ServerState) (u d all_up all_down : List FrameContent) (w : Transit) (p : FrameContent) (rest : List FrameContent) (f : Frame) : Type 0 where
   pub said : List FrameContent
   pub said_is : said ≡ client_frames opened k (FrameReceived f)
-  pub output : client_output opened k (FrameReceived f) ≡ output_bytes Initiator (total_of sends_in all_up) (total_of requests_in all_up) said
+  pub output : client_output opened k (FrameReceived f) ≡ output_bytes opened Initiator (total_of sends_in all_up) (total_of requests_in all_up) said
   pub linked : EndsAgree opened (client_state_after opened k (FrameReceived f)) s u (d ++ p ∷ []) (all_up ++ said) all_down (down_one w said rest)
 
 output_hello : (opened : LinkParameters) (k : ClientState) (f : Frame) → is_hello f ≡ true → client_output opened k (FrameReceived f) ≡ calls_output opened 1 k.outstanding
@@ -165,7 +165,7 @@ took_hello opened k s u d all_up all_down w rest f l first is =
     record {
       said = said;
       said_is = sym says;
-      output = output_hello opened k f is ∙ outs_said opened 0 0 k.outstanding ∙ (λ i. output_bytes Initiator (sym calls i) (sym l.no_reads i) said);
+      output = output_hello opened k f is ∙ outs_said opened 0 0 k.outstanding ∙ (λ i. output_bytes opened Initiator (sym calls i) (sym l.no_reads i) said);
       linked =
           client_linked opened k (client_state_after opened k (FrameReceived f)) s u d all_up all_down w HelloFrame rest said l first counts (own_xids_came opened k f l.outs)
           (subst (λ (t : ClientState). CallsShort opened t.outstanding) (sym after) l.short) (asks_proper opened k.outstanding l.short)
@@ -175,7 +175,7 @@ took_hello opened k s u d all_up all_down w rest f l first is =
 
 -- another frame, by what the client sends of it
 took_frame : (opened : LinkParameters) (k : ClientState) (s : ServerState) (u d all_up all_down : List FrameContent) (w : Transit) (p : FrameContent) (rest said : List FrameContent) (f : Frame) (r : Result Segment ℕ) → EndsAgree opened k s u d all_up all_down w → w.down ≡ p ∷ rest
-    → is_hello f ≡ false → frame_segment f ≡ r → response_frames k f.end (segment_request r) ≡ said → response_output k f.end (segment_request r) ≡ output_bytes Initiator (total_of sends_in all_up) (total_of requests_in all_up) said
+    → is_hello f ≡ false → frame_segment f ≡ r → response_frames k f.end (segment_request r) ≡ said → response_output k f.end (segment_request r) ≡ output_bytes opened Initiator (total_of sends_in all_up) (total_of requests_in all_up) said
     → AreWritable said → total_of hellos_in said ≡ 0 → total_of requests_in said ≡ 0
     → TotalsAgree (client_state_after opened k (FrameReceived f)) s (down_one w (client_frames opened k (FrameReceived f)) rest)
     → (with_segment k f r).received.sends ≡ k.received.sends + sends_in p → (with_segment k f r).received.requests ≡ k.received.requests + requests_in p
@@ -194,7 +194,7 @@ took_frame opened k s u d all_up all_down w p rest said f r l first behind is sa
     }
 
 took_piece : (opened : LinkParameters) (k : ClientState) (s : ServerState) (u d all_up all_down : List FrameContent) (w : Transit) (p : FrameContent) (rest : List FrameContent) (f : Frame) → EndsAgree opened k s u d all_up all_down w → w.down ≡ p ∷ rest
-    → IsWritable p → Carries k.received.sends k.received.requests f p → IsBytes f.bytes → f.bytes ≡ frame_bytes Responder (numbered_segment k.received.sends k.received.requests p)
+    → IsWritable p → Carries k.received.sends k.received.requests f p → IsBytes f.bytes → f.bytes ≡ frame_bytes opened Responder (numbered_segment k.received.sends k.received.requests p)
     → client_end k (FrameReceived f) ≡ None → ClientTook opened k s u d all_up all_down w p rest f
 took_piece opened k s u d all_up all_down w HelloFrame rest f l first proper piece bytes is stays = absurd proper
 took_piece opened k s u d all_up all_down w (PartFrame offset payload) rest f l first proper piece bytes is stays =
@@ -217,7 +217,7 @@ took_piece opened k s u d all_up all_down w (RequestFrame sink at size stag to) 
     let said = tagged_frames OPCODE_READ_RESPONSE r.sink r.sink_to answer in
     let ends = request_ends k f (msn_word (k.received.requests + 1)) payload piece.behind reads stays in
     took_frame opened k s u d all_up all_down w (RequestFrame sink at size stag to) rest said f (Ok segment) l first piece.behind reads refl
-    (response_said Initiator (total_of sends_in all_up) (total_of requests_in all_up) r.sink r.sink_to answer)
+    (response_said opened Initiator (total_of sends_in all_up) (total_of requests_in all_up) r.sink r.sink_to answer)
     (tagged_proper OPCODE_READ_RESPONSE r.sink r.sink_to answer refl (lit< tt) (word_below_lem 0 payload payload_is) (hyper_below_lem 4 payload payload_is) (omega (arith, ends, length-take r.size (drop r.to (client_memory_at k f.end r.stag)))))
     (tagged_none hellos_in OPCODE_READ_RESPONSE r.sink r.sink_to answer (λ last a b. refl)) (tagged_none requests_in OPCODE_READ_RESPONSE r.sink r.sink_to answer (λ last a b. refl))
     (totals_read_down opened k s w f sink at size stag to rest l.counts first piece) (omega arith) refl
@@ -228,21 +228,21 @@ took_piece opened k s u d all_up all_down w (TaggedFrame last opcode stag to pay
     (totals_tagged_down opened k s w f last opcode stag to payload rest l.counts first piece) (omega arith) (omega arith)
 
 pub client_took : (opened : LinkParameters) (k : ClientState) (s : ServerState) (u d all_up all_down : List FrameContent) (w : Transit) (p : FrameContent) (rest : List FrameContent) (n r place : ℕ) → EndsAgree opened k s u d all_up all_down w → w.down ≡ p ∷ rest
-    → n ≡ total_of sends_in d → r ≡ total_of requests_in d → IsPlace d place → IsBytes (frame_bytes Responder (numbered_segment n r p))
-    → client_end k (FrameReceived (frame_of (frame_bytes Responder (numbered_segment n r p)) place)) ≡ None
-    → ClientTook opened k s u d all_up all_down w p rest (frame_of (frame_bytes Responder (numbered_segment n r p)) place)
+    → n ≡ total_of sends_in d → r ≡ total_of requests_in d → IsPlace d place → IsBytes (frame_bytes opened Responder (numbered_segment n r p))
+    → client_end k (FrameReceived (frame_of (frame_bytes opened Responder (numbered_segment n r p)) place)) ≡ None
+    → ClientTook opened k s u d all_up all_down w p rest (frame_of (frame_bytes opened Responder (numbered_segment n r p)) place)
 client_took opened k s u [] all_up all_down w p rest n r place l first sends requests at bytes stays =
     let stream : IsOutput (p ∷ (rest ++ w.queued_down)) = subst IsOutput (sym l.parts_down ∙ ap (λ (ps : List FrameContent). ps ++ w.queued_down) first) l.stream_down in
     let hello : p ≡ HelloFrame = stream_first p (rest ++ w.queued_down) stream in
-    let f = frame_of (frame_bytes Responder (numbered_segment n r p)) place in
+    let f = frame_of (frame_bytes opened Responder (numbered_segment n r p)) place in
     subst (λ (q : FrameContent). ClientTook opened k s u [] all_up all_down w q rest f) (sym hello)
     (took_hello opened k s u [] all_up all_down w rest f l (first ∙ ap (λ (q : FrameContent). q ∷ rest) hello) (ap (λ (x : ℕ). eqb x 0) at))
 client_took opened k s u (q ∷ d) all_up all_down w p rest n r place l first sends requests at bytes stays =
     let stream : IsOutput (q ∷ d ++ p ∷ (rest ++ w.queued_down)) = subst IsOutput (sym l.parts_down ∙ ap (λ (ps : List FrameContent). q ∷ d ++ (ps ++ w.queued_down)) first) l.stream_down in
     let proper = stream_at_lem q d p (rest ++ w.queued_down) stream in
-    let f = frame_of (frame_bytes Responder (numbered_segment n r p)) place in
+    let f = frame_of (frame_bytes opened Responder (numbered_segment n r p)) place in
     let n_is : n ≡ k.received.sends = sends ∙ sym l.sends_down in
     let r_is : r ≡ k.received.requests = requests ∙ sym l.requests_down in
     took_piece opened k s u (q ∷ d) all_up all_down w p rest f l first proper
-    (subst (λ (x : ℕ). Carries x k.received.requests f p) n_is (subst (λ (x : ℕ). Carries n x f p) r_is (is_piece Responder n r place p (proper_one n r p proper) at)))
-    bytes (λ i. frame_bytes Responder (numbered_segment (n_is i) (r_is i) p)) stays
+    (subst (λ (x : ℕ). Carries x k.received.requests f p) n_is (subst (λ (x : ℕ). Carries n x f p) r_is (is_piece opened Responder n r place p (proper_one n r p proper) at)))
+    bytes (λ i. frame_bytes opened Responder (numbered_segment (n_is i) (r_is i) p)) stays

@@ -33,15 +33,15 @@ pub record ClientRan (opened : LinkParameters) (k : ClientState) (s : ServerStat
   pub after : ClientState
   pub said : List FrameContent
   pub state : end_state_after (client_rules opened) (live k) es ≡ live after
-  pub output : output_for_all (client_rules opened) (live k) es ≡ output_bytes Initiator (total_of sends_in all_up) (total_of requests_in all_up) said
+  pub output : output_for_all (client_rules opened) (live k) es ≡ output_bytes opened Initiator (total_of sends_in all_up) (total_of requests_in all_up) said
   pub linked : EndsAgree opened after s u (d ++ new) (all_up ++ said) all_down (down_one w said left)
   pub guarded : IsOpened opened → (up : ℕ) → Guards opened k s u d all_up all_down w up → Guards opened after s u (d ++ new) (all_up ++ said) all_down (down_one w said left) up
   pub accessed : (at : ℕ) → AccessesAgree opened k s d all_up all_down at → AccessesAgree opened after s (d ++ new) (all_up ++ said) all_down at
 
 pub client_runs : (opened : LinkParameters) (s : ServerState) (u all_down left new : List FrameContent) (k : ClientState) (d all_up : List FrameContent) (w : Transit) (n r place : ℕ) → EndsAgree opened k s u d all_up all_down w → w.down ≡ new ++ left
-    → n ≡ total_of sends_in d → r ≡ total_of requests_in d → IsPlace d place → IsBytes (concat (frames_at Responder n r new)) → AreSome (frames_at Responder n r new)
-    → (end_state_after (client_rules opened) (live k) (events_of place (frames_at Responder n r new))).ended ≡ None
-    → ClientRan opened k s u d all_up all_down w new left (events_of place (frames_at Responder n r new))
+    → n ≡ total_of sends_in d → r ≡ total_of requests_in d → IsPlace d place → IsBytes (concat (frames_at opened Responder n r new)) → AreSome (frames_at opened Responder n r new)
+    → (end_state_after (client_rules opened) (live k) (events_of place (frames_at opened Responder n r new))).ended ≡ None
+    → ClientRan opened k s u d all_up all_down w new left (events_of place (frames_at opened Responder n r new))
 client_runs opened s u all_down left [] k d all_up w n r place l first sends requests at bytes some e =
     let same : EndsAgree opened k s u (d ++ []) (all_up ++ []) all_down (down_one w [] left) =
     subst (λ (ps : List FrameContent). EndsAgree opened k s u ps (all_up ++ []) all_down (down_one w [] left)) (sym (append-nil d))
@@ -61,8 +61,8 @@ client_runs opened s u all_down left [] k d all_up w n r place l first sends req
     record { after = k; said = []; state = refl; output = refl; linked = same; guarded = guarded; accessed = accessed }
 client_runs opened s u all_down left (p ∷ new) k d all_up w n r place l first sends requests at bytes some e =
     let rules = client_rules opened in
-    let frame = frame_bytes Responder (numbered_segment n r p) in
-    let later = frames_at Responder (n + sends_in p) (r + requests_in p) new in
+    let frame = frame_bytes opened Responder (numbered_segment n r p) in
+    let later = frames_at opened Responder (n + sends_in p) (r + requests_in p) new in
     let event = FrameReceived (frame_of frame place) in
     let es = events_of (place + length frame) later in
     let a = lives rules k event es e in
@@ -90,8 +90,8 @@ client_runs opened s u all_down left (p ∷ new) k d all_up w n r place l first 
       state = ap (λ (x : EndState ClientState). end_state_after rules x es) a.next ∙ m.state;
       output =
           (λ i. (a.says ∙ t.output) i ++ (ap (λ (x : EndState ClientState). output_for_all rules x es) a.next ∙ m.output) i)
-          ∙ (λ i. output_bytes Initiator (total_of sends_in all_up) (total_of requests_in all_up) t.said ++ output_bytes Initiator (total_append sends_in all_up t.said i) (total_append requests_in all_up t.said i) m.said)
-          ∙ sym (spelled_append Initiator (total_of sends_in all_up) (total_of requests_in all_up) t.said m.said);
+          ∙ (λ i. output_bytes opened Initiator (total_of sends_in all_up) (total_of requests_in all_up) t.said ++ output_bytes opened Initiator (total_append sends_in all_up t.said i) (total_append requests_in all_up t.said i) m.said)
+          ∙ sym (spelled_append opened Initiator (total_of sends_in all_up) (total_of requests_in all_up) t.said m.said);
       linked =
           subst (λ (ps : List FrameContent). EndsAgree opened m.after s u ps (all_up ++ (t.said ++ m.said)) all_down (down_one w (t.said ++ m.said) left)) (append_assoc d (p ∷ []) new)
           (subst (λ (ps : List FrameContent). EndsAgree opened m.after s u ((d ++ p ∷ []) ++ new) ps all_down (down_one w (t.said ++ m.said) left)) (append_assoc all_up t.said m.said)
@@ -101,13 +101,13 @@ client_runs opened s u all_down left (p ∷ new) k d all_up w n r place l first 
 -- ---- If the client ends by them, it does so for what it makes of a message, or for what its memory denies
 
 pub client_ends : (opened : LinkParameters) (s : ServerState) (u all_down left : List FrameContent) (o : IsOpened opened) (end : End) (up : ℕ) (new : List FrameContent) (k : ClientState) (d all_up : List FrameContent) (w : Transit) (n r place : ℕ) → EndsAgree opened k s u d all_up all_down w → Guards opened k s u d all_up all_down w up → w.down ≡ new ++ left
-    → n ≡ total_of sends_in d → r ≡ total_of requests_in d → IsPlace d place → IsBytes (concat (frames_at Responder n r new)) → AreSome (frames_at Responder n r new)
-    → (end_state_after (client_rules opened) (live k) (events_of place (frames_at Responder n r new))).ended ≡ Some end → EndsForMessage end ⊎ IsDenied end
+    → n ≡ total_of sends_in d → r ≡ total_of requests_in d → IsPlace d place → IsBytes (concat (frames_at opened Responder n r new)) → AreSome (frames_at opened Responder n r new)
+    → (end_state_after (client_rules opened) (live k) (events_of place (frames_at opened Responder n r new))).ended ≡ Some end → EndsForMessage end ⊎ IsDenied end
 client_ends opened s u all_down left o end up [] k d all_up w n r place l g first sends requests at bytes some e = absurd (let wrong : None ≡ Some end = e in cc)
 client_ends opened s u all_down left o end up (p ∷ new) k d all_up w n r place l g first sends requests at bytes some e =
     let rules = client_rules opened in
-    let frame = frame_bytes Responder (numbered_segment n r p) in
-    let later = frames_at Responder (n + sends_in p) (r + requests_in p) new in
+    let frame = frame_bytes opened Responder (numbered_segment n r p) in
+    let later = frames_at opened Responder (n + sends_in p) (r + requests_in p) new in
     let event = FrameReceived (frame_of frame place) in
     let es = events_of (place + length frame) later in
     let step = step_down opened k s u d all_up all_down w up p (new ++ left) n r place o l g first sends requests at in

@@ -3,7 +3,7 @@ use Rattle.std.proofs.Common.{◌≡◌, ◌≢◌, ℕ, zero, suc, ◌+◌, ◌
 use Rattle.nr_wire.specs.declared.hello.Side.TheVariants.{Initiator, Responder}
 use Rattle.nr_link.specs.declared.end.End.{End as Stop}
 use Rattle.nr_link.specs.Frames.{Frame, frames_completed}
-use Rattle.nr_link.specs.Output.{own_hello}
+use Rattle.nr_reduce.specs.Hellos.{client_hello}
 use Rattle.nr_reduce.proofs.OwnLimits.{client_limits_of, limited_plan}
 use Rattle.nr_reduce.specs.declared.call.Call.{Call}
 use Rattle.nr_reduce.specs.declared.call.Form.{Form}
@@ -127,7 +127,7 @@ tells_nothing opened = record {
 
 pub record ClientTells (opened : LinkParameters) (link : ℕ) (run : List Mark) : Type 0 where
   pub says : ClientSays opened (events link Initiator run) (whole_bytes link Initiator run) (client opened link run).state (client opened link run).ended (client_outs opened link run)
-  pub bytes : output_due opened link Initiator run ≡ own_hello Initiator ++ bytes_of_all (client_outs opened link run)
+  pub bytes : output_due opened link Initiator run ≡ client_hello opened ++ bytes_of_all (client_outs opened link run)
 
 pub client_outputs : (opened : LinkParameters) (link : ℕ) (run : List Mark) → IsTyped run → AskedSoFar opened link run → ClientTells opened link run
 unfolding client output_due client_outs
@@ -138,7 +138,7 @@ client_outputs opened link run typed asked =
     along (client_rules opened) (client_says opened) final_outputs (ClientGood opened) (Tells opened) (tells_step opened) [] 0 (initial_client opened) [] es g.goes (tells_nothing opened) in
     record {
       says = subst (λ (p : ℕ). ClientSays opened es p (client opened link run).state (client opened link run).ended (client_outs opened link run)) g.place t.says;
-      bytes = ap (λ (xs : List ℕ). own_hello Initiator ++ xs) t.bytes;
+      bytes = ap (λ (xs : List ℕ). client_hello opened ++ xs) t.bytes;
     }
 
 -- ---- Each of its messages is that of an accepted call

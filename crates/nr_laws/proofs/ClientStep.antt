@@ -36,13 +36,13 @@ use Rattle.nr_reduce.specs.ClientMessages.{ReplyVerdict, reply_verdict, reply_by
 use Rattle.nr_reduce.specs.ClientMessages.ReplyVerdict.{EndsLink, GivesOutcome}
 use Rattle.nr_reduce.specs.Client.{client_end, client_state_after, client_readiness, or_message_end, client_message_end, end_of_verdict, segment_message}
 use Rattle.nr_reduce.specs.ServerState.{ServerState}
+use Rattle.nr_laws.proofs.FirstHellos.{first_hello_is}
 use Rattle.nr_laws.specs.EndCauses.{IsDenied}
 use Rattle.nr_laws.proofs.EndReasons.{IsMessageReason, EndsForMessage}
 use Rattle.nr_laws.proofs.FrameContents.{FrameContent, numbered_segment, frame_bytes, total_of, sends_in, requests_in, hellos_in, client_frames, Carries, last_segment}
 use Rattle.nr_laws.proofs.FrameContents.FrameContent.{HelloFrame, PartFrame, SendFrame, RequestFrame, TaggedFrame}
 use Rattle.nr_laws.proofs.LinkInvariants.{Transit, hello_bit}
 use Rattle.nr_laws.proofs.Totals.{total_append}
-use Rattle.nr_laws.proofs.Brought.{hello_is}
 use Rattle.nr_laws.proofs.CompletedFrames.{is_piece}
 use Rattle.nr_laws.proofs.FaultlessSegments.{request_flaw, write_flaw}
 use Rattle.nr_laws.proofs.FreeReceives.{requests}
@@ -159,9 +159,9 @@ pub record ClientStep (opened : LinkParameters) (k : ClientState) (s : ServerSta
   pub only : (end : End) → client_end k (FrameReceived f) ≡ Some end → EndsForMessage end ⊎ LacksAccess k f end
   pub kept : client_end k (FrameReceived f) ≡ None → Guards opened (client_state_after opened k (FrameReceived f)) s u (d ++ p ∷ []) (all_up ++ client_frames opened k (FrameReceived f)) all_down (down_one w (client_frames opened k (FrameReceived f)) rest) place
 
-hello_none : (k : ClientState) (f : Frame) → is_hello f ≡ true → hello_of Responder f.bytes ≡ Ok (record { side = Responder; flags = 0; private = [] }) → client_end k (FrameReceived f) ≡ None
+hello_none : (k : ClientState) (f : Frame) (private : List ℕ) → is_hello f ≡ true → hello_of Responder f.bytes ≡ Ok (record { side = Responder; flags = 0; private = private }) → client_end k (FrameReceived f) ≡ None
 unfolding client_end
-hello_none k f is says = (λ i. cond (is i) (hello_end (says i)) (or_message_end k f (frame_end (client_readiness k) (region_grants f.end k.regions) f)))
+hello_none k f private is says = (λ i. cond (is i) (hello_end (says i)) (or_message_end k f (frame_end (client_readiness k) (region_grants f.end k.regions) f)))
 
 step_piece : (opened : LinkParameters) (k : ClientState) (s : ServerState) (u d all_up all_down : List FrameContent) (w : Transit) (place : ℕ) (p : FrameContent) (rest : List FrameContent) (f : Frame) → IsOpened opened → EndsAgree opened k s u d all_up all_down w → Guards opened k s u d all_up all_down w place → w.down ≡ p ∷ rest
     → IsWritable p → Carries k.received.sends k.received.requests f p → k.has_hello ≡ true → ClientStep opened k s u d all_up all_down w place p rest f
@@ -264,14 +264,14 @@ has_hello_lem opened k s u q d all_up all_down w l =
     ))
 
 pub step_down : (opened : LinkParameters) (k : ClientState) (s : ServerState) (u d all_up all_down : List FrameContent) (w : Transit) (up : ℕ) (p : FrameContent) (rest : List FrameContent) (n r place : ℕ) → IsOpened opened → EndsAgree opened k s u d all_up all_down w → Guards opened k s u d all_up all_down w up → w.down ≡ p ∷ rest
-    → n ≡ total_of sends_in d → r ≡ total_of requests_in d → IsPlace d place → ClientStep opened k s u d all_up all_down w up p rest (frame_of (frame_bytes Responder (numbered_segment n r p)) place)
+    → n ≡ total_of sends_in d → r ≡ total_of requests_in d → IsPlace d place → ClientStep opened k s u d all_up all_down w up p rest (frame_of (frame_bytes opened Responder (numbered_segment n r p)) place)
 step_down opened k s u [] all_up all_down w up p rest n r place o l g first sends requests at =
     let stream : IsOutput (p ∷ (rest ++ w.queued_down)) = subst IsOutput (sym l.parts_down ∙ ap (λ (ps : List FrameContent). ps ++ w.queued_down) first) l.stream_down in
     let hello : p ≡ HelloFrame = stream_first p (rest ++ w.queued_down) stream in
-    let f = frame_of (frame_bytes Responder (numbered_segment n r p)) place in
+    let f = frame_of (frame_bytes opened Responder (numbered_segment n r p)) place in
     let is : is_hello f ≡ true = ap (λ (x : ℕ). eqb x 0) at in
-    let says = ap (λ (q : FrameContent). hello_of Responder (frame_bytes Responder (numbered_segment n r q))) hello ∙ (hello_is Responder).says in
-    let none = hello_none k f is says in
+    let says = ap (λ (q : FrameContent). hello_of Responder (frame_bytes opened Responder (numbered_segment n r q))) hello ∙ (first_hello_is opened Responder).says in
+    let none = hello_none k f (first_hello_is opened Responder).private is says in
     subst (λ (q : FrameContent). ClientStep opened k s u [] all_up all_down w up q rest f) (sym hello) (record {
       only = λ end e. absurd (some_not end (sym e ∙ none));
       kept = λ stays. guards_hello_down opened k s u [] all_up all_down w up rest f l g (first ∙ ap (λ (q : FrameContent). q ∷ rest) hello) is stays;
@@ -279,9 +279,9 @@ step_down opened k s u [] all_up all_down w up p rest n r place o l g first send
 step_down opened k s u (q ∷ d) all_up all_down w up p rest n r place o l g first sends requests at =
     let stream : IsOutput (q ∷ d ++ p ∷ (rest ++ w.queued_down)) = subst IsOutput (sym l.parts_down ∙ ap (λ (ps : List FrameContent). q ∷ d ++ (ps ++ w.queued_down)) first) l.stream_down in
     let proper = stream_at_lem q d p (rest ++ w.queued_down) stream in
-    let f = frame_of (frame_bytes Responder (numbered_segment n r p)) place in
+    let f = frame_of (frame_bytes opened Responder (numbered_segment n r p)) place in
     let n_is : n ≡ k.received.sends = sends ∙ sym l.sends_down in
     let r_is : r ≡ k.received.requests = requests ∙ sym l.requests_down in
     step_piece opened k s u (q ∷ d) all_up all_down w up p rest f o l g first proper
-    (subst (λ (x : ℕ). Carries x k.received.requests f p) n_is (subst (λ (x : ℕ). Carries n x f p) r_is (is_piece Responder n r place p (proper_one n r p proper) at)))
+    (subst (λ (x : ℕ). Carries x k.received.requests f p) n_is (subst (λ (x : ℕ). Carries n x f p) r_is (is_piece opened Responder n r place p (proper_one n r p proper) at)))
     (has_hello_lem opened k s u q d all_up all_down w l)

@@ -76,7 +76,7 @@ frame_event opened es f h stays = by (is_hello f) refl
     state : is_hello f ≡ false → server_by opened after ≡ next
     state behind =
         ap (λ (r : EndState ServerState). r.state) (end_state_after_append (server_rules opened) (initial_server opened) es (FrameReceived f ∷ []))
-        ∙ counted opened (state_at opened es) (FrameReceived f) stays ∙ ap (λ (b : Bool). cond b (with_own_hello k) next) behind
+        ∙ counted opened (state_at opened es) (FrameReceived f) stays ∙ ap (λ (b : Bool). cond b (with_own_hello opened k f) next) behind
 
     close : is_hello f ≡ false → (x : Region) → P x → (x.until ≡ None → WasLive x) → (b : Bool) → is_over next.calls next.reads x ≡ b → P (closed_if b f.end x)
     close behind x p live false over = p
@@ -120,7 +120,7 @@ frame_event opened es f h stays = by (is_hello f) refl
     closed behind [] h = tt
     closed behind (x ∷ xs) h = (close behind x h.0.0 h.0.1 (is_over next.calls next.reads x) refl, closed behind xs h.1)
 
-    by : (b : Bool) → is_hello f ≡ b → AllByRecursion P (cond b (with_own_hello k) next).regions
+    by : (b : Bool) → is_hello f ≡ b → AllByRecursion P (cond b (with_own_hello opened k f) next).regions
     by true is = old
     by false is = closed is (frame_effect k f).regions (all is)
 

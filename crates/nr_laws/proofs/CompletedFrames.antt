@@ -9,6 +9,7 @@ use Rattle.nr_wire.specs.Stream.{Split, split, awaited_after}
 use Rattle.nr_wire.proofs.Splits.{split_append}
 use Rattle.nr_link.specs.Frames.{Frame, frames_from, frames_of, frames_completed}
 use Rattle.nr_link.specs.Ending.{frame_segment}
+use Rattle.nr_reduce.specs.declared.mark.LinkParameters.{LinkParameters}
 use Rattle.nr_laws.proofs.FrameContents.{FrameContent, numbered_segment, frame_bytes, output_bytes, total_of, sends_in, requests_in, Carries}
 use Rattle.nr_laws.proofs.StreamFrames.{AreWritableFrom, IsWritableAs, frames_at, frames_append, length_frames, front}
 use Rattle.nr_laws.proofs.Brought.{encoding_is}
@@ -31,33 +32,33 @@ longer (x ∷ xs) ys (z ∷ zs) ws e le =
     head_same e = cc
 
 -- the frames that was received by then, those that more bytes bring, and those that are left
-pub record NewFrames (side : Side) (got bytes : List ℕ) (came way : List FrameContent) : Type 0 where
+pub record NewFrames (opened : LinkParameters) (side : Side) (got bytes : List ℕ) (came way : List FrameContent) : Type 0 where
   pub new : List FrameContent
   pub left : List FrameContent
   pub parts : way ≡ new ++ left
-  pub frames : frames_completed side got bytes ≡ frames_from (length (concat (frames_at side 0 0 came))) (frames_at side (0 + total_of sends_in came) (0 + total_of requests_in came) new)
-  pub all : (split (HelloFrom side) (got ++ bytes)).frames ≡ frames_at side 0 0 (came ++ new)
+  pub frames : frames_completed side got bytes ≡ frames_from (length (concat (frames_at opened side 0 0 came))) (frames_at opened side (0 + total_of sends_in came) (0 + total_of requests_in came) new)
+  pub all : (split (HelloFrom side) (got ++ bytes)).frames ≡ frames_at opened side 0 0 (came ++ new)
 
-pub fed : (side : Side) (got bytes rest : List ℕ) (came way : List FrameContent) → AreWritableFrom (HelloFrom side) 0 0 (came ++ way) → (split (HelloFrom side) got).frames ≡ frames_at side 0 0 came
-    → (got ++ bytes) ++ rest ≡ output_bytes side 0 0 (came ++ way) → NewFrames side got bytes came way
+pub fed : (opened : LinkParameters) (side : Side) (got bytes rest : List ℕ) (came way : List FrameContent) → AreWritableFrom (HelloFrom side) 0 0 (came ++ way) → (split (HelloFrom side) got).frames ≡ frames_at opened side 0 0 came
+    → (got ++ bytes) ++ rest ≡ output_bytes opened side 0 0 (came ++ way) → NewFrames opened side got bytes came way
 unfolding frames_completed frames_of
-fed side got bytes rest came way proper before sent =
+fed opened side got bytes rest came way proper before sent =
     let a = HelloFrom side in
-    let f = front side a 0 0 (came ++ way) (got ++ bytes) rest refl proper sent in
+    let f = front opened side a 0 0 (came ++ way) (got ++ bytes) rest refl proper sent in
     let later = (split (awaited_after a (split a got).frames) ((split a got).rest ++ bytes)).frames in
-    let goes_on : frames_at side 0 0 f.came ≡ (split a got).frames ++ later = sym f.frames ∙ ap (λ (s : Split). s.frames) (split_append a got bytes) in
+    let goes_on : frames_at opened side 0 0 f.came ≡ (split a got).frames ++ later = sym f.frames ∙ ap (λ (s : Split). s.frames) (split_append a got bytes) in
     let as_many : length came ≤ length f.came =
-    omega (arith, length_frames side 0 0 came, length_frames side 0 0 f.came, ap (λ (fs : List (List ℕ)). length fs) goes_on, length-append (split a got).frames later, ap (λ (fs : List (List ℕ)). length fs) before) in
+    omega (arith, length_frames opened side 0 0 came, length_frames opened side 0 0 f.came, ap (λ (fs : List (List ℕ)). length fs) goes_on, length-append (split a got).frames later, ap (λ (fs : List (List ℕ)). length fs) before) in
     let l = longer came way f.came f.left (sym f.parts) as_many in
-    let all : (split a (got ++ bytes)).frames ≡ frames_at side 0 0 (came ++ l.new) = f.frames ∙ ap (λ (ps : List FrameContent). frames_at side 0 0 ps) l.longer in
-    let old = frames_at side 0 0 came in
-    let news = frames_at side (0 + total_of sends_in came) (0 + total_of requests_in came) l.new in
+    let all : (split a (got ++ bytes)).frames ≡ frames_at opened side 0 0 (came ++ l.new) = f.frames ∙ ap (λ (ps : List FrameContent). frames_at opened side 0 0 ps) l.longer in
+    let old = frames_at opened side 0 0 came in
+    let news = frames_at opened side (0 + total_of sends_in came) (0 + total_of requests_in came) l.new in
     record {
       new = l.new;
       left = f.left;
       parts = l.left;
       frames =
-          (λ i. drop (length (frames_from 0 (before i))) (frames_from 0 ((all ∙ frames_append side 0 0 came l.new) i)))
+          (λ i. drop (length (frames_from 0 (before i))) (frames_from 0 ((all ∙ frames_append opened side 0 0 came l.new) i)))
           ∙ ap (λ (fs : List Frame). drop (length (frames_from 0 old)) fs) (frames_from_append 0 old news)
           ∙ drop-append_seam (frames_from 0 old) (frames_from (0 + length (concat old)) news)
           ∙ ap (λ (n : ℕ). frames_from n news) (omega arith);
@@ -65,20 +66,20 @@ fed side got bytes rest came way proper before sent =
     }
 
 -- after the hello each of them is a frame as it was sent
-pub is_piece : (side : Side) (n r place : ℕ) (p : FrameContent) → IsWritableAs Fpdu (numbered_segment n r p) → 0 < place
-    → Carries n r (record { at = place; end = place + length (frame_bytes side (numbered_segment n r p)); bytes = frame_bytes side (numbered_segment n r p) }) p
+pub is_piece : (opened : LinkParameters) (side : Side) (n r place : ℕ) (p : FrameContent) → IsWritableAs Fpdu (numbered_segment n r p) → 0 < place
+    → Carries n r (record { at = place; end = place + length (frame_bytes opened side (numbered_segment n r p)); bytes = frame_bytes opened side (numbered_segment n r p) }) p
 unfolding frame_segment
-is_piece side n r place p proper some = by (numbered_segment n r p) refl proper
+is_piece opened side n r place p proper some = by (numbered_segment n r p) refl proper
   where
     behind : eqb place 0 ≡ false
     behind = ne_eqb place 0 (λ e. omega (arith, e, some))
 
     by : (s : Option Segment) → numbered_segment n r p ≡ s → IsWritableAs Fpdu s
-        → Carries n r (record { at = place; end = place + length (frame_bytes side (numbered_segment n r p)); bytes = frame_bytes side (numbered_segment n r p) }) p
+        → Carries n r (record { at = place; end = place + length (frame_bytes opened side (numbered_segment n r p)); bytes = frame_bytes opened side (numbered_segment n r p) }) p
     by None is h = absurd h
     by (Some segment) is h = record {
       behind = behind;
       segment = segment;
       is_segment = is;
-      reads = ap (λ (o : Option Segment). segment_of (frame_bytes side o)) is ∙ (encoding_is segment h).says;
+      reads = ap (λ (o : Option Segment). segment_of (frame_bytes opened side o)) is ∙ (encoding_is segment h).says;
     }

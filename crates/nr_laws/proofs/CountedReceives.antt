@@ -153,7 +153,7 @@ counted_frame opened k f stays apart h = by (is_hello f) refl
     by_segment behind (Err reason) is = absurd (wrong_frame opened k f reason behind is stays)
     by_segment behind (Ok s) is = counted_effect k f s (frame_effect k f) is (frame_adds k f s apart is (not_refused_lem opened k f behind stays)) h
 
-    by : (b : Bool) → is_hello f ≡ b → AreCounted (cond b (with_own_hello k) (with_effect k f (frame_effect k f)))
+    by : (b : Bool) → is_hello f ≡ b → AreCounted (cond b (with_own_hello opened k f) (with_effect k f (frame_effect k f)))
     by true behind = record { calls = h.calls; ends = h.ends }
     by false behind = by_segment behind (frame_segment f) refl
 

@@ -50,7 +50,7 @@ server_unended opened link before more e = unended (server_rules opened) (λ run
 -- both ends as they are opened, with their guards
 pub record BothOpened (opened : LinkParameters) (link : ℕ) : Type 0 where
   pub joined : RunAgrees opened link []
-  pub guards : IsOpened opened → Guards opened joined.k joined.s joined.u joined.d joined.all_up joined.all_down joined.w (place_of joined.u)
+  pub guards : IsOpened opened → Guards opened joined.k joined.s joined.u joined.d joined.all_up joined.all_down joined.w (place_of opened joined.u)
   pub accessed : AccessesAgree opened joined.k joined.s joined.d joined.all_up joined.all_down (length (bytes_received link Initiator []))
 
 pub starts : (opened : LinkParameters) (link : ℕ) → BothOpened opened link

@@ -167,7 +167,7 @@ after_known : (opened : LinkParameters) (k : ServerState) (event : RunEvent) →
 unfolding server_state_after
 after_known opened k (FrameReceived f) h = by (is_hello f) (after_goes opened k (FrameReceived f))
   where
-    by : (b : Bool) → Goes k (cond b (with_own_hello k) (with_effect k f (frame_effect k f))) → KnowsSinks (cond b (with_own_hello k) (with_effect k f (frame_effect k f)))
+    by : (b : Bool) → Goes k (cond b (with_own_hello opened k f) (with_effect k f (frame_effect k f))) → KnowsSinks (cond b (with_own_hello opened k f) (with_effect k f (frame_effect k f)))
     by true g = record { owners = h.owners; none = h.none }
     by false g = frame_known k f g.rises h
 after_known opened k (CallSubmitted place a) h = h

@@ -1,11 +1,11 @@
 -- On a matched link each call that is executed was submitted before: its Send is that of the accepted call of its number.
-use Rattle.std.proofs.Common.{◌≡◌, ℕ, ◌+◌, false, List, [], ◌∷◌, ◌++◌, length, None, Some, Ok, refl, sym, ap, subst, ◌∙◌, arith, append_assoc}
-use Rattle.nr_wire.specs.declared.hello.Side.TheVariants.{Initiator, Responder}
-use Rattle.nr_link.specs.Output.{own_hello}
+use Rattle.std.proofs.Common.{◌≡◌, ℕ, ◌+◌, false, List, [], ◌∷◌, ◌++◌, length, None, Some, Ok, sym, ap, subst, ◌∙◌, arith, append_assoc}
+use Rattle.nr_wire.specs.declared.hello.Side.TheVariants.{Responder}
 use Rattle.nr_link.specs.Frames.{Frame, is_hello}
 use Rattle.nr_link.specs.Ending.{frame_segment}
 use Rattle.nr_link.specs.ReceiveState.{message_completed}
 use Rattle.nr_wire.specs.Segment.{Segment}
+use Rattle.nr_reduce.specs.Hellos.{client_hello}
 use Rattle.nr_reduce.specs.declared.mark.Mark.{Mark}
 use Rattle.nr_reduce.specs.declared.mark.LinkParameters.{LinkParameters}
 use Rattle.nr_reduce.specs.Matched.{Matched, IsPrefixOf}
@@ -21,6 +21,7 @@ use Rattle.nr_reduce.specs.Asked.{AskedSoFar}
 use Rattle.nr_reduce.specs.Served.{IsExecuted, next_call}
 use Rattle.nr_reduce.proofs.Conveyed.{payload_conveyed}
 use Rattle.nr_reduce.proofs.Once.{first_times_ready}
+use Rattle.nr_laws.proofs.FirstHellos.{client_hello_is}
 use Rattle.nr_laws.specs.Typed.{IsTyped}
 use Rattle.nr_laws.proofs.Flows.{flows_up}
 use Rattle.nr_laws.proofs.Outputs.{Output}
@@ -34,10 +35,10 @@ use Rattle.nr_laws.proofs.HeaderXid.{header_xid, call_xid_lem}
 -- ---- What the server has of the client's output
 
 pub server_receives_of : (opened : LinkParameters) (link : ℕ) (run : List Mark) → IsTyped run → AskedSoFar opened link run → Matched link run
-    → Receives link Responder run (AHello (own_hello Initiator) ∷ client_outs opened link run)
+    → Receives link Responder run (AHello (client_hello opened) ∷ client_outs opened link run)
 server_receives_of opened link run typed asked matched =
     let t = client_outputs opened link run typed asked in
-    receives link Responder run (AHello (own_hello Initiator) ∷ client_outs opened link run) (refl, t.says.words)
+    receives link Responder run (AHello (client_hello opened) ∷ client_outs opened link run) (client_hello_is opened, t.says.words)
     (subst (λ (xs : List ℕ). IsPrefixOf (bytes_received link Responder run) xs) t.bytes (flows_up opened link run matched asked))
 
 -- ---- The message of a Send that was received
@@ -54,7 +55,7 @@ frame_message opened link run typed asked matched es f rest s message all behind
     let counted = hears (server_rules opened) (λ (k : ServerState). k.received) (server_receives opened) (initial_server opened) es at.earlier at.brings live in
     let segment : at.own ≡ ASegment s = own_segment at.own f s at.brought behind is in
     let one : completed_by (begun_from None at.earlier) s ≡ message ∷ [] = completed_message (server_by opened es).received (begun_from None at.earlier) s message counted.begun whole in
-    let all_outs : AHello (own_hello Initiator) ∷ client_outs opened link run ≡ at.earlier ++ ASegment s ∷ (at.later ++ r.left) =
+    let all_outs : AHello (client_hello opened) ∷ client_outs opened link run ≡ at.earlier ++ ASegment s ∷ (at.later ++ r.left) =
     sym r.parts ∙ ap (λ (xs : List Output). xs ++ r.left) (at.parts ∙ ap (λ (o : Output). at.earlier ++ o ∷ at.later) segment)
     ∙ append_assoc at.earlier (ASegment s ∷ at.later) r.left in
     let split : completed_from None (client_outs opened link run) ≡ completed_from None at.earlier ++ message ∷ completed_from None (at.later ++ r.left) =

@@ -32,7 +32,7 @@ few_after opened k (FrameReceived f) h = by (is_hello f)
     e : FrameEffect
     e = frame_effect k f
 
-    by : (b : Bool) → AreFew (cond b (with_own_hello k) (with_effect k f e)).regions
+    by : (b : Bool) → AreFew (cond b (with_own_hello opened k f) (with_effect k f e)).regions
     by true = h
     by false = (let l = closed_length (is_over e.calls e.reads) f.end e.regions in let g = few_effect k f h in omega (arith, l, g))
 few_after opened k (CallSubmitted place a) h = h

@@ -44,10 +44,10 @@ use Rattle.nr_laws.proofs.EachRun.{starts, mark_preserves, no_events_lem, client
 
 pub record Guarded (opened : LinkParameters) (link : ℕ) (run : List Mark) : Type 0 where
   pub joined : RunAgrees opened link run
-  pub guards : Guards opened joined.k joined.s joined.u joined.d joined.all_up joined.all_down joined.w (place_of joined.u)
+  pub guards : Guards opened joined.k joined.s joined.u joined.d joined.all_up joined.all_down joined.w (place_of opened joined.u)
 
 guarded_more : (opened : LinkParameters) (link : ℕ) (run : List Mark) (mark : Mark) (j : RunAgrees opened link run) → MarkAgrees opened link run mark j → IsOpened opened → WithinGrant opened link run mark
-    → Guards opened j.k j.s j.u j.d j.all_up j.all_down j.w (place_of j.u) → Guarded opened link (run ++ mark ∷ [])
+    → Guards opened j.k j.s j.u j.d j.all_up j.all_down j.w (place_of opened j.u) → Guarded opened link (run ++ mark ∷ [])
 unfolding preserved
 guarded_more opened link run mark j g o within guards = record { joined = preserved opened link run mark j g; guards = g.guarded o within guards }
 
@@ -81,12 +81,12 @@ by_fed opened link run bytes g o prefix typed end e =
     let j = g.joined in
     let got = bytes_received link Responder run in
     let stream : IsOutput (j.u ++ (j.w.up ++ j.w.queued_up)) = subst IsOutput (sym j.linked.parts_up) j.linked.stream_up in
-    let a = arrives Initiator got bytes (bytes_sent link Initiator run) j.u j.w.up j.w.queued_up stream j.frames_up j.sent_up prefix (bytes_both got bytes j.bytes_up typed) in
+    let a = arrives opened Initiator got bytes (bytes_sent link Initiator run) j.u j.w.up j.w.queued_up stream j.frames_up j.sent_up prefix (bytes_both got bytes j.bytes_up typed) in
     let n = 0 + total_of sends_in j.u in
     let r = 0 + total_of requests_in j.u in
-    let es = events_of (place_of j.u) (frames_at Initiator n r a.new) in
+    let es = events_of (place_of opened j.u) (frames_at opened Initiator n r a.new) in
     let same : map FrameReceived (frames_completed Initiator got bytes) ≡ es = ap (λ (fs : List Frame). map FrameReceived fs) a.frames in
-    server_ends opened j.k j.d j.all_up a.left o end a.new j.s j.u j.all_down j.w n r (place_of j.u) j.linked g.guards a.parts (omega arith) (omega arith) a.place a.bytes_are a.some
+    server_ends opened j.k j.d j.all_up a.left o end a.new j.s j.u j.all_down j.w n r (place_of opened j.u) j.linked g.guards a.parts (omega arith) (omega arith) a.place a.bytes_are a.some
     (ap (λ (xs : List RunEvent). (end_state_after (server_rules opened) (live j.s) xs).ended) (sym same) ∙ e)
 
 server_mark : (opened : LinkParameters) (link : ℕ) (run : List Mark) (mark : Mark) (g : Guarded opened link run) → IsOpened opened → MatchedMark link run mark → TypedMark run mark → (end : End)
@@ -196,13 +196,13 @@ client_fed opened link run bytes g o prefix typed end e =
     let j = g.joined in
     let got = bytes_received link Initiator run in
     let stream : IsOutput (j.d ++ (j.w.down ++ j.w.queued_down)) = subst IsOutput (sym j.linked.parts_down) j.linked.stream_down in
-    let a = arrives Responder got bytes (bytes_sent link Responder run) j.d j.w.down j.w.queued_down stream j.frames_down j.sent_down prefix (bytes_both got bytes j.bytes_down typed) in
+    let a = arrives opened Responder got bytes (bytes_sent link Responder run) j.d j.w.down j.w.queued_down stream j.frames_down j.sent_down prefix (bytes_both got bytes j.bytes_down typed) in
     let n = 0 + total_of sends_in j.d in
     let r = 0 + total_of requests_in j.d in
-    let place = length (concat (frames_at Responder 0 0 j.d)) in
-    let es = events_of place (frames_at Responder n r a.new) in
+    let place = length (concat (frames_at opened Responder 0 0 j.d)) in
+    let es = events_of place (frames_at opened Responder n r a.new) in
     let same : map FrameReceived (frames_completed Responder got bytes) ≡ es = ap (λ (fs : List Frame). map FrameReceived fs) a.frames in
-    client_ends opened j.s j.u j.all_down a.left o end (place_of j.u) a.new j.k j.d j.all_up j.w n r place j.linked g.guards a.parts (omega arith) (omega arith) a.place a.bytes_are a.some
+    client_ends opened j.s j.u j.all_down a.left o end (place_of opened j.u) a.new j.k j.d j.all_up j.w n r place j.linked g.guards a.parts (omega arith) (omega arith) a.place a.bytes_are a.some
     (ap (λ (xs : List RunEvent). (end_state_after (client_rules opened) (live j.k) xs).ended) (sym same) ∙ e)
 
 -- along a run, what is kept while neither side ends decides why the client ends

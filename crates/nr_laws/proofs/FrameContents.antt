@@ -11,7 +11,7 @@ use Rattle.nr_header.specs.declared.header.RdmaSegment.{RdmaSegment as Part}
 use Rattle.nr_header.specs.declared.header.ChunkLists.{ChunkLists}
 use Rattle.nr_reduce.specs.declared.mark.LinkParameters.{LinkParameters}
 use Rattle.nr_link.specs.Limits.{segment_max}
-use Rattle.nr_link.specs.Output.{segment_count, segment_payload, msn_word, own_hello}
+use Rattle.nr_link.specs.Output.{segment_count, segment_payload, msn_word}
 use Rattle.nr_link.specs.Frames.{Frame, is_hello}
 use Rattle.nr_link.specs.ReceiveState.{ReceiveState, ReadRequest, begun_bytes}
 use Rattle.nr_link.specs.Ending.{frame_segment}
@@ -24,6 +24,7 @@ use Rattle.nr_reduce.specs.ServerState.{ServerState, PendingRead, credit_word}
 use Rattle.nr_reduce.specs.ServerFrames.{FrameEffect, frame_effect}
 use Rattle.nr_reduce.specs.Server.{newly_open_reads, offer_of, answer_of_target}
 use Rattle.nr_rpc.specs.Reading.{call_of, target_of}
+use Rattle.nr_laws.proofs.FirstHellos.{first_hello}
 use Rattle.nr_laws.proofs.Outputs.{message_of_call}
 
 -- a message and its last segment: the offset of its payload in the message, and the payload
@@ -100,14 +101,14 @@ numbered_segment n r (RequestFrame sink at size stag to) =
     (word sink ++ (hyper at ++ (word size ++ (word stag ++ hyper to)))))
 numbered_segment n r (TaggedFrame last opcode stag to payload) = Some (Tagged last opcode stag to payload)
 
-abbrev pub frame_bytes : Side → Option Segment → List ℕ
-frame_bytes side None = own_hello side
-frame_bytes side (Some segment) = encoding segment
+abbrev pub frame_bytes : LinkParameters → Side → Option Segment → List ℕ
+frame_bytes opened side None = first_hello opened side
+frame_bytes opened side (Some segment) = encoding segment
 
 -- the bytes of some frames
-abbrev pub output_bytes : Side → (sends requests : ℕ) → List FrameContent → List ℕ
-output_bytes side n r [] = []
-output_bytes side n r (p ∷ ps) = frame_bytes side (numbered_segment n r p) ++ output_bytes side (n + sends_in p) (r + requests_in p) ps
+abbrev pub output_bytes : LinkParameters → Side → (sends requests : ℕ) → List FrameContent → List ℕ
+output_bytes opened side n r [] = []
+output_bytes opened side n r (p ∷ ps) = frame_bytes opened side (numbered_segment n r p) ++ output_bytes opened side (n + sends_in p) (r + requests_in p) ps
 
 -- a frame carries this content: it isn't the hello, and reads as the numbered segment
 pub record Carries (n r : ℕ) (f : Frame) (p : FrameContent) : Type 0 where

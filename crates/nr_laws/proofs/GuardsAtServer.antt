@@ -144,7 +144,7 @@ sinks_after s f r is n h =
     omega (arith, e, closed_length (is_over (effect_in s f r).calls (effect_in s f r).reads) f.end (effect_in s f r).regions)
 
 pub takes_send : (opened : LinkParameters) (k : ClientState) (s : ServerState) (u d all_up all_down : List FrameContent) (w : Transit) (place : ℕ) (message : SentMessage) (rest : List FrameContent) (f : Frame) → IsOpened opened → EndsAgree opened k s u d all_up all_down w → Guards opened k s u d all_up all_down w place → w.up ≡ SendFrame message ∷ rest
-    → Carries s.received.sends s.received.requests f (SendFrame message) → IsBytes f.bytes → f.bytes ≡ frame_bytes Initiator (numbered_segment s.received.sends s.received.requests (SendFrame message)) → place < f.end → ServerTakes opened k s u d all_up all_down w (SendFrame message) rest f
+    → Carries s.received.sends s.received.requests f (SendFrame message) → IsBytes f.bytes → f.bytes ≡ frame_bytes opened Initiator (numbered_segment s.received.sends s.received.requests (SendFrame message)) → place < f.end → ServerTakes opened k s u d all_up all_down w (SendFrame message) rest f
 takes_send opened k s u d all_up all_down w place message rest f o l g first piece bytes is lt =
     let segment : Segment = last_segment s.received.sends message in
     let reads : frame_segment f ≡ Ok segment = segment_is s.received.sends s.received.requests f (SendFrame message) segment piece refl in
@@ -246,12 +246,12 @@ hello_guards opened k s u d all_up all_down w place rest f g first is le =
       answers = subst (λ (ps : List FrameContent). AreResponses s.response_bytes c.answered (ps ++ w.queued_up)) first c.answers;
       requests = c.requests;
     } in
-    let t = with_own_hello s in
+    let t = with_own_hello opened s f in
     let server : ServerAgrees opened k t (taken_up w rest (HelloFrame ∷ [])) f.end = record {
       counts = subst (λ (t : ServerState). TotalsAgree k t (taken_up w rest (HelloFrame ∷ []))) after
           (subst (λ (said : List FrameContent). TotalsAgree k (server_state_after opened s (FrameReceived f)) (taken_up w rest said)) says (totals_hello_up opened k s w f rest g.server.counts first is));
       reads = reads_says_down s t (record { queued_up = w.queued_up; up = rest; queued_down = w.queued_down; down = w.down }) (HelloFrame ∷ []) r refl refl refl;
-      waits = waits_greeted s g.server.waits;
+      waits = waits_greeted opened s f g.server.waits;
       sinks = later_sinks place f.end s.regions s.reads le g.server.sinks;
       regions = record { stags = g.server.regions.stags; calls = g.server.regions.calls };
       limits = record { up = g.server.limits.up; down = g.server.limits.down };

@@ -9,9 +9,10 @@ use Rattle.nr_link.specs.declared.end.End.{End}
 use Rattle.nr_link.specs.declared.end.End.TheVariants as ends
 use Rattle.nr_link.specs.Frames.{Frame, is_hello}
 use Rattle.nr_link.specs.Ending.{frame_segment, frame_end, frame_end_by, hello_end, rejection}
-use Rattle.nr_link.specs.Output.{own_hello, refusing_hello}
+use Rattle.nr_link.specs.Output.{refusing_hello}
 use Rattle.nr_link.specs.OutputItem.{OutputItem, items_encoding, is_send_item, item_ends, items_written}
 use Rattle.nr_link.specs.OutputItem.OutputItem.{LastItem}
+use Rattle.nr_reduce.specs.Hellos.{server_hello}
 use Rattle.nr_reduce.specs.declared.mark.LinkParameters.{LinkParameters}
 use Rattle.nr_reduce.specs.History.{bytes_sent}
 use Rattle.nr_reduce.specs.Written.{ends_written, ends_waiting}
@@ -89,17 +90,17 @@ abbrev items_of : LinkParameters → EndState ServerState → List RunEvent → 
 items_of opened r es = due_for_all (server_rules opened) (server_items_at opened) (λ end. LastItem end ∷ []) r es
 
 abbrev hellos_of : LinkParameters → EndState ServerState → List RunEvent → List ℕ
-hellos_of opened r es = due_for_all (server_rules opened) (λ k event. server_hello_at event) (rejection Responder) r es
+hellos_of opened r es = due_for_all (server_rules opened) (λ k event. server_hello_at opened event) (rejection Responder) r es
 
 behind_first_lem : (place : ℕ) (f : Frame) → IsNext place (FrameReceived f) → 0 < place → is_hello f ≡ false
 behind_first_lem place f next some = ne_eqb f.at 0 (λ e. omega (arith, e, next.0, some))
 
-hello_none : (place : ℕ) (e : RunEvent) → IsNext place e → 0 < place → server_hello_at e ≡ []
-hello_none place (FrameReceived f) next some = ap (λ (b : Bool). cond b (own_hello Responder) []) (behind_first_lem place f next some)
-hello_none place (CallSubmitted p a) next some = refl
-hello_none place (MemoryRevoked p xid) next some = refl
-hello_none place (CallExecuted e) next some = refl
-hello_none place (QueueWritten taken) next some = refl
+hello_none : (opened : LinkParameters) (place : ℕ) (e : RunEvent) → IsNext place e → 0 < place → server_hello_at opened e ≡ []
+hello_none opened place (FrameReceived f) next some = ap (λ (b : Bool). cond b (server_hello opened f) []) (behind_first_lem place f next some)
+hello_none opened place (CallSubmitted p a) next some = refl
+hello_none opened place (MemoryRevoked p xid) next some = refl
+hello_none opened place (CallExecuted e) next some = refl
+hello_none opened place (QueueWritten taken) next some = refl
 
 event_big : (opened : LinkParameters) (place : ℕ) (k : ServerState) (e : RunEvent) → IsNext place e → 0 < place → BigEnd (server_end opened k e)
 unfolding server_end
@@ -117,23 +118,23 @@ place_some place (CallExecuted e) next some = some
 place_some place (QueueWritten taken) next some = some
 
 behind_one : (opened : LinkParameters) (place : ℕ) (r : EndState ServerState) (e : RunEvent) → IsNext place e → 0 < place
-    → (due_for (server_rules opened) (λ k event. server_hello_at event) (rejection Responder) r e ≡ [])
+    → (due_for (server_rules opened) (λ k event. server_hello_at opened event) (rejection Responder) r e ≡ [])
     × (output_for (server_rules opened) r e ≡ items_encoding (due_for (server_rules opened) (server_items_at opened) (λ end. LastItem end ∷ []) r e))
 behind_one opened place r e next some = by_ended r.ended
   where
     k : ServerState
     k = r.state
 
-    by : (o : Option End) → server_end opened k e ≡ o → (due_for_by (server_rules opened) (λ k event. server_hello_at event) (rejection Responder) k e o ≡ [])
+    by : (o : Option End) → server_end opened k e ≡ o → (due_for_by (server_rules opened) (λ k event. server_hello_at opened event) (rejection Responder) k e o ≡ [])
         × (output_for_by (server_rules opened) k e o ≡ items_encoding (due_for_by (server_rules opened) (server_items_at opened) (λ end. LastItem end ∷ []) k e o))
     by None is =
-        let none = hello_none place e next some in
+        let none = hello_none opened place e next some in
         (none, server_encoded opened k e ∙ ap (λ (hs : List ℕ). hs ++ items_encoding (server_items_at opened k e)) none)
     by (Some end) is =
         let none = not_rejected end (subst (λ (o : Option End). BigEnd o) is (event_big opened place k e next some)) in
         (none, server_last end ∙ ap (λ (hs : List ℕ). hs ++ items_encoding (LastItem end ∷ [])) none)
 
-    by_ended : (o : Option End) → (due_for_in (server_rules opened) (λ k event. server_hello_at event) (rejection Responder) k e o ≡ [])
+    by_ended : (o : Option End) → (due_for_in (server_rules opened) (λ k event. server_hello_at opened event) (rejection Responder) k e o ≡ [])
         × (output_for_in (server_rules opened) k e o ≡ items_encoding (due_for_in (server_rules opened) (server_items_at opened) (λ end. LastItem end ∷ []) k e o))
     by_ended None = by (server_end opened k e) refl
     by_ended (Some end) = (refl, refl)
@@ -165,7 +166,7 @@ behind_ends opened place k (e ∷ es) g some stays = by (λ next live_still. beh
         → (end_state_after (server_rules opened) (next_end_state_by (server_rules opened) k e o) es).state.message_ends
         ≡ k.message_ends ++ item_ends is_send_item k.due (due_for_by (server_rules opened) (server_items_at opened) (λ end. LastItem end ∷ []) k e o ++ items_of opened (next_end_state_by (server_rules opened) k e o) es)
     by later None next live_still =
-        let more : t.due ≡ k.due + length (items_encoding (server_items_at opened k e)) = omega (arith, server_more opened k e, ap (λ (hs : List ℕ). length hs) (hello_none place e g.0 some)) in
+        let more : t.due ≡ k.due + length (items_encoding (server_items_at opened k e)) = omega (arith, server_more opened k e, ap (λ (hs : List ℕ). length hs) (hello_none opened place e g.0 some)) in
         later next live_still
         ∙ (λ i. server_sends opened k e i ++ item_ends is_send_item (more i) rest)
         ∙ append_assoc k.message_ends (item_ends is_send_item k.due (server_items_at opened k e)) (item_ends is_send_item (k.due + length (items_encoding (server_items_at opened k e))) rest)
@@ -184,17 +185,17 @@ frame_output opened k f es some g = by (server_end opened k (FrameReceived f)) g
     e : RunEvent
     e = FrameReceived f
 
-    one : (o : Option End) → output_for_by (server_rules opened) k e o ≡ due_for_by (server_rules opened) (λ k event. server_hello_at event) (rejection Responder) k e o ++ items_encoding (due_for_by (server_rules opened) (server_items_at opened) (λ end. LastItem end ∷ []) k e o)
+    one : (o : Option End) → output_for_by (server_rules opened) k e o ≡ due_for_by (server_rules opened) (λ k event. server_hello_at opened event) (rejection Responder) k e o ++ items_encoding (due_for_by (server_rules opened) (server_items_at opened) (λ end. LastItem end ∷ []) k e o)
     one None = server_encoded opened k e
     one (Some end) = server_last end
 
     by : (o : Option End) → GoesOn (server_rules opened) ServerPlain f.end (next_end_state_by (server_rules opened) k e o) es
         → output_for_by (server_rules opened) k e o ++ output_for_all (server_rules opened) (next_end_state_by (server_rules opened) k e o) es
-        ≡ (due_for_by (server_rules opened) (λ k event. server_hello_at event) (rejection Responder) k e o ++ hellos_of opened (next_end_state_by (server_rules opened) k e o) es)
+        ≡ (due_for_by (server_rules opened) (λ k event. server_hello_at opened event) (rejection Responder) k e o ++ hellos_of opened (next_end_state_by (server_rules opened) k e o) es)
         ++ items_encoding (due_for_by (server_rules opened) (server_items_at opened) (λ end. LastItem end ∷ []) k e o ++ items_of opened (next_end_state_by (server_rules opened) k e o) es)
     by o next =
         let r = next_end_state_by (server_rules opened) k e o in
-        let hello : List ℕ = due_for_by (server_rules opened) (λ k event. server_hello_at event) (rejection Responder) k e o in
+        let hello : List ℕ = due_for_by (server_rules opened) (λ k event. server_hello_at opened event) (rejection Responder) k e o in
         let items : List OutputItem = due_for_by (server_rules opened) (server_items_at opened) (λ end. LastItem end ∷ []) k e o in
         let rest = behind_output opened f.end r es next some in
         (λ i. one o i ++ rest.1 i)
@@ -226,12 +227,12 @@ frame_ends opened k f es first some g zero empty stays = by (server_end opened k
 
     by : (o : Option End) → GoesOn (server_rules opened) ServerPlain f.end (next_end_state_by (server_rules opened) k e o) es → (end_state_after (server_rules opened) (next_end_state_by (server_rules opened) k e o) es).ended ≡ None
         → (end_state_after (server_rules opened) (next_end_state_by (server_rules opened) k e o) es).state.message_ends
-        ≡ item_ends is_send_item (length (due_for_by (server_rules opened) (λ k event. server_hello_at event) (rejection Responder) k e o ++ hellos_of opened (next_end_state_by (server_rules opened) k e o) es))
+        ≡ item_ends is_send_item (length (due_for_by (server_rules opened) (λ k event. server_hello_at opened event) (rejection Responder) k e o ++ hellos_of opened (next_end_state_by (server_rules opened) k e o) es))
         (due_for_by (server_rules opened) (server_items_at opened) (λ end. LastItem end ∷ []) k e o ++ items_of opened (next_end_state_by (server_rules opened) k e o) es)
     by None next live_still =
         let t : ServerState = server_state_after opened k e in
         let rest : List OutputItem = items_of opened (live t) es in
-        let hello : List ℕ = server_hello_at e in
+        let hello : List ℕ = server_hello_at opened e in
         let quiet = behind_output opened f.end (live t) es next some in
         let nothing : t.message_ends ≡ [] =
         server_sends opened k e ∙ (λ i. empty i ++ item_ends is_send_item k.due (no_items i)) in

@@ -10,7 +10,6 @@ use Rattle.nr_regions.specs.Access.{Grant}
 use Rattle.nr_link.specs.declared.end.End.{End as Stop}
 use Rattle.nr_link.specs.declared.end.End.TheVariants as ends
 use Rattle.nr_link.specs.Frames.{Frame, is_hello}
-use Rattle.nr_link.specs.Output.{own_hello}
 use Rattle.nr_link.specs.ReceiveState.{message_completed}
 use Rattle.nr_link.specs.SegmentFaults.{Readiness, SegmentReason, segment_reason}
 use Rattle.nr_link.specs.SegmentFaults.SegmentReason.{Reason, NoBuffer, AccessDenied, PeerTerminated}
@@ -30,7 +29,7 @@ use Rattle.nr_laws.specs.MatchedSoFar.{MatchedSoFar}
 use Rattle.nr_laws.specs.Typed.{IsTyped}
 use Rattle.nr_laws.proofs.Outputs.{Output}
 use Rattle.nr_laws.proofs.Outputs.Output.{AHello, ASegment}
-use Rattle.nr_laws.proofs.Brought.{Brings, Brought, AreFrom, hello_is}
+use Rattle.nr_laws.proofs.Brought.{Brings, Brought, AreFrom, IsHelloFrame}
 use Rattle.nr_laws.proofs.Completions.{completed_by, begun_from}
 use Rattle.nr_laws.proofs.ReceivedMessages.{hears, client_receives, brings_at, completed_message}
 use Rattle.nr_laws.proofs.ServerAlong.{outs_of, Said}
@@ -86,11 +85,11 @@ segment_judges k f s at reason is behind own e =
     by None none e = by_message_lem k f s at reason (message_completed k.received s) refl (ap (λ (r : Result Segment ℕ). client_message_end k f (segment_message k r)) (sym own) ∙ e)
 
 -- the hello of the other side ends no client
-hello_stays : (k : ClientState) (f : Frame) → is_hello f ≡ true → f.bytes ≡ own_hello Responder → client_end k (FrameReceived f) ≡ None
+hello_stays : (k : ClientState) (f : Frame) → is_hello f ≡ true → IsHelloFrame Responder f.bytes → client_end k (FrameReceived f) ≡ None
 unfolding client_end
-hello_stays k f first bytes =
+hello_stays k f first read =
     ap (λ (b : Bool). cond b (hello_end (hello_of Responder f.bytes)) (or_message_end k f (frame_end (client_readiness k) (region_grants f.end k.regions) f))) first
-    ∙ ap (λ (xs : List ℕ). hello_end (hello_of Responder xs)) bytes ∙ ap hello_end (hello_is Responder).says
+    ∙ ap hello_end read.says
 
 -- ---- The event that ends a client
 
@@ -115,8 +114,8 @@ none_some_lem end none some = (let wrong : None ≡ Some end = sym none ∙ some
 -- ---- On a matched link
 
 -- what the server writes first is its hello
-first_hello_lem : (xs ys : List Output) (o : Output) (f : Frame) → AreFrom (HelloFrom Responder) (xs ++ o ∷ ys) → Brought o f → is_hello f ≡ true → f.bytes ≡ own_hello Responder
-first_hello_lem [] ys (AHello bytes) f from b is = b.1 ∙ from.0
+first_hello_lem : (xs ys : List Output) (o : Output) (f : Frame) → AreFrom (HelloFrom Responder) (xs ++ o ∷ ys) → Brought o f → is_hello f ≡ true → IsHelloFrame Responder f.bytes
+first_hello_lem [] ys (AHello bytes) f from b is = subst (λ (bytes : List ℕ). IsHelloFrame Responder bytes) (sym b.1) from.0
 first_hello_lem [] ys (ASegment s) f from b is = absurd from
 first_hello_lem (AHello bytes ∷ xs) ys o f from b is = absurd (later xs from.1)
   where

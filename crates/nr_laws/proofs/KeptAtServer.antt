@@ -91,8 +91,8 @@ frame_holds opened s f bytes stays h = by (is_hello f) refl
   where
     by : (b : Bool) → is_hello f ≡ b → KeptAtServer (server_state_after opened s (FrameReceived f))
     by true is =
-        subst KeptAtServer (sym (ap (λ (b : Bool). cond b (with_own_hello s) (with_effect s f (frame_effect s f))) is))
-        (record { agree = waits_greeted s h.agree; own = h.own; begun = h.begun; fit = h.fit })
+        subst KeptAtServer (sym (ap (λ (b : Bool). cond b (with_own_hello opened s f) (with_effect s f (frame_effect s f))) is))
+        (record { agree = waits_greeted opened s f h.agree; own = h.own; begun = h.begun; fit = h.fit })
     by false is = segment_holds opened s f is bytes stays h
 
 -- ---- Each event

@@ -198,3 +198,4 @@ pub mod ClosedForCalls
 pub mod ItemsOfServer
 pub mod CountedReceives
 pub mod SentCalls
+pub mod FirstHellos

@@ -189,8 +189,8 @@ live_event opened s (FrameReceived f) agree good h = by (is_hello f)
     k : ServerState
     k = s.state
 
-    by : (b : Bool) → AllLive (cond b (with_own_hello k) (with_effect k f (frame_effect k f)))
-    by true = each_all (IsLive k) (IsLive (with_own_hello k)) k.regions (λ r live none. left_of_same k (with_own_hello k) r refl refl (live none)) h
+    by : (b : Bool) → AllLive (cond b (with_own_hello opened k f) (with_effect k f (frame_effect k f)))
+    by true = each_all (IsLive k) (IsLive (with_own_hello opened k f)) k.regions (λ r live none. left_of_same k (with_own_hello opened k f) r refl refl (live none)) h
     by false = closed_live (with_effect k f (frame_effect k f)) f.end (frame_effect k f).regions
 live_event opened s (CallSubmitted place a) agree good h = h
 live_event opened s (MemoryRevoked place xid) agree good h = h

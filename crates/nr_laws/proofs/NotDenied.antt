@@ -97,13 +97,13 @@ piece_allowed opened k s u d all_up all_down w up (TaggedFrame last opcode stag 
     same_segment k f (Tagged last OPCODE_WRITE stag to payload) (reads ∙ ap (λ (c : ℕ). Ok (Tagged last c stag to payload)) write) granted
 
 frame_allowed : (opened : LinkParameters) (k : ClientState) (s : ServerState) (u d all_up all_down : List FrameContent) (w : Transit) (up : ℕ) (p : FrameContent) (rest : List FrameContent) (n r place at : ℕ) → EndsAgree opened k s u d all_up all_down w → Guards opened k s u d all_up all_down w up → w.down ≡ p ∷ rest
-    → n ≡ total_of sends_in d → r ≡ total_of requests_in d → IsPlace d place → at < place + length (frame_bytes Responder (numbered_segment n r p)) → AccessesAgree opened k s d all_up all_down at
-    → is_hello (frame_of (frame_bytes Responder (numbered_segment n r p)) place) ≡ false → LacksNothing k (frame_of (frame_bytes Responder (numbered_segment n r p)) place)
+    → n ≡ total_of sends_in d → r ≡ total_of requests_in d → IsPlace d place → at < place + length (frame_bytes opened Responder (numbered_segment n r p)) → AccessesAgree opened k s d all_up all_down at
+    → is_hello (frame_of (frame_bytes opened Responder (numbered_segment n r p)) place) ≡ false → LacksNothing k (frame_of (frame_bytes opened Responder (numbered_segment n r p)) place)
 frame_allowed opened k s u [] all_up all_down w up p rest n r place at l g first sends requests is lt h behind = absurd (let wrong : true ≡ false = sym (ap (λ (x : ℕ). eqb x 0) is) ∙ behind in cc)
 frame_allowed opened k s u (q ∷ d) all_up all_down w up p rest n r place at l g first sends requests is lt h behind =
     let own : IsAccess k.regions (message_xids (q ∷ d)) p =
     access_at k.regions [] (q ∷ d) p (rest ++ w.queued_down) (subst (AreAccesses k.regions []) (sym l.parts_down ∙ ap (λ (ps : List FrameContent). (q ∷ d) ++ (ps ++ w.queued_down)) first) h.down_said) in
-    piece_allowed opened k s u (q ∷ d) all_up all_down w up p rest at (frame_of (frame_bytes Responder (numbered_segment n r p)) place) l g first
+    piece_allowed opened k s u (q ∷ d) all_up all_down w up p rest at (frame_of (frame_bytes opened Responder (numbered_segment n r p)) place) l g first
     (front_piece_down opened k s u q d all_up all_down w p rest n r place l first sends requests is) lt h own
 
 -- so it doesn't end the client
@@ -114,13 +114,13 @@ not_lacking k f stag offset why allowed (inr h) = (let wrong : None ≡ Some h.w
 -- ---- Some frames
 
 frames_allowed : (opened : LinkParameters) (s : ServerState) (u all_down left : List FrameContent) (o : IsOpened opened) (up at stag offset : ℕ) (why : Denied) (new : List FrameContent) (k : ClientState) (d all_up : List FrameContent) (w : Transit) (n r place : ℕ) → EndsAgree opened k s u d all_up all_down w → Guards opened k s u d all_up all_down w up → w.down ≡ new ++ left
-    → n ≡ total_of sends_in d → r ≡ total_of requests_in d → IsPlace d place → IsBytes (concat (frames_at Responder n r new)) → AreSome (frames_at Responder n r new) → EndBehind at (frames_from place (frames_at Responder n r new)) → AccessesAgree opened k s d all_up all_down at
-    → (end_state_after (client_rules opened) (live k) (events_of place (frames_at Responder n r new))).ended ≡ Some (ends.Denied stag offset why) → ⊥
+    → n ≡ total_of sends_in d → r ≡ total_of requests_in d → IsPlace d place → IsBytes (concat (frames_at opened Responder n r new)) → AreSome (frames_at opened Responder n r new) → EndBehind at (frames_from place (frames_at opened Responder n r new)) → AccessesAgree opened k s d all_up all_down at
+    → (end_state_after (client_rules opened) (live k) (events_of place (frames_at opened Responder n r new))).ended ≡ Some (ends.Denied stag offset why) → ⊥
 frames_allowed opened s u all_down left o up at stag offset why [] k d all_up w n r place l g first sends requests is bytes some behind h e = absurd (let wrong : None ≡ Some (ends.Denied stag offset why) = e in cc)
 frames_allowed opened s u all_down left o up at stag offset why (p ∷ new) k d all_up w n r place l g first sends requests is bytes some behind h e =
     let rules = client_rules opened in
-    let frame = frame_bytes Responder (numbered_segment n r p) in
-    let later = frames_at Responder (n + sends_in p) (r + requests_in p) new in
+    let frame = frame_bytes opened Responder (numbered_segment n r p) in
+    let later = frames_at opened Responder (n + sends_in p) (r + requests_in p) new in
     let event = FrameReceived (frame_of frame place) in
     let es = events_of (place + length frame) later in
     let step = step_down opened k s u d all_up all_down w up p (new ++ left) n r place o l g first sends requests is in
@@ -170,14 +170,14 @@ fed_denied opened link run bytes a o prefix typed stag offset why e =
     let j = a.guarded.joined in
     let got = bytes_received link Initiator run in
     let stream : IsOutput (j.d ++ (j.w.down ++ j.w.queued_down)) = subst IsOutput (sym j.linked.parts_down) j.linked.stream_down in
-    let m = arrives Responder got bytes (bytes_sent link Responder run) j.d j.w.down j.w.queued_down stream j.frames_down j.sent_down prefix (bytes_both got bytes j.bytes_down typed) in
+    let m = arrives opened Responder got bytes (bytes_sent link Responder run) j.d j.w.down j.w.queued_down stream j.frames_down j.sent_down prefix (bytes_both got bytes j.bytes_down typed) in
     let n = 0 + total_of sends_in j.d in
     let r = 0 + total_of requests_in j.d in
-    let place = length (concat (frames_at Responder 0 0 j.d)) in
-    let es = events_of place (frames_at Responder n r m.new) in
+    let place = length (concat (frames_at opened Responder 0 0 j.d)) in
+    let es = events_of place (frames_at opened Responder n r m.new) in
     let same : map FrameReceived (frames_completed Responder got bytes) ≡ es = ap (λ (fs : List Frame). map FrameReceived fs) m.frames in
-    let behind : EndBehind (length got) (frames_from place (frames_at Responder n r m.new)) = subst (EndBehind (length got)) m.frames (frames_behind Responder got bytes) in
-    frames_allowed opened j.s j.u j.all_down m.left o (place_of j.u) (length got) stag offset why m.new j.k j.d j.all_up j.w n r place j.linked a.guarded.guards m.parts (omega arith) (omega arith) m.place m.bytes_are m.some behind a.agree
+    let behind : EndBehind (length got) (frames_from place (frames_at opened Responder n r m.new)) = subst (EndBehind (length got)) m.frames (frames_behind Responder got bytes) in
+    frames_allowed opened j.s j.u j.all_down m.left o (place_of opened j.u) (length got) stag offset why m.new j.k j.d j.all_up j.w n r place j.linked a.guarded.guards m.parts (omega arith) (omega arith) m.place m.bytes_are m.some behind a.agree
     (ap (λ (xs : List RunEvent). (end_state_after (client_rules opened) (live j.k) xs).ended) (sym same) ∙ e)
 
 -- ---- Each run

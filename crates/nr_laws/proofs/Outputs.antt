@@ -11,11 +11,12 @@ use Rattle.nr_link.specs.declared.end.End.{End as Stop}
 use Rattle.nr_link.specs.declared.end.End.TheVariants as ends
 use Rattle.nr_link.specs.Limits.{segment_max, send_max}
 use Rattle.nr_link.specs.Reasons.{denied_word, NO_BUFFER_WORD}
-use Rattle.nr_link.specs.Output.{segment_count, segment_payload, cut, msn_word, send, read_response, read_request, terminate_message, own_hello, refusing_hello}
+use Rattle.nr_link.specs.Output.{segment_count, segment_payload, cut, msn_word, send, read_response, read_request, terminate_message, refusing_hello}
 use Rattle.nr_laws.specs.MessageSegments.{message_segment, message_segments}
 use Rattle.nr_link.specs.Frames.{is_hello}
 use Rattle.nr_link.specs.ReceiveState.{ReadRequest}
 use Rattle.nr_link.specs.Ending.{frame_segment, final_output, last_output, is_hello_reason}
+use Rattle.nr_reduce.specs.Hellos.{server_hello}
 use Rattle.nr_reduce.specs.declared.mark.LinkParameters.{LinkParameters}
 use Rattle.nr_reduce.specs.History.{ExecutedCall}
 use Rattle.nr_reduce.specs.Events.{RunEvent}
@@ -224,7 +225,7 @@ abbrev pub answer_of_call : ServerState → ExecutedCall → Option Answer
 answer_of_call k e = answer_of_target (offer_of k e.xid) k.down_max e.reply (target_of (call_of e.payload))
 
 unfoldable pub server_says : LinkParameters → ServerState → RunEvent → List Output
-server_says opened k (FrameReceived f) = cond (is_hello f) (AHello (own_hello Responder) ∷ []) (effect_outputs k (frame_effect k f))
+server_says opened k (FrameReceived f) = cond (is_hello f) (AHello (server_hello opened f) ∷ []) (effect_outputs k (frame_effect k f))
 server_says opened k (CallSubmitted place a) = []
 server_says opened k (MemoryRevoked place xid) = []
 server_says opened k (CallExecuted e) = answer_outputs k e.xid (offer_of k e.xid) (answer_of_call k e)
@@ -247,8 +248,8 @@ server_said opened k (FrameReceived f) = by (is_hello f)
     s : FrameEffect
     s = frame_effect k f
 
-    by : (b : Bool) → cond b (own_hello Responder) (effect_output k s) ≡ bytes_of_all (cond b (AHello (own_hello Responder) ∷ []) (effect_outputs k s))
-    by true = sym (append-nil (own_hello Responder))
+    by : (b : Bool) → cond b (server_hello opened f) (effect_output k s) ≡ bytes_of_all (cond b (AHello (server_hello opened f) ∷ []) (effect_outputs k s))
+    by true = sym (append-nil (server_hello opened f))
     by false =
         (λ i. sends_said (k.messages_queued + 1) s.errors i ++ requests_said (k.requests_sent + 1) (newly_open_reads s) i)
         ∙ sym (bytes_append (message_sends (k.messages_queued + 1) s.errors) (request_outputs (k.requests_sent + 1) (newly_open_reads s)))

@@ -70,7 +70,7 @@ planned payload r p e = ap (λ (x : Result Plan TooLarge). plan_or payload x) e
 pub record Submitted (opened : LinkParameters) (k : ClientState) (s : ServerState) (u d all_up all_down : List FrameContent) (w : Transit) (place : ℕ) (a : AcceptedCall) : Type 0 where
   pub said : List FrameContent
   pub said_is : said ≡ client_frames opened k (CallSubmitted place a)
-  pub output : client_output opened k (CallSubmitted place a) ≡ output_bytes Initiator (total_of sends_in all_up) (total_of requests_in all_up) said
+  pub output : client_output opened k (CallSubmitted place a) ≡ output_bytes opened Initiator (total_of sends_in all_up) (total_of requests_in all_up) said
   pub linked : EndsAgree opened (client_state_after opened k (CallSubmitted place a)) s u d (all_up ++ said) all_down (up_more w said)
 
 short_call : (opened : LinkParameters) (k : ClientState) (a : AcceptedCall) (plan : Plan) → plan_for k a.xid a.call a.form ≡ Ok plan → ClientLimits k → IsShort (call_message a.xid opened.wished k.stag (outstanding_of k a).plan)
@@ -97,7 +97,7 @@ submitted opened k s u d all_up all_down w place a plan l own is limits = by k.h
     calls : (b : Bool) → k.has_hello ≡ b → total_of sends_in all_up ≡ cond b k.calls_accepted 0
     calls b e = calls_said opened k s u d all_up all_down w l ∙ ap (λ (x : Bool). cond x k.calls_accepted 0) e
 
-    with_said : (said : List FrameContent) → cond k.has_hello frames [] ≡ said → client_output opened k (CallSubmitted place a) ≡ output_bytes Initiator (total_of sends_in all_up) (total_of requests_in all_up) said → AreWritable said → total_of hellos_in said ≡ 0 → total_of requests_in said ≡ 0
+    with_said : (said : List FrameContent) → cond k.has_hello frames [] ≡ said → client_output opened k (CallSubmitted place a) ≡ output_bytes opened Initiator (total_of sends_in all_up) (total_of requests_in all_up) said → AreWritable said → total_of hellos_in said ≡ 0 → total_of requests_in said ≡ 0
         → Submitted opened k s u d all_up all_down w place a
     with_said said says output proper hellos reads = record {
       said = said;
@@ -113,8 +113,8 @@ submitted opened k s u d all_up all_down w place a plan l own is limits = by k.h
     by true e =
         with_said frames (ap (λ (x : Bool). cond x frames []) e)
         (ap (λ (x : Bool). cond x (call_output opened (k.calls_accepted + 1) (outstanding_of k a)) []) e
-        ∙ message_said Initiator k.calls_accepted (total_of requests_in all_up) message
-        ∙ (λ i. output_bytes Initiator (sym (calls true e) i) (total_of requests_in all_up) frames))
+        ∙ message_said opened Initiator k.calls_accepted (total_of requests_in all_up) message
+        ∙ (λ i. output_bytes opened Initiator (sym (calls true e) i) (total_of requests_in all_up) frames))
         (short_proper message short) (send_counts hellos_in 0 (λ offset payload. refl) (λ m. refl) message) (send_counts requests_in 0 (λ offset payload. refl) (λ m. refl) message)
     by false e =
         with_said [] (ap (λ (x : Bool). cond x frames []) e) (ap (λ (x : Bool). cond x (call_output opened (k.calls_accepted + 1) (outstanding_of k a)) []) e) tt refl refl
@@ -201,7 +201,7 @@ written_up opened k s u d all_up all_down w taken all ends l =
 pub record Executed (opened : LinkParameters) (k : ClientState) (s : ServerState) (u d all_up all_down : List FrameContent) (w : Transit) (e : ExecutedCall) : Type 0 where
   pub said : List FrameContent
   pub said_is : said ≡ server_frames opened s (CallExecuted e)
-  pub output : server_output opened s (CallExecuted e) ≡ output_bytes Responder (total_of sends_in all_down) (total_of requests_in all_down) said
+  pub output : server_output opened s (CallExecuted e) ≡ output_bytes opened Responder (total_of sends_in all_down) (total_of requests_in all_down) said
   pub linked : EndsAgree opened k (server_state_after opened s (CallExecuted e)) u d all_up (all_down ++ said) (record { queued_up = w.queued_up; up = w.up; queued_down = w.queued_down ++ said; down = w.down })
 
 pub some_calls : (xid : ℕ) (calls : List PendingCall) → list_any (λ (c : PendingCall). eqb c.xid xid) calls ≡ true → 0 < length calls
@@ -221,7 +221,7 @@ executed opened k s u d all_up all_down w e r rest l first own begun limits =
     record {
       said = said;
       said_is = refl;
-      output = execution_said s s.requests_sent e ∙ (λ i. output_bytes Responder (messages_said opened k s u d all_up all_down w l i) (l.requests_sent i) said);
+      output = execution_said opened s s.requests_sent e ∙ (λ i. output_bytes opened Responder (messages_said opened k s u d all_up all_down w l i) (l.requests_sent i) said);
       linked = record {
         parts_up = l.parts_up;
         parts_down =

@@ -53,7 +53,7 @@ credit_after : (opened : LinkParameters) (k : ServerState) (e : RunEvent) → (s
 unfolding server_state_after
 credit_after opened k (FrameReceived f) = by (is_hello f)
   where
-    by : (b : Bool) → (cond b (with_own_hello k) (with_effect k f (frame_effect k f))).credit ≡ k.credit
+    by : (b : Bool) → (cond b (with_own_hello opened k f) (with_effect k f (frame_effect k f))).credit ≡ k.credit
     by true = refl
     by false = refl
 credit_after opened k (CallSubmitted p a) = refl

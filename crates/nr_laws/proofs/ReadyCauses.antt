@@ -151,7 +151,7 @@ after_each opened es (FrameReceived f) h = by (is_hello f) refl
     old : Each (ReadyAt opened (es ++ FrameReceived f ∷ [])) k.ready
     old = each_later opened es (FrameReceived f) k.ready h
 
-    by : (b : Bool) → is_hello f ≡ b → Each (ReadyAt opened (es ++ FrameReceived f ∷ [])) (cond b (with_own_hello k) (with_effect k f (frame_effect k f))).ready
+    by : (b : Bool) → is_hello f ≡ b → Each (ReadyAt opened (es ++ FrameReceived f ∷ [])) (cond b (with_own_hello opened k f) (with_effect k f (frame_effect k f))).ready
     by true is = old
     by false is = each_append (ReadyAt opened (es ++ FrameReceived f ∷ [])) k.ready (frame_effect k f).ready old (new_each opened es f (frame_effect k f).ready is refl (few_frame k f))
 after_each opened es (CallSubmitted p a) h = each_later opened es (CallSubmitted p a) (server_by opened es).ready h

@@ -136,7 +136,7 @@ pub server_receives : (opened : LinkParameters) → Receiving (server_rules open
 unfolding server_state_after
 server_receives opened k (FrameReceived f) = by (is_hello f)
   where
-    by : (b : Bool) → (cond b (with_own_hello k) (Rattle.nr_reduce.specs.Server.with_effect k f (Rattle.nr_reduce.specs.ServerFrames.frame_effect k f))).received ≡ cond b k.received (received_by k.received (frame_segment f))
+    by : (b : Bool) → (cond b (with_own_hello opened k f) (Rattle.nr_reduce.specs.Server.with_effect k f (Rattle.nr_reduce.specs.ServerFrames.frame_effect k f))).received ≡ cond b k.received (received_by k.received (frame_segment f))
     by true = refl
     by false = refl
 server_receives opened k (CallSubmitted p a) = refl

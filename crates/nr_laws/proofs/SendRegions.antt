@@ -196,7 +196,7 @@ frame_event opened es f h stays = by (is_hello f) refl
     old : AllByRecursion P k.regions
     old = each_all (IsChunkOfSend opened es) P k.regions (chunk_more opened es (FrameReceived f ∷ [])) h
 
-    by : (b : Bool) → is_hello f ≡ b → AllByRecursion P (cond b (with_own_hello k) (with_effect k f (frame_effect k f))).regions
+    by : (b : Bool) → is_hello f ≡ b → AllByRecursion P (cond b (with_own_hello opened k f) (with_effect k f (frame_effect k f))).regions
     by true is = old
     by false is =
         each_region_closed P (chunk_closed opened (es ++ FrameReceived f ∷ [])) (is_over (frame_effect k f).calls (frame_effect k f).reads) f.end (frame_effect k f).regions

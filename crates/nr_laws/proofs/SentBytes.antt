@@ -2,7 +2,7 @@
 use Rattle.std.proofs.Common.{◌≡◌, ℕ, ◌+◌, List, [], ◌∷◌, ◌++◌, length, None, Some, refl, ap, subst, arith, length-append, inl, inr, ◌⊎◌, zero, suc}
 use Rattle.std.specs.Prelude.{slice_get}
 use Rattle.nr_wire.specs.declared.hello.Side.TheVariants.{Initiator}
-use Rattle.nr_link.specs.Output.{own_hello}
+use Rattle.nr_reduce.specs.Hellos.{client_hello}
 use Rattle.nr_reduce.specs.declared.mark.LinkParameters.{LinkParameters}
 use Rattle.nr_reduce.specs.History.{bytes_sent}
 use Rattle.nr_reduce.specs.Events.{RunEvent, events}
@@ -84,7 +84,7 @@ server_sends_what_is_due = sent_down
 
 pub sent_bytes_are_allowed : SentBytesAreAllowed
 unfolding output_due
-sent_bytes_are_allowed opened link run at byte asked e = by (of_one (own_hello Initiator) out at byte due)
+sent_bytes_are_allowed opened link run at byte asked e = by (of_one (client_hello opened) out at byte due)
   where
     es : List RunEvent
     es = events link Initiator run
@@ -92,12 +92,12 @@ sent_bytes_are_allowed opened link run at byte asked e = by (of_one (own_hello I
     out : List ℕ
     out = output_for_all (client_rules opened) (initial_client opened) es
 
-    due : slice_get (own_hello Initiator ++ out) at ≡ Some byte
+    due : slice_get (client_hello opened ++ out) at ≡ Some byte
     due =
         let p = sent_up opened link run asked in
         subst (λ (xs : List ℕ). slice_get xs at ≡ Some byte) p.1 (got_left (bytes_sent link Initiator run) p.0 at byte e)
 
-    by : (slice_get (own_hello Initiator) at ≡ Some byte) ⊎ OfSecond (own_hello Initiator) out at byte → (slice_get (own_hello Initiator) at ≡ Some byte) ⊎ IsSentFor opened es at byte
+    by : (slice_get (client_hello opened) at ≡ Some byte) ⊎ OfSecond (client_hello opened) out at byte → (slice_get (client_hello opened) at ≡ Some byte) ⊎ IsSentFor opened es at byte
     by (inl h) = inl h
     by (inr h) =
         let f = for_event opened (initial_client opened) es h.index byte h.byte_is in

@@ -5,7 +5,6 @@ use Rattle.nr_wire.specs.declared.hello.Side.TheVariants.{Initiator, Responder}
 use Rattle.nr_wire.specs.declared.stream.Awaited.TheVariants.{Hello as HelloFrom, Fpdu}
 use Rattle.nr_wire.specs.Segment.{Segment}
 use Rattle.nr_link.specs.Frames.{Frame, is_hello}
-use Rattle.nr_link.specs.Output.{own_hello}
 use Rattle.nr_link.specs.ReceiveState.{begun_bytes}
 use Rattle.nr_link.specs.Ending.{frame_segment}
 use Rattle.nr_reduce.specs.declared.mark.LinkParameters.{LinkParameters}
@@ -23,7 +22,7 @@ use Rattle.nr_reduce.proofs.Steps.{output_for_all_append, end_state_after_append
 use Rattle.nr_laws.proofs.EventOutputs.{GoesOn, place_after, outputs_for, outputs_all}
 use Rattle.nr_laws.proofs.Outputs.{Output, bytes_of_all, bytes_append, server_says, server_final_outputs, answer_of_call}
 use Rattle.nr_laws.proofs.Outputs.Output.{AHello, ASegment}
-use Rattle.nr_laws.proofs.Brought.{AreFrom, Brings}
+use Rattle.nr_laws.proofs.Brought.{AreFrom, Brings, IsHelloFrame}
 use Rattle.nr_laws.proofs.Words.{from_append}
 use Rattle.nr_laws.proofs.Completions.{completed_by, begun_from, begun_append}
 use Rattle.nr_laws.proofs.Memory.{parts_out}
@@ -45,7 +44,7 @@ pub record IsGoodExecution (r : EndState ServerState) (e : ExecutedCall) : Type 
 
 -- a frame is the client's hello, or a segment that can be read
 abbrev pub FrameGood : Frame → Type 0
-FrameGood f = ((is_hello f ≡ true) × (f.bytes ≡ own_hello Initiator)) ⊎ ((s : Segment) × (is_hello f ≡ false) × (frame_segment f ≡ Ok s))
+FrameGood f = ((is_hello f ≡ true) × IsHelloFrame Initiator f.bytes) ⊎ ((s : Segment) × (is_hello f ≡ false) × (frame_segment f ≡ Ok s))
 
 abbrev pub ServerGood : EndState ServerState → RunEvent → Type 0
 ServerGood r (FrameReceived f) = FrameGood f
@@ -75,7 +74,7 @@ fpdus_preserve opened place r (QueueWritten taken ∷ es) came g b from = (g.0, 
 pub hello_preserves : (opened : LinkParameters) (place : ℕ) (r : EndState ServerState) (es : List RunEvent) (came : List Output) → GoesOn (server_rules opened) ServerPlain place r es → Brings es came → AreFrom (HelloFrom Initiator) came → GoesOn (server_rules opened) ServerGood place r es
 hello_preserves opened place r [] came g b from = tt
 hello_preserves opened place r (FrameReceived f ∷ es) [] g b from = absurd b
-hello_preserves opened place r (FrameReceived f ∷ es) (AHello bytes ∷ came) g b from = (g.0, inl (b.0.0, b.0.1 ∙ from.0), fpdus_preserve opened f.end (next_end_state (server_rules opened) r (FrameReceived f)) es came g.2 b.1 from.1)
+hello_preserves opened place r (FrameReceived f ∷ es) (AHello bytes ∷ came) g b from = (g.0, inl (b.0.0, subst (λ (bytes : List ℕ). IsHelloFrame Initiator bytes) (sym b.0.1) from.0), fpdus_preserve opened f.end (next_end_state (server_rules opened) r (FrameReceived f)) es came g.2 b.1 from.1)
 hello_preserves opened place r (FrameReceived f ∷ es) (ASegment s ∷ came) g b from = absurd from
 hello_preserves opened place r (CallSubmitted p a ∷ es) came g b from = (g.0, g.1, hello_preserves opened place (next_end_state (server_rules opened) r (CallSubmitted p a)) es came g.2 b from)
 hello_preserves opened place r (MemoryRevoked p xid ∷ es) came g b from = (g.0, g.1, hello_preserves opened place (next_end_state (server_rules opened) r (MemoryRevoked p xid)) es came g.2 b from)
@@ -198,7 +197,7 @@ at_most_lem ms (OneError x k) a m b e = (let same = single x a m b e in (ap (λ 
 -- ---- What is kept
 
 abbrev pub Greeted : List Output → Type 0
-Greeted outs = (rest : List Output) × (outs ≡ AHello (own_hello Responder) ∷ rest) × AreFrom Fpdu rest
+Greeted outs = (hello : List ℕ) × (rest : List Output) × (outs ≡ AHello hello ∷ rest) × IsHelloFrame Responder hello × AreFrom Fpdu rest
 
 abbrev pub Shape : ℕ → EndState ServerState → List Output → Type 0
 Shape place r outs = ((place ≡ 0) × (outs ≡ []) × (r.state.ready ≡ []) × (r.ended ≡ None)) ⊎ ((0 < place) × Greeted outs)
@@ -214,7 +213,7 @@ pub record ServerTells (opened : LinkParameters) (es : List RunEvent) (place : �
   pub said : EachSaid opened es outs
 
 pub greeted_more : (outs more : List Output) → Greeted outs → AreFrom Fpdu more → Greeted (outs ++ more)
-greeted_more outs more (rest, is, words) h = (rest ++ more, ap (λ (xs : List Output). xs ++ more) is, from_append rest more words h)
+greeted_more outs more (hello, rest, is, read, words) h = (hello, rest ++ more, ap (λ (xs : List Output). xs ++ more) is, read, from_append rest more words h)
 
 outs_append : (opened : LinkParameters) (r : EndState ServerState) (es : List RunEvent) (e : RunEvent) → outputs_all (server_rules opened) (server_says opened) server_final_outputs r (es ++ e ∷ [])
     ≡ outputs_all (server_rules opened) (server_says opened) server_final_outputs r es ++ outputs_for (server_rules opened) (server_says opened) server_final_outputs (end_state_after (server_rules opened) r es) e

@@ -10,7 +10,6 @@ use Rattle.nr_wire.specs.Segment.{Segment}
 use Rattle.nr_link.specs.declared.end.End.{End as Stop}
 use Rattle.nr_link.specs.declared.end.End.TheVariants as ends
 use Rattle.nr_link.specs.Frames.{Frame, is_hello}
-use Rattle.nr_link.specs.Output.{own_hello}
 use Rattle.nr_link.specs.SegmentFaults.{Readiness, SegmentReason, segment_reason}
 use Rattle.nr_link.specs.SegmentFaults.SegmentReason.{Reason, NoBuffer, AccessDenied, PeerTerminated}
 use Rattle.nr_link.specs.Ending.{access_of, denied_at, frame_segment, frame_end, frame_end_by, end_of_fault, hello_end, missing_access}
@@ -23,7 +22,7 @@ use Rattle.nr_reduce.specs.ServerMessages.Verdict.{EndsLink, OtherVersion, BadCh
 use Rattle.nr_reduce.specs.ServerMessages.CallVerdict.{Refuses, IsReady}
 use Rattle.nr_reduce.specs.ServerFrames.{FrameEffect, with_verdict, frame_effect}
 use Rattle.nr_reduce.specs.Server.{server_end, or_refusal, refusal_end, server_readiness}
-use Rattle.nr_laws.proofs.Brought.{hello_is}
+use Rattle.nr_laws.proofs.Brought.{IsHelloFrame}
 use Rattle.nr_laws.proofs.EachEffect.{each_verdict, each_effect}
 use Rattle.nr_laws.proofs.EachFault.{OfReason, each_fault}
 
@@ -117,9 +116,9 @@ segment_ends opened k f s behind is =
     by None h = refusal_big f (frame_effect k f).refusal (effect_big k f)
     by (Some end) h = h
 
--- the client's own hello ends no server
-pub hello_goes : (opened : LinkParameters) (k : ServerState) (f : Frame) → is_hello f ≡ true → f.bytes ≡ own_hello Initiator → server_end opened k (FrameReceived f) ≡ None
+-- a client's hello ends no server
+pub hello_goes : (opened : LinkParameters) (k : ServerState) (f : Frame) → is_hello f ≡ true → IsHelloFrame Initiator f.bytes → server_end opened k (FrameReceived f) ≡ None
 unfolding server_end
-hello_goes opened k f first bytes =
+hello_goes opened k f first read =
     ap (λ (b : Bool). cond b (hello_end (hello_of Initiator f.bytes)) (or_refusal k f (frame_end (server_readiness opened k) (region_grants f.end k.regions) f))) first
-    ∙ ap (λ (xs : List ℕ). hello_end (hello_of Initiator xs)) bytes ∙ ap hello_end (hello_is Initiator).says
+    ∙ ap hello_end read.says

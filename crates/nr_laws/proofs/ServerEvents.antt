@@ -1,7 +1,7 @@
 -- Each event of a server on a matched link.
 use Rattle.std.proofs.Common.{◌≡◌, ℕ, ◌+◌, ◌≤◌, ◌<◌, Bool, true, false, cond, ◌&&◌, not, eqb, List, [], ◌∷◌, ◌++◌, length, map, Option, None, Some, Result, Ok, refl, sym, ap, subst, ◌∙◌, arith, append-nil, length-append, inl, inr, eqb-true}
 use Rattle.nr_xdr.specs.Item.{IsBytes}
-use Rattle.nr_wire.specs.declared.hello.Side.TheVariants.{Initiator, Responder}
+use Rattle.nr_wire.specs.declared.hello.Side.TheVariants.{Initiator}
 use Rattle.nr_wire.specs.declared.stream.Awaited.TheVariants.{Fpdu}
 use Rattle.nr_wire.specs.Constants.{OPCODE_READ_REQUEST}
 use Rattle.nr_wire.specs.Segment.{Segment}
@@ -9,9 +9,10 @@ use Rattle.nr_wire.specs.Segment.Segment.{Tagged, Untagged}
 use Rattle.nr_link.specs.declared.end.End.{End as Stop}
 use Rattle.nr_link.specs.declared.end.End.TheVariants as ends
 use Rattle.nr_link.specs.Frames.{Frame, is_hello}
-use Rattle.nr_link.specs.Output.{own_hello, refusing_hello}
+use Rattle.nr_link.specs.Output.{refusing_hello}
 use Rattle.nr_link.specs.ReceiveState.{ReceiveState, received_after, message_completed, begun_bytes, is_send, send_continued}
 use Rattle.nr_link.specs.Ending.{frame_segment}
+use Rattle.nr_reduce.specs.Hellos.{server_hello}
 use Rattle.nr_reduce.proofs.OwnLimits.{ServerLimits, server_limits}
 use Rattle.nr_reduce.specs.declared.mark.LinkParameters.{LinkParameters}
 use Rattle.nr_reduce.specs.History.{ExecutedCall}
@@ -24,10 +25,11 @@ use Rattle.nr_reduce.specs.ServerState.{ServerState, ReadyCall, credit_word}
 use Rattle.nr_reduce.specs.ServerFrames.{FrameEffect, frame_effect}
 use Rattle.nr_reduce.specs.Server.{server_rules, server_end, server_output, server_state_after, with_effect, received_by, offer_of, initial_server, with_own_hello}
 use Rattle.nr_reduce.specs.RunLaws.{server_by}
+use Rattle.nr_laws.proofs.FirstHellos.{server_hello_is}
 use Rattle.nr_laws.proofs.EventOutputs.{IsNext, place_after, outputs_by, outputs_for}
 use Rattle.nr_laws.proofs.Outputs.{Output, bytes_of_all, server_says, server_said, message_outputs, server_final_outputs, server_final_said, final_outputs, effect_outputs, answer_outputs, answer_of_call}
 use Rattle.nr_laws.proofs.Outputs.Output.{AHello, ASegment}
-use Rattle.nr_laws.proofs.Brought.{AreFrom}
+use Rattle.nr_laws.proofs.Brought.{AreFrom, IsHelloFrame}
 use Rattle.nr_laws.proofs.Words.{payload_bytes_lem, payload_by}
 use Rattle.nr_laws.specs.MessageSegments.{message_segment}
 use Rattle.nr_laws.proofs.Completions.{completed_by, completed_from, begun_from, begun_append, completed_at_lem, Completes, completes_none, completes_message, completes_tagged, completes_final}
@@ -99,24 +101,24 @@ no_cause_lem more pre s post m none is one = absurd (nothing_at (completed_from 
 
 -- ---- Frames
 
-hello_step : (opened : LinkParameters) (es : List RunEvent) (place : ℕ) (k : ServerState) (outs : List Output) (f : Frame) → IsNext place (FrameReceived f) → is_hello f ≡ true → f.bytes ≡ own_hello Initiator
-    → ServerTells opened es place (record { state = k; ended = None }) outs → Grows opened es place (record { state = k; ended = None }) outs (FrameReceived f) (AHello (own_hello Responder) ∷ [])
+hello_step : (opened : LinkParameters) (es : List RunEvent) (place : ℕ) (k : ServerState) (outs : List Output) (f : Frame) → IsNext place (FrameReceived f) → is_hello f ≡ true → IsHelloFrame Initiator f.bytes
+    → ServerTells opened es place (record { state = k; ended = None }) outs → Grows opened es place (record { state = k; ended = None }) outs (FrameReceived f) (AHello (server_hello opened f) ∷ [])
 unfolding server_says server_output server_state_after
-hello_step opened es place k outs f next first bytes t =
+hello_step opened es place k outs f next first read t =
     let rules = server_rules opened in
-    let stays = hello_goes opened k f first bytes in
-    let same : next_end_state rules (record { state = k; ended = None }) (FrameReceived f) ≡ record { state = with_own_hello k; ended = None } =
-    ap (λ (o : Option Stop). next_end_state_by rules k (FrameReceived f) o) stays ∙ ap (λ (b : Bool). record { state = cond b (with_own_hello k) (with_effect k f (frame_effect k f)); ended = None }) first in
+    let stays = hello_goes opened k f first read in
+    let same : next_end_state rules (record { state = k; ended = None }) (FrameReceived f) ≡ record { state = with_own_hello opened k f; ended = None } =
+    ap (λ (o : Option Stop). next_end_state_by rules k (FrameReceived f) o) stays ∙ ap (λ (b : Bool). record { state = cond b (with_own_hello opened k f) (with_effect k f (frame_effect k f)); ended = None }) first in
     let at_start : place ≡ 0 = sym next.0 ∙ eqb-true f.at 0 first in
     let none : outs ≡ [] = by_shape t.shape at_start in
     record {
-      outputs = ap (λ (o : Option Stop). outputs_by rules (server_says opened) server_final_outputs k (FrameReceived f) o) stays ∙ ap (λ (b : Bool). cond b (AHello (own_hello Responder) ∷ []) (effect_outputs k (frame_effect k f))) first;
-      said = ap (λ (o : Option Stop). output_for_by rules k (FrameReceived f) o) stays ∙ ap (λ (b : Bool). cond b (own_hello Responder) (Rattle.nr_reduce.specs.Server.effect_output k (frame_effect k f))) first ∙ sym (append-nil (own_hello Responder));
+      outputs = ap (λ (o : Option Stop). outputs_by rules (server_says opened) server_final_outputs k (FrameReceived f) o) stays ∙ ap (λ (b : Bool). cond b (AHello (server_hello opened f) ∷ []) (effect_outputs k (frame_effect k f))) first;
+      said = ap (λ (o : Option Stop). output_for_by rules k (FrameReceived f) o) stays ∙ ap (λ (b : Bool). cond b (server_hello opened f) (Rattle.nr_reduce.specs.Server.effect_output k (frame_effect k f))) first ∙ sym (append-nil (server_hello opened f));
       begun = subst (λ (r : EndState ServerState). IsBytes (begun_bytes r.state.received.begun)) (sym same) t.begun;
       fit = subst (λ (r : EndState ServerState). CallsFit r.state.calls) (sym same) t.fit;
-      shape = inr ((let g = next.1 in omega (arith, g)), ([], ap (λ (xs : List Output). xs ++ AHello (own_hello Responder) ∷ []) none, tt));
+      shape = inr ((let g = next.1 in omega (arith, g)), (server_hello opened f, [], ap (λ (xs : List Output). xs ++ AHello (server_hello opened f) ∷ []) none, server_hello_is opened f, tt));
       none_begun = refl;
-      cause = λ pre s post m is one. no_cause_lem (AHello (own_hello Responder) ∷ []) pre s post m refl is one;
+      cause = λ pre s post m is one. no_cause_lem (AHello (server_hello opened f) ∷ []) pre s post m refl is one;
     }
   where
     by_shape : Shape place (record { state = k; ended = None }) outs → place ≡ 0 → outs ≡ []
@@ -150,12 +152,12 @@ segment_step opened es place k outs f s next behind is t None stays =
     let rules = server_rules opened in
     let effect : FrameEffect = frame_effect k f in
     let same : next_end_state rules (record { state = k; ended = None }) (FrameReceived f) ≡ record { state = with_effect k f effect; ended = None } =
-    ap (λ (o : Option Stop). next_end_state_by rules k (FrameReceived f) o) stays ∙ ap (λ (b : Bool). record { state = cond b (with_own_hello k) (with_effect k f effect); ended = None }) behind in
+    ap (λ (o : Option Stop). next_end_state_by rules k (FrameReceived f) o) stays ∙ ap (λ (b : Bool). record { state = cond b (with_own_hello opened k f) (with_effect k f effect); ended = None }) behind in
     let greeted = later_shape place (record { state = k; ended = None }) outs (let p = above_zero f.at behind in let e = next.0 in omega (arith, p, e)) t.shape in
     let payload : IsBytes (payload_by s) = payload_bytes_lem f.bytes s next.2 is in
     let fine : IsFine effect = fine_frame k f (λ x m own whole. completed_bytes k.received x m t.begun (payload_bytes_lem f.bytes x next.2 own) whole) t.fit in
     let own : AreFine (effect_outputs k effect) effect.errors = fine_effect k effect fine in
-    let says : cond (is_hello f) (AHello (own_hello Responder) ∷ []) (effect_outputs k effect) ≡ effect_outputs k effect = ap (λ (b : Bool). cond b (AHello (own_hello Responder) ∷ []) (effect_outputs k effect)) behind in
+    let says : cond (is_hello f) (AHello (server_hello opened f) ∷ []) (effect_outputs k effect) ≡ effect_outputs k effect = ap (λ (b : Bool). cond b (AHello (server_hello opened f) ∷ []) (effect_outputs k effect)) behind in
     record {
       outputs = ap (λ (o : Option Stop). outputs_by rules (server_says opened) server_final_outputs k (FrameReceived f) o) stays;
       said = ap (λ (o : Option Stop). output_for_by rules k (FrameReceived f) o) stays ∙ server_said opened k (FrameReceived f);
@@ -286,7 +288,7 @@ pub server_step : (opened : LinkParameters) (es : List RunEvent) (place : ℕ) (
     → ServerTells opened es place (record { state = k; ended = ended }) outs
     → ServerTells opened (es ++ e ∷ []) (place_after place e) (next_end_state (server_rules opened) (record { state = k; ended = ended }) e) (outs ++ outputs_for (server_rules opened) (server_says opened) server_final_outputs (record { state = k; ended = ended }) e)
 unfolding server_says server_output server_state_after server_end
-server_step opened es place k None outs (FrameReceived f) next (inl h) t = grown opened es place (record { state = k; ended = None }) outs (FrameReceived f) (AHello (own_hello Responder) ∷ []) t (hello_step opened es place k outs f next h.0 h.1 t)
+server_step opened es place k None outs (FrameReceived f) next (inl h) t = grown opened es place (record { state = k; ended = None }) outs (FrameReceived f) (AHello (server_hello opened f) ∷ []) t (hello_step opened es place k outs f next h.0 h.1 t)
 server_step opened es place k None outs (FrameReceived f) next (inr h) t =
     grown opened es place (record { state = k; ended = None }) outs (FrameReceived f) (outputs_by (server_rules opened) (server_says opened) server_final_outputs k (FrameReceived f) (server_end opened k (FrameReceived f))) t
     (segment_step opened es place k outs f h.0 next h.1 h.2 t (server_end opened k (FrameReceived f)) refl)

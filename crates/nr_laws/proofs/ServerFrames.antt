@@ -58,7 +58,7 @@ pub record ServerRan (opened : LinkParameters) (k : ClientState) (s : ServerStat
   pub after : ServerState
   pub said : List FrameContent
   pub state : end_state_after (server_rules opened) (live s) es ≡ live after
-  pub output : output_for_all (server_rules opened) (live s) es ≡ output_bytes Responder (total_of sends_in all_down) (total_of requests_in all_down) said
+  pub output : output_for_all (server_rules opened) (live s) es ≡ output_bytes opened Responder (total_of sends_in all_down) (total_of requests_in all_down) said
   pub linked : EndsAgree opened k after (u ++ new) d all_up (all_down ++ said) (taken_up w left said)
   pub guarded : IsOpened opened → Guards opened k s u d all_up all_down w place → Guards opened k after (u ++ new) d all_up (all_down ++ said) (taken_up w left said) end
   pub accessed : IsOpened opened → Guards opened k s u d all_up all_down w place → (at : ℕ) → AccessesAgree opened k s d all_up all_down at → AccessesAgree opened k after d all_up (all_down ++ said) at
@@ -68,9 +68,9 @@ AreSome [] = Unit {0}
 AreSome (f ∷ fs) = (0 < length f) × AreSome fs
 
 pub server_runs : (opened : LinkParameters) (k : ClientState) (d all_up left new : List FrameContent) (s : ServerState) (u all_down : List FrameContent) (w : Transit) (n r place : ℕ) → EndsAgree opened k s u d all_up all_down w → w.up ≡ new ++ left
-    → n ≡ total_of sends_in u → r ≡ total_of requests_in u → IsPlace u place → IsBytes (concat (frames_at Initiator n r new)) → AreSome (frames_at Initiator n r new)
-    → (end_state_after (server_rules opened) (live s) (events_of place (frames_at Initiator n r new))).ended ≡ None
-    → ServerRan opened k s u d all_up all_down w new left (events_of place (frames_at Initiator n r new)) place (place + length (concat (frames_at Initiator n r new)))
+    → n ≡ total_of sends_in u → r ≡ total_of requests_in u → IsPlace u place → IsBytes (concat (frames_at opened Initiator n r new)) → AreSome (frames_at opened Initiator n r new)
+    → (end_state_after (server_rules opened) (live s) (events_of place (frames_at opened Initiator n r new))).ended ≡ None
+    → ServerRan opened k s u d all_up all_down w new left (events_of place (frames_at opened Initiator n r new)) place (place + length (concat (frames_at opened Initiator n r new)))
 server_runs opened k d all_up left [] s u all_down w n r place l first sends requests at bytes some e =
     let same : EndsAgree opened k s (u ++ []) d all_up (all_down ++ []) (taken_up w left []) =
     subst (λ (ps : List FrameContent). EndsAgree opened k s ps d all_up (all_down ++ []) (taken_up w left [])) (sym (append-nil u))
@@ -89,8 +89,8 @@ server_runs opened k d all_up left [] s u all_down w n r place l first sends req
     record { after = s; said = []; state = refl; output = refl; linked = same; guarded = guarded; accessed = accessed }
 server_runs opened k d all_up left (p ∷ new) s u all_down w n r place l first sends requests at bytes some e =
     let rules = server_rules opened in
-    let frame = frame_bytes Initiator (numbered_segment n r p) in
-    let later = frames_at Initiator (n + sends_in p) (r + requests_in p) new in
+    let frame = frame_bytes opened Initiator (numbered_segment n r p) in
+    let later = frames_at opened Initiator (n + sends_in p) (r + requests_in p) new in
     let event = FrameReceived (frame_of frame place) in
     let es = events_of (place + length frame) later in
     let a = lives rules s event es e in
@@ -122,8 +122,8 @@ server_runs opened k d all_up left (p ∷ new) s u all_down w n r place l first 
       state = ap (λ (x : EndState ServerState). end_state_after rules x es) a.next ∙ m.state;
       output =
           (λ i. (a.says ∙ t.output) i ++ (ap (λ (x : EndState ServerState). output_for_all rules x es) a.next ∙ m.output) i)
-          ∙ (λ i. output_bytes Responder (total_of sends_in all_down) (total_of requests_in all_down) t.said ++ output_bytes Responder (total_append sends_in all_down t.said i) (total_append requests_in all_down t.said i) m.said)
-          ∙ sym (spelled_append Responder (total_of sends_in all_down) (total_of requests_in all_down) t.said m.said);
+          ∙ (λ i. output_bytes opened Responder (total_of sends_in all_down) (total_of requests_in all_down) t.said ++ output_bytes opened Responder (total_append sends_in all_down t.said i) (total_append requests_in all_down t.said i) m.said)
+          ∙ sym (spelled_append opened Responder (total_of sends_in all_down) (total_of requests_in all_down) t.said m.said);
       linked =
           subst (λ (ps : List FrameContent). EndsAgree opened k m.after ps d all_up (all_down ++ (t.said ++ m.said)) (taken_up w left (t.said ++ m.said))) (append_assoc u (p ∷ []) new)
           (subst (λ (ps : List FrameContent). EndsAgree opened k m.after ((u ++ p ∷ []) ++ new) d all_up ps (taken_up w left (t.said ++ m.said))) (append_assoc all_down t.said m.said)
@@ -146,13 +146,13 @@ ends_first rules s event es end Lasting e = record { first = λ now later. by no
         now (is ∙ sym ended ∙ e)
 
 pub server_ends : (opened : LinkParameters) (k : ClientState) (d all_up left : List FrameContent) (o : IsOpened opened) (end : End) (new : List FrameContent) (s : ServerState) (u all_down : List FrameContent) (w : Transit) (n r place : ℕ) → EndsAgree opened k s u d all_up all_down w → Guards opened k s u d all_up all_down w place → w.up ≡ new ++ left
-    → n ≡ total_of sends_in u → r ≡ total_of requests_in u → IsPlace u place → IsBytes (concat (frames_at Initiator n r new)) → AreSome (frames_at Initiator n r new)
-    → (end_state_after (server_rules opened) (live s) (events_of place (frames_at Initiator n r new))).ended ≡ Some end → EndsForCall end
+    → n ≡ total_of sends_in u → r ≡ total_of requests_in u → IsPlace u place → IsBytes (concat (frames_at opened Initiator n r new)) → AreSome (frames_at opened Initiator n r new)
+    → (end_state_after (server_rules opened) (live s) (events_of place (frames_at opened Initiator n r new))).ended ≡ Some end → EndsForCall end
 server_ends opened k d all_up left o end [] s u all_down w n r place l g first sends requests at bytes some e = absurd (let wrong : None ≡ Some end = e in cc)
 server_ends opened k d all_up left o end (p ∷ new) s u all_down w n r place l g first sends requests at bytes some e =
     let rules = server_rules opened in
-    let frame = frame_bytes Initiator (numbered_segment n r p) in
-    let later = frames_at Initiator (n + sends_in p) (r + requests_in p) new in
+    let frame = frame_bytes opened Initiator (numbered_segment n r p) in
+    let later = frames_at opened Initiator (n + sends_in p) (r + requests_in p) new in
     let event = FrameReceived (frame_of frame place) in
     let es = events_of (place + length frame) later in
     let step = step_up_lem opened k s u d all_up all_down w p (new ++ left) n r place o l g first sends requests at (IsBytes_left frame (concat later) bytes) some.0 in

@@ -76,9 +76,9 @@ frame_settled : (opened : LinkParameters) (place : ℕ) (k : ServerState) (f : F
 unfolding server_state_after
 frame_settled opened place k f next good h (Some end) is = settled_later place f.end k.regions k.accesses_received (let l = next.1 in omega (arith, l)) h
 frame_settled opened place k f next (inl g) h None is =
-    subst (λ (b : Bool). Settled f.end (cond b (with_own_hello k) (with_effect k f (frame_effect k f))).regions (cond b (with_own_hello k) (with_effect k f (frame_effect k f))).accesses_received) (sym g.0) (settled_later place f.end k.regions k.accesses_received (let l = next.1 in omega (arith, l)) h)
+    subst (λ (b : Bool). Settled f.end (cond b (with_own_hello opened k f) (with_effect k f (frame_effect k f))).regions (cond b (with_own_hello opened k f) (with_effect k f (frame_effect k f))).accesses_received) (sym g.0) (settled_later place f.end k.regions k.accesses_received (let l = next.1 in omega (arith, l)) h)
 frame_settled opened place k f next (inr (s, behind, own)) h None is =
-    subst (λ (b : Bool). Settled f.end (cond b (with_own_hello k) (with_effect k f (frame_effect k f))).regions (cond b (with_own_hello k) (with_effect k f (frame_effect k f))).accesses_received) (sym behind) (segment_settled opened place k f s (let l = next.1 in omega (arith, l)) behind own is h)
+    subst (λ (b : Bool). Settled f.end (cond b (with_own_hello opened k f) (with_effect k f (frame_effect k f))).regions (cond b (with_own_hello opened k f) (with_effect k f (frame_effect k f))).accesses_received) (sym behind) (segment_settled opened place k f s (let l = next.1 in omega (arith, l)) behind own is h)
 
 settled_step : (opened : LinkParameters) (place : ℕ) (k : ServerState) (ended : Option Stop) (e : RunEvent) → IsNext place e → ServerGood (record { state = k; ended = ended }) e → Settled place k.regions k.accesses_received
     → Settled (place_after place e) (next_end_state_in (server_rules opened) k e ended).state.regions (next_end_state_in (server_rules opened) k e ended).state.accesses_received
@@ -104,7 +104,7 @@ pub server_gathers : (opened : LinkParameters) → Gathering (server_rules opene
 unfolding server_state_after
 server_gathers opened k (FrameReceived f) = by (is_hello f)
   where
-    by : (b : Bool) → (cond b (with_own_hello k) (with_effect k f (frame_effect k f))).accesses_received ≡ cond b k.accesses_received (k.accesses_received ++ tagged_accesses f (frame_segment f))
+    by : (b : Bool) → (cond b (with_own_hello opened k f) (with_effect k f (frame_effect k f))).accesses_received ≡ cond b k.accesses_received (k.accesses_received ++ tagged_accesses f (frame_segment f))
     by true = refl
     by false = refl
 server_gathers opened k (CallSubmitted p a) = refl

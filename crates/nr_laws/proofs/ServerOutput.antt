@@ -17,6 +17,7 @@ use Rattle.nr_reduce.specs.History.{ExecutedCall}
 use Rattle.nr_reduce.specs.ServerState.{PendingRead, ServerState, credit_word}
 use Rattle.nr_reduce.specs.ServerFrames.{FrameEffect, frame_effect}
 use Rattle.nr_reduce.specs.Server.{newly_open_reads, offer_of, answer_of_target, answer_output, execution_output}
+use Rattle.nr_reduce.specs.declared.mark.LinkParameters.{LinkParameters}
 use Rattle.nr_laws.proofs.FrameContents.{SentMessage, CompletesMessage, last_segment, FrameContent, output_bytes, total_of, sends_in, requests_in, request_frame, effect_frames, write_frames, answer_frames, tagged_frames, part_segment, send_frames, errors_frames}
 use Rattle.nr_laws.proofs.TotalsAtServer.{fills_none, long_none}
 use Rattle.nr_laws.proofs.StreamFrames.{spelled_append}
@@ -90,27 +91,27 @@ answer_proper k l xid offer reply t (Some a) e fits =
 abbrev pub execution_frames : ServerState → ExecutedCall → List FrameContent
 execution_frames k e = answer_frames k e.xid (offer_of k e.xid) (answer_of_target (offer_of k e.xid) k.down_max e.reply (target_of (call_of e.payload)))
 
-writes_said : (n r : ℕ) (chunk : List RdmaSegment) (bytes : List ℕ) → writes_into chunk bytes ≡ output_bytes Responder n r (write_frames chunk bytes)
-writes_said n r [] bytes = refl
-writes_said n r (s ∷ chunk) bytes =
-    (λ i. by (eqb (min s.length (length bytes)) 0) i ++ writes_said (n + total_of sends_in first) (r + total_of requests_in first) chunk (drop s.length bytes) i)
-    ∙ sym (spelled_append Responder n r first (write_frames chunk (drop s.length bytes)))
+writes_said : (opened : LinkParameters) (n r : ℕ) (chunk : List RdmaSegment) (bytes : List ℕ) → writes_into chunk bytes ≡ output_bytes opened Responder n r (write_frames chunk bytes)
+writes_said opened n r [] bytes = refl
+writes_said opened n r (s ∷ chunk) bytes =
+    (λ i. by (eqb (min s.length (length bytes)) 0) i ++ writes_said opened (n + total_of sends_in first) (r + total_of requests_in first) chunk (drop s.length bytes) i)
+    ∙ sym (spelled_append opened Responder n r first (write_frames chunk (drop s.length bytes)))
   where
     first : List FrameContent
     first = cond (eqb (min s.length (length bytes)) 0) [] (tagged_frames OPCODE_WRITE s.handle s.offset (take s.length bytes))
 
-    by : (b : Bool) → cond b [] (write s.handle s.offset (take s.length bytes)) ≡ output_bytes Responder n r (cond b [] (tagged_frames OPCODE_WRITE s.handle s.offset (take s.length bytes)))
+    by : (b : Bool) → cond b [] (write s.handle s.offset (take s.length bytes)) ≡ output_bytes opened Responder n r (cond b [] (tagged_frames OPCODE_WRITE s.handle s.offset (take s.length bytes)))
     by true = refl
-    by false = write_said Responder n r s.handle s.offset (take s.length bytes)
+    by false = write_said opened Responder n r s.handle s.offset (take s.length bytes)
 
-long_said : (n r : ℕ) (b : Bool) (chunk : List RdmaSegment) (bytes : List ℕ) → cond b (writes_into chunk bytes) [] ≡ output_bytes Responder n r (cond b (write_frames chunk bytes) [])
-long_said n r true chunk bytes = writes_said n r chunk bytes
-long_said n r false chunk bytes = refl
+long_said : (opened : LinkParameters) (n r : ℕ) (b : Bool) (chunk : List RdmaSegment) (bytes : List ℕ) → cond b (writes_into chunk bytes) [] ≡ output_bytes opened Responder n r (cond b (write_frames chunk bytes) [])
+long_said opened n r true chunk bytes = writes_said opened n r chunk bytes
+long_said opened n r false chunk bytes = refl
 
-answer_said : (k : ServerState) (r xid : ℕ) (offer : ChunkLists) (o : Option Answer) → answer_output k xid offer o ≡ output_bytes Responder k.messages_queued r (answer_frames k xid offer o)
+answer_said : (opened : LinkParameters) (k : ServerState) (r xid : ℕ) (offer : ChunkLists) (o : Option Answer) → answer_output k xid offer o ≡ output_bytes opened Responder k.messages_queued r (answer_frames k xid offer o)
 unfolding answer_writes
-answer_said k r xid offer None = message_said Responder k.messages_queued r (chunk_error xid (credit_word k))
-answer_said k r xid offer (Some a) =
+answer_said opened k r xid offer None = message_said opened Responder k.messages_queued r (chunk_error xid (credit_word k))
+answer_said opened k r xid offer (Some a) =
     let n = k.messages_queued in
     let message = answer_message xid (credit_word k) offer a in
     let moved = write_frames (first_chunk offer.write) a.moved in
@@ -124,16 +125,16 @@ answer_said k r xid offer (Some a) =
     let long_n : n + total_of sends_in long ≡ n = omega (arith, long_sends) in
     let long_r : r + total_of requests_in long ≡ r = omega (arith, long_reads) in
     append_assoc (writes_into (first_chunk offer.write) a.moved) (cond a.long (writes_into (no_segments offer.reply) a.stream) []) (send (n + 1) message)
-    ∙ (λ i. writes_said n r (first_chunk offer.write) a.moved i ++ (long_said n r a.long (no_segments offer.reply) a.stream i ++ message_said Responder n r message i))
-    ∙ ap (λ (xs : List ℕ). output_bytes Responder n r moved ++ xs)
-    ((λ i. output_bytes Responder n r long ++ output_bytes Responder (sym long_n i) (sym long_r i) (send_frames message))
-    ∙ sym (spelled_append Responder n r long (send_frames message))
-    ∙ (λ i. output_bytes Responder (sym moved_n i) (sym moved_r i) (long ++ (send_frames message))))
-    ∙ sym (spelled_append Responder n r moved (long ++ (send_frames message)))
+    ∙ (λ i. writes_said opened n r (first_chunk offer.write) a.moved i ++ (long_said opened n r a.long (no_segments offer.reply) a.stream i ++ message_said opened Responder n r message i))
+    ∙ ap (λ (xs : List ℕ). output_bytes opened Responder n r moved ++ xs)
+    ((λ i. output_bytes opened Responder n r long ++ output_bytes opened Responder (sym long_n i) (sym long_r i) (send_frames message))
+    ∙ sym (spelled_append opened Responder n r long (send_frames message))
+    ∙ (λ i. output_bytes opened Responder (sym moved_n i) (sym moved_r i) (long ++ (send_frames message))))
+    ∙ sym (spelled_append opened Responder n r moved (long ++ (send_frames message)))
 
 pub execution_proper : (k : ServerState) (e : ExecutedCall) → ServerLimits k → CallsFit k.calls → AreWritable (execution_frames k e)
 execution_proper k e l h = answer_proper k l e.xid (offer_of k e.xid) e.reply (target_of (call_of e.payload)) _ refl (found_fits e.xid k.calls h)
 
-pub execution_said : (k : ServerState) (r : ℕ) (e : ExecutedCall) → execution_output k e ≡ output_bytes Responder k.messages_queued r (execution_frames k e)
+pub execution_said : (opened : LinkParameters) (k : ServerState) (r : ℕ) (e : ExecutedCall) → execution_output k e ≡ output_bytes opened Responder k.messages_queued r (execution_frames k e)
 unfolding execution_output
-execution_said k r e = answer_said k r e.xid (offer_of k e.xid) (answer_of_target (offer_of k e.xid) k.down_max e.reply (target_of (call_of e.payload)))
+execution_said opened k r e = answer_said opened k r e.xid (offer_of k e.xid) (answer_of_target (offer_of k e.xid) k.down_max e.reply (target_of (call_of e.payload)))

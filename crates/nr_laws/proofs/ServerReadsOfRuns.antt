@@ -8,6 +8,7 @@ use Rattle.nr_wire.specs.declared.hello.Side.TheVariants.{Responder}
 use Rattle.nr_link.specs.declared.end.End.{End as Stop}
 use Rattle.nr_link.specs.Frames.{Frame, is_hello}
 use Rattle.nr_link.specs.Ending.{frame_segment}
+use Rattle.nr_reduce.specs.Hellos.{server_hello}
 use Rattle.nr_reduce.specs.declared.call.Submission.TheVariants as submissions
 use Rattle.nr_reduce.specs.declared.mark.Mark.{Mark}
 use Rattle.nr_reduce.specs.declared.mark.Mark.TheVariants as marks
@@ -41,7 +42,6 @@ use Rattle.nr_laws.proofs.ExecutedCalls.{frame_message, server_receives_of}
 use Rattle.nr_laws.proofs.ExecutedPayloads.{planned_by}
 use Rattle.nr_laws.proofs.OnceByXid.{at_mark}
 use Rattle.nr_laws.proofs.Outputs.Output.{AHello}
-use Rattle.nr_link.specs.Output.{own_hello}
 use Rattle.nr_laws.proofs.ReadsAlong.{ReadsAt, last_of, OwnMessages, frame_reads, executed_reads, other_reads}
 use Rattle.nr_laws.proofs.ServerAlong.{ServerGood, hello_preserves, outs_of}
 use Rattle.nr_laws.proofs.ServerSide.{server_goes}
@@ -131,10 +131,10 @@ frame_next : (opened : LinkParameters) (es : List RunEvent) (k : ServerState) (o
     → ReadsAt opened (es ++ FrameReceived f ∷ []) (server_state_after opened k (FrameReceived f)) (outs ++ server_says opened k (FrameReceived f))
 unfolding server_state_after server_says
 frame_next opened es k outs f (inl h, own) numbered stays reads =
-    subst (λ (b : Bool). ReadsAt opened (es ++ FrameReceived f ∷ []) (cond b (with_own_hello k) (with_effect k f (frame_effect k f))) (outs ++ cond b (AHello (own_hello Responder) ∷ []) (effect_outputs k (frame_effect k f)))) (sym h.0)
-    (other_reads opened es (FrameReceived f) k (with_own_hello k) outs (AHello (own_hello Responder) ∷ []) (ap (λ (b : Bool). cond b 0 (last_of (frame_segment f)) + 0) h.0) refl refl refl refl refl reads)
+    subst (λ (b : Bool). ReadsAt opened (es ++ FrameReceived f ∷ []) (cond b (with_own_hello opened k f) (with_effect k f (frame_effect k f))) (outs ++ cond b (AHello (server_hello opened f) ∷ []) (effect_outputs k (frame_effect k f)))) (sym h.0)
+    (other_reads opened es (FrameReceived f) k (with_own_hello opened k f) outs (AHello (server_hello opened f) ∷ []) (ap (λ (b : Bool). cond b 0 (last_of (frame_segment f)) + 0) h.0) refl refl refl refl refl reads)
 frame_next opened es k outs f (inr (s, behind, is), own) numbered stays reads =
-    subst (λ (b : Bool). ReadsAt opened (es ++ FrameReceived f ∷ []) (cond b (with_own_hello k) (with_effect k f (frame_effect k f))) (outs ++ cond b (AHello (own_hello Responder) ∷ []) (effect_outputs k (frame_effect k f)))) (sym behind)
+    subst (λ (b : Bool). ReadsAt opened (es ++ FrameReceived f ∷ []) (cond b (with_own_hello opened k f) (with_effect k f (frame_effect k f))) (outs ++ cond b (AHello (server_hello opened f) ∷ []) (effect_outputs k (frame_effect k f)))) (sym behind)
     (frame_reads opened es k outs f s behind is stays (own refl behind) numbered reads)
 
 reads_event : (opened : LinkParameters) (es : List RunEvent) (k : ServerState) (outs : List Output) (e : RunEvent) → ServerFine (record { state = k; ended = None }) e → AreNumbered 1 k.regions → (o : Option Stop) → server_end opened k e ≡ o → ReadsAt opened es k outs → ReadsNext opened es k outs e o

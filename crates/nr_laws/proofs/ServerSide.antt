@@ -117,7 +117,7 @@ server_tells opened link run typed asked served matched =
 
 shape_from : (place : ℕ) (r : EndState ServerState) (outs : List Output) → Shape place r outs → AreFrom (HelloFrom Responder) outs
 shape_from place r outs (inl h) = subst (λ (xs : List Output). AreFrom (HelloFrom Responder) xs) (sym h.1) tt
-shape_from place r outs (inr h) = subst (λ (xs : List Output). AreFrom (HelloFrom Responder) xs) (sym h.1.1) (refl, h.1.2)
+shape_from place r outs (inr h) = subst (λ (xs : List Output). AreFrom (HelloFrom Responder) xs) (sym h.1.2) (h.1.3, h.1.4)
 
 pub client_receives_of : (opened : LinkParameters) (link : ℕ) (run : List Mark) → IsTyped run → AskedSoFar opened link run → ServedSoFar opened link run → Matched link run
     → Receives link Initiator run (outs_of opened (events link Responder run))

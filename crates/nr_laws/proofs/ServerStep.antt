@@ -1,5 +1,6 @@
 -- A frame at a server: it ends the server only for what the server makes of a call, else the guards are kept.
 use Rattle.std.proofs.lemmas.Bool.{le-ltb}
+use Rattle.nr_laws.proofs.FirstHellos.{first_hello_is}
 use Rattle.nr_laws.proofs.AgreeingEnds.{payload_bytes, message_bytes}
 use Rattle.nr_laws.proofs.ClientFrame.{calls_said}
 use Rattle.nr_laws.proofs.GuardsAtServer.{sent_most, takes_part}
@@ -44,7 +45,6 @@ use Rattle.nr_laws.proofs.FrameContents.{FrameContent, numbered_segment, frame_b
 use Rattle.nr_laws.proofs.FrameContents.FrameContent.{HelloFrame, PartFrame, SendFrame, RequestFrame, TaggedFrame}
 use Rattle.nr_laws.proofs.LinkInvariants.{Transit}
 use Rattle.nr_laws.proofs.Totals.{total_append}
-use Rattle.nr_laws.proofs.Brought.{hello_is}
 use Rattle.nr_laws.proofs.CompletedFrames.{is_piece}
 use Rattle.nr_laws.proofs.Writable.{IsWritable, IsOutput, proper_one, stream_first, stream_at_lem}
 use Rattle.nr_laws.proofs.AgreeingEnds.{EndsAgree, IsPlace, frame_of, taken_up}
@@ -152,13 +152,13 @@ by_takes opened k s u d all_up all_down w p rest f refused t = record {
   kept = t.kept;
 }
 
-hello_none : (opened : LinkParameters) (s : ServerState) (f : Frame) → is_hello f ≡ true → hello_of Initiator f.bytes ≡ Ok (record { side = Initiator; flags = 0; private = [] }) → server_end opened s (FrameReceived f) ≡ None
+hello_none : (opened : LinkParameters) (s : ServerState) (f : Frame) (private : List ℕ) → is_hello f ≡ true → hello_of Initiator f.bytes ≡ Ok (record { side = Initiator; flags = 0; private = private }) → server_end opened s (FrameReceived f) ≡ None
 unfolding server_end
-hello_none opened s f is says =
+hello_none opened s f private is says =
     (λ i. cond (is i) (hello_end (says i)) (or_refusal s f (frame_end (server_readiness opened s) (region_grants f.end s.regions) f)))
 
 step_piece : (opened : LinkParameters) (k : ClientState) (s : ServerState) (u d all_up all_down : List FrameContent) (w : Transit) (place : ℕ) (p : FrameContent) (rest : List FrameContent) (f : Frame) → IsOpened opened → EndsAgree opened k s u d all_up all_down w → Guards opened k s u d all_up all_down w place → w.up ≡ p ∷ rest
-    → IsWritable p → Carries s.received.sends s.received.requests f p → IsBytes f.bytes → f.bytes ≡ frame_bytes Initiator (numbered_segment s.received.sends s.received.requests p) → place < f.end
+    → IsWritable p → Carries s.received.sends s.received.requests f p → IsBytes f.bytes → f.bytes ≡ frame_bytes opened Initiator (numbered_segment s.received.sends s.received.requests p) → place < f.end
     → ServerStep opened k s u d all_up all_down w p rest f
 step_piece opened k s u d all_up all_down w place HelloFrame rest f o l g first proper piece bytes is lt = absurd proper
 step_piece opened k s u d all_up all_down w place (PartFrame offset payload) rest f o l g first proper piece bytes is lt =
@@ -185,15 +185,15 @@ step_piece opened k s u d all_up all_down w place (TaggedFrame last opcode stag 
     by_takes opened k s u d all_up all_down w (TaggedFrame last opcode stag to payload) rest f (refused_tagged s f last opcode stag to payload reads) (takes_tagged opened k s u d all_up all_down w place last opcode stag to payload rest f o l g first piece lt)
 
 pub step_up_lem : (opened : LinkParameters) (k : ClientState) (s : ServerState) (u d all_up all_down : List FrameContent) (w : Transit) (p : FrameContent) (rest : List FrameContent) (n r place : ℕ) → IsOpened opened → EndsAgree opened k s u d all_up all_down w → Guards opened k s u d all_up all_down w place → w.up ≡ p ∷ rest
-    → n ≡ total_of sends_in u → r ≡ total_of requests_in u → IsPlace u place → IsBytes (frame_bytes Initiator (numbered_segment n r p)) → 0 < length (frame_bytes Initiator (numbered_segment n r p))
-    → ServerStep opened k s u d all_up all_down w p rest (frame_of (frame_bytes Initiator (numbered_segment n r p)) place)
+    → n ≡ total_of sends_in u → r ≡ total_of requests_in u → IsPlace u place → IsBytes (frame_bytes opened Initiator (numbered_segment n r p)) → 0 < length (frame_bytes opened Initiator (numbered_segment n r p))
+    → ServerStep opened k s u d all_up all_down w p rest (frame_of (frame_bytes opened Initiator (numbered_segment n r p)) place)
 step_up_lem opened k s [] d all_up all_down w p rest n r place o l g first sends requests at bytes some =
     let stream : IsOutput (p ∷ (rest ++ w.queued_up)) = subst IsOutput (sym l.parts_up ∙ ap (λ (ps : List FrameContent). ps ++ w.queued_up) first) l.stream_up in
     let hello : p ≡ HelloFrame = stream_first p (rest ++ w.queued_up) stream in
-    let f = frame_of (frame_bytes Initiator (numbered_segment n r p)) place in
+    let f = frame_of (frame_bytes opened Initiator (numbered_segment n r p)) place in
     let is : is_hello f ≡ true = ap (λ (x : ℕ). eqb x 0) at in
-    let says = ap (λ (q : FrameContent). hello_of Initiator (frame_bytes Initiator (numbered_segment n r q))) hello ∙ (hello_is Initiator).says in
-    let none = hello_none opened s f is says in
+    let says = ap (λ (q : FrameContent). hello_of Initiator (frame_bytes opened Initiator (numbered_segment n r q))) hello ∙ (first_hello_is opened Initiator).says in
+    let none = hello_none opened s f (first_hello_is opened Initiator).private is says in
     subst (λ (q : FrameContent). ServerStep opened k s [] d all_up all_down w q rest f) (sym hello) (record {
       only = λ end e. absurd (some_not end (sym e ∙ none));
       kept = λ stays. hello_guards opened k s [] d all_up all_down w place rest f g (first ∙ ap (λ (q : FrameContent). q ∷ rest) hello) is (omega (arith, some));
@@ -201,9 +201,9 @@ step_up_lem opened k s [] d all_up all_down w p rest n r place o l g first sends
 step_up_lem opened k s (q ∷ u) d all_up all_down w p rest n r place o l g first sends requests at bytes some =
     let stream : IsOutput (q ∷ u ++ p ∷ (rest ++ w.queued_up)) = subst IsOutput (sym l.parts_up ∙ ap (λ (ps : List FrameContent). q ∷ u ++ (ps ++ w.queued_up)) first) l.stream_up in
     let proper = stream_at_lem q u p (rest ++ w.queued_up) stream in
-    let f = frame_of (frame_bytes Initiator (numbered_segment n r p)) place in
+    let f = frame_of (frame_bytes opened Initiator (numbered_segment n r p)) place in
     let n_is : n ≡ s.received.sends = sends ∙ sym l.sends_up in
     let r_is : r ≡ s.received.requests = requests ∙ sym l.requests_up in
     step_piece opened k s (q ∷ u) d all_up all_down w place p rest f o l g first proper
-    (subst (λ (x : ℕ). Carries x s.received.requests f p) n_is (subst (λ (x : ℕ). Carries n x f p) r_is (is_piece Initiator n r place p (proper_one n r p proper) at)))
-    bytes (λ i. frame_bytes Initiator (numbered_segment (n_is i) (r_is i) p)) (omega (arith, some))
+    (subst (λ (x : ℕ). Carries x s.received.requests f p) n_is (subst (λ (x : ℕ). Carries n x f p) r_is (is_piece opened Initiator n r place p (proper_one n r p proper) at)))
+    bytes (λ i. frame_bytes opened Initiator (numbered_segment (n_is i) (r_is i) p)) (omega (arith, some))

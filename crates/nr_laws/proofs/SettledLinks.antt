@@ -35,24 +35,24 @@ use Rattle.nr_laws.proofs.AccountedRuns.{gone_in, accounts}
 
 -- ---- A stream determines its frames
 
-are_frames : (side : Side) (a : Awaited) (n r : ℕ) (ps : List FrameContent) → IsOf side a → AreWritableFrom a n r ps → AreFrames a (frames_at side n r ps)
-are_frames side a n r [] of h = tt
-are_frames side a n r (p ∷ ps) of h = (proper_frame side a (numbered_segment n r p) of h.0, are_frames side Fpdu (n + sends_in p) (r + requests_in p) ps tt h.1)
+are_frames : (opened : LinkParameters) (side : Side) (a : Awaited) (n r : ℕ) (ps : List FrameContent) → IsOf side a → AreWritableFrom a n r ps → AreFrames a (frames_at opened side n r ps)
+are_frames opened side a n r [] of h = tt
+are_frames opened side a n r (p ∷ ps) of h = (proper_frame opened side a (numbered_segment n r p) of h.0, are_frames opened side Fpdu (n + sends_in p) (r + requests_in p) ps tt h.1)
 
 split_none : (a : Awaited) → (split a []).frames ≡ []
 unfolding split
 split_none a = refl
 
-stream_frames : (side : Side) (ps : List FrameContent) → IsOutput ps → (split (HelloFrom side) (output_bytes side 0 0 ps)).frames ≡ frames_at side 0 0 ps
-stream_frames side ps h =
+stream_frames : (opened : LinkParameters) (side : Side) (ps : List FrameContent) → IsOutput ps → (split (HelloFrom side) (output_bytes opened side 0 0 ps)).frames ≡ frames_at opened side 0 0 ps
+stream_frames opened side ps h =
     let a = HelloFrom side in
-    let fs = frames_at side 0 0 ps in
-    ap (λ (xs : List ℕ). (split a xs).frames) (spelled_concat side 0 0 ps ∙ sym (append-nil (concat fs)))
-    ∙ ap (λ (s : Split). s.frames) (split_frames a fs [] (are_frames side a 0 0 ps refl (stream_proper side ps h)))
+    let fs = frames_at opened side 0 0 ps in
+    ap (λ (xs : List ℕ). (split a xs).frames) (spelled_concat opened side 0 0 ps ∙ sym (append-nil (concat fs)))
+    ∙ ap (λ (s : Split). s.frames) (split_frames a fs [] (are_frames opened side a 0 0 ps refl (stream_proper side ps h)))
     ∙ ap (λ (xs : List (List ℕ)). fs ++ xs) (split_none (awaited_after a fs)) ∙ append-nil fs
 
-as_many_lem : (side : Side) (ps qs : List FrameContent) → frames_at side 0 0 ps ≡ frames_at side 0 0 qs → length ps ≡ length qs
-as_many_lem side ps qs e = sym (length_frames side 0 0 ps) ∙ ap (λ (fs : List (List ℕ)). length fs) e ∙ length_frames side 0 0 qs
+as_many_lem : (opened : LinkParameters) (side : Side) (ps qs : List FrameContent) → frames_at opened side 0 0 ps ≡ frames_at opened side 0 0 qs → length ps ≡ length qs
+as_many_lem opened side ps qs e = sym (length_frames opened side 0 0 ps) ∙ ap (λ (fs : List (List ℕ)). length fs) e ∙ length_frames opened side 0 0 qs
 
 nothing_behind : (ps qs : List FrameContent) → length ps ≡ length (ps ++ qs) → qs ≡ []
 nothing_behind ps [] e = refl
@@ -63,17 +63,17 @@ record AllArrived (u all : List FrameContent) (under_way queued : List FrameCont
   under_way_none : under_way ≡ []
   queued_none : queued ≡ []
 
-empties : (side : Side) (received sent due : List ℕ) (u under_way queued all : List FrameContent) → IsOutput all → u ++ (under_way ++ queued) ≡ all → (split (HelloFrom side) received).frames ≡ frames_at side 0 0 u
-    → sent ≡ output_bytes side 0 0 (u ++ under_way) → due ≡ output_bytes side 0 0 all → received ≡ sent → sent ≡ due → AllArrived u all under_way queued
-empties side received sent due u under_way queued all stream parts frames is_sent is_due got wrote =
+empties : (opened : LinkParameters) (side : Side) (received sent due : List ℕ) (u under_way queued all : List FrameContent) → IsOutput all → u ++ (under_way ++ queued) ≡ all → (split (HelloFrom side) received).frames ≡ frames_at opened side 0 0 u
+    → sent ≡ output_bytes opened side 0 0 (u ++ under_way) → due ≡ output_bytes opened side 0 0 all → received ≡ sent → sent ≡ due → AllArrived u all under_way queued
+empties opened side received sent due u under_way queued all stream parts frames is_sent is_due got wrote =
     let front : IsOutput (u ++ under_way) = stream_left (u ++ under_way) queued (subst IsOutput (sym parts ∙ sym (append_assoc u under_way queued)) stream) in
-    let one : frames_at side 0 0 u ≡ frames_at side 0 0 (u ++ under_way) =
-    sym frames ∙ ap (λ (xs : List ℕ). (split (HelloFrom side) xs).frames) (got ∙ is_sent) ∙ stream_frames side (u ++ under_way) front in
-    let two : frames_at side 0 0 (u ++ under_way) ≡ frames_at side 0 0 all =
-    sym (stream_frames side (u ++ under_way) front) ∙ ap (λ (xs : List ℕ). (split (HelloFrom side) xs).frames) (sym is_sent ∙ wrote ∙ is_due) ∙ stream_frames side all stream in
+    let one : frames_at opened side 0 0 u ≡ frames_at opened side 0 0 (u ++ under_way) =
+    sym frames ∙ ap (λ (xs : List ℕ). (split (HelloFrom side) xs).frames) (got ∙ is_sent) ∙ stream_frames opened side (u ++ under_way) front in
+    let two : frames_at opened side 0 0 (u ++ under_way) ≡ frames_at opened side 0 0 all =
+    sym (stream_frames opened side (u ++ under_way) front) ∙ ap (λ (xs : List ℕ). (split (HelloFrom side) xs).frames) (sym is_sent ∙ wrote ∙ is_due) ∙ stream_frames opened side all stream in
     record {
-      under_way_none = nothing_behind u under_way (as_many_lem side u (u ++ under_way) one);
-      queued_none = nothing_behind (u ++ under_way) queued (as_many_lem side (u ++ under_way) all two ∙ ap (λ (ps : List FrameContent). length ps) (sym parts ∙ sym (append_assoc u under_way queued)));
+      under_way_none = nothing_behind u under_way (as_many_lem opened side u (u ++ under_way) one);
+      queued_none = nothing_behind (u ++ under_way) queued (as_many_lem opened side (u ++ under_way) all two ∙ ap (λ (ps : List FrameContent). length ps) (sym parts ∙ sym (append_assoc u under_way queued)));
     }
 
 none_ready : (ready : List ReadyCall) → slice_get ready 0 ≡ None → ready ≡ []
@@ -84,9 +84,9 @@ none_outstanding_lem : (opened : LinkParameters) (link : ℕ) (run : List Mark) 
 unfolding end_of_side next_call
 none_outstanding_lem opened link run typed asked served matched settled =
     let j = joins opened link run asked.each served.each matched typed settled.client_stays settled.server_stays in
-    let up = empties Initiator (bytes_received link Responder run) (bytes_sent link Initiator run) (output_due opened link Initiator run) j.u j.w.up j.w.queued_up j.all_up
+    let up = empties opened Initiator (bytes_received link Responder run) (bytes_sent link Initiator run) (output_due opened link Initiator run) j.u j.w.up j.w.queued_up j.all_up
     j.linked.stream_up j.linked.parts_up j.frames_up j.sent_up j.due_up settled.nothing_waits.up asked.written in
-    let down = empties Responder (bytes_received link Initiator run) (bytes_sent link Responder run) (output_due opened link Responder run) j.d j.w.down j.w.queued_down j.all_down
+    let down = empties opened Responder (bytes_received link Initiator run) (bytes_sent link Responder run) (output_due opened link Responder run) j.d j.w.down j.w.queued_down j.all_down
     j.linked.stream_down j.linked.parts_down j.frames_down j.sent_down j.due_down settled.nothing_waits.down served.written in
     let way : j.w ≡ nothing_in_transit = λ i. record { queued_up = up.queued_none i; up = up.under_way_none i; queued_down = down.queued_none i; down = down.under_way_none i } in
     let ready : j.s.ready ≡ [] = none_ready j.s.ready (ap (λ (r : EndState ServerState). first_ready r.state.ready r.ended) (sym j.server_is) ∙ settled.nothing_waits.executed) in

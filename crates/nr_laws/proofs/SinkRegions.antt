@@ -98,7 +98,7 @@ server_after : (opened : LinkParameters) (k : ServerState) (event : RunEvent) �
 unfolding server_state_after
 server_after opened k (FrameReceived f) h = by (is_hello f)
   where
-    by : (b : Bool) → AreSinks (cond b (with_own_hello k) (with_effect k f (frame_effect k f))).regions
+    by : (b : Bool) → AreSinks (cond b (with_own_hello opened k f) (with_effect k f (frame_effect k f))).regions
     by true = h
     by false = sinks_closed (is_over (frame_effect k f).calls (frame_effect k f).reads) f.end (frame_effect k f).regions (effect_frame k f h)
 server_after opened k (CallSubmitted place a) h = h

@@ -10,8 +10,9 @@ use Rattle.nr_wire.specs.Segment.{Segment}
 use Rattle.nr_wire.specs.Stream.{Split, split, IsFrame, IsPartial}
 use Rattle.nr_wire.proofs.Frames.{partial_nil, partial_not_whole}
 use Rattle.nr_wire.proofs.Splits.{split_frame, split_partial}
-use Rattle.nr_link.specs.Output.{own_hello}
-use Rattle.nr_laws.proofs.Brought.{IsWord, encoding_is, hello_is}
+use Rattle.nr_reduce.specs.declared.mark.LinkParameters.{LinkParameters}
+use Rattle.nr_laws.proofs.FirstHellos.{first_hello, first_hello_is}
+use Rattle.nr_laws.proofs.Brought.{IsWord, encoding_is}
 use Rattle.nr_laws.proofs.FrameContents.{FrameContent, numbered_segment, frame_bytes, output_bytes, sends_in, requests_in, total_of}
 use Rattle.nr_laws.proofs.LaterFrames.{behind}
 
@@ -29,37 +30,37 @@ AreWritableFrom a n r [] = Unit {0}
 AreWritableFrom a n r (p ∷ ps) = IsWritableAs a (numbered_segment n r p) × AreWritableFrom Fpdu (n + sends_in p) (r + requests_in p) ps
 
 -- the frames of frames
-abbrev pub frames_at : Side → (sends requests : ℕ) → List FrameContent → List (List ℕ)
-frames_at side n r [] = []
-frames_at side n r (p ∷ ps) = frame_bytes side (numbered_segment n r p) ∷ frames_at side (n + sends_in p) (r + requests_in p) ps
+abbrev pub frames_at : LinkParameters → Side → (sends requests : ℕ) → List FrameContent → List (List ℕ)
+frames_at opened side n r [] = []
+frames_at opened side n r (p ∷ ps) = frame_bytes opened side (numbered_segment n r p) ∷ frames_at opened side (n + sends_in p) (r + requests_in p) ps
 
-pub spelled_concat : (side : Side) (n r : ℕ) (ps : List FrameContent) → output_bytes side n r ps ≡ concat (frames_at side n r ps)
-spelled_concat side n r [] = refl
-spelled_concat side n r (p ∷ ps) = ap (λ (xs : List ℕ). frame_bytes side (numbered_segment n r p) ++ xs) (spelled_concat side (n + sends_in p) (r + requests_in p) ps)
+pub spelled_concat : (opened : LinkParameters) (side : Side) (n r : ℕ) (ps : List FrameContent) → output_bytes opened side n r ps ≡ concat (frames_at opened side n r ps)
+spelled_concat opened side n r [] = refl
+spelled_concat opened side n r (p ∷ ps) = ap (λ (xs : List ℕ). frame_bytes opened side (numbered_segment n r p) ++ xs) (spelled_concat opened side (n + sends_in p) (r + requests_in p) ps)
 
-pub spelled_append : (side : Side) (n r : ℕ) (ps qs : List FrameContent) → output_bytes side n r (ps ++ qs) ≡ output_bytes side n r ps ++ output_bytes side (n + total_of sends_in ps) (r + total_of requests_in ps) qs
-spelled_append side n r [] qs = λ i. output_bytes side (sym (add-zero n) i) (sym (add-zero r) i) qs
-spelled_append side n r (p ∷ ps) qs =
-    let front = frame_bytes side (numbered_segment n r p) in
+pub spelled_append : (opened : LinkParameters) (side : Side) (n r : ℕ) (ps qs : List FrameContent) → output_bytes opened side n r (ps ++ qs) ≡ output_bytes opened side n r ps ++ output_bytes opened side (n + total_of sends_in ps) (r + total_of requests_in ps) qs
+spelled_append opened side n r [] qs = λ i. output_bytes opened side (sym (add-zero n) i) (sym (add-zero r) i) qs
+spelled_append opened side n r (p ∷ ps) qs =
+    let front = frame_bytes opened side (numbered_segment n r p) in
     let more_n : n + sends_in p + total_of sends_in ps ≡ n + (sends_in p + total_of sends_in ps) = omega arith in
     let more_r : r + requests_in p + total_of requests_in ps ≡ r + (requests_in p + total_of requests_in ps) = omega arith in
     ap (λ (xs : List ℕ). front ++ xs)
-    (spelled_append side (n + sends_in p) (r + requests_in p) ps qs
-    ∙ (λ i. output_bytes side (n + sends_in p) (r + requests_in p) ps ++ output_bytes side (more_n i) (more_r i) qs))
-    ∙ sym (append_assoc front (output_bytes side (n + sends_in p) (r + requests_in p) ps) (output_bytes side (n + total_of sends_in (p ∷ ps)) (r + total_of requests_in (p ∷ ps)) qs))
+    (spelled_append opened side (n + sends_in p) (r + requests_in p) ps qs
+    ∙ (λ i. output_bytes opened side (n + sends_in p) (r + requests_in p) ps ++ output_bytes opened side (more_n i) (more_r i) qs))
+    ∙ sym (append_assoc front (output_bytes opened side (n + sends_in p) (r + requests_in p) ps) (output_bytes opened side (n + total_of sends_in (p ∷ ps)) (r + total_of requests_in (p ∷ ps)) qs))
 
-pub frames_append : (side : Side) (n r : ℕ) (ps qs : List FrameContent) → frames_at side n r (ps ++ qs) ≡ frames_at side n r ps ++ frames_at side (n + total_of sends_in ps) (r + total_of requests_in ps) qs
-frames_append side n r [] qs = λ i. frames_at side (sym (add-zero n) i) (sym (add-zero r) i) qs
-frames_append side n r (p ∷ ps) qs =
+pub frames_append : (opened : LinkParameters) (side : Side) (n r : ℕ) (ps qs : List FrameContent) → frames_at opened side n r (ps ++ qs) ≡ frames_at opened side n r ps ++ frames_at opened side (n + total_of sends_in ps) (r + total_of requests_in ps) qs
+frames_append opened side n r [] qs = λ i. frames_at opened side (sym (add-zero n) i) (sym (add-zero r) i) qs
+frames_append opened side n r (p ∷ ps) qs =
     let more_n : n + sends_in p + total_of sends_in ps ≡ n + (sends_in p + total_of sends_in ps) = omega arith in
     let more_r : r + requests_in p + total_of requests_in ps ≡ r + (requests_in p + total_of requests_in ps) = omega arith in
-    ap (λ (xs : List (List ℕ)). frame_bytes side (numbered_segment n r p) ∷ xs)
-    (frames_append side (n + sends_in p) (r + requests_in p) ps qs
-    ∙ (λ i. frames_at side (n + sends_in p) (r + requests_in p) ps ++ frames_at side (more_n i) (more_r i) qs))
+    ap (λ (xs : List (List ℕ)). frame_bytes opened side (numbered_segment n r p) ∷ xs)
+    (frames_append opened side (n + sends_in p) (r + requests_in p) ps qs
+    ∙ (λ i. frames_at opened side (n + sends_in p) (r + requests_in p) ps ++ frames_at opened side (more_n i) (more_r i) qs))
 
-pub length_frames : (side : Side) (n r : ℕ) (ps : List FrameContent) → length (frames_at side n r ps) ≡ length ps
-length_frames side n r [] = refl
-length_frames side n r (p ∷ ps) = ap (λ (k : ℕ). suc k) (length_frames side (n + sends_in p) (r + requests_in p) ps)
+pub length_frames : (opened : LinkParameters) (side : Side) (n r : ℕ) (ps : List FrameContent) → length (frames_at opened side n r ps) ≡ length ps
+length_frames opened side n r [] = refl
+length_frames opened side n r (p ∷ ps) = ap (λ (k : ℕ). suc k) (length_frames opened side (n + sends_in p) (r + requests_in p) ps)
 
 -- ---- Each is a complete frame
 
@@ -67,20 +68,20 @@ abbrev pub IsOf : Side → Awaited → Type 0
 IsOf side (HelloFrom other) = other ≡ side
 IsOf side Fpdu = Unit {0}
 
-pub proper_frame : (side : Side) (a : Awaited) (s : Option Segment) → IsOf side a → IsWritableAs a s → IsFrame a (frame_bytes side s)
-proper_frame side (HelloFrom other) None is h = subst (λ (x : Side). IsFrame (HelloFrom x) (own_hello side)) (sym is) (hello_is side).is_frame
-proper_frame side (HelloFrom other) (Some segment) is h = absurd h
-proper_frame side Fpdu None is h = absurd h
-proper_frame side Fpdu (Some segment) is h = (encoding_is segment h).is_frame
+pub proper_frame : (opened : LinkParameters) (side : Side) (a : Awaited) (s : Option Segment) → IsOf side a → IsWritableAs a s → IsFrame a (frame_bytes opened side s)
+proper_frame opened side (HelloFrom other) None is h = subst (λ (x : Side). IsFrame (HelloFrom x) (first_hello opened side)) (sym is) (first_hello_is opened side).is_frame
+proper_frame opened side (HelloFrom other) (Some segment) is h = absurd h
+proper_frame opened side Fpdu None is h = absurd h
+proper_frame opened side Fpdu (Some segment) is h = (encoding_is segment h).is_frame
 
 -- ---- The first bytes of frames
 
-pub record FirstFrames (side : Side) (a : Awaited) (n r : ℕ) (ps : List FrameContent) (x y : List ℕ) : Type 0 where
+pub record FirstFrames (opened : LinkParameters) (side : Side) (a : Awaited) (n r : ℕ) (ps : List FrameContent) (x y : List ℕ) : Type 0 where
   pub came : List FrameContent
   pub left : List FrameContent
   pub parts : came ++ left ≡ ps
-  pub frames : (split a x).frames ≡ frames_at side n r came
-  pub rest : (split a x).rest ++ y ≡ output_bytes side (n + total_of sends_in came) (r + total_of requests_in came) left
+  pub frames : (split a x).frames ≡ frames_at opened side n r came
+  pub rest : (split a x).rest ++ y ≡ output_bytes opened side (n + total_of sends_in came) (r + total_of requests_in came) left
 
 no_bytes : (x y : List ℕ) → x ++ y ≡ [] → x ≡ []
 no_bytes [] y e = refl
@@ -93,8 +94,8 @@ short frame more x y lt e =
     sym (take-append-le (length x) frame more (omega (arith, lt))) ∙ ap (λ (xs : List ℕ). take (length x) xs) (sym e) ∙ take-append-le (length x) x y (omega arith) ∙ take_all (length x) x (omega arith) in
     ap (λ (xs : List ℕ). xs ++ drop (length x) frame) (sym same) ∙ take-append-drop (length x) frame
 
-pub front : (side : Side) (a : Awaited) (n r : ℕ) (ps : List FrameContent) (x y : List ℕ) → IsOf side a → AreWritableFrom a n r ps → x ++ y ≡ output_bytes side n r ps → FirstFrames side a n r ps x y
-front side a n r [] x y of proper e =
+pub front : (opened : LinkParameters) (side : Side) (a : Awaited) (n r : ℕ) (ps : List FrameContent) (x y : List ℕ) → IsOf side a → AreWritableFrom a n r ps → x ++ y ≡ output_bytes opened side n r ps → FirstFrames opened side a n r ps x y
+front opened side a n r [] x y of proper e =
     let none : x ≡ [] = no_bytes x y e in
     let empty : split a x ≡ record { frames = []; rest = [] } = ap (split a) none ∙ split_partial a [] (partial_not_whole a [] (partial_nil a)) in
     record {
@@ -104,19 +105,19 @@ front side a n r [] x y of proper e =
       frames = ap (λ (s : Split). s.frames) empty;
       rest = ap (λ (s : Split). s.rest ++ y) empty ∙ ap (λ (xs : List ℕ). xs ++ y) (sym none) ∙ e;
     }
-front side a n r (p ∷ ps) x y of proper e =
-    by (cases_lt (length x) (length frame)) (λ back is. front side Fpdu (n + sends_in p) (r + requests_in p) ps back y tt proper.1 is)
+front opened side a n r (p ∷ ps) x y of proper e =
+    by (cases_lt (length x) (length frame)) (λ back is. front opened side Fpdu (n + sends_in p) (r + requests_in p) ps back y tt proper.1 is)
   where
     frame : List ℕ
-    frame = frame_bytes side (numbered_segment n r p)
+    frame = frame_bytes opened side (numbered_segment n r p)
 
     is_frame : IsFrame a frame
-    is_frame = proper_frame side a (numbered_segment n r p) of proper.0
+    is_frame = proper_frame opened side a (numbered_segment n r p) of proper.0
 
     more : List ℕ
-    more = output_bytes side (n + sends_in p) (r + requests_in p) ps
+    more = output_bytes opened side (n + sends_in p) (r + requests_in p) ps
 
-    by : (length x < length frame) ⊎ (length frame ≤ length x) → ((back : List ℕ) → back ++ y ≡ more → FirstFrames side Fpdu (n + sends_in p) (r + requests_in p) ps back y) → FirstFrames side a n r (p ∷ ps) x y
+    by : (length x < length frame) ⊎ (length frame ≤ length x) → ((back : List ℕ) → back ++ y ≡ more → FirstFrames opened side Fpdu (n + sends_in p) (r + requests_in p) ps back y) → FirstFrames opened side a n r (p ∷ ps) x y
     by (inl lt) later =
         let whole = short frame more x y lt e in
         let partial : IsPartial a x = record { more = drop (length x) frame; some = omega (arith, length-drop (length x) frame, lt); frame = subst (λ (xs : List ℕ). IsFrame a xs) (sym whole) is_frame } in
@@ -126,7 +127,7 @@ front side a n r (p ∷ ps) x y of proper e =
           left = p ∷ ps;
           parts = refl;
           frames = ap (λ (s : Split). s.frames) none;
-          rest = ap (λ (s : Split). s.rest ++ y) none ∙ e ∙ (λ i. output_bytes side (sym (add-zero n) i) (sym (add-zero r) i) (p ∷ ps));
+          rest = ap (λ (s : Split). s.rest ++ y) none ∙ e ∙ (λ i. output_bytes opened side (sym (add-zero n) i) (sym (add-zero r) i) (p ∷ ps));
         }
     by (inr le) later =
         let b = behind frame more x y le e in
@@ -139,5 +140,5 @@ front side a n r (p ∷ ps) x y of proper e =
           left = rest.left;
           parts = ap (λ (qs : List FrameContent). p ∷ qs) rest.parts;
           frames = ap (λ (s : Split). s.frames) is ∙ ap (λ (fs : List (List ℕ)). frame ∷ fs) rest.frames;
-          rest = ap (λ (s : Split). s.rest ++ y) is ∙ rest.rest ∙ (λ i. output_bytes side (more_n i) (more_r i) rest.left);
+          rest = ap (λ (s : Split). s.rest ++ y) is ∙ rest.rest ∙ (λ i. output_bytes opened side (more_n i) (more_r i) rest.left);
         }

@@ -173,7 +173,7 @@ suited_after : (opened : LinkParameters) (k : ServerState) (event : RunEvent) �
 unfolding server_state_after
 suited_after opened k (FrameReceived f) h = by (is_hello f)
   where
-    by : (b : Bool) → StateSuits (cond b (with_own_hello k) (with_effect k f (frame_effect k f)))
+    by : (b : Bool) → StateSuits (cond b (with_own_hello opened k f) (with_effect k f (frame_effect k f)))
     by true = h
     by false = suited_effect k f h
 suited_after opened k (CallSubmitted place a) h = h

@@ -198,7 +198,7 @@ with_by k f r st = record {
 
 pub after_is_lem : (opened : LinkParameters) (s : ServerState) (f : Frame) (r : Result Segment ℕ) → is_hello f ≡ false → frame_segment f ≡ r → server_state_after opened s (FrameReceived f) ≡ with_by s f r (effect_in s f r)
 unfolding server_state_after frame_effect
-after_is_lem opened s f r behind is = λ i. cond (behind i) (with_own_hello s) (with_by s f (is i) (effect_in s f (is i)))
+after_is_lem opened s f r behind is = λ i. cond (behind i) (with_own_hello opened s f) (with_by s f (is i) (effect_in s f (is i)))
 
 pub step_is : (s : ServerState) (f : Frame) (r : Result Segment ℕ) → frame_segment f ≡ r → frame_effect s f ≡ effect_in s f r
 unfolding frame_effect
@@ -427,7 +427,7 @@ pub totals_hello_up : (opened : LinkParameters) (k : ClientState) (s : ServerSta
 unfolding server_state_after server_frames
 totals_hello_up opened k s w f rest c first is =
     let one = HelloFrame ∷ [] in
-    let m : TotalsAgree k (with_own_hello s) (record { queued_up = w.queued_up; up = rest; queued_down = w.queued_down ++ one; down = w.down }) = record {
+    let m : TotalsAgree k (with_own_hello opened s f) (record { queued_up = w.queued_up; up = rest; queued_down = w.queued_down ++ one; down = w.down }) = record {
       hello = omega (arith, c.hello, ap (total_of hellos_in) first, total_append hellos_in w.queued_down one);
       calls_up = omega (arith, c.calls_up, ap (total_of sends_in) first);
       messages_down = omega (arith, c.messages_down, total_append sends_in w.queued_down one);
@@ -443,4 +443,4 @@ totals_hello_up opened k s w f rest c first is =
       reads = omega (arith, c.reads, ap (total_of responses_in) first, total_append requests_in w.queued_down one);
       responses = c.responses;
     } in
-    subst (λ (b : Bool). TotalsAgree k (cond b (with_own_hello s) (with_effect s f (frame_effect s f))) (record { queued_up = w.queued_up; up = rest; queued_down = w.queued_down ++ cond b (HelloFrame ∷ []) (effect_frames (frame_effect s f)); down = w.down })) (sym is) m
+    subst (λ (b : Bool). TotalsAgree k (cond b (with_own_hello opened s f) (with_effect s f (frame_effect s f))) (record { queued_up = w.queued_up; up = rest; queued_down = w.queued_down ++ cond b (HelloFrame ∷ []) (effect_frames (frame_effect s f)); down = w.down })) (sym is) m

@@ -48,9 +48,12 @@ read_request msn sink sink_to size stag to =
 unfoldable pub terminate_message : ℕ → List ℕ
 terminate_message n = encoding (Untagged true OPCODE_TERMINATE 0 QUEUE_TERMINATE 1 0 (word n))
 
--- a side's hello on a link of this profile: neither markers nor CRC, and no private data (RFC 5044 section 7.1)
-unfoldable pub own_hello : Side → List ℕ
-own_hello side = hello_encoding (record { side = side; flags = 0; private = [] })
+-- a side's hello on a link of this profile: neither markers nor CRC (RFC 5044 section 7.1), and this private data, or none
+unfoldable pub hello_with : Side → (private : List ℕ) → List ℕ
+hello_with side private = hello_encoding (record { side = side; flags = 0; private = private })
+
+abbrev pub own_hello : Side → List ℕ
+own_hello side = hello_with side []
 
 -- the hello by which a server rejects a connection (RFC 5044 section 7.1, flag R)
 unfoldable pub refusing_hello : List ℕ

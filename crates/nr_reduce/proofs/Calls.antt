@@ -11,9 +11,10 @@ use Rattle.nr_rpc.specs.declared.head.CallHead.{CallHead}
 use Rattle.nr_rpc.specs.Reading.{call_of, target_of}
 use Rattle.nr_link.specs.declared.end.End.{End as Stop}
 use Rattle.nr_link.specs.Frames.{Frame, is_hello}
-use Rattle.nr_link.specs.Output.{send, own_hello}
+use Rattle.nr_link.specs.Output.{send}
 use Rattle.nr_link.specs.ReceiveState.{message_completed}
 use Rattle.nr_link.specs.Ending.{frame_segment}
+use Rattle.nr_reduce.specs.Hellos.{server_hello}
 use Rattle.nr_reduce.specs.declared.call.Call.{Call}
 use Rattle.nr_reduce.specs.declared.call.Form.{Form}
 use Rattle.nr_reduce.specs.declared.call.Submission.TheVariants as submissions
@@ -211,7 +212,7 @@ after_heads : (opened : LinkParameters) (k : ServerState) (event : RunEvent) →
 unfolding server_state_after
 after_heads opened k (FrameReceived f) h = by (is_hello f)
   where
-    by : (b : Bool) → AreHeads (cond b (with_own_hello k) (with_effect k f (frame_effect k f))).ready
+    by : (b : Bool) → AreHeads (cond b (with_own_hello opened k f) (with_effect k f (frame_effect k f))).ready
     by true = h
     by false = heads_append k.ready (frame_effect k f).ready h (frame_heads k f)
 after_heads opened k (CallSubmitted place a) h = h
@@ -264,13 +265,13 @@ only_answered opened k f answer later none is =
     record {
       output =
           stays_output opened k (FrameReceived f) none
-          ∙ (λ i. cond (later i) (own_hello Responder) (effect_output k (is i)))
+          ∙ (λ i. cond (later i) (server_hello opened f) (effect_output k (is i)))
           ∙ ap (λ (xs : List PendingRead). (send (k.messages_queued + 1) answer ++ []) ++ requests_from (k.requests_sent + 1) xs) (open_none k s refl refl)
           ∙ append-nil (send (k.messages_queued + 1) answer ++ [])
           ∙ append-nil (send (k.messages_queued + 1) answer);
       stays = ap (λ (r : EndState ServerState). r.ended) after;
-      calls = ap (λ (r : EndState ServerState). r.state.calls) after ∙ (λ i. (cond (later i) (with_own_hello k) (with_effect k f (is i))).calls);
-      ready = ap (λ (r : EndState ServerState). r.state.ready) after ∙ (λ i. (cond (later i) (with_own_hello k) (with_effect k f (is i))).ready) ∙ append-nil k.ready;
+      calls = ap (λ (r : EndState ServerState). r.state.calls) after ∙ (λ i. (cond (later i) (with_own_hello opened k f) (with_effect k f (is i))).calls);
+      ready = ap (λ (r : EndState ServerState). r.state.ready) after ∙ (λ i. (cond (later i) (with_own_hello opened k f) (with_effect k f (is i))).ready) ∙ append-nil k.ready;
     }
 
 pub refused_effect : (k : ServerState) (f : Frame) (segment : Segment) (message : List ℕ) (v : Verdict) → frame_segment f ≡ Ok segment → message_completed k.received segment ≡ Some message → verdict k message ≡ v → frame_effect k f ≡ message_effect k f.end message v
@@ -320,12 +321,12 @@ refused_call_lem opened k f segment c later is h none =
     record {
       output =
           stays_output opened k (FrameReceived f) none
-          ∙ ap (λ (b : Bool). cond b (own_hello Responder) (effect_output k (frame_effect k f))) later
+          ∙ ap (λ (b : Bool). cond b (server_hello opened f) (effect_output k (frame_effect k f))) later
           ∙ ap (λ (s : FrameEffect). sends_from (k.messages_queued + 1) s.errors ++ requests_from (k.requests_sent + 1) (newly_open_reads (frame_effect k f))) effect
           ∙ ap (λ (xs : List ℕ). xs ++ requests_from (k.requests_sent + 1) (newly_open_reads (frame_effect k f))) (append-nil (send (k.messages_queued + 1) (chunk_error c.xid k.credit)));
       stays = ap (λ (r : EndState ServerState). r.ended) after;
-      calls = ap (λ (r : EndState ServerState). r.state.calls) after ∙ (λ i. (cond (later i) (with_own_hello k) (with_effect k f (effect i))).calls);
-      ready = ap (λ (r : EndState ServerState). r.state.ready) after ∙ (λ i. (cond (later i) (with_own_hello k) (with_effect k f (effect i))).ready) ∙ append-nil k.ready;
+      calls = ap (λ (r : EndState ServerState). r.state.calls) after ∙ (λ i. (cond (later i) (with_own_hello opened k f) (with_effect k f (effect i))).calls);
+      ready = ap (λ (r : EndState ServerState). r.state.ready) after ∙ (λ i. (cond (later i) (with_own_hello opened k f) (with_effect k f (effect i))).ready) ∙ append-nil k.ready;
     }
 
 -- ---- Open reads
@@ -424,12 +425,12 @@ opens_reads opened k f segment later is none =
     let s : FrameEffect = frame_effect k f in
     let keeps = keeps_frame k f segment is in
     let after : ServerState = server_state_after opened k (FrameReceived f) in
-    let reads : after.reads ≡ s.reads = ap (λ (b : Bool). (cond b (with_own_hello k) (with_effect k f s)).reads) later in
+    let reads : after.reads ≡ s.reads = ap (λ (b : Bool). (cond b (with_own_hello opened k f) (with_effect k f s)).reads) later in
     let same : length (open_reads after) ≡ length (take 8 s.reads) = ap (λ (xs : List PendingRead). length (take 8 xs)) reads in
     record {
       kept = keeps.is;
       count = (let a = length-drop s.kept (take 8 s.reads) in let b = keeps.fits in omega (arith, a, b, same));
-      requests = stays_output opened k (FrameReceived f) none ∙ ap (λ (b : Bool). cond b (own_hello Responder) (effect_output k s)) later;
+      requests = stays_output opened k (FrameReceived f) none ∙ ap (λ (b : Bool). cond b (server_hello opened f) (effect_output k s)) later;
       few = (let a = length-take 8 after.reads in omega (arith, a));
       none_waits = λ lt. all_open 8 after.reads lt;
     }

@@ -275,7 +275,7 @@ after_known opened es (FrameReceived f) h = by (is_hello f) refl
     k : ServerState
     k = server_by opened es
 
-    by : (b : Bool) → is_hello f ≡ b → Known opened (es ++ FrameReceived f ∷ []) (cond b (with_own_hello k) (with_effect k f (effect_in k f (frame_segment f))))
+    by : (b : Bool) → is_hello f ≡ b → Known opened (es ++ FrameReceived f ∷ []) (cond b (with_own_hello opened k f) (with_effect k f (effect_in k f (frame_segment f))))
     by true is = (let g = known_later opened es (FrameReceived f) k h in record { calls = g.calls; ready = g.ready })
     by false is = effect_known opened es f (frame_segment f) is refl h
 after_known opened es (CallSubmitted place a) h = known_later opened es (CallSubmitted place a) (server_by opened es) h

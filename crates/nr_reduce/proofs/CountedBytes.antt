@@ -6,9 +6,9 @@ use Rattle.nr_wire.specs.declared.hello.Side.TheVariants.{Initiator, Responder}
 use Rattle.nr_wire.specs.Segment.{Segment}
 use Rattle.nr_link.specs.declared.end.End.{End}
 use Rattle.nr_link.specs.Frames.{Frame, is_hello, frames_completed}
-use Rattle.nr_link.specs.Output.{own_hello}
 use Rattle.nr_link.specs.Ending.{frame_segment}
 use Rattle.nr_link.specs.ReceiveState.{ReadRequest, message_completed, read_request_of}
+use Rattle.nr_reduce.specs.Hellos.{client_hello}
 use Rattle.nr_reduce.specs.declared.call.Submission.TheVariants as submissions
 use Rattle.nr_reduce.specs.declared.mark.Mark.{Mark}
 use Rattle.nr_reduce.specs.declared.mark.Mark.TheVariants as marks
@@ -150,7 +150,7 @@ pub client_bytes_due : (opened : LinkParameters) (link : ℕ) (run : List Mark) 
 unfolding client output_due
 client_bytes_due opened link run stays =
     due_along (client_rules opened) (λ (k : ClientState). k.due) (client_due opened) (initial_client opened).state (events link Initiator run) stays
-    ∙ sym (length-append (own_hello Initiator) (output_for_all (client_rules opened) (initial_client opened) (events link Initiator run)))
+    ∙ sym (length-append (client_hello opened) (output_for_all (client_rules opened) (initial_client opened) (events link Initiator run)))
 
 pub client_ends_within : (opened : LinkParameters) (link : ℕ) (run : List Mark) → ClientEnds (client opened link run).state
 unfolding client
@@ -188,7 +188,7 @@ server_writes : (opened : LinkParameters) (k : ServerState) (e : RunEvent) → (
 unfolding server_state_after
 server_writes opened k (FrameReceived f) = by (is_hello f)
   where
-    by : (b : Bool) → (cond b (with_own_hello k) (with_effect k f (frame_effect k f))).written ≡ k.written + 0
+    by : (b : Bool) → (cond b (with_own_hello opened k f) (with_effect k f (frame_effect k f))).written ≡ k.written + 0
     by true = omega arith
     by false = omega arith
 server_writes opened k (CallSubmitted place a) = omega arith

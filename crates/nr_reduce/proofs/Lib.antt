@@ -54,3 +54,4 @@ pub mod Submitting
 pub mod Calls
 pub mod OfferedMemory
 pub mod MemorySteps
+pub mod PrivateData

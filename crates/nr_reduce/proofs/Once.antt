@@ -384,7 +384,7 @@ pub after_goes : (opened : LinkParameters) (k : ServerState) (event : RunEvent) 
 unfolding server_state_after
 after_goes opened k (FrameReceived f) = by (is_hello f)
   where
-    by : (b : Bool) → Goes k (cond b (with_own_hello k) (with_effect k f (frame_effect k f)))
+    by : (b : Bool) → Goes k (cond b (with_own_hello opened k f) (with_effect k f (frame_effect k f)))
     by true = stays k _ refl (λ n. omega arith)
     by false = frame_effect_goes k f
 after_goes opened k (CallSubmitted place a) = stays k k refl (λ n. omega arith)

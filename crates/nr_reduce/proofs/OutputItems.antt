@@ -10,10 +10,11 @@ use Rattle.nr_wire.specs.Segment.Segment.{Untagged}
 use Rattle.nr_link.specs.declared.end.End.{End}
 use Rattle.nr_link.specs.Frames.{is_hello}
 use Rattle.nr_link.specs.Ending.{frame_segment, final_output}
-use Rattle.nr_link.specs.Output.{msn_word, cut, send, read_request, own_hello}
+use Rattle.nr_link.specs.Output.{msn_word, cut, send, read_request}
 use Rattle.nr_link.specs.OutputItem.{OutputItem, item_encoding, items_encoding, is_send_item, is_response_item, one_if_true, item_ends, items_written, items_left}
 use Rattle.nr_link.specs.OutputItem.OutputItem.{LastItem}
 use Rattle.nr_link.specs.ReceiveState.{ReadRequest, message_completed, read_request_of}
+use Rattle.nr_reduce.specs.Hellos.{client_hello}
 use Rattle.nr_reduce.specs.declared.mark.LinkParameters.{LinkParameters}
 use Rattle.nr_reduce.specs.Events.{RunEvent, events}
 use Rattle.nr_reduce.specs.Events.RunEvent.{FrameReceived, CallSubmitted, MemoryRevoked, CallExecuted, QueueWritten}
@@ -234,7 +235,7 @@ client_responses opened k (QueueWritten taken) = sym (append-nil k.response_ends
 pub client_output_items : ClientOutputIsItems
 unfolding output_due items_due hello_due
 client_output_items opened link run =
-    ap (λ (xs : List ℕ). own_hello Initiator ++ xs) (items_along (client_rules opened) (client_items_at opened) (client_encoded opened) (λ end. refl) (initial_client opened) (events link Initiator run))
+    ap (λ (xs : List ℕ). client_hello opened ++ xs) (items_along (client_rules opened) (client_items_at opened) (client_encoded opened) (λ end. refl) (initial_client opened) (events link Initiator run))
 
 pub client_bytes : ClientBytes
 client_bytes opened link run stays = (client_bytes_due opened link run stays, client_bytes_written opened link run stays)
@@ -243,12 +244,12 @@ pub server_bytes : ServerBytes
 server_bytes opened link run stays = (server_bytes_due opened link run stays, server_bytes_written opened link run stays)
 
 client_send_ends : (opened : LinkParameters) (es : List RunEvent) → (end_state_after (client_rules opened) (initial_client opened) es).ended ≡ None
-    → (end_state_after (client_rules opened) (initial_client opened) es).state.send_ends ≡ item_ends is_send_item (length (own_hello Initiator)) (due_for_all (client_rules opened) (client_items_at opened) (λ end. LastItem end ∷ []) (initial_client opened) es)
+    → (end_state_after (client_rules opened) (initial_client opened) es).state.send_ends ≡ item_ends is_send_item (length (client_hello opened)) (due_for_all (client_rules opened) (client_items_at opened) (λ end. LastItem end ∷ []) (initial_client opened) es)
 client_send_ends opened es stays =
     ends_along (client_rules opened) (client_items_at opened) is_send_item (λ (k : ClientState). k.due) (λ (k : ClientState). k.send_ends) (client_more opened) (client_sends opened) (initial_client opened).state es stays
 
 client_response_ends : (opened : LinkParameters) (es : List RunEvent) → (end_state_after (client_rules opened) (initial_client opened) es).ended ≡ None
-    → (end_state_after (client_rules opened) (initial_client opened) es).state.response_ends ≡ item_ends is_response_item (length (own_hello Initiator)) (due_for_all (client_rules opened) (client_items_at opened) (λ end. LastItem end ∷ []) (initial_client opened) es)
+    → (end_state_after (client_rules opened) (initial_client opened) es).state.response_ends ≡ item_ends is_response_item (length (client_hello opened)) (due_for_all (client_rules opened) (client_items_at opened) (λ end. LastItem end ∷ []) (initial_client opened) es)
 client_response_ends opened es stays =
     ends_along (client_rules opened) (client_items_at opened) is_response_item (λ (k : ClientState). k.due) (λ (k : ClientState). k.response_ends) (client_more opened) (client_responses opened) (initial_client opened).state es stays
 
@@ -257,7 +258,7 @@ unfolding client items_due hello_due
 client_counts_items opened link run stays =
     let es = events link Initiator run in
     let items = due_for_all (client_rules opened) (client_items_at opened) (λ end. LastItem end ∷ []) (initial_client opened) es in
-    let at = length (own_hello Initiator) in
+    let at = length (client_hello opened) in
     let written = client_bytes_written opened link run stays in (
       (λ i. ends_written (written i) (client_send_ends opened es stays i)) ∙ left_items is_send_item at _ items,
       (λ i. ends_waiting (written i) (client_response_ends opened es stays i)) ∙ waiting_items is_response_item at _ items,

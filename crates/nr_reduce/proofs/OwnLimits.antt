@@ -68,7 +68,7 @@ pub server_event : (opened : LinkParameters) (k : ServerState) (e : RunEvent) �
 unfolding server_state_after
 server_event opened k (FrameReceived f) h = by (is_hello f)
   where
-    by : (b : Bool) → ServerLimits (cond b (with_own_hello k) (with_effect k f (frame_effect k f)))
+    by : (b : Bool) → ServerLimits (cond b (with_own_hello opened k f) (with_effect k f (frame_effect k f)))
     by true = record { up = h.up; down = h.down }
     by false = record { up = h.up; down = h.down }
 server_event opened k (CallSubmitted p a) h = h

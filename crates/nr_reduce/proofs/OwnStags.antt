@@ -233,7 +233,7 @@ server_after : (opened : LinkParameters) (k : ServerState) (event : RunEvent) �
 unfolding server_state_after
 server_after opened k (FrameReceived f) h = by (is_hello f)
   where
-    by : (b : Bool) → ServerNumbers (cond b (with_own_hello k) (with_effect k f (frame_effect k f)))
+    by : (b : Bool) → ServerNumbers (cond b (with_own_hello opened k f) (with_effect k f (frame_effect k f)))
     by true = h
     by false = numbered_closed (is_over (frame_effect k f).calls (frame_effect k f).reads) f.end 1 (frame_effect k f).regions (effect_frame k f h)
 server_after opened k (CallSubmitted place a) h = h

@@ -157,7 +157,7 @@ after_dropped opened n k event d = record {
     by_ready : (event : RunEvent) → times_ready n (server_state_after opened k event).ready ≡ 0
     by_ready (FrameReceived f) = by (is_hello f)
       where
-        by : (b : Bool) → times_ready n (cond b (with_own_hello k) (with_effect k f (frame_effect k f))).ready ≡ 0
+        by : (b : Bool) → times_ready n (cond b (with_own_hello opened k f) (with_effect k f (frame_effect k f))).ready ≡ 0
         by true = d.ready
         by false = (let a = times_ready_append n k.ready (frame_effect k f).ready in let b = d.ready in let c = (left_frame n k f d.number_sent d.calls).ready in omega (arith, a, b, c))
     by_ready (CallSubmitted place a) = d.ready
@@ -168,7 +168,7 @@ after_dropped opened n k event d = record {
     by_calls : (event : RunEvent) → pending_of n (server_state_after opened k event).calls ≡ false
     by_calls (FrameReceived f) = by (is_hello f)
       where
-        by : (b : Bool) → pending_of n (cond b (with_own_hello k) (with_effect k f (frame_effect k f))).calls ≡ false
+        by : (b : Bool) → pending_of n (cond b (with_own_hello opened k f) (with_effect k f (frame_effect k f))).calls ≡ false
         by true = d.calls
         by false = (left_frame n k f d.number_sent d.calls).calls
     by_calls (CallSubmitted place a) = d.calls
@@ -198,7 +198,7 @@ settled_message : (opened : LinkParameters) (k : ServerState) (f : Frame) (segme
     → frame_effect k f ≡ record (no_effect k) { errors = answer } → Sound k → Settled (k.received.sends + 1) (server_state_after opened k (FrameReceived f))
 unfolding server_state_after
 settled_message opened k f segment message answer later is whole effect s =
-    subst (λ (b : Bool). Settled n (cond b (with_own_hello k) (with_effect k f (frame_effect k f)))) (sym later)
+    subst (λ (b : Bool). Settled n (cond b (with_own_hello opened k f) (with_effect k f (frame_effect k f)))) (sym later)
     (subst (λ (e : FrameEffect). Settled n (with_effect k f e)) (sym effect) there)
   where
     n : ℕ
@@ -227,7 +227,7 @@ dropped_call opened k f segment c later is h s = record {
     effect = with_refused_call (with_access k f segment) c (record (no_effect (with_access k f segment)) { reads = h.others; kept = length (open_reads k) - 1 })
 
     after : server_state_after opened k (FrameReceived f) ≡ with_effect k f effect
-    after = ap (λ (b : Bool). cond b (with_own_hello k) (with_effect k f (frame_effect k f))) later ∙ ap (λ (e : FrameEffect). with_effect k f e) (refused_call_effect k f segment c is h)
+    after = ap (λ (b : Bool). cond b (with_own_hello opened k f) (with_effect k f (frame_effect k f))) later ∙ ap (λ (e : FrameEffect). with_effect k f e) (refused_call_effect k f segment c is h)
 
     own : eqb h.read.number c.number ≡ true
     own = eq-eqb h.read.number c.number (sym (found_number h.read.number k.calls c h.call))

@@ -8,9 +8,10 @@ use Rattle.nr_wire.specs.declared.hello.Side.TheVariants.{Responder}
 use Rattle.nr_link.specs.declared.end.End.{End}
 use Rattle.nr_link.specs.Frames.{Frame, is_hello}
 use Rattle.nr_link.specs.Ending.{final_output, rejection, last_output}
-use Rattle.nr_link.specs.Output.{msn_word, send, read_request, own_hello, write}
+use Rattle.nr_link.specs.Output.{msn_word, send, read_request, write}
 use Rattle.nr_link.specs.OutputItem.{OutputItem, items_encoding, is_send_item, item_ends}
 use Rattle.nr_link.specs.OutputItem.OutputItem.{SendItem, WriteItem, LastItem}
+use Rattle.nr_reduce.specs.Hellos.{server_hello}
 use Rattle.nr_reduce.specs.declared.mark.LinkParameters.{LinkParameters}
 use Rattle.nr_reduce.specs.History.{ExecutedCall}
 use Rattle.nr_reduce.specs.Holds.{Answer, answer_writes, answer_message, chunk_error, writes_into, first_chunk, no_segments}
@@ -80,12 +81,12 @@ effect_encoded k f =
     (λ i. messages_encoded (k.messages_queued + 1) (frame_effect k f).errors i ++ requests_encoded (k.requests_sent + 1) (newly_open_reads (frame_effect k f)) i)
     ∙ sym (encoding_append (message_items (k.messages_queued + 1) (frame_effect k f).errors) (request_items (k.requests_sent + 1) (newly_open_reads (frame_effect k f))))
 
-pub server_encoded : (opened : LinkParameters) (k : ServerState) (e : RunEvent) → server_output opened k e ≡ server_hello_at e ++ items_encoding (server_items_at opened k e)
+pub server_encoded : (opened : LinkParameters) (k : ServerState) (e : RunEvent) → server_output opened k e ≡ server_hello_at opened e ++ items_encoding (server_items_at opened k e)
 unfolding server_output server_items_at
 server_encoded opened k (FrameReceived f) = by (is_hello f)
   where
-    by : (b : Bool) → cond b (own_hello Responder) (effect_output k (frame_effect k f)) ≡ cond b (own_hello Responder) [] ++ items_encoding (cond b [] (effect_items k (frame_effect k f)))
-    by true = sym (append-nil (own_hello Responder))
+    by : (b : Bool) → cond b (server_hello opened f) (effect_output k (frame_effect k f)) ≡ cond b (server_hello opened f) [] ++ items_encoding (cond b [] (effect_items k (frame_effect k f)))
+    by true = sym (append-nil (server_hello opened f))
     by false = effect_encoded k f
 server_encoded opened k (CallSubmitted place a) = refl
 server_encoded opened k (MemoryRevoked place xid) = refl
@@ -170,7 +171,7 @@ pub server_sends : (opened : LinkParameters) (k : ServerState) (e : RunEvent) �
 unfolding server_state_after server_items_at
 server_sends opened k (FrameReceived f) = by (is_hello f)
   where
-    by : (b : Bool) → (cond b (with_own_hello k) (with_effect k f (frame_effect k f))).message_ends ≡ k.message_ends ++ item_ends is_send_item k.due (cond b [] (effect_items k (frame_effect k f)))
+    by : (b : Bool) → (cond b (with_own_hello opened k f) (with_effect k f (frame_effect k f))).message_ends ≡ k.message_ends ++ item_ends is_send_item k.due (cond b [] (effect_items k (frame_effect k f)))
     by true = sym (append-nil k.message_ends)
     by false = ap (λ (ends : List ℕ). k.message_ends ++ ends) (effect_ends k f)
 server_sends opened k (CallSubmitted place a) = sym (append-nil k.message_ends)
@@ -178,7 +179,7 @@ server_sends opened k (MemoryRevoked place xid) = sym (append-nil k.message_ends
 server_sends opened k (CallExecuted e) = ap (λ (ends : List ℕ). k.message_ends ++ ends) (execution_ends k e)
 server_sends opened k (QueueWritten taken) = sym (append-nil k.message_ends)
 
-pub server_more : (opened : LinkParameters) (k : ServerState) (e : RunEvent) → (server_state_after opened k e).due ≡ k.due + (length (server_hello_at e) + length (items_encoding (server_items_at opened k e)))
+pub server_more : (opened : LinkParameters) (k : ServerState) (e : RunEvent) → (server_state_after opened k e).due ≡ k.due + (length (server_hello_at opened e) + length (items_encoding (server_items_at opened k e)))
 server_more opened k e =
     server_due opened k e ∙ ap (λ (xs : List ℕ). k.due + length xs) (server_encoded opened k e)
-    ∙ ap (λ (n : ℕ). k.due + n) (length-append (server_hello_at e) (items_encoding (server_items_at opened k e)))
+    ∙ ap (λ (n : ℕ). k.due + n) (length-append (server_hello_at opened e) (items_encoding (server_items_at opened k e)))

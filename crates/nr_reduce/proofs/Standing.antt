@@ -5,9 +5,9 @@ use Rattle.std.specs.List.{flat_map}
 use Rattle.std.proofs.lemmas.Grind.{flat_map-append}
 use Rattle.nr_wire.specs.declared.hello.Side.{Side}
 use Rattle.nr_wire.specs.declared.hello.Side.TheVariants.{Initiator, Responder}
-use Rattle.nr_link.specs.Output.{own_hello}
 use Rattle.nr_link.specs.Input.{InputState, input_of, initial_input, input_after}
 use Rattle.nr_link.proofs.Inputs.{input_of_append, input_of_count, input_of_frames, input_of_none}
+use Rattle.nr_reduce.specs.Hellos.{client_hello}
 use Rattle.nr_reduce.specs.declared.mark.Mark.{Mark}
 use Rattle.nr_reduce.specs.declared.mark.Mark.TheVariants as marks
 use Rattle.nr_reduce.specs.declared.mark.LinkParameters.{LinkParameters}
@@ -264,12 +264,12 @@ pub server_stays_out_lem : ServerStaysOut
 server_stays_out_lem opened link ended queue left run mark out queued =
     (out.0, stays_out IsState (server_rules opened) link Responder (server opened link) (output_due opened link Responder) run mark queue left (output_due_down_one opened link run mark) out.1 queued)
 
-pub client_begins_lem : (opened : LinkParameters) (link : ℕ) → ClientRepresents opened link (opened_client opened) (initial_input Responder) (own_hello Initiator) []
+pub client_begins_lem : (opened : LinkParameters) (link : ℕ) → ClientRepresents opened link (opened_client opened) (initial_input Responder) (client_hello opened) []
 unfolding client events bytes_received bytes_sent output_due
 client_begins_lem opened link = record {
   keeps = keeps_begins opened;
   received = λ lives. sym (input_of_none Responder);
-  output = sym (append-nil (own_hello Initiator));
+  output = sym (append-nil (client_hello opened));
 }
 
 pub server_begins_lem : (opened : LinkParameters) (link : ℕ) → ServerRepresents opened link (initial_server opened) (initial_input Initiator) [] []

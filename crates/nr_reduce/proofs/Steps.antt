@@ -3,11 +3,11 @@ use Rattle.std.proofs.Common.{◌≡◌, ℕ, Some, List, [], ◌∷◌, ◌++�
 use Rattle.std.proofs.lemmas.List.{append-nil}
 use Rattle.nr_wire.specs.declared.hello.Side.{Side}
 use Rattle.nr_wire.specs.declared.hello.Side.TheVariants.{Initiator, Responder}
+use Rattle.nr_reduce.specs.Hellos.{client_hello}
 use Rattle.nr_reduce.specs.declared.mark.Mark.{Mark}
 use Rattle.nr_link.specs.declared.end.End.{End}
 use Rattle.nr_reduce.specs.declared.mark.LinkParameters.{LinkParameters}
 use Rattle.nr_reduce.specs.AtEachMark.{AtEachMark}
-use Rattle.nr_link.specs.Output.{own_hello}
 use Rattle.nr_reduce.specs.Events.{RunEvent, events_at, events_from, events}
 use Rattle.nr_reduce.specs.EndRules.{EndMachine, EndState, next_end_state, output_for, end_state_after, output_for_all}
 use Rattle.nr_reduce.specs.Client.{client_rules, initial_client}
@@ -59,10 +59,10 @@ output_due_up_one opened link run mark =
     let rules = client_rules opened in
     let es = events link Initiator run in
     let more = events_at link Initiator run mark in
-    ap (λ (xs : List ℕ). own_hello Initiator ++ xs)
+    ap (λ (xs : List ℕ). client_hello opened ++ xs)
     (ap (λ (all : List RunEvent). output_for_all rules (initial_client opened) all) (events_one link Initiator run mark)
     ∙ output_for_all_append rules (initial_client opened) es more)
-    ∙ sym (append_assoc (own_hello Initiator) (output_for_all rules (initial_client opened) es) (output_for_all rules (end_state_after rules (initial_client opened) es) more))
+    ∙ sym (append_assoc (client_hello opened) (output_for_all rules (initial_client opened) es) (output_for_all rules (end_state_after rules (initial_client opened) es) more))
 
 -- and the same of a server
 pub server_one : (opened : LinkParameters) (link : ℕ) (run : List Mark) (mark : Mark) →

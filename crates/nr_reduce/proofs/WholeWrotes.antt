@@ -4,12 +4,12 @@ use Rattle.std.proofs.Common.{◌≡◌, ℕ, suc, ◌+◌, ◌≤◌, Bool, tru
 use Rattle.std.specs.List.{filter}
 use Rattle.std.proofs.lemmas.Bool.{le-leb, le-ltb}
 use Rattle.nr_wire.specs.Segment.{Segment}
-use Rattle.nr_link.specs.Output.{send, own_hello}
-use Rattle.nr_wire.specs.declared.hello.Side.TheVariants.{Responder}
+use Rattle.nr_link.specs.Output.{send}
 use Rattle.nr_link.specs.Frames.{Frame, is_hello}
 use Rattle.nr_link.specs.Ending.{frame_segment}
 use Rattle.nr_link.specs.ReceiveState.{ReadRequest, message_completed, read_request_of}
 use Rattle.nr_link.specs.SegmentFaults.{is_begun}
+use Rattle.nr_reduce.specs.Hellos.{server_hello}
 use Rattle.nr_reduce.specs.declared.mark.LinkParameters.{LinkParameters}
 use Rattle.nr_reduce.specs.Plans.{one_if}
 use Rattle.nr_reduce.specs.Events.{RunEvent}
@@ -124,8 +124,8 @@ server_ends opened k (FrameReceived f) h = by (is_hello f)
     more : List ℕ
     more = requests_from (k.requests_sent + 1) (newly_open_reads (frame_effect k f))
 
-    by : (b : Bool) → ServerEnds (cond b (with_own_hello k) (with_effect k f (frame_effect k f)))
-    by true = record { messages = within_more k.due (with_own_hello k).due k.message_ends (omega arith) h.messages }
+    by : (b : Bool) → ServerEnds (cond b (with_own_hello opened k f) (with_effect k f (frame_effect k f)))
+    by true = record { messages = within_more k.due (with_own_hello opened k f).due k.message_ends (omega arith) h.messages }
     by false =
         let both = length-append (sends_from (k.messages_queued + 1) errors) more in
         record {
@@ -186,7 +186,7 @@ pub server_due : (opened : LinkParameters) (k : ServerState) (event : RunEvent) 
 unfolding server_state_after server_output
 server_due opened k (FrameReceived f) = by (is_hello f)
   where
-    by : (b : Bool) → (cond b (with_own_hello k) (with_effect k f (frame_effect k f))).due ≡ k.due + length (cond b (own_hello Responder) (effect_output k (frame_effect k f)))
+    by : (b : Bool) → (cond b (with_own_hello opened k f) (with_effect k f (frame_effect k f))).due ≡ k.due + length (cond b (server_hello opened f) (effect_output k (frame_effect k f)))
     by true = refl
     by false = refl
 server_due opened k (CallSubmitted place a) = omega arith

@@ -82,6 +82,6 @@ wrote_adds_nothing opened link Initiator run bytes = (
 )
 wrote_adds_nothing opened link Responder run bytes = (
   wrote_due (server_rules opened) (server_items_at opened) (λ end. LastItem end ∷ []) (server_stays_lem opened) (server_quiet opened) (initial_server opened) link Responder run bytes,
-  wrote_due (server_rules opened) (λ k event. server_hello_at event) (rejection Responder) (server_stays_lem opened) (λ s n. refl) (initial_server opened) link Responder run bytes,
+  wrote_due (server_rules opened) (λ k event. server_hello_at opened event) (rejection Responder) (server_stays_lem opened) (λ s n. refl) (initial_server opened) link Responder run bytes,
   sent_more link Responder run bytes,
 )

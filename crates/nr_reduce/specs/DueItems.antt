@@ -9,7 +9,7 @@ use Rattle.nr_wire.specs.declared.hello.Side.TheVariants.{Initiator, Responder}
 use Rattle.nr_link.specs.declared.end.End.{End}
 use Rattle.nr_link.specs.Frames.{is_hello}
 use Rattle.nr_link.specs.Ending.{frame_segment, rejection}
-use Rattle.nr_link.specs.Output.{msn_word, own_hello}
+use Rattle.nr_link.specs.Output.{msn_word}
 use Rattle.nr_link.specs.OutputItem.{OutputItem}
 use Rattle.nr_link.specs.OutputItem.OutputItem.{SendItem, WriteItem, ReadRequestItem, ReadResponseItem, LastItem}
 use Rattle.nr_link.specs.ReceiveState.{ReadRequest}
@@ -20,6 +20,7 @@ use Rattle.nr_reduce.specs.Plans.{call_message}
 use Rattle.nr_reduce.specs.Holds.{Answer, answer_message, chunk_error, first_chunk, no_segments}
 use Rattle.nr_reduce.specs.Events.{RunEvent, events}
 use Rattle.nr_reduce.specs.Events.RunEvent.{FrameReceived, CallSubmitted, MemoryRevoked, CallExecuted, QueueWritten}
+use Rattle.nr_reduce.specs.Hellos.{client_hello, server_hello}
 use Rattle.nr_reduce.specs.EndRules.{EndMachine, EndState, next_end_state}
 use Rattle.nr_reduce.specs.ClientState.{OutstandingCall, ClientState, client_memory_at}
 use Rattle.nr_reduce.specs.Client.{client_rules, initial_client, outstanding_of, segment_request}
@@ -84,12 +85,12 @@ server_items_at opened k (CallExecuted e) = execution_items k e
 server_items_at opened k (QueueWritten taken) = []
 
 -- the hello that is due for an event that doesn't end the server
-abbrev pub server_hello_at : RunEvent → List ℕ
-server_hello_at (FrameReceived f) = if is_hello f then own_hello Responder else []
-server_hello_at (CallSubmitted place a) = []
-server_hello_at (MemoryRevoked place xid) = []
-server_hello_at (CallExecuted e) = []
-server_hello_at (QueueWritten taken) = []
+abbrev pub server_hello_at : LinkParameters → RunEvent → List ℕ
+server_hello_at opened (FrameReceived f) = if is_hello f then server_hello opened f else []
+server_hello_at opened (CallSubmitted place a) = []
+server_hello_at opened (MemoryRevoked place xid) = []
+server_hello_at opened (CallExecuted e) = []
+server_hello_at opened (QueueWritten taken) = []
 
 -- ---- Of the marks of a run
 
@@ -115,5 +116,5 @@ items_due opened link Responder run = due_for_all (server_rules opened) (server_
 
 -- The client's hello is due from the start, the server's when the client's was received.
 unfoldable pub hello_due : LinkParameters → ℕ → Side → List Mark → List ℕ
-hello_due opened link Initiator run = own_hello Initiator
-hello_due opened link Responder run = due_for_all (server_rules opened) (λ k event. server_hello_at event) (rejection Responder) (initial_server opened) (events link Responder run)
+hello_due opened link Initiator run = client_hello opened
+hello_due opened link Responder run = due_for_all (server_rules opened) (λ k event. server_hello_at opened event) (rejection Responder) (initial_server opened) (events link Responder run)

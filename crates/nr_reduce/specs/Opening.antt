@@ -1,5 +1,5 @@
 -- What the two ends of a link are opened with.
-use Rattle.std.specs.Prelude.{◌<◌, ◌≤◌}
+use Rattle.std.specs.Prelude.{◌≡◌, ℕ, ◌<◌, ◌≤◌, None}
 use Rattle.nr_reduce.specs.declared.mark.LinkParameters.{LinkParameters}
 use Rattle.nr_reduce.specs.Limits.{numbers_end, credits_max}
 
@@ -13,3 +13,11 @@ pub record IsOpened (opened : LinkParameters) : Type 0 where
   pub wished_fits : opened.wished ≤ credits_max
   pub granted : 0 < opened.granted
   pub granted_fits : opened.granted ≤ credits_max
+
+-- the server is opened with these credits, and its hello says nothing
+abbrev pub ServerOpened : LinkParameters → ℕ → Type 0
+ServerOpened opened credits = (opened.granted ≡ credits) × (opened.server ≡ None)
+
+-- the client wishes for these credits, and its hello says nothing
+abbrev pub ClientOpened : LinkParameters → ℕ → Type 0
+ClientOpened opened credits = (opened.wished ≡ credits) × (opened.client ≡ None)

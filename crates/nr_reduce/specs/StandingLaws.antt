@@ -9,7 +9,7 @@ use Rattle.nr_regions.specs.Access.{TaggedSegment}
 use Rattle.nr_reduce.specs.Written.{ends_written}
 use Rattle.nr_link.specs.declared.end.End.{End}
 use Rattle.nr_link.specs.declared.end.End.TheVariants as ends
-use Rattle.nr_link.specs.Output.{own_hello, read_response}
+use Rattle.nr_link.specs.Output.{read_response}
 use Rattle.nr_link.specs.Frames.{Frame, is_hello}
 use Rattle.nr_link.specs.Ending.{frame_segment}
 use Rattle.nr_wire.specs.Segment.{Segment}
@@ -27,6 +27,7 @@ use Rattle.nr_reduce.specs.declared.outline.Plan.{Plan}
 use Rattle.nr_reduce.specs.Limits.{numbers_end}
 use Rattle.nr_reduce.specs.Plans.{TooLarge, regions_needed, buffers, plan_of}
 use Rattle.nr_reduce.specs.History.{AcceptedCall, CompletedCall, bytes_sent, bytes_received, written_at, fed_at, other}
+use Rattle.nr_reduce.specs.Hellos.{client_hello}
 use Rattle.nr_reduce.specs.Events.{RunEvent, events_at}
 use Rattle.nr_reduce.specs.Events.RunEvent.{FrameReceived, CallSubmitted, MemoryRevoked, QueueWritten}
 use Rattle.nr_reduce.specs.EndRules.{EndMachine, EndState, live, next_end_state, end_state_after, output_for_all}
@@ -47,7 +48,7 @@ use Rattle.nr_reduce.specs.Standing.{input_events, ClientRepresents, ClientRunsO
 
 -- An end stands for no marks as it is opened: a client's queue has its hello.
 abbrev pub ClientBegins : Type 0
-ClientBegins = (opened : LinkParameters) (link : ℕ) → ClientRepresents opened link (opened_client opened) (initial_input Responder) (own_hello Initiator) []
+ClientBegins = (opened : LinkParameters) (link : ℕ) → ClientRepresents opened link (opened_client opened) (initial_input Responder) (client_hello opened) []
 
 abbrev pub ServerBegins : Type 0
 ServerBegins = (opened : LinkParameters) (link : ℕ) → ServerRepresents opened link (initial_server opened) (initial_input Initiator) [] []

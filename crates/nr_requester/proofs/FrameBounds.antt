@@ -28,6 +28,7 @@ use Rattle.nr_link.specs.ReceiveState.{read_request_in}
 use Rattle.nr_link.specs.Ending.{final_output, rejection, is_hello_reason, kind_of}
 use Rattle.nr_endpoint.specs.SendQueue.{SendQueue, with_end}
 use Rattle.nr_endpoint.specs.ReceiveQueue.{with_segment, with_read_done}
+use Rattle.nr_endpoint.specs.Hellos.{own_private}
 use Rattle.nr_endpoint.specs.LinkState.{LinkState, LinkSide, has_ended}
 use Rattle.nr_endpoint.specs.Judging.{segment_end, next_frame, with_end_of, with_frame, with_segment_by, with_fpdu, with_peer_hello, with_effect, with_read_request, with_read_response, reply_hello, fetch_access}
 use Rattle.nr_endpoint.specs.SegmentEnds.{RequestIsFine, denied_if, tagged_end}
@@ -203,8 +204,8 @@ unfolding with_fpdu
 fpdu_fits s f (Ok segment) total live at h = segment_fits s f segment (segment_end s f segment) total live at refl h
 fpdu_fits s f (Err reason) total live at h = end_fits s (ends.Bad f.at reason) total live h
 
-no_reply : (side : Side) → side ≡ Initiator → length (reply_hello side) ≡ 0
-no_reply side is = ap (λ (x : Side). length (reply_hello x)) is
+no_reply : (side : Side) (private : List ℕ) → side ≡ Initiator → length (reply_hello side private) ≡ 0
+no_reply side private is = ap (λ (x : Side). length (reply_hello x private)) is
 
 hello_fits : (s : LinkState) (f : Frame) (r : Result Hello ℕ) (total : ℕ) → has_ended s ≡ false → Fits total s → Fits total (with_peer_hello f r s)
 unfolding with_peer_hello
@@ -213,7 +214,9 @@ hello_fits s f (Ok hello) total live h = (
     side = h.0.side;
     receives = h.0.receives;
     receive_length = h.0.receive_length;
-    hello = omega (arith, h.0.hello, length-append s.send_queue.hello (reply_hello s.side), no_reply s.side h.0.side);
+    hello =
+        let own : List ℕ = own_private s.terms s.side hello.private in
+        omega (arith, h.0.hello, length-append s.send_queue.hello (reply_hello s.side own), no_reply s.side own h.0.side);
     queue = h.0.queue;
     responses = h.0.responses;
     regions = h.0.regions;

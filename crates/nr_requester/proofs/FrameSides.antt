@@ -72,6 +72,7 @@ link_tagged opened s k f last opcode stag to payload keeps fine later some =
       has_hello = keeps.has_hello;
       receive_length = keeps.receive_length;
       message_max = keeps.message_max;
+      terms = keeps.terms;
       received = keeps.received;
       receive = keeps.receive;
       none_lent = keeps.none_lent;
@@ -140,6 +141,7 @@ link_untagged opened s k f last opcode w queue msn offset payload keeps later so
       has_hello = keeps.has_hello ∙ sym same.has_hello;
       receive_length = keeps.receive_length;
       message_max = keeps.message_max;
+      terms = keeps.terms;
       received = received_next s.receive_queue k.received segment keeps.receive_length keeps.received;
       receive = ap (λ (r : ReceiveState). cond (takes_receive r segment) (s.receive_queue.free - 1) s.receive_queue.free + sends_begun (received_after k.received segment).begun) keeps.received
           ∙ receive_part k.received s.receive_queue.free segment keeps.receive none;
@@ -238,6 +240,7 @@ link_message opened s k f last opcode w queue msn offset payload message m keeps
       has_hello = keeps.has_hello;
       receive_length = freed.receive_length;
       message_max = keeps.message_max;
+      terms = keeps.terms;
       received = freed.received;
       receive = freed.receive;
       none_lent = freed.none_lent;

@@ -3,20 +3,25 @@ use Rattle.std.proofs.Common.{◌≡◌, ℕ, inl, ◌<◌, ◌≤◌, Bool, tru
 use Rattle.std.specs.Prelude.{IfSome}
 use Rattle.std.proofs.lemmas.List.{append-nil}
 use Rattle.std.proofs.lemmas.Bool.{ne_eqb, eq-eqb, lt-ltb}
+use Rattle.nr_wire.specs.declared.hello.Side.{Side}
 use Rattle.nr_wire.specs.declared.hello.Side.TheVariants.{Responder}
 use Rattle.nr_wire.specs.declared.stream.Awaited.TheVariants.{Hello as HelloFrom}
 use Rattle.nr_wire.specs.Hello.{Hello, hello_of}
+use Rattle.nr_link.specs.declared.agreement.Agreement.{Agreement}
 use Rattle.nr_link.specs.declared.end.End.{End}
 use Rattle.nr_link.specs.declared.end.End.TheVariants as ends
 use Rattle.nr_link.specs.Frames.{Frame, is_hello}
 use Rattle.nr_link.specs.Output.{terminate_message}
 use Rattle.nr_link.specs.Ending.{frame_segment, frame_end, hello_end, final_output, rejection}
+use Rattle.nr_endpoint.specs.Hellos.{own_private, side_agreement, received_max}
 use Rattle.nr_endpoint.specs.LinkState.{LinkState}
 use Rattle.nr_endpoint.specs.SendQueue.{writable, with_hello as queue_hello, with_end}
-use Rattle.nr_endpoint.specs.Judging.{with_frame, with_peer_hello, with_end_of, after_frame, next_frame, reply_hello}
+use Rattle.nr_endpoint.specs.Judging.{with_frame, with_peer_hello, with_end_of, with_privates, after_frame, next_frame, reply_hello}
 use Rattle.nr_endpoint.specs.Laws.{IsFrameEnd}
+use Rattle.nr_endpoint.proofs.Agreed.{silent_agrees}
 use Rattle.nr_endpoint.proofs.EndLaws.{frames_end_for_these}
 use Rattle.nr_reduce.specs.declared.mark.LinkParameters.{LinkParameters}
+use Rattle.nr_reduce.specs.Limits.{send_max}
 use Rattle.nr_reduce.specs.OfferedRegions.{region_grants}
 use Rattle.nr_reduce.specs.Events.RunEvent.{FrameReceived}
 use Rattle.nr_reduce.specs.EndRules.{EndState, next_end_state, next_end_state_by, live}
@@ -33,9 +38,9 @@ use Rattle.nr_requester.proofs.FrameMoves.{KeepsLiveClient, FrameTaken, taken_li
 abbrev pub after_hello : RequesterState → List ℕ → RequesterState
 after_hello r frame = record r { side = with_frame r.side (HelloFrom Responder) frame }
 
-link_greeted : (opened : LinkParameters) (s : LinkState) (k : ClientState) (f : Frame) → LinkKeeps opened s k → 0 < f.end → k.has_hello ≡ false →
-    LinkKeeps opened (after_frame f (record s { has_hello = true; send_queue = queue_hello [] s.send_queue })) (with_hello opened k)
-link_greeted opened s k f keeps some none =
+link_greeted : (opened : LinkParameters) (s : LinkState) (k : ClientState) (f : Frame) (private : List ℕ) (agreed : Agreement) (most : ℕ) → most ≡ send_max → LinkKeeps opened s k → 0 < f.end → k.has_hello ≡ false →
+    LinkKeeps opened (after_frame f (record s { has_hello = true; send_queue = queue_hello [] s.send_queue; private = private; agreed = agreed; message_max = most })) (with_hello opened k)
+link_greeted opened s k f private agreed most is keeps some none =
     let same : sends_ends k.has_hello opened k ≡ k.send_ends ++ call_ends opened k.due 1 k.outstanding =
     ap (λ (b : Bool). sends_ends b opened k) none ∙ ap (λ (xs : List ℕ). xs ++ call_ends opened k.due 1 k.outstanding) (sym (keeps.none_due none)) in
     let hello : s.send_queue.hello ≡ s.send_queue.hello ++ [] = sym (append-nil s.send_queue.hello) in
@@ -43,7 +48,8 @@ link_greeted opened s k f keeps some none =
       side = keeps.side;
       has_hello = refl;
       receive_length = keeps.receive_length;
-      message_max = keeps.message_max;
+      message_max = is;
+      terms = keeps.terms;
       received = keeps.received;
       receive = keeps.receive;
       none_lent = keeps.none_lent;
@@ -97,8 +103,10 @@ hello_taken opened r k count frame keeps lt first = by (hello_of Responder frame
 
     by : (x : Result Hello ℕ) → hello_of Responder frame ≡ x → FrameTaken opened r k f (record r { side = with_peer_hello f x r.side })
     by (Ok hello) e =
-        let after : RequesterState = record r { side = after_frame f (record r.side { has_hello = true; send_queue = queue_hello (reply_hello r.side.side) r.side.send_queue }) } in
-        let none : reply_hello r.side.side ≡ [] = ap reply_hello link.side in
+        let own : List ℕ = own_private r.side.terms r.side.side hello.private in
+        let agreed : Agreement = side_agreement r.side.side own hello.private in
+        let after : RequesterState = record r { side = after_frame f (with_privates own hello.private r.side) } in
+        let none : reply_hello r.side.side own ≡ [] = ap (λ (side : Side). reply_hello side own) link.side in
         let within = keeps.due in
         let greeted : ClientKeeps opened (kept_client r) (live (with_hello opened k)) f.end =
         kept_stays opened (kept_client r) (live (with_hello opened k)) count f.end (kept_greets opened (kept_client r) k count keeps.client (omega (arith, within))) (omega (arith, lt)) in
@@ -107,8 +115,8 @@ hello_taken opened r k count frame keeps lt first = by (hello_of Responder frame
         taken_live opened r k count f after keeps (end_is (Ok hello) e)
         (subst (λ (x : EndState ClientState). ClientKeeps opened (kept_client after) x f.end) next_is greeted)
         (subst (λ (x : ClientState). LinkKeeps opened after.side x) (sym state_is)
-        (subst (λ (bytes : List ℕ). LinkKeeps opened (after_frame f (record r.side { has_hello = true; send_queue = queue_hello bytes r.side.send_queue })) (with_hello opened k)) (sym none)
-        (link_greeted opened r.side k f link (omega (arith, lt)) no_hello)))
+        (subst (λ (bytes : List ℕ). LinkKeeps opened (after_frame f (record r.side { has_hello = true; send_queue = queue_hello bytes r.side.send_queue; private = own; agreed = agreed; message_max = received_max r.side.side agreed })) (with_hello opened k)) (sym none)
+        (link_greeted opened r.side k f own agreed (received_max r.side.side agreed) (silent_agrees r.side.terms r.side.side hello.private link.terms) link (omega (arith, lt)) no_hello)))
         refl refl refl refl
         ((λ i. (r.side.send_queue.hello ++ none i) ++ link.waiting no_hello i)
         ∙ (λ i. writable (sym (link.has_hello ∙ no_hello) i) r.side.send_queue ++ sym output_is i)) refl

@@ -186,11 +186,11 @@ pub drain_sound : (link link2 : LinkSide) (n xid grant room : ℕ) (items : List
 drain_sound link link2 n xid grant room items answers s is =
     same_sound link link2 xid grant room room items answers s (ap (λ (l : LinkSide). l.state.memory) is ∙ (drain_leaves link n).0) (ap (λ (l : LinkSide). l.state.receive_queue) is ∙ (drain_leaves link n).1.0) (ap (λ (l : LinkSide). l.state.reads) is ∙ (drain_leaves link n).1.1) (omega arith)
 
-first_sound : (first_stag xid room : ℕ) → xid ≤ 2 ^ 32 → RequesterInvariant (initial_link Initiator 1 first_stag) xid 1 [] [] room
+first_sound : (first_stag xid room : ℕ) → xid ≤ 2 ^ 32 → RequesterInvariant (initial_link Initiator 1 first_stag None) xid 1 [] [] room
 unfolding initial_link
 first_sound first_stag xid room fits = record { xid = fits; few = omega arith; some = omega arith; granted = omega arith; none_waits = refl; none_lent = refl; held = omega arith; offers = tt; rooms = tt; no_reads = refl; rising = tt; apart = tt; has_room = omega arith }
 
-pub opened_sound : (link : LinkSide) (first_xid first_stag n room : ℕ) (items : List OutstandingCall) (answers : List AnsweredCall) → link ≡ initial_link Initiator 1 first_stag → n ≡ first_xid → first_xid < 2 ^ 32 → items ≡ [] → answers ≡ [] → RequesterInvariant link n 1 items answers room
+pub opened_sound : (link : LinkSide) (first_xid first_stag n room : ℕ) (items : List OutstandingCall) (answers : List AnsweredCall) → link ≡ initial_link Initiator 1 first_stag None → n ≡ first_xid → first_xid < 2 ^ 32 → items ≡ [] → answers ≡ [] → RequesterInvariant link n 1 items answers room
 opened_sound link first_xid first_stag n room items answers is xid fits none empty =
-    subst (λ (l : LinkSide). RequesterInvariant l n 1 items answers room) (sym is) (subst (λ (ys : List AnsweredCall). RequesterInvariant (initial_link Initiator 1 first_stag) n 1 items ys room) (sym empty)
-    (subst (λ (xs : List OutstandingCall). RequesterInvariant (initial_link Initiator 1 first_stag) n 1 xs [] room) (sym none) (first_sound first_stag n room (omega (arith, xid, fits)))))
+    subst (λ (l : LinkSide). RequesterInvariant l n 1 items answers room) (sym is) (subst (λ (ys : List AnsweredCall). RequesterInvariant (initial_link Initiator 1 first_stag None) n 1 items ys room) (sym empty)
+    (subst (λ (xs : List OutstandingCall). RequesterInvariant (initial_link Initiator 1 first_stag None) n 1 xs [] room) (sym none) (first_sound first_stag n room (omega (arith, xid, fits)))))

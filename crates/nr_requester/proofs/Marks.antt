@@ -5,7 +5,9 @@ use Rattle.std.proofs.lemmas.List.{length-take}
 use Rattle.nr_wire.specs.declared.hello.Side.TheVariants.{Initiator, Responder}
 use Rattle.nr_link.specs.declared.end.End.{End}
 use Rattle.nr_link.specs.Input.{InputState, initial_input}
-use Rattle.nr_link.specs.Output.{own_hello}
+use Rattle.nr_link.specs.Output.{hello_with, own_hello}
+use Rattle.nr_link.specs.declared.agreement.SideTerms.{SideTerms}
+use Rattle.nr_reduce.specs.Hellos.{client_hello, initiator_says}
 use Rattle.nr_endpoint.specs.LinkState.{LinkState}
 use Rattle.nr_endpoint.specs.SendQueue.{written}
 use Rattle.nr_reduce.specs.declared.mark.LinkParameters.{LinkParameters}
@@ -251,6 +253,7 @@ link_opened opened link staging = record {
   has_hello = refl;
   receive_length = refl;
   message_max = refl;
+  terms = refl;
   received = refl;
   receive = refl;
   none_lent = refl;
@@ -266,13 +269,18 @@ link_opened opened link staging = record {
   greeted = refl;
 }
 
-pub begins_client : (opened : LinkParameters) (link : ℕ) (staging : List ℕ) → KeepsClient opened link (opened_as opened.first_xid opened.first_stag opened.wished staging) []
+-- a client that says nothing has a hello without private data
+silent_hello : (opened : LinkParameters) → opened.client ≡ None → client_hello opened ≡ own_hello Initiator
+unfolding client_hello
+silent_hello opened silent = ap (λ (said : Option SideTerms). hello_with Initiator (initiator_says said)) silent
+
+pub begins_client : (opened : LinkParameters) (link : ℕ) (staging : List ℕ) → opened.client ≡ None → KeepsClient opened link (opened_as opened.first_xid opened.first_stag opened.wished staging) []
 unfolding opened_as
-begins_client opened link staging = record {
+begins_client opened link staging silent = record {
   first = refl;
   wished = refl;
   kept = subst (λ (k : KeptClient). ClientRepresents opened link k (initial_input Responder) (own_hello Initiator ++ []) []) (kept_opened opened staging)
-      (subst (λ (q : List ℕ). ClientRepresents opened link (opened_client opened) (initial_input Responder) q []) (sym (append-nil (own_hello Initiator))) (client_begins_lem opened link));
+      (subst (λ (q : List ℕ). ClientRepresents opened link (opened_client opened) (initial_input Responder) q []) (silent_hello opened silent ∙ sym (append-nil (own_hello Initiator))) (client_begins_lem opened link));
   sent = λ none. refl;
   side = λ none. link_opened opened link staging;
 }

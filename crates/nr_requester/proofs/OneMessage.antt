@@ -40,6 +40,10 @@ pub next_memory : (l : LinkSide) → (after_call l NextEvent).state.memory ≡ l
 unfolding after_call
 next_memory l = refl
 
+pub next_receives : (l : LinkSide) → (after_call l NextEvent).state.receive_queue.receive_length ≡ l.state.receive_queue.receive_length
+unfolding after_call
+next_receives l = refl
+
 pub next_ended : (l : LinkSide) → (after_call l NextEvent).state.ended ≡ l.state.ended
 unfolding after_call
 next_ended l = refl

@@ -21,11 +21,11 @@ use Rattle.nr_requester.specs.HeldBytes.{NothingOutside}
 
 -- ---- As it is opened
 
-initial_next : (first_stag : ℕ) → (initial_link Initiator 1 first_stag).state.memory.next ≡ first_stag
+initial_next : (first_stag : ℕ) → (initial_link Initiator 1 first_stag None).state.memory.next ≡ first_stag
 unfolding initial_link initial_memory
 initial_next first_stag = refl
 
-pub opened_outside : (e : EndpointState) (first_stag : ℕ) → e.link ≡ initial_link Initiator 1 first_stag → e.outside ≡ empty → first_stag ≤ 2 ^ 32 → NothingOutside e
+pub opened_outside : (e : EndpointState) (first_stag : ℕ) → e.link ≡ initial_link Initiator 1 first_stag None → e.outside ≡ empty → first_stag ≤ 2 ^ 32 → NothingOutside e
 opened_outside e first_stag is none fits =
     let next : e.link.state.memory.next ≡ first_stag = ap (λ (l : LinkSide). l.state.memory.next) is ∙ initial_next first_stag in
     subst (λ (n : ℕ). IsTotal outside_len n 0 e.outside) (sym next) (subst (λ (m : FinMap nat_cmp Outside). IsTotal outside_len first_stag 0 m) (sym none) (sound_initial outside_len first_stag fits))

@@ -21,7 +21,7 @@ use Rattle.nr_regions.proofs.Totals.{sound_initial}
 use Rattle.nr_regions.specs.Table.{region_len}
 use Rattle.nr_link.specs.declared.end.End.{End}
 use Rattle.nr_link.specs.Limits.{send_max, open_reads_max}
-use Rattle.nr_link.specs.Output.{own_hello}
+use Rattle.nr_link.specs.Output.{hello_with, own_hello}
 use Rattle.nr_endpoint.specs.EndpointState.{EndpointState}
 use Rattle.nr_endpoint.specs.SendQueue.{SendQueue, with_send, written}
 use Rattle.nr_endpoint.specs.LinkState.{LinkState, LinkSide, has_ended, initial_link}
@@ -67,23 +67,23 @@ first_regions first_stag fits = (
 )
 
 hello_is : length (own_hello Initiator) ≡ HELLO_LEN
-unfolding own_hello hello_encoding key half_word
+unfolding hello_with hello_encoding key half_word
 hello_is = refl
 
 hello_small : length (own_hello Initiator) ≤ HELLO_LEN
 hello_small = omega (arith, hello_is)
 
-first_link : (first_stag : ℕ) → first_stag ≤ 2 ^ 32 → LinkFits (initial_link Initiator 1 first_stag).state × RegionsHave (initial_link Initiator 1 first_stag).state.memory 0
+first_link : (first_stag : ℕ) → first_stag ≤ 2 ^ 32 → LinkFits (initial_link Initiator 1 first_stag None).state × RegionsHave (initial_link Initiator 1 first_stag None).state.memory 0
 unfolding initial_link
 first_link first_stag fits =
     let b = first_regions first_stag fits in
     (record { side = refl; receives = refl; receive_length = refl; hello = hello_small; queue = λ n. omega arith; responses = omega arith; regions = b.0 }, b.1)
 
-first_counts : (first first_stag : ℕ) → CountsFit first first (initial_link Initiator 1 first_stag).state.send_queue []
+first_counts : (first first_stag : ℕ) → CountsFit first first (initial_link Initiator 1 first_stag None).state.send_queue []
 unfolding initial_link
 first_counts first first_stag = record { waiting = omega arith; numbered = omega arith }
 
-pub opened_within : (e : EndpointState) (first first_stag next : ℕ) (calls : List OutstandingCall) (answers : List AnsweredCall) → length e.staging ≡ FPDU_MAX → e.outside ≡ empty → e.link ≡ initial_link Initiator 1 first_stag → first_stag < 2 ^ 32 → next ≡ first → calls ≡ [] → answers ≡ [] → RequesterBounds e first next calls answers
+pub opened_within : (e : EndpointState) (first first_stag next : ℕ) (calls : List OutstandingCall) (answers : List AnsweredCall) → length e.staging ≡ FPDU_MAX → e.outside ≡ empty → e.link ≡ initial_link Initiator 1 first_stag None → first_stag < 2 ^ 32 → next ≡ first → calls ≡ [] → answers ≡ [] → RequesterBounds e first next calls answers
 opened_within e first first_stag next calls answers staging nothing is fits same none empty =
     let l = first_link first_stag (omega (arith, fits)) in
     let all : RequesterBounds e first first [] [] = record {

@@ -21,7 +21,7 @@ unfoldable pub opened_as : (first_xid first_stag wished : ℕ) → (staging : Li
 opened_as first_xid first_stag wished staging = record {
   awaited = HelloFrom Responder;
   rest = [];
-  state = record { side = initial_state Initiator 1 first_stag; sent = 0; wished = wished; first_xid = first_xid; next_xid = first_xid; grant = 1; outstanding = []; answered = [] };
+  state = record { side = initial_state Initiator 1 first_stag None; sent = 0; wished = wished; first_xid = first_xid; next_xid = first_xid; grant = 1; outstanding = []; answered = [] };
   staging = staging;
   marks = 0;
 }

@@ -40,6 +40,7 @@ pub record LinkKeeps (opened : LinkParameters) (s : LinkState) (k : ClientState)
   pub has_hello : s.has_hello ≡ k.has_hello
   pub receive_length : s.receive_queue.receive_length ≡ send_max
   pub message_max : s.message_max ≡ send_max
+  pub terms : s.terms ≡ None
   pub received : s.receive_queue.received ≡ received_within send_max k.received
   pub receive : s.receive_queue.free + sends_begun k.received.begun ≡ 1
   pub none_lent : s.receive_queue.lent ≡ 0

@@ -167,6 +167,7 @@ fn take_message(
     requires live { endpoint.old.link.state.ended ≡ None }
     requires frame { 0 < endpoint.old.link.state.place }
     requires lent { 0 < endpoint.old.link.state.receive_queue.lent }
+    requires receives { endpoint.old.link.state.receive_queue.receive_length ≡ send_max }
     requires buf { length buf ≡ send_max }
     requires len { (16 ≤ len) × (len ≤ length buf) }
     requires calls { (next : ℕ) × CallsSound endpoint.old.link.state.memory next outstanding.old.items answered.old.items (vec_capacity answered.old) }
@@ -201,6 +202,7 @@ fn take_event(
     first_xid: u32,
     sent: u64,
 )
+    requires receives { endpoint.old.link.state.receive_queue.receive_length ≡ send_max }
     requires ready { IsReady endpoint.old.link outstanding.old.items answered.old.items (vec_capacity answered.old) }
     ensures deliveries { (wished next : ℕ) → TakesDeliveries (requester_view endpoint.old.link sent wished first_xid next grant.old outstanding.old.items answered.old.items) (requester_view endpoint.new.link sent wished first_xid next grant.new outstanding.new.items answered.new.items) }
     ensures sound { (next : ℕ) → CallsSound endpoint.old.link.state.memory next outstanding.old.items answered.old.items (vec_capacity answered.old) →

@@ -7,6 +7,7 @@ ghost use Rattle.nr_wire.specs.declared.hello.Side.TheVariants.{Initiator};
 ghost use Rattle.nr_wire.specs.Constants.{FPDU_MAX};
 ghost use Rattle.nr_wire.specs.Stream.{IsPartial};
 ghost use Rattle.nr_endpoint.specs.declared.fault.DrainFault.TheVariants as drains;
+ghost use Rattle.nr_reduce.specs.Opening.{ClientOpened};
 ghost use Rattle.nr_reduce.specs.Limits.{credits_max};
 ghost use Rattle.nr_reduce.specs.declared.mark.LinkParameters.{LinkParameters};
 ghost use Rattle.nr_reduce.specs.declared.mark.Mark.TheVariants as marks;
@@ -78,7 +79,7 @@ impl Requester {
         ensures state { IfOk result (λ r. r ≡ opened_as first_xid first_stag credits r.staging) }
         ensures staging { IfOk result (λ r. length r.staging ≡ FPDU_MAX) }
         ensures fed { IfOk result (λ r. fed_bytes r ≡ 0) }
-        ensures stands { IfOk result (λ r. (opened : LinkParameters) (link : ℕ) → opened.first_xid ≡ first_xid → opened.first_stag ≡ first_stag → opened.wished ≡ credits → RequesterRepresents opened link r []) }
+        ensures stands { IfOk result (λ r. (opened : LinkParameters) (link : ℕ) → opened.first_xid ≡ first_xid → opened.first_stag ≡ first_stag → ClientOpened opened credits → RequesterRepresents opened link r []) }
     {
         Requester::new(alloc, first_xid, first_stag, credits)
     }
@@ -88,7 +89,7 @@ impl Requester {
         ensures state { IfOk result (λ r. r ≡ opened_as 1 1 credits r.staging) }
         ensures staging { IfOk result (λ r. length r.staging ≡ FPDU_MAX) }
         ensures fed { IfOk result (λ r. fed_bytes r ≡ 0) }
-        ensures stands { IfOk result (λ r. (opened : LinkParameters) (link : ℕ) → opened.first_xid ≡ 1 → opened.first_stag ≡ 1 → opened.wished ≡ credits → RequesterRepresents opened link r []) }
+        ensures stands { IfOk result (λ r. (opened : LinkParameters) (link : ℕ) → opened.first_xid ≡ 1 → opened.first_stag ≡ 1 → ClientOpened opened credits → RequesterRepresents opened link r []) }
     {
         Requester::open_at(alloc, 1, 1, credits)
     }
@@ -105,7 +106,7 @@ impl Requester {
         ensures staging { IfOk result (λ r. length r.staging ≡ FPDU_MAX) }
         ensures fed { IfOk result (λ r. fed_bytes r ≡ 0) }
     {
-        let endpoint = Endpoint::open(alloc, Side::Initiator, 1, first_stag)?;
+        let endpoint = Endpoint::open(alloc, Side::Initiator, 1, first_stag, None)?;
         Ok(Requester {
             alloc,
             endpoint,

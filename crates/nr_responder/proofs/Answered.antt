@@ -214,6 +214,7 @@ answered_goes opened end so_far v after e r sent is h next xid payload a =
       credits = h.credits;
       reads = h.reads;
       sinks = h.sinks;
+      silent = h.silent;
       payloads = payloads_out r.xid k.calls (drop 1 k.ready) (drop 1 v.fetching.payloads) own.others;
       quiet = λ z. absurd (omega (arith, z, behind));
     } in

@@ -251,6 +251,7 @@ started_sound number read chunks old new sinks after_sinks before after calls la
       calls_fit = omega (arith, h.calls_fit, receives, cap);
       ready_fit = omega (arith, h.ready_fit, receives);
       used_fit = omega (arith, h.used_fit, receives);
+      receive_length = ap (λ (q : ReceiveQueue). q.receive_length) same.0 ∙ h.receive_length;
     }
 
 -- there is room for a call more

@@ -294,6 +294,7 @@ reading_keeps opened k s frame c h is some =
       received = told_h.received;
       receive_length = told_h.receive_length;
       message_max = told_h.message_max;
+      terms = told_h.terms;
       free = (let all = told_h.free in omega (arith, all, count));
       lent = (let all = told_h.lent in omega (arith, all, count));
       told = refl;
@@ -398,6 +399,7 @@ reading_takes opened k input v frame w queue_number msn offset payload c h behin
       credits = h.credits;
       reads = refl;
       sinks = sym (open_append k.regions regions);
+      silent = h.silent;
       payloads = payloads_pushed k.calls k.reads c k.ready v.fetching.payloads none h.server.ready h.payloads;
       quiet = λ e. absurd (omega (arith, e, behind_hello));
     } in

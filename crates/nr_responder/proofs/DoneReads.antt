@@ -442,6 +442,7 @@ refused_sound s t at call calls later ready used after a b c d e queue ends lt w
       calls_fit = omega (arith, h.calls_fit, calls_room, ap (λ (q : ReceiveQueue). q.receives) queue);
       ready_fit = omega (arith, h.ready_fit, ap (λ (q : ReceiveQueue). q.receives) queue);
       used_fit = omega (arith, h.used_fit, used_room, ap (λ (q : ReceiveQueue). q.receives) queue);
+      receive_length = ap (λ (q : ReceiveQueue). q.receive_length) queue ∙ h.receive_length;
     }
 
 pub refused_ends : (message : List ℕ) (opened : List PendingRead) (over : List SinkRegion) (l m n : LinkSide) → m ≡ with_opened_after message opened l → n ≡ with_released over m → length n.state.send_queue.send_ends ≡ unsent l.state + 1
@@ -472,6 +473,7 @@ emptied_sound r at c calls is whole room lt same h =
         calls_fit = h.0.calls_fit;
         ready_fit = h.0.ready_fit;
         used_fit = h.0.used_fit;
+        receive_length = h.0.receive_length;
       },
       record { held = h.1.held; short = h.1.short; rooms = subst (λ (xs : List Pending). All (HasRoom r.endpoint.outside r.sinks.items r.reads.items) xs) (sym is) (All-set (HasRoom r.endpoint.outside r.sinks.items r.reads.items) r.calls.items at c room h.1.rooms); outside = more_outside r.endpoint (around_of r.calls.items) (around_of calls) (let sum = around_set r.calls.items at c c lt in let set_is = ap (λ (cs : List Pending). around_of cs) is in omega (arith, sum, set_is, same)) h.1.outside },
     )

@@ -13,13 +13,17 @@ use Rattle.nr_link.specs.declared.end.End.{End}
 use Rattle.nr_link.specs.declared.end.End.TheVariants as ends
 use Rattle.nr_link.specs.Frames.{Frame}
 use Rattle.nr_link.specs.Input.{InputState}
-use Rattle.nr_link.specs.Output.{own_hello, terminate_message}
+use Rattle.nr_link.specs.Output.{hello_with, own_hello, terminate_message}
+use Rattle.nr_link.specs.declared.agreement.SideTerms.{SideTerms}
+use Rattle.nr_reduce.specs.Hellos.{private_of, responder_says, server_hello}
 use Rattle.nr_link.specs.Ending.{final_output, frame_end, hello_end, last_output}
 use Rattle.nr_endpoint.specs.SendQueue.{with_end, with_hello, writable}
 use Rattle.nr_endpoint.specs.LinkState.{LinkState, LinkSide}
 use Rattle.nr_endpoint.specs.Judging.{segment_end, next_frame, with_frame, with_fpdu, with_peer_hello, with_segment_by, with_end_of, reply_hello}
+use Rattle.nr_endpoint.specs.Hellos.{own_private}
 use Rattle.nr_endpoint.specs.Laws.{IsFrameEnd, IsFrameReason}
 use Rattle.nr_endpoint.proofs.EndLaws.{effect_ended, frames_end_for_these}
+use Rattle.nr_endpoint.proofs.Agreed.{silent_agrees, silent_reply}
 use Rattle.nr_reduce.specs.declared.mark.LinkParameters.{LinkParameters}
 use Rattle.nr_reduce.specs.OfferedRegions.{region_grants}
 use Rattle.nr_reduce.specs.Events.RunEvent.{FrameReceived}
@@ -164,15 +168,21 @@ ended_takes opened k input later v frame end h some ended =
 
 -- ---- The hello
 
-pub hello_link : (opened : LinkParameters) (k : ServerState) (s : LinkState) (frame : List ℕ) (hello : Hello) → LinkKeeps opened k s → IsServer k s.place → k.message_ends ≡ [] →
-    LinkKeeps opened (with_own_hello k) (with_peer_hello (next_frame s frame) (Ok hello) s)
+-- a server that says nothing has a hello without private data, whatever the client's is
+pub silent_hello : (opened : LinkParameters) (f : Frame) → opened.server ≡ None → server_hello opened f ≡ own_hello Responder
+unfolding server_hello
+silent_hello opened f silent = ap (λ (said : Option SideTerms). hello_with Responder (responder_says said (private_of f))) silent
+
+pub hello_link : (opened : LinkParameters) (k : ServerState) (s : LinkState) (frame : List ℕ) (hello : Hello) → opened.server ≡ None → LinkKeeps opened k s → IsServer k s.place → k.message_ends ≡ [] →
+    LinkKeeps opened (with_own_hello opened k (next_frame s frame)) (with_peer_hello (next_frame s frame) (Ok hello) s)
 unfolding with_peer_hello
-hello_link opened k s frame hello h is none = record {
+hello_link opened k s frame hello silent h is none = record {
   live = h.live;
   side = h.side;
   received = h.received;
   receive_length = h.receive_length;
-  message_max = h.message_max;
+  message_max = silent_agrees s.terms s.side hello.private h.terms;
+  terms = h.terms;
   free = h.free;
   lent = h.lent;
   told = h.told;
@@ -180,8 +190,10 @@ hello_link opened k s frame hello h is none = record {
   memory = holds_later k.regions k.accesses_received s.place (s.place + length frame) s.memory (omega arith) is.accesses h.memory;
   next = h.next;
   queue =
-      subst (λ (side : Side). QueueKeeps (with_own_hello k) (with_hello (reply_hello side) s.send_queue)) (sym h.side)
-      (greeted_has k.written k.due k.messages_queued k.requests_sent k.message_ends (own_hello Responder) s.send_queue none h.queue);
+      let reply : List ℕ = reply_hello s.side (own_private s.terms s.side hello.private) in
+      subst (λ (own : List ℕ). QueueKeeps (record k { due = k.due + length own }) (with_hello reply s.send_queue)) (sym (silent_hello opened (next_frame s frame) silent))
+      (subst (λ (bytes : List ℕ). QueueKeeps (record k { due = k.due + length (own_hello Responder) }) (with_hello bytes s.send_queue)) (sym (silent_reply s.terms s.side Responder hello.private h.terms h.side))
+      (greeted_has k.written k.due k.messages_queued k.requests_sent k.message_ends (own_hello Responder) s.send_queue none h.queue));
 }
 
 pub server_later : (k : ServerState) (place later : ℕ) → place ≤ later → IsServer k place → IsServer k later
@@ -204,8 +216,8 @@ server_later k place later le is = record {
 }
 
 -- its hello is due: nothing else of it changes
-pub own_hello_server : (k : ServerState) (place : ℕ) → IsServer k place → IsServer (with_own_hello k) place
-own_hello_server k place is = record {
+pub own_hello_server : (opened : LinkParameters) (k : ServerState) (f : Frame) (place : ℕ) → IsServer k place → IsServer (with_own_hello opened k f) place
+own_hello_server opened k f place is = record {
   offered = is.offered;
   accesses = is.accesses;
   numbered = is.numbered;

@@ -88,6 +88,7 @@ pub record TakesLast (k : ServerState) (f : Frame) (a : TaggedSegment) (rest : L
   pub received : t.receive_queue.received ≡ received_within send_max k.received
   pub receive_length : t.receive_queue.receive_length ≡ send_max
   pub message_max : t.message_max ≡ send_max
+  pub terms : t.terms ≡ None
   pub free : t.receive_queue.free + (unsent t + length k.calls + one_if (is_begun k.received.begun)) ≡ granted
   pub lent : t.receive_queue.lent ≡ length k.calls + unsent t
   pub told : t.receive_queue.deliveries ≡ []
@@ -116,6 +117,7 @@ done_link opened k f a rest reads calls ready kept t h arrived was_offered le at
       received = h.received;
       receive_length = h.receive_length;
       message_max = h.message_max;
+      terms = h.terms;
       free = (let all = h.free in omega (arith, all, same, count));
       lent = (let all = h.lent in omega (arith, all, same, count));
       told = h.told;

@@ -16,6 +16,8 @@ use Rattle.nr_link.specs.Frames.{Frame}
 use Rattle.nr_link.specs.Limits.{open_reads_max}
 use Rattle.nr_link.specs.Input.{InputState}
 use Rattle.nr_endpoint.specs.SendQueue.{SendQueue, with_end, with_send}
+use Rattle.nr_endpoint.specs.Hellos.{own_private}
+use Rattle.nr_endpoint.proofs.Agreed.{silent_reply}
 use Rattle.nr_endpoint.specs.LinkState.{LinkState, LinkSide, initial_link}
 use Rattle.nr_endpoint.specs.Judging.{next_frame, reply_hello, with_end_of, with_frame, with_peer_hello}
 use Rattle.nr_endpoint.specs.Calls.{after_call}
@@ -158,17 +160,18 @@ pub told_lives : (w : ResponderSide) → OutputLives w → OutputLives (told_of 
 told_lives w f = (let t = told_queue w.link in same_lives w (after_call w.link NextEvent) t.0 (λ e. sym t.1 ∙ e) f)
 
 -- the client's hello
-greeted_lives : (v : ResponderSide) (m : LinkSide) (f : Frame) (r : Result Hello ℕ) → v.link.state.side ≡ Responder → v.link.state.place ≡ 0 → 0 < f.end → m.state ≡ with_peer_hello f r v.link.state → m.state.ended ≡ None → OutputLives v → OutputLives (on_link v m)
+greeted_lives : (v : ResponderSide) (m : LinkSide) (f : Frame) (r : Result Hello ℕ) → v.link.state.side ≡ Responder → v.link.state.terms ≡ None → v.link.state.place ≡ 0 → 0 < f.end → m.state ≡ with_peer_hello f r v.link.state → m.state.ended ≡ None → OutputLives v → OutputLives (on_link v m)
 unfolding with_peer_hello
-greeted_lives v m f (Err reason) side place some is lives h = absurd (not_none m.state.ended _ (ap (λ (t : LinkState). t.ended) is) lives)
-greeted_lives v m f (Ok hello) side place some is lives h = record {
+greeted_lives v m f (Err reason) side terms place some is lives h = absurd (not_none m.state.ended _ (ap (λ (t : LinkState). t.ended) is) lives)
+greeted_lives v m f (Ok hello) side terms place some is lives h = record {
   queue = subst (λ (q : SendQueue). QueueFits q (length (drop open_reads_max v.fetching.reads)) (length v.calls)) (sym (ap (λ (t : LinkState). t.send_queue) is)) (λ n. h.queue n);
   reads = h.reads;
   hello =
       (let none = h.none place in
-      let len : length m.state.send_queue.hello ≡ length (v.link.state.send_queue.hello ++ reply_hello v.link.state.side) = ap (λ (t : LinkState). length t.send_queue.hello) is in
-      let own : length (reply_hello v.link.state.side) ≡ HELLO_LEN = ap (λ (s : Side). length (reply_hello s)) side ∙ own_hello_is in
-      omega (arith, none, len, own, length-append v.link.state.send_queue.hello (reply_hello v.link.state.side)));
+      let reply : List ℕ = reply_hello v.link.state.side (own_private v.link.state.terms v.link.state.side hello.private) in
+      let len : length m.state.send_queue.hello ≡ length (v.link.state.send_queue.hello ++ reply) = ap (λ (t : LinkState). length t.send_queue.hello) is in
+      let own : length reply ≡ HELLO_LEN = ap (λ (bytes : List ℕ). length bytes) (silent_reply v.link.state.terms v.link.state.side Responder hello.private terms side) ∙ own_hello_is in
+      omega (arith, none, len, own, length-append v.link.state.send_queue.hello reply));
   none = λ e. absurd (let at : m.state.place ≡ f.end = ap (λ (t : LinkState). t.place) is in omega (arith, at, e, some));
 }
 
@@ -184,7 +187,7 @@ fed_lives opened k so_far v piece m h (WholeFrame frame w frame_is_taken long li
 
     by : Begins v.link → OutputLives (on_link v m)
     by (BeforeHello place awaited hello none) =
-        greeted_lives v m (next_frame s frame) (hello_of Initiator frame) h.link.side place (omega (arith, long)) (state ∙ ap (λ (a : Awaited). with_frame s a frame) awaited) lives f
+        greeted_lives v m (next_frame s frame) (hello_of Initiator frame) h.link.side h.link.terms place (omega (arith, long)) (state ∙ ap (λ (a : Awaited). with_frame s a frame) awaited) lives f
     by (AfterHello place awaited hello) =
         let now : m.state ≡ with_frame s Fpdu frame = state ∙ ap (λ (a : Awaited). with_frame s a frame) awaited in
         let lives_on : (with_frame s Fpdu frame).ended ≡ None = sym (ap (λ (t : LinkState). t.ended) now) ∙ lives in

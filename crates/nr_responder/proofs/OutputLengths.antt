@@ -21,7 +21,7 @@ use Rattle.nr_link.specs.declared.end.End.TheVariants as ends
 use Rattle.nr_link.specs.Ending.{final_output, rejection, is_hello_reason}
 use Rattle.nr_link.specs.Reasons.{denied_word, NO_BUFFER_WORD}
 use Rattle.nr_link.specs.Limits.{segment_max, send_max}
-use Rattle.nr_link.specs.Output.{msn_word, cut, own_hello, read_request, refusing_hello, segment_count, segment_payload, send, terminate_message, write}
+use Rattle.nr_link.specs.Output.{msn_word, cut, hello_with, own_hello, read_request, refusing_hello, segment_count, segment_payload, send, terminate_message, write}
 use Rattle.nr_rpc.specs.declared.head.CallTarget.{CallTarget}
 use Rattle.nr_reduce.specs.Server.{answer_of_target}
 use Rattle.nr_reduce.specs.declared.item.Item.{Item}
@@ -153,7 +153,7 @@ rejection_len Responder (ends.Terminated reason) = omega arith
 rejection_len Responder ends.Memory = omega arith
 
 pub own_hello_is : length (own_hello Responder) ≡ HELLO_LEN
-unfolding own_hello hello_encoding key half_word
+unfolding hello_with hello_encoding key half_word
 own_hello_is = refl
 
 -- ---- RDMA Writes

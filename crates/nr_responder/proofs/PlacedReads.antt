@@ -178,6 +178,7 @@ readied_queues s at new calls later ready readied q used a b later_b c whole is 
       calls_fit = h.calls_fit;
       ready_fit = omega (arith, h.ready_fit, room);
       used_fit = h.used_fit;
+      receive_length = h.receive_length;
     }
 
 pub placed_fetched : (e f g : EndpointState) (at stag : ℕ) (p new : Pending) (o : Outside) (opened : List PendingRead) (calls later : List Pending) (reads : List ReadEntry) (sinks left : List OpenSink) → f.link ≡ with_opened opened e.link → f.outside ≡ e.outside →

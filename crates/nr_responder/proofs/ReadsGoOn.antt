@@ -25,6 +25,7 @@ pub opened_closed_queues : (l m n : LinkSide) (opened : List PendingRead) (over 
 opened_closed_queues l m n opened over calls ready used a b c link closed h =
     sound_as 0 0 l.state n.state calls ready used a b c (omega arith) (ap (λ (x : LinkSide). x.state.receive_queue.lent) closed ∙ ap (λ (x : LinkSide). x.state.receive_queue.lent) link)
     (ap (λ (x : LinkSide). x.state.receive_queue.receives) closed ∙ ap (λ (x : LinkSide). x.state.receive_queue.receives) link)
+    (ap (λ (x : LinkSide). x.state.receive_queue.receive_length) closed ∙ ap (λ (x : LinkSide). x.state.receive_queue.receive_length) link)
     (ap (λ (x : LinkSide). x.state.send_queue.send_ends) closed ∙ ap (λ (x : LinkSide). x.state.send_queue.send_ends) link ∙ requests_ends opened l.state.send_queue) h
 
 pub opened_closed_sound : (e f g : EndpointState) (opened : List PendingRead) (over : List SinkRegion) (calls : List Pending) (ready : List Ready) (used : List (List ℕ)) (reads : List ReadEntry) (sinks left : List OpenSink) (a b c : ℕ) → f.link ≡ with_opened opened e.link → f.outside ≡ e.outside →

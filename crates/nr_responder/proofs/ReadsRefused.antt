@@ -300,6 +300,7 @@ sent_last opened k f a rest calls message t h fewer =
       received = h.received;
       receive_length = h.receive_length;
       message_max = h.message_max;
+      terms = h.terms;
       free = (let all = h.free in omega (arith, all, fewer, one));
       lent = (let all = h.lent in omega (arith, all, fewer, one));
       told = h.told;
@@ -392,6 +393,7 @@ refused_done opened k so_far v frame x rest h some long lives r is reads c =
       credits = h.credits;
       reads = refl;
       sinks = sym (open_left calls left f.end k.regions);
+      silent = h.silent;
       payloads = subst (λ (rs : List ReadyCall). ArePayloads calls rs (v.fetching.payloads ++ [])) (sym (append-nil k.ready))
           (subst (λ (ps : List (Option (List ℕ))). ArePayloads calls k.ready ps) (sym (append-nil v.fetching.payloads)) (payloads_left n k.calls k.ready v.fetching.payloads h.payloads));
       quiet = λ e. absurd (omega (arith, e, some));

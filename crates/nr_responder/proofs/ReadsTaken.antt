@@ -120,6 +120,7 @@ response_part_takes opened k so_far v frame h some long lives r is =
       credits = h.credits;
       reads = h.reads;
       sinks = h.sinks;
+      silent = h.silent;
       payloads = h.payloads;
       quiet = λ e. absurd (omega (arith, e, some));
     } in
@@ -168,6 +169,7 @@ takes_last opened k so_far v frame x rest h long r reads = record {
   received = h.link.received;
   receive_length = h.link.receive_length;
   message_max = h.link.message_max;
+  terms = h.link.terms;
   free = h.link.free;
   lent = h.link.lent;
   told = h.link.told;
@@ -221,6 +223,7 @@ done_takes opened k so_far v frame x rest ready payloads h some long lives r is 
       credits = h.credits;
       reads = refl;
       sinks = sym (open_left k.calls rest f.end k.regions);
+      silent = h.silent;
       payloads = has;
       quiet = λ e. absurd (omega (arith, e, some));
     } in

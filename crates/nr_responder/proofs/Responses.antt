@@ -276,6 +276,7 @@ response_part_keeps opened k s bytes stag to payload h is some none = record {
   received = h.received;
   receive_length = h.receive_length;
   message_max = h.message_max;
+  terms = h.terms;
   free = h.free;
   lent = h.lent;
   told = h.told;

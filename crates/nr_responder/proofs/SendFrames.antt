@@ -78,6 +78,9 @@ send_framed s bytes received free lent deliveries = record {
   reads = s.reads;
   memory = s.memory;
   send_queue = s.send_queue;
+  terms = s.terms;
+  private = s.private;
+  agreed = s.agreed;
   message_max = s.message_max;
 }
 
@@ -107,6 +110,7 @@ part_keeps opened k s bytes payload h is some = record {
       ∙ kept_alike send_max k.received (Untagged false OPCODE_SEND 0 0 0 0 payload);
   receive_length = h.receive_length;
   message_max = h.message_max;
+  terms = h.terms;
   free = free_less (is_begun s.receive_queue.received.begun) (is_begun k.received.begun) s.receive_queue.free (unsent s + length k.calls) opened.granted (begun_fine opened k s h) h.free some;
   lent = h.lent;
   told = append-nil s.receive_queue.deliveries ∙ h.told;
@@ -132,6 +136,7 @@ told_keeps opened k s bytes c stream h is some =
       received = λ i. record { sends = (h.received i).sends + 1; begun = None; requests = (h.received i).requests };
       receive_length = h.receive_length;
       message_max = h.message_max;
+      terms = h.terms;
       free = omega (arith, free, more);
       lent = omega (arith, h.lent, more);
       told = refl;

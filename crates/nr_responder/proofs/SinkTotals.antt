@@ -37,7 +37,7 @@ use Rattle.nr_responder.proofs.HeldSinks.{held_above}
 
 -- ---- As it is opened
 
-first_memory : (credits : ℕ) → (initial_link Responder credits 1).state.memory ≡ initial_memory 1
+first_memory : (credits : ℕ) → (initial_link Responder credits 1 None).state.memory ≡ initial_memory 1
 unfolding initial_link
 first_memory credits = refl
 
@@ -45,7 +45,7 @@ none_held : RegionsHave (initial_memory 1) 0
 unfolding initial_memory
 none_held = sound_initial region_len 1 (omega arith)
 
-pub opened_have : (l : LinkSide) (credits : ℕ) → l ≡ initial_link Responder credits 1 → RegionsHave l.state.memory 0
+pub opened_have : (l : LinkSide) (credits : ℕ) → l ≡ initial_link Responder credits 1 None → RegionsHave l.state.memory 0
 opened_have l credits is = subst (λ (m : RegisteredMemory). RegionsHave m 0) (sym (ap (λ (x : LinkSide). x.state.memory) is ∙ first_memory credits)) none_held
 
 -- ---- A frame

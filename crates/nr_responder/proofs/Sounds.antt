@@ -22,8 +22,8 @@ use Rattle.nr_responder.proofs.Removed.{length_removed, all_removed, all_pushed_
 
 -- with the same counts, and no more lent than before
 pub sound_as : (n m : ℕ) (s t : LinkState) (calls : List Pending) (ready : List Ready) (used : List (List ℕ)) (a b c : ℕ) → m ≤ n → t.receive_queue.lent ≡ s.receive_queue.lent → t.receive_queue.receives ≡ s.receive_queue.receives →
-    t.send_queue.send_ends ≡ s.send_queue.send_ends → QueuesInvariant n s calls ready used a b c → QueuesInvariant m t calls ready used a b c
-sound_as n m s t calls ready used a b c le lent receives ends h = record {
+    t.receive_queue.receive_length ≡ s.receive_queue.receive_length → t.send_queue.send_ends ≡ s.send_queue.send_ends → QueuesInvariant n s calls ready used a b c → QueuesInvariant m t calls ready used a b c
+sound_as n m s t calls ready used a b c le lent receives len ends h = record {
   unsent_is = h.unsent_is ∙ ap (λ (xs : List ℕ). length xs) (sym ends);
   lent = omega (arith, h.lent, lent, le);
   few = h.few;
@@ -32,16 +32,17 @@ sound_as n m s t calls ready used a b c le lent receives ends h = record {
   calls_fit = omega (arith, h.calls_fit, receives);
   ready_fit = omega (arith, h.ready_fit, receives);
   used_fit = omega (arith, h.used_fit, receives);
+  receive_length = len ∙ h.receive_length;
 }
 
 pub sound_step : (s t : LinkState) (calls : List Pending) (ready : List Ready) (used : List (List ℕ)) (a b c : ℕ) → SameCounts s t → QueuesInvariant 0 s calls ready used a b c → QueuesInvariant 0 t calls ready used a b c
-sound_step s t calls ready used a b c same h = sound_as 0 0 s t calls ready used a b c (omega arith) same.lent same.receives same.ends_are h
+sound_step s t calls ready used a b c same h = sound_as 0 0 s t calls ready used a b c (omega arith) same.lent same.receives same.receive_length same.ends_are h
 
 pub sound_ended : (n reason : ℕ) (l m : LinkSide) (calls : List Pending) (ready : List Ready) (used : List (List ℕ)) (a b c : ℕ) → (m ≡ after_call l (Stop reason)) ⊎ (m ≡ after_call l OutOfMemory) →
     QueuesInvariant n l.state calls ready used a b c → QueuesInvariant 0 m.state calls ready used a b c
 sound_ended n reason l m calls ready used a b c is h =
     let same = ended_as l m reason is in
-    sound_as n 0 l.state m.state calls ready used a b c (omega arith) (ap (λ (q : ReceiveQueue). q.lent) same.input.queue) (ap (λ (q : ReceiveQueue). q.receives) same.input.queue) same.ends_are h
+    sound_as n 0 l.state m.state calls ready used a b c (omega arith) (ap (λ (q : ReceiveQueue). q.lent) same.input.queue) (ap (λ (q : ReceiveQueue). q.receives) same.input.queue) (ap (λ (q : ReceiveQueue). q.receive_length) same.input.queue) same.ends_are h
 
 -- an event is delivered: a message lends its receive
 pub sound_told : (l m : LinkSide) (number : ℕ) (invalidated : Option ℕ) (message : List ℕ) (rest : List DeliveredEvent) (calls : List Pending) (ready : List Ready) (used : List (List ℕ)) (a b c : ℕ) → m ≡ after_call l NextEvent →
@@ -58,6 +59,7 @@ sound_told l m number invalidated message rest calls ready used a b c is one h =
       calls_fit = omega (arith, h.calls_fit, ap (λ (q : ReceiveQueue). q.receives) t.queue);
       ready_fit = omega (arith, h.ready_fit, ap (λ (q : ReceiveQueue). q.receives) t.queue);
       used_fit = omega (arith, h.used_fit, ap (λ (q : ReceiveQueue). q.receives) t.queue);
+      receive_length = ap (λ (q : ReceiveQueue). q.receive_length) t.queue ∙ h.receive_length;
     }
 
 pub sound_read : (l m : LinkSide) (calls : List Pending) (ready : List Ready) (used : List (List ℕ)) (a b c : ℕ) → m ≡ after_call l NextEvent → QueuesInvariant 0 l.state calls ready used a b c → QueuesInvariant 0 m.state calls ready used a b c
@@ -72,6 +74,7 @@ sound_read l m calls ready used a b c is h =
       calls_fit = omega (arith, h.calls_fit, ap (λ (q : ReceiveQueue). q.receives) t.queue);
       ready_fit = omega (arith, h.ready_fit, ap (λ (q : ReceiveQueue). q.receives) t.queue);
       used_fit = omega (arith, h.used_fit, ap (λ (q : ReceiveQueue). q.receives) t.queue);
+      receive_length = ap (λ (q : ReceiveQueue). q.receive_length) t.queue ∙ h.receive_length;
     }
 
 -- a Send is queued for the message of a buffer
@@ -91,6 +94,7 @@ sound_sent l m message calls ready used after buf a b c live is whole more h =
       calls_fit = omega (arith, h.calls_fit, ap (λ (x : LinkSide). x.state.receive_queue.receives) now);
       ready_fit = omega (arith, h.ready_fit, ap (λ (x : LinkSide). x.state.receive_queue.receives) now);
       used_fit = omega (arith, h.used_fit, ap (λ (x : LinkSide). x.state.receive_queue.receives) now);
+      receive_length = ap (λ (x : LinkSide). x.state.receive_queue.receive_length) now ∙ h.receive_length;
     }
 
 -- and of one that was made
@@ -114,6 +118,7 @@ sound_pushed s calls later call q ready more used a b c whole is ready_is h =
       calls_fit = h.calls_fit;
       ready_fit = h.ready_fit;
       used_fit = h.used_fit;
+      receive_length = h.receive_length;
     }
 
 -- with the same room
@@ -127,6 +132,7 @@ sound_room_as n s calls ready used a b c d e f first second third h = record {
   calls_fit = omega (arith, h.calls_fit, first);
   ready_fit = omega (arith, h.ready_fit, second);
   used_fit = omega (arith, h.used_fit, third);
+  receive_length = h.receive_length;
 }
 
 -- how many there are at most
@@ -153,6 +159,7 @@ sound_answered s t writes message at call calls later ready more used after a b 
       calls_fit = omega (arith, h.calls_fit, ap (λ (x : LinkState). x.receive_queue.receives) is);
       ready_fit = omega (arith, h.ready_fit, ap (λ (x : LinkState). x.receive_queue.receives) is);
       used_fit = omega (arith, h.used_fit, ap (λ (x : LinkState). x.receive_queue.receives) is);
+      receive_length = ap (λ (x : LinkState). x.receive_queue.receive_length) is ∙ h.receive_length;
     }
   where
     fewer : (xs : List Ready) → 0 < length xs → length (drop 1 xs) + 1 ≡ length xs
@@ -173,7 +180,8 @@ sound_drained s t n calls ready used after a b c later is count bufs room h =
       calls_fit = omega (arith, h.calls_fit, ap (λ (x : LinkState). x.receive_queue.receives) is);
       ready_fit = omega (arith, h.ready_fit, ap (λ (x : LinkState). x.receive_queue.receives) is);
       used_fit = omega (arith, h.used_fit, room, ap (λ (x : LinkState). x.receive_queue.receives) is);
+      receive_length = ap (λ (x : LinkState). x.receive_queue.receive_length) is ∙ h.receive_length;
     }
 
 pub sound_less : (r : ServerEnd) → ServerEndInvariantWith 1 r → ServerEndInvariant r
-sound_less r h = (sound_as 1 0 r.endpoint.link.state r.endpoint.link.state r.calls.items r.ready.items r.used.items _ _ _ (omega arith) refl refl refl h.0, h.1)
+sound_less r h = (sound_as 1 0 r.endpoint.link.state r.endpoint.link.state r.calls.items r.ready.items r.used.items _ _ _ (omega arith) refl refl refl refl h.0, h.1)

@@ -16,6 +16,7 @@ use Rattle.nr_link.specs.Frames.{Frame, is_hello}
 use Rattle.nr_link.specs.Input.{InputState}
 use Rattle.nr_link.specs.ReceiveState.{ReceiveState}
 use Rattle.nr_link.specs.Output.{own_hello}
+use Rattle.nr_reduce.specs.Hellos.{server_hello}
 use Rattle.nr_link.specs.Ending.{frame_end, hello_end}
 use Rattle.nr_endpoint.specs.ReceiveQueue.{DeliveredEvent}
 use Rattle.nr_endpoint.specs.ReceiveQueue.DeliveredEvent.{MessageReceived}
@@ -24,6 +25,7 @@ use Rattle.nr_endpoint.specs.LinkState.{LinkState, LinkSide}
 use Rattle.nr_endpoint.specs.Judging.{next_frame, with_frame, with_peer_hello, with_end_of, reply_hello}
 use Rattle.nr_endpoint.specs.Calls.{after_call}
 use Rattle.nr_endpoint.specs.Calls.Call.{NextEvent, Stop, Send}
+use Rattle.nr_endpoint.proofs.Agreed.{silent_reply}
 use Rattle.nr_reduce.specs.declared.mark.LinkParameters.{LinkParameters}
 use Rattle.nr_reduce.specs.OfferedRegions.{region_grants}
 use Rattle.nr_reduce.specs.Events.RunEvent.{FrameReceived}
@@ -40,7 +42,7 @@ use Rattle.nr_responder.specs.private.Handling.Handled.{Stopped, Refused, Ready,
 use Rattle.nr_responder.proofs.Queues.{hello_queue}
 use Rattle.nr_responder.proofs.Executed.{with_message}
 use Rattle.nr_responder.proofs.SendFrames.{frame_lives, part_framed, last_framed}
-use Rattle.nr_responder.proofs.Frames.{behind, TakesFrame, hello_link, server_later, own_hello_server}
+use Rattle.nr_responder.proofs.Frames.{behind, TakesFrame, hello_link, server_later, own_hello_server, silent_hello}
 use Rattle.nr_responder.proofs.Whole.{part_takes, ready_takes, refused_takes, stopped_takes, told_link, told_framed, whole_message}
 use Rattle.nr_responder.proofs.CallsAtOnce.{complete_takes}
 use Rattle.nr_responder.proofs.CallsRead.{reading_takes}
@@ -52,15 +54,15 @@ use Rattle.nr_responder.proofs.ReadsTaken.{response_part_takes, response_deliver
 -- ---- The hello
 
 hello_server : (opened : LinkParameters) (k : ServerState) (f : Frame) (hello : Hello) → f.at ≡ 0 → hello_of Initiator f.bytes ≡ Ok hello →
-    (next_end_state (server_rules opened) (live k) (FrameReceived f) ≡ live (with_own_hello k)) × (output_for (server_rules opened) (live k) (FrameReceived f) ≡ own_hello Responder)
+    (next_end_state (server_rules opened) (live k) (FrameReceived f) ≡ live (with_own_hello opened k f)) × (output_for (server_rules opened) (live k) (FrameReceived f) ≡ server_hello opened f)
 unfolding server_end server_output server_state_after
 hello_server opened k f hello at reads =
     let first : is_hello f ≡ true = eq-eqb f.at 0 at in
     let none : server_end opened k (FrameReceived f) ≡ None =
     ap (λ (b : Bool). cond b (hello_end (hello_of Initiator f.bytes)) (or_refusal k f (frame_end (server_readiness opened k) (region_grants f.end k.regions) f))) first
     ∙ ap hello_end reads in (
-      ap (λ (e : Option End). next_end_state_by (server_rules opened) k (FrameReceived f) e) none ∙ ap (λ (b : Bool). live (cond b (with_own_hello k) (with_effect k f (frame_effect k f)))) first,
-      ap (λ (e : Option End). output_for_by (server_rules opened) k (FrameReceived f) e) none ∙ ap (λ (b : Bool). cond b (own_hello Responder) (effect_output k (frame_effect k f))) first,
+      ap (λ (e : Option End). next_end_state_by (server_rules opened) k (FrameReceived f) e) none ∙ ap (λ (b : Bool). live (cond b (with_own_hello opened k f) (with_effect k f (frame_effect k f)))) first,
+      ap (λ (e : Option End). output_for_by (server_rules opened) k (FrameReceived f) e) none ∙ ap (λ (b : Bool). cond b (server_hello opened f) (effect_output k (frame_effect k f))) first,
     )
 
 greeted : (opened : LinkParameters) (k : ServerState) (so_far : InputState) (v : ResponderSide) (frame : List ℕ) (hello : Hello) → Keeps opened k so_far v → v.link.state.place ≡ 0 → v.link.state.send_queue.fpdus ≡ [] → 0 < length frame →
@@ -71,25 +73,26 @@ greeted opened k so_far v frame hello h place none some reads =
     let s : LinkState = v.link.state in
     let f : Frame = next_frame s frame in
     let server = hello_server opened k f hello place reads in
-    let keeps : Keeps opened (with_own_hello k) (behind so_far frame) (on_link v (record { awaited = Fpdu; rest = []; state = with_peer_hello f (Ok hello) s })) = record {
-      link = hello_link opened k s frame hello h.link h.server (h.quiet place).1;
+    let keeps : Keeps opened (with_own_hello opened k f) (behind so_far frame) (on_link v (record { awaited = Fpdu; rest = []; state = with_peer_hello f (Ok hello) s })) = record {
+      link = hello_link opened k s frame hello h.silent h.link h.server (h.quiet place).1;
       input = record { awaited = refl; rest = refl; place = ap (λ (n : ℕ). n + length frame) h.input.place };
       begins = AfterHello (omega (arith, some)) refl refl;
-      server = own_hello_server k (s.place + length frame) (server_later k s.place (s.place + length frame) (omega arith) h.server);
+      server = own_hello_server opened k f (s.place + length frame) (server_later k s.place (s.place + length frame) (omega arith) h.server);
       calls = h.calls;
       ready = h.ready;
       credits = h.credits;
       reads = h.reads;
       sinks = h.sinks;
+      silent = h.silent;
       payloads = h.payloads;
       quiet = λ e. absurd (omega (arith, e, some));
     } in
     record {
       keeps = subst (λ (e : EndState ServerState). KeepsEnd opened e (behind so_far frame) (on_link v (record { awaited = Fpdu; rest = []; state = with_peer_hello f (Ok hello) s }))) (sym server.0) (inl (refl, keeps));
       output =
-          ap (λ (side : Side). queued_bytes (with_hello (reply_hello side) s.send_queue)) h.link.side
+          ap (λ (bytes : List ℕ). queued_bytes (with_hello bytes s.send_queue)) (silent_reply s.terms s.side Responder hello.private h.link.terms h.link.side)
           ∙ hello_queue (own_hello Responder) s.send_queue none
-          ∙ ap (λ (bytes : List ℕ). queued_bytes s.send_queue ++ bytes) (sym server.1);
+          ∙ ap (λ (bytes : List ℕ). queued_bytes s.send_queue ++ bytes) (sym (server.1 ∙ silent_hello opened f h.silent));
     }
 
 refused_hello : (s : LinkState) (f : Frame) (reason : ℕ) → (with_peer_hello f (Err reason) s).ended ≢ None

@@ -24,7 +24,8 @@ use Rattle.nr_link.specs.KeptSends.{begun_within, received_within}
 use Rattle.nr_link.specs.SegmentFaults.{is_begun}
 use Rattle.nr_link.proofs.BegunSends.{kept_len_lem}
 use Rattle.nr_wire.specs.Constants.{REASON_FLAGS}
-use Rattle.nr_link.specs.Output.{own_hello, send}
+use Rattle.nr_link.specs.Output.{send}
+use Rattle.nr_reduce.specs.Hellos.{server_hello}
 use Rattle.nr_link.specs.Ending.{frame_end, frame_segment, hello_end, last_output}
 use Rattle.nr_endpoint.specs.ReceiveQueue.{DeliveredEvent, delivered}
 use Rattle.nr_endpoint.specs.ReceiveQueue.DeliveredEvent.{MessageReceived}
@@ -79,11 +80,11 @@ goes_on_lem opened k f s later lives effect fine =
       ends = none;
       next =
           ap (λ (e : Option End). next_end_state_by (server_rules opened) k (FrameReceived f) e) none
-          ∙ ap (λ (b : Bool). live (cond b (with_own_hello k) (with_effect k f (frame_effect k f)))) later
+          ∙ ap (λ (b : Bool). live (cond b (with_own_hello opened k f) (with_effect k f (frame_effect k f)))) later
           ∙ ap (λ (t : FrameEffect). live (with_effect k f t)) effect;
       due =
           ap (λ (e : Option End). output_for_by (server_rules opened) k (FrameReceived f) e) none
-          ∙ ap (λ (b : Bool). cond b (own_hello Responder) (effect_output k (frame_effect k f))) later
+          ∙ ap (λ (b : Bool). cond b (server_hello opened f) (effect_output k (frame_effect k f))) later
           ∙ ap (effect_output k) effect;
     }
 
@@ -126,6 +127,7 @@ part_takes opened k input v frame w queue_number msn offset payload h behind_hel
       credits = h.credits;
       reads = h.reads;
       sinks = h.sinks;
+      silent = h.silent;
       payloads = h.payloads;
       quiet = λ e. absurd (omega (arith, e, behind_hello));
     } in
@@ -206,6 +208,7 @@ ready_takes opened k input v frame w queue_number msn offset payload xid write r
       credits = h.credits;
       reads = h.reads;
       sinks = h.sinks;
+      silent = h.silent;
       payloads = payloads_told k.calls k.reads c stream k.ready v.fetching.payloads refl new h.server.ready h.payloads;
       quiet = λ e. absurd (omega (arith, e, behind_hello));
     } in
@@ -262,6 +265,7 @@ refused_keeps opened k s bytes message h is some =
       received = told_h.received;
       receive_length = told_h.receive_length;
       message_max = told_h.message_max;
+      terms = told_h.terms;
       free = omega (arith, told_h.free, more, one);
       lent = omega (arith, told_h.lent, more, one);
       told = told_h.told;
@@ -326,6 +330,7 @@ refused_takes opened k input v frame w queue_number msn offset payload message h
       credits = h.credits;
       reads = h.reads;
       sinks = h.sinks;
+      silent = h.silent;
       payloads = h.payloads;
       quiet = λ e. absurd (omega (arith, e, behind_hello));
     } in

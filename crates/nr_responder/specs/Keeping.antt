@@ -120,6 +120,7 @@ pub record LinkKeeps (opened : LinkParameters) (k : ServerState) (s : LinkState)
   pub received : s.receive_queue.received ≡ received_within send_max k.received
   pub receive_length : s.receive_queue.receive_length ≡ send_max
   pub message_max : s.message_max ≡ send_max
+  pub terms : s.terms ≡ None
   pub free : s.receive_queue.free + (unsent s + length k.calls + one_if (is_begun k.received.begun)) ≡ opened.granted
   pub lent : s.receive_queue.lent ≡ length k.calls + unsent s
   pub told : s.receive_queue.deliveries ≡ []
@@ -139,6 +140,7 @@ pub record Keeps (opened : LinkParameters) (k : ServerState) (input_now : InputS
   pub credits : v.credits ≡ k.credit
   pub reads : v.fetching.reads ≡ k.reads
   pub sinks : v.fetching.sinks ≡ open_sinks k.regions
+  pub silent : opened.server ≡ None
   pub payloads : ArePayloads k.calls k.ready v.fetching.payloads
   pub quiet : v.link.state.place ≡ 0 → (v.ready ≡ []) × (k.message_ends ≡ [])
 

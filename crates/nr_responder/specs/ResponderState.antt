@@ -2,7 +2,7 @@
 -- those that wait to be executed, in the order in which they became ready; its credits; what it fetches; the whole staging buffer, which
 -- begins with the bytes of the frame that isn't complete; and how many bytes the buffers have that it keeps for payloads of calls that are
 -- read, with those of buffers outside their regions.
-use Rattle.std.specs.Prelude.{◌≡◌, ℕ, ◌+◌, ◌-◌, ◌*◌, max, List, [], ◌++◌, length, drop, Option}
+use Rattle.std.specs.Prelude.{◌≡◌, ℕ, ◌+◌, ◌-◌, ◌*◌, max, List, [], ◌++◌, length, drop, Option, None}
 use Rattle.nr_wire.specs.declared.hello.Side.TheVariants.{Responder}
 use Rattle.nr_link.specs.declared.end.End.{End}
 use Rattle.nr_endpoint.specs.SendQueue.{SendQueue, writable, written}
@@ -26,7 +26,7 @@ pub record ResponderState : Type 0 where
 
 -- the side as it is opened with this number of credits: its first region gets the STag 1
 abbrev pub opened_side : ℕ → ResponderSide
-opened_side credits = record { link = initial_link Responder credits 1; calls = []; ready = []; credits = credits; fetching = nothing_fetched }
+opened_side credits = record { link = initial_link Responder credits 1 None; calls = []; ready = []; credits = credits; fetching = nothing_fetched }
 
 -- A feed changes the staging buffer only in two prefixes: that of the bytes which are staged after it, and that of the frame which the
 -- bytes staged before it begin, as far as it was fed.

@@ -78,8 +78,8 @@ pub record SameInput (l m : LinkSide) : Type 0 where
   pub awaited : m.awaited ≡ l.awaited
   pub rest : (m.rest ≡ l.rest) ⊎ (m.rest ≡ [])
 
--- A receive is lent for each call that is pending, for each Send that hasn't left, and for n more; and there is room for a call and for
--- a buffer of each receive.
+-- A receive is lent for each call that is pending, for each Send that hasn't left, and for n more; there is room for a call and for
+-- a buffer of each receive; and each receive has send_max bytes.
 pub record QueuesInvariant (n : ℕ) (s : LinkState) (calls : List Pending) (ready : List Ready) (used : List (List ℕ)) (calls_room ready_room used_room : ℕ) : Type 0 where
   pub unsent_is : length used ≡ unsent s
   pub lent : length used + length calls + n ≤ s.receive_queue.lent
@@ -89,6 +89,7 @@ pub record QueuesInvariant (n : ℕ) (s : LinkState) (calls : List Pending) (rea
   pub calls_fit : s.receive_queue.receives ≤ calls_room
   pub ready_fit : s.receive_queue.receives ≤ ready_room
   pub used_fit : s.receive_queue.receives ≤ used_room
+  pub receive_length : s.receive_queue.receive_length ≡ send_max
 
 abbrev pub IsRoom : Option ℕ → Type 0
 IsRoom None = ⊥

@@ -9,6 +9,7 @@ ghost use Rattle.nr_wire.specs.Feeding.{bytes_taken};
 ghost use Rattle.nr_wire.specs.Stream.{bytes_needed};
 ghost use Rattle.nr_endpoint.specs.declared.fault.DrainFault.TheVariants as drains;
 ghost use Rattle.nr_endpoint.specs.FedBytes.{fed_bytes};
+ghost use Rattle.nr_reduce.specs.Opening.{ServerOpened};
 ghost use Rattle.nr_reduce.specs.declared.mark.LinkParameters.{LinkParameters};
 ghost use Rattle.nr_reduce.specs.declared.mark.Mark.{Mark};
 ghost use Rattle.nr_reduce.specs.declared.mark.Mark.TheVariants as marks;
@@ -73,7 +74,7 @@ impl Responder {
         ensures live { IfOk result (λ r. end_of r.side ≡ None) }
         ensures fed { IfOk result (λ r. fed_bytes r.side.link ≡ 0) }
         ensures staging { IfOk result (λ r. length r.staging ≡ FPDU_MAX) }
-        ensures stands { IfOk result (λ r. (opened : LinkParameters) (link : ℕ) → opened.granted ≡ credits → ResponderRepresents opened link [] r.side) }
+        ensures stands { IfOk result (λ r. (opened : LinkParameters) (link : ℕ) → ServerOpened opened credits → ResponderRepresents opened link [] r.side) }
     {
         Ok(Responder {
             end: ServerEnd::open(alloc, credits)?,

@@ -16,6 +16,7 @@ ghost use Rattle.nr_endpoint.specs.Calls.Call.{Stop, Send, OutOfMemory};
 ghost use Rattle.std.specs.Result.{result_err};
 ghost use Rattle.nr_wire.specs.declared.hello.Side.TheVariants.{Responder as ResponderSide};
 ghost use Rattle.nr_link.specs.declared.end.End.TheVariants as ends;
+ghost use Rattle.nr_reduce.specs.Opening.{ServerOpened};
 ghost use Rattle.nr_reduce.specs.declared.mark.LinkParameters.{LinkParameters};
 ghost use Rattle.nr_reduce.specs.declared.mark.Mark.{Mark};
 ghost use Rattle.nr_reduce.specs.declared.mark.Mark.TheVariants as marks;
@@ -129,6 +130,7 @@ pub(crate) fn send_error(endpoint: &mut Endpoint, made: Result<Octets, Memory>) 
 fn post_until(endpoint: &mut Endpoint, used: &mut VecDeque<Octets>, left: usize)
     requires left { left ≤ length used.old.items }
     requires lent { length used.old.items ≤ endpoint.old.link.state.receive_queue.lent + left }
+    requires receives { endpoint.old.link.state.receive_queue.receive_length ≡ send_max }
     requires bufs { All (IsReceive send_max) used.old.items }
     ensures posted { endpoint.new.link ≡ posted_times (length used.old.items - left) endpoint.old.link }
     ensures left { length used.new.items ≡ left }
@@ -165,13 +167,13 @@ impl ServerEnd {
         ensures live { IfOk result (λ r. end_of (state_of r) ≡ None) }
         ensures fed { IfOk result (λ r. fed_bytes r.endpoint.link ≡ 0) }
         ensures staging { IfOk result (λ r. length r.endpoint.staging ≡ FPDU_MAX) }
-        ensures stands { IfOk result (λ r. (opened : LinkParameters) (link : ℕ) → opened.granted ≡ credits → ResponderRepresents opened link [] (state_of r)) }
+        ensures stands { IfOk result (λ r. (opened : LinkParameters) (link : ℕ) → ServerOpened opened credits → ResponderRepresents opened link [] (state_of r)) }
         ensures bounded { IfOk result (λ r. KeptFits (state_of r)) }
     {
         let ready = VecDeque::with_capacity(alloc, credits as usize)?;
         let used = VecDeque::with_capacity(alloc, credits as usize)?;
         let calls = Vec::with_capacity(alloc, credits as usize)?;
-        let endpoint = Endpoint::open(alloc, Side::Responder, credits, 1)?;
+        let endpoint = Endpoint::open(alloc, Side::Responder, credits, 1, None)?;
         Ok(ServerEnd {
             endpoint,
             calls,

@@ -366,7 +366,7 @@ all_answered all reads (HandedOver xid outcome ∷ rest) later has =
 all_answered all reads (GivenUp xid ∷ rest) later has = all_answered all reads rest later has
 
 some_parameters : LinkParameters
-some_parameters = record { first_xid = 1; first_stag = 1; wished = 16; granted = 1 }
+some_parameters = record { first_xid = 1; first_stag = 1; wished = 16; granted = 1; client = None; server = None }
 
 some_opened : IsOpened some_parameters
 unfolding some_parameters
@@ -383,4 +383,4 @@ given_by_peer c before dialed s s' input input' out out' result opens prints =
     let I = Rises input.faults input'.faults in
     let O = Rises out.faults out'.faults in
     opened_is (IsAnsweredBy made) Any (PeerEnd c input made I O) c before dialed s s' input input' out out' result opens prints some_parameters 0
-    (peer_judgement c input made I O) (words_give c input made I O) (λ rose. rose) (λ rose. rose) some_opened refl refl refl (all_answered (IsAnsweredBy made) [] made (λ xid call o is handed. absurd is) (λ call o is. is))
+    (peer_judgement c input made I O) (words_give c input made I O) (λ rose. rose) (λ rose. rose) some_opened refl refl (refl, refl) (all_answered (IsAnsweredBy made) [] made (λ xid call o is handed. absurd is) (λ call o is. is))

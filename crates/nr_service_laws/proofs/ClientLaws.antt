@@ -24,7 +24,7 @@ use Rattle.nr_reduce.specs.Plans.{regions_needed}
 use Rattle.nr_reduce.specs.Run.{client, HasWritten, output_due}
 use Rattle.nr_reduce.specs.SubmitAnswer.{next_xid}
 use Rattle.nr_reduce.proofs.Standing.{itself}
-use Rattle.nr_link.specs.Output.{own_hello}
+use Rattle.nr_reduce.specs.Hellos.{client_hello}
 use Rattle.nr_client.specs.Steps.{WholeIfWrote}
 use Rattle.nr_service_laws.specs.ClientMarks.{IsOwn}
 use Rattle.nr_service_laws.specs.ServedCommands.{client_marks, is_client_mark}
@@ -76,7 +76,7 @@ client_same opened link both = ap (λ (es : List RunEvent). end_state_after (cli
 
 due_same : (opened : LinkParameters) (link : ℕ) (both : List Mark) → output_due opened link Initiator both ≡ output_due opened link Initiator (client_marks link both)
 unfolding output_due
-due_same opened link both = ap (λ (es : List RunEvent). own_hello Initiator ++ output_for_all (client_rules opened) (initial_client opened) es) (events_same link both)
+due_same opened link both = ap (λ (es : List RunEvent). client_hello opened ++ output_for_all (client_rules opened) (initial_client opened) es) (events_same link both)
 
 sent_same : (link : ℕ) (both : List Mark) → bytes_sent link Initiator both ≡ bytes_sent link Initiator (client_marks link both)
 unfolding bytes_sent

@@ -9,7 +9,7 @@ use Rattle.nr_reduce.specs.declared.mark.Mark.{Mark}
 use Rattle.nr_reduce.specs.Asked.{IsAll}
 use Rattle.nr_reduce.specs.AtEachMark.{AtEachMark}
 use Rattle.nr_reduce.specs.Matched.{Matched}
-use Rattle.nr_reduce.specs.Opening.{IsOpened}
+use Rattle.nr_reduce.specs.Opening.{IsOpened, ClientOpened}
 use Rattle.nr_reduce.specs.Served.{ServedMark}
 use Rattle.nr_laws.specs.PlainLinks.{HasPlainReplies}
 use Rattle.nr_laws.specs.Typed.{IsTyped}
@@ -44,7 +44,7 @@ pub record IsSession (opened : LinkParameters) : Type 0 where
   pub fine : IsOpened opened
   pub first_xid : opened.first_xid ≡ 1
   pub first_stag : opened.first_stag ≡ 1
-  pub wished : opened.wished ≡ session_credits
+  pub wished : ClientOpened opened session_credits
 
 -- Each end that such a command may have, with its cause: a refusal by the server; a bad path; a limit; out of memory; a read or a write that
 -- failed, whose fault count rose; or the server ended its stream.

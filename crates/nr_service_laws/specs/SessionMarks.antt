@@ -7,7 +7,7 @@ use Rattle.nr_wire.specs.declared.hello.Side.TheVariants.{Initiator}
 use Rattle.nr_reduce.specs.declared.mark.LinkParameters.{LinkParameters}
 use Rattle.nr_reduce.specs.declared.mark.Mark.{Mark}
 use Rattle.nr_reduce.specs.History.{bytes_received, bytes_sent}
-use Rattle.nr_reduce.specs.Opening.{IsOpened}
+use Rattle.nr_reduce.specs.Opening.{IsOpened, ClientOpened}
 use Rattle.nr_requester.specs.RequesterState.{RequesterSide}
 use Rattle.nr_link.specs.declared.end.End.TheVariants as ends
 use Rattle.nr_client.specs.declared.call_end.CallEnd.TheVariants as calls
@@ -103,4 +103,4 @@ MarksGoOn A B =
 abbrev pub SessionsBegin : Type 0
 SessionsBegin =
     (addr : List ℕ) (before after : DialerAt) (s : SessionAt) (opened : LinkParameters) (link : ℕ) →
-    Opens addr before after s → opened.first_xid ≡ 1 → opened.first_stag ≡ 1 → opened.wished ≡ session_credits → IsLive opened link s.requester []
+    Opens addr before after s → opened.first_xid ≡ 1 → opened.first_stag ≡ 1 → ClientOpened opened session_credits → IsLive opened link s.requester []

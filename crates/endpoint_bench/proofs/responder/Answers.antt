@@ -5,4 +5,4 @@ use Rattle.endpoint_bench.proofs.responder.Goals as goal
 pub returns-in-Ok : goal.returns-in-Ok
 returns-in-Ok c =
     register_fed c.in_ok-endpoint.endpoint.link c.register.new.self.link _ _ c.in-Ok.ensures.state
-    ∙ open_fed c.in_ok-endpoint.endpoint.link _ _ _ c.in_ok-endpoint.ensures.state
+    ∙ open_fed c.in_ok-endpoint.endpoint.link _ _ _ _ c.in_ok-endpoint.ensures.state

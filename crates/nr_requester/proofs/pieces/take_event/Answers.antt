@@ -1,20 +1,30 @@
-use Rattle.std.proofs.Common.{ℕ, List, length, ◌<◌, ◌∷◌, take, sym, ap, subst, ◌∙◌}
+use Rattle.std.proofs.Common.{◌≡◌, ℕ, List, length, ◌<◌, ◌∷◌, take, sym, ap, subst, ◌∙◌}
 use Rattle.std.specs.Prelude.{vec_capacity}
 use Rattle.nr_regions.specs.RegisteredMemory.{RegisteredMemory}
 use Rattle.nr_endpoint.specs.LinkState.{LinkSide}
+use Rattle.nr_endpoint.specs.Receives.{HasBuffer}
 use Rattle.nr_endpoint.specs.Views.{delivery}
 use Rattle.nr_endpoint.specs.declared.event.Event.{Event}
 use Rattle.nr_reduce.specs.KeptCalls.{kept_verdict}
 use Rattle.nr_reduce.specs.KeptClient.{bytes_under}
 use Rattle.nr_requester.specs.Judged.{kept_views}
 use Rattle.nr_requester.specs.Fed.{CallsSound}
-use Rattle.nr_requester.proofs.OneMessage.{next_memory, next_ended, next_lent, message_waits, judged_quiet}
+use Rattle.nr_requester.proofs.OneMessage.{next_memory, next_ended, next_receives, next_lent, message_waits, judged_quiet}
 use Rattle.nr_requester.proofs.Steps.{message_told}
 use Rattle.nr_requester.proofs.FedBounds.{next_bounded, same_bounded}
 use Rattle.nr_requester.proofs.pieces.take_event.Goals as goal
 
 pub take_message-requires-clause-live : goal.take_message-requires-clause-live
 take_message-requires-clause-live c = ap (λ (l : LinkSide). l.state.ended) c.in-Some-Message.ensures.state ∙ (next_ended c.args.endpoint.now.link ∙ c.requires.ready.live)
+
+pub take_message-requires-clause-receives : goal.take_message-requires-clause-receives
+take_message-requires-clause-receives c =
+    ap (λ (l : LinkSide). l.state.receive_queue.receive_length) c.in-Some-Message.ensures.state ∙ (next_receives c.args.endpoint.now.link ∙ c.requires.receives)
+
+pub take_message-requires-clause-buf : goal.take_message-requires-clause-buf
+take_message-requires-clause-buf c =
+    (subst (λ (e : Event). HasBuffer c.next_event.new.self.link.state.receive_queue.receive_length e) c.in-Some-Message.field-0-is c.in-Some-Message.ensures.buffer).0
+    ∙ take_message-requires-clause-receives c
 
 pub take_message-requires-clause-lent : goal.take_message-requires-clause-lent
 take_message-requires-clause-lent c =

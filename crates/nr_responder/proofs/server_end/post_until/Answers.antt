@@ -1,8 +1,15 @@
-use Rattle.std.proofs.Common.{ℕ, suc, List, length, get_or, ap, subst, ◌∙◌, arith}
+use Rattle.std.proofs.Common.{ℕ, suc, List, [], length, get_or, sym, ap, subst, ◌∙◌, arith}
 use Rattle.nr_link.specs.Limits.{send_max}
+use Rattle.nr_endpoint.specs.LinkState.{LinkSide}
 use Rattle.nr_endpoint.specs.Receives.{IsReceive}
 use Rattle.nr_responder.proofs.Posted.{post_more}
 use Rattle.nr_responder.proofs.server_end.post_until.Goals as goal
+
+pub post-requires-clause-len : goal.post-requires-clause-len
+post-requires-clause-len c =
+    subst (λ (xs : List (List ℕ)). IsReceive send_max (get_or xs 0 [])) c.in-Some.ensures.items
+    (c.posts.invariant.bufs 0 [] (omega (arith, ap (λ (xs : List (List ℕ)). length xs) c.in-Some.ensures.items)))
+    ∙ sym (ap (λ (l : LinkSide). l.state.receive_queue.receive_length) c.posts.invariant.link ∙ c.requires.receives)
 
 pub posts-preserved : goal.posts-preserved
 posts-preserved c = record {

@@ -8,7 +8,7 @@ use Rattle.nr_endpoint.proofs.link.LinkSide.apply_request.Goals as goal
 
 pub invariant_of-self-2 : goal.invariant_of-self-2
 invariant_of-self-2 c =
-    rw c.count_request.ensures (counted_request c.self.inside.has_hello c.self.inside.receive_queue c.self.inside.place c.self.inside.message_max (length c.args.frame.now) c.self.invariant (omega (arith, c.requires.some)))
+    rw c.count_request.ensures (counted_request c.self.inside.terms c.self.inside.has_hello c.self.inside.receive_queue c.self.inside.place c.self.inside.message_max (length c.args.frame.now) c.self.invariant (omega (arith, c.requires.some)))
 
 pub returns-clause-ok : goal.returns-clause-ok
 returns-clause-ok c =
@@ -22,6 +22,9 @@ returns-clause-ok c =
       reads = map expected c.self.inside.reads.items;
       memory = c.self.inside.regions.memory;
       send_queue = c.self.inside.send_queue;
+      terms = c.self.inside.terms;
+      private = c.self.inside.private.items;
+      agreed = c.self.inside.agreed;
       message_max = c.self.inside.message_max;
     } in
     rw (← c.self.view_is) (took_request s c.count_request.new.self c.respond.new.self (read_request_view c.read_request-request.result) c.in-Ok.bytes.now c.args.payload.now c.args.frame.now

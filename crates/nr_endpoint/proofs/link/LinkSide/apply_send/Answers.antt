@@ -12,7 +12,7 @@ receive-requires-clause-fits c = λ is.
 
 pub invariant_of-self : goal.invariant_of-self
 invariant_of-self c =
-    rw c.receive.ensures (counted_send c.self.inside.has_hello c.self.inside.receive_queue c.args.last c.args.payload.now c.self.inside.place c.self.inside.message_max _ c.self.invariant c.requires.size)
+    rw c.receive.ensures (counted_send c.self.inside.terms c.self.inside.has_hello c.self.inside.receive_queue c.args.last c.args.payload.now c.self.inside.place c.self.inside.message_max _ c.self.invariant c.requires.size)
 
 pub returns-clause-state : goal.returns-clause-state
 returns-clause-state c =

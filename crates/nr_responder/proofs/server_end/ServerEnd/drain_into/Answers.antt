@@ -29,6 +29,12 @@ post_until-requires-clause-lent g c =
     let q = drained_queues c.args.self.now.endpoint.link c.drain_into-result.new.self.link t.0 t.3 in
     omega (arith, ap (λ (x : ReceiveQueue). x.lent) q.0, c.requires.sound.0.lent)
 
+pub post_until-requires-clause-receives : goal.post_until-requires-clause-receives
+post_until-requires-clause-receives g c =
+    let t = c.drain_into-result.ensures.taken in
+    let q = drained_queues c.args.self.now.endpoint.link c.drain_into-result.new.self.link t.0 t.3 in
+    ap (λ (x : ReceiveQueue). x.receive_length) q.0 ∙ c.requires.sound.0.receive_length
+
 pub returns-clause-taken : goal.returns-clause-taken
 returns-clause-taken g c =
     let t = c.drain_into-result.ensures.taken in

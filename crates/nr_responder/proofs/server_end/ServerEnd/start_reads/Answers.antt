@@ -37,6 +37,7 @@ run_out-requires c = record {
   sound = (
     sound_as 1 0 c.args.self.now.endpoint.link.state c.begin_reads.new.endpoint.link.state c.args.self.now.calls.items c.args.self.now.ready.items c.args.self.now.used.items _ _ _ (omega arith)
         (ap (λ (l : LinkSide). l.state.receive_queue.lent) c.in-Err.ensures.err.0) (ap (λ (l : LinkSide). l.state.receive_queue.receives) c.in-Err.ensures.err.0)
+        (ap (λ (l : LinkSide). l.state.receive_queue.receive_length) c.in-Err.ensures.err.0)
         (ap (λ (l : LinkSide). l.state.send_queue.send_ends) c.in-Err.ensures.err.0) c.requires.sound.0,
     kept_fetched c.args.self.now.endpoint c.begin_reads.new.endpoint c.args.self.now.reads.items c.begin_reads.new.reads.items c.args.self.now.calls.items c.args.self.now.sinks.items c.begin_reads.new.sinks.items c.in-Err.ensures.err.0 c.in-Err.ensures.outside_err
         c.in-Err.ensures.err.1.0 c.in-Err.ensures.err.1.1 c.requires.sound.1,

@@ -1,0 +1,70 @@
+//! What the hello of a side says in its private data, and what is agreed by the hellos of both (RFC 5044 section 7.1; what they say is own).
+
+ghost use Rattle.std.specs.Prelude.{◌≡◌, ◌≤◌};
+ghost use Rattle.arrayvec.specs.ArrayVec.{array_vec_len};
+ghost use Rattle.nr_wire.specs.Constants.{NUMBERED_TERMS_LEN};
+ghost use Rattle.nr_endpoint.specs.Hellos.{own_private, first_private, side_agreement, received_max, receive_length_for};
+
+use crate::constants::SEND_MAX;
+use arrayvec::ArrayVec;
+use nr_link::{Agreement, SideTerms};
+use nr_wire::Side;
+use nr_wire::constants::{NUMBERED_TERMS_LEN, UNITS_MAX};
+
+/// The private data that a hello with terms has.
+pub type Private = ArrayVec<u8, NUMBERED_TERMS_LEN>;
+
+/// The private data of a side's hello, by that of its peer's, to which a responder answers. A side without terms has none.
+pub fn own_private(terms: Option<SideTerms>, side: Side, heard: &[u8]) -> Private
+    ensures bytes { result.items ≡ own_private terms side heard.now }
+    ensures len { array_vec_len result ≤ NUMBERED_TERMS_LEN }
+{
+    let Some(terms) = terms else {
+        return ArrayVec::new();
+    };
+    match side {
+        Side::Initiator => terms.initiator_private(),
+        Side::Responder => terms.responder_private(heard),
+    }
+}
+
+/// What a side has said as it is opened: a responder has said nothing.
+pub fn first_private(terms: Option<SideTerms>, side: Side) -> Private
+    ensures bytes { result.items ≡ first_private terms side }
+    ensures len { array_vec_len result ≤ NUMBERED_TERMS_LEN }
+{
+    match side {
+        Side::Initiator => own_private(terms, side, &[]),
+        Side::Responder => ArrayVec::new(),
+    }
+}
+
+/// What is agreed, by a side's private data and by its peer's.
+pub fn side_agreement(side: Side, own: &[u8], heard: &[u8]) -> Agreement
+    ensures { result ≡ side_agreement side own.now heard.now }
+{
+    match side {
+        Side::Initiator => Agreement::new(own, heard),
+        Side::Responder => Agreement::new(heard, own),
+    }
+}
+
+/// The maximum length of a message that a side receives, in bytes.
+pub fn received_max(side: Side, agreed: Agreement) -> u32
+    ensures { result ≡ received_max side agreed }
+{
+    match side {
+        Side::Initiator => agreed.down,
+        Side::Responder => agreed.up,
+    }
+}
+
+/// The length of each receive of a side with these terms, in bytes.
+pub fn receive_length(terms: Option<SideTerms>) -> usize
+    ensures { result ≡ receive_length_for terms }
+{
+    match terms {
+        None => SEND_MAX,
+        Some(terms) => SEND_MAX * usize::from(terms.units.max(1).min(UNITS_MAX)),
+    }
+}
