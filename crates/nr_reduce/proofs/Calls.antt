@@ -95,7 +95,7 @@ hello_sends opened k f hello none = (
   ap (λ (o : Option Stop). output_for_by (client_rules opened) k (FrameReceived f) o) none
       ∙ ap (λ (b : Bool). cond b (calls_output opened 1 k.outstanding) (response_output k f.end (segment_request (frame_segment f)))) hello,
   ap (λ (o : Option Stop). (next_end_state_by (client_rules opened) k (FrameReceived f) o).state.has_hello) none
-      ∙ ap (λ (b : Bool). (cond b (with_hello opened k) (with_segment k f (frame_segment f))).has_hello) hello,
+      ∙ ap (λ (b : Bool). (cond b (with_hello opened k f) (with_segment k f (frame_segment f))).has_hello) hello,
 )
 
 -- ---- An Execute

@@ -132,7 +132,7 @@ client_writes opened k (FrameReceived f) = by (is_hello f)
     by_segment (Err reason) = omega arith
     by_segment (Ok segment) = by_message (message_completed k.received segment) (due_with_response k f segment) (read_request_of segment)
 
-    by : (b : Bool) → (cond b (with_hello opened k) (with_segment k f (frame_segment f))).written ≡ k.written + 0
+    by : (b : Bool) → (cond b (with_hello opened k f) (with_segment k f (frame_segment f))).written ≡ k.written + 0
     by true = omega arith
     by false = by_segment (frame_segment f)
 client_writes opened k (CallSubmitted place a) = omega arith
@@ -170,7 +170,7 @@ first_kept_lem opened k (FrameReceived f) h = by (is_hello f)
     by_segment (Err reason) = h
     by_segment (Ok segment) = by_message (message_completed k.received segment) (due_with_response k f segment) (read_request_of segment)
 
-    by : (b : Bool) → (cond b (with_hello opened k) (with_segment k f (frame_segment f))).first_xid ≡ opened.first_xid
+    by : (b : Bool) → (cond b (with_hello opened k f) (with_segment k f (frame_segment f))).first_xid ≡ opened.first_xid
     by true = h
     by false = by_segment (frame_segment f)
 first_kept_lem opened k (CallSubmitted place a) h = h

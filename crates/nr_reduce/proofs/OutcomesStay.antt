@@ -36,7 +36,7 @@ outcome_kept opened c k (FrameReceived f) h = by (is_hello f)
     by_segment (Err reason) = h
     by_segment (Ok segment) = by_message (message_completed k.received segment) (due_with_response k f segment) (read_request_of segment)
 
-    by : (b : Bool) → Contains (cond b (with_hello opened k) (with_segment k f (frame_segment f))).outcomes c
+    by : (b : Bool) → Contains (cond b (with_hello opened k f) (with_segment k f (frame_segment f))).outcomes c
     by true = h
     by false = by_segment (frame_segment f)
 outcome_kept opened c k (CallSubmitted place a) h = h

@@ -189,7 +189,7 @@ client_sends opened k (FrameReceived f) = by (is_hello f)
     by_segment (Err reason) = sym (append-nil k.send_ends)
     by_segment (Ok segment) = by_request (message_completed k.received segment) (due_with_response k f segment) (read_request_of segment)
 
-    by : (b : Bool) → (cond b (with_hello opened k) (with_segment k f (frame_segment f))).send_ends
+    by : (b : Bool) → (cond b (with_hello opened k f) (with_segment k f (frame_segment f))).send_ends
         ≡ k.send_ends ++ item_ends is_send_item k.due (cond b (sent_call_items opened 1 k.outstanding) (response_items k f.end (segment_request (frame_segment f))))
     by true = ap (λ (ends : List ℕ). k.send_ends ++ ends) (calls_end opened k.due 1 k.outstanding)
     by false = by_segment (frame_segment f)
@@ -219,7 +219,7 @@ client_responses opened k (FrameReceived f) = by (is_hello f)
     by_segment (Err reason) = sym (append-nil k.response_ends)
     by_segment (Ok segment) = by_request (message_completed k.received segment) (read_request_of segment)
 
-    by : (b : Bool) → (cond b (with_hello opened k) (with_segment k f (frame_segment f))).response_ends
+    by : (b : Bool) → (cond b (with_hello opened k f) (with_segment k f (frame_segment f))).response_ends
         ≡ k.response_ends ++ item_ends is_response_item k.due (cond b (sent_call_items opened 1 k.outstanding) (response_items k f.end (segment_request (frame_segment f))))
     by true = sym (append-nil k.response_ends) ∙ ap (λ (ends : List ℕ). k.response_ends ++ ends) (sym (no_responses opened k.due 1 k.outstanding))
     by false = by_segment (frame_segment f)

@@ -1,5 +1,5 @@
--- The limits of Sends in each reachable state are those of its opening.
-use Rattle.std.proofs.Common.{◌≡◌, ℕ, Bool, true, false, cond, List, Option, None, Some, Result, Ok, Err, refl, sym, ◌∙◌}
+-- The limits of Sends in each reachable state are from one unit to UNITS_MAX of them.
+use Rattle.std.proofs.Common.{◌≡◌, ℕ, Bool, true, false, cond, List, Option, None, Some, Result, Ok, Err, refl, sym, ◌∙◌, arith}
 use Rattle.nr_wire.specs.declared.hello.Side.TheVariants.{Initiator, Responder}
 use Rattle.nr_wire.specs.Segment.{Segment}
 use Rattle.nr_link.specs.Frames.{Frame, is_hello}
@@ -10,6 +10,9 @@ use Rattle.nr_reduce.specs.declared.mark.LinkParameters.{LinkParameters}
 use Rattle.nr_reduce.specs.declared.call.Call.{Call}
 use Rattle.nr_reduce.specs.declared.call.Form.{Form}
 use Rattle.nr_reduce.specs.declared.outline.Plan.{Plan}
+use Rattle.nr_link.specs.Agreement.{IsSendLimit}
+use Rattle.nr_link.proofs.Agreements.{agreements_bounded}
+use Rattle.nr_reduce.specs.Hellos.{client_private, private_of, server_private, client_agreement, server_agreement}
 use Rattle.nr_reduce.specs.Limits.{send_max}
 use Rattle.nr_reduce.specs.Plans.{TooLarge, plan_of}
 use Rattle.nr_reduce.specs.Events.{RunEvent, events}
@@ -23,13 +26,16 @@ use Rattle.nr_reduce.specs.ServerFrames.{frame_effect}
 use Rattle.nr_reduce.specs.Run.{client, server}
 use Rattle.nr_reduce.proofs.OwnStags.{kept_after}
 
+one_unit : IsSendLimit send_max
+one_unit = (omega arith, omega arith)
+
 pub record ClientLimits (k : ClientState) : Type 0 where
-  pub up : k.up_max ≡ send_max
-  pub down : k.down_max ≡ send_max
+  pub up : IsSendLimit k.up_max
+  pub down : IsSendLimit k.down_max
 
 pub record ServerLimits (k : ServerState) : Type 0 where
-  pub up : k.up_max ≡ send_max
-  pub down : k.down_max ≡ send_max
+  pub up : IsSendLimit k.up_max
+  pub down : IsSendLimit k.down_max
 
 request_limits : (m : ClientState) (due : ℕ) (o : Option ReadRequest) → ClientLimits m → ClientLimits (with_request m due o)
 request_limits m due None h = h
@@ -46,11 +52,11 @@ segment_limits k f (Ok s) h =
     record { up = m.up; down = m.down }
 
 client_event : (opened : LinkParameters) (k : ClientState) (e : RunEvent) → ClientLimits k → ClientLimits (client_state_after opened k e)
-unfolding client_state_after
+unfolding client_state_after client_agreement
 client_event opened k (FrameReceived f) h = by (is_hello f)
   where
-    by : (b : Bool) → ClientLimits (cond b (with_hello opened k) (with_segment k f (frame_segment f)))
-    by true = record { up = h.up; down = h.down }
+    by : (b : Bool) → ClientLimits (cond b (with_hello opened k f) (with_segment k f (frame_segment f)))
+    by true = (let a = agreements_bounded (client_private opened) (private_of f) in record { up = a.0; down = a.1 })
     by false = segment_limits k f (frame_segment f) h
 client_event opened k (CallSubmitted p a) h = record { up = h.up; down = h.down }
 client_event opened k (MemoryRevoked p xid) h = record { up = h.up; down = h.down }
@@ -58,18 +64,18 @@ client_event opened k (CallExecuted e) h = h
 client_event opened k (QueueWritten taken) h = record { up = h.up; down = h.down }
 
 pub client_limits : (opened : LinkParameters) (es : List RunEvent) → ClientLimits (end_state_after (client_rules opened) (initial_client opened) es).state
-client_limits opened es = kept_after (client_rules opened) ClientLimits (client_event opened) (initial_client opened) es (record { up = refl; down = refl })
+client_limits opened es = kept_after (client_rules opened) ClientLimits (client_event opened) (initial_client opened) es (record { up = one_unit; down = one_unit })
 
 pub client_limits_of : (opened : LinkParameters) (link : ℕ) (run : List Mark) → ClientLimits (client opened link run).state
 unfolding client
 client_limits_of opened link run = client_limits opened (events link Initiator run)
 
 pub server_event : (opened : LinkParameters) (k : ServerState) (e : RunEvent) → ServerLimits k → ServerLimits (server_state_after opened k e)
-unfolding server_state_after
+unfolding server_state_after server_agreement
 server_event opened k (FrameReceived f) h = by (is_hello f)
   where
     by : (b : Bool) → ServerLimits (cond b (with_own_hello opened k f) (with_effect k f (frame_effect k f)))
-    by true = record { up = h.up; down = h.down }
+    by true = (let a = agreements_bounded (private_of f) (server_private opened f) in record { up = a.0; down = a.1 })
     by false = record { up = h.up; down = h.down }
 server_event opened k (CallSubmitted p a) h = h
 server_event opened k (MemoryRevoked p xid) h = h
@@ -77,16 +83,13 @@ server_event opened k (CallExecuted e) h = record { up = h.up; down = h.down }
 server_event opened k (QueueWritten taken) h = record { up = h.up; down = h.down }
 
 pub server_limits : (opened : LinkParameters) (es : List RunEvent) → ServerLimits (end_state_after (server_rules opened) (initial_server opened) es).state
-server_limits opened es = kept_after (server_rules opened) ServerLimits (server_event opened) (initial_server opened) es (record { up = refl; down = refl })
+server_limits opened es = kept_after (server_rules opened) ServerLimits (server_event opened) (initial_server opened) es (record { up = one_unit; down = one_unit })
 
 pub server_limits_of : (opened : LinkParameters) (link : ℕ) (run : List Mark) → ServerLimits (server opened link run).state
 unfolding server
 server_limits_of opened link run = server_limits opened (events link Responder run)
 
 -- the plan of a call goes by these limits
-pub limited_plan : (k : ClientState) (xid : ℕ) (call : Call) (form : Form) (r : Result Plan TooLarge) → ClientLimits k → plan_for k xid call form ≡ r → plan_of (call_payload xid call) form send_max send_max ≡ r
+pub limited_plan : (k : ClientState) (xid : ℕ) (call : Call) (form : Form) (r : Result Plan TooLarge) → plan_for k xid call form ≡ r → plan_of (call_payload xid call) form k.up_max k.down_max ≡ r
 unfolding plan_for
-limited_plan k xid call form r l e =
-    let up = sym l.up in
-    let down = sym l.down in
-    (λ i. plan_of (call_payload xid call) form (up i) (down i)) ∙ e
+limited_plan k xid call form r e = e

@@ -141,8 +141,8 @@ numbers_after : (opened : LinkParameters) (k : ClientState) (event : RunEvent) �
 unfolding client_state_after
 numbers_after opened k (FrameReceived f) h = by (is_hello f)
   where
-    by : (b : Bool) → ClientNumbers opened (cond b (with_hello opened k) (with_segment k f (frame_segment f)))
-    by true = numbers_same opened k (with_hello opened k) refl refl h
+    by : (b : Bool) → ClientNumbers opened (cond b (with_hello opened k f) (with_segment k f (frame_segment f)))
+    by true = numbers_same opened k (with_hello opened k f) refl refl h
     by false = numbers_segment opened k f (frame_segment f) h
 numbers_after opened k (CallSubmitted place a) h =
     let p : Plan = (outstanding_of k a).plan in

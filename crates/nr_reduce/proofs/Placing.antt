@@ -97,7 +97,7 @@ segment_accepted k f (Err reason) = refl
 segment_accepted k f (Ok segment) =
     by_request (with_message k f.end (message_completed k.received segment)) (due_with_response k f segment) (read_request_of segment) ∙ by_message k f.end (message_completed k.received segment)
 
-by_frame : (opened : LinkParameters) (k : ClientState) (f : Frame) (b : Bool) → k.calls_accepted ≤ (cond b (with_hello opened k) (with_segment k f (frame_segment f))).calls_accepted
+by_frame : (opened : LinkParameters) (k : ClientState) (f : Frame) (b : Bool) → k.calls_accepted ≤ (cond b (with_hello opened k f) (with_segment k f (frame_segment f))).calls_accepted
 by_frame opened k f true = omega arith
 by_frame opened k f false = (let e = segment_accepted k f (frame_segment f) in omega (arith, e))
 

@@ -127,8 +127,8 @@ chunk_after : (opened : LinkParameters) (stag : ℕ) (bytes : List ℕ) (k : Cli
 unfolding client_state_after
 chunk_after opened stag bytes k (FrameReceived f) h = by (is_hello f)
   where
-    by : (b : Bool) → KeepsChunk stag bytes (cond b (with_hello opened k) (with_segment k f (frame_segment f)))
-    by true = chunk_same stag bytes k (with_hello opened k) refl refl h
+    by : (b : Bool) → KeepsChunk stag bytes (cond b (with_hello opened k f) (with_segment k f (frame_segment f)))
+    by true = chunk_same stag bytes k (with_hello opened k f) refl refl h
     by false = chunk_segment stag bytes k f (frame_segment f) h
 chunk_after opened stag bytes k (CallSubmitted place a) h =
     let p : Plan = (outstanding_of k a).plan in

@@ -61,7 +61,7 @@ stag_after : (opened : LinkParameters) (k : ClientState) (event : RunEvent) → 
 unfolding client_state_after
 stag_after opened k (FrameReceived f) h = by (is_hello f)
   where
-    by : (b : Bool) → (cond b (with_hello opened k) (with_segment k f (frame_segment f))).stag ≡ k.stag
+    by : (b : Bool) → (cond b (with_hello opened k f) (with_segment k f (frame_segment f))).stag ≡ k.stag
     by true = refl
     by false = by_segment k f (frame_segment f)
 stag_after opened k (CallSubmitted place a) h = absurd h

@@ -19,7 +19,8 @@ use Rattle.nr_reduce.specs.Events.RunEvent.{CallSubmitted}
 use Rattle.nr_reduce.specs.ClientState.{OutstandingCall, ClientState, call_payload, plan_for}
 use Rattle.nr_reduce.specs.Client.{client_end, client_state_after, outstanding_of, plan_or, region_of, with_hello, call_ends, submitted_ends}
 use Rattle.nr_reduce.specs.KeptCalls.{KeptCall, IsKeptCall, AreKept}
-use Rattle.nr_reduce.specs.KeptClient.{CallsKeep, MemoryKeeps, HoldsFor, IsOwned, IsRegionOpen, IsAmong, AreRising, AreBelow, OpensFor, registered_all, kept_placed, sent_kept, kept_sent, kept_of, kept_submitted}
+use Rattle.nr_reduce.specs.Hellos.{client_agreement}
+use Rattle.nr_reduce.specs.KeptClient.{kept_greeted, CallsKeep, MemoryKeeps, HoldsFor, IsOwned, IsRegionOpen, IsAmong, AreRising, AreBelow, OpensFor, registered_all, kept_placed, sent_kept, kept_sent, kept_of, kept_submitted}
 use Rattle.nr_reduce.specs.StandingLaws.{KeptPlaces, KeptWrites, KeptGreets, KeptSubmits}
 use Rattle.nr_reduce.proofs.MemorySteps.{holds_access, received_one, offered_later}
 use Rattle.nr_reduce.proofs.Releasing.{keeps_live}
@@ -156,14 +157,15 @@ kept_writes opened kept k count taken keeps =
 -- ---- The server's hello
 
 pub kept_greets : KeptGreets
-kept_greets opened kept k count keeps within =
+unfolding kept_greeted
+kept_greets opened kept k f count keeps within =
     let later : AllByRecursion (λ end. k.written < end) (call_ends opened k.due 1 k.outstanding) = calls_later opened k.written k.due 1 k.outstanding within in
     let calls : CallsKeep kept.calls kept.next_xid k = keeps.calls refl in
     let memory : MemoryKeeps kept.memory k count = keeps.memory refl in
-    keeps_live opened kept (with_hello opened k) count keeps.ended keeps.xid keeps.grant keeps.up keeps.down keeps.outstanding keeps.accesses
+    keeps_live opened (kept_greeted kept (client_agreement opened f)) (with_hello opened k f) count keeps.ended keeps.xid keeps.grant refl refl keeps.outstanding keeps.accesses
     (record { next = memory.next; offered = memory.offered; holds = memory.holds; below = memory.below })
     (record {
-      kept = kept_stay k (with_hello opened k) kept.calls k.outstanding (record { first = refl; left = left_append k.written k.send_ends (call_ends opened k.due 1 k.outstanding) later }) calls.kept;
+      kept = kept_stay k (with_hello opened k f) kept.calls k.outstanding (record { first = refl; left = left_append k.written k.send_ends (call_ends opened k.due 1 k.outstanding) later }) calls.kept;
       rising = calls.rising;
       owned = calls.owned;
       opens = calls.opens;

@@ -74,7 +74,7 @@ pub kept_takes : KeptTakes
 unfolding client_state_after
 kept_takes opened kept k count f segment keeps lt other is lives =
     subst (λ (x : Option End). ClientKeeps opened (kept_received kept k.received f segment) (next_end_state_by (client_rules opened) k (FrameReceived f) x) f.end) (sym lives)
-    (subst (λ (b : Bool). ClientKeeps opened (kept_received kept k.received f segment) (live (cond b (with_hello opened k) (with_segment k f (frame_segment f)))) f.end) (sym other)
+    (subst (λ (b : Bool). ClientKeeps opened (kept_received kept k.received f segment) (live (cond b (with_hello opened k f) (with_segment k f (frame_segment f)))) f.end) (sym other)
     (subst (λ (r : Result Segment ℕ). ClientKeeps opened (kept_received kept k.received f segment) (live (with_segment k f r)) f.end) (sym is)
     (segment_keeps opened kept k count f segment keeps lt)))
 

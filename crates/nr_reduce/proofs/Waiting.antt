@@ -139,7 +139,7 @@ unfolding client_end client_state_after
 frame_waits opened accepted k f stays w = by (is_hello f) stays
   where
     by : (b : Bool) → cond b (hello_end (hello_of Responder f.bytes)) (or_message_end k f (frame_end (client_readiness k) (region_grants f.end k.regions) f)) ≡ None
-        → Waits opened accepted (cond b (with_hello opened k) (with_segment k f (frame_segment f)))
+        → Waits opened accepted (cond b (with_hello opened k f) (with_segment k f (frame_segment f)))
     by true e = λ hello. absurd cc
     by false e = λ hello. by_hello k.has_hello refl hello
       where

@@ -92,7 +92,7 @@ pub client_ends : (opened : LinkParameters) (k : ClientState) (event : RunEvent)
 unfolding client_state_after
 client_ends opened k (FrameReceived f) h = by (is_hello f)
   where
-    by : (b : Bool) → ClientEnds (cond b (with_hello opened k) (with_segment k f (frame_segment f)))
+    by : (b : Bool) → ClientEnds (cond b (with_hello opened k f) (with_segment k f (frame_segment f)))
     by true = record {
       sends = within_append (k.due + length (calls_output opened 1 k.outstanding)) k.send_ends (call_ends opened k.due 1 k.outstanding)
           (within_more k.due (k.due + length (calls_output opened 1 k.outstanding)) k.send_ends (omega arith) h.sends) (calls_within opened k.due 1 k.outstanding);
@@ -174,7 +174,7 @@ client_due opened k (FrameReceived f) = by (is_hello f)
     by_segment (Err reason) = omega arith
     by_segment (Ok segment) = by_request (message_completed k.received segment) (due_with_response k f segment) (read_request_of segment) refl
 
-    by : (b : Bool) → (cond b (with_hello opened k) (with_segment k f (frame_segment f))).due ≡ k.due + length (cond b (calls_output opened 1 k.outstanding) (response_output k f.end (segment_request (frame_segment f))))
+    by : (b : Bool) → (cond b (with_hello opened k f) (with_segment k f (frame_segment f))).due ≡ k.due + length (cond b (calls_output opened 1 k.outstanding) (response_output k f.end (segment_request (frame_segment f))))
     by true = refl
     by false = by_segment (frame_segment f)
 client_due opened k (CallSubmitted place a) = refl

@@ -19,6 +19,7 @@ use Rattle.nr_link.specs.Ending.{tagged_access, frame_segment, frame_end, hello_
 use Rattle.nr_regions.specs.declared.denied.Denied.{Denied}
 use Rattle.nr_reduce.specs.OfferedRegions.{Region, region_grants, regions_closed}
 use Rattle.nr_reduce.specs.Events.{RunEvent}
+use Rattle.nr_reduce.specs.Hellos.{client_agreement}
 use Rattle.nr_reduce.specs.EndRules.{EndMachine, EndState}
 use Rattle.nr_reduce.specs.Events.RunEvent.{FrameReceived, CallSubmitted, MemoryRevoked, CallExecuted, QueueWritten}
 use Rattle.nr_reduce.specs.ClientState.{OutstandingCall, ClientState, initial_client_state, responses_owed, call_payload, plan_for, client_memory_at}
@@ -158,19 +159,21 @@ call_ends opened due msn [] = []
 call_ends opened due msn (o ∷ others) =
     (due + length (call_output opened msn o)) ∷ call_ends opened (due + length (call_output opened msn o)) (msn + 1) others
 
--- the server's hello makes the Sends of the calls due that were accepted before it
-abbrev pub with_hello : LinkParameters → ClientState → ClientState
-with_hello opened k = record k {
+-- the server's hello makes the Sends of the calls due that were accepted before it, and says what is agreed
+abbrev pub with_hello : LinkParameters → ClientState → Frame → ClientState
+with_hello opened k f = record k {
   has_hello = true;
   due = k.due + length (calls_output opened 1 k.outstanding);
   send_ends = k.send_ends ++ call_ends opened k.due 1 k.outstanding;
+  up_max = (client_agreement opened f).up;
+  down_max = (client_agreement opened f).down;
 }
 
 abbrev pub submitted_ends : LinkParameters → ClientState → AcceptedCall → List ℕ
 submitted_ends opened k a = if k.has_hello then (k.due + length (submitted_output opened k a)) ∷ [] else []
 
 unfoldable pub client_state_after : LinkParameters → ClientState → RunEvent → ClientState
-client_state_after opened k (FrameReceived f) = if is_hello f then with_hello opened k else with_segment k f (frame_segment f)
+client_state_after opened k (FrameReceived f) = if is_hello f then with_hello opened k f else with_segment k f (frame_segment f)
 client_state_after opened k (CallSubmitted place a) = record k {
   calls_accepted = k.calls_accepted + 1;
   stag = k.stag + regions_needed (outstanding_of k a).plan;

@@ -7,6 +7,7 @@ use Rattle.nr_regions.specs.Access.{TaggedSegment}
 use Rattle.nr_regions.specs.Events.{after_event}
 use Rattle.nr_regions.specs.Events.MemoryEvent.{Arrive}
 use Rattle.nr_link.specs.declared.end.End.{End}
+use Rattle.nr_link.specs.declared.agreement.Agreement.{Agreement}
 use Rattle.nr_link.specs.Frames.{Frame}
 use Rattle.nr_link.specs.Ending.{tagged_access}
 use Rattle.nr_link.specs.ReceiveState.{ReceiveState, message_completed}
@@ -223,3 +224,7 @@ kept_submitted kept call plan = record kept {
   calls = kept.calls ++ kept_of kept.next_xid call plan kept.memory.next ∷ [];
   memory = registered_all kept.memory (buffers kept.memory.next plan);
 }
+
+-- with the server's hello: what is agreed
+unfoldable pub kept_greeted : KeptClient → Agreement → KeptClient
+kept_greeted kept a = record kept { up_max = a.up; down_max = a.down }

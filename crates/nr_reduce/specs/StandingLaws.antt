@@ -27,7 +27,7 @@ use Rattle.nr_reduce.specs.declared.outline.Plan.{Plan}
 use Rattle.nr_reduce.specs.Limits.{numbers_end}
 use Rattle.nr_reduce.specs.Plans.{TooLarge, regions_needed, buffers, plan_of}
 use Rattle.nr_reduce.specs.History.{AcceptedCall, CompletedCall, bytes_sent, bytes_received, written_at, fed_at, other}
-use Rattle.nr_reduce.specs.Hellos.{client_hello}
+use Rattle.nr_reduce.specs.Hellos.{client_hello, client_agreement}
 use Rattle.nr_reduce.specs.Events.{RunEvent, events_at}
 use Rattle.nr_reduce.specs.Events.RunEvent.{FrameReceived, CallSubmitted, MemoryRevoked, QueueWritten}
 use Rattle.nr_reduce.specs.EndRules.{EndMachine, EndState, live, next_end_state, end_state_after, output_for_all}
@@ -43,7 +43,7 @@ use Rattle.nr_reduce.specs.Matched.{IsPrefixOf}
 use Rattle.nr_reduce.specs.Asked.{IsAll}
 use Rattle.nr_reduce.specs.Served.{ServedSoFar}
 use Rattle.nr_reduce.specs.KeptCalls.{kept_verdict}
-use Rattle.nr_reduce.specs.KeptClient.{KeptClient, ClientKeeps, bytes_under, opened_client, kept_revoked, kept_handed_back, kept_completed, kept_placed, kept_received, kept_sent, kept_submitted}
+use Rattle.nr_reduce.specs.KeptClient.{KeptClient, ClientKeeps, bytes_under, opened_client, kept_revoked, kept_handed_back, kept_completed, kept_placed, kept_received, kept_sent, kept_submitted, kept_greeted}
 use Rattle.nr_reduce.specs.Standing.{input_events, ClientRepresents, ClientRunsOut, ServerRepresents, ServerRunsOut}
 
 -- An end stands for no marks as it is opened: a client's queue has its hello.
@@ -221,10 +221,10 @@ abbrev pub KeptWrites : Type 0
 KeptWrites = (opened : LinkParameters) (kept : KeptClient) (k : ClientState) (count taken : ℕ) → ClientKeeps opened kept (live k) count →
     ClientKeeps opened (kept_sent k.first_xid (ends_written (k.written + taken) k.send_ends) kept) (next_end_state (client_rules opened) (live k) (QueueWritten taken)) count
 
--- with the server's hello: no Send has left before it is due, since at most what is due was written,
+-- with the server's hello, and what is agreed: no Send has left before it is due, since at most what is due was written,
 abbrev pub KeptGreets : Type 0
-KeptGreets = (opened : LinkParameters) (kept : KeptClient) (k : ClientState) (count : ℕ) → ClientKeeps opened kept (live k) count →
-    k.written ≤ k.due → ClientKeeps opened kept (live (with_hello opened k)) count
+KeptGreets = (opened : LinkParameters) (kept : KeptClient) (k : ClientState) (f : Frame) (count : ℕ) → ClientKeeps opened kept (live k) count →
+    k.written ≤ k.due → ClientKeeps opened (kept_greeted kept (client_agreement opened f)) (live (with_hello opened k f)) count
 
 -- and after a call that it accepts: its Send hasn't left, since no more Sends have left than calls were accepted before.
 abbrev pub KeptSubmits : Type 0
