@@ -45,15 +45,6 @@ static ANSWERED: [Row; 13] = [
     (b"NR01\x01\x00\x01\x01", 512, true, (2048, 2048)),
 ];
 
-/// A side with this number of units that says nothing else.
-fn units(units: u8) -> Option<SideTerms> {
-    Some(SideTerms {
-        units,
-        number: 0,
-        invalidates: false,
-    })
-}
-
 /// A request whose private data begins so and has this length.
 fn request(rt: &impl Abort, alloc: Global, front: &[u8], len: usize) -> Vec<u8> {
     let mut bytes = bytes_of(rt, alloc, &REQUEST[..4]);
@@ -70,7 +61,7 @@ fn request(rt: &impl Abort, alloc: Global, front: &[u8], len: usize) -> Vec<u8> 
 
 /// Ends the test if a responder of two units makes something else of a row.
 fn answers(rt: &impl Abort, alloc: Global, row: usize, cells: Row) {
-    let mut endpoint = TestEndpoint::open_with(rt, alloc, Side::Responder, units(2));
+    let mut endpoint = TestEndpoint::open_with(rt, alloc, Side::Responder, SideTerms::sized(2));
     same(rt, row, endpoint.endpoint().agreed(), (1024, 1024));
     let hello = request(rt, alloc, cells.0, cells.1);
     same(rt, row, endpoint.feed(rt, hello.as_slice()), Ok(()));
@@ -89,8 +80,8 @@ fn requests_with_terms(rt: HostRuntime) {
 
 /// What an initiator of 16 units writes, and a responder of 16 units answers.
 fn sixteen(rt: &impl Abort, alloc: Global) -> (TestEndpoint, TestEndpoint) {
-    let mut from = TestEndpoint::open_with(rt, alloc, Side::Initiator, units(16));
-    let mut to = TestEndpoint::open_with(rt, alloc, Side::Responder, units(16));
+    let mut from = TestEndpoint::open_with(rt, alloc, Side::Initiator, SideTerms::sized(16));
+    let mut to = TestEndpoint::open_with(rt, alloc, Side::Responder, SideTerms::sized(16));
     pass(rt, alloc, &mut from, &mut to);
     pass(rt, alloc, &mut to, &mut from);
     same(rt, 0, from.endpoint().agreed(), (16384, 16384));
