@@ -21,7 +21,7 @@ use Rattle.nr_requester.specs.HeldBytes.{NothingOutside}
 
 -- ---- As it is opened
 
-initial_next : (first_stag : ℕ) → (initial_link Initiator 1 first_stag None).state.memory.next ≡ first_stag
+initial_next : (first_stag : ℕ) (terms : SideTerms) → (initial_link Initiator 1 first_stag terms).state.memory.next ≡ first_stag
 unfolding initial_link initial_memory
 initial_next first_stag = refl
 
