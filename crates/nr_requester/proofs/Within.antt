@@ -169,8 +169,8 @@ sent_within e e2 len first next xid credit calls calls2 answers answers2 o plan 
     let after : LinkState = submitted s (call_message xid credit s.memory.next plan) (buffers s.memory.next plan) in
     let state : e2.link.state ≡ after = ap (λ (l : LinkSide). l.state) link_is in
     let l = sent_state s plan len xid credit (claims_total calls) i lives stags w.link w.regions in
-    let len : claims_len o.claims ≡ claims_len (claims_of s.memory (offered_of plan)) = ap (λ (c : Claims). claims_len c) claims in
-    let sum : claims_total calls + claims_len (claims_of s.memory (offered_of plan)) ≡ claims_total (calls ++ o ∷ []) = omega (arith, len, total_append calls o) in
+    let own : claims_len o.claims ≡ claims_len (claims_of s.memory (offered_of plan)) = ap (λ (c : Claims). claims_len c) claims in
+    let sum : claims_total calls + claims_len (claims_of s.memory (offered_of plan)) ≡ claims_total (calls ++ o ∷ []) = omega (arith, own, total_append calls o) in
     let fits : PlanFits plan = plan_bounds i.payload i.form i.up i.down plan i.is in
     let short = plan_len s.memory plan fits in
     let all : RequesterBounds len e2 first (next + 1) (calls ++ o ∷ []) answers = record {
@@ -182,7 +182,7 @@ sent_within e e2 len first next xid credit calls calls2 answers answers2 o plan 
       regions = subst (λ (x : LinkState). RegionsHave x.memory (claims_total (calls ++ o ∷ []))) (sym state) (subst (λ (n : ℕ). RegionsHave after.memory n) sum l.1);
       counts = subst (λ (x : LinkState). CountsFit first (next + 1) x.send_queue (calls ++ o ∷ [])) (sym state)
           (counts_sent first next _ s.send_queue after.send_queue calls o refl refl number w.order w.counts);
-      each = all_append (CallFits len) calls o w.each (record { call = small; offer = omega (arith, len, short); written = (let none : length o.room.bytes ≡ 0 = ap (λ (xs : List ℕ). length xs) empty in omega (arith, none)); room = offered; short = (let back = fits.back in omega (arith, room, back, w.link.receive)) });
+      each = all_append (CallFits len) calls o w.each (record { call = small; offer = omega (arith, own, short); written = (let none : length o.room.bytes ≡ 0 = ap (λ (xs : List ℕ). length xs) empty in omega (arith, none)); room = offered; short = (let back = fits.back in omega (arith, room, back, w.link.receive)) });
       kept = w.kept;
       distinct = w.distinct;
     } in

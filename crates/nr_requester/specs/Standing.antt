@@ -42,6 +42,7 @@ pub record LinkKeeps (opened : LinkParameters) (s : LinkState) (k : ClientState)
   pub receive_length : s.receive_queue.receive_length ≡ receive_length_for opened.client
   pub message_max : s.message_max ≡ k.down_max
   pub fits : k.down_max ≤ receive_length_for opened.client
+  pub terms : s.terms ≡ opened.client
   pub received : s.receive_queue.received ≡ received_within (receive_length_for opened.client) k.received
   pub receive : s.receive_queue.free + sends_begun k.received.begun ≡ 1
   pub none_lent : s.receive_queue.lent ≡ 0
@@ -61,7 +62,6 @@ pub record LinkKeeps (opened : LinkParameters) (s : LinkState) (k : ClientState)
 pub record KeepsClient (opened : LinkParameters) (link : ℕ) (h : RequesterSide) (run : List Mark) : Type 0 where
   pub first : h.state.first_xid ≡ opened.first_xid
   pub wished : h.state.wished ≡ opened.wished
-  pub terms : h.state.side.terms ≡ opened.client
   pub kept : ClientRepresents opened link (kept_client h.state) (input_kept h) (queue_of h.state) run
   pub sent : h.state.side.ended ≡ None → h.state.sent ≡ h.state.side.send_queue.sends_left
   pub side : h.state.side.ended ≡ None → LinkKeeps opened h.state.side (client opened link run).state
