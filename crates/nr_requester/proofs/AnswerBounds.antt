@@ -171,10 +171,10 @@ distinct_answer next n calls d answers m (Some call) (Some o) lt apart h = disti
 
 -- ---- Both
 
-pub completed_bounded : (len sent first next n room : ℕ) (number : ℕ) (e e2 : EndpointState) (calls calls2 : List OutstandingCall) (answers answers2 : List AnsweredCall) (d : OutstandingCall) (f : Found) → n < length calls → (get_or calls n d).xid - first < sent →
-    CallsSound len e.link.state.memory number calls answers room → e2.staging ≡ e.staging → (NothingOutside e → NothingOutside e2) → e2.link ≡ with_memory (released_all e.link.state.memory (stags_of (get_or calls n d).claims)) e.link → calls2 ≡ remove calls n →
+pub completed_bounded : (len sent first next n room : ℕ) (most number : ℕ) (e e2 : EndpointState) (calls calls2 : List OutstandingCall) (answers answers2 : List AnsweredCall) (d : OutstandingCall) (f : Found) → n < length calls → (get_or calls n d).xid - first < sent →
+    CallsSound most e.link.state.memory number calls answers room → e2.staging ≡ e.staging → (NothingOutside e → NothingOutside e2) → e2.link ≡ with_memory (released_all e.link.state.memory (stags_of (get_or calls n d).claims)) e.link → calls2 ≡ remove calls n →
     answers2 ≡ answers ++ answered_as e.link.state.memory (stored_view (get_or calls n d)) (awaited_call (stored_view (get_or calls n d))) (outcome_by f (get_or calls n d).room.bytes) → IsBounded len sent first next e calls answers → IsBounded len sent first next e2 calls2 answers2
-completed_bounded len sent first next n room number e e2 calls calls2 answers answers2 d f lt gone sound same none link_is calls_are answers_are b =
+completed_bounded len sent first next n room most number e e2 calls calls2 answers answers2 d f lt gone sound same none link_is calls_are answers_are b =
     let w = b.0 in
     let s : LinkState = e.link.state in
     let c : OutstandingCall = get_or calls n d in
@@ -198,6 +198,7 @@ completed_bounded len sent first next n room number e e2 calls calls2 answers an
         receive_length = w.link.receive_length;
         receive = w.link.receive;
         up = w.link.up;
+        down = w.link.down;
         hello = w.link.hello;
         queue = w.link.queue;
         responses = w.link.responses;

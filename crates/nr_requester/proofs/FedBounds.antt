@@ -117,14 +117,14 @@ module _ (len sent first next : ℕ) (calls : List OutstandingCall) (answers : L
   pub next_bounded : e2.link ≡ after_call e.link NextEvent → IsBounded len sent first next e2 calls answers
   unfolding after_call
   next_bounded is = to_state (after_call e.link NextEvent).state (ap (λ (l : LinkSide). l.state) is) refl (
-    record { side = b.0.link.side; receives = b.0.link.receives; receive_length = b.0.link.receive_length; receive = b.0.link.receive; up = b.0.link.up; hello = b.0.link.hello; queue = b.0.link.queue; responses = b.0.link.responses; regions = b.0.link.regions },
+    record { side = b.0.link.side; receives = b.0.link.receives; receive_length = b.0.link.receive_length; receive = b.0.link.receive; up = b.0.link.up; down = b.0.link.down; hello = b.0.link.hello; queue = b.0.link.queue; responses = b.0.link.responses; regions = b.0.link.regions },
     b.0.regions,
   ) (refl, refl)
 
   pub post_bounded : e2.link ≡ after_call e.link Post → IsBounded len sent first next e2 calls answers
   unfolding after_call
   post_bounded is = to_state (after_call e.link Post).state (ap (λ (l : LinkSide). l.state) is) refl (
-    record { side = b.0.link.side; receives = b.0.link.receives; receive_length = b.0.link.receive_length; receive = b.0.link.receive; up = b.0.link.up; hello = b.0.link.hello; queue = b.0.link.queue; responses = b.0.link.responses; regions = b.0.link.regions },
+    record { side = b.0.link.side; receives = b.0.link.receives; receive_length = b.0.link.receive_length; receive = b.0.link.receive; up = b.0.link.up; down = b.0.link.down; hello = b.0.link.hello; queue = b.0.link.queue; responses = b.0.link.responses; regions = b.0.link.regions },
     b.0.regions,
   ) (refl, refl)
 
@@ -143,6 +143,7 @@ module _ (len sent first next : ℕ) (calls : List OutstandingCall) (answers : L
           receive_length = b.0.link.receive_length;
           receive = b.0.link.receive;
           up = b.0.link.up;
+          down = b.0.link.down;
           hello = b.0.link.hello;
           queue = ended_fits s.send_queue true (subst (λ (x : Bool). QueueFits x s.send_queue) (going lives) b.0.link.queue);
           responses = b.0.link.responses;

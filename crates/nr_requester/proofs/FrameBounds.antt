@@ -28,6 +28,7 @@ use Rattle.nr_link.specs.ReceiveState.{read_request_in}
 use Rattle.nr_link.specs.Ending.{final_output, rejection, is_hello_reason, kind_of}
 use Rattle.nr_endpoint.specs.SendQueue.{SendQueue, with_end}
 use Rattle.nr_endpoint.specs.ReceiveQueue.{with_segment, with_read_done}
+use Rattle.nr_link.specs.Agreement.{IsSendLimit}
 use Rattle.nr_link.proofs.Agreements.{agreements_bounded}
 use Rattle.nr_endpoint.specs.Hellos.{own_private, side_agreement}
 use Rattle.nr_endpoint.specs.LinkState.{LinkState, LinkSide, has_ended}
@@ -37,7 +38,7 @@ use Rattle.nr_endpoint.specs.Calls.{after_call}
 use Rattle.nr_endpoint.specs.Calls.Call.{FeedOne}
 use Rattle.nr_endpoint.proofs.AlongFrames.{feed_one_keeps}
 use Rattle.nr_endpoint.proofs.Alive.{alive_tagged, alive_request}
-use Rattle.nr_requester.specs.HeldBytes.{region_max, frame_max, receive_max, hello_max, QueueFits, RegionsFit, LinkFits, RegionsHave}
+use Rattle.nr_requester.specs.HeldBytes.{region_max, frame_max, hello_max, QueueFits, RegionsFit, LinkFits, RegionsHave}
 use Rattle.nr_requester.proofs.OutputBounds.{response_fits, last_fits, last_len}
 
 -- both: its vectors are within their bounds, and its regions have this number of bytes
@@ -70,6 +71,7 @@ end_fits s end len total live f = (
     receive_length = f.0.receive_length;
     receive = f.0.receive;
     up = f.0.up;
+    down = f.0.down;
     hello = omega (arith, f.0.hello, length-append s.send_queue.hello (rejection s.side end), no_rejection s.side end f.0.side);
     queue = last_fits s.send_queue (final_output end) (last_bytes end) (subst (λ (b : Bool). QueueFits b s.send_queue) live f.0.queue);
     responses = f.0.responses;
@@ -131,6 +133,7 @@ read_fits s last n true len total f = (
     receive_length = by_length last f.0.receive_length;
     receive = f.0.receive;
     up = f.0.up;
+    down = f.0.down;
     hello = f.0.hello;
     queue = f.0.queue;
     responses = f.0.responses;
@@ -185,10 +188,10 @@ segment_fits s f (Tagged last opcode stag to payload) None len total live at liv
     let m = placed_fits s.memory stag to (kind_of opcode) payload total (allowed_lem s last opcode stag to payload (alive_tagged s f last opcode stag to payload at lives)) h.0.regions h.1 in
     let placed : LinkState = record s { memory = after_place s.memory stag to payload } in
     let after = read_fits placed last (length payload) (eqb opcode OPCODE_READ_RESPONSE) len total (
-      record { side = h.0.side; receives = h.0.receives; receive_length = h.0.receive_length; receive = h.0.receive; up = h.0.up; hello = h.0.hello; queue = h.0.queue; responses = h.0.responses; regions = m.0 },
+      record { side = h.0.side; receives = h.0.receives; receive_length = h.0.receive_length; receive = h.0.receive; up = h.0.up; down = h.0.down; hello = h.0.hello; queue = h.0.queue; responses = h.0.responses; regions = m.0 },
       m.1,
     ) in
-    (record { side = after.0.side; receives = after.0.receives; receive_length = after.0.receive_length; receive = after.0.receive; up = after.0.up; hello = after.0.hello; queue = after.0.queue; responses = after.0.responses; regions = after.0.regions }, after.1)
+    (record { side = after.0.side; receives = after.0.receives; receive_length = after.0.receive_length; receive = after.0.receive; up = after.0.up; down = after.0.down; hello = after.0.hello; queue = after.0.queue; responses = after.0.responses; regions = after.0.regions }, after.1)
 segment_fits s f (Untagged last opcode w queue msn offset payload) None len total live at lives h =
     let left = answered_fits s f last opcode w queue msn offset payload (eqb opcode OPCODE_READ_REQUEST) refl at lives h.0.regions
     (record { hello = h.0.hello; queue = subst (λ (b : Bool). QueueFits b s.send_queue) live h.0.queue; responses = h.0.responses }) in (
@@ -198,6 +201,7 @@ segment_fits s f (Untagged last opcode w queue msn offset payload) None len tota
         receive_length = h.0.receive_length;
         receive = h.0.receive;
         up = h.0.up;
+        down = h.0.down;
         hello = left.hello;
         queue = subst (λ (b : Bool). QueueFits b (with_read_request (cond (eqb opcode OPCODE_READ_REQUEST) (Some (read_request_in payload)) None) s.memory s.send_queue)) (sym live) left.queue;
         responses = left.responses;
@@ -214,9 +218,9 @@ fpdu_fits s f (Err reason) len total live at h = end_fits s (ends.Bad f.at reaso
 no_reply : (side : Side) (private : List ℕ) → side ≡ Initiator → length (reply_hello side private) ≡ 0
 no_reply side private is = ap (λ (x : Side). length (reply_hello x private)) is
 
-agreed_small : (side : Side) (own peer_private : List ℕ) → (side_agreement side own peer_private).up ≤ receive_max
-agreed_small Initiator own peer_private = (agreements_bounded own peer_private).0.1
-agreed_small Responder own peer_private = (agreements_bounded peer_private own).0.1
+agreed_limits : (side : Side) (own peer_private : List ℕ) → IsSendLimit (side_agreement side own peer_private).up × IsSendLimit (side_agreement side own peer_private).down
+agreed_limits Initiator own peer_private = agreements_bounded own peer_private
+agreed_limits Responder own peer_private = agreements_bounded peer_private own
 
 hello_fits : (s : LinkState) (f : Frame) (r : Result Hello ℕ) (len total : ℕ) → has_ended s ≡ false → Fits len total s → Fits len total (with_peer_hello f r s)
 unfolding with_peer_hello
@@ -226,7 +230,8 @@ hello_fits s f (Ok hello) len total live h = (
     receives = h.0.receives;
     receive_length = h.0.receive_length;
     receive = h.0.receive;
-    up = agreed_small s.side (own_private s.terms s.side hello.private) hello.private;
+    up = (agreed_limits s.side (own_private s.terms s.side hello.private) hello.private).0;
+    down = (agreed_limits s.side (own_private s.terms s.side hello.private) hello.private).1;
     hello =
         let own : List ℕ = own_private s.terms s.side hello.private in
         omega (arith, h.0.hello, length-append s.send_queue.hello (reply_hello s.side own), no_reply s.side own h.0.side);

@@ -98,6 +98,7 @@ given_up_within e e2 len first next n calls calls2 answers d w held lt same none
         receive_length = w.link.receive_length;
         receive = w.link.receive;
         up = w.link.up;
+        down = w.link.down;
         hello = w.link.hello;
         queue = w.link.queue;
         responses = w.link.responses;

@@ -11,6 +11,7 @@ use Rattle.nr_regions.specs.Table.{IsTotal, region_len}
 use Rattle.nr_wire.specs.Constants.{FPDU_MAX, HELLO_LEN, NUMBERED_TERMS_LEN, UNITS_MAX}
 use Rattle.nr_wire.specs.declared.hello.Side.TheVariants.{Initiator}
 use Rattle.nr_link.specs.Limits.{send_max, open_reads_max}
+use Rattle.nr_link.specs.Agreement.{IsSendLimit}
 use Rattle.nr_endpoint.specs.LinkState.{LinkState, has_ended}
 use Rattle.nr_endpoint.specs.SendQueue.{SendQueue, ends_left}
 use Rattle.nr_endpoint.specs.EndpointState.{EndpointState, bytes_of}
@@ -155,7 +156,8 @@ pub record LinkFits (len : ℕ) (s : LinkState) : Type 0 where
   pub receives : s.receive_queue.receives ≡ 1
   pub receive_length : s.receive_queue.receive_length ≡ len
   pub receive : len ≤ receive_max
-  pub up : s.agreed.up ≤ receive_max
+  pub up : IsSendLimit s.agreed.up
+  pub down : IsSendLimit s.agreed.down
   pub hello : length s.send_queue.hello ≤ hello_max
   pub queue : QueueFits (has_ended s) s.send_queue
   pub responses : length s.send_queue.response_ends ≤ open_reads_max
