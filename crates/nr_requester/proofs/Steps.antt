@@ -103,6 +103,7 @@ message_told link0 link1 link2 sent wished first next grant grant2 number items 
               memory = ap (λ (x : LinkSide). x.state.memory) l;
               queue = ap (λ (x : LinkSide). x.state.send_queue) l;
               hello = ap (λ (x : LinkSide). x.state.has_hello) l;
+              agreed = ap (λ (x : LinkSide). x.state.agreed) l;
               place = ap (λ (x : LinkSide). x.state.place) l;
               same = ap (λ (h : RequesterFeeding). h.state) same_calls;
             })
@@ -219,6 +220,7 @@ module _ (h : RequesterFeeding) (piece : List ℕ) (lives : h.state.side.ended �
           memory = out.memory ∙ d.memory;
           queue = out.queue ∙ d.queue;
           hello = out.hello ∙ d.hello;
+          agreed = out.agreed ∙ d.agreed;
           same = out.same;
         };
         whole = w.1;
@@ -254,6 +256,7 @@ module _ (h : RequesterFeeding) (piece : List ℕ) (lives : h.state.side.ended �
           memory = ap (λ (x : RequesterFeeding). x.state.side.memory) a;
           queue = ap (λ (x : RequesterFeeding). x.state.side.send_queue) a;
           hello = ap (λ (x : RequesterFeeding). x.state.side.has_hello) a;
+          agreed = ap (λ (x : RequesterFeeding). x.state.side.agreed) a;
           same = ap (λ (x : RequesterFeeding). x.state) is ∙ ap (λ (t : LinkState). record h.state { side = t }) (sym (ap (λ (x : RequesterFeeding). x.state.side) is));
         };
         whole = whole;

@@ -48,6 +48,11 @@ abbrev pub CountsAsClient : Type 0
 CountsAsClient = (opened : LinkParameters) (link : ℕ) (h : RequesterSide) (run : List Mark) → RequesterRepresents opened link h run →
     (length h.state.outstanding ≡ calls_outstanding opened link run) × (h.state.grant ≡ credits_granted opened link run)
 
+-- It knows how long a Send may be in each direction, also after an End.
+abbrev pub AgreesAsClient : Type 0
+AgreesAsClient = (opened : LinkParameters) (link : ℕ) (h : RequesterSide) (run : List Mark) → RequesterRepresents opened link h run →
+    (h.state.side.agreed.up ≡ (client opened link run).state.up_max) × (h.state.side.agreed.down ≡ (client opened link run).state.down_max)
+
 -- It counts its marks.
 abbrev pub CountsMarks : Type 0
 CountsMarks = (opened : LinkParameters) (link : ℕ) (h : RequesterSide) (run : List Mark) → RequesterRepresents opened link h run → h.marks ≡ counted_marks link run
@@ -146,6 +151,10 @@ MemoryOut = (opened : LinkParameters) (link : ℕ) (h : RequesterSide) (stopped 
 abbrev pub CountsOut : Type 0
 CountsOut = (opened : LinkParameters) (link : ℕ) (h : RequesterSide) (stopped run : List Mark) → RequesterRunsOut opened link h stopped run →
     (length h.state.outstanding ≡ calls_outstanding opened link stopped) × (h.state.grant ≡ credits_granted opened link stopped)
+
+abbrev pub AgreesOut : Type 0
+AgreesOut = (opened : LinkParameters) (link : ℕ) (h : RequesterSide) (stopped run : List Mark) → RequesterRunsOut opened link h stopped run →
+    (h.state.side.agreed.up ≡ (client opened link run).state.up_max) × (h.state.side.agreed.down ≡ (client opened link run).state.down_max)
 
 abbrev pub CountsMarksOut : Type 0
 CountsMarksOut = (opened : LinkParameters) (link : ℕ) (h : RequesterSide) (stopped run : List Mark) → RequesterRunsOut opened link h stopped run → h.marks ≡ counted_marks link run
