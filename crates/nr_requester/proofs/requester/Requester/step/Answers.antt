@@ -32,8 +32,10 @@ take_event-requires c =
     let lives = ap (λ (h : RequesterSide). h.state.side.ended) c.self.view_is ∙ c.requires.live in
     let f : FedOne c.self.inside.endpoint.link c.feed_one.new.self.link c.args.left.now (Ok c.in-Ok.taken) =
     record { ended = c.in-Ok.ensures.ended; state = c.in-Ok.ensures.state; memory = c.in-Ok.ensures.memory; whole = λ m going. (c.in-Ok.ensures.frame m going).0; queues = λ m going. (c.in-Ok.ensures.frame m going).1 } in
-    record { ready = ok_ready c.self.inside.endpoint.link c.feed_one.new.self.link c.self.inside.receive_length c.self.inside.next_xid c.self.inside.grant (vec_capacity c.self.inside.answered) c.in-Ok.taken c.self.inside.outstanding.items c.self.inside.answered.items c.args.left.now f lives c.self.invariant.0
-    (fed_bounded c.self.inside.receive_length c.self.inside.sent c.self.inside.first_xid c.self.inside.next_xid c.self.inside.outstanding.items c.self.inside.answered.items c.self.inside.endpoint c.feed_one.new.self c.feed_one.ensures.staging.len c.feed_one.ensures.outside c.self.invariant.1 c.args.left.now lives c.self.invariant.0.none_waits c.self.invariant.0.no_reads (ok_state c.self.inside.endpoint.link c.feed_one.new.self.link c.args.left.now c.in-Ok.taken f).0).0.link.receive_length }
+    record {
+      ready = ok_ready c.self.inside.endpoint.link c.feed_one.new.self.link c.self.inside.receive_length c.self.inside.next_xid c.self.inside.grant (vec_capacity c.self.inside.answered) c.in-Ok.taken c.self.inside.outstanding.items c.self.inside.answered.items c.args.left.now f lives c.self.invariant.0
+          (fed_bounded c.self.inside.receive_length c.self.inside.sent c.self.inside.first_xid c.self.inside.next_xid c.self.inside.outstanding.items c.self.inside.answered.items c.self.inside.endpoint c.feed_one.new.self c.feed_one.ensures.staging.len c.feed_one.ensures.outside c.self.invariant.1 c.args.left.now lives c.self.invariant.0.none_waits c.self.invariant.0.no_reads (ok_state c.self.inside.endpoint.link c.feed_one.new.self.link c.args.left.now c.in-Ok.taken f).0).0.link.receive_length;
+    }
 
 pub invariant_of-self-2 : goal.invariant_of-self-2
 invariant_of-self-2 c =
