@@ -21,6 +21,7 @@ use Rattle.nr_reduce.specs.Plans.{TooLarge, plan_of, regions_needed}
 use Rattle.nr_reduce.specs.ClientState.{call_payload}
 use Rattle.nr_requester.specs.RequesterState.{RequesterState, RequesterSide}
 use Rattle.nr_requester.specs.Standing.{RequesterRepresents}
+use Rattle.nr_requester.specs.HeldBytes.{receive_max}
 use Rattle.nr_requester.specs.AfterCalls.{after_submit}
 use Rattle.nr_requester.specs.Answers.{plan_under, answer_by_plan, answer_if, answer_of, WasSent}
 use Rattle.nr_requester.specs.Sending.{xid_word, answer_for, IsPlan, target_under, head_under}
@@ -50,8 +51,8 @@ live_answer r call form is = ap (answer_if r call form) is
 pub planned_answer : (r : RequesterState) (call : Call) (form : Form) (plan : Plan) → r.side.ended ≡ None → plan_under r call form ≡ Ok plan → answer_of r call form ≡ answer_for r (regions_needed plan)
 planned_answer r call form plan lives is = live_answer r call form lives ∙ ap (answer_by_plan r) is
 
-pub is_plan_lem : (r : RequesterState) (call : Call) (form : Form) (plan : Plan) → plan_under r call form ≡ Ok plan → IsPlan plan
-is_plan_lem r call form plan is = record { payload = call_payload r.next_xid call; form = form; is = is }
+pub is_plan_lem : (r : RequesterState) (call : Call) (form : Form) (plan : Plan) → r.side.agreed.up ≤ receive_max → plan_under r call form ≡ Ok plan → IsPlan plan
+is_plan_lem r call form plan short is = record { payload = call_payload r.next_xid call; form = form; up = r.side.agreed.up; down = r.side.agreed.down; short = short; is = is }
 
 pub sent_stands : (before after : RequesterSide) (call : Call) (form : Form) (xid : ℕ) → WasSent before after call form xid → (opened : LinkParameters) (link : ℕ) (run : List Mark) → RequesterRepresents opened link before run →
     RequesterRepresents opened link after (run ++ marks.Submit link call form (submissions.Accepted xid) ∷ [])

@@ -2,10 +2,9 @@ use Rattle.std.proofs.Common.{ℕ, ◌++◌, ◌∙◌}
 use Rattle.nr_reduce.specs.declared.call.Call.{Call}
 use Rattle.nr_reduce.specs.declared.call.Refused.{Refused}
 use Rattle.nr_reduce.specs.CallOutlines.{outline_plan}
-use Rattle.nr_reduce.specs.ClientState.{call_payload}
 use Rattle.nr_requester.proofs.Views.{if_ok, if_err}
 use Rattle.nr_requester.proofs.Within.{call_small}
-use Rattle.nr_requester.proofs.Answered.{live_answer, accepted_answer, refused_answer, too_large_answer}
+use Rattle.nr_requester.proofs.Answered.{is_plan_lem, live_answer, accepted_answer, refused_answer, too_large_answer}
 use Rattle.nr_requester.proofs.requester.Requester.submit_written.Goals as goal
 
 pub returns-in-Ok-clause-accepted : goal.returns-in-Ok-clause-accepted
@@ -30,11 +29,5 @@ accept-requires-clause-small c =
     call_small c.args.self.now.state.next_xid c.args.call c.args.form.now c.args.self.now.state.side.agreed.up c.args.self.now.state.side.agreed.down (outline_plan (c.args.head.now ++ c.args.call.args) c.in-Ok.outline) c.in-Ok.ensures.outline c.requires.cred
 
 pub accept-requires-clause-planned : goal.accept-requires-clause-planned
-accept-requires-clause-planned c = record {
-  payload = call_payload c.args.self.now.state.next_xid c.args.call;
-  form = c.args.form.now;
-  up = c.args.self.now.state.side.agreed.up;
-  down = c.args.self.now.state.side.agreed.down;
-  short = c.planned.ensures.short;
-  is = c.in-Ok.ensures.outline;
-}
+accept-requires-clause-planned c =
+    is_plan_lem c.args.self.now.state c.args.call c.args.form.now (outline_plan (c.args.head.now ++ c.args.call.args) c.in-Ok.outline) c.planned.ensures.short c.in-Ok.ensures.outline
