@@ -1,17 +1,18 @@
 -- What a plan offers is short.
-use Rattle.std.proofs.Common.{◌≡◌, ℕ, ◌+◌, ◌-◌, ◌≤◌, Bool, true, false, cond, List, [], length, take, drop, replicate, sum, Option, None, Some, Result, Ok, refl, sym, ap, subst, arith, length-append}
+use Rattle.std.proofs.Common.{◌≡◌, ℕ, ◌+◌, ◌-◌, ◌≤◌, Bool, true, false, cond, not, ◌&&◌, eqb, leb, List, [], length, take, drop, replicate, sum, Option, None, Some, Result, Ok, refl, sym, ap, subst, arith, length-append}
 use Rattle.std.proofs.lemmas.List.{length-take, length-drop, length-replicate}
-use Rattle.nr_header.specs.Constants.{PAYLOAD_MAX}
+use Rattle.nr_header.specs.Constants.{HEADER_LEN_MIN, PAYLOAD_MAX}
 use Rattle.nr_reduce.specs.declared.call.Form.{Form}
 use Rattle.nr_reduce.specs.declared.call.Form.TheVariants as forms
 use Rattle.nr_reduce.specs.declared.call.Offer.{Offer}
 use Rattle.nr_reduce.specs.declared.outline.Plan.{Plan}
 use Rattle.nr_reduce.specs.ChunkBytes.{IsNotGiven}
+use Rattle.nr_reduce.specs.Largest.{largest_reply}
 use Rattle.nr_reduce.specs.Limits.{given_max}
 use Rattle.nr_reduce.specs.declared.item.Item.{Item}
 use Rattle.nr_reduce.specs.declared.item.Of.TheVariants.{Call}
 use Rattle.nr_reduce.specs.Items.{reducible_item}
-use Rattle.nr_reduce.specs.Plans.{TooLarge, total, inline_plan, chunk_for, write_offer, offering, auto_offer, reduced_plan, reduced_plan_by, given_region, given_read, given_total, given_within, plan_size, plan_in_form, within, plan_of}
+use Rattle.nr_reduce.specs.Plans.{TooLarge, total, inline_plan, chunk_for, write_offer, offering, auto_offer, reduced_plan, reduced_plan_by, long_plan, given_region, given_read, given_total, given_within, plan_size, plan_in_form, within, plan_of}
 use Rattle.nr_reduce.proofs.PlanKinds.{Offering, offered, IsSmall, largest_small, write_offering, MessageKind, shape, IsPlan, is_plan, within_ok_lem}
 use Rattle.nr_reduce.proofs.PlanKinds.Offering.{Nothing, One}
 use Rattle.nr_reduce.proofs.PlanKinds.MessageKind.{Short, Chunked, Long}
@@ -53,12 +54,18 @@ offering_back payload = by (write_offer payload) refl
     by None e = omega (arith, largest_small payload)
     by (Some n) e = (let same : total (chunk_for (write_offer payload)) ≡ total (chunk_for (Some n)) = ap (λ (w : Option ℕ). total (chunk_for w)) e in omega (arith, same, write_small payload))
 
+inline_back : (payload : List ℕ) → IsBack (inline_plan payload)
+inline_back payload = omega arith
+
 form_back : (payload : List ℕ) (form : Form) (up down : ℕ) → IsNotGiven form → IsBack (plan_in_form payload form up down)
 form_back payload forms.Auto up down own =
     let p : Plan = auto_offer payload down (inline_plan payload) in
-    let h : IsBack p = back_if _ _ _ (omega arith) (offering_back payload) in
-    back_if _ _ _ h (back_if _ _ _ (reduced_back payload p h) h)
-form_back payload forms.Inline up down own = omega arith
+    let h : IsBack p = back_if (leb (HEADER_LEN_MIN + largest_reply payload) down) (inline_plan payload) (offering payload (write_offer payload) (inline_plan payload)) (inline_back payload) (offering_back payload) in
+    let reduced : Plan = reduced_plan payload p in
+    let long : Plan = long_plan payload p in
+    let fits : Bool = not (eqb (length reduced.read) 0) && leb (plan_size reduced) up in
+    back_if (leb (plan_size p) up) p (cond fits reduced long) h (back_if fits reduced long (reduced_back payload p h) h)
+form_back payload forms.Inline up down own = inline_back payload
 form_back payload forms.Chunk up down own =
     reduced_back payload (record (inline_plan payload) { write = chunk_for (write_offer payload) }) (omega (arith, write_small payload))
 form_back payload forms.Long up down own = omega (arith, largest_small payload)
