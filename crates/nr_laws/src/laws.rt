@@ -2,6 +2,7 @@
 
 ghost use Rattle.nr_laws.specs.Touches.{ClientAccessesAreAllowed, ServerAccessesAreAllowed, ServerRefusesRequests, RevokedMemoryIsFinal};
 ghost use Rattle.nr_laws.specs.Grant.{SubmitsWithinGrant};
+ghost use Rattle.nr_laws.specs.Agreed.{SidesAgree, ClientGoesByAgreement, ServerGoesByAgreement};
 ghost use Rattle.nr_laws.specs.Bounds.{ClientOffersFewSegments, ClientOwesFewResponses, ServerReadsFew, ServerUsesItsReceives};
 ghost use Rattle.nr_laws.specs.Places.{PlacesFollow};
 ghost use Rattle.nr_laws.specs.Once.{NoSendTwice, NoCallTwice, NoXidTwice};
@@ -65,4 +66,13 @@ pub fn sides_stay_bounded()
     ensures reads { ServerReadsFew }
     ensures receives { ServerUsesItsReceives }
     ensures segments { ClientOffersFewSegments }
+{}
+
+/// On a matched link on which each side received the other's hello, both have agreed on the same lengths of Sends, and on whether a reply is a Send
+/// with Invalidate (RFC 5044 section 7.1; the terms in its private data are own). From then on each side plans calls, answers them and takes Sends
+/// by these lengths.
+pub fn sides_agree()
+    ensures same { SidesAgree }
+    ensures client { ClientGoesByAgreement }
+    ensures server { ServerGoesByAgreement }
 {}
