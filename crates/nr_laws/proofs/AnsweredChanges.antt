@@ -1,5 +1,5 @@
 -- Each executed call that adds an entry is answered by its reply, whatever was offered.
-use Rattle.std.proofs.Common.{◌≡◌, ◌≢◌, List, [], ◌∷◌, ◌++◌, Option, None, Some, refl, sym, ◌∙◌, arith, append-nil, inl, inr, ◌⊎◌}
+use Rattle.std.proofs.Common.{◌≡◌, ◌≢◌, List, [], ◌∷◌, ◌++◌, Option, None, Some, refl, sym, ◌∙◌, append-nil, inl, inr, ◌⊎◌}
 use Rattle.nr_wire.specs.declared.hello.Side.TheVariants.{Responder}
 use Rattle.nr_reduce.proofs.OwnLimits.{server_limits_of}
 use Rattle.nr_reduce.specs.declared.call.Outcome.TheVariants as outcomes

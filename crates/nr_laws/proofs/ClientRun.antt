@@ -19,7 +19,7 @@ use Rattle.nr_reduce.specs.Events.{RunEvent, events, events_at, if_own}
 use Rattle.nr_reduce.specs.Events.RunEvent.{FrameReceived, CallSubmitted, MemoryRevoked, CallExecuted, QueueWritten}
 use Rattle.nr_reduce.specs.EndRules.{EndState, next_end_state, end_state_after, output_for, output_for_by, output_for_in, output_for_all}
 use Rattle.nr_reduce.specs.Plans.{TooLarge, call_message}
-use Rattle.nr_reduce.specs.ClientState.{ClientState, OutstandingCall, call_payload, plan_for}
+use Rattle.nr_reduce.specs.ClientState.{ClientState, OutstandingCall, call_payload}
 use Rattle.nr_reduce.specs.Client.{client_rules, client_end, initial_client, outstanding_of, plan_or}
 use Rattle.nr_reduce.specs.Run.{client, output_due}
 use Rattle.nr_reduce.specs.Asked.{AskedMark, AskedSoFar, IsAccepted}

@@ -9,7 +9,7 @@ use Rattle.nr_header.specs.Reading.{header_of}
 use Rattle.nr_wire.specs.declared.hello.Side.TheVariants.{Responder}
 use Rattle.nr_rpc.specs.declared.head.CallHead.{CallHead}
 use Rattle.nr_rpc.specs.declared.head.CallHead.TheVariants as calls
-use Rattle.nr_rpc.specs.Reading.{reply_of, head_xid, xid_of_call, target_of, call_of}
+use Rattle.nr_rpc.specs.Reading.{reply_of, head_xid, xid_of_call, target_of}
 use Rattle.nr_header.specs.Constants.{PAYLOAD_MAX}
 use Rattle.nr_reduce.proofs.OwnLimits.{server_limits}
 use Rattle.nr_reduce.specs.declared.call.Call.{Call}

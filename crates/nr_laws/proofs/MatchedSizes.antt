@@ -1,6 +1,5 @@
 -- On a matched link each side goes by what both agree on, from the other's hello on.
-use Rattle.std.proofs.Common.{◌≡◌, ℕ, zero, suc, ◌+◌, ◌≤◌, ◌<◌, Bool, true, false, cond, eqb, List, [], ◌∷◌, ◌++◌, length, Option, None, Some, Result, Ok, Err, refl, sym, ap, subst, ◌∙◌, arith, append-nil, length-append, eqb-true}
-use Rattle.nr_wire.specs.Segment.{Segment}
+use Rattle.std.proofs.Common.{◌≡◌, ℕ, zero, suc, ◌≤◌, ◌<◌, Bool, true, false, cond, List, [], ◌∷◌, ◌++◌, length, Option, None, Some, refl, sym, ap, subst, ◌∙◌, arith, append-nil, length-append, eqb-true}
 use Rattle.nr_wire.specs.declared.hello.Side.TheVariants.{Initiator, Responder}
 use Rattle.nr_wire.specs.Hello.{hello_of}
 use Rattle.nr_link.specs.declared.agreement.Agreement.{Agreement}
@@ -11,21 +10,21 @@ use Rattle.nr_reduce.specs.declared.mark.Mark.{Mark}
 use Rattle.nr_reduce.specs.declared.mark.LinkParameters.{LinkParameters}
 use Rattle.nr_reduce.specs.Events.{RunEvent, events}
 use Rattle.nr_reduce.specs.Events.RunEvent.{FrameReceived, CallSubmitted, MemoryRevoked, CallExecuted, QueueWritten}
-use Rattle.nr_reduce.specs.EndRules.{EndMachine, EndState, next_end_state_by, next_end_state_in, end_state_after}
+use Rattle.nr_reduce.specs.EndRules.{EndMachine, EndState, next_end_state_by, next_end_state_in}
 use Rattle.nr_reduce.specs.OfferedRegions.{region_grants}
 use Rattle.nr_reduce.specs.ClientState.{ClientState}
 use Rattle.nr_reduce.specs.Client.{client_rules, client_end, client_readiness, client_state_after, initial_client, or_message_end, with_hello, with_segment}
 use Rattle.nr_reduce.specs.ServerState.{ReadyCall, ServerState}
 use Rattle.nr_reduce.specs.ServerFrames.{frame_effect}
 use Rattle.nr_reduce.specs.Server.{server_rules, server_end, server_state_after, initial_server, with_effect, with_own_hello}
-use Rattle.nr_reduce.specs.Hellos.{client_agreement, server_agreement, server_hello}
+use Rattle.nr_reduce.specs.Hellos.{client_agreement, server_hello}
 use Rattle.nr_reduce.specs.Run.{client, server}
 use Rattle.nr_laws.specs.Typed.{IsTyped}
 use Rattle.nr_laws.specs.MatchedSoFar.{MatchedSoFar}
-use Rattle.nr_laws.specs.Agreed.{ReceivedHello, SidesAgree, ClientGoesByAgreement, ServerGoesByAgreement}
+use Rattle.nr_laws.specs.Agreed.{SidesAgree, ClientGoesByAgreement, ServerGoesByAgreement}
 use Rattle.nr_laws.proofs.Basics.{above_zero}
 use Rattle.nr_laws.proofs.Brought.{IsHelloFrame}
-use Rattle.nr_laws.proofs.EventOutputs.{IsNext, GoesOn, along, place_after, places_after, places_append, outputs_by, outputs_in}
+use Rattle.nr_laws.proofs.EventOutputs.{IsNext, GoesOn, along, place_after, places_after, outputs_by, outputs_in}
 use Rattle.nr_laws.proofs.Outputs.{Output, effect_outputs, server_says, server_final_outputs}
 use Rattle.nr_laws.proofs.Outputs.Output.{AHello}
 use Rattle.nr_laws.proofs.ClientSays.{ClientGood}
@@ -34,7 +33,7 @@ use Rattle.nr_laws.proofs.ServerAlong.{ServerPlain, outs_of}
 use Rattle.nr_laws.proofs.ServerEnds.{hello_goes}
 use Rattle.nr_laws.proofs.ServerSide.{server_goes, client_receives_of}
 use Rattle.nr_laws.proofs.FirstHellos.{first_hello, first_hello_is, first_of_server}
-use Rattle.nr_laws.proofs.AgreedSizes.{matched_agreement, matched_up, matched_down, up_limited, down_limited, client_agrees, server_agrees, segment_sizes}
+use Rattle.nr_laws.proofs.AgreedSizes.{matched_up, matched_down, up_limited, down_limited, client_agrees, server_agrees, segment_sizes}
 use Rattle.nr_laws.proofs.MatchedHellos.{HearsHello, HearHello, FirstIs, first_part, first_more, brought_hello, heard_at, heard_along, server_hears}
 
 some_place : (place : ℕ) → (place ≡ 0 → ⊥) → 0 < place

@@ -1,5 +1,5 @@
 -- The call that a message answers at a client is the accepted call of its xid, with that call's plan.
-use Rattle.std.proofs.Common.{◌≡◌, ℕ, ◌+◌, ◌&&◌, eqb, List, [], ◌∷◌, ◌++◌, length, Some, Result, Ok, refl, sym, ap, subst, ◌∙◌, arith, append_assoc}
+use Rattle.std.proofs.Common.{◌≡◌, ℕ, ◌&&◌, eqb, List, ◌∷◌, ◌++◌, length, Some, Result, Ok, sym, ap, subst, ◌∙◌, arith, append_assoc}
 use Rattle.nr_wire.specs.declared.hello.Side.TheVariants.{Initiator}
 use Rattle.nr_reduce.specs.declared.call.Call.{Call}
 use Rattle.nr_reduce.specs.declared.call.Form.{Form}
@@ -8,13 +8,12 @@ use Rattle.nr_reduce.specs.declared.mark.Mark.{Mark}
 use Rattle.nr_reduce.specs.declared.mark.Mark.TheVariants as marks
 use Rattle.nr_reduce.specs.declared.mark.LinkParameters.{LinkParameters}
 use Rattle.nr_reduce.specs.declared.outline.Plan.{Plan}
-use Rattle.nr_reduce.specs.History.{AcceptedCall}
 use Rattle.nr_reduce.specs.Matched.{IsPrefixOf}
 use Rattle.nr_reduce.specs.Events.{RunEvent, events}
-use Rattle.nr_reduce.specs.Plans.{TooLarge, Buffer, buffers, regions_needed}
-use Rattle.nr_reduce.specs.ClientState.{ClientState, OutstandingCall, plan_for, is_sent}
+use Rattle.nr_reduce.specs.Plans.{TooLarge, Buffer, buffers}
+use Rattle.nr_reduce.specs.ClientState.{OutstandingCall, plan_for, is_sent}
 use Rattle.nr_reduce.specs.ClientMessages.{answered_call}
-use Rattle.nr_reduce.specs.Client.{client_rules, initial_client, outstanding_of}
+use Rattle.nr_reduce.specs.Client.{client_rules, initial_client}
 use Rattle.nr_reduce.specs.Run.{client}
 use Rattle.nr_reduce.specs.Asked.{AskedSoFar, IsAccepted}
 use Rattle.nr_reduce.proofs.Placing.{xids_differ}

@@ -60,7 +60,7 @@ pub fn chunk_outcomes()
 /// On every link, whatever the peer sends, a side holds little for it at a time. A client owes at most 8 Read Responses that haven't completely
 /// left, and a server has at most 8 Read Requests open. A server that keeps its law uses no more receives than it granted credits: those of pending
 /// calls, of a Send that is begun, and of answers that haven't completely left. The lists of each call that a client which keeps its law has outstanding
-/// have at most the segments for which its Send has room.
+/// have at most the segments for which a Send of the agreed length has room.
 pub fn sides_stay_bounded()
     ensures responses { ClientOwesFewResponses }
     ensures reads { ServerReadsFew }
