@@ -8,6 +8,7 @@ ghost use Rattle.std.specs.Bool.{OnTrue};
 ghost use Rattle.nr_endpoint.specs.FedBytes.{fed_bytes};
 
 use nr_endpoint::{Endpoint, Event};
+use nr_link::SideTerms;
 use nr_regions::Right;
 use nr_wire::constants::{OPCODE_SEND, OPCODE_WRITE, QUEUE_SEND};
 use nr_wire::{Segment, Side, write_segment};
@@ -210,7 +211,7 @@ fn feed_all(endpoint: &mut Endpoint, bytes: &mut Vec<u8>, len: usize, work: Work
 fn responder(alloc: Global) -> Result<Endpoint, Memory>
     ensures { IfOk result (λ e. fed_bytes e.link ≡ 0) }
 {
-    let mut endpoint = Endpoint::open(alloc, Side::Responder, RECEIVES, 1, None)?;
+    let mut endpoint = Endpoint::open(alloc, Side::Responder, RECEIVES, 1, SideTerms::one_unit())?;
     let region = Octets::from_vec(vec![in alloc; 0u8; 4096]?);
     match endpoint.register(region, Right::Fill) {
         Ok(_) => Ok(endpoint),

@@ -7,6 +7,7 @@ ghost use Rattle.nr_endpoint.specs.FedBytes.{fed_bytes};
 
 use crate::link::fed_after;
 use nr_endpoint::{Endpoint, Event};
+use nr_link::SideTerms;
 use nr_outside::{Failed, Sink};
 use nr_wire::Side;
 use std::alloc::Global;
@@ -134,7 +135,7 @@ impl Peer {
 fn opened(alloc: Global, side: Side, receives: u32) -> Option<Endpoint>
     ensures { IfSome result (λ e. fed_bytes e.link ≡ 0) }
 {
-    Endpoint::open(alloc, side, receives, 1, None).ok()
+    Endpoint::open(alloc, side, receives, 1, SideTerms::one_unit()).ok()
 }
 
 /// A Send from one peer to the other, which takes it.

@@ -13,7 +13,7 @@ use Rattle.nr_link.specs.declared.agreement.SideTerms.{SideTerms}
 use Rattle.nr_link.specs.Agreement.{initiator_private, responder_private, responder_private_by}
 use Rattle.nr_link.specs.Frames.{Frame}
 use Rattle.nr_reduce.specs.declared.mark.LinkParameters.{LinkParameters}
-use Rattle.nr_reduce.specs.Hellos.{client_hello, client_private, server_hello, server_private, private_of, initiator_says, responder_says}
+use Rattle.nr_reduce.specs.Hellos.{client_hello, client_private, server_hello, server_private, private_of}
 use Rattle.nr_wire.specs.Constants.{HELLO_REVISION, TERMS_NUMBER, TERMS_INVALIDATE, UNITS_MAX, OPCODE_WRITE, OPCODE_READ_REQUEST, OPCODE_READ_RESPONSE, OPCODE_SEND, OPCODE_TERMINATE, QUEUE_SEND, QUEUE_READ_REQUEST, QUEUE_TERMINATE}
 use Rattle.nr_wire.specs.Fields.{half_word}
 use Rattle.nr_wire.specs.Hello.{hello_encoding, key}
@@ -192,19 +192,17 @@ terms_bytes units number invalidates =
     (bytes_more unit (unit ∷ []) (units_small units) (bytes_more unit [] (units_small units) no_bytes_lem)) in
     bytes_both (terms_key ++ fields) last (bytes_both terms_key fields terms_key_bytes own) (number_bytes (eqb number 0) number)
 
-says_bytes : (o : Option SideTerms) → IsBytes (initiator_says o)
+initiator_bytes : (t : SideTerms) → IsBytes (initiator_private t)
 unfolding initiator_private
-says_bytes None = no_bytes_lem
-says_bytes (Some t) = by (eqb t.units 1 && (eqb t.number 0 && not t.invalidates))
+initiator_bytes t = by (eqb (units_byte t.units) 0 && (eqb t.number 0 && not t.invalidates))
   where
     by : (b : Bool) → IsBytes (cond b [] (terms_encoding t.units t.number t.invalidates))
     by true = no_bytes_lem
     by false = terms_bytes t.units t.number t.invalidates
 
-answers_bytes : (o : Option SideTerms) (initiator : List ℕ) → IsBytes (responder_says o initiator)
+responder_bytes : (t : SideTerms) (initiator : List ℕ) → IsBytes (responder_private t initiator)
 unfolding responder_private
-answers_bytes None initiator = no_bytes_lem
-answers_bytes (Some t) initiator = by (terms_in initiator)
+responder_bytes t initiator = by (terms_in initiator)
   where
     by : (said : Option Terms) → IsBytes (responder_private_by t said)
     by None = no_bytes_lem
@@ -212,11 +210,11 @@ answers_bytes (Some t) initiator = by (terms_in initiator)
 
 pub client_hello_bytes : (o : LinkParameters) → IsBytes (client_hello o)
 unfolding client_hello
-client_hello_bytes o = hello_bytes_lem Initiator (client_private o) (says_bytes o.client)
+client_hello_bytes o = hello_bytes_lem Initiator (client_private o) (initiator_bytes o.client)
 
 pub server_hello_bytes : (o : LinkParameters) (f : Frame) → IsBytes (server_hello o f)
 unfolding server_hello
-server_hello_bytes o f = hello_bytes_lem Responder (server_private o f) (answers_bytes o.server (private_of f))
+server_hello_bytes o f = hello_bytes_lem Responder (server_private o f) (responder_bytes o.server (private_of f))
 
 pub refusing_bytes : IsBytes refusing_hello
 unfolding refusing_hello hello_encoding key half_word

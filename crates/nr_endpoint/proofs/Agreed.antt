@@ -1,5 +1,5 @@
--- What is agreed fits the receives of a side, and a side that says nothing agrees on nothing.
-use Rattle.std.proofs.Common.{◌≡◌, ℕ, ◌*◌, ◌≤◌, min, max, Bool, true, false, if◌then◌else◌, List, [], Option, None, Some, refl, ap, ◌∙◌, arith}
+-- What is agreed fits the receives of a side.
+use Rattle.std.proofs.Common.{◌≡◌, ℕ, ◌*◌, ◌≤◌, min, max, Bool, true, false, if◌then◌else◌, List, [], Option, None, Some, refl, arith}
 use Rattle.std.proofs.Math.Nat.{min-le_right}
 use Rattle.nr_wire.specs.Constants.{UNITS_MAX}
 use Rattle.nr_wire.specs.declared.hello.Side.{Side}
@@ -10,7 +10,6 @@ use Rattle.nr_link.specs.declared.agreement.SideTerms.{SideTerms}
 use Rattle.nr_link.specs.Agreement.{initiator_private, responder_private, responder_private_by, agreement, agreed_by}
 use Rattle.nr_link.specs.Limits.{send_max}
 use Rattle.nr_endpoint.specs.Hellos.{own_private, side_agreement, received_max, receive_length_for}
-use Rattle.nr_endpoint.specs.Judging.{reply_hello}
 
 -- these terms, if there are any, say n units in both directions
 abbrev Says : ℕ → Option Terms → Type 0
@@ -41,9 +40,9 @@ responder_says_by : (t : SideTerms) (said : Option Terms) → Says (units_of_byt
 responder_says_by t None = nothing_says _
 responder_says_by t (Some terms) = encoding_says t.units 0 t.invalidates
 
-responder_says : (t : SideTerms) (heard : List ℕ) → Says (units_of_byte (units_byte t.units)) (terms_in (responder_private t heard))
+responder_says : (t : SideTerms) (peer_private : List ℕ) → Says (units_of_byte (units_byte t.units)) (terms_in (responder_private t peer_private))
 unfolding responder_private
-responder_says t heard = responder_says_by t (terms_in heard)
+responder_says t peer_private = responder_says_by t (terms_in peer_private)
 
 -- the units that private data says are those of the receives
 units_said : (units : ℕ) → units_of_byte (units_byte units) ≡ min (max units 1) UNITS_MAX
@@ -59,40 +58,11 @@ up_fits None responder n some says = omega (arith, some)
 up_fits (Some i) None n some says = omega (arith, some)
 up_fits (Some i) (Some r) n some says = (let receives = says.1 in omega (arith, min-le_right i.sends r.receives, receives))
 
-silent_down : (heard : List ℕ) → (agreement [] heard).down ≡ send_max
-unfolding agreement terms_in
-silent_down heard = refl
-
-silent_up_by : (said : Option Terms) → (agreed_by said None).up ≡ send_max
-silent_up_by None = refl
-silent_up_by (Some t) = refl
-
-silent_up : (heard : List ℕ) → (agreement heard []).up ≡ send_max
-unfolding agreement terms_in
-silent_up heard = silent_up_by (terms_in heard)
-
--- a side that says nothing receives messages of one unit
-pub silent_max : (side : Side) (heard : List ℕ) → received_max side (side_agreement side [] heard) ≡ send_max
-silent_max Initiator heard = silent_down heard
-silent_max Responder heard = silent_up heard
-
 -- a message that a side receives fits its receive
-pub agreed_fits : (terms : Option SideTerms) (side : Side) (heard : List ℕ) → received_max side (side_agreement side (own_private terms side heard) heard) ≤ receive_length_for terms
+pub agreed_fits : (terms : SideTerms) (side : Side) (peer_private : List ℕ) →
+    received_max side (side_agreement side (own_private terms side peer_private) peer_private) ≤ receive_length_for terms
 unfolding agreement
-agreed_fits None side heard = omega (arith, silent_max side heard)
-agreed_fits (Some t) Initiator heard =
-    omega (arith, units_said t.units, down_fits (terms_in (initiator_private t)) (terms_in heard) _ (omega arith) (initiator_says t))
-agreed_fits (Some t) Responder heard =
-    omega (arith, units_said t.units, up_fits (terms_in heard) (terms_in (responder_private t heard)) _ (omega arith) (responder_says t heard))
-
--- ---- A side that says nothing
-
-pub silent_private : (terms : Option SideTerms) (side : Side) (heard : List ℕ) → terms ≡ None → own_private terms side heard ≡ []
-silent_private terms side heard none = ap (λ (t : Option SideTerms). own_private t side heard) none
-
-pub silent_agrees : (terms : Option SideTerms) (side : Side) (heard : List ℕ) → terms ≡ None → received_max side (side_agreement side (own_private terms side heard) heard) ≡ send_max
-silent_agrees terms side heard none =
-    ap (λ (own : List ℕ). received_max side (side_agreement side own heard)) (silent_private terms side heard none) ∙ silent_max side heard
-
-pub silent_reply : (terms : Option SideTerms) (side which : Side) (heard : List ℕ) → terms ≡ None → side ≡ which → reply_hello side (own_private terms side heard) ≡ reply_hello which []
-silent_reply terms side which heard none is = λ i. reply_hello (is i) (silent_private terms side heard none i)
+agreed_fits t Initiator peer_private =
+    omega (arith, units_said t.units, down_fits (terms_in (initiator_private t)) (terms_in peer_private) _ (omega arith) (initiator_says t))
+agreed_fits t Responder peer_private =
+    omega (arith, units_said t.units, up_fits (terms_in peer_private) (terms_in (responder_private t peer_private)) _ (omega arith) (responder_says t peer_private))

@@ -211,7 +211,7 @@ unfolding after_calls
 calls_bounded opened link [] may is = is
 calls_bounded opened link (call ∷ calls) may is = calls_bounded opened (after_call link call) calls may.1 (call_bounded opened link call may.0 is)
 
-initial_bounded : (side : Side) (receives first_stag : ℕ) (terms : Option SideTerms) → IsBounded receives (initial_link side receives first_stag terms).state
+initial_bounded : (side : Side) (receives first_stag : ℕ) (terms : SideTerms) → IsBounded receives (initial_link side receives first_stag terms).state
 unfolding initial_link
 initial_bounded side receives first_stag terms = record { reads = omega arith; responses = omega arith; sum = omega arith; same = refl }
 

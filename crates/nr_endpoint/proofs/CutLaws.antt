@@ -51,7 +51,7 @@ unfolding after_calls
 partial_calls link [] p = p
 partial_calls link (call ∷ calls) p = partial_calls (after_call link call) calls (partial_call link call p)
 
-partial_initial : (side : Side) (receives first_stag : ℕ) (terms : Option SideTerms) → IsPartialLink (initial_link side receives first_stag terms)
+partial_initial : (side : Side) (receives first_stag : ℕ) (terms : SideTerms) → IsPartialLink (initial_link side receives first_stag terms)
 unfolding initial_link
 partial_initial side receives first_stag terms = partial_nil _
 
@@ -118,7 +118,7 @@ unfolding after_calls
 empty_calls link [] p = p
 empty_calls link (call ∷ calls) p = empty_calls (after_call link call) calls (empty_call link call p)
 
-empty_initial : (side : Side) (receives first_stag : ℕ) (terms : Option SideTerms) → IsEmptyIfEnded (initial_link side receives first_stag terms)
+empty_initial : (side : Side) (receives first_stag : ℕ) (terms : SideTerms) → IsEmptyIfEnded (initial_link side receives first_stag terms)
 unfolding initial_link
 empty_initial side receives first_stag terms = λ ended. refl
 

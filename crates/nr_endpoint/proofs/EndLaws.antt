@@ -310,11 +310,11 @@ calls_caused done link (call ∷ calls) is =
     subst (λ (all : List Call). IfSome (after_calls (after_call link call) calls).state.ended (HasCause all)) (append_assoc done (call ∷ []) calls)
     (calls_caused (done ++ call ∷ []) (after_call link call) calls (call_caused done link call is))
 
-initial_live : (side : Side) (receives first_stag : ℕ) (terms : Option SideTerms) → (initial_link side receives first_stag terms).state.ended ≡ None
+initial_live : (side : Side) (receives first_stag : ℕ) (terms : SideTerms) → (initial_link side receives first_stag terms).state.ended ≡ None
 unfolding initial_link
 initial_live side receives first_stag terms = refl
 
-cause_of_lem : (side : Side) (receives first_stag : ℕ) (terms : Option SideTerms) (calls : List Call) (end : End) → (after_calls (initial_link side receives first_stag terms) calls).state.ended ≡ Some end → HasCause calls end
+cause_of_lem : (side : Side) (receives first_stag : ℕ) (terms : SideTerms) (calls : List Call) (end : End) → (after_calls (initial_link side receives first_stag terms) calls).state.ended ≡ Some end → HasCause calls end
 cause_of_lem side receives first_stag terms calls end is =
     let start : LinkSide = initial_link side receives first_stag terms in
     subst (λ (e : Option End). IfSome e (HasCause calls)) is (calls_caused [] start calls (not_ended_lem (HasCause []) start.state.ended (initial_live side receives first_stag terms)))

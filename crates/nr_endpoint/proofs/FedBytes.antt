@@ -139,7 +139,7 @@ message_lent before after number invalidated bytes first is =
     let one : lent_for before.state.receive_queue.deliveries ≡ 1 = ap (λ (n : List DeliveredEvent). lent_for n) first in
     omega (arith, lent, one)
 
-pub open_fed : (l : LinkSide) (side : Side) (receives stag : ℕ) (terms : Option SideTerms) → l ≡ initial_link side receives stag terms → fed_bytes l ≡ 0
+pub open_fed : (l : LinkSide) (side : Side) (receives stag : ℕ) (terms : SideTerms) → l ≡ initial_link side receives stag terms → fed_bytes l ≡ 0
 unfolding initial_link
 open_fed l side receives stag terms is = ap (λ (x : LinkSide). fed_bytes x) is
 

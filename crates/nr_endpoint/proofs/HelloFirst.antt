@@ -71,7 +71,7 @@ unfolding after_calls
 calls_greeted link [] greeted = greeted
 calls_greeted link (call ∷ calls) greeted = calls_greeted (after_call link call) calls (call_greeted link call greeted)
 
-initial_greeted : (side : Side) (receives first_stag : ℕ) (terms : Option SideTerms) → Greeted (initial_link side receives first_stag terms).awaited (initial_link side receives first_stag terms).state
+initial_greeted : (side : Side) (receives first_stag : ℕ) (terms : SideTerms) → Greeted (initial_link side receives first_stag terms).awaited (initial_link side receives first_stag terms).state
 unfolding initial_link
 initial_greeted side receives first_stag terms = λ live is. absurd cc
 

@@ -30,12 +30,12 @@ awaits_hello (HelloFrom side) = true
 awaits_hello Fpdu = false
 
 -- a side to which the peer's hello didn't come yet, after these bytes were written
-record IsEarly (side : Side) (terms : Option SideTerms) (out : List ℕ) (a : Awaited) (s : LinkState) : Type 0 where
+record IsEarly (side : Side) (terms : SideTerms) (out : List ℕ) (a : Awaited) (s : LinkState) : Type 0 where
   pub start : s.place ≡ 0
   pub awaited : has_ended s ≡ false → awaits_hello a ≡ true
   pub alone : IsHelloAlone side terms (has_ended s) (out ++ s.send_queue.hello)
 
-abbrev Early : Side → Option SideTerms → List ℕ → Awaited → LinkState → Type 0
+abbrev Early : Side → SideTerms → List ℕ → Awaited → LinkState → Type 0
 Early side terms out a s = (s.side ≡ side) × (s.has_hello ≡ false → IsEarly side terms out a s)
 
 -- ---- A frame
@@ -45,7 +45,7 @@ by_reason true = inr (refl, refl)
 by_reason false = inl refl
 
 -- a side that rejects the peer's hello
-rejected : (side : Side) (terms : Option SideTerms) (out hello : List ℕ) (at reason : ℕ) (gone : Bool) → gone ≡ false → IsHelloAlone side terms gone (out ++ hello) →
+rejected : (side : Side) (terms : SideTerms) (out hello : List ℕ) (at reason : ℕ) (gone : Bool) → gone ≡ false → IsHelloAlone side terms gone (out ++ hello) →
     IsHelloAlone side terms true (out ++ (hello ++ rejection side (ends.Bad at reason)))
 rejected Initiator terms out hello at reason gone live alone = ap (λ (xs : List ℕ). out ++ xs) (append-nil hello) ∙ alone
 rejected Responder terms out hello at reason gone live (inr (ended, is)) = absurd (let h : true ≡ false = sym ended ∙ live in cc)
@@ -54,7 +54,7 @@ rejected Responder terms out hello at reason gone live (inl none) =
     sym (append_assoc out hello (cond (eqb reason REASON_FLAGS) refusing_hello [])) ∙ ap (λ (xs : List ℕ). xs ++ cond (eqb reason REASON_FLAGS) refusing_hello []) none in
     subst (λ (xs : List ℕ). (xs ≡ []) ⊎ ((true ≡ true) × (xs ≡ refusing_hello))) (sym same) (by_reason (eqb reason REASON_FLAGS))
 
-hello_early : (side : Side) (terms : Option SideTerms) (out : List ℕ) (a : Awaited) (s : LinkState) (f : Frame) (r : Result Hello ℕ) → has_ended s ≡ false → Early side terms out a s →
+hello_early : (side : Side) (terms : SideTerms) (out : List ℕ) (a : Awaited) (s : LinkState) (f : Frame) (r : Result Hello ℕ) → has_ended s ≡ false → Early side terms out a s →
     Early side terms out Fpdu (with_peer_hello f r s)
 unfolding with_peer_hello with_end
 hello_early side terms out a s f (Ok hello) live early = (early.0, λ none. absurd (let h : true ≡ false = none in cc))
@@ -88,7 +88,7 @@ unfolding with_fpdu
 fpdu_side s f (Ok segment) = segment_side s f segment (segment_end s f segment)
 fpdu_side s f (Err reason) = (refl, refl)
 
-frame_early : (side : Side) (terms : Option SideTerms) (out : List ℕ) (a : Awaited) (s : LinkState) (frame : List ℕ) → has_ended s ≡ false → Early side terms out a s → Early side terms out Fpdu (with_frame s a frame)
+frame_early : (side : Side) (terms : SideTerms) (out : List ℕ) (a : Awaited) (s : LinkState) (frame : List ℕ) → has_ended s ≡ false → Early side terms out a s → Early side terms out Fpdu (with_frame s a frame)
 frame_early side terms out (HelloFrom other) s frame live early = hello_early side terms out (HelloFrom other) s (next_frame s frame) (hello_of other frame) live early
 frame_early side terms out Fpdu s frame live early =
     let same : SameSide s (with_fpdu (next_frame s frame) (segment_of frame) s) = fpdu_side s (next_frame s frame) (segment_of frame) in
@@ -97,7 +97,7 @@ frame_early side terms out Fpdu s frame live early =
 -- ---- A call
 
 -- a call that queues FPDUs at most
-unless_early : (side : Side) (terms : Option SideTerms) (out : List ℕ) (a : Awaited) (s after : LinkState) (b : Bool) → after.side ≡ s.side → after.has_hello ≡ s.has_hello → after.place ≡ s.place →
+unless_early : (side : Side) (terms : SideTerms) (out : List ℕ) (a : Awaited) (s after : LinkState) (b : Bool) → after.side ≡ s.side → after.has_hello ≡ s.has_hello → after.place ≡ s.place →
     after.ended ≡ s.ended → after.send_queue.hello ≡ s.send_queue.hello → Early side terms out a s → Early side terms out a (cond b s after)
 unless_early side terms out a s after true own has place gone hello early = early
 unless_early side terms out a s after false own has place gone hello early = (
@@ -112,12 +112,12 @@ unless_early side terms out a s after false own has place gone hello early = (
       },
 )
 
-ended_alone : (side : Side) (terms : Option SideTerms) (b : Bool) (bytes : List ℕ) → IsHelloAlone side terms b bytes → IsHelloAlone side terms true bytes
+ended_alone : (side : Side) (terms : SideTerms) (b : Bool) (bytes : List ℕ) → IsHelloAlone side terms b bytes → IsHelloAlone side terms true bytes
 ended_alone Initiator terms b bytes is = is
 ended_alone Responder terms b bytes (inl none) = inl none
 ended_alone Responder terms b bytes (inr (gone, is)) = inr (refl, is)
 
-drained_early : (side : Side) (terms : Option SideTerms) (out : List ℕ) (a : Awaited) (s : LinkState) (n : ℕ) → Early side terms out a s →
+drained_early : (side : Side) (terms : SideTerms) (out : List ℕ) (a : Awaited) (s : LinkState) (n : ℕ) → Early side terms out a s →
     Early side terms (out ++ take n (writable s.has_hello s.send_queue)) a (record s { send_queue = written n s.send_queue })
 unfolding written
 drained_early side terms out a s n early = (
@@ -135,14 +135,14 @@ drained_early side terms out a s n early = (
       },
 )
 
-no_more_lem : (side : Side) (terms : Option SideTerms) (out : List ℕ) (a : Awaited) (s : LinkState) → Early side terms out a s → Early side terms (out ++ []) a s
+no_more_lem : (side : Side) (terms : SideTerms) (out : List ℕ) (a : Awaited) (s : LinkState) → Early side terms out a s → Early side terms (out ++ []) a s
 no_more_lem side terms out a s early = subst (λ (xs : List ℕ). Early side terms xs a s) (sym (append-nil out)) early
 
-either_early : (side : Side) (terms : Option SideTerms) (out : List ℕ) (a : Awaited) (s after : LinkState) (b : Bool) → Early side terms out a s → Early side terms out a after → Early side terms out a (cond b s after)
+either_early : (side : Side) (terms : SideTerms) (out : List ℕ) (a : Awaited) (s after : LinkState) (b : Bool) → Early side terms out a s → Early side terms out a after → Early side terms out a (cond b s after)
 either_early side terms out a s after true early later = early
 either_early side terms out a s after false early later = later
 
-call_early : (side : Side) (terms : Option SideTerms) (out : List ℕ) (link : LinkSide) (call : Call) → MayBeCalled link call → Early side terms out link.awaited link.state →
+call_early : (side : Side) (terms : SideTerms) (out : List ℕ) (link : LinkSide) (call : Call) → MayBeCalled link call → Early side terms out link.awaited link.state →
     Early side terms (out ++ bytes_drained link call) (after_call link call).awaited (after_call link call).state
 unfolding after_call with_end
 call_early side terms out link (Feed piece) may early =
@@ -167,7 +167,7 @@ call_early side terms out link (Drain count) may early = drained_early side term
 call_early side terms out link (Register buf right) may early = no_more_lem side terms out link.awaited _ (early.0, λ none. let e = early.1 none in record { start = e.start; awaited = e.awaited; alone = e.alone })
 call_early side terms out link (Release stag) may early = no_more_lem side terms out link.awaited _ (early.0, λ none. let e = early.1 none in record { start = e.start; awaited = e.awaited; alone = e.alone })
 
-calls_early : (side : Side) (terms : Option SideTerms) (out : List ℕ) (link : LinkSide) (calls : List Call) → MayAllBeCalled link calls → Early side terms out link.awaited link.state →
+calls_early : (side : Side) (terms : SideTerms) (out : List ℕ) (link : LinkSide) (calls : List Call) → MayAllBeCalled link calls → Early side terms out link.awaited link.state →
     Early side terms (out ++ bytes_written link calls) (after_calls link calls).awaited (after_calls link calls).state
 unfolding after_calls
 calls_early side terms out link [] may early = no_more_lem side terms out link.awaited link.state early
@@ -176,7 +176,7 @@ calls_early side terms out link (call ∷ calls) may early =
     (append_assoc out (bytes_drained link call) (bytes_written (after_call link call) calls))
     (calls_early side terms (out ++ bytes_drained link call) (after_call link call) calls may.1 (call_early side terms out link call may.0 early))
 
-initial_early : (side : Side) (receives first_stag : ℕ) (terms : Option SideTerms) → Early side terms [] (initial_link side receives first_stag terms).awaited (initial_link side receives first_stag terms).state
+initial_early : (side : Side) (receives first_stag : ℕ) (terms : SideTerms) → Early side terms [] (initial_link side receives first_stag terms).awaited (initial_link side receives first_stag terms).state
 unfolding initial_link
 initial_early Initiator receives first_stag terms = (refl, λ none. record { start = refl; awaited = λ live. refl; alone = refl })
 initial_early Responder receives first_stag terms = (refl, λ none. record { start = refl; awaited = λ live. refl; alone = inl refl })

@@ -177,7 +177,7 @@ unfolding after_calls
 calls_send link [] fit = fit
 calls_send link (call ∷ calls) fit = calls_send (after_call link call) calls (call_sends link call fit)
 
-initial_sends : (side : Side) (receives first_stag : ℕ) (terms : Option SideTerms) → SendsFit (initial_link side receives first_stag terms).state.send_queue
+initial_sends : (side : Side) (receives first_stag : ℕ) (terms : SideTerms) → SendsFit (initial_link side receives first_stag terms).state.send_queue
 unfolding initial_link
 initial_sends side receives first_stag terms = (omega arith, λ k. omega arith)
 
@@ -233,7 +233,7 @@ calls_count link (call ∷ calls) n may counts =
     let moved = call_counts link call n may.0 counts in
     omega (arith, moved.2, calls_count (after_call link call) calls moved.0 may.1 moved.1)
 
-initial_counts : (side : Side) (receives first_stag : ℕ) (terms : Option SideTerms) → Counts 0 (initial_link side receives first_stag terms).state.memory
+initial_counts : (side : Side) (receives first_stag : ℕ) (terms : SideTerms) → Counts 0 (initial_link side receives first_stag terms).state.memory
 unfolding initial_link initial_memory
 initial_counts side receives first_stag terms = (λ stag le. ap (λ (o : Option Region). is_some o) (get-empty nat_cmp stag), len-empty nat_cmp Region)
 

@@ -81,21 +81,21 @@ abbrev hello_by : LinkState → Bool → Option End → List ℕ
 hello_by s = hello_queued s.side s.terms s.private
 
 -- once the peer's hello was accepted, all of its own was queued
-same_hello : (side : Side) (terms : Option SideTerms) (private : List ℕ) (has : Bool) (e f : Option End) → has ≡ true → hello_queued side terms private has e ≡ hello_queued side terms private has f
+same_hello : (side : Side) (terms : SideTerms) (private : List ℕ) (has : Bool) (e f : Option End) → has ≡ true → hello_queued side terms private has e ≡ hello_queued side terms private has f
 same_hello Initiator terms private has e f is = refl
 same_hello Responder terms private has e f is =
     ap (λ (b : Bool). cond b (hello_with Responder private) (rejection_by Responder e)) is ∙ sym (ap (λ (b : Bool). cond b (hello_with Responder private) (rejection_by Responder f)) is)
 
 -- an end with no rejection
-ended_hello : (side : Side) (terms : Option SideTerms) (private : List ℕ) (has : Bool) (end : End) → rejection side end ≡ [] → hello_queued side terms private has (Some end) ≡ hello_queued side terms private has None
+ended_hello : (side : Side) (terms : SideTerms) (private : List ℕ) (has : Bool) (end : End) → rejection side end ≡ [] → hello_queued side terms private has (Some end) ≡ hello_queued side terms private has None
 ended_hello Initiator terms private has end none = refl
 ended_hello Responder terms private has end none = ap (λ (bytes : List ℕ). cond has (hello_with Responder private) bytes) none
 
-replied : (side : Side) (terms : Option SideTerms) (before private : List ℕ) → hello_queued side terms before false None ++ reply_hello side private ≡ hello_queued side terms private true None
+replied : (side : Side) (terms : SideTerms) (before private : List ℕ) → hello_queued side terms before false None ++ reply_hello side private ≡ hello_queued side terms private true None
 replied Initiator terms before private = append-nil (hello_with Initiator (first_private terms Initiator))
 replied Responder terms before private = refl
 
-rejected : (side : Side) (terms : Option SideTerms) (private : List ℕ) (end : End) → hello_queued side terms private false None ++ rejection side end ≡ hello_queued side terms private false (Some end)
+rejected : (side : Side) (terms : SideTerms) (private : List ℕ) (end : End) → hello_queued side terms private false None ++ rejection side end ≡ hello_queued side terms private false (Some end)
 rejected Initiator terms private end = append-nil (hello_with Initiator (first_private terms Initiator))
 rejected Responder terms private end = refl
 
@@ -384,7 +384,7 @@ calls_keep out items link (call ∷ calls) may is =
     (append_assoc items (call_items link call) (items_queued (after_call link call) calls))
     (calls_keep (out ++ bytes_drained link call) (items ++ call_items link call) (after_call link call) calls may.1 (call_keeps out items link call may.0 is)))
 
-initial_output : (side : Side) (receives first_stag : ℕ) (terms : Option SideTerms) → Along [] [] (initial_link side receives first_stag terms)
+initial_output : (side : Side) (receives first_stag : ℕ) (terms : SideTerms) → Along [] [] (initial_link side receives first_stag terms)
 unfolding initial_link
 initial_output Initiator receives first_stag terms = record {
   awaits = λ live. refl;
@@ -395,7 +395,7 @@ initial_output Responder receives first_stag terms = record {
   queue = record { greeted = 0; gone = 0; hello = refl; fpdus = refl; written = refl; within = omega arith; order = inl refl; early = λ none. (refl, omega arith); sends = refl; responses = refl; left = refl };
 }
 
-output_of : (side : Side) (receives first_stag : ℕ) (terms : Option SideTerms) (calls : List Call) → AreAllowedCalls (initial_link side receives first_stag terms) calls →
+output_of : (side : Side) (receives first_stag : ℕ) (terms : SideTerms) (calls : List Call) → AreAllowedCalls (initial_link side receives first_stag terms) calls →
     Along (bytes_written (initial_link side receives first_stag terms) calls) (items_queued (initial_link side receives first_stag terms) calls) (after_calls (initial_link side receives first_stag terms) calls)
 output_of side receives first_stag terms calls may = calls_keep [] [] (initial_link side receives first_stag terms) calls may (initial_output side receives first_stag terms)
 

@@ -1,5 +1,5 @@
 -- What is agreed on a side, call after call.
-use Rattle.std.proofs.Common.{◌≡◌, ℕ, Bool, true, false, cond, List, [], ◌∷◌, length, Option, Some, None, Result, Ok, Err, refl, eqb, arith}
+use Rattle.std.proofs.Common.{◌≡◌, ℕ, Bool, true, false, cond, List, [], ◌∷◌, length, Option, Some, None, Result, Ok, Err, refl, sym, eqb, arith}
 use Rattle.nr_wire.specs.Constants.{OPCODE_READ_RESPONSE}
 use Rattle.nr_wire.specs.declared.hello.Side.{Side}
 use Rattle.nr_wire.specs.declared.hello.Side.TheVariants.{Initiator, Responder}
@@ -20,15 +20,16 @@ use Rattle.nr_endpoint.specs.Judging.{segment_end, next_frame, with_frame, with_
 use Rattle.nr_endpoint.specs.Calls.{Call, after_call, after_calls}
 use Rattle.nr_endpoint.specs.Calls.Call.{Feed, FeedOne, NextEvent, Post, Stop, OutOfMemory, Send, WriteRemote, ReadRemote, Drain, Register, Release}
 use Rattle.nr_endpoint.specs.AgreedLaws.{IsAgreed, SidesAgree}
+use Rattle.nr_endpoint.proofs.Agreed.{agreed_fits}
 use Rattle.nr_endpoint.proofs.AlongFrames.{feed_keeps, feed_one_keeps}
 
 -- what the side has of it
 abbrev Agrees : Awaited → LinkState → Type 0
-Agrees a s = IsAgreed s.side s.has_hello s.agreed s.message_max
+Agrees a s = IsAgreed s.terms s.side s.has_hello s.private s.agreed s.message_max
 
-limits : (side : Side) (own heard : List ℕ) → IsSendLimit (side_agreement side own heard).up × IsSendLimit (side_agreement side own heard).down
-limits Initiator own heard = agreements_bounded own heard
-limits Responder own heard = agreements_bounded heard own
+limits : (side : Side) (own peer_private : List ℕ) → IsSendLimit (side_agreement side own peer_private).up × IsSendLimit (side_agreement side own peer_private).down
+limits Initiator own peer_private = agreements_bounded own peer_private
+limits Responder own peer_private = agreements_bounded peer_private own
 
 hello_agrees : (a : Awaited) (s : LinkState) (f : Frame) (r : Result Hello ℕ) → Agrees a s → Agrees Fpdu (with_peer_hello f r s)
 unfolding with_peer_hello
@@ -36,7 +37,9 @@ hello_agrees a s f (Ok hello) is =
     let own : List ℕ = own_private s.terms s.side hello.private in
     record {
       before = λ none. absurd (let h : true ≡ false = none in cc);
+      after = λ some. (hello.private, refl, refl);
       received = refl;
+      fits = agreed_fits s.terms s.side hello.private;
       up = (limits s.side own hello.private).0;
       down = (limits s.side own hello.private).1;
     }
@@ -86,11 +89,25 @@ unfolding after_calls
 calls_agree link [] is = is
 calls_agree link (call ∷ calls) is = calls_agree (after_call link call) calls (call_agrees link call is)
 
-initial_agrees : (side : Side) (receives first_stag : ℕ) (terms : Option SideTerms) →
+initial_agrees : (side : Side) (receives first_stag : ℕ) (terms : SideTerms) →
     Agrees (initial_link side receives first_stag terms).awaited (initial_link side receives first_stag terms).state
 unfolding initial_link
-initial_agrees Initiator receives first_stag terms = record { before = λ none. refl; received = refl; up = (omega arith, omega arith); down = (omega arith, omega arith) }
-initial_agrees Responder receives first_stag terms = record { before = λ none. refl; received = refl; up = (omega arith, omega arith); down = (omega arith, omega arith) }
+initial_agrees Initiator receives first_stag terms = record {
+  before = λ none. refl;
+  after = λ some. absurd (let h : true ≡ false = sym some in cc);
+  received = refl;
+  fits = omega arith;
+  up = (omega arith, omega arith);
+  down = (omega arith, omega arith);
+}
+initial_agrees Responder receives first_stag terms = record {
+  before = λ none. refl;
+  after = λ some. absurd (let h : true ≡ false = sym some in cc);
+  received = refl;
+  fits = omega arith;
+  up = (omega arith, omega arith);
+  down = (omega arith, omega arith);
+}
 
 pub sides_agree_lem : SidesAgree
 sides_agree_lem side receives first_stag terms calls = calls_agree (initial_link side receives first_stag terms) calls (initial_agrees side receives first_stag terms)

@@ -192,14 +192,14 @@ calls_fed from link bytes (call ∷ calls) fed =
     subst (λ (x : List ℕ). IsFed from (after_calls (after_call link call) calls) x) (append_assoc bytes (bytes_in_call link call) (bytes_fed (after_call link call) calls))
     (calls_fed from (after_call link call) (bytes ++ bytes_in_call link call) calls (call_fed from link bytes call fed))
 
-initial_fed : (side : Side) (receives first_stag : ℕ) (terms : Option SideTerms) → IsFed (peer side) (initial_link side receives first_stag terms) []
+initial_fed : (side : Side) (receives first_stag : ℕ) (terms : SideTerms) → IsFed (peer side) (initial_link side receives first_stag terms) []
 unfolding initial_link
 initial_fed side receives first_stag terms = record {
   keeps = λ live. subst (KeepsInput (initial_link side receives first_stag terms)) (sym (input_of_none (peer side))) (record { awaited = refl; rest = refl; place = refl });
   within = omega arith;
 }
 
-pub stream_fed : (side : Side) (receives first_stag : ℕ) (terms : Option SideTerms) (calls : List Call) →
+pub stream_fed : (side : Side) (receives first_stag : ℕ) (terms : SideTerms) (calls : List Call) →
     IsFed (peer side) (after_calls (initial_link side receives first_stag terms) calls) (bytes_fed (initial_link side receives first_stag terms) calls)
 stream_fed side receives first_stag terms calls = calls_fed (peer side) (initial_link side receives first_stag terms) [] calls (initial_fed side receives first_stag terms)
 

@@ -17,7 +17,7 @@ use Rattle.nr_endpoint.specs.Counted.{IsCounted}
 kept_len : (n : ℕ) (bytes : List ℕ) → length (kept_within n bytes) ≡ length bytes
 kept_len n bytes = omega (arith, length-append (take n bytes) (replicate (length bytes - n) 0), length-take n bytes, length-replicate {A = ℕ} (length bytes - n) 0)
 
-pub counted_send : (terms : Option SideTerms) (greeted : Bool) (q : ReceiveQueue) (last : Bool) (payload : List ℕ) (place most n : ℕ) → IsCounted terms greeted q place most → length payload + 1 ≤ n →
+pub counted_send : (terms : SideTerms) (greeted : Bool) (q : ReceiveQueue) (last : Bool) (payload : List ℕ) (place most n : ℕ) → IsCounted terms greeted q place most → length payload + 1 ≤ n →
     IsCounted terms greeted (with_segment (Untagged last OPCODE_SEND 0 0 0 0 payload) q) (place + n) most
 unfolding with_segment
 counted_send terms greeted q true payload place most n counted some = record {
@@ -39,7 +39,7 @@ kept_same : (n : ℕ) (begun : Option (List ℕ)) → length (begun_bytes (begun
 kept_same n None = refl
 kept_same n (Some bytes) = kept_len n bytes
 
-pub counted_request : (terms : Option SideTerms) (greeted : Bool) (q : ReceiveQueue) (place most n : ℕ) → IsCounted terms greeted q place most → 1 ≤ n →
+pub counted_request : (terms : SideTerms) (greeted : Bool) (q : ReceiveQueue) (place most n : ℕ) → IsCounted terms greeted q place most → 1 ≤ n →
     IsCounted terms greeted (with_segment (Untagged true OPCODE_READ_REQUEST 0 0 0 0 []) q) (place + n) most
 unfolding with_segment
 counted_request terms greeted q place most n counted some = record {

@@ -132,10 +132,10 @@ agreement_code = code_by (ℕ × (ℕ × Bool)) (coded× coded_ℕ (coded× code
 
 -- what a side says, and what is agreed
 abbrev pub Said : Type 0
-Said = Option SideTerms × (List ℕ × (Agreement × ℕ))
+Said = SideTerms × (List ℕ × (Agreement × ℕ))
 
 abbrev pub said_code : Coded Said
-said_code = coded× (coded_option terms_code) (coded× (coded_list coded_ℕ) (coded× agreement_code coded_ℕ))
+said_code = coded× terms_code (coded× (coded_list coded_ℕ) (coded× agreement_code coded_ℕ))
 
 abbrev pub state_code : Coded LinkState
 state_code =

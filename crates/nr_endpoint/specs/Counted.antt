@@ -6,7 +6,7 @@ use Rattle.nr_link.specs.ReceiveState.{begun_bytes}
 use Rattle.nr_endpoint.specs.Hellos.{receive_length_for}
 use Rattle.nr_endpoint.specs.ReceiveQueue.{ReceiveQueue}
 
-pub record IsCounted (terms : Option SideTerms) (has_hello : Bool) (q : ReceiveQueue) (place message_max : ℕ) : Type 0 where
+pub record IsCounted (terms : SideTerms) (has_hello : Bool) (q : ReceiveQueue) (place message_max : ℕ) : Type 0 where
   pub bytes : q.received.sends + (q.received.requests + length (begun_bytes q.received.begun)) ≤ place
   pub waiting : length q.deliveries ≤ place
   pub greeted : has_hello ≡ true → 0 < place

@@ -1,6 +1,5 @@
--- What the hello of a side says in its private data, and what is agreed by the hellos of both (RFC 5044 section 7.1; what they say is own). A
--- side without terms says nothing: its hello has no private data, whatever its peer's has.
-use Rattle.std.specs.Prelude.{ℕ, ◌*◌, min, max, List, [], Option, None, Some}
+-- What the hello of a side says in its private data, and what is agreed by the hellos of both (RFC 5044 section 7.1; what they say is own).
+use Rattle.std.specs.Prelude.{ℕ, ◌*◌, min, max, List, []}
 use Rattle.nr_wire.specs.Constants.{UNITS_MAX}
 use Rattle.nr_wire.specs.declared.hello.Side.{Side}
 use Rattle.nr_wire.specs.declared.hello.Side.TheVariants.{Initiator, Responder}
@@ -10,30 +9,25 @@ use Rattle.nr_link.specs.Agreement.{initiator_private, responder_private, agreem
 use Rattle.nr_link.specs.Limits.{send_max}
 
 -- the private data of a side's hello, by that of its peer's, to which a responder answers
-abbrev pub own_private : Option SideTerms → Side → (heard : List ℕ) → List ℕ
-own_private None side heard = []
-own_private (Some terms) Initiator heard = initiator_private terms
-own_private (Some terms) Responder heard = responder_private terms heard
+abbrev pub own_private : SideTerms → Side → (peer_private : List ℕ) → List ℕ
+own_private terms Initiator peer_private = initiator_private terms
+own_private terms Responder peer_private = responder_private terms peer_private
 
 -- what it has said as it is opened: a responder has said nothing
-abbrev pub first_private : Option SideTerms → Side → List ℕ
+abbrev pub first_private : SideTerms → Side → List ℕ
 first_private terms Initiator = own_private terms Initiator []
 first_private terms Responder = []
 
 -- what is agreed, by a side's private data and by its peer's
-abbrev pub side_agreement : Side → (own heard : List ℕ) → Agreement
-side_agreement Initiator own heard = agreement own heard
-side_agreement Responder own heard = agreement heard own
+abbrev pub side_agreement : Side → (own peer_private : List ℕ) → Agreement
+side_agreement Initiator own peer_private = agreement own peer_private
+side_agreement Responder own peer_private = agreement peer_private own
 
 -- the maximum length of a message that a side receives, in bytes
 abbrev pub received_max : Side → Agreement → ℕ
 received_max Initiator agreed = agreed.down
 received_max Responder agreed = agreed.up
 
--- the length of each receive in bytes: of the units that a side says, from 1 to UNITS_MAX; a side that says nothing has one
-abbrev pub receive_units : Option SideTerms → ℕ
-receive_units None = 1
-receive_units (Some terms) = min (max terms.units 1) UNITS_MAX
-
-abbrev pub receive_length_for : Option SideTerms → ℕ
-receive_length_for terms = send_max * receive_units terms
+-- the length of each receive in bytes: of the units of the side's terms, from 1 to UNITS_MAX
+abbrev pub receive_length_for : SideTerms → ℕ
+receive_length_for terms = send_max * min (max terms.units 1) UNITS_MAX

@@ -107,17 +107,17 @@ reply_hello Initiator private = []
 reply_hello Responder private = hello_with Responder private
 
 -- the peer's hello was accepted: what both said is what is agreed
-abbrev pub with_privates : (own heard : List ℕ) → LinkState → LinkState
-with_privates own heard s = record s {
+abbrev pub with_agreement : (own peer_private : List ℕ) → LinkState → LinkState
+with_agreement own peer_private s = record s {
   has_hello = true;
   send_queue = with_hello (reply_hello s.side own) s.send_queue;
   private = own;
-  agreed = side_agreement s.side own heard;
-  message_max = received_max s.side (side_agreement s.side own heard);
+  agreed = side_agreement s.side own peer_private;
+  message_max = received_max s.side (side_agreement s.side own peer_private);
 }
 
 unfoldable pub with_peer_hello : Frame → Result Hello ℕ → LinkState → LinkState
-with_peer_hello f (Ok hello) s = after_frame f (with_privates (own_private s.terms s.side hello.private) hello.private s)
+with_peer_hello f (Ok hello) s = after_frame f (with_agreement (own_private s.terms s.side hello.private) hello.private s)
 with_peer_hello f (Err reason) s = with_end_of (ends.Bad f.at reason) s
 
 -- after the next frame

@@ -21,7 +21,7 @@ pub record ListsFit (s : LinkState) : Type 0 where
 
 -- At most as many Sends wait as there are bytes of FPDUs to write.
 abbrev pub WaitingSendsHaveBytes : Type 0
-WaitingSendsHaveBytes = (side : Side) (receives first_stag : ℕ) (terms : Option SideTerms) (calls : List Call) →
+WaitingSendsHaveBytes = (side : Side) (receives first_stag : ℕ) (terms : SideTerms) (calls : List Call) →
     let s = (after_calls (initial_link side receives first_stag terms) calls).state in
     length s.send_queue.send_ends ≤ length s.send_queue.fpdus
 
@@ -49,6 +49,6 @@ AreHeldReleases link (call ∷ calls) = IsHeldRelease link call × AreHeldReleas
 
 -- The regions that are held are as many as were registered and not released.
 abbrev pub HeldRegionsAreRegistered : Type 0
-HeldRegionsAreRegistered = (side : Side) (receives first_stag : ℕ) (terms : Option SideTerms) (calls : List Call) → AreHeldReleases (initial_link side receives first_stag terms) calls →
+HeldRegionsAreRegistered = (side : Side) (receives first_stag : ℕ) (terms : SideTerms) (calls : List Call) → AreHeldReleases (initial_link side receives first_stag terms) calls →
     let s = (after_calls (initial_link side receives first_stag terms) calls).state in
     len s.memory.held + count_calls released calls ≡ count_calls registered calls

@@ -55,11 +55,11 @@ EndStays = (link : LinkSide) (piece : List ℕ) → has_ended link.state ≡ tru
 
 -- After any calls a side keeps less than a frame, and a side that has ended keeps no input.
 abbrev pub KeepsLessThanFrame : Type 0
-KeepsLessThanFrame = (side : Side) (receives first_stag : ℕ) (terms : Option SideTerms) (calls : List Call) →
+KeepsLessThanFrame = (side : Side) (receives first_stag : ℕ) (terms : SideTerms) (calls : List Call) →
     IsPartial (after_calls (initial_link side receives first_stag terms) calls).awaited (after_calls (initial_link side receives first_stag terms) calls).rest
 
 abbrev pub EndedKeepsNothing : Type 0
-EndedKeepsNothing = (side : Side) (receives first_stag : ℕ) (terms : Option SideTerms) (calls : List Call) →
+EndedKeepsNothing = (side : Side) (receives first_stag : ℕ) (terms : SideTerms) (calls : List Call) →
     has_ended (after_calls (initial_link side receives first_stag terms) calls).state ≡ true → (after_calls (initial_link side receives first_stag terms) calls).rest ≡ []
 
 -- ---- What is kept of the stream
@@ -91,13 +91,13 @@ pub record KeepsInput (link : LinkSide) (input : InputState) : Type 0 where
 -- Until a side has ended, what it keeps is the rest of the bytes that were fed after their complete frames, and its offset is the end
 -- of these frames.
 abbrev pub StreamIsKept : Type 0
-StreamIsKept = (side : Side) (receives first_stag : ℕ) (terms : Option SideTerms) (calls : List Call) →
+StreamIsKept = (side : Side) (receives first_stag : ℕ) (terms : SideTerms) (calls : List Call) →
     let start = initial_link side receives first_stag terms in
     has_ended (after_calls start calls).state ≡ false → KeepsInput (after_calls start calls) (input_of (peer side) (bytes_fed start calls))
 
 -- Ended or not, its offset and what it keeps are no more than the bytes that were fed.
 abbrev pub PlaceIsFed : Type 0
-PlaceIsFed = (side : Side) (receives first_stag : ℕ) (terms : Option SideTerms) (calls : List Call) →
+PlaceIsFed = (side : Side) (receives first_stag : ℕ) (terms : SideTerms) (calls : List Call) →
     let start = initial_link side receives first_stag terms in
     let link = after_calls start calls in
     link.state.place + length link.rest ≤ length (bytes_fed start calls)
@@ -393,13 +393,13 @@ bytes_written link (call ∷ calls) = bytes_drained link call ++ bytes_written (
 
 -- An initiator writes its hello, and a responder nothing, but for the hello with which it rejects a connection and ends
 -- (RFC 5044 section 7.1).
-abbrev pub IsHelloAlone : Side → Option SideTerms → Bool → List ℕ → Type 0
+abbrev pub IsHelloAlone : Side → SideTerms → Bool → List ℕ → Type 0
 IsHelloAlone Initiator terms ended bytes = bytes ≡ hello_with Initiator (first_private terms Initiator)
 IsHelloAlone Responder terms ended bytes = (bytes ≡ []) ⊎ ((ended ≡ true) × (bytes ≡ refusing_hello))
 
 -- Until the peer's hello was accepted, that is all that was written and that may be written.
 abbrev pub NoFpduBeforeHello : Type 0
-NoFpduBeforeHello = (side : Side) (receives first_stag : ℕ) (terms : Option SideTerms) (calls : List Call) → MayAllBeCalled (initial_link side receives first_stag terms) calls →
+NoFpduBeforeHello = (side : Side) (receives first_stag : ℕ) (terms : SideTerms) (calls : List Call) → MayAllBeCalled (initial_link side receives first_stag terms) calls →
     let start = initial_link side receives first_stag terms in
     let s = (after_calls start calls).state in
     s.has_hello ≡ false → IsHelloAlone side terms (has_ended s) (bytes_written start calls ++ writable s.has_hello s.send_queue)
@@ -428,11 +428,11 @@ NoFrameStops = (a : Awaited) (reason : ℕ) → IsFrameReason a reason → IsSto
 
 -- So a side that ended for such a reason was stopped for it, and a side that ended out of memory ran out of it.
 abbrev pub OthersComeFromStop : Type 0
-OthersComeFromStop = (side : Side) (receives first_stag : ℕ) (terms : Option SideTerms) (calls : List Call) (at reason : ℕ) →
+OthersComeFromStop = (side : Side) (receives first_stag : ℕ) (terms : SideTerms) (calls : List Call) (at reason : ℕ) →
     (after_calls (initial_link side receives first_stag terms) calls).state.ended ≡ Some (ends.Bad at reason) → IsStopReason reason → Contains calls (Stop reason)
 
 abbrev pub MemoryComesFromOutOfMemory : Type 0
-MemoryComesFromOutOfMemory = (side : Side) (receives first_stag : ℕ) (terms : Option SideTerms) (calls : List Call) →
+MemoryComesFromOutOfMemory = (side : Side) (receives first_stag : ℕ) (terms : SideTerms) (calls : List Call) →
     (after_calls (initial_link side receives first_stag terms) calls).state.ended ≡ Some ends.Memory → Contains calls OutOfMemory
 
 -- Grants deny what the memory denies, of each access of a frame that ends here.

@@ -7,7 +7,7 @@ use Rattle.nr_wire.specs.Feeding.{Feeding}
 use Rattle.nr_link.specs.declared.end.End.{End}
 use Rattle.nr_link.specs.declared.agreement.SideTerms.{SideTerms}
 use Rattle.nr_link.specs.declared.agreement.Agreement.{Agreement}
-use Rattle.nr_link.specs.Agreement.{nothing_agreed}
+use Rattle.nr_link.specs.Agreement.{default_agreement}
 use Rattle.nr_link.specs.Limits.{send_max}
 use Rattle.nr_link.specs.SegmentFaults.{ExpectedResponse}
 use Rattle.nr_regions.specs.RegisteredMemory.{RegisteredMemory, initial_memory}
@@ -18,7 +18,7 @@ use Rattle.nr_endpoint.specs.ReceiveQueue.{ReceiveQueue, initial_receives}
 -- Which side it is. Whether the peer's hello was accepted. The offset of the last complete frame of the peer's stream, and the offset after
 -- it, in bytes. Why the side ended, once it has. What came, and what has to be written. The Read Requests that are open, the oldest first,
 -- each with the offset in its own region at which its response continues, and how many bytes are left. The regions. What its hello says: the
--- terms with which it was opened, if it says any, and the private data that it has said. What is agreed with the peer, and the maximum length of
+-- terms with which it was opened, and the private data that it has said. What is agreed with the peer, and the maximum length of
 -- a message of the peer in bytes.
 pub record LinkState : Type 0 where
   pub side : Side
@@ -30,7 +30,7 @@ pub record LinkState : Type 0 where
   pub reads : List ExpectedResponse
   pub memory : RegisteredMemory
   pub send_queue : SendQueue
-  pub terms : Option SideTerms
+  pub terms : SideTerms
   pub private : List ℕ
   pub agreed : Agreement
   pub message_max : ℕ
@@ -45,7 +45,7 @@ peer Responder = Initiator
 
 -- What a side was opened with: the number of receives, the STag that its first region gets, and its terms. Until the peer's hello was accepted
 -- nothing is agreed.
-abbrev pub initial_state : Side → ℕ → ℕ → Option SideTerms → LinkState
+abbrev pub initial_state : Side → ℕ → ℕ → SideTerms → LinkState
 initial_state side receives first_stag terms = record {
   side = side;
   has_hello = false;
@@ -58,7 +58,7 @@ initial_state side receives first_stag terms = record {
   send_queue = initial_queue side (first_private terms side);
   terms = terms;
   private = first_private terms side;
-  agreed = nothing_agreed;
+  agreed = default_agreement;
   message_max = send_max;
 }
 
@@ -66,5 +66,5 @@ initial_state side receives first_stag terms = record {
 abbrev pub LinkSide : Type 0
 LinkSide = Feeding LinkState
 
-unfoldable pub initial_link : Side → ℕ → ℕ → Option SideTerms → LinkSide
+unfoldable pub initial_link : Side → ℕ → ℕ → SideTerms → LinkSide
 initial_link side receives first_stag terms = record { awaited = HelloFrom (peer side); rest = []; state = initial_state side receives first_stag terms }

@@ -83,7 +83,7 @@ rejection_by side (Some end) = rejection side end
 
 -- All of its hello that a side has queued: an initiator's is there from the start, a responder's answers that of the initiator, or rejects
 -- the connection (RFC 5044 section 7.1).
-abbrev pub hello_queued : Side → Option SideTerms → (private : List ℕ) → Bool → Option End → List ℕ
+abbrev pub hello_queued : Side → SideTerms → (private : List ℕ) → Bool → Option End → List ℕ
 hello_queued Initiator terms private has_hello ended = hello_with Initiator (first_private terms Initiator)
 hello_queued Responder terms private has_hello ended = if has_hello then hello_with Responder private else rejection_by Responder ended
 
@@ -121,7 +121,7 @@ AllowedCallsJoin = (start : LinkSide) (calls more : List Call) → AreAllowedCal
 
 -- What was written and then what is queued is the hello and then the encodings of the items, in order.
 abbrev pub OutputIsItems : Type 0
-OutputIsItems = (side : Side) (receives first_stag : ℕ) (terms : Option SideTerms) (calls : List Call) → AreAllowedCalls (initial_link side receives first_stag terms) calls →
+OutputIsItems = (side : Side) (receives first_stag : ℕ) (terms : SideTerms) (calls : List Call) → AreAllowedCalls (initial_link side receives first_stag terms) calls →
     let start = initial_link side receives first_stag terms in
     let s = (after_calls start calls).state in
     bytes_written start calls ++ (s.send_queue.hello ++ s.send_queue.fpdus) ≡ own_output_hello s ++ items_encoding (items_queued start calls)
@@ -129,21 +129,21 @@ OutputIsItems = (side : Side) (receives first_stag : ℕ) (terms : Option SideTe
 -- The Sends that have left are those of the items that were written completely, and the Sends that wait and the Read Responses owed are
 -- those that weren't, by the number of bytes written. The count of Sends saturates at 2 ^ 64 - 1.
 abbrev pub SendsGoByItems : Type 0
-SendsGoByItems = (side : Side) (receives first_stag : ℕ) (terms : Option SideTerms) (calls : List Call) → AreAllowedCalls (initial_link side receives first_stag terms) calls →
+SendsGoByItems = (side : Side) (receives first_stag : ℕ) (terms : SideTerms) (calls : List Call) → AreAllowedCalls (initial_link side receives first_stag terms) calls →
     let start = initial_link side receives first_stag terms in
     let s = (after_calls start calls).state in
     s.send_queue.sends_left
     ≡ min (items_written is_send_item (length (own_output_hello s)) (length (bytes_written start calls)) (items_queued start calls)) (2 ^ 64 - 1)
 
 abbrev pub SendsWaitByItems : Type 0
-SendsWaitByItems = (side : Side) (receives first_stag : ℕ) (terms : Option SideTerms) (calls : List Call) → AreAllowedCalls (initial_link side receives first_stag terms) calls →
+SendsWaitByItems = (side : Side) (receives first_stag : ℕ) (terms : SideTerms) (calls : List Call) → AreAllowedCalls (initial_link side receives first_stag terms) calls →
     let start = initial_link side receives first_stag terms in
     let s = (after_calls start calls).state in
     length s.send_queue.send_ends
     ≡ items_left is_send_item (length (own_output_hello s)) (length (bytes_written start calls)) (items_queued start calls)
 
 abbrev pub ResponsesGoByItems : Type 0
-ResponsesGoByItems = (side : Side) (receives first_stag : ℕ) (terms : Option SideTerms) (calls : List Call) → AreAllowedCalls (initial_link side receives first_stag terms) calls →
+ResponsesGoByItems = (side : Side) (receives first_stag : ℕ) (terms : SideTerms) (calls : List Call) → AreAllowedCalls (initial_link side receives first_stag terms) calls →
     let start = initial_link side receives first_stag terms in
     let s = (after_calls start calls).state in
     length s.send_queue.response_ends
@@ -158,11 +158,11 @@ pub record IsBounded (opened : ℕ) (s : LinkState) : Type 0 where
   pub same : s.receive_queue.receives ≡ opened
 
 abbrev pub SidesStayBounded : Type 0
-SidesStayBounded = (side : Side) (receives first_stag : ℕ) (terms : Option SideTerms) (calls : List Call) → AreAllowedCalls (initial_link side receives first_stag terms) calls →
+SidesStayBounded = (side : Side) (receives first_stag : ℕ) (terms : SideTerms) (calls : List Call) → AreAllowedCalls (initial_link side receives first_stag terms) calls →
     IsBounded receives (after_calls (initial_link side receives first_stag terms) calls).state
 
 -- A side that awaits an FPDU and hasn't ended has accepted the peer's hello.
 abbrev pub FpdusFollowHello : Type 0
-FpdusFollowHello = (side : Side) (receives first_stag : ℕ) (terms : Option SideTerms) (calls : List Call) →
+FpdusFollowHello = (side : Side) (receives first_stag : ℕ) (terms : SideTerms) (calls : List Call) →
     let link = after_calls (initial_link side receives first_stag terms) calls in
     has_ended link.state ≡ false → link.awaited ≡ Fpdu → link.state.has_hello ≡ true

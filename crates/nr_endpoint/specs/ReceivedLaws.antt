@@ -11,7 +11,7 @@ use Rattle.nr_endpoint.specs.Laws.{bytes_fed, memory_events, deliveries_made}
 -- ends within the bytes, and each that later calls place ends after them. So a grant that begins once these bytes came covers only the later
 -- ones.
 abbrev pub ReceivedBytes : Type 0
-ReceivedBytes = (side : Side) (receives first_stag : ℕ) (terms : Option SideTerms) (before after : List Call) →
+ReceivedBytes = (side : Side) (receives first_stag : ℕ) (terms : SideTerms) (before after : List Call) →
     let start = initial_link side receives first_stag terms in
     let came = length (bytes_fed start before) in
     All (λ segment. segment.end ≤ came) (tagged_segments (memory_events start before))
@@ -19,7 +19,7 @@ ReceivedBytes = (side : Side) (receives first_stag : ℕ) (terms : Option SideTe
 
 -- They divide the events likewise.
 abbrev pub EventsOfReceivedBytes : Type 0
-EventsOfReceivedBytes = (side : Side) (receives first_stag : ℕ) (terms : Option SideTerms) (before after : List Call) →
+EventsOfReceivedBytes = (side : Side) (receives first_stag : ℕ) (terms : SideTerms) (before after : List Call) →
     let start = initial_link side receives first_stag terms in
     let came = length (bytes_fed start before) in
     All (λ made. made.end ≤ came) (deliveries_made start before)

@@ -60,13 +60,13 @@ fn peer(side: Side) -> Side
 
 impl Endpoint {
     /// A side of a link, with this number of receives, each of the units of its terms. The first region gets this STag, which isn't 0.
-    /// What its hello says is in `terms`: with `None` it says nothing, and answers nothing that the peer's says.
+    /// Its hello says its terms: an initiator's unless they are the default, a responder's if the initiator's hello said some.
     pub fn open(
         alloc: Global,
         side: Side,
         receives: u32,
         first_stag: u32,
-        terms: Option<SideTerms>,
+        terms: SideTerms,
     ) -> Result<Endpoint, Memory>
         requires { 0 < first_stag }
         ensures state { IfOk result (λ e. e.link ≡ initial_link side receives first_stag terms) }

@@ -14,22 +14,19 @@ use nr_wire::constants::{NUMBERED_TERMS_LEN, UNITS_MAX};
 /// The private data that a hello with terms has.
 pub type Private = ArrayVec<u8, NUMBERED_TERMS_LEN>;
 
-/// The private data of a side's hello, by that of its peer's, to which a responder answers. A side without terms has none.
-pub fn own_private(terms: Option<SideTerms>, side: Side, heard: &[u8]) -> Private
-    ensures bytes { result.items ≡ own_private terms side heard.now }
+/// The private data of a side's hello, by that of its peer's, to which a responder answers.
+pub fn own_private(terms: SideTerms, side: Side, peer_private: &[u8]) -> Private
+    ensures bytes { result.items ≡ own_private terms side peer_private.now }
     ensures len { array_vec_len result ≤ NUMBERED_TERMS_LEN }
 {
-    let Some(terms) = terms else {
-        return ArrayVec::new();
-    };
     match side {
         Side::Initiator => terms.initiator_private(),
-        Side::Responder => terms.responder_private(heard),
+        Side::Responder => terms.responder_private(peer_private),
     }
 }
 
 /// What a side has said as it is opened: a responder has said nothing.
-pub fn first_private(terms: Option<SideTerms>, side: Side) -> Private
+pub fn first_private(terms: SideTerms, side: Side) -> Private
     ensures bytes { result.items ≡ first_private terms side }
     ensures len { array_vec_len result ≤ NUMBERED_TERMS_LEN }
 {
@@ -40,12 +37,12 @@ pub fn first_private(terms: Option<SideTerms>, side: Side) -> Private
 }
 
 /// What is agreed, by a side's private data and by its peer's.
-pub fn side_agreement(side: Side, own: &[u8], heard: &[u8]) -> Agreement
-    ensures { result ≡ side_agreement side own.now heard.now }
+pub fn side_agreement(side: Side, own: &[u8], peer_private: &[u8]) -> Agreement
+    ensures { result ≡ side_agreement side own.now peer_private.now }
 {
     match side {
-        Side::Initiator => Agreement::new(own, heard),
-        Side::Responder => Agreement::new(heard, own),
+        Side::Initiator => Agreement::new(own, peer_private),
+        Side::Responder => Agreement::new(peer_private, own),
     }
 }
 
@@ -60,11 +57,8 @@ pub fn received_max(side: Side, agreed: Agreement) -> u32
 }
 
 /// The length of each receive of a side with these terms, in bytes.
-pub fn receive_length(terms: Option<SideTerms>) -> usize
+pub fn receive_length(terms: SideTerms) -> usize
     ensures { result ≡ receive_length_for terms }
 {
-    match terms {
-        None => SEND_MAX,
-        Some(terms) => SEND_MAX * usize::from(terms.units.max(1).min(UNITS_MAX)),
-    }
+    SEND_MAX * usize::from(terms.units.max(1).min(UNITS_MAX))
 }

@@ -12,7 +12,7 @@ ghost use Rattle.nr_link.specs.declared.end.End.TheVariants as ends;
 ghost use Rattle.nr_endpoint.specs.LinkState.{initial_state};
 ghost use Rattle.nr_endpoint.specs.SendQueue.{output_len};
 ghost use Rattle.nr_endpoint.specs.SegmentEnds.{IsUntagged};
-ghost use Rattle.nr_endpoint.specs.Judging.{segment_end, with_end_of, with_segment_by, with_fpdu, with_peer_hello, with_privates, with_frame, after_frame, next_frame};
+ghost use Rattle.nr_endpoint.specs.Judging.{segment_end, with_end_of, with_segment_by, with_fpdu, with_peer_hello, with_agreement, with_frame, after_frame, next_frame};
 ghost use Rattle.nr_endpoint.specs.Hellos.{own_private};
 
 use crate::frames::{hello_in_frame, segment_in_frame};
@@ -42,7 +42,7 @@ pub struct LinkSide {
     pub(crate) reads: Reads,
     pub(crate) regions: Regions,
     pub(crate) send_queue: SendQueue,
-    pub(crate) terms: Option<SideTerms>,
+    pub(crate) terms: SideTerms,
     pub(crate) private: Private,
     pub(crate) agreed: Agreement,
     pub(crate) message_max: u64,
@@ -72,7 +72,7 @@ impl LinkSide {
         side: Side,
         receives: u32,
         first_stag: u32,
-        terms: Option<SideTerms>,
+        terms: SideTerms,
     ) -> Result<LinkSide, Memory>
         requires { 0 < first_stag }
         ensures state { IfOk result (λ l. l.state ≡ initial_state side receives first_stag terms) }
@@ -93,7 +93,7 @@ impl LinkSide {
             send_queue,
             terms,
             private,
-            agreed: Agreement::nothing(),
+            agreed: Agreement::default_sizes(),
             message_max: u64::from(SEND_MAX),
         })
     }
@@ -169,18 +169,18 @@ impl LinkSide {
     }
 
     /// The peer's hello, which this frame holds and which has this private data, is accepted. A responder answers it.
-    fn accept_hello(&mut self, heard: &[u8], frame: &[u8]) -> Result<(), Memory>
+    fn accept_hello(&mut self, peer_private: &[u8], frame: &[u8]) -> Result<(), Memory>
         requires some { 0 < length frame.now }
         requires within { self.old.state.place + length frame.now ≤ 2 ^ 62 }
-        ensures ok { OnOk result (self.new.state ≡ after_frame (next_frame self.old.state frame.now) (with_privates (own_private self.old.state.terms self.old.state.side heard.now) heard.now self.old.state)) }
+        ensures ok { OnOk result (self.new.state ≡ after_frame (next_frame self.old.state frame.now) (with_agreement (own_private self.old.state.terms self.old.state.side peer_private.now) peer_private.now self.old.state)) }
         ensures err { OnErr result (self.new.state ≡ self.old.state) }
-        ensures queued { OnErr result (output_len self.old.state.send_queue < output_len (with_privates (own_private self.old.state.terms self.old.state.side heard.now) heard.now self.old.state).send_queue) }
+        ensures queued { OnErr result (output_len self.old.state.send_queue < output_len (with_agreement (own_private self.old.state.terms self.old.state.side peer_private.now) peer_private.now self.old.state).send_queue) }
         ensures room { self.new.room ≡ self.old.room }
         ensures outside { self.new.outside ≡ self.old.outside }
     {
-        let own = own_private(self.terms, self.side, heard);
+        let own = own_private(self.terms, self.side, peer_private);
         self.send_queue.queue_hello(self.side, own.as_slice())?;
-        self.agreed = side_agreement(self.side, own.as_slice(), heard);
+        self.agreed = side_agreement(self.side, own.as_slice(), peer_private);
         self.message_max = u64::from(received_max(self.side, self.agreed));
         self.private = own;
         self.has_hello = true;

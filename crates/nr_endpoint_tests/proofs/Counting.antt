@@ -251,7 +251,7 @@ read_counted_lem l after sink at stag to len (Err e) most least region fine none
 
 -- ---- Regions
 
-pub open_counted : (l : LinkSide) (side : Side) (receives stag : ℕ) (terms : Option SideTerms) → l ≡ initial_link side receives stag terms → IsCounted l 0 0 None
+pub open_counted : (l : LinkSide) (side : Side) (receives stag : ℕ) (terms : SideTerms) → l ≡ initial_link side receives stag terms → IsCounted l 0 0 None
 open_counted l side receives stag terms is = record { most_fed = omega (arith, open_fed l side receives stag terms is); least_fed = λ none. omega arith; held = tt }
 
 register_ended : (l after : LinkSide) (buf : List ℕ) (right : Right) → after ≡ after_call l (Register buf right) → after.state.ended ≡ l.state.ended

@@ -86,9 +86,9 @@ fn stop_reason(rt: &impl Abort, reason: u32) -> u32
 }
 
 impl TestEndpoint {
-    /// An endpoint with two receives, whose first region has STag 1, and whose hello says nothing.
+    /// An endpoint with two receives, whose first region has STag 1, and which has one unit.
     pub fn open(rt: &impl Abort, alloc: Global, side: Side) -> TestEndpoint {
-        TestEndpoint::open_with(rt, alloc, side, None)
+        TestEndpoint::open_with(rt, alloc, side, SideTerms::one_unit())
     }
 
     /// The same with these terms.
@@ -96,7 +96,7 @@ impl TestEndpoint {
         rt: &impl Abort,
         alloc: Global,
         side: Side,
-        terms: Option<SideTerms>,
+        terms: SideTerms,
     ) -> TestEndpoint {
         TestEndpoint {
             endpoint: Endpoint::open(alloc, side, 2, 1, terms).expect(rt, "memory"),

@@ -7,7 +7,7 @@ use crate::given::{
 };
 use bytes::Bytes;
 use nr_endpoint::{Endpoint, Event, Offered, RemoteWrite, SharedWrite};
-use nr_link::End;
+use nr_link::{End, SideTerms};
 use nr_outside::MemSink;
 use nr_regions::{Registration, Right};
 use nr_wire::Side;
@@ -79,7 +79,7 @@ const HELD: u128 = 65544 + 65536 + 65560 + 20 + 1048;
 #[test]
 fn offers(rt: HostRuntime) {
     let alloc = rt.alloc();
-    let mut endpoint = Endpoint::open(alloc, Side::Initiator, 64, 1, None).expect(&rt, "memory");
+    let mut endpoint = Endpoint::open(alloc, Side::Initiator, 64, 1, SideTerms::one_unit()).expect(&rt, "memory");
     same(&rt, 0, endpoint.receives_free(), 64);
     endpoint.facts();
     same(
@@ -130,7 +130,7 @@ fn fed_hello(rt: &impl Abort, alloc: Global) -> Endpoint {
     if hello.len() > 100 {
         panic!(rt; "a hello has 20 bytes");
     }
-    let mut endpoint = Endpoint::open(alloc, Side::Initiator, 1, 1, None).expect(rt, "memory");
+    let mut endpoint = Endpoint::open(alloc, Side::Initiator, 1, 1, SideTerms::one_unit()).expect(rt, "memory");
     same(rt, 0, endpoint.feed(hello.as_slice()), Ok(()));
     endpoint
 }

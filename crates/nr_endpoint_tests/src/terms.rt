@@ -85,7 +85,7 @@ fn both_agree(rt: HostRuntime) {
             *want,
         );
     }
-    let nothing = Agreement::nothing();
+    let nothing = Agreement::default_sizes();
     same(
         &rt,
         0,

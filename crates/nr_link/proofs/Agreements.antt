@@ -1,11 +1,11 @@
 -- What is agreed has bounds, whatever both sides say.
-use Rattle.std.proofs.Common.{◌≡◌, ℕ, ◌≤◌, ◌-◌, ◌*◌, min, Bool, true, false, if◌then◌else◌, List, [], Option, None, Some, refl, arith}
+use Rattle.std.proofs.Common.{◌≡◌, ℕ, ◌≤◌, ◌-◌, ◌*◌, min, Bool, true, false, if◌then◌else◌, List, Option, None, Some, refl, arith}
 use Rattle.std.proofs.Math.Nat.{min-le_left, min-le_right}
 use Rattle.nr_wire.specs.Constants.{UNITS_MAX}
 use Rattle.nr_wire.specs.declared.terms.Terms.{Terms}
 use Rattle.nr_wire.specs.Terms.{terms_in, units_of_byte}
 use Rattle.nr_link.specs.Limits.{send_max}
-use Rattle.nr_link.specs.Agreement.{agreement, agreed_by, IsSendLimit, AgreementsAreBounded, SilenceAgreesNothing}
+use Rattle.nr_link.specs.Agreement.{agreement, agreed_by, IsSendLimit, AgreementsAreBounded, DefaultsWithoutTerms}
 
 abbrev AreUnits : ℕ → Type 0
 AreUnits n = (1 ≤ n) × (n ≤ UNITS_MAX)
@@ -38,10 +38,10 @@ pub agreements_bounded : AgreementsAreBounded
 unfolding agreement
 agreements_bounded initiator responder = bounded_by (terms_in initiator) (terms_in responder) (said initiator) (said responder)
 
-silent : (said : Option Terms) → agreed_by said None ≡ agreed_by None None
-silent None = refl
-silent (Some t) = refl
+by_initiator : (said : Option Terms) → agreed_by said None ≡ agreed_by None None
+by_initiator None = refl
+by_initiator (Some t) = refl
 
-pub silence_agrees_nothing : SilenceAgreesNothing
+pub defaults_without_terms : DefaultsWithoutTerms
 unfolding agreement terms_in
-silence_agrees_nothing private = (refl, silent (terms_in private))
+defaults_without_terms private = (refl, by_initiator (terms_in private))

@@ -1,21 +1,24 @@
 -- What both sides of a link agree on by the private data of their hellos: how long a Send may be in each direction, and whether a reply is a
 -- Send with Invalidate. All of it is own.
-use Rattle.std.specs.Prelude.{◌≡◌, ℕ, ◌*◌, ◌≤◌, min, Bool, true, false, not, ◌&&◌, ◌==◌, if◌then◌else◌, List, [], Option, None, Some}
+use Rattle.std.specs.Prelude.{◌≡◌, ℕ, ◌*◌, ◌≤◌, min, false, not, ◌&&◌, ◌==◌, if◌then◌else◌, List, [], Option, None, Some}
 use Rattle.nr_wire.specs.Constants.{UNITS_MAX}
 use Rattle.nr_wire.specs.declared.terms.Terms.{Terms}
-use Rattle.nr_wire.specs.Terms.{terms_encoding, terms_in}
+use Rattle.nr_wire.specs.Terms.{terms_encoding, terms_in, units_byte}
 use Rattle.nr_link.specs.declared.agreement.SideTerms.{SideTerms}
 use Rattle.nr_link.specs.declared.agreement.Agreement.{Agreement}
 use Rattle.nr_link.specs.Limits.{send_max}
 
--- a side with one unit that says nothing else
+-- a side with these units, without a number, that makes and takes no Send with Invalidate
+abbrev pub sized_terms : (units : ℕ) → SideTerms
+sized_terms units = record { units = units; number = 0; invalidates = false }
+
 abbrev pub default_terms : SideTerms
-default_terms = record { units = 1; number = 0; invalidates = false }
+default_terms = sized_terms 1
 
 -- An initiator has private data unless it has one unit and no flags. A responder has its own if that of the initiator is of this project;
 -- it says no number of a client.
 unfoldable pub initiator_private : SideTerms → List ℕ
-initiator_private t = if t.units == 1 && (t.number == 0 && not t.invalidates) then [] else terms_encoding t.units t.number t.invalidates
+initiator_private t = if units_byte t.units == 0 && (t.number == 0 && not t.invalidates) then [] else terms_encoding t.units t.number t.invalidates
 
 abbrev pub responder_private_by : SideTerms → Option Terms → List ℕ
 responder_private_by t None = []
@@ -25,12 +28,12 @@ unfoldable pub responder_private : SideTerms → (initiator : List ℕ) → List
 responder_private t initiator = responder_private_by t (terms_in initiator)
 
 -- until the peer's hello was accepted, and if one of the sides says nothing
-abbrev pub nothing_agreed : Agreement
-nothing_agreed = record { up = send_max; down = send_max; invalidates = false }
+abbrev pub default_agreement : Agreement
+default_agreement = record { up = send_max; down = send_max; invalidates = false }
 
 abbrev pub agreed_by : Option Terms → Option Terms → Agreement
-agreed_by None responder = nothing_agreed
-agreed_by (Some i) None = nothing_agreed
+agreed_by None responder = default_agreement
+agreed_by (Some i) None = default_agreement
 agreed_by (Some i) (Some r) = record {
   up = send_max * min i.sends r.receives;
   down = send_max * min r.sends i.receives;
@@ -50,6 +53,6 @@ abbrev pub AgreementsAreBounded : Type 0
 AgreementsAreBounded = (initiator responder : List ℕ) →
     IsSendLimit (agreement initiator responder).up × IsSendLimit (agreement initiator responder).down
 
--- A side that says nothing agrees on nothing.
-abbrev pub SilenceAgreesNothing : Type 0
-SilenceAgreesNothing = (private : List ℕ) → (agreement [] private ≡ nothing_agreed) × (agreement private [] ≡ nothing_agreed)
+-- If a side has no private data, one unit is agreed in each direction.
+abbrev pub DefaultsWithoutTerms : Type 0
+DefaultsWithoutTerms = (private : List ℕ) → (agreement [] private ≡ default_agreement) × (agreement private [] ≡ default_agreement)

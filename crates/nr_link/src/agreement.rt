@@ -3,7 +3,7 @@
 ghost use Rattle.std.specs.Prelude.{◌≡◌, ◌≤◌, [], length};
 ghost use Rattle.arrayvec.specs.ArrayVec.{array_vec_len};
 ghost use Rattle.nr_wire.specs.Constants.{NUMBERED_TERMS_LEN};
-ghost use Rattle.nr_link.specs.Agreement.{agreement, default_terms, initiator_private, nothing_agreed, responder_private};
+ghost use Rattle.nr_link.specs.Agreement.{agreement, default_agreement, default_terms, initiator_private, responder_private, sized_terms};
 
 use crate::constants::SEND_MAX;
 use arrayvec::ArrayVec;
@@ -13,7 +13,7 @@ use nr_wire::{read_terms, write_terms};
 /// What a side of a link is opened with.
 #[derive(Clone, Copy, PartialEq, Eq)]
 pub struct SideTerms {
-    /// The maximum length of a Send that it writes or takes, in units of 1,024 bytes: 1 to 16.
+    /// The maximum length of a Send that it writes or takes, in units of 1,024 bytes. 0 counts as 1, and more than 16 as 16.
     pub units: u8,
     /// The number of its client, or 0 if it has none.
     pub number: u64,
@@ -33,15 +33,22 @@ pub struct Agreement {
 }
 
 impl SideTerms {
-    /// One unit, and nothing else.
-    pub fn one_unit() -> SideTerms
-        ensures { result ≡ default_terms }
+    /// These units, at most 16; no number of a client, and no Sends with Invalidate.
+    pub fn sized(units: u8) -> SideTerms
+        ensures { result ≡ sized_terms units }
     {
         SideTerms {
-            units: 1,
+            units,
             number: 0,
             invalidates: false,
         }
+    }
+
+    /// What a side is opened with unless it is told otherwise: one unit, no number of a client, no Sends with Invalidate.
+    pub fn one_unit() -> SideTerms
+        ensures { result ≡ default_terms }
+    {
+        SideTerms::sized(1)
     }
 
     /// The private data of an initiator's hello: none if it has one unit, no number and makes no Sends with Invalidate.
@@ -51,7 +58,7 @@ impl SideTerms {
         ensures bytes { result.items ≡ initiator_private self }
         ensures len { array_vec_len result ≤ NUMBERED_TERMS_LEN }
     {
-        if self.units == 1 && self.number == 0 && !self.invalidates {
+        if self.units <= 1 && self.number == 0 && !self.invalidates {
             return ArrayVec::new();
         }
         write_terms(self.units, self.number, self.invalidates)
@@ -71,9 +78,9 @@ impl SideTerms {
 }
 
 impl Agreement {
-    /// What is agreed if a side says nothing.
-    pub fn nothing() -> Agreement
-        ensures { result ≡ nothing_agreed }
+    /// What is agreed unless both sides say terms: one unit in each direction.
+    pub fn default_sizes() -> Agreement
+        ensures { result ≡ default_agreement }
     {
         Agreement {
             up: SEND_MAX,
@@ -89,7 +96,7 @@ impl Agreement {
     {
         let (Some(initiator), Some(responder)) = (read_terms(initiator), read_terms(responder))
         else {
-            return Agreement::nothing();
+            return Agreement::default_sizes();
         };
         Agreement {
             up: SEND_MAX * u32::from(initiator.sends.min(responder.receives)),

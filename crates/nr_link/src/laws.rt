@@ -1,7 +1,7 @@
 //! Laws of a link.
 
 ghost use Rattle.std.specs.Prelude.{◌≡◌};
-ghost use Rattle.nr_link.specs.Agreement.{AgreementsAreBounded, SilenceAgreesNothing};
+ghost use Rattle.nr_link.specs.Agreement.{AgreementsAreBounded, DefaultsWithoutTerms};
 ghost use Rattle.nr_link.specs.KeptSends.{JudgedAlike, KeptAlike, MessagesAlike};
 ghost use Rattle.nr_link.specs.Reasons as reasons;
 
@@ -28,8 +28,8 @@ pub fn stop_reasons_numbered()
     ensures stags { REASON_STAGS ≡ reasons.REASON_STAGS }
 {}
 
-/// Whatever the hellos of both sides say, a Send in each direction may have from 1,024 to 16,384 bytes; 1,024 if a side says nothing.
+/// Whatever the hellos of both sides say, a Send in each direction may have from 1,024 to 16,384 bytes; 1,024 if one of the hellos has no private data.
 pub fn agreements_bounded()
     ensures bounded { AgreementsAreBounded }
-    ensures silence { SilenceAgreesNothing }
+    ensures defaults { DefaultsWithoutTerms }
 {}

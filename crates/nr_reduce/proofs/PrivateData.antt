@@ -8,7 +8,6 @@ use Rattle.nr_wire.specs.declared.terms.Terms.{Terms}
 use Rattle.nr_wire.specs.Terms.{terms_key, terms_flags, units_byte, number_encoding, terms_encoding, terms_in}
 use Rattle.nr_link.specs.declared.agreement.SideTerms.{SideTerms}
 use Rattle.nr_link.specs.Agreement.{initiator_private, responder_private, responder_private_by}
-use Rattle.nr_reduce.specs.Hellos.{initiator_says, responder_says}
 
 abbrev IsShort : List ℕ → Type 0
 IsShort private = length private ≤ NUMBERED_TERMS_LEN
@@ -29,26 +28,18 @@ terms_short units number invalidates =
     let fields_len : length fields ≡ 3 = refl in
     omega (arith, key_len, fields_len, length-append terms_key (fields ++ last), length-append fields last, number_short number)
 
-initiator_short : (t : SideTerms) → IsShort (initiator_private t)
+pub initiator_short : (t : SideTerms) → IsShort (initiator_private t)
 unfolding initiator_private
-initiator_short t = by (eqb t.units 1 && (eqb t.number 0 && not t.invalidates))
+initiator_short t = by (eqb (units_byte t.units) 0 && (eqb t.number 0 && not t.invalidates))
   where
     by : (b : Bool) → IsShort (cond b [] (terms_encoding t.units t.number t.invalidates))
     by true = lit≤ tt
     by false = terms_short t.units t.number t.invalidates
 
-responder_short : (t : SideTerms) (initiator : List ℕ) → IsShort (responder_private t initiator)
+pub responder_short : (t : SideTerms) (initiator : List ℕ) → IsShort (responder_private t initiator)
 unfolding responder_private
 responder_short t initiator = by (terms_in initiator)
   where
     by : (o : Option Terms) → IsShort (responder_private_by t o)
     by None = lit≤ tt
     by (Some terms) = terms_short t.units 0 t.invalidates
-
-pub says_short : (o : Option SideTerms) → IsShort (initiator_says o)
-says_short None = lit≤ tt
-says_short (Some t) = initiator_short t
-
-pub answers_short : (o : Option SideTerms) (initiator : List ℕ) → IsShort (responder_says o initiator)
-answers_short None initiator = lit≤ tt
-answers_short (Some t) initiator = responder_short t initiator

@@ -1,25 +1,16 @@
 -- The hellos of a link (RFC 5044 section 7.1), by what its ends are opened with, and what they agree on.
-use Rattle.std.specs.Prelude.{ℕ, List, [], drop, Option, None, Some}
+use Rattle.std.specs.Prelude.{ℕ, List, drop}
 use Rattle.nr_wire.specs.Constants.{HELLO_LEN}
 use Rattle.nr_wire.specs.declared.hello.Side.TheVariants.{Initiator, Responder}
 use Rattle.nr_link.specs.Frames.{Frame}
-use Rattle.nr_link.specs.declared.agreement.SideTerms.{SideTerms}
 use Rattle.nr_link.specs.declared.agreement.Agreement.{Agreement}
 use Rattle.nr_link.specs.Agreement.{initiator_private, responder_private, agreement}
 use Rattle.nr_link.specs.Output.{hello_with}
 use Rattle.nr_reduce.specs.declared.mark.LinkParameters.{LinkParameters}
 
--- the private data of the hello of each side; a side without terms says nothing
-abbrev pub initiator_says : Option SideTerms → List ℕ
-initiator_says None = []
-initiator_says (Some terms) = initiator_private terms
-
-abbrev pub responder_says : Option SideTerms → (initiator : List ℕ) → List ℕ
-responder_says None initiator = []
-responder_says (Some terms) initiator = responder_private terms initiator
-
+-- the private data of the client's hello
 abbrev pub client_private : LinkParameters → List ℕ
-client_private opened = initiator_says opened.client
+client_private opened = initiator_private opened.client
 
 -- the private data of a hello that isn't refused
 abbrev pub private_of : Frame → List ℕ
@@ -27,7 +18,7 @@ private_of f = drop HELLO_LEN f.bytes
 
 -- the server's, by the client's hello
 abbrev pub server_private : LinkParameters → Frame → List ℕ
-server_private opened f = responder_says opened.server (private_of f)
+server_private opened f = responder_private opened.server (private_of f)
 
 -- the client's hello, and the server's after the client's was received
 unfoldable pub client_hello : LinkParameters → List ℕ

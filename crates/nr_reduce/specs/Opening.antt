@@ -1,5 +1,6 @@
 -- What the two ends of a link are opened with.
-use Rattle.std.specs.Prelude.{◌≡◌, ℕ, ◌<◌, ◌≤◌, None}
+use Rattle.std.specs.Prelude.{◌≡◌, ℕ, ◌<◌, ◌≤◌}
+use Rattle.nr_link.specs.declared.agreement.SideTerms.{SideTerms}
 use Rattle.nr_reduce.specs.declared.mark.LinkParameters.{LinkParameters}
 use Rattle.nr_reduce.specs.Limits.{numbers_end, credits_max}
 
@@ -14,10 +15,10 @@ pub record IsOpened (opened : LinkParameters) : Type 0 where
   pub granted : 0 < opened.granted
   pub granted_fits : opened.granted ≤ credits_max
 
--- the server is opened with these credits, and its hello says nothing
-abbrev pub ServerOpened : LinkParameters → ℕ → Type 0
-ServerOpened opened credits = (opened.granted ≡ credits) × (opened.server ≡ None)
+-- the server grants these credits and has these terms
+abbrev pub ServerOpened : LinkParameters → (credits : ℕ) → SideTerms → Type 0
+ServerOpened opened credits terms = (opened.granted ≡ credits) × (opened.server ≡ terms)
 
--- the client wishes for these credits, and its hello says nothing
-abbrev pub ClientOpened : LinkParameters → ℕ → Type 0
-ClientOpened opened credits = (opened.wished ≡ credits) × (opened.client ≡ None)
+-- the client wishes for these credits and has these terms
+abbrev pub ClientOpened : LinkParameters → (credits : ℕ) → SideTerms → Type 0
+ClientOpened opened credits terms = (opened.wished ≡ credits) × (opened.client ≡ terms)

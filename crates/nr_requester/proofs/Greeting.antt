@@ -16,7 +16,7 @@ use Rattle.nr_link.specs.Ending.{frame_segment, frame_end, hello_end, final_outp
 use Rattle.nr_endpoint.specs.Hellos.{own_private, side_agreement, received_max}
 use Rattle.nr_endpoint.specs.LinkState.{LinkState}
 use Rattle.nr_endpoint.specs.SendQueue.{writable, with_hello as queue_hello, with_end}
-use Rattle.nr_endpoint.specs.Judging.{with_frame, with_peer_hello, with_end_of, with_privates, after_frame, next_frame, reply_hello}
+use Rattle.nr_endpoint.specs.Judging.{with_frame, with_peer_hello, with_end_of, with_agreement, after_frame, next_frame, reply_hello}
 use Rattle.nr_endpoint.specs.Laws.{IsFrameEnd}
 use Rattle.nr_endpoint.proofs.Agreed.{silent_agrees}
 use Rattle.nr_endpoint.proofs.EndLaws.{frames_end_for_these}
@@ -105,7 +105,7 @@ hello_taken opened r k count frame keeps lt first = by (hello_of Responder frame
     by (Ok hello) e =
         let own : List ℕ = own_private r.side.terms r.side.side hello.private in
         let agreed : Agreement = side_agreement r.side.side own hello.private in
-        let after : RequesterState = record r { side = after_frame f (with_privates own hello.private r.side) } in
+        let after : RequesterState = record r { side = after_frame f (with_agreement own hello.private r.side) } in
         let none : reply_hello r.side.side own ≡ [] = ap (λ (side : Side). reply_hello side own) link.side in
         let within = keeps.due in
         let greeted : ClientKeeps opened (kept_client r) (live (with_hello opened k)) f.end =

@@ -272,7 +272,7 @@ link_opened opened link staging = record {
 -- a client that says nothing has a hello without private data
 silent_hello : (opened : LinkParameters) → opened.client ≡ None → client_hello opened ≡ own_hello Initiator
 unfolding client_hello
-silent_hello opened silent = ap (λ (said : Option SideTerms). hello_with Initiator (initiator_says said)) silent
+silent_hello opened silent = ap (λ (said : SideTerms). hello_with Initiator (initiator_says said)) silent
 
 pub begins_client : (opened : LinkParameters) (link : ℕ) (staging : List ℕ) → opened.client ≡ None → KeepsClient opened link (opened_as opened.first_xid opened.first_stag opened.wished staging) []
 unfolding opened_as

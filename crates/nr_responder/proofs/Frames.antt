@@ -171,7 +171,7 @@ ended_takes opened k input later v frame end h some ended =
 -- a server that says nothing has a hello without private data, whatever the client's is
 pub silent_hello : (opened : LinkParameters) (f : Frame) → opened.server ≡ None → server_hello opened f ≡ own_hello Responder
 unfolding server_hello
-silent_hello opened f silent = ap (λ (said : Option SideTerms). hello_with Responder (responder_says said (private_of f))) silent
+silent_hello opened f silent = ap (λ (said : SideTerms). hello_with Responder (responder_says said (private_of f))) silent
 
 pub hello_link : (opened : LinkParameters) (k : ServerState) (s : LinkState) (frame : List ℕ) (hello : Hello) → opened.server ≡ None → LinkKeeps opened k s → IsServer k s.place → k.message_ends ≡ [] →
     LinkKeeps opened (with_own_hello opened k (next_frame s frame)) (with_peer_hello (next_frame s frame) (Ok hello) s)

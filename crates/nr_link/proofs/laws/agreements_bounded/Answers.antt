@@ -1,8 +1,8 @@
-use Rattle.nr_link.proofs.Agreements.{agreements_bounded, silence_agrees_nothing}
+use Rattle.nr_link.proofs.Agreements.{agreements_bounded, defaults_without_terms}
 use Rattle.nr_link.proofs.laws.agreements_bounded.Goals as goal
 
 pub returns-clause-bounded : goal.returns-clause-bounded
 returns-clause-bounded c = agreements_bounded
 
-pub returns-clause-silence : goal.returns-clause-silence
-returns-clause-silence c = silence_agrees_nothing
+pub returns-clause-defaults : goal.returns-clause-defaults
+returns-clause-defaults c = defaults_without_terms
