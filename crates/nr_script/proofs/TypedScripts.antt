@@ -19,6 +19,7 @@ use Rattle.nr_script.specs.declared.script.Line.{Line}
 use Rattle.nr_script.specs.declared.script.Line.TheVariants as lines
 use Rattle.nr_script.specs.declared.program.Program.{Program}
 use Rattle.nr_outside.specs.Whole.{input_max}
+use Rattle.nr_wire.specs.Constants.{UNITS_MAX}
 use Rattle.nr_script.specs.Limits.{clients_max, number_max, capacity_max}
 use Rattle.nr_script.specs.Words.{◌>>=◌, is_numeral, numeral_value, number_within, number_in, decoded, bytes_in, arguments_in, parts}
 use Rattle.nr_script.specs.Forms.{OfferPart, semicolon, equals, at_sign, dot, lengths_in, write_lengths_in, position_by, read_part, write_part, reply_part, named_part, part_by, part_in, nothing_offered, with_part, offer_by, offer_in, given, given_form, form_in, numbered_program, program_in}
@@ -279,6 +280,10 @@ record OpeningIsRight (o : Opening) : Type 0 where
   some_credits : 1 ≤ o.credits
   few_credits : o.credits ≤ credits_max
   capacity : o.capacity ≤ capacity_max
+  some_client_units : 1 ≤ o.client_units
+  few_client_units : o.client_units ≤ UNITS_MAX
+  some_server_units : 1 ≤ o.server_units
+  few_server_units : o.server_units ≤ UNITS_MAX
 
 abbrev CapacityFits : ℕ → Type 0
 CapacityFits n = n ≤ capacity_max
@@ -297,11 +302,11 @@ capacity_if (name ∷ bytes ∷ more ∷ others) = tt
 opening_of_if : (clients credits : List ℕ) (others : List (List ℕ)) → If OpeningIsRight (opening_of clients credits others)
 opening_of_if clients credits others =
     then_if (λ n. (1 ≤ n) × (n ≤ clients_max)) OpeningIsRight (number_within 1 clients_max clients)
-    (λ n. number_within 1 credits_max credits >>= λ g. capacity_in others >>= λ b. Some (record { clients = n; credits = g; capacity = b })) (within_if 1 clients_max clients)
+    (λ n. number_within 1 credits_max credits >>= λ g. capacity_in others >>= λ b. Some (record { clients = n; credits = g; capacity = b; client_units = 1; server_units = 1 })) (within_if 1 clients_max clients)
     (λ n h. then_if (λ g. (1 ≤ g) × (g ≤ credits_max)) OpeningIsRight (number_within 1 credits_max credits)
-    (λ g. capacity_in others >>= λ b. Some (record { clients = n; credits = g; capacity = b })) (within_if 1 credits_max credits)
-    (λ g k. then_if CapacityFits OpeningIsRight (capacity_in others) (λ b. Some (record { clients = n; credits = g; capacity = b })) (capacity_if others)
-    (λ b f. record { some_clients = h.0; few_clients = h.1; some_credits = k.0; few_credits = k.1; capacity = f })))
+    (λ g. capacity_in others >>= λ b. Some (record { clients = n; credits = g; capacity = b; client_units = 1; server_units = 1 })) (within_if 1 credits_max credits)
+    (λ g k. then_if CapacityFits OpeningIsRight (capacity_in others) (λ b. Some (record { clients = n; credits = g; capacity = b; client_units = 1; server_units = 1 })) (capacity_if others)
+    (λ b f. record { some_clients = h.0; few_clients = h.1; some_credits = k.0; few_credits = k.1; capacity = f; some_client_units = omega arith; few_client_units = omega arith; some_server_units = omega arith; few_server_units = omega arith })))
 
 opening_if : (words : List (List ℕ)) → If OpeningIsRight (opening_in words)
 unfolding opening_in
@@ -330,6 +335,10 @@ record IsRead (script : ScriptLines) : Type 0 where
   some_credits : 1 ≤ script.opening.credits
   few_credits : script.opening.credits ≤ credits_max
   capacity : script.opening.capacity ≤ capacity_max
+  some_client_units : 1 ≤ script.opening.client_units
+  few_client_units : script.opening.client_units ≤ UNITS_MAX
+  some_server_units : 1 ≤ script.opening.server_units
+  few_server_units : script.opening.server_units ≤ UNITS_MAX
   follow_on : FollowOn script.opening [] script.lines
   creds : AllByRecursion HasWritableCred script.lines
   typed : AllByRecursion IsTypedLine script.lines
@@ -342,6 +351,10 @@ opened_if (Some o) h = record {
   some_credits = h.some_credits;
   few_credits = h.few_credits;
   capacity = h.capacity;
+  some_client_units = h.some_client_units;
+  few_client_units = h.few_client_units;
+  some_server_units = h.some_server_units;
+  few_server_units = h.few_server_units;
   follow_on = tt;
   creds = tt;
   typed = tt;
@@ -358,6 +371,10 @@ followed_if script (Some line) is h = by (may_follow script.opening script.lines
       some_credits = is.some_credits;
       few_credits = is.few_credits;
       capacity = is.capacity;
+      some_client_units = is.some_client_units;
+      few_client_units = is.few_client_units;
+      some_server_units = is.some_server_units;
+      few_server_units = is.few_server_units;
       follow_on = follow_more script.opening [] script.lines line e is.follow_on;
       creds = all_more HasWritableCred script.lines line is.creds h.1;
       typed = all_more IsTypedLine script.lines line is.typed h.0;
@@ -477,6 +494,10 @@ script_is text script short e =
       some_credits = is.some_credits;
       few_credits = is.few_credits;
       capacity = is.capacity;
+      some_client_units = is.some_client_units;
+      few_client_units = is.few_client_units;
+      some_server_units = is.some_server_units;
+      few_server_units = is.few_server_units;
       few_lines = omega (arith, few, count, within, short);
       follow_on = is.follow_on;
       creds = is.creds;

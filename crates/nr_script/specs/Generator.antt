@@ -125,6 +125,6 @@ drawn_credits = 8
 -- the script of a seed, of this many clients and calls
 unfoldable pub made_script : ℕ → ℕ → ℕ → ScriptLines
 made_script seed clients calls = record {
-  opening = record { clients = clients; credits = drawn_credits; capacity = default_capacity };
+  opening = record { clients = clients; credits = drawn_credits; capacity = default_capacity; client_units = 1; server_units = 1 };
   lines = drawn_lines clients calls seed;
 }

@@ -28,7 +28,7 @@ opening_of clients credits others = do
   n ← number_within 1 clients_max clients
   g ← number_within 1 credits_max credits
   b ← capacity_in others
-  Some (record { clients = n; credits = g; capacity = b })
+  Some (record { clients = n; credits = g; capacity = b; client_units = 1; server_units = 1 })
 
 unfoldable pub opening_in : List (List ℕ) → Option Opening
 opening_in (first ∷ clients ∷ second ∷ credits ∷ others) =

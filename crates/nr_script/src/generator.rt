@@ -264,6 +264,8 @@ pub fn make_script(alloc: Global, seed: u64, clients: u32, calls: u64) -> Result
         clients,
         credits: 8,
         capacity: DEFAULT_CAPACITY,
+        client_units: 1,
+        server_units: 1,
     };
     Ok(Script::new(opening, lines))
 }

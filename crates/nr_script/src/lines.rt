@@ -61,6 +61,8 @@ fn opening_of(clients: &[u8], credits: &[u8], others: &[&[u8]]) -> Option<Openin
         clients,
         credits,
         capacity,
+        client_units: 1,
+        server_units: 1,
     })
 }
 
