@@ -88,8 +88,9 @@ pub fn sides_stay_bounded()
     ensures greeted { FpdusFollowHello }
 {}
 
-/// What a side agrees with its peer, whatever both say: nothing until the peer's hello was accepted, and then from 1,024 to 16,384 bytes for
-/// a Send in each direction. A Send of the peer that is longer than what is agreed for its direction ends the side.
+/// What a side agrees with its peer: one unit for a Send in each direction until the peer's hello was accepted, and then what both hellos
+/// say, from 1,024 to 16,384 bytes. A Send of the peer that is longer than what is agreed for its direction ends the side, and one that isn't
+/// fits a receive.
 pub fn sides_agree()
     ensures { SidesAgree }
 {}

@@ -10,44 +10,51 @@ use nr_wire::Side;
 use std::alloc::Global;
 use std::process::Abort;
 
-/// The hello of a responder of two units.
-static TWO_UNITS: [u32; 7] = [
+/// How the hello of a responder with private data begins (RFC 5044 section 7.1): its key, the revision, eight bytes, `NR01`.
+static ANSWER: [u32; 6] = [
     0x4d50_4120,
     0x4944_2052,
     0x6570_2046,
     0x7261_6d65,
     0x0001_0008,
     0x4e52_3031,
-    0x0100_0101,
 ];
 
-/// How the private data of a request begins, and its length, up to which zeros follow; whether a responder of two units answers it with
-/// private data; what is agreed, from the initiator and from the responder.
-type Row = (&'static [u8], usize, bool, (u32, u32));
+/// The units of a responder; how the private data of a request begins, and its length, up to which zeros follow; the last four bytes
+/// of the answer, if it has private data; what is agreed, from the initiator and from the responder.
+type Row = (u8, &'static [u8], usize, Option<u32>, (u32, u32));
 
-static ANSWERED: [Row; 13] = [
+static ANSWERED: [Row; 20] = [
     // No terms: nothing, seven bytes, another name, another version.
-    (b"", 0, false, (1024, 1024)),
-    (b"NR01\x01\x00\x03", 7, false, (1024, 1024)),
-    (b"NR02\x01\x00\x03\x03", 8, false, (1024, 1024)),
-    (b"NR01\x02\x00\x03\x03", 8, false, (1024, 1024)),
+    (2, b"", 0, None, (1024, 1024)),
+    (2, b"NR01\x01\x00\x03", 7, None, (1024, 1024)),
+    (2, b"NR02\x01\x00\x03\x03", 8, None, (1024, 1024)),
+    (2, b"NR01\x02\x00\x03\x03", 8, None, (1024, 1024)),
+    (2, b"RN01\x01\x00\x03\x03", 512, None, (1024, 1024)),
     // Four units, and in each direction one.
-    (b"NR01\x01\x00\x03\x03", 8, true, (2048, 2048)),
-    (b"NR01\x01\x00\x00\x03", 8, true, (1024, 2048)),
-    (b"NR01\x01\x00\x03\x00", 8, true, (2048, 1024)),
-    // 16 units, and 17 and 256, which count as 16.
-    (b"NR01\x01\x00\x0f\x0f", 8, true, (2048, 2048)),
-    (b"NR01\x01\x00\x10\x10", 8, true, (2048, 2048)),
-    (b"NR01\x01\x00\xff\xff", 8, true, (2048, 2048)),
-    // Flags that nobody knows, a number of a client, and what follows.
-    (b"NR01\x01\xfc\x01\x01", 8, true, (2048, 2048)),
-    (b"NR01\x01\x01\x01\x01", 16, true, (2048, 2048)),
-    (b"NR01\x01\x00\x01\x01", 512, true, (2048, 2048)),
+    (2, b"NR01\x01\x00\x03\x03", 8, Some(0x0100_0101), (2048, 2048)),
+    (2, b"NR01\x01\x00\x00\x03", 8, Some(0x0100_0101), (1024, 2048)),
+    (2, b"NR01\x01\x00\x03\x00", 8, Some(0x0100_0101), (2048, 1024)),
+    (16, b"NR01\x01\x00\x02\x04", 8, Some(0x0100_0f0f), (3072, 5120)),
+    // 15 and 16 units, and 17 and 256, which count as 16.
+    (16, b"NR01\x01\x00\x0e\x0f", 8, Some(0x0100_0f0f), (15360, 16384)),
+    (16, b"NR01\x01\x00\x10\x0f", 8, Some(0x0100_0f0f), (16384, 16384)),
+    (16, b"NR01\x01\x00\xff\x10", 8, Some(0x0100_0f0f), (16384, 16384)),
+    // A responder of one unit answers, too. One of 0 has one, and one of 17 has 16.
+    (1, b"NR01\x01\x00\x03\x03", 8, Some(0x0100_0000), (1024, 1024)),
+    (0, b"NR01\x01\x00\x03\x03", 8, Some(0x0100_0000), (1024, 1024)),
+    (17, b"NR01\x01\x00\x0f\x0f", 8, Some(0x0100_0f0f), (16384, 16384)),
+    // Flags that nobody knows; a number of a client, and its flag without it; what follows.
+    (2, b"NR01\x01\xfc\x01\x01", 8, Some(0x0100_0101), (2048, 2048)),
+    (2, b"NR01\x01\x01\x01\x01\x00\x00\x00\x00\x00\x00\x00\x05", 16, Some(0x0100_0101), (2048, 2048)),
+    (2, b"NR01\x01\x01\x01\x01", 8, Some(0x0100_0101), (2048, 2048)),
+    (2, b"NR01\x01\x00\x01\x01", 9, Some(0x0100_0101), (2048, 2048)),
+    (2, b"NR01\x01\x00\x01\x01", 512, Some(0x0100_0101), (2048, 2048)),
 ];
 
-/// A request whose private data begins so and has this length.
-fn request(rt: &impl Abort, alloc: Global, front: &[u8], len: usize) -> Vec<u8> {
-    let mut bytes = bytes_of(rt, alloc, &REQUEST[..4]);
+/// A hello whose first four words are these and whose private data begins so and has this length.
+fn hello(rt: &impl Abort, alloc: Global, key: &[u32], front: &[u8], len: usize) -> Vec<u8> {
+    let mut bytes = bytes_of(rt, alloc, key);
     bytes.extend_from_slice(&[0, 1]).expect(rt, "memory");
     bytes
         .extend_from_slice(&(len.min(512) as u16).to_be_bytes())
@@ -59,15 +66,24 @@ fn request(rt: &impl Abort, alloc: Global, front: &[u8], len: usize) -> Vec<u8> 
     bytes
 }
 
-/// Ends the test if a responder of two units makes something else of a row.
-fn answers(rt: &impl Abort, alloc: Global, row: usize, cells: Row) {
-    let mut endpoint = TestEndpoint::open_with(rt, alloc, Side::Responder, SideTerms::sized(2));
+/// A responder of these units that was fed a request with this private data.
+fn requested(rt: &impl Abort, alloc: Global, row: usize, units: u8, front: &[u8], len: usize) -> TestEndpoint {
+    let mut endpoint = TestEndpoint::open_with(rt, alloc, Side::Responder, SideTerms::sized(units));
     same(rt, row, endpoint.endpoint().agreed(), (1024, 1024));
-    let hello = request(rt, alloc, cells.0, cells.1);
-    same(rt, row, endpoint.feed(rt, hello.as_slice()), Ok(()));
-    same(rt, row, endpoint.endpoint().agreed(), cells.3);
-    let answer: &[u32] = if cells.2 { &TWO_UNITS } else { &REPLY };
-    writes(rt, alloc, row, &mut endpoint, answer, &[]);
+    let request = hello(rt, alloc, &REQUEST[..4], front, len);
+    same(rt, row, endpoint.feed(rt, request.as_slice()), Ok(()));
+    endpoint
+}
+
+/// Ends the test if a responder makes something else of a row.
+fn answers(rt: &impl Abort, alloc: Global, row: usize, cells: Row) {
+    let (units, front, len, last, agreed) = cells;
+    let mut endpoint = requested(rt, alloc, row, units, front, len);
+    same(rt, row, endpoint.endpoint().agreed(), agreed);
+    match last {
+        None => writes(rt, alloc, row, &mut endpoint, &REPLY, &[]),
+        Some(word) => writes(rt, alloc, row, &mut endpoint, &ANSWER, &[word]),
+    }
     drop(endpoint);
 }
 
@@ -75,6 +91,62 @@ fn answers(rt: &impl Abort, alloc: Global, row: usize, cells: Row) {
 fn requests_with_terms(rt: HostRuntime) {
     for (row, cells) in ANSWERED.iter().enumerate() {
         answers(&rt, rt.alloc(), row, *cells);
+    }
+}
+
+/// The private data of a reply to an initiator of four units, and what is agreed, from the initiator and from the responder.
+static REPLIED: [(&[u8], (u32, u32)); 5] = [
+    (b"", (1024, 1024)),
+    (b"NR01\x02\x00\x03\x03", (1024, 1024)),
+    (b"NR01\x01\x00\x00\x01", (2048, 1024)),
+    (b"NR01\x01\x00\x01\x00", (1024, 2048)),
+    (b"NR01\x01\x00\x0f\x0f", (4096, 4096)),
+];
+
+/// Ends the test if an initiator of four units agrees on something else.
+fn agrees(rt: &impl Abort, alloc: Global, row: usize, private: &[u8], agreed: (u32, u32)) {
+    let mut endpoint = TestEndpoint::open_with(rt, alloc, Side::Initiator, SideTerms::sized(4));
+    let reply = hello(rt, alloc, &REPLY[..4], private, private.len());
+    same(rt, row, endpoint.feed(rt, reply.as_slice()), Ok(()));
+    same(rt, row, endpoint.endpoint().agreed(), agreed);
+    drop(endpoint);
+}
+
+#[test]
+fn replies_with_terms(rt: HostRuntime) {
+    for (row, (private, agreed)) in REPLIED.iter().enumerate() {
+        agrees(&rt, rt.alloc(), row, private, *agreed);
+    }
+}
+
+/// The length of a Send of an initiator, and the end of a responder that has agreed on 1,024 bytes, after a hello of 28 bytes.
+static LONG_SENDS: [(usize, Option<End>); 2] = [
+    (1024, None),
+    (1025, Some(End::Bad { at: 28, reason: 22 })),
+];
+
+/// A responder whose receives have 2,048 bytes ends if a Send is longer than the 1,024 that are agreed.
+fn long_send(rt: &impl Abort, alloc: Global, row: usize, len: usize, end: Option<End>) {
+    let mut to = requested(rt, alloc, row, 2, b"NR01\x01\x00\x00\x00", 8);
+    let mut from = TestEndpoint::open_with(rt, alloc, Side::Initiator, SideTerms::one_unit());
+    let reply = hello(rt, alloc, &REPLY[..4], b"", 0);
+    same(rt, row, from.feed(rt, reply.as_slice()), Ok(()));
+    let mut sink = MemSink::new(alloc, Vec::new(alloc));
+    same(rt, row, from.drain_into(&mut sink), Ok(()));
+    let written = sink.bytes().len();
+    let message = vec![in alloc; 7u8; len].expect(rt, "memory");
+    same(rt, row, from.send(rt, message.as_slice()), Ok(()));
+    same(rt, row, from.drain_into(&mut sink), Ok(()));
+    let fed = to.feed(rt, &sink.bytes()[written..]);
+    same(rt, row, fed.err(), end);
+    drop(from);
+    drop(to);
+}
+
+#[test]
+fn sends_longer_than_agreed(rt: HostRuntime) {
+    for (row, (len, end)) in LONG_SENDS.iter().enumerate() {
+        long_send(&rt, rt.alloc(), row, *len, *end);
     }
 }
 

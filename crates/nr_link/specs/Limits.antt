@@ -10,6 +10,6 @@ segment_max = 4096
 abbrev pub open_reads_max : ℕ
 open_reads_max = 8
 
--- the maximum length of a Send in bytes, in each direction, unless the sides agree on another
+-- the unit of the length of a Send, in bytes: its maximum in each direction, unless the sides agree on more
 abbrev pub send_max : ℕ
 send_max = 1024

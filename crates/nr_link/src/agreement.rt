@@ -78,8 +78,8 @@ impl SideTerms {
 }
 
 impl Agreement {
-    /// What is agreed if a side says nothing.
-    pub fn nothing() -> Agreement
+    /// What is agreed unless both sides say terms: one unit in each direction.
+    pub fn default_sizes() -> Agreement
         ensures { result ≡ default_agreement }
     {
         Agreement {

@@ -1,7 +1,7 @@
-//! The maximum length of a Send, the numbers of the reasons for which a link ends, beyond those of a frame alone (`nr_wire`), and the
+//! The unit of the length of a Send, the numbers of the reasons for which a link ends, beyond those of a frame alone (`nr_wire`), and the
 //! words of a Terminate. All are this implementation's own.
 
-/// The maximum length of a Send in bytes, in each direction.
+/// The unit of the length of a Send, in bytes: its maximum in each direction unless both hellos agree on more.
 pub const SEND_MAX: u32 = 1024;
 
 /// A message number isn't the next of its queue (RFC 5041 section 4.3).
