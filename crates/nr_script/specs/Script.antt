@@ -13,8 +13,8 @@ use Rattle.nr_script.specs.declared.script.Line.{Line}
 use Rattle.nr_script.specs.declared.script.Line.TheVariants as lines
 use Rattle.nr_script.specs.declared.script.ScriptFault.{ScriptFault}
 use Rattle.nr_script.specs.declared.script.ScriptFault.TheVariants as faults
-use Rattle.nr_reduce.specs.Limits.{credits_max}
 use Rattle.nr_wire.specs.Constants.{UNITS_MAX}
+use Rattle.nr_reduce.specs.Limits.{credits_max}
 use Rattle.nr_script.specs.Limits.{clients_max, capacity_max, number_max, lines_max}
 use Rattle.nr_script.specs.Words.{parts}
 use Rattle.nr_script.specs.Lines.{opening_in, line_in}

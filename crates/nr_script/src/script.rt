@@ -19,9 +19,9 @@ pub struct Opening {
     pub credits: u32,
     /// How many bytes the journal may cost: at most 2^63 - 1.
     pub capacity: u64,
-    /// The units of the client of each link, of 1024 bytes of a Send each: 1 to 16.
+    /// The units of the Sends of each client, of 1,024 bytes each: 1 to 16.
     pub client_units: u8,
-    /// The units of the server of each link: 1 to 16.
+    /// The units of the Sends of each server: 1 to 16.
     pub server_units: u8,
 }
 
