@@ -1,6 +1,7 @@
 #!/bin/sh
 # Real links over loopback: GETATTRs of `nfsrdma serve` beside raw round trips of the same bytes; READs and WRITEs of 32 KiB, one at a time
-# and with 16 outstanding, and `get` and `put` of 16 MiB, beside raw bytes one way; the server's processor time a GETATTR; the memory of a
+# and with 16 outstanding; GETATTRs, and READs and WRITEs of 2 and 8 KiB, with Sends of 1 and of 16 units, beside raw round trips of the
+# bytes of the latter; and `get` and `put` of 16 MiB, beside raw bytes one way; the server's processor time a GETATTR; the memory of a
 # server with a file of 16 MiB. Beside `get` and `put` it prints what has no part in the raw bytes: a new file's bytes written, and an input
 # read piece by piece and sent in the passes of WRITEs, one at a time, to a server that keeps it. Run by hand, at the top of the
 # repository, once `rt run` has built nfsrdma and links_bench; or with the paths of both programs. It needs a C compiler, for bench/echo.c.
@@ -40,7 +41,7 @@ def server(folder, connections):
     at = port()
     config = f"{folder}/config{at}.toml"
     with open(config, "w") as it:
-        it.write(f'listen = "127.0.0.1:{at}"\nexport = "/"\ncredits = 64\ncapacity = 1000000000000\nconnections = {connections + 1}\nwrite_verifier = "0000000000000001"\n')
+        it.write(f'listen = "127.0.0.1:{at}"\nexport = "/"\ncredits = 64\ncapacity = 1000000000000\nconnections = {connections + 1}\ninline = 16\nwrite_verifier = "0000000000000001"\n')
     child = subprocess.Popen([NFSRDMA, "serve", config], stdout=subprocess.DEVNULL)
     result = []
     for _ in range(500):
@@ -68,13 +69,24 @@ def pair(program, server, client, stdin=None, stdout=None):
     return micros, used(child)[0]
 
 
-def calls(address, what, count, outstanding):
+def calls(address, what, count, outstanding, size=SIZE, units=1):
     """The microseconds of these calls."""
-    done = subprocess.run([LINKS, address, what, str(count), str(outstanding)], check=True, capture_output=True, text=True).stdout
+    done = subprocess.run([LINKS, address, what, *map(str, (count, outstanding, size, units))], check=True, capture_output=True, text=True).stdout
     total, micros = map(int, re.fullmatch(r"(\d+) (\d+)\n", done).groups())
-    if total != count * (1 if what == "getattr" else SIZE):
+    if total != count * (1 if what == "getattr" else size):
         sys.exit(f"{what}: {total} confirmed")
     return micros
+
+
+# The FPDUs of a Send with this many bytes: each of at most 4096 of them, and 24 bytes beside them, padded to words.
+def sent(size):
+    return size + 24 * -(-size // 4096)
+
+
+# The frames of a READ and of a WRITE inline, and of their replies: beside the data a READ has a Send of 112 bytes and one of 156, and a WRITE one of 120
+# and one of 188.
+def frames(what, size):
+    return (sent(112), sent(156 + size)) if what == "read" else (sent(120 + size), sent(188))
 
 
 def command(words, **streams):
@@ -104,16 +116,23 @@ def main(folder):
         with server(folder, 1) as (address, result):
             calls(address, "getattr", 1, 1)
         note("server", (with_calls - result[0]) / TURNS * 1e6)
+        for what in ("read", "write"):
+            for size in (2048, 8192):
+                request, reply = frames(what, size)
+                note(("raw", what, size), raw(echo, request, reply, "turns", str(request), str(reply), str(CALLS))[0] / CALLS)
         note("raw 32 KiB", raw(echo, 1, 0, "send", str(CALLS * SIZE), str(SIZE))[0] / CALLS)
         note("raw 16 MiB", raw(echo, 1, 0, "send", str(FILE), str(SIZE))[0])
         with open(f"{folder}/raw", "wb") as out:
             note("raw into a file", pair(echo, ["save"], ["send", FILE, SIZE], stdout=out)[0])
         with open(f"{folder}/file", "rb") as data:
             note("raw put", pair(echo, ["store", SIZE], ["put", SIZE], stdin=data)[0])
-        with server(folder, 7) as (address, result):
+        with server(folder, 17) as (address, result):
             for what in ("read", "write"):
                 for outstanding in (1, 16):
                     note((what, outstanding), calls(address, what, CALLS, outstanding) / CALLS)
+            for what, size in (("getattr", 0), ("read", 2048), ("read", 8192), ("write", 2048), ("write", 8192)):
+                for units in (1, 16):
+                    note((what, size, units), calls(address, what, CALLS, 1, size, units) / CALLS)
             note("get into /dev/null", command([NFSRDMA, "get", address, "/", "/a"], stdout=subprocess.DEVNULL))
             with open(f"{folder}/back", "wb") as out:
                 note("get into a file", command([NFSRDMA, "get", address, "/", "/a"], stdout=out))
@@ -128,6 +147,11 @@ def main(folder):
             took = least[what, outstanding]
             print(f"{what.upper()} of 32 KiB, {outstanding} outstanding: {took:.1f} microseconds; raw bytes one way {least['raw 32 KiB']:.1f};"
                   f" share {least['raw 32 KiB'] / took:.2f} (goal {goal})")
+    for what, size in (("read", 2048), ("read", 8192), ("write", 2048), ("write", 8192)):
+        raw_turn, one, sixteen = least["raw", what, size], least[what, size, 1], least[what, size, 16]
+        print(f"{what.upper()} of {size} bytes: {one:.1f} microseconds with Sends of one unit, {sixteen:.1f} with 16: {sixteen / one:.2f} times (goal: below 1);"
+              f" a raw round trip of the same bytes inline {raw_turn:.1f}")
+    print(f"a GETATTR with Sends of one unit {least['getattr', 0, 1]:.1f} microseconds, with 16 {least['getattr', 0, 16]:.1f}")
     for what in ("get into /dev/null", "get into a file", "put from a file"):
         print(f"{what}, 16 MiB: {least[what] / 1000:.1f} ms; raw bytes {least['raw 16 MiB'] / 1000:.1f}: {least[what] / least['raw 16 MiB']:.1f} times (goal 4)")
     print(f"raw bytes into a file, 16 MiB: {least['raw into a file'] / 1000:.1f} ms: `get` takes {least['get into a file'] / least['raw into a file']:.1f} times that")

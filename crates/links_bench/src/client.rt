@@ -45,10 +45,10 @@ pub struct Procedure {
 }
 
 impl Client {
-    /// A client that has submitted nothing.
-    pub fn open(alloc: Global, credits: u32) -> Result<Client, Memory> {
+    /// A client that has submitted nothing, with these units of 1,024 bytes for a Send.
+    pub fn open(alloc: Global, credits: u32, units: u8) -> Result<Client, Memory> {
         Ok(Client {
-            end: Requester::open(alloc, credits)?,
+            end: Requester::open_sized(alloc, credits, units)?,
             fed: 0,
             awaited: VecDeque::new(alloc),
         })

@@ -1,6 +1,7 @@
-//! A benchmark, run by hand against `nfsrdma serve`: GETATTRs of the root, or READs or WRITEs of 32 KiB of file 2, over TCP, with at most n
+//! A benchmark, run by hand against `nfsrdma serve`: GETATTRs of the root, or READs or WRITEs of file 2, over TCP, with at most n
 //! outstanding. It prints how many calls, or how many bytes, the replies confirm, and the microseconds that they took. The
-//! arguments are the address; `getattr`, `read` or `write`; the number of calls; and how many may be outstanding.
+//! arguments are the address; `getattr`, `read` or `write`; the number of calls; how many may be outstanding; how many bytes a READ or a
+//! WRITE moves, at most 32,768; and the client's units of 1,024 bytes for a Send.
 #![tactic(auto)]
 
 ghost use Rattle.std.specs.Prelude.{◌≡◌};
@@ -23,12 +24,13 @@ use work::Work;
 /// How many credits the client wishes for.
 const CREDITS: u32 = 64;
 
-/// What is done: calls of a kind, their number, and how many may be outstanding.
+/// What is done: calls of a kind, their number, how many may be outstanding, and the units of the client.
 #[derive(Clone, Copy)]
 struct Plan {
     work: Work,
     rounds: u32,
     outstanding: u32,
+    units: u8,
 }
 
 /// Submits calls while one may be sent, with arguments that came back or that are made. Gives how many were submitted.
@@ -103,7 +105,7 @@ fn linked<N: LinkNumber, D: Dialer>(
 ) -> Option<u64>
     requires { D.next dialer.old ≡ N.number }
 {
-    let Ok(mut client) = Client::open(alloc, CREDITS) else {
+    let Ok(mut client) = Client::open(alloc, CREDITS, plan.units) else {
         return None;
     };
     let Ok(mut piece) = vec![in alloc; 0u8; PIECE_MAX] else {
@@ -128,15 +130,19 @@ fn plan_of(rt: &HostRuntime) -> Option<(String, Plan)> {
     let mut words = env::args(rt).ok()?;
     let _ = words.next();
     let addr = words.next()?;
-    let work = Work::of(words.next()?.as_str())?;
+    let what = words.next()?;
     let rounds = number(words.next())?;
     let outstanding = number(words.next())?;
+    let size = u16::try_from(number(words.next())?).ok()?;
+    let units = u8::try_from(number(words.next())?).ok()?;
+    let work = Work::of(what.as_str(), size)?;
     Some((
         addr,
         Plan {
             work,
             rounds,
             outstanding,
+            units,
         },
     ))
 }

@@ -5,38 +5,40 @@ use nr_nfs_base::{NFS_PROGRAM, NFS_VERSION, NfsProcedure, Numbered};
 use nr_xdr::{Memory, Octets};
 use std::alloc::Global;
 
-/// How many bytes are written or read.
-const SIZE: usize = 32_768;
-
 /// The arguments of a GETATTR of the root: its handle.
 static GETATTR_ARGS: [u8; 12] = [0, 0, 0, 8, 0, 0, 0, 0, 0, 0, 0, 1];
 
-/// The arguments of a READ of file 2: its handle, the offset and the count.
-static READ_ARGS: [u8; 24] = [
-    0, 0, 0, 8, 0, 0, 0, 0, 0, 0, 0, 2, 0, 0, 0, 0, 0, 0, 0, 0, 0, 0, 128, 0,
+/// How the arguments of a READ and of a WRITE begin: the handle of file 2, and the offset. The count follows, and those of a WRITE go on
+/// with FILE_SYNC, the length of the data, and the data.
+static FILE_AND_OFFSET: [u8; 20] = [
+    0, 0, 0, 8, 0, 0, 0, 0, 0, 0, 0, 2, 0, 0, 0, 0, 0, 0, 0, 0,
 ];
 
-/// Those of a WRITE up to its data: after the count FILE_SYNC, and the length of the data.
-static WRITE_HEAD: [u8; 32] = [
-    0, 0, 0, 8, 0, 0, 0, 0, 0, 0, 0, 2, 0, 0, 0, 0, 0, 0, 0, 0, 0, 0, 128, 0, 0, 0, 0, 2, 0, 0,
-    128, 0,
-];
+/// The word of FILE_SYNC.
+static FILE_SYNC: [u8; 4] = [0, 0, 0, 2];
 
-/// What is called.
+/// What is called; a READ or a WRITE with how many bytes it moves.
 #[derive(Clone, Copy)]
 pub enum Work {
     Getattr,
-    Read,
-    Write,
+    Read { size: u16 },
+    Write { size: u16 },
+}
+
+/// How the arguments of a READ or a WRITE of this size begin, up to the count.
+fn range_args(alloc: Global, size: u16) -> Result<Octets, Memory> {
+    let mut args = Octets::from_slice(alloc, &FILE_AND_OFFSET)?;
+    args.extend_from_slice(&u32::from(size).to_be_bytes())?;
+    Ok(args)
 }
 
 impl Work {
-    /// The work of a word.
-    pub fn of(word: &str) -> Option<Work> {
+    /// The work of a word, with the size of a READ or a WRITE.
+    pub fn of(word: &str, size: u16) -> Option<Work> {
         match word {
             "getattr" => Some(Work::Getattr),
-            "read" => Some(Work::Read),
-            "write" => Some(Work::Write),
+            "read" => Some(Work::Read { size }),
+            "write" => Some(Work::Write { size }),
             _ => None,
         }
     }
@@ -44,8 +46,8 @@ impl Work {
     pub fn procedure(self) -> Procedure {
         let procedure = match self {
             Work::Getattr => NfsProcedure::Getattr,
-            Work::Read => NfsProcedure::Read,
-            Work::Write => NfsProcedure::Write,
+            Work::Read { .. } => NfsProcedure::Read,
+            Work::Write { .. } => NfsProcedure::Write,
         };
         Procedure {
             prog: NFS_PROGRAM,
@@ -58,10 +60,12 @@ impl Work {
     pub fn args(self, alloc: Global) -> Result<Octets, Memory> {
         match self {
             Work::Getattr => Octets::from_slice(alloc, &GETATTR_ARGS),
-            Work::Read => Octets::from_slice(alloc, &READ_ARGS),
-            Work::Write => {
-                let data = vec![in alloc; 7u8; SIZE]?;
-                let mut args = Octets::from_slice(alloc, &WRITE_HEAD)?;
+            Work::Read { size } => range_args(alloc, size),
+            Work::Write { size } => {
+                let data = vec![in alloc; 7u8; usize::from(size)]?;
+                let mut args = range_args(alloc, size)?;
+                args.extend_from_slice(&FILE_SYNC)?;
+                args.extend_from_slice(&u32::from(size).to_be_bytes())?;
                 args.extend_from_slice(data.as_slice())?;
                 Ok(args)
             }
@@ -76,8 +80,8 @@ impl Work {
         }
         match self {
             Work::Getattr => Some(1),
-            Work::Read => Some(u64::from(word(reply, 116)?)),
-            Work::Write => Some(u64::from(word(reply, 144)?)),
+            Work::Read { .. } => Some(u64::from(word(reply, 116)?)),
+            Work::Write { .. } => Some(u64::from(word(reply, 144)?)),
         }
     }
 }
