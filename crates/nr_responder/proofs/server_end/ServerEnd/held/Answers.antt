@@ -21,7 +21,7 @@ returns-clause-is c =
     let rooms : c.rooms_len.result + c.payloads_len.result + outside ≡ rooms_of c.args.self.now.calls.items c.args.self.now.ready.items c.args.self.now.endpoint.outside =
     (λ i. (c.rooms_len.ensures.sum ∙ ap (λ (cs : List Pending). sum_by (λ p. room_len p.room) cs) c.as_slice.ensures.value) i + c.payloads_len.ensures.sum i + outside) in
     held_sum _ c.held.result (length c.args.self.now.endpoint.staging) (bytes_of c.args.self.now.endpoint.link.state) outside
-    (c.len.result + c.len-2.result) (length (map call_view c.args.self.now.calls.items) + unsent c.args.self.now.endpoint.link.state) (c.rooms_len.result + c.payloads_len.result) refl c.held.ensures.is
+    c.args.self.now.endpoint.link.state.receive_queue.receive_length (c.len.result + c.len-2.result) (length (map call_view c.args.self.now.calls.items) + unsent c.args.self.now.endpoint.link.state) (c.rooms_len.result + c.payloads_len.result) refl c.held.ensures.is
     (let same = c.requires.sound.0.unsent_is in omega (arith, same, length-map c.args.self.now.calls.items call_view, c.len.ensures, c.len-2.ensures))
     ∙ ap (λ (n : ℕ). length c.args.self.now.endpoint.staging + bytes_of c.args.self.now.endpoint.link.state + send_max * (length (map call_view c.args.self.now.calls.items) + unsent c.args.self.now.endpoint.link.state) + n) rooms
 
