@@ -1,5 +1,5 @@
 -- What is agreed has bounds, whatever both sides say.
-use Rattle.std.proofs.Common.{◌≡◌, ℕ, ◌≤◌, ◌-◌, ◌*◌, min, Bool, true, false, if◌then◌else◌, List, [], Option, None, Some, refl, arith}
+use Rattle.std.proofs.Common.{◌≡◌, ℕ, ◌≤◌, ◌-◌, ◌*◌, min, Bool, true, false, if◌then◌else◌, List, Option, None, Some, refl, arith}
 use Rattle.std.proofs.Math.Nat.{min-le_left, min-le_right}
 use Rattle.nr_wire.specs.Constants.{UNITS_MAX}
 use Rattle.nr_wire.specs.declared.terms.Terms.{Terms}

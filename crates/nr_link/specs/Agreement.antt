@@ -1,6 +1,6 @@
 -- What both sides of a link agree on by the private data of their hellos: how long a Send may be in each direction, and whether a reply is a
 -- Send with Invalidate. All of it is own.
-use Rattle.std.specs.Prelude.{◌≡◌, ℕ, ◌*◌, ◌≤◌, min, Bool, true, false, not, ◌&&◌, ◌==◌, if◌then◌else◌, List, [], Option, None, Some}
+use Rattle.std.specs.Prelude.{◌≡◌, ℕ, ◌*◌, ◌≤◌, min, false, not, ◌&&◌, ◌==◌, if◌then◌else◌, List, [], Option, None, Some}
 use Rattle.nr_wire.specs.Constants.{UNITS_MAX}
 use Rattle.nr_wire.specs.declared.terms.Terms.{Terms}
 use Rattle.nr_wire.specs.Terms.{terms_encoding, terms_in, units_byte}
