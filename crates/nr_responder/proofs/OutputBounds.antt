@@ -333,7 +333,7 @@ handled_out opened k so_far message v after m keeps lives h g (Refused answer ef
     f = record {
       queue =
           subst (λ (l : LinkSide). QueueFits l.state.send_queue (length (drop open_reads_max v.fetching.reads)) (length v.calls)) (sym sent)
-          (send_fits told.state.send_queue answer (length (drop open_reads_max v.fetching.reads)) (length v.calls) (length (drop open_reads_max v.fetching.reads)) (length v.calls) short (omega arith) (omega arith) (waits_lem now shares t.reads) t.queue);
+          (send_fits told.state.send_queue answer (length (drop open_reads_max v.fetching.reads)) (length v.calls) (length (drop open_reads_max v.fetching.reads)) (length v.calls) (omega (arith, short)) (omega arith) (omega arith) (waits_lem now shares t.reads) t.queue);
       reads = t.reads;
       hello = (let small = t.hello in let len = ap (λ (l : LinkSide). length l.state.send_queue.hello) sent in omega (arith, small, len));
       none = λ e. ap (λ (l : LinkSide). length l.state.send_queue.hello) sent ∙ t.none (sym (ap (λ (l : LinkSide). l.state.place) sent) ∙ e);
@@ -437,7 +437,7 @@ refused_lives v n r rest xid reads own g f = record {
 
     sent : QueueFits (with_send message q) (length waiting) (length calls)
     sent =
-        send_fits q message (length (drop open_reads_max (r ∷ rest))) (length v.calls) (length waiting) (length calls) (chunk_short xid v.credits)
+        send_fits q message (length (drop open_reads_max (r ∷ rest))) (length v.calls) (length waiting) (length calls) (let small = chunk_short xid v.credits in omega (arith, small))
         (omega (arith, filter_fewer (λ (x : PendingRead). not (eqb x.number n)) (drop kept rest), length-drop kept rest, length-drop open_reads_max (r ∷ rest), length-take open_reads_max (r ∷ rest)))
         (one_without n v.calls own) (waiting_most calls waiting pending waiting_few) (subst (λ (rs : List PendingRead). QueueFits q (length (drop open_reads_max rs)) (length v.calls)) reads f.queue)
 
