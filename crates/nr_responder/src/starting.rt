@@ -1,6 +1,6 @@
 //! The reads of a call begin (RFC 8166 section 3.4.5).
 
-ghost use Rattle.std.specs.Prelude.{◌≡◌, ℕ, ◌+◌, ◌^◌, ◌<◌, ◌≤◌, ◌++◌, ◌∷◌, [], length, take, None, All, IfOk, OnOk, OnErr, map, replicate, vec_capacity};
+ghost use Rattle.std.specs.Prelude.{◌≡◌, ℕ, ◌+◌, ◌*◌, ◌^◌, ◌<◌, ◌≤◌, ◌++◌, ◌∷◌, [], length, take, None, All, IfOk, OnOk, OnErr, map, replicate, vec_capacity};
 ghost use Rattle.std.specs.FinMap.{get};
 ghost use Rattle.nr_wire.specs.Constants.{UNITS_MAX};
 ghost use Rattle.nr_link.specs.Limits.{send_max};

@@ -16,7 +16,7 @@ answer-requires-clause-size c =
     let within : ListsWithin (call_view p).lists = c.requires.call.lists.within in
     let short = message_short down p.xid c.args.credits (call_view p) c.args.stream.now c.args.reply.now c.requires.limit within in
     let answer : option_map answer_view c.answer_to-answer.result ≡ answer_to down (call_view p) c.args.stream.now c.args.reply.now =
-    c.answer_to-answer.ensures ∙ (λ i. answer_of_target (c.requires.lists i) (c.agreed.ensures.down i) c.args.reply.now (c.target_of.ensures i)) in
+    c.answer_to-answer.ensures ∙ (λ i. answer_of_target (c.requires.lists i) (c.agreed-down.ensures.down i) c.args.reply.now (c.target_of.ensures i)) in
     let is : c.in_ok-message.message ≡ message_for p.xid c.args.credits (call_view p).lists (answer_to down (call_view p) c.args.stream.now c.args.reply.now) =
     c.in_ok-message.ensures ∙ (λ i. message_for p.xid c.args.credits (c.requires.lists i) (answer i)) in
     let len = ap (λ (bytes : List ℕ). length bytes) (c.as_slice-2.ensures ∙ is) in
