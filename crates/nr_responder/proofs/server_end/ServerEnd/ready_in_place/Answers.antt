@@ -1,4 +1,4 @@
-use Rattle.std.proofs.Common.{length, ◌≡◌, ℕ, true, List, [], ◌∷◌, ◌++◌, take, drop, get_or, map, Some, is_some, refl, sym, ap, subst, ◌∙◌, arith, inl, set}
+use Rattle.std.proofs.Common.{length, ◌≡◌, ℕ, true, List, [], ◌∷◌, ◌++◌, take, drop, get_or, map, Some, is_some, refl, sym, ap, ◌∙◌, arith, inl, set}
 use Rattle.std.proofs.Math.Seq.{map-set_same}
 use Rattle.nr_reduce.specs.Chunks.{whole}
 use Rattle.nr_reduce.specs.ServerReads.{is_read}
