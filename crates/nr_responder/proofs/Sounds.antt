@@ -13,7 +13,7 @@ use Rattle.nr_endpoint.specs.Calls.Call.{NextEvent, Stop, Send, OutOfMemory}
 use Rattle.nr_responder.specs.declared.call.Pending.{Pending}
 use Rattle.nr_responder.specs.declared.call.Ready.{Ready}
 use Rattle.nr_responder.specs.ResponderState.{unsent, drained_posted, left_by}
-use Rattle.nr_responder.specs.Sound.{InBuffer, InReceive, QueuesInvariant, ServerEndInvariant, ServerEndInvariantWith}
+use Rattle.nr_responder.specs.Sound.{InReceive, QueuesInvariant, ServerEndInvariant, ServerEndInvariantWith}
 use Rattle.nr_responder.specs.declared.server_end.ServerEnd.{ServerEnd}
 use Rattle.nr_responder.proofs.Executed.{with_answer, fewer_wait}
 use Rattle.nr_responder.proofs.FrameCounts.{SameCounts}

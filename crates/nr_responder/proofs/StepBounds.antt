@@ -25,7 +25,7 @@ use Rattle.nr_reduce.specs.ServerState.{PendingCall, PendingRead, ServerState}
 use Rattle.nr_reduce.specs.ServerReads.{is_read}
 use Rattle.nr_responder.specs.declared.call.Sent.{Sent}
 use Rattle.nr_responder.specs.Answering.{Answers, answer_to, answered_by, message_for}
-use Rattle.nr_responder.specs.HeldBytes.{sinks_total, IsOfPending, IsBounded, KeptFits, RegionsHave, SameReceives, SharesFit, SinksFit, held_unit, ReceivesFit}
+use Rattle.nr_responder.specs.HeldBytes.{sinks_total, IsOfPending, IsBounded, KeptFits, RegionsHave, SharesFit, SinksFit, held_unit, ReceivesFit}
 use Rattle.nr_responder.specs.Keeping.{Keeps}
 use Rattle.nr_responder.specs.ResponderState.{ResponderSide, ResponderState, after_drain, bytes_held_by, end_of, opened_side, unsent}
 use Rattle.nr_responder.specs.Standing.{RepresentsServer, ResponderRepresents, RepresentsSome}

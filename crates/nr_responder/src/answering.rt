@@ -72,14 +72,7 @@ fn answer_to<'a>(
     ensures { option_map answer_view result ≡ answer_of_target (lists_of_slices lists.entry) down reply.now target }
 {
     match target {
-        Some(target) => answer_for(
-            lists,
-            target.prog,
-            target.vers,
-            target.proc,
-            reply,
-            down,
-        ),
+        Some(target) => answer_for(lists, target.prog, target.vers, target.proc, reply, down),
         None => answer_for(lists, 0, 0, 0, reply, down),
     }
 }

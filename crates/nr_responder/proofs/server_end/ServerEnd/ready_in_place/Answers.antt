@@ -1,8 +1,9 @@
-use Rattle.std.proofs.Common.{length, ◌≡◌, ℕ, true, List, [], ◌∷◌, ◌++◌, take, drop, get_or, map, Some, is_some, refl, sym, ap, subst, ◌∙◌, arith, inl, set}
+use Rattle.std.proofs.Common.{length, ◌≡◌, ℕ, true, List, [], ◌∷◌, ◌++◌, take, drop, get_or, map, Some, is_some, refl, sym, ap, ◌∙◌, arith, inl, set}
 use Rattle.std.proofs.Math.Seq.{map-set_same}
 use Rattle.nr_reduce.specs.Chunks.{whole}
 use Rattle.nr_reduce.specs.ServerReads.{is_read}
 use Rattle.nr_reduce.specs.declared.item.Of.TheVariants as of
+use Rattle.nr_endpoint.specs.LinkState.{LinkSide}
 use Rattle.nr_responder.specs.declared.call.Pending.{Pending}
 use Rattle.nr_responder.specs.declared.call.OpenSink.{OpenSink}
 use Rattle.nr_responder.specs.private.Reading.{left_sinks, opening, over_sinks, with_opened, with_released}

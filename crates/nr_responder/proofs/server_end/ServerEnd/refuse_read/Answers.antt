@@ -10,7 +10,7 @@ use Rattle.nr_responder.specs.ResponderState.{ResponderSide}
 use Rattle.nr_responder.specs.private.DoneReads.{IsOfCall}
 use Rattle.nr_responder.specs.private.Reading.{left_sinks, opening, over_sinks, with_opened_after, with_released}
 use Rattle.nr_responder.specs.private.ReadsDone.{has_bad_chunk}
-use Rattle.nr_responder.specs.Sound.{QueuesInvariant, InBuffer, payloads_of, state_of, xids_of}
+use Rattle.nr_responder.specs.Sound.{QueuesInvariant, payloads_of, state_of, xids_of}
 use Rattle.nr_responder.specs.Views.{call_view, read_view, sink_view}
 use Rattle.nr_responder.proofs.DoneReads.{dropped_fetched, refused_ends, refused_fetched, refused_link, refused_sound, refuses}
 use Rattle.nr_responder.proofs.Removed.{map_removed}

@@ -1,4 +1,4 @@
-use Rattle.std.proofs.Common.{◌≡◌, ℕ, ◌≤◌, List, [], ◌∷◌, length, take, sym, ap, subst, ◌∙◌, arith}
+use Rattle.std.proofs.Common.{ℕ, List, [], ◌∷◌, length, take, sym, ap, subst, ◌∙◌, arith}
 use Rattle.nr_endpoint.specs.declared.event.Event.{Event}
 use Rattle.nr_endpoint.specs.LinkState.{LinkSide}
 use Rattle.nr_endpoint.specs.Calls.{after_call}
