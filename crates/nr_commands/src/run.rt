@@ -89,6 +89,7 @@ fn run_at<
         client.addr,
         client.uid,
         client.gid,
+        client.units,
     );
     let mut session = match opened {
         Ok(session) => session,

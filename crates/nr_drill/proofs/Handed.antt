@@ -116,7 +116,7 @@ after_below : (o : LinkParameters) (k : ClientState) (e : RunEvent) → IsFresh 
 unfolding client_state_after
 after_below o k (FrameReceived f) fresh h = by (is_hello f)
   where
-    by : (b : Bool) → XidsBelow o (cond b (with_hello o k) (with_segment k f (frame_segment f)))
+    by : (b : Bool) → XidsBelow o (cond b (with_hello o k f) (with_segment k f (frame_segment f)))
     by true = record { waiting = h.waiting; brought = h.brought }
     by false = segment_below o k f (frame_segment f) h
 after_below o k (CallSubmitted place a) fresh h =

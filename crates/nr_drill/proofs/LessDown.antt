@@ -72,7 +72,7 @@ frame_accepts : (o : LinkParameters) (k : ClientState) (f : Frame) → (client_s
 unfolding client_state_after
 frame_accepts o k f = by (is_hello f)
   where
-    by : (b : Bool) → (cond b (with_hello o k) (with_segment k f (frame_segment f))).calls_accepted ≡ k.calls_accepted
+    by : (b : Bool) → (cond b (with_hello o k f) (with_segment k f (frame_segment f))).calls_accepted ≡ k.calls_accepted
     by true = refl
     by false = segment_accepts k f (frame_segment f)
 

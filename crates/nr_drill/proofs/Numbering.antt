@@ -131,7 +131,7 @@ follows_within server script run is follows =
 -- ===== xids
 
 module _ (o : LinkParameters) where
-  frame_kept : (k : ClientState) (f : Frame) (b : Bool) → (cond b (with_hello o k) (with_segment k f (frame_segment f))).calls_accepted ≡ k.calls_accepted
+  frame_kept : (k : ClientState) (f : Frame) (b : Bool) → (cond b (with_hello o k f) (with_segment k f (frame_segment f))).calls_accepted ≡ k.calls_accepted
   frame_kept k f true = refl
   frame_kept k f false = segment_accepted k f (frame_segment f)
 

@@ -1,6 +1,7 @@
 -- The marks that a script makes, in order.
-use Rattle.std.specs.Prelude.{Bool, true, false, ◌&&◌, is_none, ◌≡◌, ℕ, zero, suc, ◌+◌, List, [], ◌∷◌, None}
+use Rattle.std.specs.Prelude.{Bool, true, false, ◌&&◌, is_none, ◌≡◌, ℕ, zero, suc, ◌+◌, List, [], ◌∷◌}
 use Rattle.std.specs.List.{list_all}
+use Rattle.nr_link.specs.Agreement.{sized_terms}
 use Rattle.nr_reduce.specs.declared.mark.LinkParameters.{LinkParameters}
 use Rattle.nr_reduce.specs.declared.mark.Mark.{Mark}
 use Rattle.nr_reduce.specs.History.{is_dropped}
@@ -47,12 +48,16 @@ abbrev pub MakeAll : Setting → ℕ → List Line → Drill → Drill → Type 
 MakeAll s clients [] old new = new ≡ old
 MakeAll s clients (line ∷ others) old new = (mid : Drill) × Makes s clients line old mid × MakeAll s clients others mid new
 
--- what the ends of each link are opened with, by the credits of the script
-abbrev pub opened_with : ℕ → LinkParameters
-opened_with credits = record { first_xid = 1; first_stag = 1; wished = credits; granted = credits; client = None; server = None }
-
+-- what the ends of each link are opened with, by the first line of the script: the same on all links
 abbrev pub parameters_of : Opening → ℕ → LinkParameters
-parameters_of opening link = opened_with opening.credits
+parameters_of opening link = record {
+  first_xid = 1;
+  first_stag = 1;
+  wished = opening.credits;
+  granted = opening.credits;
+  client = sized_terms opening.client_units;
+  server = sized_terms opening.server_units;
+}
 
 abbrev pub setting_of : SerialServer → Opening → Setting
 setting_of server opening = record { server = server; opened = parameters_of opening }

@@ -38,7 +38,7 @@ use Rattle.nr_drill_link.proofs.QuietSteps.{IsQuietStep, journal_one, quiet_sett
 pub live_answered : (v v2 : ResponderSide) (xid : ℕ) (reply : List ℕ) (sent : Sent) → Answers v v2 xid reply sent → end_of v ≡ None → end_of v2 ≡ None
 live_answered v v2 xid reply sent a live =
     ap end_of a.state
-    ∙ ap (λ (l : LinkSide). l.state.ended) (answer_link v.link a.writes (message_for xid v.credits a.call.lists (answer_to a.call a.stream reply)) live)
+    ∙ ap (λ (l : LinkSide). l.state.ended) (answer_link v.link a.writes (message_for xid v.credits a.call.lists (answer_to v.link.state.agreed.down a.call a.stream reply)) live)
     ∙ live
 
 -- a step of the drill, by the call that waits and the reply to it

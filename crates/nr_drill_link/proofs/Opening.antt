@@ -6,10 +6,11 @@ use Rattle.nr_link.specs.declared.end.End.TheVariants as ends
 use Rattle.nr_reduce.specs.declared.mark.LinkParameters.{LinkParameters}
 use Rattle.nr_reduce.specs.declared.mark.Mark.{Mark}
 use Rattle.nr_responder.specs.ResponderState.{end_of}
+use Rattle.nr_script.specs.declared.script.Opening.{Opening}
 use Rattle.nr_drill.specs.Drill.{Setting, Drill, Pipes, pipes_of, settled, after_up, after_down, after_all_up, after_all_down, after_opening}
 use Rattle.nr_drill_link.specs.DrillLinkState.{DrillLinkState}
 use Rattle.nr_drill_link.specs.LinkStands.{awaited_lines, LinkStands}
-use Rattle.nr_drill.specs.Follows.{opened_with}
+use Rattle.nr_drill.specs.Follows.{parameters_of}
 use Rattle.nr_drill_link.specs.Steps.{Goes, StandsAt, Opens, IsBeforeOpening, IsFresh}
 use Rattle.nr_drill_link.proofs.Ends.{represents_of}
 use Rattle.nr_drill_link.proofs.Apart.{all_elsewhere, stands_by}
@@ -24,8 +25,8 @@ no_marks d = record d { marks = [] }
 not_memory : (o : Option End) → o ≡ None → o ≢ Some ends.Memory
 not_memory o none e = absurd (let no = sym none ∙ e in cc)
 
-pub fresh_stands : (s : Setting) (link credits : ℕ) (d : Drill) (v : DrillLinkState) → IsFresh link credits v → s.opened link ≡ opened_with credits → IsBeforeOpening link d → LinkStands s link d v
-fresh_stands s link credits d v f opened before =
+pub fresh_stands : (s : Setting) (link : ℕ) (opening : Opening) (d : Drill) (v : DrillLinkState) → IsFresh link opening v → s.opened link ≡ parameters_of opening link → IsBeforeOpening link d → LinkStands s link d v
+fresh_stands s link opening d v f opened before =
     let o : LinkParameters = s.opened link in
     let first : LinkStands s link (no_marks d) v = record {
       number = f.number;
@@ -61,10 +62,10 @@ pub opening_is : (s : Setting) (link : ℕ) (d : Drill) → after_opening s link
 unfolding after_opening
 opening_is s link d = refl
 
-pub opens : (link credits : ℕ) (v v2 : DrillLinkState) (run run2 : List Mark) → IsFresh link credits v → Goes after_opening v v2 run run2 → Opens link credits v2 run run2
-opens link credits v v2 run run2 f goes s d opened before marks_are replies =
+pub opens : (link : ℕ) (opening : Opening) (v v2 : DrillLinkState) (run run2 : List Mark) → IsFresh link opening v → Goes after_opening v v2 run run2 → Opens link opening v2 run run2
+opens link opening v v2 run run2 f goes s d opened before marks_are replies =
     goes s link d (record {
-      stands = fresh_stands s link credits d v f opened before;
+      stands = fresh_stands s link opening d v f opened before;
       marks = marks_are;
       replies = replies;
     })

@@ -4,6 +4,8 @@ use Rattle.std.proofs.Common.{◌≡◌, ◌≢◌, ℕ, ◌≤◌, Bool, true, 
 use Rattle.std.proofs.Math.Seq.{take-length}
 use Rattle.nr_wire.specs.declared.hello.Side.{Side}
 use Rattle.nr_wire.specs.declared.hello.Side.TheVariants.{Initiator, Responder}
+use Rattle.nr_link.specs.declared.agreement.SideTerms.{SideTerms}
+use Rattle.nr_link.specs.Agreement.{sized_terms}
 use Rattle.nr_reduce.specs.Opening.{ClientOpened, ServerOpened}
 use Rattle.nr_reduce.specs.declared.mark.LinkParameters.{LinkParameters}
 use Rattle.nr_reduce.specs.declared.mark.Mark.{Mark}
@@ -25,6 +27,7 @@ use Rattle.nr_drill_link.specs.declared.awaited.AwaitedCall.{AwaitedCall}
 use Rattle.nr_drill_link.specs.Transits.{TransitState}
 use Rattle.nr_drill_link.specs.OpenTickets.{AreOpen}
 use Rattle.nr_drill_link.specs.Steps.{Goes, ClientWrites, ServerWrites, IsFresh}
+use Rattle.nr_script.specs.declared.script.Opening.{Opening}
 use Rattle.nr_drill_link.specs.Views.{line_view, link_view}
 use Rattle.nr_drill_link.proofs.OpenTickets.{none_open, kept_open}
 use Rattle.nr_drill_link.proofs.Standing.{with_ends, from_view}
@@ -113,9 +116,9 @@ raw_down v v0 side bytes down run is own stands put =
 
 -- ---- A link that is opened
 
-pub opened_live : (r : RequesterSide) (credits : ℕ) → r ≡ opened_as 1 1 credits r.staging → r.state.side.ended ≡ None
+pub opened_live : (r : RequesterSide) (credits : ℕ) (terms : SideTerms) → r ≡ opened_as 1 1 credits terms r.staging → r.state.side.ended ≡ None
 unfolding opened_as
-opened_live r credits is = ap (λ (x : RequesterSide). x.state.side.ended) is
+opened_live r credits terms is = ap (λ (x : RequesterSide). x.state.side.ended) is
 
 pub none_are_open : (r : RequesterState) (calls : List AwaitedCall) → calls ≡ [] → AreOpen r calls
 none_are_open r calls none = subst (λ (cs : List AwaitedCall). AreOpen r cs) (sym none) (none_open r)
@@ -123,16 +126,16 @@ none_are_open r calls none = subst (λ (cs : List AwaitedCall). AreOpen r cs) (s
 abbrev empty_pipe : TransitState
 empty_pipe = record { waiting = []; kept = 0 }
 
-pub fresh_link : (number credits : ℕ) (client : RequesterSide) (server : ResponderSide) (up down : TransitState) (calls : List AwaitedCall) → client ≡ opened_as 1 1 credits client.staging → up ≡ empty_pipe → down ≡ empty_pipe → calls ≡ [] →
-    ((opened : LinkParameters) (l : ℕ) → opened.first_xid ≡ 1 → opened.first_stag ≡ 1 → ClientOpened opened credits → RequesterRepresents opened l client []) → end_of server ≡ None →
-    ((opened : LinkParameters) (l : ℕ) → ServerOpened opened credits → ResponderRepresents opened l [] server) → IsFresh number credits (link_view number client server up down false 0 calls)
-fresh_link number credits client server up down calls opened no_up no_down none asks live serves = record {
+pub fresh_link : (number : ℕ) (opening : Opening) (client : RequesterSide) (server : ResponderSide) (up down : TransitState) (calls : List AwaitedCall) → client ≡ opened_as 1 1 opening.credits (sized_terms opening.client_units) client.staging → up ≡ empty_pipe → down ≡ empty_pipe → calls ≡ [] →
+    ((opened : LinkParameters) (l : ℕ) → opened.first_xid ≡ 1 → opened.first_stag ≡ 1 → ClientOpened opened opening.credits (sized_terms opening.client_units) → RequesterRepresents opened l client []) → end_of server ≡ None →
+    ((opened : LinkParameters) (l : ℕ) → ServerOpened opened opening.credits (sized_terms opening.server_units) → ResponderRepresents opened l [] server) → IsFresh number opening (link_view number client server up down false 0 calls)
+fresh_link number opening client server up down calls opened no_up no_down none asks live serves = record {
   number = refl;
   pipes = (λ i. record { up = (no_up i).waiting; down = (no_down i).waiting });
   stands = refl;
   lines = refl;
   awaited = ap (λ (cs : List AwaitedCall). map line_view cs) none;
-  client_live = opened_live client credits opened;
+  client_live = opened_live client opening.credits (sized_terms opening.client_units) opened;
   server_live = live;
   client = asks;
   server = serves;

@@ -2,6 +2,7 @@
 use Rattle.std.specs.Prelude.{◌≡◌, ◌≢◌, ℕ, ◌≤◌, List, [], ◌∷◌, ◌++◌, length, None, false}
 use Rattle.std.specs.List.{AllByRecursion}
 use Rattle.nr_wire.specs.declared.hello.Side.TheVariants.{Initiator, Responder}
+use Rattle.nr_link.specs.Agreement.{sized_terms}
 use Rattle.nr_reduce.specs.Opening.{ClientOpened, ServerOpened}
 use Rattle.nr_reduce.specs.declared.mark.Mark.{Mark}
 use Rattle.nr_reduce.specs.declared.mark.Mark.TheVariants as marks
@@ -14,9 +15,10 @@ use Rattle.nr_responder.specs.ResponderState.{ResponderSide, end_of, may_write, 
 use Rattle.nr_responder.specs.Standing.{ResponderRepresents}
 use Rattle.nr_plain.specs.Setup.{Setup}
 use Rattle.nr_plain.specs.Stands.{PlainServerState, RepresentsJournal}
+use Rattle.nr_script.specs.declared.script.Opening.{Opening}
 use Rattle.nr_drill.specs.Drill.{link_of, Setting, Drill, plain_of, pipes_of, empty_pipes, settled, after_work, after_opening}
 use Rattle.nr_drill.specs.DrillSetup.{server_of}
-use Rattle.nr_drill.specs.Follows.{opened_with}
+use Rattle.nr_drill.specs.Follows.{parameters_of}
 use Rattle.nr_drill.specs.InBytes.{RepliedInBytes}
 use Rattle.nr_drill_link.specs.DrillLinkState.{DrillLinkState}
 use Rattle.nr_drill_link.specs.LinkStands.{LinkStands}
@@ -54,15 +56,15 @@ pub record IsBeforeOpening (link : ℕ) (d : Drill) : Type 0 where
   pub pipes : pipes_of link d ≡ empty_pipes
   pub none : AllByRecursion (λ (mark : Mark). link_of mark ≢ link) d.marks
 
--- a new link opens in a drill whose links are opened with these credits
-abbrev pub Opens : (link credits : ℕ) → DrillLinkState → (run run' : List Mark) → Type 0
-Opens link credits v run run' =
-    (s : Setting) (d : Drill) → s.opened link ≡ opened_with credits → IsBeforeOpening link d → run ≡ d.marks → RepliedInBytes run → StandsAt s link (after_opening s link d) v run'
+-- a new link opens in a drill whose ends of the link are opened with what this first line says
+abbrev pub Opens : (link : ℕ) → Opening → DrillLinkState → (run run' : List Mark) → Type 0
+Opens link opening v run run' =
+    (s : Setting) (d : Drill) → s.opened link ≡ parameters_of opening link → IsBeforeOpening link d → run ≡ d.marks → RepliedInBytes run → StandsAt s link (after_opening s link d) v run'
 
 -- ---- For the code
 
 -- a link with two ends that have written nothing
-pub record IsFresh (link credits : ℕ) (v : DrillLinkState) : Type 0 where
+pub record IsFresh (link : ℕ) (opening : Opening) (v : DrillLinkState) : Type 0 where
   pub number : v.number ≡ link
   pub pipes : v.pipes ≡ empty_pipes
   pub stands : v.is_dropped ≡ false
@@ -70,8 +72,8 @@ pub record IsFresh (link credits : ℕ) (v : DrillLinkState) : Type 0 where
   pub awaited : v.awaited ≡ []
   pub client_live : v.client.state.side.ended ≡ None
   pub server_live : end_of v.server ≡ None
-  pub client : (opened : LinkParameters) (l : ℕ) → opened.first_xid ≡ 1 → opened.first_stag ≡ 1 → ClientOpened opened credits → RequesterRepresents opened l v.client []
-  pub server : (opened : LinkParameters) (l : ℕ) → ServerOpened opened credits → ResponderRepresents opened l [] v.server
+  pub client : (opened : LinkParameters) (l : ℕ) → opened.first_xid ≡ 1 → opened.first_stag ≡ 1 → ClientOpened opened opening.credits (sized_terms opening.client_units) → RequesterRepresents opened l v.client []
+  pub server : (opened : LinkParameters) (l : ℕ) → ServerOpened opened opening.credits (sized_terms opening.server_units) → ResponderRepresents opened l [] v.server
 
 -- a client was drained: these are all bytes that it had to write
 pub record ClientWrites (before after : RequesterSide) (bytes : List ℕ) : Type 0 where

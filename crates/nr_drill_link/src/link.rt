@@ -18,6 +18,7 @@ use nr_marks::MarkLog;
 use nr_reduce::Mark;
 use nr_requester::Requester;
 use nr_responder::Responder;
+use nr_script::Opening;
 use nr_wire::Side;
 use nr_xdr::Memory;
 use std::alloc::Global;
@@ -69,16 +70,17 @@ impl Model for DrillLink {
 }
 
 impl DrillLink {
-    /// Opens a link with this number: each end is fed the complete hello of the other.
+    /// Opens a link with this number, with the credits and the units of this first line of a script: each end is fed the
+    /// complete hello of the other.
     pub fn open(
         alloc: Global,
         marks: &mut MarkLog,
         number: u32,
-        credits: u32,
+        opening: Opening,
     ) -> Result<DrillLink, Memory>
-        ensures { IfOk result (λ v. Opens number credits v marks.old marks.new) }
+        ensures { IfOk result (λ v. Opens number opening v marks.old marks.new) }
     {
-        let mut link = DrillLink::fresh(alloc, number, credits)?;
+        let mut link = DrillLink::fresh(alloc, number, opening)?;
         match link.exchange(marks) {
             Ok(()) => Ok(link),
             Err(memory) => {
@@ -89,11 +91,11 @@ impl DrillLink {
     }
 
     /// A link whose ends have written nothing yet.
-    fn fresh(alloc: Global, number: u32, credits: u32) -> Result<DrillLink, Memory>
-        ensures { IfOk result (λ v. IsFresh number credits v) }
+    fn fresh(alloc: Global, number: u32, opening: Opening) -> Result<DrillLink, Memory>
+        ensures { IfOk result (λ v. IsFresh number opening v) }
     {
-        let client = Requester::open(alloc, credits)?;
-        let server = match Responder::open(alloc, credits) {
+        let client = Requester::open_sized(alloc, opening.credits, opening.client_units)?;
+        let server = match Responder::open_sized(alloc, opening.credits, opening.server_units) {
             Ok(server) => server,
             Err(memory) => {
                 drop(client);

@@ -32,24 +32,114 @@ static ANSWERED: [Row; 20] = [
     (2, b"NR01\x02\x00\x03\x03", 8, None, (1024, 1024)),
     (2, b"RN01\x01\x00\x03\x03", 512, None, (1024, 1024)),
     // Four units, and in each direction one.
-    (2, b"NR01\x01\x00\x03\x03", 8, Some(0x0100_0101), (2048, 2048)),
-    (2, b"NR01\x01\x00\x00\x03", 8, Some(0x0100_0101), (1024, 2048)),
-    (2, b"NR01\x01\x00\x03\x00", 8, Some(0x0100_0101), (2048, 1024)),
-    (16, b"NR01\x01\x00\x02\x04", 8, Some(0x0100_0f0f), (3072, 5120)),
+    (
+        2,
+        b"NR01\x01\x00\x03\x03",
+        8,
+        Some(0x0100_0101),
+        (2048, 2048),
+    ),
+    (
+        2,
+        b"NR01\x01\x00\x00\x03",
+        8,
+        Some(0x0100_0101),
+        (1024, 2048),
+    ),
+    (
+        2,
+        b"NR01\x01\x00\x03\x00",
+        8,
+        Some(0x0100_0101),
+        (2048, 1024),
+    ),
+    (
+        16,
+        b"NR01\x01\x00\x02\x04",
+        8,
+        Some(0x0100_0f0f),
+        (3072, 5120),
+    ),
     // 15 and 16 units, and 17 and 256, which count as 16.
-    (16, b"NR01\x01\x00\x0e\x0f", 8, Some(0x0100_0f0f), (15360, 16384)),
-    (16, b"NR01\x01\x00\x10\x0f", 8, Some(0x0100_0f0f), (16384, 16384)),
-    (16, b"NR01\x01\x00\xff\x10", 8, Some(0x0100_0f0f), (16384, 16384)),
+    (
+        16,
+        b"NR01\x01\x00\x0e\x0f",
+        8,
+        Some(0x0100_0f0f),
+        (15360, 16384),
+    ),
+    (
+        16,
+        b"NR01\x01\x00\x10\x0f",
+        8,
+        Some(0x0100_0f0f),
+        (16384, 16384),
+    ),
+    (
+        16,
+        b"NR01\x01\x00\xff\x10",
+        8,
+        Some(0x0100_0f0f),
+        (16384, 16384),
+    ),
     // A responder of one unit answers, too. One of 0 has one, and one of 17 has 16.
-    (1, b"NR01\x01\x00\x03\x03", 8, Some(0x0100_0000), (1024, 1024)),
-    (0, b"NR01\x01\x00\x03\x03", 8, Some(0x0100_0000), (1024, 1024)),
-    (17, b"NR01\x01\x00\x0f\x0f", 8, Some(0x0100_0f0f), (16384, 16384)),
+    (
+        1,
+        b"NR01\x01\x00\x03\x03",
+        8,
+        Some(0x0100_0000),
+        (1024, 1024),
+    ),
+    (
+        0,
+        b"NR01\x01\x00\x03\x03",
+        8,
+        Some(0x0100_0000),
+        (1024, 1024),
+    ),
+    (
+        17,
+        b"NR01\x01\x00\x0f\x0f",
+        8,
+        Some(0x0100_0f0f),
+        (16384, 16384),
+    ),
     // Flags that nobody knows; a number of a client, and its flag without it; what follows.
-    (2, b"NR01\x01\xfc\x01\x01", 8, Some(0x0100_0101), (2048, 2048)),
-    (2, b"NR01\x01\x01\x01\x01\x00\x00\x00\x00\x00\x00\x00\x05", 16, Some(0x0100_0101), (2048, 2048)),
-    (2, b"NR01\x01\x01\x01\x01", 8, Some(0x0100_0101), (2048, 2048)),
-    (2, b"NR01\x01\x00\x01\x01", 9, Some(0x0100_0101), (2048, 2048)),
-    (2, b"NR01\x01\x00\x01\x01", 512, Some(0x0100_0101), (2048, 2048)),
+    (
+        2,
+        b"NR01\x01\xfc\x01\x01",
+        8,
+        Some(0x0100_0101),
+        (2048, 2048),
+    ),
+    (
+        2,
+        b"NR01\x01\x01\x01\x01\x00\x00\x00\x00\x00\x00\x00\x05",
+        16,
+        Some(0x0100_0101),
+        (2048, 2048),
+    ),
+    (
+        2,
+        b"NR01\x01\x01\x01\x01",
+        8,
+        Some(0x0100_0101),
+        (2048, 2048),
+    ),
+    (
+        2,
+        b"NR01\x01\x00\x01\x01",
+        9,
+        Some(0x0100_0101),
+        (2048, 2048),
+    ),
+    (
+        2,
+        b"NR01\x01\x00\x01\x01",
+        512,
+        Some(0x0100_0101),
+        (2048, 2048),
+    ),
 ];
 
 /// A hello whose first four words are these and whose private data begins so and has this length.
@@ -67,7 +157,14 @@ fn hello(rt: &impl Abort, alloc: Global, key: &[u32], front: &[u8], len: usize) 
 }
 
 /// A responder of these units that was fed a request with this private data.
-fn requested(rt: &impl Abort, alloc: Global, row: usize, units: u8, front: &[u8], len: usize) -> TestEndpoint {
+fn requested(
+    rt: &impl Abort,
+    alloc: Global,
+    row: usize,
+    units: u8,
+    front: &[u8],
+    len: usize,
+) -> TestEndpoint {
     let mut endpoint = TestEndpoint::open_with(rt, alloc, Side::Responder, SideTerms::sized(units));
     same(rt, row, endpoint.endpoint().agreed(), (1024, 1024));
     let request = hello(rt, alloc, &REQUEST[..4], front, len);

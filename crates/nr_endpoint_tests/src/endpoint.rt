@@ -92,12 +92,7 @@ impl TestEndpoint {
     }
 
     /// The same with these terms.
-    pub fn open_with(
-        rt: &impl Abort,
-        alloc: Global,
-        side: Side,
-        terms: SideTerms,
-    ) -> TestEndpoint {
+    pub fn open_with(rt: &impl Abort, alloc: Global, side: Side, terms: SideTerms) -> TestEndpoint {
         TestEndpoint {
             endpoint: Endpoint::open(alloc, side, 2, 1, terms).expect(rt, "memory"),
             most: 0,

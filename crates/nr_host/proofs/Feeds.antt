@@ -2,6 +2,7 @@
 use Rattle.std.proofs.Common.{◌≡◌, ℕ, List, [], ◌∷◌, ◌++◌, take, drop, Option, None, inl, refl, sym, ap, subst, ◌∙◌, append_assoc, take-append-drop}
 use Rattle.nr_outside.specs.declared.moment.Moment.{Moment}
 use Rattle.nr_wire.specs.declared.hello.Side.TheVariants.{Responder}
+use Rattle.nr_link.specs.Agreement.{sized_terms}
 use Rattle.nr_reduce.specs.Opening.{ServerOpened}
 use Rattle.nr_reduce.specs.declared.mark.Mark.{Mark}
 use Rattle.nr_reduce.specs.declared.mark.Mark.TheVariants as marks
@@ -24,7 +25,7 @@ TakesIn piece v v' = (opened : LinkParameters) (link : ℕ) (run : List Mark) �
 
 pub live_fed : (terms : Terms) (link : ℕ) (before now : Outside) (piece ahead : List ℕ) (run : List Mark) (v v' : ResponderSide) → TakesIn piece v v'
     → IsLive terms link before now (piece ++ ahead) run v → AllQuiet terms link run
-    → ((opened : LinkParameters) → ServerOpened opened terms.credits → FrameMark opened link run (marks.Fed link Responder piece))
+    → ((opened : LinkParameters) → ServerOpened opened terms.credits (sized_terms terms.units) → FrameMark opened link run (marks.Fed link Responder piece))
     → IsLive terms link before now ahead (run ++ marks.Fed link Responder piece ∷ []) v'
 live_fed terms link before now piece ahead run v v' takes live quiet frames = record {
   runs = fed terms link before now piece ahead run live.runs quiet frames;

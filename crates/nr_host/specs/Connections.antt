@@ -8,6 +8,7 @@ use Rattle.nr_outside.specs.declared.moment.Moment.{Moment}
 use Rattle.nr_wire.specs.declared.hello.Side.TheVariants.{Initiator, Responder}
 use Rattle.nr_link.specs.Frames.{frames_completed}
 use Rattle.nr_link.specs.Input.{input_of}
+use Rattle.nr_link.specs.Agreement.{sized_terms}
 use Rattle.nr_reduce.specs.Opening.{ServerOpened}
 use Rattle.nr_reduce.specs.declared.mark.Mark.{Mark}
 use Rattle.nr_reduce.specs.declared.mark.Mark.TheVariants as marks
@@ -93,9 +94,10 @@ pub record Outside : Type 0 where
   pub gave : Option (List Moment)
   pub view : PassView
 
--- the credits that a connection grants, and how many bytes were read of it
+-- the credits that a connection grants, the units of its Sends, and how many bytes were read of it
 pub record Terms : Type 0 where
   pub credits : ℕ
+  pub units : ℕ
   pub read : ℕ
 
 -- The connection made these marks, after it had read the bytes that they fed and `ahead`, and the clock had given the
@@ -104,9 +106,9 @@ pub record Runs (terms : Terms) (link : ℕ) (before after : Outside) (ahead : L
   pub own : AtEachMark (λ earlier mark. IsOwn link mark) [] run
   pub handed : HandsOut before.left before.given after.left after.given (bytes_received link Responder run ++ ahead)
   pub taken : Takes before.sink after.sink (bytes_sent link Responder run)
-  pub served : (opened : LinkParameters) → ServerOpened opened terms.credits → ServedSoFar opened link run
-  pub quiet : (opened : LinkParameters) → ServerOpened opened terms.credits → AtEachMark (QuietMark opened link) [] run
-  pub frames : (opened : LinkParameters) → ServerOpened opened terms.credits → AtEachMark (FrameMark opened link) [] run
+  pub served : (opened : LinkParameters) → ServerOpened opened terms.credits (sized_terms terms.units) → ServedSoFar opened link run
+  pub quiet : (opened : LinkParameters) → ServerOpened opened terms.credits (sized_terms terms.units) → AtEachMark (QuietMark opened link) [] run
+  pub frames : (opened : LinkParameters) → ServerOpened opened terms.credits (sized_terms terms.units) → AtEachMark (FrameMark opened link) [] run
   pub over : Over before.view (answers_of run) after.view
   pub gave : GivesAll before.gave after.gave (moments run ++ more)
   pub count : length (bytes_received link Responder run) + length ahead ≡ terms.read

@@ -76,10 +76,10 @@ fn carry<I: Source, O: Sink, C: Clock, R: Wait>(
     requires len { length buf.old ≡ piece_max }
     requires rests { Rests shared.now pass.old }
     ensures rests { Rests shared.now pass.new }
-    ensures served { (credits : ℕ) → CarriesTo credits
+    ensures served { (credits units : ℕ) → CarriesTo credits units
         (outside (I.left source.old) (I.given source.old) (sink_state (O.taken sink.old) (O.faults sink.old) false) (C.gave clock.old) (pass_view pass.old))
         (outside (I.left source.old) (I.given source.old) (sink_state (O.taken sink.old) (O.faults sink.old) false) (C.gave clock.old) (pass_view pass.old)) responder.old.side 0 →
-        IsServed credits (outside (I.left source.old) (I.given source.old) (sink_state (O.taken sink.old) (O.faults sink.old) false) (C.gave clock.old) (pass_view pass.old))
+        IsServed credits units (outside (I.left source.old) (I.given source.old) (sink_state (O.taken sink.old) (O.faults sink.old) false) (C.gave clock.old) (pass_view pass.old))
         (outside (I.left source.new) (I.given source.new) (sink_state (O.taken sink.new) (O.faults sink.new) false) (C.gave clock.new) (pass_view pass.new)) result }
     ensures source_count { SourceCount result (I.faults source.old) (I.faults source.new) }
     ensures sink_count { SinkCount result (O.faults sink.old) (O.faults sink.new) }
@@ -120,7 +120,8 @@ fn carry<I: Source, O: Sink, C: Clock, R: Wait>(
 
 /// Serves one connection to its end: reads the client's stream, feeds it frame by frame, and before the next frame
 /// executes each call that is complete and writes what is due. If a write fails, it still executes each call that was
-/// read, and reads no more. Grants this many credits.
+/// read, and reads no more. Grants this many credits, and has this many units for its Sends in each direction, of 1,024
+/// bytes each, 1 to 16 (0 counts as 1, and more than 16 as 16).
 pub fn serve_connection<I: Source, O: Sink, C: Clock, R: Wait>(
     rt: &R,
     alloc: Global,
@@ -130,10 +131,11 @@ pub fn serve_connection<I: Source, O: Sink, C: Clock, R: Wait>(
     pass: &mut Pass<Server>,
     clock: &mut C,
     credits: u32,
+    units: u8,
 ) -> ConnEnd
     requires { Rests shared.now pass.old }
     ensures rests { Rests shared.now pass.new }
-    ensures served { IsServed credits (outside (I.left source.old) (I.given source.old) (sink_state (O.taken sink.old) (O.faults sink.old) false) (C.gave clock.old) (pass_view pass.old))
+    ensures served { IsServed credits units (outside (I.left source.old) (I.given source.old) (sink_state (O.taken sink.old) (O.faults sink.old) false) (C.gave clock.old) (pass_view pass.old))
         (outside (I.left source.new) (I.given source.new) (sink_state (O.taken sink.new) (O.faults sink.new) false) (C.gave clock.new) (pass_view pass.new)) result }
     ensures source_count { SourceCount result (I.faults source.old) (I.faults source.new) }
     ensures sink_count { SinkCount result (O.faults sink.old) (O.faults sink.new) }
@@ -141,7 +143,7 @@ pub fn serve_connection<I: Source, O: Sink, C: Clock, R: Wait>(
     let Ok(mut buf) = vec![in alloc; 0u8; PIECE_MAX] else {
         return ConnEnd::Memory;
     };
-    let Ok(mut responder) = Responder::open(alloc, credits) else {
+    let Ok(mut responder) = Responder::open_sized(alloc, credits, units) else {
         return ConnEnd::Memory;
     };
     let end = carry(

@@ -35,18 +35,19 @@ fn serve_by_byte<I: Source, L: Look, O: Sink, C: Clock, R: Wait>(
     pass: &mut Pass<Server>,
     clock: &mut C,
     credits: u32,
+    units: u8,
     byte: u8,
 ) -> LinkEnd
     requires { Rests shared.now pass.old }
     ensures rests { Rests shared.now pass.new }
-    ensures served { ServesByByte credits byte
+    ensures served { ServesByByte credits units byte
         (outside (left_with source.old.held (I.left source.old.inner)) (given_without source.old.held (I.given source.old.inner)) (sink_state (O.taken sink.old) (O.faults sink.old) false) (C.gave clock.old) (pass_view pass.old))
         (outside (left_with source.new.held (I.left source.new.inner)) (given_without source.new.held (I.given source.new.inner)) (sink_state (O.taken sink.new) (O.faults sink.new) false) (C.gave clock.new) (pass_view pass.new)) result }
     ensures source_count { LinkSourceCount result (I.faults source.old.inner) (I.faults source.new.inner) }
     ensures sink_count { LinkSinkCount result (O.faults sink.old) (O.faults sink.new) }
 {
     if byte == HELLO_BYTE {
-        let end = serve_connection(rt, alloc, source, sink, shared, pass, clock, credits);
+        let end = serve_connection(rt, alloc, source, sink, shared, pass, clock, credits, units);
         return LinkEnd::Rdma(end);
     }
     let end = serve_records(rt, alloc, source, sink, shared, pass, clock);
@@ -63,6 +64,7 @@ fn serve_looked<L: Look, I: Source, O: Sink, C: Clock, R: Wait>(
     pass: &mut Pass<Server>,
     clock: &mut C,
     credits: u32,
+    units: u8,
     byte: u8,
 ) -> (I, LinkEnd)
     requires rests { Rests shared.now pass.old }
@@ -70,7 +72,7 @@ fn serve_looked<L: Look, I: Source, O: Sink, C: Clock, R: Wait>(
     requires left { I.left source ≡ L.left }
     requires given { I.given source ≡ L.given }
     ensures rests { Rests shared.now pass.new }
-    ensures served { (held : Option ℕ) × (ForSome held (λ b. (b ≡ byte) × ((I.left result.0 ≡ I.left source) × (I.given result.0 ≡ I.given source))) × ServesByByte credits byte
+    ensures served { (held : Option ℕ) × (ForSome held (λ b. (b ≡ byte) × ((I.left result.0 ≡ I.left source) × (I.given result.0 ≡ I.given source))) × ServesByByte credits units byte
         (outside (left_with (Some byte) (I.left source)) (given_without (Some byte) (I.given source)) (sink_state (O.taken sink.old) (O.faults sink.old) false) (C.gave clock.old) (pass_view pass.old))
         (outside (left_with held (I.left result.0)) (given_without held (I.given result.0)) (sink_state (O.taken sink.new) (O.faults sink.new) false) (C.gave clock.new) (pass_view pass.new)) result.1) }
     ensures source_count { LinkSourceCount result.1 (I.faults source) (I.faults result.0) }
@@ -86,6 +88,7 @@ fn serve_looked<L: Look, I: Source, O: Sink, C: Clock, R: Wait>(
         pass,
         clock,
         credits,
+        units,
         byte,
     );
     (source.into_inner(), end)
@@ -101,10 +104,11 @@ fn look_and_serve<I: Source, O: Sink, C: Clock, R: Wait>(
     pass: &mut Pass<Server>,
     clock: &mut C,
     credits: u32,
+    units: u8,
 ) -> (I, LinkEnd)
     requires { Rests shared.now pass.old }
     ensures rests { Rests shared.now pass.new }
-    ensures served { LooksAndServes credits
+    ensures served { LooksAndServes credits units
         (outside (I.left source) (I.given source) (sink_state (O.taken sink.old) (O.faults sink.old) false) (C.gave clock.old) (pass_view pass.old))
         (outside (I.left result.0) (I.given result.0) (sink_state (O.taken sink.new) (O.faults sink.new) false) (C.gave clock.new) (pass_view pass.new)) result.1 }
     ensures source_count { LinkSourceCount result.1 (I.faults source) (I.faults result.0) }
@@ -117,11 +121,12 @@ fn look_and_serve<I: Source, O: Sink, C: Clock, R: Wait>(
         Err(_) => return (peeked.into_inner(), LinkEnd::Rdma(ConnEnd::LinkRead)),
     };
     let source = peeked.into_inner();
-    serve_looked::<Brand, I, O, C, R>(rt, alloc, source, sink, shared, pass, clock, credits, byte)
+    serve_looked::<Brand, I, O, C, R>(rt, alloc, source, sink, shared, pass, clock, credits, units, byte)
 }
 
 /// Serves one link to its end. With `records` it may carry RPC over RDMA or RPC over TCP with record marks, as its
-/// first byte says; without, it carries RPC over RDMA. Gives the source back.
+/// first byte says; without, it carries RPC over RDMA, with these credits and units (see [`serve_connection`]). Gives the
+/// source back.
 pub fn serve_link<I: Source, O: Sink, C: Clock, R: Wait>(
     rt: &R,
     alloc: Global,
@@ -132,19 +137,20 @@ pub fn serve_link<I: Source, O: Sink, C: Clock, R: Wait>(
     clock: &mut C,
     credits: u32,
     records: bool,
+    units: u8,
 ) -> (I, LinkEnd)
     requires { Rests shared.now pass.old }
     ensures rests { Rests shared.now pass.new }
-    ensures served { IsLinkServed credits records
+    ensures served { IsLinkServed credits units records
         (outside (I.left source) (I.given source) (sink_state (O.taken sink.old) (O.faults sink.old) false) (C.gave clock.old) (pass_view pass.old))
         (outside (I.left result.0) (I.given result.0) (sink_state (O.taken sink.new) (O.faults sink.new) false) (C.gave clock.new) (pass_view pass.new)) result.1 }
     ensures source_count { LinkSourceCount result.1 (I.faults source) (I.faults result.0) }
     ensures sink_count { LinkSinkCount result.1 (O.faults sink.old) (O.faults sink.new) }
 {
     if records {
-        return look_and_serve(rt, alloc, source, sink, shared, pass, clock, credits);
+        return look_and_serve(rt, alloc, source, sink, shared, pass, clock, credits, units);
     }
     let mut source = source;
-    let end = serve_connection(rt, alloc, &mut source, sink, shared, pass, clock, credits);
+    let end = serve_connection(rt, alloc, &mut source, sink, shared, pass, clock, credits, units);
     (source, LinkEnd::Rdma(end))
 }

@@ -67,6 +67,7 @@ fn serve_next<
     clock: &C,
     credits: u32,
     records: bool,
+    units: u8,
 ) -> Result<Option<LinkEnd>, ServeFault>
 where
     A::Source: Drop + Send + 'static,
@@ -75,7 +76,7 @@ where
     requires rests { Rests (arc_value shared.now) pass.old }
     requires room { P.started spawner.old < 2 ^ 64 - 1 }
     ensures rests { Rests (arc_value shared.now) pass.new }
-    ensures served { IfOk result (λ link. TakesLink credits records
+    ensures served { IfOk result (λ link. TakesLink credits units records
         (between (A.ended acceptor.old) (A.lost acceptor.old) (P.started spawner.old) (pass_view pass.old)) link
         (between (A.ended acceptor.new) (A.lost acceptor.new) (P.started spawner.new) (pass_view pass.new))) }
     ensures err { OnErr result (between (A.ended acceptor.new) (A.lost acceptor.new) (P.started spawner.new) (pass_view pass.new)
@@ -105,6 +106,7 @@ where
         clock: clock.another(),
         credits,
         records,
+        units,
     };
     let Err(back) = spawner.start(rt, alloc, job) else {
         return Ok(None);
@@ -139,6 +141,7 @@ fn serve_one<
     clock: &C,
     credits: u32,
     records: bool,
+    units: u8,
     started: &mut u64,
     ends: &mut Vec<LinkEnd>,
 ) -> Result<(), ServeFault>
@@ -150,7 +153,7 @@ where
     requires room { P.started spawner.old < 2 ^ 64 - 1 }
     requires count { started.old < 2 ^ 64 - 1 }
     ensures rests { Rests (arc_value shared.now) pass.new }
-    ensures served { OnOk result (TakesOne credits records
+    ensures served { OnOk result (TakesOne credits units records
         (between (A.ended acceptor.old) (A.lost acceptor.old) (P.started spawner.old) (pass_view pass.old)) ends.old.items ends.new.items
         (between (A.ended acceptor.new) (A.lost acceptor.new) (P.started spawner.new) (pass_view pass.new))) }
     ensures one { OnOk result (started.new + length ends.new.items ≡ started.old + length ends.old.items + 1) }
@@ -171,7 +174,7 @@ where
         return Err(ServeFault::Memory);
     }
     let link = match serve_next(
-        rt, alloc, acceptor, spawner, shared, pass, clock, credits, records,
+        rt, alloc, acceptor, spawner, shared, pass, clock, credits, records, units,
     ) {
         Ok(link) => link,
         Err(fault) => return Err(fault),
@@ -205,6 +208,7 @@ fn take_links<
     credits: u32,
     records: bool,
     connections: u32,
+    units: u8,
     ends: &mut Vec<LinkEnd>,
 ) -> Result<u64, ServeFault>
 where
@@ -215,7 +219,7 @@ where
     requires room { P.started spawner.old < 2 ^ 63 }
     requires none { ends.old.items ≡ [] }
     ensures rests { Rests (arc_value shared.now) pass.new }
-    ensures served { Serves credits records
+    ensures served { Serves credits units records
         (between (A.ended acceptor.old) (A.lost acceptor.old) (P.started spawner.old) (pass_view pass.old)) ends.new.items
         (between (A.ended acceptor.new) (A.lost acceptor.new) (P.started spawner.new) (pass_view pass.new)) }
     ensures all { IfOk result (λ started. (started + length ends.new.items ≡ connections) × (P.started spawner.new ≡ P.started spawner.old + started)) }
@@ -238,6 +242,7 @@ where
             clock,
             credits,
             records,
+            units,
             &mut started,
             ends,
         ) {
@@ -249,8 +254,8 @@ where
 }
 
 /// Accepts `connections` links. Each is served to its end, whatever its end is: in a job that the spawner starts, or,
-/// if the spawner hands it back, here. Each is granted `credits` (RFC 8166 section 3.3). Waits until all jobs have
-/// ended.
+/// if the spawner hands it back, here. Each is granted `credits` (RFC 8166 section 3.3), and the server has `units` of
+/// 1,024 bytes for its Sends in each direction (1 to 16). Waits until all jobs have ended.
 ///
 /// # Errors
 ///
@@ -272,6 +277,7 @@ pub fn serve<
     credits: u32,
     records: bool,
     connections: u32,
+    units: u8,
 ) -> Result<Ran, ServeFault>
 where
     A::Source: Drop + Send + 'static,
@@ -280,13 +286,13 @@ where
     requires rests { Rests (arc_value shared.now) pass.old }
     requires room { P.started spawner.old < 2 ^ 63 }
     ensures rests { Rests (arc_value shared.now) pass.new }
-    ensures served { IfOk result (λ ran. Serves credits records
+    ensures served { IfOk result (λ ran. Serves credits units records
         (between (A.ended acceptor.old) (A.lost acceptor.old) (P.started spawner.old) (pass_view pass.old)) ran.ends
         (between (A.ended acceptor.new) (A.lost acceptor.new) (P.started spawner.new) (pass_view pass.new))) }
     ensures all { IfOk result (λ ran. (ran.started + length ran.ends ≡ connections) × (P.started spawner.new ≡ P.started spawner.old + ran.started)) }
     ensures back { IfOk result (λ ran. BackCount ran.ends (P.faults spawner.old) (P.faults spawner.new)) }
     ensures ended { P.ended spawner.new ≡ P.started spawner.new }
-    ensures err { OnErr result ((ends : List LinkEnd) × ((P.started spawner.new + length ends < P.started spawner.old + connections) × (Serves credits records
+    ensures err { OnErr result ((ends : List LinkEnd) × ((P.started spawner.new + length ends < P.started spawner.old + connections) × (Serves credits units records
         (between (A.ended acceptor.old) (A.lost acceptor.old) (P.started spawner.old) (pass_view pass.old)) ends
         (between (A.ended acceptor.new) (A.lost acceptor.new) (P.started spawner.new) (pass_view pass.new))
         × BackCount ends (P.faults spawner.old) (P.faults spawner.new)))) }
@@ -308,6 +314,7 @@ where
         credits,
         records,
         connections,
+        units,
         &mut ends,
     );
     spawner.finish(&rt);

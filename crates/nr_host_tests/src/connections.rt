@@ -121,7 +121,7 @@ fn same_end(
     let (shared, mut pass) = shared(rt, alloc);
     let mut clock = MemClock::new(&MOMENTS);
     let got = serve_connection(
-        rt, alloc, source, &mut sink, &shared, &mut pass, &mut clock, 1,
+        rt, alloc, source, &mut sink, &shared, &mut pass, &mut clock, 1, 1,
     );
     let text = format!(in alloc; "{got:?}").expect(rt, "memory");
     same(rt, row, text.as_str(), end);
@@ -303,6 +303,7 @@ fn two_connections(rt: HostRuntime) {
         1,
         false,
         2,
+        1,
     ) else {
         panic!(rt; "not served")
     };
@@ -335,6 +336,7 @@ fn two_connections(rt: HostRuntime) {
         &clock,
         1,
         false,
+        1,
         1,
     );
     same(&rt, 7, none.is_err(), true);

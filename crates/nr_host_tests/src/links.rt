@@ -51,6 +51,7 @@ fn two_links(rt: HostRuntime) {
         1,
         false,
         2,
+        1,
     ) else {
         panic!(rt; "not served")
     };
@@ -78,6 +79,7 @@ fn one_link_after_the_other(rt: HostRuntime) {
         1,
         false,
         2,
+        1,
     ) else {
         panic!(rt; "not served")
     };
@@ -106,6 +108,7 @@ fn three_links_and_two_threads(rt: HostRuntime) {
         1,
         false,
         4,
+        1,
     ) else {
         panic!(rt; "not served")
     };

@@ -1,7 +1,6 @@
 -- The regions of an accepted call stand in the client's state from its Submit on.
-use Rattle.std.proofs.Common.{◌≡◌, ℕ, ◌+◌, Bool, true, ◌&&◌, List, [], ◌∷◌, ◌++◌, length, Result, Ok, refl, sym, ap, subst, ◌∙◌, append_assoc, eq-eqb}
+use Rattle.std.proofs.Common.{◌≡◌, ℕ, Bool, true, ◌&&◌, List, [], ◌∷◌, ◌++◌, length, Result, refl, sym, ap, subst, ◌∙◌, append_assoc, eq-eqb}
 use Rattle.nr_wire.specs.declared.hello.Side.TheVariants.{Initiator}
-use Rattle.nr_reduce.proofs.OwnLimits.{client_limits_of, limited_plan}
 use Rattle.nr_reduce.specs.declared.call.Call.{Call}
 use Rattle.nr_reduce.specs.declared.call.Form.{Form}
 use Rattle.nr_reduce.specs.declared.call.Submission.TheVariants as submissions
@@ -12,25 +11,18 @@ use Rattle.nr_reduce.specs.declared.outline.Plan.{Plan}
 use Rattle.nr_reduce.specs.History.{AcceptedCall, bytes_received}
 use Rattle.nr_reduce.specs.Events.{RunEvent, events, if_own}
 use Rattle.nr_reduce.specs.Events.RunEvent.{CallSubmitted}
-use Rattle.nr_reduce.specs.Plans.{TooLarge, buffers, regions_needed}
-use Rattle.nr_reduce.specs.ClientState.{ClientState, OutstandingCall, call_payload, plan_for}
-use Rattle.nr_reduce.specs.Client.{client_rules, initial_client, outstanding_of, plan_or}
+use Rattle.nr_reduce.specs.Plans.{TooLarge, buffers}
+use Rattle.nr_reduce.specs.EndRules.{EndState, next_end_state}
+use Rattle.nr_reduce.specs.ClientState.{ClientState, OutstandingCall, call_payload}
+use Rattle.nr_reduce.specs.Client.{client_rules, outstanding_of, plan_or}
 use Rattle.nr_reduce.specs.Run.{client}
-use Rattle.nr_reduce.specs.RunLaws.{outstanding_from}
 use Rattle.nr_reduce.specs.Asked.{AskedSoFar, IsAccepted}
 use Rattle.nr_reduce.proofs.Steps.{events_one}
 use Rattle.nr_laws.specs.Typed.{IsTyped}
-use Rattle.nr_laws.proofs.EventOutputs.{GoesOn, first_preserve}
 use Rattle.nr_laws.proofs.ClientRun.{client_goes}
-use Rattle.nr_laws.proofs.ClientSays.{ClientGood, accepted_in, accepted_append}
+use Rattle.nr_laws.proofs.ClientSays.{asked as asked_in, asked_from, asked_append, client_after}
 use Rattle.nr_laws.proofs.ClientMemory.{HasBuffers, AllBacked, backed_at, keeps_along}
 use Rattle.nr_laws.proofs.Following.{events_more}
-use Rattle.nr_reduce.proofs.Waiting.{start, stag_behind}
-
-from_split : (k : ClientState) (stag : ℕ) (xs : List AcceptedCall) (a : AcceptedCall) (ys : List AcceptedCall) →
-    outstanding_from k stag (xs ++ a ∷ ys) ≡ outstanding_from k stag xs ++ outstanding_of (record k { stag = stag_behind k stag xs }) a ∷ outstanding_from k (stag_behind k stag xs + regions_needed (outstanding_of (record k { stag = stag_behind k stag xs }) a).plan) ys
-from_split k stag [] a ys = refl
-from_split k stag (x ∷ xs) a ys = ap (λ (os : List OutstandingCall). outstanding_of (record k { stag = stag }) x ∷ os) (from_split k (stag + regions_needed (outstanding_of (record k { stag = stag }) x).plan) xs a ys)
 
 record SplitEvents (link : ℕ) (run earlier : List Mark) (a : AcceptedCall) : Type 0 where
   place : ℕ
@@ -54,22 +46,17 @@ split_events link run earlier later call form xid is =
 
 pub accepted_regions : (opened : LinkParameters) (link : ℕ) (run earlier later : List Mark) (call : Call) (form : Form) (xid : ℕ) → IsTyped run → AskedSoFar opened link run → run ≡ earlier ++ marks.Submit link call form (submissions.Accepted xid) ∷ later
     → (h : IsAccepted opened link earlier call form xid) → HasBuffers (client opened link run).state.regions (buffers (client opened link earlier).state.stag h.plan)
-unfolding client plan_for
+unfolding client
 accepted_regions opened link run earlier later call form xid typed asked is h =
     let a : AcceptedCall = record { xid = xid; call = call; form = form } in
     let s = split_events link run earlier later call form xid is in
     let g = (client_goes opened link run typed asked).goes in
-    let early : GoesOn (client_rules opened) (ClientGood opened) 0 (initial_client opened) (events link Initiator earlier) =
-    first_preserve (client_rules opened) (ClientGood opened) 0 (initial_client opened) (events link Initiator earlier) (CallSubmitted s.place a ∷ s.rest) (subst (λ (es : List RunEvent). GoesOn (client_rules opened) (ClientGood opened) 0 (initial_client opened) es) s.is g) in
-    let first = (keeps_along opened (events link Initiator earlier) early).keeps in
     let all = (keeps_along opened (events link Initiator run) g).keeps in
-    let xs : List AcceptedCall = accepted_in (events link Initiator earlier) in
-    let stag : ℕ = stag_behind (start opened) opened.first_stag xs in
-    let o : OutstandingCall = outstanding_of (record (start opened) { stag = stag }) a in
-    let calls : accepted_in (events link Initiator run) ≡ xs ++ a ∷ accepted_in s.rest = ap accepted_in s.is ∙ accepted_append (events link Initiator earlier) (CallSubmitted s.place a ∷ s.rest) in
-    let backed = subst (λ (os : List OutstandingCall). AllBacked (client opened link run).state.regions os)
-    (ap (λ (cs : List AcceptedCall). outstanding_from (start opened) opened.first_stag cs) calls ∙ from_split (start opened) opened.first_stag xs a (accepted_in s.rest)) all.backed in
-    let own = backed_at (client opened link run).state.regions (outstanding_from (start opened) opened.first_stag xs) o (outstanding_from (start opened) (stag + regions_needed o.plan) (accepted_in s.rest)) backed in
-    let plan : o.plan ≡ h.plan = ap (λ (r : Result Plan TooLarge). plan_or (call_payload xid call) r) (limited_plan (client opened link earlier).state xid call form (Ok h.plan) (client_limits_of opened link earlier) h.planned) in
-    subst (λ (p : Plan). HasBuffers (client opened link run).state.regions (buffers (client opened link earlier).state.stag p)) plan
-    (subst (λ (n : ℕ). HasBuffers (client opened link run).state.regions (buffers n o.plan)) (sym first.stag) own)
+    let es : List RunEvent = events link Initiator earlier in
+    let r : EndState ClientState = client_after opened es in
+    let o : OutstandingCall = outstanding_of r.state a in
+    let more : List OutstandingCall = asked_from opened (next_end_state (client_rules opened) r (CallSubmitted s.place a)) s.rest in
+    let calls : asked_in opened (events link Initiator run) ≡ asked_in opened es ++ o ∷ more = ap (λ (xs : List RunEvent). asked_in opened xs) s.is ∙ asked_append opened es (CallSubmitted s.place a ∷ s.rest) in
+    let own = backed_at (client opened link run).state.regions (asked_in opened es) o more (subst (λ (os : List OutstandingCall). AllBacked (client opened link run).state.regions os) calls all.backed) in
+    let plan : o.plan ≡ h.plan = ap (λ (x : Result Plan TooLarge). plan_or (call_payload xid call) x) h.planned in
+    subst (λ (p : Plan). HasBuffers (client opened link run).state.regions (buffers r.state.stag p)) plan own

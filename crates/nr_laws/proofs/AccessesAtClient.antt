@@ -78,7 +78,7 @@ accessed_submit opened k s d all_up all_down place a plan h is small stags bytes
     let same : o.plan ≡ plan = planned (call_payload a.xid a.call) (plan_for k a.xid a.call a.form) plan is in
     let own : SendOffered new (message_of_call opened o) =
     subst (λ (p : Plan). SendOffered (map (region_of a.xid place) (buffers k.stag p)) (call_message a.xid opened.wished k.stag p)) (sym same)
-    (planned_offered (call_payload a.xid a.call) a.form a.xid opened.wished place k.stag plan (limited_plan k a.xid a.call a.form (Ok plan) limits is) bytes typed small stags) in
+    (planned_offered (call_payload a.xid a.call) a.form k.up_max k.down_max a.xid opened.wished place k.stag plan limits.up (limited_plan k a.xid a.call a.form (Ok plan) is) bytes typed small stags) in
     let one : CallAsked opened t.regions o = send_more new t.regions (offers_right k.regions new) (message_of_call opened o) own in
     preserved opened k t s d d all_up (client_frames opened k (CallSubmitted place a)) all_down place h (offers_left k.regions new)
     (each_append (IsEarly place) k.regions new h.early (new_early a.xid place (buffers k.stag o.plan)))
@@ -107,8 +107,8 @@ pub accessed_hello_down : (opened : LinkParameters) (k : ClientState) (s : Serve
     → AccessesAgree opened (client_state_after opened k (FrameReceived f)) s (d ++ HelloFrame ∷ []) (all_up ++ client_frames opened k (FrameReceived f)) all_down place
 accessed_hello_down opened k s d all_up all_down place f h is =
     subst (λ (t : ClientState). AccessesAgree opened t s (d ++ HelloFrame ∷ []) (all_up ++ client_frames opened k (FrameReceived f)) all_down place) (sym (after_hello opened k f is))
-    (subst (λ (ps : List FrameContent). AccessesAgree opened (with_hello opened k) s (d ++ HelloFrame ∷ []) (all_up ++ ps) all_down place) (sym (says_hello opened k f is))
-    (preserved opened k (with_hello opened k) s d (d ++ HelloFrame ∷ []) all_up (calls_frames opened k.outstanding) all_down place h (offers_same k.regions) h.early
+    (subst (λ (ps : List FrameContent). AccessesAgree opened (with_hello opened k f) s (d ++ HelloFrame ∷ []) (all_up ++ ps) all_down place) (sym (says_hello opened k f is))
+    (preserved opened k (with_hello opened k f) s d (d ++ HelloFrame ∷ []) all_up (calls_frames opened k.outstanding) all_down place h (offers_same k.regions) h.early
     (each_all (IsLive (message_xids d)) (IsLive (message_xids (d ++ HelloFrame ∷ []))) k.regions (more_live d (HelloFrame ∷ [])) h.lives) (asked_said opened k.regions k.outstanding h.asked) h.asked))
 
 -- what the client says for a Read Request are no messages

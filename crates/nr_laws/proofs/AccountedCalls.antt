@@ -200,7 +200,7 @@ pub frame_accounts : (opened : LinkParameters) (gone : ℕ → Bool) (xids : Lis
 unfolding client_state_after
 frame_accounts opened gone xids k f e h = by (is_hello f) refl
   where
-    by : (b : Bool) → is_hello f ≡ b → CallsAccounted gone xids (cond b (with_hello opened k) (with_segment k f (frame_segment f)))
+    by : (b : Bool) → is_hello f ≡ b → CallsAccounted gone xids (cond b (with_hello opened k f) (with_segment k f (frame_segment f)))
     by true is = record { each = h.each; revoked = h.revoked }
     by false is =
         let unended = taken k f is e in

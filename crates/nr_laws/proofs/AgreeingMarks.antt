@@ -169,7 +169,7 @@ submit_preserves opened link run call form xid j h =
     (λ o within g.
     let room : length j.k.outstanding < j.k.grant = room_of opened link run j (within refl) in
     subst (λ (ps : List FrameContent). Guards opened (client_state_after opened j.k (CallSubmitted place a)) j.s j.u j.d (j.all_up ++ ps) j.all_down (up_more j.w ps) (place_of opened j.u)) (sym m.said_is)
-    (guards_submit opened j.k j.s j.u j.d j.all_up j.all_down j.w (place_of opened j.u) place a h.plan j.linked g planned own h.xids limits room))
+    (guards_submit opened j.k j.s j.u j.d j.all_up j.all_down j.w (place_of opened j.u) place a h.plan j.linked g planned own h.xids room))
     (λ typed kept agree.
     let stags : j.k.stag + regions_needed h.plan ≤ numbers_end = subst (λ (r : EndState ClientState). r.state.stag + regions_needed h.plan ≤ numbers_end) j.client_is h.stags in
     subst (λ (ps : List FrameContent). AccessesAgree opened (client_state_after opened j.k (CallSubmitted place a)) j.s j.d (j.all_up ++ ps) j.all_down place) (sym m.said_is)

@@ -1,5 +1,5 @@
 -- Each executed call that adds an entry is answered by its reply, whatever was offered.
-use Rattle.std.proofs.Common.{◌≡◌, ◌≢◌, List, [], ◌∷◌, ◌++◌, Option, None, Some, refl, sym, ◌∙◌, arith, append-nil, inl, inr, ◌⊎◌}
+use Rattle.std.proofs.Common.{◌≡◌, ◌≢◌, List, [], ◌∷◌, ◌++◌, Option, None, Some, refl, sym, ◌∙◌, append-nil, inl, inr, ◌⊎◌}
 use Rattle.nr_wire.specs.declared.hello.Side.TheVariants.{Responder}
 use Rattle.nr_reduce.proofs.OwnLimits.{server_limits_of}
 use Rattle.nr_reduce.specs.declared.call.Outcome.TheVariants as outcomes
@@ -42,7 +42,7 @@ changes_are_answered reply_to adds opened link run before xid moment payload pla
     let holds = kept_at_server opened link before first kept es [] (sym (append-nil es)) in
     let replied = at_mark (PlainReplyMark (server_with reply_to adds) link) run before mark at.after at.is plain_replies refl in
     let down = (server_limits_of opened link before).down in
-    let held = plain.change replied.0 moment payload reply (offer_of k xid) k.down_max replied.1 more (found_fits xid k.calls holds.fit).within (omega (arith, down)) in
+    let held = plain.change replied.0 moment payload reply (offer_of k xid) k.down_max replied.1 more (found_fits xid k.calls holds.fit).within down.0 in
     let a = some_of (answer_held opened link before xid payload reply) held in
     record { answer = a.0; is_held = a.1; due = (execute_answered opened link before xid moment payload place reply x).0 a.0 a.1 }
 

@@ -1,5 +1,5 @@
 -- A call in form Auto that completes has a reply, if a plain server replies.
-use Rattle.std.proofs.Common.{◌≡◌, ℕ, List, Ok, refl, sym, ap, subst, ◌∙◌, arith, inl, inr, ◌⊎◌}
+use Rattle.std.proofs.Common.{◌≡◌, ℕ, List, [], ◌∷◌, Option, Some, None, Ok, refl, sym, ap, subst, ◌∙◌, arith, inl, inr, ◌⊎◌}
 use Rattle.nr_xdr.specs.Item.{IsBytes}
 use Rattle.nr_reduce.specs.declared.call.Form.TheVariants as forms
 use Rattle.nr_reduce.specs.declared.call.Outcome.{Outcome}
@@ -8,12 +8,17 @@ use Rattle.nr_reduce.specs.declared.call.Submission.TheVariants as submissions
 use Rattle.nr_reduce.specs.declared.mark.Mark.{Mark}
 use Rattle.nr_reduce.specs.declared.mark.Mark.TheVariants as marks
 use Rattle.nr_reduce.specs.declared.outline.Plan.{Plan}
-use Rattle.nr_reduce.specs.Limits.{send_max}
-use Rattle.nr_reduce.specs.Plans.{plan_of}
+use Rattle.nr_reduce.specs.Plans.{plan_of, lists_of}
 use Rattle.nr_reduce.specs.ChunkBytes.{IsNotGiven}
 use Rattle.nr_reduce.specs.Matched.{IsPrefixOf}
 use Rattle.nr_reduce.specs.ClientState.{call_payload}
-use Rattle.nr_reduce.specs.Run.{client}
+use Rattle.nr_reduce.specs.ServerState.{ReadyCall}
+use Rattle.nr_reduce.specs.Run.{client, server}
+use Rattle.nr_reduce.specs.Served.{ServedMark, IsExecuted, first_ready, next_call}
+use Rattle.nr_reduce.proofs.OwnLimits.{client_limits_of}
+use Rattle.nr_reduce.specs.declared.mark.LinkParameters.{LinkParameters}
+use Rattle.nr_link.specs.declared.end.End.{End}
+use Rattle.nr_rpc.specs.Reading.{call_of, target_of}
 use Rattle.nr_reduce.specs.Asked.{AskedMark, IsAccepted}
 use Rattle.nr_laws.specs.Typed.{TypedMark}
 use Rattle.nr_laws.specs.MarkAt.{MarkAt}
@@ -24,13 +29,25 @@ use Rattle.nr_laws.specs.ChunkOutcomes.{AutoHasReplies}
 use Rattle.nr_laws.proofs.OnceByXid.{at_mark, before_mark}
 use Rattle.nr_laws.proofs.Following.{far_before}
 use Rattle.nr_laws.proofs.Completed.{version_never}
-use Rattle.nr_laws.proofs.ExecutedPayloads.{planned_by}
+use Rattle.nr_laws.proofs.ExecutedPayloads.{planned_by, sizes_up, sizes_down}
+use Rattle.nr_laws.proofs.MatchedSizes.{client_within, executing_sized}
+use Rattle.nr_laws.proofs.MoreHeld.{more_held}
 use Rattle.nr_laws.proofs.OwnPayloads.{payloads_are_own}
 use Rattle.nr_laws.proofs.ChunkCauses.{ExecuteNotHeld, chunk_caused, held_by_plan}
 use Rattle.nr_laws.proofs.LaterMarks.{mark_later}
 use Rattle.nr_laws.proofs.OwnPlans.{one_form}
 use Rattle.nr_laws.proofs.OwnMessages.{no_own_plan_is_refused}
 use Rattle.nr_laws.proofs.Basics.{some_is_lem}
+
+-- the next call is the first of those that are ready
+first_of : (ready : List ReadyCall) (ended : Option End) (call : ReadyCall) → first_ready ready ended ≡ Some call → (others : List ReadyCall) × (ready ≡ call ∷ others)
+first_of ready (Some end) call e = absurd cc
+first_of [] None call e = absurd cc
+first_of (x ∷ ready) None call e = (ready, (let s : Some x ≡ Some call = e in let t : x ≡ call = cc in ap (λ (y : ReadyCall). y ∷ ready) t))
+
+ready_first : (opened : LinkParameters) (link : ℕ) (before : List Mark) {xid : ℕ} {payload : List ℕ} → (x : IsExecuted opened link before xid payload) → (others : List ReadyCall) × ((server opened link before).state.ready ≡ x.call ∷ others)
+unfolding next_call
+ready_first opened link before x = first_of (server opened link before).state.ready (server opened link before).ended x.call x.is_next
 
 pub auto_has_replies : AutoHasReplies
 auto_has_replies reply_to adds opened link run earlier before call xid outcome plain plain_replies typed far at done = by outcome done
@@ -47,7 +64,7 @@ auto_has_replies reply_to adds opened link run earlier before call xid outcome p
     plan : Plan
     plan = accepted.plan
 
-    planned : plan_of (call_payload xid call) forms.Auto send_max send_max ≡ Ok plan
+    planned : plan_of (call_payload xid call) forms.Auto (sizes_up opened link earlier) (sizes_down opened link earlier) ≡ Ok plan
     planned = planned_by opened link earlier xid call forms.Auto plan accepted.planned
 
     has : HasPlan opened link run xid plan
@@ -68,8 +85,16 @@ auto_has_replies reply_to adds opened link run earlier before call xid outcome p
         let own : call_payload xid call ≡ u.payload =
         some_is_lem (call_payload xid call) u.payload (payloads_are_own opened link run u.before xid plan u.moment u.payload u.place u.reply typed far has executed) in
         let replied = at_mark (PlainReplyMark (server_with reply_to adds) link) run u.before execute executed.after executed.is plain_replies refl in
-        plain.auto replied.0 u.moment u.payload u.reply send_max send_max (client opened link earlier).state.stag plan (subst IsBytes own bytes) replied.1 (omega arith)
-        (ap (λ (x : List ℕ). plan_of x forms.Auto send_max send_max) (sym own) ∙ planned)
+        let up : ℕ = sizes_up opened link earlier in
+        let down : ℕ = sizes_down opened link earlier in
+        let stag : ℕ = (client opened link earlier).state.stag in
+        let by_plan = plain.auto replied.0 u.moment u.payload u.reply up down stag plan (subst IsBytes own bytes) replied.1 (client_limits_of opened link earlier).down.0
+        (ap (λ (x : List ℕ). plan_of x forms.Auto up down) (sym own) ∙ planned) in
+        let there : IsExecuted opened link u.before xid u.payload = at_mark (ServedMark IsPrefixOf opened link) run u.before execute executed.after executed.is far.served refl in
+        let first = ready_first opened link u.before there in
+        let answers = executing_sized opened link u.before there.call first.0 (before_mark TypedMark run u.before execute executed.after executed.is typed) (far_before opened link run u.before execute executed.after executed.is far) first.1 in
+        let planned_within = (client_within opened link earlier (before_mark TypedMark run earlier submit at.after at.is typed) (far_before opened link run earlier submit at.after at.is far)).1 in
+        more_held (lists_of stag plan) down (server opened link u.before).state.down_max u.reply (target_of (call_of u.payload)) (omega (arith, answers, planned_within)) by_plan
         (sym (held_by_plan opened link run u.before xid plan u.moment u.payload u.place u.reply typed far has executed) ∙ u.none)
 
     no_cause : MarkAt run before (marks.Done link xid outcomes.Chunk) → HasRefusedMessage opened link before xid ⊎ ExecuteNotHeld opened link before xid → ⊥

@@ -133,7 +133,7 @@ owes_event opened k (FrameReceived f) stays h = by (is_hello f) refl
         let same = message_owes k f.end (message_completed k.received s) in
         owes_request m (due_with_response k f s) (read_request_of s) (λ none. omega (arith, same, h)) (λ q asks. (let few = few_owed k f s behind is stays q asks in omega (arith, same, few)))
 
-    by : (b : Bool) → is_hello f ≡ b → responses_owed (cond b (with_hello opened k) (with_segment k f (frame_segment f))) ≤ open_reads_max
+    by : (b : Bool) → is_hello f ≡ b → responses_owed (cond b (with_hello opened k f) (with_segment k f (frame_segment f))) ≤ open_reads_max
     by true behind = h
     by false behind = by_segment behind (frame_segment f) refl
 owes_event opened k (CallSubmitted p a) stays h = h

@@ -18,7 +18,6 @@ use Rattle.nr_reduce.specs.declared.mark.Mark.{Mark}
 use Rattle.nr_reduce.specs.declared.mark.Mark.TheVariants as marks
 use Rattle.nr_reduce.specs.declared.mark.LinkParameters.{LinkParameters}
 use Rattle.nr_reduce.specs.declared.outline.Plan.{Plan}
-use Rattle.nr_reduce.specs.Limits.{send_max}
 use Rattle.nr_reduce.specs.Plans.{plan_of, entries_from, read_list, lists_of}
 use Rattle.nr_reduce.specs.Chunks.{total_at, call_conveyed}
 use Rattle.nr_reduce.specs.OfferedRegions.{Region, region_grants}
@@ -51,7 +50,7 @@ use Rattle.nr_laws.proofs.ConveyedCalls.{planned_fits, plan_reads}
 use Rattle.nr_laws.proofs.ConveyedForms.{HasChunk, no_bytes_lem, planned_chunk, received_conveys}
 use Rattle.nr_laws.proofs.EmptyChunks.{new_empty, pending_empty}
 use Rattle.nr_laws.proofs.ExecutedCalls.{frame_message, received_message}
-use Rattle.nr_laws.proofs.ExecutedPayloads.{IsOfPlan, planned_by}
+use Rattle.nr_laws.proofs.ExecutedPayloads.{IsOfPlan, planned_by, sizes_up, sizes_down, up_limit}
 use Rattle.nr_laws.proofs.HeaderXid.{header_xid, call_xid_lem}
 use Rattle.nr_laws.proofs.HeldChunks.{sink_holds}
 use Rattle.nr_laws.proofs.JudgedCalls.{pending_fine, read_fine}
@@ -106,14 +105,14 @@ module _ (opened : LinkParameters) (link : ℕ) (run : List Mark) (typed : IsTyp
   pub submit_typed : IsBytes (call_payload w.xid w.call) × IsTypedForm w.form × IsTypedCall w.call
   submit_typed = at_mark TypedMark run w.earlier (marks.Submit link w.call w.form (submissions.Accepted w.xid)) w.later w.is typed
 
-  submit_plan : plan_of (call_payload w.xid w.call) w.form send_max send_max ≡ Ok w.accepted.plan
+  submit_plan : plan_of (call_payload w.xid w.call) w.form (sizes_up opened link w.earlier) (sizes_down opened link w.earlier) ≡ Ok w.accepted.plan
   submit_plan = planned_by opened link w.earlier w.xid w.call w.form w.accepted.plan w.accepted.planned
 
   submit_reads : (header : Header) → header_of m ≡ Ok header → ReadsLists (client opened link w.earlier).state.stag w.accepted.plan m header
   submit_reads header is =
       let k = (client opened link w.earlier).state in
       let p : Plan = w.accepted.plan in
-      let fine = planned_fits (call_payload w.xid w.call) w.form send_max k.stag p submit_plan submit_typed.0 submit_typed.1 w.accepted.stags in
+      let fine = planned_fits (call_payload w.xid w.call) w.form (sizes_up opened link w.earlier) (sizes_down opened link w.earlier) k.stag p (up_limit opened link w.earlier) submit_plan submit_typed.0 submit_typed.1 w.accepted.stags in
       subst (λ (x : List ℕ). ReadsLists k.stag p x header) (sym w.message_is)
       (plan_reads w.xid opened.wished k.stag p header fine.0 fine.1 w.accepted.xids (ap header_of (sym w.message_is) ∙ is))
 
@@ -131,7 +130,7 @@ module _ (opened : LinkParameters) (link : ℕ) (run : List Mark) (typed : IsTyp
       let stag : ℕ = (client opened link w.earlier).state.stag in
       let reading = submit_reads header is in
       let of_plan : IsOfPlan stag p c = record { lists = lists ∙ reading.lists; stream = stream ∙ reading.known } in
-      received_conveys (call_payload w.xid w.call) w.form send_max stag p c chunk submit_typed.0 submit_typed.1 submit_plan w.accepted.stags of_plan (plan_holds_lem c stag p chunk (ap (λ (x : ChunkLists). x.read) of_plan.lists) held)
+      received_conveys (call_payload w.xid w.call) w.form (sizes_up opened link w.earlier) (sizes_down opened link w.earlier) stag p c chunk submit_typed.0 submit_typed.1 (up_limit opened link w.earlier) submit_plan w.accepted.stags of_plan (plan_holds_lem c stag p chunk (ap (λ (x : ChunkLists). x.read) of_plan.lists) held)
 
 -- ---- At a frame
 
@@ -159,7 +158,7 @@ module _ (opened : LinkParameters) (link : ℕ) (run : List Mark) (typed : IsTyp
       let p : Plan = w.accepted.plan in
       let stag : ℕ = (client opened link w.earlier).state.stag in
       let chunk = chunk_bytes k f.end c in
-      let region = planned_chunk (call_payload w.xid w.call) w.form send_max send_max p (submit_plan opened link run typed w) in
+      let region = planned_chunk (call_payload w.xid w.call) w.form (sizes_up opened link w.earlier) (sizes_down opened link w.earlier) p (submit_plan opened link run typed w) in
       let lists = l.lists ∙ (submit_reads opened link run typed w l.header l.is).lists in
       let none : added_up p.read ≡ 0 = nothing_read (k.regions ++ regions_of k f.end c) k.reads c stag p region (ap (λ (x : ChunkLists). x.read) lists) read in
       record {
@@ -186,7 +185,7 @@ module _ (opened : LinkParameters) (link : ℕ) (run : List Mark) (typed : IsTyp
       let stag : ℕ = (client opened link w.earlier).state.stag in
       let chunk = chunk_bytes (with_access k f segment) f.end c in
       let planned = submit_plan opened link run typed w in
-      let region = planned_chunk (call_payload w.xid w.call) w.form send_max send_max p planned in
+      let region = planned_chunk (call_payload w.xid w.call) w.form (sizes_up opened link w.earlier) (sizes_down opened link w.earlier) p planned in
       let regions : List Region = (client opened link run).state.regions in
       let reading = submit_reads opened link run typed w own.header own.is_header in
       let suits : IsSuited k.received.sends k.reads c = each_found (IsSuited k.received.sends k.reads) q.number k.calls c (calls_suit_lem opened es).calls_suit found in
@@ -196,7 +195,7 @@ module _ (opened : LinkParameters) (link : ℕ) (run : List Mark) (typed : IsTyp
       λ position lists bytes.
       let backed = read_region regions stag p bytes (accepted_regions opened link run w.earlier w.later w.call w.form w.xid typed asked w.is w.accepted) in
       sink_holds opened link run typed asked served matched es f more segment q rest c all behind is live allowed ends reads found read
-      (record { position = position; handle = stag; lengths = p.read; lists = lists; some = bytes; region = p.region; size = region.size; region_fits = region_small (call_payload w.xid w.call) w.form send_max send_max p planned; handle_fits = stag_small stag p bytes w.accepted.stags; holds = region_holds regions stag p.region backed }) in
+      (record { position = position; handle = stag; lengths = p.read; lists = lists; some = bytes; region = p.region; size = region.size; region_fits = region_small (call_payload w.xid w.call) w.form (sizes_up opened link w.earlier) (sizes_down opened link w.earlier) p planned; handle_fits = stag_small stag p bytes w.accepted.stags; holds = region_holds regions stag p.region backed }) in
       let held : (position : ℕ) → c.lists.read ≡ entries_from position stag 0 p.read → chunk position ≡ p.region =
       λ position lists.
       none_or_some (added_up p.read) (chunk position ≡ p.region)

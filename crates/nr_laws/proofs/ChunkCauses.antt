@@ -2,7 +2,7 @@
 use Rattle.std.proofs.Common.{◌≡◌, ◌≢◌, ℕ, List, ◌∷◌, ◌++◌, None, Some, refl, sym, ap, subst, ◌∙◌, inl, inr, ◌⊎◌}
 use Rattle.nr_wire.specs.declared.hello.Side.TheVariants.{Responder}
 use Rattle.nr_rpc.specs.Reading.{call_of, target_of}
-use Rattle.nr_reduce.proofs.OwnLimits.{server_limits_of}
+use Rattle.nr_header.specs.declared.header.ChunkLists.{ChunkLists}
 use Rattle.nr_reduce.specs.declared.call.Outcome.{Outcome}
 use Rattle.nr_reduce.specs.declared.call.Outcome.TheVariants as outcomes
 use Rattle.nr_outside.specs.declared.moment.Moment.{Moment}
@@ -11,7 +11,6 @@ use Rattle.nr_reduce.specs.declared.mark.Mark.TheVariants as marks
 use Rattle.nr_reduce.specs.declared.mark.LinkParameters.{LinkParameters}
 use Rattle.nr_reduce.specs.declared.outline.Plan.{Plan}
 use Rattle.nr_reduce.specs.History.{ExecutedCall}
-use Rattle.nr_reduce.specs.Limits.{send_max}
 use Rattle.nr_reduce.specs.Plans.{lists_of}
 use Rattle.nr_reduce.specs.Events.{RunEvent, events}
 use Rattle.nr_reduce.specs.Server.{offer_of, answer_of_target}
@@ -110,11 +109,10 @@ chunk_caused opened link run before after xid typed far is = by (outcome_cause o
 -- what the offer holds which the server keeps is what the plan's offer holds
 pub held_by_plan : (opened : LinkParameters) (link : ℕ) (run before : List Mark) (xid : ℕ) (plan : Plan) (moment : Moment) (payload : List ℕ) (place : ℕ) (reply : List ℕ) → IsTyped run → MatchedSoFar opened link run
     → (has : HasPlan opened link run xid plan) → MarkAt run before (marks.Execute link xid moment payload place reply)
-    → answer_held opened link before xid payload reply ≡ answer_of_target (lists_of (client opened link has.before).state.stag plan) send_max reply (target_of (call_of payload))
+    → answer_held opened link before xid payload reply ≡ answer_of_target (lists_of (client opened link has.before).state.stag plan) (server opened link before).state.down_max reply (target_of (call_of payload))
 held_by_plan opened link run before xid plan moment payload place reply typed far has at =
-    let down = (server_limits_of opened link before).down in
     let offer = offers_are_planned opened link run before xid plan moment payload place reply typed far has at in
-    (λ i. answer_of_target (offer i) (down i) reply (target_of (call_of payload)))
+    ap (λ (o : ChunkLists). answer_of_target o (server opened link before).state.down_max reply (target_of (call_of payload))) offer
 
 planned_cause : (opened : LinkParameters) (link : ℕ) (run : List Mark) (xid : ℕ) → IsTyped run → MatchedSoFar opened link run → HasRefusedMessage opened link run xid ⊎ ExecuteNotHeld opened link run xid → HasChunkCause opened link run xid
 planned_cause opened link run xid typed far (inl m) = inl m

@@ -17,10 +17,10 @@ use Rattle.nr_reduce.specs.Events.{RunEvent}
 use Rattle.nr_reduce.specs.Events.RunEvent.{FrameReceived, CallSubmitted, MemoryRevoked, CallExecuted, QueueWritten}
 use Rattle.nr_reduce.specs.EndRules.{next_end_state_by, next_end_state_in}
 use Rattle.nr_reduce.specs.OfferedRegions.{region_grants}
-use Rattle.nr_reduce.specs.Plans.{TooLarge, plan_of, regions_needed}
+use Rattle.nr_reduce.specs.Plans.{TooLarge}
 use Rattle.nr_reduce.specs.ClientState.{ClientState, OutstandingCall, call_payload, plan_for, client_memory_at}
 use Rattle.nr_reduce.specs.Client.{client_rules, client_end, client_state_after, client_readiness, segment_request, outstanding_of, plan_or, with_message, with_request, with_segment, with_hello, due_with_response}
-use Rattle.nr_reduce.specs.RunLaws.{outstanding_from, as_submitted}
+use Rattle.nr_reduce.specs.RunLaws.{as_submitted}
 use Rattle.nr_reduce.proofs.Sizes.{message_size}
 use Rattle.nr_laws.proofs.EventOutputs.{IsNext, place_after, outputs_by, outputs_in}
 use Rattle.nr_laws.proofs.Outputs.{Output, IsShort, CallsShort, message_of_call, message_outputs, call_sends, client_says, response_outputs, response_segments, final_outputs, terminate_segment, CallShort}
@@ -29,9 +29,9 @@ use Rattle.nr_laws.proofs.Brought.{AreFrom}
 use Rattle.nr_laws.proofs.Words.{message_words, terminate_word_lem, from_append, payload_bytes_lem}
 use Rattle.nr_laws.proofs.TaggedSegments.{tagged_response}
 use Rattle.nr_laws.proofs.Completions.{Completes, completes_none, completes_append, completes_message, completes_calls, completes_tagged, completes_final}
-use Rattle.nr_laws.proofs.ClientSays.{IsGoodCall, ClientGood, accepted_in, accepted_append, asked, HasHello, ClientSays, short_revoked, submitted_messages, map_more, client_has_no_fault, formed, response_words}
+use Rattle.nr_laws.proofs.ClientSays.{IsGoodCall, ClientGood, accepted_in, accepted_append, asked, asked_quiet, asked_submit, client_after, HasHello, ClientSays, short_revoked, submitted_messages, map_more, client_has_no_fault, formed, response_words}
 use Rattle.nr_laws.proofs.Basics.{above_zero, each_append, each_kept}
-use Rattle.nr_reduce.proofs.Waiting.{start, stag_behind, from_append as from-more, behind_append, submitted_append, revoked_same}
+use Rattle.nr_reduce.proofs.Waiting.{submitted_append, revoked_same}
 
 -- ---- What is said for a frame
 
@@ -86,7 +86,6 @@ segment_quiet k f bytes behind stays = by (frame_segment f) refl
 
 record Step (opened : LinkParameters) (place : ℕ) (k after : ClientState) (ended : Option Stop) : Type 0 where
   short : CallsShort opened k.outstanding → CallsShort opened after.outstanding
-  stag : after.stag ≡ k.stag
   count : after.calls_accepted ≡ k.calls_accepted
   hello : after.has_hello ≡ k.has_hello
   greeted : ended ≡ None → HasHello place after.has_hello
@@ -99,36 +98,36 @@ quiet_step : (opened : LinkParameters) (es : List RunEvent) (e : RunEvent) (plac
     → Step opened later k after now → IsQuiet more → ClientSays opened es place k ended outs → ClientSays opened (es ++ e ∷ []) later after now (outs ++ more)
 quiet_step opened es e place later k after ended now outs more none s q p =
     let same : accepted_in (es ++ e ∷ []) ≡ accepted_in es = same_asked opened es e none in
+    let calls : asked opened (es ++ e ∷ []) ≡ asked opened es = asked_quiet opened es (e ∷ []) none in
     record {
       short = s.short p.short;
-      stag = s.stag ∙ p.stag ∙ ap (λ (xs : List AcceptedCall). stag_behind (start opened) opened.first_stag xs) (sym same);
       count = s.count ∙ p.count ∙ ap (λ (xs : List AcceptedCall). length xs) (sym same);
       greeted = s.greeted;
       waits = λ no_hello. (let was : k.has_hello ≡ false = sym s.hello ∙ no_hello in
-          s.waits was ∙ p.waits was ∙ ap (λ (xs : List AcceptedCall). outstanding_from (start opened) opened.first_stag xs) (sym same));
+          s.waits was ∙ p.waits was ∙ sym calls);
       words = from_append outs more p.words q.words;
       completes = subst (λ (ms : List (List ℕ)). Completes (outs ++ more) ms)
           (append-nil (cond k.has_hello (map (message_of_call opened) (asked opened es)) [])
-          ∙ (λ i. cond (sym s.hello i) (map (message_of_call opened) (outstanding_from (start opened) opened.first_stag (sym same i))) []))
+          ∙ (λ i. cond (sym s.hello i) (map (message_of_call opened) (sym calls i)) []))
           (completes_append outs more (cond k.has_hello (map (message_of_call opened) (asked opened es)) []) [] p.completes q.completes);
     }
 
 stays_step : (opened : LinkParameters) (place : ℕ) (k : ClientState) (end : Stop) → Step opened place k k (Some end)
-stays_step opened place k end = record { short = λ h. h; stag = refl; count = refl; hello = refl; greeted = λ e. absurd cc; waits = λ h. refl }
+stays_step opened place k end = record { short = λ h. h; count = refl; hello = refl; greeted = λ e. absurd cc; waits = λ h. refl }
 
 -- ---- Frames
 
-request_fields : (opened : LinkParameters) (k m : ClientState) (due : ℕ) (o : Option ReadRequest) → (CallsShort opened k.outstanding → CallsShort opened m.outstanding) × (m.stag ≡ k.stag) × (m.calls_accepted ≡ k.calls_accepted) × (m.has_hello ≡ k.has_hello)
-    → (CallsShort opened k.outstanding → CallsShort opened (with_request m due o).outstanding) × ((with_request m due o).stag ≡ k.stag) × ((with_request m due o).calls_accepted ≡ k.calls_accepted) × ((with_request m due o).has_hello ≡ k.has_hello)
+request_fields : (opened : LinkParameters) (k m : ClientState) (due : ℕ) (o : Option ReadRequest) → (CallsShort opened k.outstanding → CallsShort opened m.outstanding) × (m.calls_accepted ≡ k.calls_accepted) × (m.has_hello ≡ k.has_hello)
+    → (CallsShort opened k.outstanding → CallsShort opened (with_request m due o).outstanding) × ((with_request m due o).calls_accepted ≡ k.calls_accepted) × ((with_request m due o).has_hello ≡ k.has_hello)
 request_fields opened k m due None h = h
 request_fields opened k m due (Some q) h = h
 
-message_fields : (opened : LinkParameters) (k : ClientState) (place : ℕ) (o : Option (List ℕ)) → (CallsShort opened k.outstanding → CallsShort opened (with_message k place o).outstanding) × ((with_message k place o).stag ≡ k.stag) × ((with_message k place o).calls_accepted ≡ k.calls_accepted) × ((with_message k place o).has_hello ≡ k.has_hello)
-message_fields opened k place None = ((λ h. h), refl, refl, refl)
-message_fields opened k place (Some message) = ((λ h. each_kept (CallShort opened) _ k.outstanding h), refl, refl, refl)
+message_fields : (opened : LinkParameters) (k : ClientState) (place : ℕ) (o : Option (List ℕ)) → (CallsShort opened k.outstanding → CallsShort opened (with_message k place o).outstanding) × ((with_message k place o).calls_accepted ≡ k.calls_accepted) × ((with_message k place o).has_hello ≡ k.has_hello)
+message_fields opened k place None = ((λ h. h), refl, refl)
+message_fields opened k place (Some message) = ((λ h. each_kept (CallShort opened) _ k.outstanding h), refl, refl)
 
-segment_fields : (opened : LinkParameters) (k : ClientState) (f : Frame) (r : Result Segment ℕ) → (CallsShort opened k.outstanding → CallsShort opened (with_segment k f r).outstanding) × ((with_segment k f r).stag ≡ k.stag) × ((with_segment k f r).calls_accepted ≡ k.calls_accepted) × ((with_segment k f r).has_hello ≡ k.has_hello)
-segment_fields opened k f (Err reason) = ((λ h. h), refl, refl, refl)
+segment_fields : (opened : LinkParameters) (k : ClientState) (f : Frame) (r : Result Segment ℕ) → (CallsShort opened k.outstanding → CallsShort opened (with_segment k f r).outstanding) × ((with_segment k f r).calls_accepted ≡ k.calls_accepted) × ((with_segment k f r).has_hello ≡ k.has_hello)
+segment_fields opened k f (Err reason) = ((λ h. h), refl, refl)
 segment_fields opened k f (Ok segment) = request_fields opened k (with_message k f.end (message_completed k.received segment)) (due_with_response k f segment) (read_request_of segment) (message_fields opened k f.end (message_completed k.received segment))
 
 behind_greeted : (place : ℕ) (b : Bool) → 0 < place → HasHello place b → b ≡ true
@@ -145,29 +144,27 @@ segment_step opened place k f behind at goes greeted =
     let has : k.has_hello ≡ true = behind_greeted place k.has_hello (omega (arith, behind, at)) greeted in
     record {
       short = h.0;
-      stag = h.1;
-      count = h.2;
-      hello = h.3;
-      greeted = λ e. inr (omega (arith, goes), h.3 ∙ has);
+      count = h.1;
+      hello = h.2;
+      greeted = λ e. inr (omega (arith, goes), h.2 ∙ has);
       waits = λ no_hello. absurd (let t : true ≡ false = sym has ∙ no_hello in cc);
     }
 
 hello_step : (opened : LinkParameters) (es : List RunEvent) (place : ℕ) (k : ClientState) (outs : List Output) (f : Frame) → f.at ≡ 0 → f.at ≡ place → place < f.end → ClientSays opened es place k None outs
-    → ClientSays opened (es ++ FrameReceived f ∷ []) f.end (with_hello opened k) None (outs ++ call_sends opened 1 k.outstanding)
+    → ClientSays opened (es ++ FrameReceived f ∷ []) f.end (with_hello opened k f) None (outs ++ call_sends opened 1 k.outstanding)
 hello_step opened es place k outs f first at goes p =
     let no_hello : k.has_hello ≡ false = first_greeted place k.has_hello (sym at ∙ first) (p.greeted refl) in
     let same : accepted_in (es ++ FrameReceived f ∷ []) ≡ accepted_in es = same_asked opened es (FrameReceived f) refl in
+    let calls : asked opened (es ++ FrameReceived f ∷ []) ≡ asked opened es = asked_quiet opened es (FrameReceived f ∷ []) refl in
     record {
       short = p.short;
-      stag = p.stag ∙ ap (λ (xs : List AcceptedCall). stag_behind (start opened) opened.first_stag xs) (sym same);
       count = p.count ∙ ap (λ (xs : List AcceptedCall). length xs) (sym same);
       greeted = λ e. inr (omega (arith, goes), refl);
       waits = λ e. absurd cc;
       words = from_append outs (call_sends opened 1 k.outstanding) p.words (calls_words opened 1 k.outstanding p.short);
       completes = subst (λ (ms : List (List ℕ)). Completes (outs ++ call_sends opened 1 k.outstanding) ms)
           (sym (submitted_messages opened k.outstanding)
-          ∙ ap (λ (os : List OutstandingCall). map (message_of_call opened) os) (p.waits no_hello)
-          ∙ ap (λ (xs : List AcceptedCall). map (message_of_call opened) (outstanding_from (start opened) opened.first_stag xs)) (sym same))
+          ∙ ap (λ (os : List OutstandingCall). map (message_of_call opened) os) (p.waits no_hello ∙ sym calls))
           (completes_append outs (call_sends opened 1 k.outstanding) [] (map (message_of_call opened) k.outstanding)
           (subst (λ (b : Bool). Completes outs (cond b (map (message_of_call opened) (asked opened es)) [])) no_hello p.completes) (completes_calls opened 1 k.outstanding));
     }
@@ -179,26 +176,20 @@ unfolding plan_for
 short_call opened k a plan planned l =
     let is_plan : (outstanding_of k a).plan ≡ plan = ap (λ (r : Result Plan TooLarge). plan_or (call_payload a.xid a.call) r) planned in
     subst (λ (q : Plan). IsShort (Rattle.nr_reduce.specs.Plans.call_message a.xid opened.wished k.stag q)) (sym is_plan)
-    (let m = (message_size (call_payload a.xid a.call) a.form k.up_max k.down_max a.xid opened.wished k.stag plan planned).1 in let up = l.up in omega (arith, m, up))
+    (let m = (message_size (call_payload a.xid a.call) a.form k.up_max k.down_max a.xid opened.wished k.stag plan planned).1 in let up = l.up.1 in omega (arith, m, up))
 
-call_step : (opened : LinkParameters) (es : List RunEvent) (place p : ℕ) (k : ClientState) (outs : List Output) (a : AcceptedCall) (plan : Plan) → plan_for k a.xid a.call a.form ≡ Ok plan → ClientLimits k → ClientSays opened es place k None outs
+call_step : (opened : LinkParameters) (es : List RunEvent) (place p : ℕ) (k : ClientState) (outs : List Output) (a : AcceptedCall) (plan : Plan) → k ≡ (client_after opened es).state → plan_for k a.xid a.call a.form ≡ Ok plan → ClientLimits k → ClientSays opened es place k None outs
     → ClientSays opened (es ++ CallSubmitted p a ∷ []) place (client_state_after opened k (CallSubmitted p a)) None
     (outs ++ cond k.has_hello (message_outputs (k.calls_accepted + 1) (message_of_call opened (outstanding_of k a))) [])
 unfolding client_state_after plan_for
-call_step opened es place p k outs a plan planned l h =
+call_step opened es place p k outs a plan at planned l h =
     let own : OutstandingCall = outstanding_of k a in
     let before : List AcceptedCall = accepted_in es in
-    let next : ℕ = stag_behind (start opened) opened.first_stag before in
     let more : accepted_in (es ++ CallSubmitted p a ∷ []) ≡ before ++ a ∷ [] = accepted_append es (CallSubmitted p a ∷ []) in
-    let same : own ≡ outstanding_of (record (start opened) { stag = next }) a = (λ i. outstanding_of (record (start opened) { stag = h.stag i; up_max = l.up i; down_max = l.down i }) a) in
-    let all : asked opened (es ++ CallSubmitted p a ∷ []) ≡ asked opened es ++ own ∷ [] =
-    ap (λ (xs : List AcceptedCall). outstanding_from (start opened) opened.first_stag xs) more ∙ from-more (start opened) opened.first_stag before a
-    ∙ ap (λ (o : OutstandingCall). asked opened es ++ o ∷ []) (sym same) in
+    let all : asked opened (es ++ CallSubmitted p a ∷ []) ≡ asked opened es ++ own ∷ [] = asked_submit opened es p a k at in
     let short : IsShort (message_of_call opened own) = short_call opened k a plan planned l in
     record {
       short = each_append (CallShort opened) k.outstanding (own ∷ []) h.short (short, tt);
-      stag = (λ i. h.stag i + regions_needed (outstanding_of (record (start opened) { stag = h.stag i; up_max = l.up i; down_max = l.down i }) a).plan)
-          ∙ sym (behind_append (start opened) opened.first_stag before a) ∙ ap (λ (xs : List AcceptedCall). stag_behind (start opened) opened.first_stag xs) (sym more);
       count = (let c = h.count in let l = ap (λ (xs : List AcceptedCall). length xs) more in let n = length-append before (a ∷ []) in omega (arith, c, l, n));
       greeted = h.greeted;
       waits = λ no_hello. submitted_append k.outstanding (own ∷ []) ∙ ap (λ (os : List OutstandingCall). os ++ own ∷ []) (h.waits no_hello) ∙ sym all;
@@ -235,7 +226,7 @@ unfolding client_state_after client_says
 frame_says opened es place k outs f next p = by_end (client_end k (FrameReceived f)) refl
   where
     by_hello : (b : Bool) → is_hello f ≡ b → client_end k (FrameReceived f) ≡ None
-        → ClientSays opened (es ++ FrameReceived f ∷ []) f.end (cond b (with_hello opened k) (with_segment k f (frame_segment f))) None
+        → ClientSays opened (es ++ FrameReceived f ∷ []) f.end (cond b (with_hello opened k f) (with_segment k f (frame_segment f))) None
         (outs ++ cond b (call_sends opened 1 k.outstanding) (response_outputs k f.end (segment_request (frame_segment f))))
     by_hello true is stays = hello_step opened es place k outs f (eqb-true f.at 0 is) next.0 next.1 p
     by_hello false is stays =
@@ -252,36 +243,36 @@ revoke_says : (opened : LinkParameters) (es : List RunEvent) (place : ℕ) (k : 
 unfolding client_state_after client_says client_end
 revoke_says opened es place k outs q xid p =
     quiet_step opened es (MemoryRevoked q xid) place place k (client_state_after opened k (MemoryRevoked q xid)) None None outs [] refl
-    (record { short = λ h. short_revoked opened xid k.outstanding h; stag = refl; count = refl; hello = refl; greeted = p.greeted; waits = λ h. revoked_same xid k.outstanding }) quiet_none p
+    (record { short = λ h. short_revoked opened xid k.outstanding h; count = refl; hello = refl; greeted = p.greeted; waits = λ h. revoked_same xid k.outstanding }) quiet_none p
 
 written_says : (taken : ℕ) (opened : LinkParameters) (es : List RunEvent) (place : ℕ) (k : ClientState) (outs : List Output) → ClientSays opened es place k None outs → Next opened es place k None outs (QueueWritten taken)
 unfolding client_state_after client_says client_end
 written_says taken opened es place k outs p =
     quiet_step opened es (QueueWritten taken) place place k (client_state_after opened k (QueueWritten taken)) None None outs [] refl
-    (record { short = λ h. h; stag = refl; count = refl; hello = refl; greeted = p.greeted; waits = λ h. refl }) quiet_none p
+    (record { short = λ h. h; count = refl; hello = refl; greeted = p.greeted; waits = λ h. refl }) quiet_none p
 
 executed_says : (opened : LinkParameters) (es : List RunEvent) (place : ℕ) (k : ClientState) (outs : List Output) (x : Rattle.nr_reduce.specs.History.ExecutedCall) → ClientSays opened es place k None outs → Next opened es place k None outs (CallExecuted x)
 unfolding client_state_after client_says client_end
 executed_says opened es place k outs x p =
     quiet_step opened es (CallExecuted x) place place k k None None outs [] refl
-    (record { short = λ h. h; stag = refl; count = refl; hello = refl; greeted = p.greeted; waits = λ h. refl }) quiet_none p
+    (record { short = λ h. h; count = refl; hello = refl; greeted = p.greeted; waits = λ h. refl }) quiet_none p
 
-submitted_says : (opened : LinkParameters) (es : List RunEvent) (place : ℕ) (k : ClientState) (outs : List Output) (q : ℕ) (a : AcceptedCall) → IsGoodCall opened (record { state = k; ended = None }) a → ClientSays opened es place k None outs → Next opened es place k None outs (CallSubmitted q a)
+submitted_says : (opened : LinkParameters) (es : List RunEvent) (place : ℕ) (k : ClientState) (outs : List Output) (q : ℕ) (a : AcceptedCall) → k ≡ (client_after opened es).state → IsGoodCall opened (record { state = k; ended = None }) a → ClientSays opened es place k None outs → Next opened es place k None outs (CallSubmitted q a)
 unfolding client_says client_end
-submitted_says opened es place k outs q a good p = call_step opened es place q k outs a good.plan good.planned good.limits p
+submitted_says opened es place k outs q a at good p = call_step opened es place q k outs a good.plan at good.planned good.limits p
 
 ended_says : (opened : LinkParameters) (es : List RunEvent) (place later : ℕ) (k : ClientState) (outs : List Output) (e : RunEvent) (end : Stop) → accepted_in (e ∷ []) ≡ [] → ClientSays opened es place k (Some end) outs → ClientSays opened (es ++ e ∷ []) later k (Some end) (outs ++ [])
 ended_says opened es place later k outs e end none p = quiet_step opened es e place later k k (Some end) (Some end) outs [] none (stays_step opened later k end) quiet_none p
 
-pub client_step : (opened : LinkParameters) (es : List RunEvent) (place : ℕ) (k : ClientState) (ended : Option Stop) (outs : List Output) (e : RunEvent) → IsNext place e → ClientGood opened (record { state = k; ended = ended }) e
+pub client_step : (opened : LinkParameters) (es : List RunEvent) (place : ℕ) (k : ClientState) (ended : Option Stop) (outs : List Output) (e : RunEvent) → k ≡ (client_after opened es).state → IsNext place e → ClientGood opened (record { state = k; ended = ended }) e
     → ClientSays opened es place k ended outs → Next opened es place k ended outs e
-client_step opened es place k None outs (FrameReceived f) next good p = frame_says opened es place k outs f next p
-client_step opened es place k None outs (CallSubmitted q a) next good p = submitted_says opened es place k outs q a good p
-client_step opened es place k None outs (MemoryRevoked q xid) next good p = revoke_says opened es place k outs q xid p
-client_step opened es place k None outs (CallExecuted x) next good p = executed_says opened es place k outs x p
-client_step opened es place k None outs (QueueWritten taken) next good p = written_says taken opened es place k outs p
-client_step opened es place k (Some end) outs (FrameReceived f) next good p = ended_says opened es place f.end k outs (FrameReceived f) end refl p
-client_step opened es place k (Some end) outs (CallSubmitted q a) next good p = absurd (let s = good.stays in cc)
-client_step opened es place k (Some end) outs (MemoryRevoked q xid) next good p = ended_says opened es place place k outs (MemoryRevoked q xid) end refl p
-client_step opened es place k (Some end) outs (CallExecuted x) next good p = ended_says opened es place place k outs (CallExecuted x) end refl p
-client_step opened es place k (Some end) outs (QueueWritten taken) next good p = ended_says opened es place place k outs (QueueWritten taken) end refl p
+client_step opened es place k None outs (FrameReceived f) at next good p = frame_says opened es place k outs f next p
+client_step opened es place k None outs (CallSubmitted q a) at next good p = submitted_says opened es place k outs q a at good p
+client_step opened es place k None outs (MemoryRevoked q xid) at next good p = revoke_says opened es place k outs q xid p
+client_step opened es place k None outs (CallExecuted x) at next good p = executed_says opened es place k outs x p
+client_step opened es place k None outs (QueueWritten taken) at next good p = written_says taken opened es place k outs p
+client_step opened es place k (Some end) outs (FrameReceived f) at next good p = ended_says opened es place f.end k outs (FrameReceived f) end refl p
+client_step opened es place k (Some end) outs (CallSubmitted q a) at next good p = absurd (let s = good.stays in cc)
+client_step opened es place k (Some end) outs (MemoryRevoked q xid) at next good p = ended_says opened es place place k outs (MemoryRevoked q xid) end refl p
+client_step opened es place k (Some end) outs (CallExecuted x) at next good p = ended_says opened es place place k outs (CallExecuted x) end refl p
+client_step opened es place k (Some end) outs (QueueWritten taken) at next good p = ended_says opened es place place k outs (QueueWritten taken) end refl p

@@ -138,9 +138,9 @@ pub says_hello : (opened : LinkParameters) (k : ClientState) (f : Frame) → is_
 unfolding client_frames
 says_hello opened k f is = λ i. cond (is i) (calls_frames opened k.outstanding) (response_frames k f.end (segment_request (frame_segment f)))
 
-pub after_hello : (opened : LinkParameters) (k : ClientState) (f : Frame) → is_hello f ≡ true → client_state_after opened k (FrameReceived f) ≡ with_hello opened k
+pub after_hello : (opened : LinkParameters) (k : ClientState) (f : Frame) → is_hello f ≡ true → client_state_after opened k (FrameReceived f) ≡ with_hello opened k f
 unfolding client_state_after
-after_hello opened k f is = λ i. cond (is i) (with_hello opened k) (with_segment k f (frame_segment f))
+after_hello opened k f is = λ i. cond (is i) (with_hello opened k f) (with_segment k f (frame_segment f))
 
 asks_proper : (opened : LinkParameters) (os : List OutstandingCall) → CallsShort opened os → AreWritable (calls_frames opened os)
 asks_proper opened [] h = tt

@@ -9,7 +9,6 @@ use Rattle.nr_link.specs.declared.end.End.{End as Stop}
 use Rattle.nr_link.specs.Frames.{Frame, is_hello}
 use Rattle.nr_link.specs.ReceiveState.{ReadRequest, message_completed, read_request_of}
 use Rattle.nr_link.specs.Ending.{frame_segment, tagged_access, missing_access}
-use Rattle.nr_reduce.proofs.OwnLimits.{ClientLimits}
 use Rattle.nr_reduce.specs.declared.mark.LinkParameters.{LinkParameters}
 use Rattle.nr_reduce.specs.History.{AcceptedCall}
 use Rattle.nr_reduce.specs.Events.{RunEvent}
@@ -20,15 +19,12 @@ use Rattle.nr_reduce.specs.Plans.{Buffer, buffers}
 use Rattle.nr_reduce.specs.ClientState.{ClientState, OutstandingCall, plan_for}
 use Rattle.nr_reduce.specs.Client.{client_rules, client_end, client_state_after, outstanding_of, region_of, with_message, with_request, with_segment, revoked_call, initial_client, with_hello, due_with_response}
 use Rattle.nr_reduce.specs.Server.{tagged_accesses}
-use Rattle.nr_reduce.specs.RunLaws.{outstanding_from}
 use Rattle.nr_reduce.proofs.Touches.{client_touched}
 use Rattle.nr_reduce.proofs.OwnStags.{AreNumbered, numbered_buffers, ClientNumbers, client_numbers}
 use Rattle.nr_laws.proofs.EventOutputs.{IsNext, GoesOn, along, place_after, places_after}
 use Rattle.nr_reduce.proofs.Steps.{end_state_after_append}
-use Rattle.nr_laws.proofs.ClientSays.{ClientGood, accepted_in, accepted_append, asked}
+use Rattle.nr_laws.proofs.ClientSays.{ClientGood, accepted_in, asked, asked_quiet, asked_submit, client_after}
 use Rattle.nr_laws.proofs.Memory.{Gathering, Settled, settled_later, settled_closed, settled_append, settled_more, revoked_settled}
-use Rattle.nr_laws.proofs.ClientAlong.{same_asked}
-use Rattle.nr_reduce.proofs.Waiting.{start, stag_behind, from_append}
 
 -- ---- Regions
 
@@ -198,41 +194,36 @@ pub record ClientKeeps (opened : LinkParameters) (es : List RunEvent) (place : �
   pub settled : Settled place k.regions k.accesses_received
   pub owns : EachAsked opened es k.outstanding
   pub backed : AllBacked k.regions (asked opened es)
-  pub stag : k.stag ≡ stag_behind (start opened) opened.first_stag (accepted_in es)
 
 -- a step that accepts no call
 quiet_keeps : (opened : LinkParameters) (es : List RunEvent) (e : RunEvent) (place later : ℕ) (k after : ClientState) → accepted_in (e ∷ []) ≡ [] → Settled later after.regions after.accesses_received → (EachAsked opened es k.outstanding → EachAsked opened es after.outstanding)
-    → (AllBacked k.regions (asked opened es) → AllBacked after.regions (asked opened es)) → after.stag ≡ k.stag
+    → (AllBacked k.regions (asked opened es) → AllBacked after.regions (asked opened es))
     → ClientKeeps opened es place k → ClientKeeps opened (es ++ e ∷ []) later after
-quiet_keeps opened es e place later k after none settled owns backed stag p =
-    let same = same_asked opened es e none in
-    let calls : asked opened (es ++ e ∷ []) ≡ asked opened es = ap (λ (xs : List AcceptedCall). outstanding_from (start opened) opened.first_stag xs) same in
+quiet_keeps opened es e place later k after none settled owns backed p =
+    let calls : asked opened (es ++ e ∷ []) ≡ asked opened es = asked_quiet opened es (e ∷ []) none in
     record {
       settled = settled;
       owns = asked_same opened es (es ++ e ∷ []) after.outstanding calls (owns p.owns);
       backed = subst (λ (os : List OutstandingCall). AllBacked after.regions os) (sym calls) (backed p.backed);
-      stag = stag ∙ p.stag ∙ ap (λ (xs : List AcceptedCall). stag_behind (start opened) opened.first_stag xs) (sym same);
     }
 
 -- ---- Each event
 
-request_fields : (m : ClientState) (due : ℕ) (o : Option ReadRequest) → ((with_request m due o).regions ≡ m.regions) × ((with_request m due o).outstanding ≡ m.outstanding) × ((with_request m due o).stag ≡ m.stag)
-request_fields m due None = (refl, refl, refl)
-request_fields m due (Some q) = (refl, refl, refl)
+request_fields : (m : ClientState) (due : ℕ) (o : Option ReadRequest) → ((with_request m due o).regions ≡ m.regions) × ((with_request m due o).outstanding ≡ m.outstanding)
+request_fields m due None = (refl, refl)
+request_fields m due (Some q) = (refl, refl)
 
 record MessageKeeps (opened : LinkParameters) (es : List RunEvent) (place : ℕ) (k after : ClientState) : Type 0 where
   settled : (accesses : List TaggedSegment) → Settled place k.regions accesses → Settled place after.regions accesses
   owns : EachAsked opened es k.outstanding → EachAsked opened es after.outstanding
   backed : (os : List OutstandingCall) → AllBacked k.regions os → AllBacked after.regions os
-  stag : after.stag ≡ k.stag
 
 message_keeps : (opened : LinkParameters) (es : List RunEvent) (k : ClientState) (place : ℕ) (o : Option (List ℕ)) → MessageKeeps opened es place k (with_message k place o)
-message_keeps opened es k place None = record { settled = λ a h. h; owns = λ h. h; backed = λ os h. h; stag = refl }
+message_keeps opened es k place None = record { settled = λ a h. h; owns = λ h. h; backed = λ os h. h }
 message_keeps opened es k place (Some message) = record {
   settled = λ a h. settled_closed (λ r. eqb r.call (Rattle.nr_xdr.specs.Fields.word_at 0 message)) place place k.regions a (omega arith) h;
   owns = λ h. asked_filter opened es (λ o. not (eqb o.xid (Rattle.nr_xdr.specs.Fields.word_at 0 message))) k.outstanding h;
   backed = λ os h. backed_closed (λ r. eqb r.call (Rattle.nr_xdr.specs.Fields.word_at 0 message)) place k.regions os h;
-  stag = refl;
 }
 
 -- the access of a frame that doesn't end the client
@@ -245,7 +236,7 @@ access_settled k f (Untagged last opcode w queue msn offset payload) behind is s
 segment_keeps : (opened : LinkParameters) (es : List RunEvent) (place : ℕ) (k : ClientState) (f : Frame) → IsNext place (FrameReceived f) → is_hello f ≡ false → client_end k (FrameReceived f) ≡ None → (r : Result Segment ℕ) → frame_segment f ≡ r
     → ClientKeeps opened es place k → ClientKeeps opened (es ++ FrameReceived f ∷ []) f.end (with_segment k f r)
 segment_keeps opened es place k f next behind stays (Err reason) is p =
-    quiet_keeps opened es (FrameReceived f) place f.end k k refl (settled_later place f.end k.regions k.accesses_received (let l = next.1 in omega (arith, l)) p.settled) (λ h. h) (λ h. h) refl p
+    quiet_keeps opened es (FrameReceived f) place f.end k k refl (settled_later place f.end k.regions k.accesses_received (let l = next.1 in omega (arith, l)) p.settled) (λ h. h) (λ h. h) p
 segment_keeps opened es place k f next behind stays (Ok s) is p =
     let m : ClientState = with_message k f.end (message_completed k.received s) in
     let g = message_keeps opened es k f.end (message_completed k.received s) in
@@ -255,21 +246,14 @@ segment_keeps opened es place k f next behind stays (Ok s) is p =
     quiet_keeps opened es (FrameReceived f) place f.end k (with_segment k f (Ok s)) refl
     (subst (λ (rs : List Region). Settled f.end rs (k.accesses_received ++ tagged_access f s)) (sym q.0) (g.settled (k.accesses_received ++ tagged_access f s) all))
     (λ h. subst (λ (os : List OutstandingCall). EachAsked opened es os) (sym q.1) (g.owns h))
-    (λ h. subst (λ (rs : List Region). AllBacked rs (asked opened es)) (sym q.0) (g.backed (asked opened es) h))
-    (q.2 ∙ g.stag) p
+    (λ h. subst (λ (rs : List Region). AllBacked rs (asked opened es)) (sym q.0) (g.backed (asked opened es) h)) p
 
-call_keeps : (opened : LinkParameters) (es : List RunEvent) (place q : ℕ) (k : ClientState) (a : AcceptedCall) → AreNumbered opened.first_stag k.regions → k.stag ≡ opened.first_stag + length k.regions → ClientLimits k → ClientKeeps opened es place k
+call_keeps : (opened : LinkParameters) (es : List RunEvent) (place q : ℕ) (k : ClientState) (a : AcceptedCall) → AreNumbered opened.first_stag k.regions → k.stag ≡ opened.first_stag + length k.regions → k ≡ (client_after opened es).state → ClientKeeps opened es place k
     → ClientKeeps opened (es ++ CallSubmitted q a ∷ []) place (client_state_after opened k (CallSubmitted q a))
 unfolding client_state_after plan_for
-call_keeps opened es place q k a numbers next l p =
+call_keeps opened es place q k a numbers next at p =
     let own : OutstandingCall = outstanding_of k a in
-    let before : List AcceptedCall = accepted_in es in
-    let after : ℕ = stag_behind (start opened) opened.first_stag before in
-    let more : accepted_in (es ++ CallSubmitted q a ∷ []) ≡ before ++ a ∷ [] = accepted_append es (CallSubmitted q a ∷ []) in
-    let same : own ≡ outstanding_of (record (start opened) { stag = after }) a = (λ i. outstanding_of (record (start opened) { stag = p.stag i; up_max = l.up i; down_max = l.down i }) a) in
-    let all : asked opened (es ++ CallSubmitted q a ∷ []) ≡ asked opened es ++ own ∷ [] =
-    ap (λ (xs : List AcceptedCall). outstanding_from (start opened) opened.first_stag xs) more ∙ from_append (start opened) opened.first_stag before a
-    ∙ ap (λ (o : OutstandingCall). asked opened es ++ o ∷ []) (sym same) in
+    let all : asked opened (es ++ CallSubmitted q a ∷ []) ≡ asked opened es ++ own ∷ [] = asked_submit opened es q a k at in
     let new : List Region = map (region_of a.xid q) (buffers k.stag own.plan) in
     let none : (s : ℕ) → k.stag ≤ s → find (λ x. eqb x.stag s) k.regions ≡ None = λ s le. none_from opened.first_stag s k.regions (omega (arith, next, le)) numbers in
     let there : HasBuffers (k.regions ++ new) (buffers k.stag own.plan) = new_buffers a.xid q k.stag k.regions (buffers k.stag own.plan) none (numbered_buffers a.xid q k.stag own.plan) in
@@ -279,8 +263,6 @@ call_keeps opened es place q k a numbers next l p =
           (record { front = asked opened es; own = own; back = []; is = all; own_xid = refl; own_call = refl; own_plan = refl; own_stag = refl }, tt);
       backed = subst (λ (os : List OutstandingCall). AllBacked (k.regions ++ new) os) (sym all)
           (backed_append (k.regions ++ new) (asked opened es) (own ∷ []) (backed_left k.regions new (asked opened es) p.backed) (there, tt));
-      stag = (λ i. p.stag i + Rattle.nr_reduce.specs.Plans.regions_needed (outstanding_of (record (start opened) { stag = p.stag i; up_max = l.up i; down_max = l.down i }) a).plan)
-          ∙ sym (Rattle.nr_reduce.proofs.Waiting.behind_append (start opened) opened.first_stag before a) ∙ ap (λ (xs : List AcceptedCall). stag_behind (start opened) opened.first_stag xs) (sym more);
     }
 
 -- a state among those of a client's events
@@ -289,7 +271,7 @@ pub record KeepsAt (opened : LinkParameters) (es : List RunEvent) (place : ℕ) 
   pub keeps : ClientKeeps opened es place r.state
 
 keeps_same_lem : (opened : LinkParameters) (es : List RunEvent) (e : RunEvent) (place later : ℕ) (k : ClientState) → accepted_in (e ∷ []) ≡ [] → place ≤ later → ClientKeeps opened es place k → ClientKeeps opened (es ++ e ∷ []) later k
-keeps_same_lem opened es e place later k none le p = quiet_keeps opened es e place later k k none (settled_later place later k.regions k.accesses_received le p.settled) (λ h. h) (λ h. h) refl p
+keeps_same_lem opened es e place later k none le p = quiet_keeps opened es e place later k k none (settled_later place later k.regions k.accesses_received le p.settled) (λ h. h) (λ h. h) p
 
 frame_keeps : (opened : LinkParameters) (es : List RunEvent) (place : ℕ) (k : ClientState) (f : Frame) → IsNext place (FrameReceived f) → ClientKeeps opened es place k
     → (o : Option Stop) → client_end k (FrameReceived f) ≡ o → ClientKeeps opened (es ++ FrameReceived f ∷ []) f.end (next_end_state_by (client_rules opened) k (FrameReceived f) o).state
@@ -297,33 +279,33 @@ unfolding client_state_after
 frame_keeps opened es place k f next p (Some end) is = keeps_same_lem opened es (FrameReceived f) place f.end k refl (let l = next.1 in omega (arith, l)) p
 frame_keeps opened es place k f next p None is = by (is_hello f) refl
   where
-    by : (b : Bool) → is_hello f ≡ b → ClientKeeps opened (es ++ FrameReceived f ∷ []) f.end (cond b (with_hello opened k) (with_segment k f (frame_segment f)))
-    by true first = quiet_keeps opened es (FrameReceived f) place f.end k (with_hello opened k) refl (settled_later place f.end k.regions k.accesses_received (let l = next.1 in omega (arith, l)) p.settled) (λ h. h) (λ h. h) refl p
+    by : (b : Bool) → is_hello f ≡ b → ClientKeeps opened (es ++ FrameReceived f ∷ []) f.end (cond b (with_hello opened k f) (with_segment k f (frame_segment f)))
+    by true first = quiet_keeps opened es (FrameReceived f) place f.end k (with_hello opened k f) refl (settled_later place f.end k.regions k.accesses_received (let l = next.1 in omega (arith, l)) p.settled) (λ h. h) (λ h. h) p
     by false behind = segment_keeps opened es place k f next behind is (frame_segment f) refl p
 
 pub keeps_step : (opened : LinkParameters) (es : List RunEvent) (place : ℕ) (k : ClientState) (ended : Option Stop) (e : RunEvent) → IsNext place e → ClientGood opened (record { state = k; ended = ended }) e
-    → AreNumbered opened.first_stag k.regions → k.stag ≡ opened.first_stag + length k.regions → ClientKeeps opened es place k
+    → AreNumbered opened.first_stag k.regions → k.stag ≡ opened.first_stag + length k.regions → k ≡ (client_after opened es).state → ClientKeeps opened es place k
     → ClientKeeps opened (es ++ e ∷ []) (place_after place e) (next_end_state_in (client_rules opened) k e ended).state
 unfolding client_end client_state_after
-keeps_step opened es place k None (FrameReceived f) next good numbers after p = frame_keeps opened es place k f next p (client_end k (FrameReceived f)) refl
-keeps_step opened es place k None (CallSubmitted q a) next good numbers after p = call_keeps opened es place q k a numbers after good.limits p
-keeps_step opened es place k None (MemoryRevoked q xid) next good numbers after p =
+keeps_step opened es place k None (FrameReceived f) next good numbers after at p = frame_keeps opened es place k f next p (client_end k (FrameReceived f)) refl
+keeps_step opened es place k None (CallSubmitted q a) next good numbers after at p = call_keeps opened es place q k a numbers after at p
+keeps_step opened es place k None (MemoryRevoked q xid) next good numbers after at p =
     quiet_keeps opened es (MemoryRevoked q xid) place place k (client_state_after opened k (MemoryRevoked q xid)) refl
-    (revoked_settled place q k.regions k.accesses_received (λ r. eqb r.call xid) next p.settled) (λ h. asked_revoked opened es xid k.outstanding h) (λ h. backed_closed (λ r. eqb r.call xid) q k.regions (asked opened es) h) refl p
-keeps_step opened es place k None (CallExecuted x) next good numbers after p = keeps_same_lem opened es (CallExecuted x) place place k refl (omega arith) p
-keeps_step opened es place k None (QueueWritten taken) next good numbers after p =
-    quiet_keeps opened es (QueueWritten taken) place place k (client_state_after opened k (QueueWritten taken)) refl p.settled (λ h. h) (λ h. h) refl p
-keeps_step opened es place k (Some end) (FrameReceived f) next good numbers after p = keeps_same_lem opened es (FrameReceived f) place f.end k refl (let l = next.1 in omega (arith, l)) p
-keeps_step opened es place k (Some end) (CallSubmitted q a) next good numbers after p = absurd (let s = good.stays in cc)
-keeps_step opened es place k (Some end) (MemoryRevoked q xid) next good numbers after p = keeps_same_lem opened es (MemoryRevoked q xid) place place k refl (omega arith) p
-keeps_step opened es place k (Some end) (CallExecuted x) next good numbers after p = keeps_same_lem opened es (CallExecuted x) place place k refl (omega arith) p
-keeps_step opened es place k (Some end) (QueueWritten taken) next good numbers after p = keeps_same_lem opened es (QueueWritten taken) place place k refl (omega arith) p
+    (revoked_settled place q k.regions k.accesses_received (λ r. eqb r.call xid) next p.settled) (λ h. asked_revoked opened es xid k.outstanding h) (λ h. backed_closed (λ r. eqb r.call xid) q k.regions (asked opened es) h) p
+keeps_step opened es place k None (CallExecuted x) next good numbers after at p = keeps_same_lem opened es (CallExecuted x) place place k refl (omega arith) p
+keeps_step opened es place k None (QueueWritten taken) next good numbers after at p =
+    quiet_keeps opened es (QueueWritten taken) place place k (client_state_after opened k (QueueWritten taken)) refl p.settled (λ h. h) (λ h. h) p
+keeps_step opened es place k (Some end) (FrameReceived f) next good numbers after at p = keeps_same_lem opened es (FrameReceived f) place f.end k refl (let l = next.1 in omega (arith, l)) p
+keeps_step opened es place k (Some end) (CallSubmitted q a) next good numbers after at p = absurd (let s = good.stays in cc)
+keeps_step opened es place k (Some end) (MemoryRevoked q xid) next good numbers after at p = keeps_same_lem opened es (MemoryRevoked q xid) place place k refl (omega arith) p
+keeps_step opened es place k (Some end) (CallExecuted x) next good numbers after at p = keeps_same_lem opened es (CallExecuted x) place place k refl (omega arith) p
+keeps_step opened es place k (Some end) (QueueWritten taken) next good numbers after at p = keeps_same_lem opened es (QueueWritten taken) place place k refl (omega arith) p
 
 pub client_gathers : (opened : LinkParameters) → Gathering (client_rules opened) (λ (k : ClientState). k.accesses_received)
 unfolding client_state_after
 client_gathers opened k (FrameReceived f) = by (is_hello f) (frame_segment f)
   where
-    by : (b : Bool) (r : Result Segment ℕ) → (cond b (with_hello opened k) (with_segment k f r)).accesses_received ≡ cond b k.accesses_received (k.accesses_received ++ tagged_accesses f r)
+    by : (b : Bool) (r : Result Segment ℕ) → (cond b (with_hello opened k f) (with_segment k f r)).accesses_received ≡ cond b k.accesses_received (k.accesses_received ++ tagged_accesses f r)
     by true r = refl
     by false (Ok s) = refl
     by false (Err reason) = sym (append-nil k.accesses_received)
@@ -332,8 +314,8 @@ client_gathers opened k (MemoryRevoked p xid) = refl
 client_gathers opened k (CallExecuted e) = refl
 client_gathers opened k (QueueWritten taken) = refl
 
-pub keeps_nothing : (opened : LinkParameters) → ClientKeeps opened [] 0 (start opened)
-keeps_nothing opened = record { settled = tt; owns = tt; backed = tt; stag = refl }
+pub keeps_nothing : (opened : LinkParameters) → ClientKeeps opened [] 0 (initial_client opened).state
+keeps_nothing opened = record { settled = tt; owns = tt; backed = tt }
 
 -- ---- After the events of a client
 
@@ -344,6 +326,6 @@ keeps_along opened es g =
     let numbers : ClientNumbers opened r.state = subst (λ (x : EndState ClientState). ClientNumbers opened x.state) (sym p.state) (client_numbers opened es) in
     record {
       state = ap (λ (x : EndState ClientState). next_end_state (client_rules opened) x e) p.state ∙ sym (end_state_after_append (client_rules opened) (initial_client opened) es (e ∷ []));
-      keeps = keeps_step opened es place r.state r.ended e next good numbers.regions numbers.next p.keeps;
+      keeps = keeps_step opened es place r.state r.ended e next good numbers.regions numbers.next (ap (λ (x : EndState ClientState). x.state) p.state) p.keeps;
     })
     [] 0 (initial_client opened) [] es g (record { state = refl; keeps = keeps_nothing opened })

@@ -262,10 +262,10 @@ frame_answers : (opened : LinkParameters) (es : List RunEvent) (k : ClientState)
 unfolding client_state_after client_says
 frame_answers opened es k outs f own stays h = by (is_hello f) refl
   where
-    by : (b : Bool) → is_hello f ≡ b → ClientAnswers opened (es ++ FrameReceived f ∷ []) (cond b (with_hello opened k) (with_segment k f (frame_segment f))) None
+    by : (b : Bool) → is_hello f ≡ b → ClientAnswers opened (es ++ FrameReceived f ∷ []) (cond b (with_hello opened k f) (with_segment k f (frame_segment f))) None
         (outs ++ cond b (call_sends opened 1 k.outstanding) (response_outputs k f.end (segment_request (frame_segment f))))
     by true first =
-        quiet_answers opened es (FrameReceived f) k (with_hello opened k) None None outs (call_sends opened 1 k.outstanding) (tagged_sends opened 1 k.outstanding)
+        quiet_answers opened es (FrameReceived f) k (with_hello opened k f) None None outs (call_sends opened 1 k.outstanding) (tagged_sends opened 1 k.outstanding)
         (λ n. (refl, (λ i. cond (first i) [] (heard_by (frame_segment f)) ++ []))) (λ a d. d) h
     by false behind = heard_answers opened es k outs f own behind stays h (frame_segment f) refl
 

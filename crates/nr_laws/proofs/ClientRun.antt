@@ -4,7 +4,7 @@ use Rattle.nr_wire.specs.declared.hello.Side.TheVariants.{Initiator, Responder}
 use Rattle.nr_link.specs.declared.end.End.{End as Stop}
 use Rattle.nr_link.specs.Frames.{Frame, frames_completed}
 use Rattle.nr_reduce.specs.Hellos.{client_hello}
-use Rattle.nr_reduce.proofs.OwnLimits.{client_limits_of, limited_plan}
+use Rattle.nr_reduce.proofs.OwnLimits.{client_limits_of}
 use Rattle.nr_reduce.specs.declared.call.Call.{Call}
 use Rattle.nr_reduce.specs.declared.call.Form.{Form}
 use Rattle.nr_reduce.specs.declared.call.Submission.TheVariants as submissions
@@ -19,10 +19,9 @@ use Rattle.nr_reduce.specs.Events.{RunEvent, events, events_at, if_own}
 use Rattle.nr_reduce.specs.Events.RunEvent.{FrameReceived, CallSubmitted, MemoryRevoked, CallExecuted, QueueWritten}
 use Rattle.nr_reduce.specs.EndRules.{EndState, next_end_state, end_state_after, output_for, output_for_by, output_for_in, output_for_all}
 use Rattle.nr_reduce.specs.Plans.{TooLarge, call_message}
-use Rattle.nr_reduce.specs.ClientState.{ClientState, OutstandingCall, call_payload, plan_for}
+use Rattle.nr_reduce.specs.ClientState.{ClientState, OutstandingCall, call_payload}
 use Rattle.nr_reduce.specs.Client.{client_rules, client_end, initial_client, outstanding_of, plan_or}
 use Rattle.nr_reduce.specs.Run.{client, output_due}
-use Rattle.nr_reduce.specs.RunLaws.{outstanding_from}
 use Rattle.nr_reduce.specs.Asked.{AskedMark, AskedSoFar, IsAccepted}
 use Rattle.nr_reduce.proofs.Steps.{events_one, output_for_all_append, end_state_after_append}
 use Rattle.nr_reduce.proofs.Standing.{AtEachMark_more}
@@ -30,9 +29,8 @@ use Rattle.nr_laws.specs.Typed.{TypedMark, IsTyped}
 use Rattle.nr_laws.proofs.Completions.{completed_from, completes_none}
 use Rattle.nr_laws.proofs.EventOutputs.{IsNext, Goes, each_preserves, nothing_preserves, FirstGood, along, outputs_by, outputs_in, outputs_for, outputs_all, place_after, places_after, whole_bytes}
 use Rattle.nr_laws.proofs.Outputs.{Output, bytes_of_all, bytes_append, message_of_call, client_says, client_said, final_outputs, final_said}
-use Rattle.nr_laws.proofs.ClientSays.{ClientGood, accepted_in, accepted_append, asked, ClientSays, Says}
+use Rattle.nr_laws.proofs.ClientSays.{ClientGood, accepted_in, asked, asked_quiet, asked_submit, asked_count, ClientSays, Says}
 use Rattle.nr_laws.proofs.ClientAlong.{client_step}
-use Rattle.nr_reduce.proofs.Waiting.{start, stag_behind, from_append}
 use Rattle.nr_laws.proofs.Basics.{first_is_lem}
 
 pub each_both : (P Q : List Mark → Mark → Type 0) (before run : List Mark) → AtEachMark P before run → AtEachMark Q before run → AtEachMark (λ b m. P b m × Q b m) before run
@@ -110,7 +108,7 @@ tells_step : (opened : LinkParameters) (es : List RunEvent) (place : ℕ) (r : E
 tells_step opened es place r outs e next good t =
     let rules = client_rules opened in
     record {
-      says = client_step opened es place r.state r.ended outs e next good t.says;
+      says = client_step opened es place r.state r.ended outs e (ap (λ (x : EndState ClientState). x.state) t.state) next good t.says;
       state = ap (λ (x : EndState ClientState). next_end_state rules x e) t.state ∙ sym (end_state_after_append rules (initial_client opened) es (e ∷ []));
       bytes = output_for_all_append rules (initial_client opened) es (e ∷ [])
           ∙ (λ i. t.bytes i ++ (append-nil (output_for rules (sym t.state i) e) i))
@@ -120,7 +118,7 @@ tells_step opened es place r outs e next good t =
 
 tells_nothing : (opened : LinkParameters) → Tells opened [] 0 (initial_client opened) []
 tells_nothing opened = record {
-  says = record { short = tt; stag = refl; count = refl; greeted = λ e. inl (refl, refl); waits = λ e. refl; words = tt; completes = completes_none };
+  says = record { short = tt; count = refl; greeted = λ e. inl (refl, refl); waits = λ e. refl; words = tt; completes = completes_none };
   state = refl;
   bytes = refl;
 }
@@ -207,11 +205,9 @@ EachSubmitted opened link run = (pre : List OutstandingCall) (o : OutstandingCal
 
 quiet_mark : (opened : LinkParameters) (link : ℕ) (before : List Mark) (mark : Mark) → accepted_in (events_at link Initiator before mark) ≡ [] → EachSubmitted opened link before → EachSubmitted opened link (before ++ mark ∷ [])
 quiet_mark opened link before mark none each pre o post e =
-    let same : accepted_in (events link Initiator (before ++ mark ∷ [])) ≡ accepted_in (events link Initiator before) =
-    ap accepted_in (events_one link Initiator before mark) ∙ accepted_append (events link Initiator before) (events_at link Initiator before mark)
-    ∙ ap (λ (xs : List AcceptedCall). accepted_in (events link Initiator before) ++ xs) none ∙ append-nil (accepted_in (events link Initiator before)) in
-    submitted_later opened link before mark (length pre) o
-    (each pre o post (ap (λ (xs : List AcceptedCall). outstanding_from (start opened) opened.first_stag xs) (sym same) ∙ e))
+    let same : asked_calls opened link (before ++ mark ∷ []) ≡ asked_calls opened link before =
+    ap (λ (es : List RunEvent). asked opened es) (events_one link Initiator before mark) ∙ asked_quiet opened (events link Initiator before) (events_at link Initiator before mark) none in
+    submitted_later opened link before mark (length pre) o (each pre o post (sym same ∙ e))
 
 none_if : (b : Bool) (e : RunEvent) → accepted_in (e ∷ []) ≡ [] → accepted_in (if_own b (e ∷ [])) ≡ []
 none_if true e h = h
@@ -225,33 +221,27 @@ none_fed : (b : Bool) (fs : List Frame) → accepted_in (if_own b (map FrameRece
 none_fed true fs = none_frames fs
 none_fed false fs = refl
 
-count_from : (k : ClientState) (stag : ℕ) (xs : List AcceptedCall) → length (outstanding_from k stag xs) ≡ length xs
-count_from k stag [] = refl
-count_from k stag (x ∷ xs) = ap (λ (n : ℕ). suc n) (count_from k (stag + Rattle.nr_reduce.specs.Plans.regions_needed (outstanding_of (record k { stag = stag }) x).plan) xs)
-
 pub by_part : {X W : Type 0} {xs : List X} {y : X} {pre : List X} {m : X} {post : List X} → Parted xs y pre m post → ((more : List X) → xs ≡ pre ++ m ∷ more → W) → (xs ≡ pre → m ≡ y → W) → W
 by_part (Within more is) f g = f more is
 by_part (Last is same) f g = g is same
 
 submit_mark : (opened : LinkParameters) (link : ℕ) (before : List Mark) (call : Call) (form : Form) (xid : ℕ) → ClientTells opened link before → IsAccepted opened link before call form xid → EachSubmitted opened link before
     → EachSubmitted opened link (before ++ marks.Submit link call form (submissions.Accepted xid) ∷ [])
-unfolding plan_for
+unfolding client
 submit_mark opened link before call form xid tells h each pre o post e =
     let mark = marks.Submit link call form (submissions.Accepted xid) in
     let a : AcceptedCall = record { xid = xid; call = call; form = form } in
     let k : ClientState = (client opened link before).state in
-    let old : List AcceptedCall = accepted_in (events link Initiator before) in
-    let next : ℕ = stag_behind (start opened) opened.first_stag old in
-    let own : OutstandingCall = outstanding_of (record (start opened) { stag = next }) a in
-    let here : accepted_in (events_at link Initiator before mark) ≡ a ∷ [] =
-    ap (λ (b : Bool). accepted_in (if_own (b && true) (CallSubmitted (length (bytes_received link Initiator before)) a ∷ []))) (Rattle.std.proofs.Common.eq-eqb link link refl) in
-    let all : accepted_in (events link Initiator (before ++ mark ∷ [])) ≡ old ++ a ∷ [] =
-    ap accepted_in (events_one link Initiator before mark) ∙ accepted_append (events link Initiator before) (events_at link Initiator before mark) ∙ ap (λ (xs : List AcceptedCall). old ++ xs) here in
+    let es : List RunEvent = events link Initiator before in
+    let place : ℕ = length (bytes_received link Initiator before) in
+    let own : OutstandingCall = outstanding_of k a in
+    let here : events_at link Initiator before mark ≡ CallSubmitted place a ∷ [] =
+    ap (λ (b : Bool). if_own (b && true) (CallSubmitted place a ∷ [])) (Rattle.std.proofs.Common.eq-eqb link link refl) in
+    let all : events link Initiator (before ++ mark ∷ []) ≡ es ++ CallSubmitted place a ∷ [] =
+    events_one link Initiator before mark ∙ ap (λ (xs : List RunEvent). es ++ xs) here in
     let whole : asked_calls opened link before ++ own ∷ [] ≡ pre ++ o ∷ post =
-    sym (from_append (start opened) opened.first_stag old a)
-    ∙ ap (λ (xs : List AcceptedCall). outstanding_from (start opened) opened.first_stag xs) (sym all) ∙ e in
-    let stag : k.stag ≡ next = tells.says.stag in
-    let same : own.plan ≡ h.plan = ap (λ (r : Result Plan TooLarge). plan_or (call_payload xid call) r) (limited_plan k xid call form (Ok h.plan) (client_limits_of opened link before) h.planned) in
+    sym (asked_submit opened es place a k refl) ∙ ap (λ (xs : List RunEvent). asked opened xs) (sym all) ∙ e in
+    let same : own.plan ≡ h.plan = ap (λ (r : Result Plan TooLarge). plan_or (call_payload xid call) r) h.planned in
     by_part (parted (asked_calls opened link before) own pre o post whole)
     (λ more is. submitted_later opened link before mark (length pre) o (each pre o more is))
     (λ is last. record {
@@ -262,11 +252,11 @@ submit_mark opened link before call form xid tells h each pre o post e =
       xid = xid;
       is = refl;
       accepted = h;
-      counted = tells.says.count ∙ sym (count_from (start opened) opened.first_stag old) ∙ ap (λ (os : List OutstandingCall). length os) is;
+      counted = tells.says.count ∙ sym (asked_count opened es) ∙ ap (λ (os : List OutstandingCall). length os) is;
       own_xid = ap (λ (x : OutstandingCall). x.xid) last;
       own_call = ap (λ (x : OutstandingCall). x.call) last;
       own_plan = ap (λ (x : OutstandingCall). x.plan) last ∙ same;
-      own_stag = ap (λ (x : OutstandingCall). x.stag) last ∙ sym stag;
+      own_stag = ap (λ (x : OutstandingCall). x.stag) last;
     })
 
 each_mark : (opened : LinkParameters) (link : ℕ) (before : List Mark) (mark : Mark) → ClientTells opened link before → AskedMark IsPrefixOf opened link before mark → EachSubmitted opened link before → EachSubmitted opened link (before ++ mark ∷ [])

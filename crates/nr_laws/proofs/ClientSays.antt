@@ -1,6 +1,6 @@
 -- What the client of a link says along its events: the message of each call that it accepted, in order, once it has the server's
 -- hello.
-use Rattle.std.proofs.Common.{◌≡◌, ℕ, ◌+◌, ◌^◌, ◌≤◌, ◌<◌, Bool, true, false, cond, ◌||◌, not, eqb, ltb, List, [], ◌∷◌, ◌++◌, length, take, drop, map, Option, None, Some, Result, Ok, refl, sym, ap, subst, ◌∙◌, arith, ◌⊎◌, eqb-true}
+use Rattle.std.proofs.Common.{◌≡◌, ℕ, suc, ◌+◌, ◌^◌, ◌≤◌, ◌<◌, Bool, true, false, cond, ◌||◌, not, eqb, ltb, List, [], ◌∷◌, ◌++◌, length, take, drop, map, Option, None, Some, Result, Ok, refl, sym, ap, subst, ◌∙◌, arith, ◌⊎◌, eqb-true, append_assoc, append-nil}
 use Rattle.std.proofs.lemmas.List.{length-take}
 use Rattle.std.proofs.lemmas.Bool.{ltb-false, or_parts}
 use Rattle.nr_xdr.specs.Item.{IsBytes}
@@ -25,19 +25,18 @@ use Rattle.nr_reduce.specs.Limits.{numbers_end}
 use Rattle.nr_reduce.specs.History.{AcceptedCall}
 use Rattle.nr_reduce.specs.Events.{RunEvent}
 use Rattle.nr_reduce.specs.Events.RunEvent.{FrameReceived, CallSubmitted, MemoryRevoked, CallExecuted, QueueWritten}
-use Rattle.nr_reduce.specs.EndRules.{EndState}
+use Rattle.nr_reduce.specs.EndRules.{EndState, next_end_state, end_state_after}
 use Rattle.nr_reduce.specs.OfferedRegions.{region_grants}
 use Rattle.nr_reduce.specs.Plans.{regions_needed}
 use Rattle.nr_reduce.specs.ClientState.{ClientState, OutstandingCall, call_payload, plan_for, client_memory_at}
-use Rattle.nr_reduce.specs.Client.{client_end, client_readiness, or_message_end, revoked_call}
+use Rattle.nr_reduce.specs.Client.{client_rules, client_end, client_readiness, initial_client, or_message_end, outstanding_of, revoked_call}
 use Rattle.nr_reduce.specs.SubmitAnswer.{next_xid}
-use Rattle.nr_reduce.specs.RunLaws.{outstanding_from, as_submitted}
+use Rattle.nr_reduce.specs.RunLaws.{as_submitted}
 use Rattle.nr_laws.specs.Typed.{IsTypedForm}
 use Rattle.nr_laws.proofs.Outputs.{Output, IsShort, CallsShort, message_of_call, response_outputs}
 use Rattle.nr_laws.proofs.Brought.{AreFrom}
 use Rattle.nr_laws.proofs.Words.{responses_words, RangeEnds, word_below_lem, hyper_below_lem, payload_by}
 use Rattle.nr_laws.proofs.Completions.{Completes}
-use Rattle.nr_reduce.proofs.Waiting.{start, stag_behind}
 use Rattle.nr_reduce.proofs.Touches.{AreNone, all_none, no_flaw}
 
 -- ---- A call that is accepted
@@ -79,12 +78,62 @@ accepted_append (MemoryRevoked p xid ∷ es) more = accepted_append es more
 accepted_append (CallExecuted e ∷ es) more = accepted_append es more
 accepted_append (QueueWritten taken ∷ es) more = accepted_append es more
 
--- the calls that were accepted, as they go out
-abbrev pub asked : LinkParameters → List RunEvent → List OutstandingCall
-asked opened es = outstanding_from (start opened) opened.first_stag (accepted_in es)
+-- the calls that were accepted, as they go out: each by what was agreed on as it was accepted
+abbrev pub asked_by : EndState ClientState → RunEvent → List OutstandingCall
+asked_by r (FrameReceived f) = []
+asked_by r (CallSubmitted p a) = outstanding_of r.state a ∷ []
+asked_by r (MemoryRevoked p xid) = []
+asked_by r (CallExecuted e) = []
+asked_by r (QueueWritten taken) = []
 
-abbrev next_stag_of : LinkParameters → List RunEvent → ℕ
-next_stag_of opened es = stag_behind (start opened) opened.first_stag (accepted_in es)
+abbrev pub asked_from : LinkParameters → EndState ClientState → List RunEvent → List OutstandingCall
+asked_from opened r [] = []
+asked_from opened r (e ∷ es) = asked_by r e ++ asked_from opened (next_end_state (client_rules opened) r e) es
+
+abbrev pub asked : LinkParameters → List RunEvent → List OutstandingCall
+asked opened es = asked_from opened (initial_client opened) es
+
+-- the client after some events
+abbrev pub client_after : LinkParameters → List RunEvent → EndState ClientState
+client_after opened es = end_state_after (client_rules opened) (initial_client opened) es
+
+from_append : (opened : LinkParameters) (r : EndState ClientState) (es more : List RunEvent) → asked_from opened r (es ++ more) ≡ asked_from opened r es ++ asked_from opened (end_state_after (client_rules opened) r es) more
+from_append opened r [] more = refl
+from_append opened r (e ∷ es) more =
+    let next : EndState ClientState = next_end_state (client_rules opened) r e in
+    ap (λ (os : List OutstandingCall). asked_by r e ++ os) (from_append opened next es more)
+    ∙ sym (append_assoc (asked_by r e) (asked_from opened next es) (asked_from opened (end_state_after (client_rules opened) next es) more))
+
+pub asked_append : (opened : LinkParameters) (es more : List RunEvent) → asked opened (es ++ more) ≡ asked opened es ++ asked_from opened (client_after opened es) more
+asked_append opened es more = from_append opened (initial_client opened) es more
+
+pub asked_submit : (opened : LinkParameters) (es : List RunEvent) (p : ℕ) (a : AcceptedCall) (k : ClientState) → k ≡ (client_after opened es).state
+    → asked opened (es ++ CallSubmitted p a ∷ []) ≡ asked opened es ++ outstanding_of k a ∷ []
+asked_submit opened es p a k is = asked_append opened es (CallSubmitted p a ∷ []) ∙ ap (λ (x : ClientState). asked opened es ++ outstanding_of x a ∷ []) (sym is)
+
+asked_none : (opened : LinkParameters) (r : EndState ClientState) (es : List RunEvent) → accepted_in es ≡ [] → asked_from opened r es ≡ []
+asked_none opened r [] none = refl
+asked_none opened r (FrameReceived f ∷ es) none = asked_none opened (next_end_state (client_rules opened) r (FrameReceived f)) es none
+asked_none opened r (CallSubmitted p a ∷ es) none = absurd cc
+asked_none opened r (MemoryRevoked p xid ∷ es) none = asked_none opened (next_end_state (client_rules opened) r (MemoryRevoked p xid)) es none
+asked_none opened r (CallExecuted e ∷ es) none = asked_none opened (next_end_state (client_rules opened) r (CallExecuted e)) es none
+asked_none opened r (QueueWritten taken ∷ es) none = asked_none opened (next_end_state (client_rules opened) r (QueueWritten taken)) es none
+
+-- no call is accepted by these events
+pub asked_quiet : (opened : LinkParameters) (es more : List RunEvent) → accepted_in more ≡ [] → asked opened (es ++ more) ≡ asked opened es
+asked_quiet opened es more none =
+    asked_append opened es more ∙ ap (λ (os : List OutstandingCall). asked opened es ++ os) (asked_none opened (client_after opened es) more none) ∙ append-nil (asked opened es)
+
+from_count : (opened : LinkParameters) (r : EndState ClientState) (es : List RunEvent) → length (asked_from opened r es) ≡ length (accepted_in es)
+from_count opened r [] = refl
+from_count opened r (FrameReceived f ∷ es) = from_count opened (next_end_state (client_rules opened) r (FrameReceived f)) es
+from_count opened r (CallSubmitted p a ∷ es) = ap (λ (n : ℕ). suc n) (from_count opened (next_end_state (client_rules opened) r (CallSubmitted p a)) es)
+from_count opened r (MemoryRevoked p xid ∷ es) = from_count opened (next_end_state (client_rules opened) r (MemoryRevoked p xid)) es
+from_count opened r (CallExecuted e ∷ es) = from_count opened (next_end_state (client_rules opened) r (CallExecuted e)) es
+from_count opened r (QueueWritten taken ∷ es) = from_count opened (next_end_state (client_rules opened) r (QueueWritten taken)) es
+
+pub asked_count : (opened : LinkParameters) (es : List RunEvent) → length (asked opened es) ≡ length (accepted_in es)
+asked_count opened es = from_count opened (initial_client opened) es
 
 -- ---- What a client says
 
@@ -93,7 +142,6 @@ HasHello place hello = ((place ≡ 0) × (hello ≡ false)) ⊎ ((0 < place) × 
 
 pub record ClientSays (opened : LinkParameters) (es : List RunEvent) (place : ℕ) (k : ClientState) (ended : Option Stop) (outs : List Output) : Type 0 where
   pub short : CallsShort opened k.outstanding
-  pub stag : k.stag ≡ next_stag_of opened es
   pub count : k.calls_accepted ≡ length (accepted_in es)
   pub greeted : ended ≡ None → HasHello place k.has_hello
   pub waits : k.has_hello ≡ false → map as_submitted k.outstanding ≡ asked opened es

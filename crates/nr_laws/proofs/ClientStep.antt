@@ -23,7 +23,6 @@ use Rattle.nr_link.specs.Output.{msn_word}
 use Rattle.nr_link.specs.ReceiveState.{ReadRequest, read_request_in, begun_bytes}
 use Rattle.nr_link.specs.SegmentFaults.{SegmentReason, first_fault, missing_fault}
 use Rattle.nr_link.specs.Ending.{frame_segment, frame_end, frame_end_by, end_of_fault, denied_at, access_of, hello_end, missing_access}
-use Rattle.nr_reduce.proofs.OwnLimits.{ClientLimits, client_limits}
 use Rattle.nr_reduce.specs.declared.mark.LinkParameters.{LinkParameters}
 use Rattle.nr_reduce.specs.Opening.{IsOpened}
 use Rattle.nr_reduce.specs.declared.call.Outcome.TheVariants as outcomes
@@ -57,6 +56,7 @@ use Rattle.nr_laws.proofs.AgreeingEnds.{EndsAgree, IsPlace, frame_of}
 use Rattle.nr_laws.proofs.ClientFrame.{calls_said}
 use Rattle.nr_laws.proofs.AnsweredSteps.{answers_one}
 use Rattle.nr_laws.proofs.GuardsAtServer.{sent_most}
+use Rattle.nr_laws.proofs.AgreedSizes.{matched_down}
 use Rattle.nr_laws.proofs.Guards.{Guards}
 use Rattle.nr_laws.proofs.GuardsAtClient.{front_down, asked_of, guards_hello_down, guards_send_down, guards_read_down, guards_tagged_down, guards_part_down}
 use Rattle.nr_laws.proofs.Basics.{some_not}
@@ -176,7 +176,7 @@ step_piece opened k s u d all_up all_down w place (PartFrame offset payload) res
 step_piece opened k s u d all_up all_down w place (SendFrame message) rest f o l g first proper piece hello =
     let segment : Segment = last_segment k.received.sends message in
     let reads : frame_segment f ≡ Ok segment = segment_is k.received.sends k.received.requests f (SendFrame message) segment piece refl in
-    let reply : IsReply opened.granted message.bytes = front_down opened k s u d all_up all_down w place (SendFrame message) rest l g first in
+    let reply : IsReply (matched_down opened) opened.granted message.bytes = front_down opened k s u d all_up all_down w place (SendFrame message) rest l g first in
     let whole : List ℕ = begun_bytes k.received.begun ++ message.payload in
     let same : whole ≡ message.bytes = (at_front k.received.begun w.down w.queued_down (SendFrame message) rest first l.counts.whole_down).1 in
     let sent = calls_said opened k s u d all_up all_down w l in
@@ -185,7 +185,7 @@ step_piece opened k s u d all_up all_down w place (SendFrame message) rest f o l
     (sym (ap (λ (r : EndState ClientState). r.state.first_xid) g.reached.1) ∙ first_xid_is opened g.reached.0)
     (omega (arith, l.counts.calls_up, l.counts.sends, l.counts.all_sends, left_waiting k.written k.send_ends)) g.answered in
     let ends : client_end k (FrameReceived f) ≡ end_of_verdict f (reply_verdict k f.end whole) =
-    client_send opened k s w f message rest l.counts first piece reply.least reply.most (subst (λ (r : EndState ClientState). ClientLimits r.state) g.reached.1 (client_limits opened g.reached.0)) ∙ ap (λ (r : Result Segment ℕ). client_message_end k f (segment_message k r)) reads in
+    client_send opened k s w f message rest l.counts first piece reply.least (omega (arith, reply.size, g.sizes.client_down hello)) ∙ ap (λ (r : Result Segment ℕ). client_message_end k f (segment_message k r)) reads in
     record {
       only = λ end e. inl (reply_end f (reply_verdict k f.end whole) end (reason_verdict k f.end whole (subst IsRead (sym same) reply.read) answers.0 (ap (λ (xs : List ℕ). answered_call k (word_at 0 xs)) same ∙ answers.1)) (sym ends ∙ e));
       kept = λ stays. guards_send_down opened k s u d all_up all_down w place message rest f o l g first piece hello stays;
@@ -274,7 +274,7 @@ step_down opened k s u [] all_up all_down w up p rest n r place o l g first send
     let none = hello_none k f (first_hello_is opened Responder).private is says in
     subst (λ (q : FrameContent). ClientStep opened k s u [] all_up all_down w up q rest f) (sym hello) (record {
       only = λ end e. absurd (some_not end (sym e ∙ none));
-      kept = λ stays. guards_hello_down opened k s u [] all_up all_down w up rest f l g (first ∙ ap (λ (q : FrameContent). q ∷ rest) hello) is stays;
+      kept = λ stays. guards_hello_down opened k s u [] all_up all_down w up rest f l g (first ∙ ap (λ (q : FrameContent). q ∷ rest) hello) is (ap (λ (q : FrameContent). frame_bytes opened Responder (numbered_segment n r q)) hello) stays;
     })
 step_down opened k s u (q ∷ d) all_up all_down w up p rest n r place o l g first sends requests at =
     let stream : IsOutput (q ∷ d ++ p ∷ (rest ++ w.queued_down)) = subst IsOutput (sym l.parts_down ∙ ap (λ (ps : List FrameContent). q ∷ d ++ (ps ++ w.queued_down)) first) l.stream_down in

@@ -108,7 +108,7 @@ one_event opened es e h = by_ended (client_by opened es).ended refl
         by_segment (Ok s) own behind =
             subst (AllByRecursion P) (sym (request_regions (with_message k f.end (message_completed k.received s)) (due_with_response k f s) (read_request_of s))) (by_message s own behind (message_completed k.received s) refl)
 
-        by_hello : (b : Bool) → is_hello f ≡ b → AllByRecursion P (cond b (with_hello opened k) (with_segment k f (frame_segment f))).regions
+        by_hello : (b : Bool) → is_hello f ≡ b → AllByRecursion P (cond b (with_hello opened k f) (with_segment k f (frame_segment f))).regions
         by_hello true behind = same
         by_hello false behind = by_segment (frame_segment f) refl behind
     by_event stays (CallSubmitted place a) is = each_append P k.regions (map (region_of a.xid place) (buffers k.stag (outstanding_of k a).plan)) same (new_open opened (es ++ e ∷ []) a.xid place (buffers k.stag (outstanding_of k a).plan))

@@ -5,12 +5,12 @@ use Rattle.std.specs.Prelude.{sum, find, IfSome}
 use Rattle.std.proofs.lemmas.Bool.{ne_eqb}
 use Rattle.nr_xdr.specs.Item.{IsBytes}
 use Rattle.nr_header.specs.declared.header.ReadSegment.{ReadSegment}
+use Rattle.nr_link.specs.Agreement.{IsSendLimit}
 use Rattle.nr_reduce.specs.declared.call.Form.{Form}
 use Rattle.nr_reduce.specs.declared.call.Form.TheVariants as forms
 use Rattle.nr_reduce.specs.declared.call.Offer.{Offer}
 use Rattle.nr_reduce.specs.declared.item.Of.TheVariants.{Call}
 use Rattle.nr_reduce.specs.declared.outline.Plan.{Plan}
-use Rattle.nr_reduce.specs.Limits.{send_max}
 use Rattle.nr_reduce.specs.Plans.{plan_of, regions_needed, given_read, given_region, entries_from, read_list, lists_of, read_stag, inline_at, inline_stream}
 use Rattle.nr_reduce.specs.Chunks.{total_at, position_of, item_position, call_moved, call_stream, whole, call_conveyed}
 use Rattle.nr_reduce.specs.ServerMessages.{no_stream}
@@ -94,11 +94,11 @@ received_as stag p c chunk size is holds =
 
 -- ---- What the form conveys
 
-own_conveys : (payload : List ℕ) (form : Form) (down stag : ℕ) (p : Plan) (chunk : ℕ → List ℕ) → IsBytes payload → IsNotGiven form → IsTypedForm form → plan_of payload form send_max down ≡ Ok p → stag + regions_needed p ≤ 2 ^ 32 → ChunkHolds chunk p
+own_conveys : (payload : List ℕ) (form : Form) (up down stag : ℕ) (p : Plan) (chunk : ℕ → List ℕ) → IsBytes payload → IsNotGiven form → IsTypedForm form → IsSendLimit up → plan_of payload form up down ≡ Ok p → stag + regions_needed p ≤ 2 ^ 32 → ChunkHolds chunk p
     → call_conveyed (inline_stream p) (lists_of stag p).read chunk ≡ Some payload
-own_conveys payload form down stag p chunk bytes own typed e stags holds =
-    let m = asks payload form send_max down 0 0 stag p bytes own e (omega arith) (omega arith) stags in
-    let fine = planned_fits payload form down stag p e bytes typed stags in
+own_conveys payload form up down stag p chunk bytes own typed limit e stags holds =
+    let m = asks payload form up down 0 0 stag p bytes own e (omega arith) (omega arith) stags in
+    let fine = planned_fits payload form up down stag p limit e bytes typed stags in
     let r = plan_reads 0 0 stag p (record { xid = 0; credit = 0; body = m.body }) fine.0 fine.1 (omega arith) m.reads in
     ap (λ (o : Option (List ℕ)). call_conveyed o (lists_of stag p).read chunk) (sym r.inline) ∙ m.conveys chunk holds
 
@@ -135,16 +135,16 @@ given_conveys payload offer up down stag p chunk e holds =
     subst (λ (q : Plan). ChunkHolds chunk q → call_conveyed (inline_stream q) (lists_of stag q).read chunk ≡ given_conveyed payload offer.read_at offer.read) (is_formed payload (forms.Given offer) up down p e).is
     (given_list payload chunk offer.read_at offer.read offer.write offer.reply stag) holds
 
-pub plan_conveys : (payload : List ℕ) (form : Form) (down stag : ℕ) (p : Plan) (chunk : ℕ → List ℕ) → IsBytes payload → IsTypedForm form → plan_of payload form send_max down ≡ Ok p → stag + regions_needed p ≤ 2 ^ 32 → ChunkHolds chunk p
+pub plan_conveys : (payload : List ℕ) (form : Form) (up down stag : ℕ) (p : Plan) (chunk : ℕ → List ℕ) → IsBytes payload → IsTypedForm form → IsSendLimit up → plan_of payload form up down ≡ Ok p → stag + regions_needed p ≤ 2 ^ 32 → ChunkHolds chunk p
     → call_conveyed (inline_stream p) (lists_of stag p).read chunk ≡ form_conveyed form payload
-plan_conveys payload forms.Auto down stag p chunk bytes typed e stags holds = own_conveys payload forms.Auto down stag p chunk bytes tt tt e stags holds
-plan_conveys payload forms.Inline down stag p chunk bytes typed e stags holds = own_conveys payload forms.Inline down stag p chunk bytes tt tt e stags holds
-plan_conveys payload forms.Chunk down stag p chunk bytes typed e stags holds = own_conveys payload forms.Chunk down stag p chunk bytes tt tt e stags holds
-plan_conveys payload forms.Long down stag p chunk bytes typed e stags holds = own_conveys payload forms.Long down stag p chunk bytes tt tt e stags holds
-plan_conveys payload (forms.Given offer) down stag p chunk bytes typed e stags holds = given_conveys payload offer send_max down stag p chunk e holds
+plan_conveys payload forms.Auto up down stag p chunk bytes typed limit e stags holds = own_conveys payload forms.Auto up down stag p chunk bytes tt tt limit e stags holds
+plan_conveys payload forms.Inline up down stag p chunk bytes typed limit e stags holds = own_conveys payload forms.Inline up down stag p chunk bytes tt tt limit e stags holds
+plan_conveys payload forms.Chunk up down stag p chunk bytes typed limit e stags holds = own_conveys payload forms.Chunk up down stag p chunk bytes tt tt limit e stags holds
+plan_conveys payload forms.Long up down stag p chunk bytes typed limit e stags holds = own_conveys payload forms.Long up down stag p chunk bytes tt tt limit e stags holds
+plan_conveys payload (forms.Given offer) up down stag p chunk bytes typed limit e stags holds = given_conveys payload offer up down stag p chunk e holds
 
 -- What is conveyed to the server by a call with the lists and the stream of its plan, if its read chunk brings the plan's region.
-pub received_conveys : (payload : List ℕ) (form : Form) (down stag : ℕ) (p : Plan) (c : PendingCall) (chunk : ℕ → List ℕ) → IsBytes payload → IsTypedForm form → plan_of payload form send_max down ≡ Ok p → stag + regions_needed p ≤ 2 ^ 32
+pub received_conveys : (payload : List ℕ) (form : Form) (up down stag : ℕ) (p : Plan) (c : PendingCall) (chunk : ℕ → List ℕ) → IsBytes payload → IsTypedForm form → IsSendLimit up → plan_of payload form up down ≡ Ok p → stag + regions_needed p ≤ 2 ^ 32
     → IsOfPlan stag p c → ChunkHolds chunk p → call_conveyed c.inline c.lists.read chunk ≡ form_conveyed form payload
-received_conveys payload form down stag p c chunk bytes typed e stags is holds =
-    received_as stag p c chunk (planned_chunk payload form send_max down p e) is holds ∙ plan_conveys payload form down stag p chunk bytes typed e stags holds
+received_conveys payload form up down stag p c chunk bytes typed limit e stags is holds =
+    received_as stag p c chunk (planned_chunk payload form up down p e) is holds ∙ plan_conveys payload form up down stag p chunk bytes typed limit e stags holds

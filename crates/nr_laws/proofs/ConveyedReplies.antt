@@ -1,8 +1,9 @@
 -- A reply that is handed over, and the reply of the Execute, are what the same message and the same memory convey.
-use Rattle.std.proofs.Common.{◌≡◌, ℕ, ◌<◌, true, false, cond, List, [], ◌∷◌, ◌++◌, map, Option, None, Some, sym, ap, subst, ◌∙◌, arith}
+use Rattle.std.proofs.Common.{◌≡◌, ℕ, ◌≤◌, ◌<◌, true, false, cond, List, [], ◌∷◌, ◌++◌, map, Option, None, Some, sym, ap, subst, ◌∙◌, arith}
 use Rattle.nr_xdr.specs.Item.{IsBytes}
 use Rattle.nr_header.specs.declared.header.ChunkLists.{ChunkLists}
 use Rattle.nr_rpc.specs.Reading.{call_of, target_of}
+use Rattle.nr_header.specs.Constants.{PAYLOAD_MAX}
 use Rattle.nr_reduce.proofs.OwnLimits.{server_limits}
 use Rattle.nr_reduce.specs.declared.call.Outcome.TheVariants as outcomes
 use Rattle.nr_reduce.specs.declared.call.Call.{Call}
@@ -20,7 +21,7 @@ use Rattle.nr_reduce.specs.ClientState.{ClientState, client_memory_at}
 use Rattle.nr_reduce.specs.Client.{client_rules, initial_client}
 use Rattle.nr_reduce.specs.Run.{client}
 use Rattle.nr_reduce.specs.ServerState.{ServerState, credit_word}
-use Rattle.nr_reduce.specs.Server.{offer_of, answer_of_target}
+use Rattle.nr_reduce.specs.Server.{offer_of}
 use Rattle.nr_reduce.specs.RunLaws.{server_by}
 use Rattle.nr_reduce.proofs.Answering.{conveyed}
 use Rattle.nr_reduce.proofs.OwnStags.{ClientNumbers, client_numbers}
@@ -51,7 +52,6 @@ use Rattle.nr_laws.proofs.WrittenBytes.{WrittenAs, written_as_lem}
 use Rattle.nr_laws.proofs.WrittenAnswers.{answer_same}
 use Rattle.nr_laws.proofs.ReadAnswers.{client_reads}
 use Rattle.nr_laws.proofs.HandedOver.{outcome_frame}
-use Rattle.nr_link.specs.Limits.{send_max}
 
 -- both replies are conveyed by the same stream, lists and memory
 pub record BothConveyed (call : Call) (plan : Plan) (offer : ChunkLists) (down : ℕ) (executed reply : List ℕ) (a : Answer) : Type 0 where
@@ -63,7 +63,7 @@ pub record BothConveyed (call : Call) (plan : Plan) (offer : ChunkLists) (down :
 
 pub both_conveyed : (opened : LinkParameters) (link : ℕ) (run before : List Mark) (xid : ℕ) (plan : Plan) (reply : List ℕ) → IsTyped run → MatchedSoFar opened link run → (has : HasPlan opened link run xid plan)
     → (at : MarkAt run before (marks.Done link xid (outcomes.Reply reply))) → (r : RepliedBy opened link before xid reply)
-    → BothConveyed has.call plan (offer_of (server_by opened r.answer.earlier) r.answer.call.xid) send_max r.answer.call.reply reply r.answer.answer
+    → BothConveyed has.call plan (offer_of (server_by opened r.answer.earlier) r.answer.call.xid) (server_by opened r.answer.earlier).down_max r.answer.call.reply reply r.answer.answer
 unfolding lists_of
 both_conveyed opened link run before xid plan reply typed far has at r = by offered
   where
@@ -102,6 +102,12 @@ both_conveyed opened link run before xid plan reply typed far has at r = by offe
 
     server : ServerState
     server = server_by opened r.answer.earlier
+
+    down : ℕ
+    down = server.down_max
+
+    down_small : down ≤ PAYLOAD_MAX
+    down_small = (let limit = (server_limits opened r.answer.earlier).down.1 in omega (arith, limit))
 
     e : ExecutedCall
     e = r.answer.call
@@ -143,12 +149,11 @@ both_conveyed opened link run before xid plan reply typed far has at r = by offe
         → reply_conveyed has.call.prog has.call.vers has.call.proc inline lists (client_memory_at k place) ≡ Some reply
     same_call inline lists h = ap (λ (c : Call). reply_conveyed c.prog c.vers c.proc inline lists (client_memory_at k place)) (sym call_is) ∙ h
 
-    t : (prog : ℕ) × (vers : ℕ) × (proc : ℕ) × (answer_for (offer_of server e.xid) send_max prog vers proc e.reply ≡ Some a)
-    t = for_target (offer_of server e.xid) send_max e.reply (target_of (call_of e.payload)) a
-        (ap (λ (n : ℕ). answer_of_target (offer_of server e.xid) n e.reply (target_of (call_of e.payload))) (sym (server_limits opened r.answer.earlier).down) ∙ r.answer.is_answer)
+    t : (prog : ℕ) × (vers : ℕ) × (proc : ℕ) × (answer_for (offer_of server e.xid) down prog vers proc e.reply ≡ Some a)
+    t = for_target (offer_of server e.xid) down e.reply (target_of (call_of e.payload)) a r.answer.is_answer
 
-    answers : (offer : ChunkLists) → offer_of server e.xid ≡ offer → (prog vers proc : ℕ) → answer_for (offer_of server e.xid) send_max prog vers proc e.reply ≡ Some a → answer_for offer send_max prog vers proc e.reply ≡ Some a
-    answers offer is prog vers proc h = ap (λ (o : ChunkLists). answer_for o send_max prog vers proc e.reply) (sym is) ∙ h
+    answers : (offer : ChunkLists) → offer_of server e.xid ≡ offer → (prog vers proc : ℕ) → answer_for (offer_of server e.xid) down prog vers proc e.reply ≡ Some a → answer_for offer down prog vers proc e.reply ≡ Some a
+    answers offer is prog vers proc h = ap (λ (o : ChunkLists). answer_for o down prog vers proc e.reply) (sym is) ∙ h
 
     message : (offer : ChunkLists) → offer_of server e.xid ≡ offer → d.given.message ≡ answer_message e.xid credit.number offer a
     message offer is = r.answer.message ∙ ap (λ (o : ChunkLists). answer_message e.xid (credit_word server) o a) is ∙ answer_same e.xid (credit_word server) credit.number offer a credit.same
@@ -156,7 +161,7 @@ both_conveyed opened link run before xid plan reply typed far has at r = by offe
     own_offer : (offer : ChunkLists) → offer_of server xid ≡ offer → offer_of server e.xid ≡ offer
     own_offer offer is = ap (λ (x : ℕ). offer_of server x) r.own ∙ is
 
-    by : KeptOffer server xid stag plan → BothConveyed has.call plan (offer_of server e.xid) send_max e.reply reply a
+    by : KeptOffer server xid stag plan → BothConveyed has.call plan (offer_of server e.xid) down e.reply reply a
     by (Kept kept offer) =
         let is = own_offer (lists_of stag plan) kept in
         record {
@@ -164,9 +169,9 @@ both_conveyed opened link run before xid plan reply typed far has at r = by offe
           lists = answer_lists (lists_of stag plan) a;
           memory = client_memory_at k place;
           handed = same_call (cond a.long None (Some a.stream)) (answer_lists (lists_of stag plan) a)
-              (client_reads (read_list stag plan plan.read_at) (write_stag stag plan) (reply_stag stag plan) plan.write plan.reply send_max t.0 t.1 t.2 e.xid credit.number e.reply a k place g.call d.given.message g.header xid reply bytes offer
-              (answers (lists_of stag plan) is t.0 t.1 t.2 t.3) (omega arith) word credit.fits (message (lists_of stag plan) is) g.is_header g.by_its_body);
-          own = λ prog vers proc h. memory_conveys k place opened.first_stag stag plan a front send_max prog vers proc e.reply bytes numbers.regions settled backed (parts (lists_of stag plan) is) (answers (lists_of stag plan) is prog vers proc h);
+              (client_reads (read_list stag plan plan.read_at) (write_stag stag plan) (reply_stag stag plan) plan.write plan.reply down t.0 t.1 t.2 e.xid credit.number e.reply a k place g.call d.given.message g.header xid reply bytes offer
+              (answers (lists_of stag plan) is t.0 t.1 t.2 t.3) down_small word credit.fits (message (lists_of stag plan) is) g.is_header g.by_its_body);
+          own = λ prog vers proc h. memory_conveys k place opened.first_stag stag plan a front down prog vers proc e.reply bytes numbers.regions settled backed (parts (lists_of stag plan) is) (answers (lists_of stag plan) is prog vers proc h);
         }
     by (NotKept kept) =
         let is = own_offer no_chunks kept in
@@ -175,8 +180,8 @@ both_conveyed opened link run before xid plan reply typed far has at r = by offe
           lists = answer_lists no_chunks a;
           memory = client_memory_at k place;
           handed = same_call (cond a.long None (Some a.stream)) (answer_lists no_chunks a)
-              (client_reads [] 0 0 None None send_max t.0 t.1 t.2 e.xid credit.number e.reply a k place g.call d.given.message g.header xid reply bytes no_offer_lem (answers no_chunks is t.0 t.1 t.2 t.3) (omega arith) word credit.fits (message no_chunks is) g.is_header g.by_its_body);
+              (client_reads [] 0 0 None None down t.0 t.1 t.2 e.xid credit.number e.reply a k place g.call d.given.message g.header xid reply bytes no_offer_lem (answers no_chunks is t.0 t.1 t.2 t.3) down_small word credit.fits (message no_chunks is) g.is_header g.by_its_body);
           own = λ prog vers proc h. conveyed_same (client_memory_at k place) (after (client_memory_at k place) no_chunks a) [] 0 0 None None a prog vers proc (λ no. absurd (let w : false ≡ true = no in cc)) (λ no. absurd (let w : false ≡ true = no in cc))
-              ∙ conveyed [] 0 0 None None send_max prog vers proc e.reply a (client_memory_at k place) bytes (record { write = λ no. absurd (let w : false ≡ true = no in cc); reply = λ no. absurd (let w : false ≡ true = no in cc); apart = λ no. absurd (let w : false ≡ true = no in cc) })
+              ∙ conveyed [] 0 0 None None down prog vers proc e.reply a (client_memory_at k place) bytes (record { write = λ no. absurd (let w : false ≡ true = no in cc); reply = λ no. absurd (let w : false ≡ true = no in cc); apart = λ no. absurd (let w : false ≡ true = no in cc) })
               (answers no_chunks is prog vers proc h);
         }

@@ -143,7 +143,7 @@ closed_event : (opened : LinkParameters) (x : ℕ) (k : ClientState) (ended : Op
 unfolding client_state_after
 closed_event opened x k ended (FrameReceived f) good h = by (is_hello f)
   where
-    by : (b : Bool) → HasClosedRegions opened x (cond b (with_hello opened k) (with_segment k f (frame_segment f)))
+    by : (b : Bool) → HasClosedRegions opened x (cond b (with_hello opened k f) (with_segment k f (frame_segment f)))
     by true = record { regions = h.regions; low = h.low }
     by false = (let same = segment_accepted k f (frame_segment f) in let low = h.low in record {
       regions = frame_regions (λ (rs : List Region). AreClosed x rs) k f (λ test. closed_again test f.end x k.regions) h.regions (frame_segment f);
@@ -170,7 +170,7 @@ closed_frame : (opened : LinkParameters) (k : ClientState) (f : Frame) (s : Segm
     → HasClosedRegions opened x (client_state_after opened k (FrameReceived f))
 unfolding client_state_after
 closed_frame opened k f s message x behind is whole own low =
-    subst (λ (b : Bool). HasClosedRegions opened x (cond b (with_hello opened k) (with_segment k f (frame_segment f)))) (sym behind)
+    subst (λ (b : Bool). HasClosedRegions opened x (cond b (with_hello opened k f) (with_segment k f (frame_segment f)))) (sym behind)
     (subst (λ (r : Result Segment ℕ). HasClosedRegions opened x (with_segment k f r)) (sym is)
     (let same = segment_accepted k f (Ok s) in record { regions = closed_message k f s message x whole own; low = omega (arith, same, low) }))
 

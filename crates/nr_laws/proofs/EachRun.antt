@@ -21,6 +21,7 @@ use Rattle.nr_reduce.specs.Asked.{AskedMark, IsAll}
 use Rattle.nr_reduce.specs.Served.{ServedMark}
 use Rattle.nr_reduce.proofs.Steps.{client_one, server_one}
 use Rattle.nr_laws.specs.Typed.{TypedMark}
+use Rattle.nr_laws.proofs.AgreedSizes.{up_limited, down_limited}
 use Rattle.nr_laws.proofs.FrameContents.FrameContent.{HelloFrame}
 use Rattle.nr_laws.proofs.TotalsAtClient.{totals_first}
 use Rattle.nr_reduce.specs.Opening.{IsOpened}
@@ -102,8 +103,9 @@ starts opened link = record {
       waits = record { numbers = tt; xids = tt; calls_below = tt; reads_below = tt; ready_apart = tt; ready_calls = tt; whole_calls = tt };
       sinks = tt;
       regions = record { stags = tt; calls = tt };
-      limits = record { up = refl; down = refl };
+      limits = record { up = (omega arith, omega arith); down = (omega arith, omega arith) };
     };
+    sizes = record { client_up = (up_limited opened).0; client_down = λ e. absurd cc; server_up = λ some. absurd (omega (arith, some)); server_down = (down_limited opened).0 };
     window = record { window = omega arith; grant = omega (arith, o.granted) };
     up_said = (tt, tt);
     down_said = tt;

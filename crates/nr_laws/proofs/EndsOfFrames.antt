@@ -7,9 +7,7 @@ use Rattle.nr_wire.specs.Segment.{Segment}
 use Rattle.nr_wire.specs.Segment.Segment.{Tagged}
 use Rattle.nr_regions.specs.declared.denied.Denied.{Denied}
 use Rattle.nr_link.specs.declared.end.End.{End}
-use Rattle.nr_reduce.proofs.OwnLimits.{ClientLimits, ServerLimits}
 use Rattle.nr_reduce.specs.declared.mark.LinkParameters.{LinkParameters}
-use Rattle.nr_reduce.specs.Limits.{send_max}
 use Rattle.nr_link.specs.Limits.{open_reads_max}
 use Rattle.nr_link.specs.Frames.{Frame, is_hello}
 use Rattle.nr_link.specs.SegmentFaults.{SegmentReason, first_fault, missing_fault, is_begun}
@@ -39,13 +37,12 @@ server_by_lem opened s f first_fault behind is = λ i. cond (behind i) (hello_en
 
 -- a Send: none of the link's reasons, and never a missing receive
 pub server_send : (opened : LinkParameters) (k : ClientState) (s : ServerState) (w : Transit) (f : Frame) (message : SentMessage) (rest : List FrameContent) → TotalsAgree k s w → WithinWindow opened k → w.up ≡ SendFrame message ∷ rest
-    → Carries s.received.sends s.received.requests f (SendFrame message) → 16 ≤ length message.bytes → length message.bytes ≤ send_max → ServerLimits s → server_end opened s (FrameReceived f) ≡ refusal_end f (frame_effect s f).refusal
-server_send opened k s w f message rest c g head p long short limits =
-    let up = limits.up in
+    → Carries s.received.sends s.received.requests f (SendFrame message) → 16 ≤ length message.bytes → length message.bytes ≤ s.up_max → server_end opened s (FrameReceived f) ≡ refusal_end f (frame_effect s f).refusal
+server_send opened k s w f message rest c g head p long short =
     let some : 0 < total_of sends_in (w.up ++ w.queued_up) = omega (arith, ap (λ (ps : List FrameContent). total_of sends_in (ps ++ w.queued_up)) head) in
     let front = at_front s.received.begun w.up w.queued_up (SendFrame message) rest head c.whole_up in
     server_by_lem opened s f None p.behind
-    (send_frame (server_readiness opened s) (region_grants f.end s.regions) s.received.sends s.received.requests f message p refl front.0 front.1 (receives opened k s w c g some) refl long (omega (arith, short, up)))
+    (send_frame (server_readiness opened s) (region_grants f.end s.regions) s.received.sends s.received.requests f message p refl front.0 front.1 (receives opened k s w c g some) refl long (omega (arith, short)))
 
 -- a segment of a Send that isn't its last: nothing
 pub server_part : (opened : LinkParameters) (k : ClientState) (s : ServerState) (w : Transit) (f : Frame) (offset : ℕ) (payload : List ℕ) (rest : List FrameContent) → TotalsAgree k s w → WithinWindow opened k → w.up ≡ PartFrame offset payload ∷ rest
@@ -93,12 +90,11 @@ or_true false = refl
 
 -- a message: its verdict alone
 pub client_send : (opened : LinkParameters) (k : ClientState) (s : ServerState) (w : Transit) (f : Frame) (message : SentMessage) (rest : List FrameContent) → TotalsAgree k s w → w.down ≡ SendFrame message ∷ rest
-    → Carries k.received.sends k.received.requests f (SendFrame message) → 16 ≤ length message.bytes → length message.bytes ≤ send_max → ClientLimits k → client_end k (FrameReceived f) ≡ client_message_end k f (segment_message k (frame_segment f))
-client_send opened k s w f message rest c head p long short limits =
-    let down = limits.down in
+    → Carries k.received.sends k.received.requests f (SendFrame message) → 16 ≤ length message.bytes → length message.bytes ≤ k.down_max → client_end k (FrameReceived f) ≡ client_message_end k f (segment_message k (frame_segment f))
+client_send opened k s w f message rest c head p long short =
     let front = at_front k.received.begun w.down w.queued_down (SendFrame message) rest head c.whole_down in
     client_by_lem k f None p.behind
-    (send_frame (client_readiness k) (region_grants f.end k.regions) k.received.sends k.received.requests f message p refl front.0 front.1 (or_true (is_begun k.received.begun)) refl long (omega (arith, short, down)))
+    (send_frame (client_readiness k) (region_grants f.end k.regions) k.received.sends k.received.requests f message p refl front.0 front.1 (or_true (is_begun k.received.begun)) refl long (omega (arith, short)))
 
 -- a segment of a Send that isn't its last: nothing
 pub client_part : (k : ClientState) (s : ServerState) (w : Transit) (f : Frame) (offset : ℕ) (payload : List ℕ) (rest : List FrameContent) → TotalsAgree k s w → w.down ≡ PartFrame offset payload ∷ rest

@@ -33,7 +33,7 @@ first_hello_is opened Initiator = client_hello_is opened
 first_hello_is opened Responder = hello_is Responder (first_private opened Responder) (omega (arith, responder_short opened.server (client_private opened)))
 
 -- the private data of the client's hello, and the server's hello by it
-client_says : (opened : LinkParameters) → drop HELLO_LEN (client_hello opened) ≡ client_private opened
+pub client_says : (opened : LinkParameters) → drop HELLO_LEN (client_hello opened) ≡ client_private opened
 unfolding client_hello
 client_says opened = hello_private Initiator (client_private opened)
 

@@ -117,7 +117,7 @@ frozen_event : (opened : LinkParameters) (stag p : ℕ) (bytes : List ℕ) (old 
 unfolding client_state_after
 frozen_event opened stag p bytes old k (FrameReceived f) by stays h = by_hello (is_hello f) refl
   where
-    by_hello : (b : Bool) → is_hello f ≡ b → Frozen stag p bytes old (cond b (with_hello opened k) (with_segment k f (frame_segment f)))
+    by_hello : (b : Bool) → is_hello f ≡ b → Frozen stag p bytes old (cond b (with_hello opened k f) (with_segment k f (frame_segment f)))
     by_hello true is = record { only = h.only; low = h.low; has = h.has; more = h.more; accesses = h.accesses; none = h.none }
     by_hello false is = frozen_segment stag p bytes old k f by is stays (frame_segment f) refl h
 frozen_event opened stag p bytes old k (CallSubmitted q a) by stays h =

@@ -11,7 +11,6 @@ use Rattle.nr_rpc.specs.Reading.{call_of, target_of}
 use Rattle.nr_link.specs.Output.{segment_count}
 use Rattle.nr_reduce.proofs.OwnLimits.{ServerLimits}
 use Rattle.nr_reduce.specs.declared.mark.LinkParameters.{LinkParameters}
-use Rattle.nr_reduce.specs.Limits.{send_max}
 use Rattle.nr_reduce.specs.Holds.{Answer, answer_message, first_chunk, no_segments, chunk_error}
 use Rattle.nr_reduce.specs.History.{ExecutedCall}
 use Rattle.nr_reduce.specs.Events.{RunEvent}
@@ -33,31 +32,32 @@ use Rattle.nr_laws.proofs.WritableOffers.{OfferFits}
 use Rattle.nr_laws.proofs.ServerOutputs.{CallsFit, for_target, found_fits}
 use Rattle.nr_laws.proofs.ServerOutput.{execution_frames}
 use Rattle.nr_laws.proofs.Basics.{each_append}
+use Rattle.nr_laws.proofs.AgreedSizes.{SizesAgree, matched_up, matched_down}
 use Rattle.nr_laws.proofs.Outputs.{message_of_call}
 use Rattle.nr_laws.proofs.SendFrames.{each_send}
 
--- a message of a client has the size of one, version 1, a kind that a client sends, and at most one read chunk
-abbrev pub ClientMessage : List ℕ → Type 0
-ClientMessage message = (16 ≤ length message) × (length message ≤ send_max) × (word_at 4 message ≡ 1) × (word_at 12 message ≤ 1) × OneChunk message
+-- a message of a client has the size of one, by what both sides agree on, version 1, a kind that a client sends, and at most one read chunk
+abbrev pub ClientMessage : LinkParameters → List ℕ → Type 0
+ClientMessage opened message = (16 ≤ length message) × (length message ≤ matched_up opened) × (word_at 4 message ≡ 1) × (word_at 12 message ≤ 1) × OneChunk message
 
-abbrev pub ClientContent : FrameContent → Type 0
-ClientContent HelloFrame = Unit {0}
-ClientContent (PartFrame offset payload) = Unit {0}
-ClientContent (SendFrame message) = ClientMessage message.bytes
-ClientContent (RequestFrame sink at size stag to) = Unit {0}
-ClientContent (TaggedFrame last opcode stag to payload) = Unit {0}
+abbrev pub ClientContent : LinkParameters → FrameContent → Type 0
+ClientContent opened HelloFrame = Unit {0}
+ClientContent opened (PartFrame offset payload) = Unit {0}
+ClientContent opened (SendFrame message) = ClientMessage opened message.bytes
+ClientContent opened (RequestFrame sink at size stag to) = Unit {0}
+ClientContent opened (TaggedFrame last opcode stag to payload) = Unit {0}
 
 -- a message of a server too, and it grants what the server grants; its tagged segments are of Writes
-abbrev pub ServerContent : ℕ → FrameContent → Type 0
-ServerContent credit HelloFrame = Unit {0}
-ServerContent credit (PartFrame offset payload) = Unit {0}
-ServerContent credit (SendFrame message) = IsReply credit message.bytes
-ServerContent credit (RequestFrame sink at size stag to) = Unit {0}
-ServerContent credit (TaggedFrame last opcode stag to payload) = opcode ≡ OPCODE_WRITE
+abbrev pub ServerContent : (most credit : ℕ) → FrameContent → Type 0
+ServerContent most credit HelloFrame = Unit {0}
+ServerContent most credit (PartFrame offset payload) = Unit {0}
+ServerContent most credit (SendFrame message) = IsReply most credit message.bytes
+ServerContent most credit (RequestFrame sink at size stag to) = Unit {0}
+ServerContent most credit (TaggedFrame last opcode stag to payload) = opcode ≡ OPCODE_WRITE
 
 -- the messages of calls are so, and begin with their xids
 abbrev pub IsAsked : LinkParameters → OutstandingCall → Type 0
-IsAsked opened o = ClientMessage (message_of_call opened o) × HasOwnXid opened o
+IsAsked opened o = ClientMessage opened (message_of_call opened o) × HasOwnXid opened o
 
 abbrev pub AreSized : LinkParameters → List OutstandingCall → Type 0
 AreSized opened os = AllByRecursion (IsAsked opened) os
@@ -65,8 +65,9 @@ AreSized opened os = AllByRecursion (IsAsked opened) os
 pub record Guards (opened : LinkParameters) (k : ClientState) (s : ServerState) (u d all_up all_down : List FrameContent) (w : Transit) (up : ℕ) : Type 0 where
   pub server : ServerAgrees opened k s w up
   pub window : WithinWindow opened k
-  pub up_said : AllByRecursion ClientContent all_up
-  pub down_said : AllByRecursion (ServerContent opened.granted) all_down
+  pub sizes : SizesAgree opened k s u
+  pub up_said : AllByRecursion (ClientContent opened) all_up
+  pub down_said : AllByRecursion (ServerContent (matched_down opened) opened.granted) all_down
   pub credit : s.credit ≡ opened.granted
   pub calls : AreSized opened k.outstanding
   pub within : AreWithin s.reads s.regions
@@ -79,48 +80,49 @@ pub record Guards (opened : LinkParameters) (k : ClientState) (s : ServerState) 
 
 -- ---- What is sent
 
-pub send_down : (credit : ℕ) (message : List ℕ) → IsReply credit message → AllByRecursion (ServerContent credit) (send_frames message)
-send_down credit message h = each_send (ServerContent credit) (λ offset payload. tt) message h
+pub send_down : (most credit : ℕ) (message : List ℕ) → IsReply most credit message → AllByRecursion (ServerContent most credit) (send_frames message)
+send_down most credit message h = each_send (ServerContent most credit) (λ offset payload. tt) message h
 
-sends_down_lem : (credit : ℕ) (messages : List (List ℕ)) → AreReplies credit messages → AllByRecursion (ServerContent credit) (errors_frames messages)
-sends_down_lem credit [] h = tt
-sends_down_lem credit (m ∷ messages) h = each_append (ServerContent credit) (send_frames m) (errors_frames messages) (send_down credit m h.0) (sends_down_lem credit messages h.1)
+sends_down_lem : (most credit : ℕ) (messages : List (List ℕ)) → AreReplies most credit messages → AllByRecursion (ServerContent most credit) (errors_frames messages)
+sends_down_lem most credit [] h = tt
+sends_down_lem most credit (m ∷ messages) h = each_append (ServerContent most credit) (send_frames m) (errors_frames messages) (send_down most credit m h.0) (sends_down_lem most credit messages h.1)
 
-reads_down : (credit : ℕ) (reads : List PendingRead) → AllByRecursion (ServerContent credit) (map request_frame reads)
-reads_down credit [] = tt
-reads_down credit (r ∷ reads) = (tt, reads_down credit reads)
+reads_down : (most credit : ℕ) (reads : List PendingRead) → AllByRecursion (ServerContent most credit) (map request_frame reads)
+reads_down most credit [] = tt
+reads_down most credit (r ∷ reads) = (tt, reads_down most credit reads)
 
-pub step_down : (credit : ℕ) (s : FrameEffect) → AreReplies credit s.errors → AllByRecursion (ServerContent credit) (effect_frames s)
-step_down credit s h = each_append (ServerContent credit) (errors_frames s.errors) (map request_frame (newly_open_reads s)) (sends_down_lem credit s.errors h) (reads_down credit (newly_open_reads s))
+pub step_down : (most credit : ℕ) (s : FrameEffect) → AreReplies most credit s.errors → AllByRecursion (ServerContent most credit) (effect_frames s)
+step_down most credit s h = each_append (ServerContent most credit) (errors_frames s.errors) (map request_frame (newly_open_reads s)) (sends_down_lem most credit s.errors h) (reads_down most credit (newly_open_reads s))
 
-cuts_down : (credit stag : ℕ) (last : ℕ → Bool) (at : ℕ → ℕ) (payload : ℕ → List ℕ) (is : List ℕ) → AllByRecursion (ServerContent credit) (map (λ i. TaggedFrame (last i) OPCODE_WRITE stag (at i) (payload i)) is)
-cuts_down credit stag last at payload [] = tt
-cuts_down credit stag last at payload (i ∷ is) = (refl, cuts_down credit stag last at payload is)
+cuts_down : (most credit stag : ℕ) (last : ℕ → Bool) (at : ℕ → ℕ) (payload : ℕ → List ℕ) (is : List ℕ) → AllByRecursion (ServerContent most credit) (map (λ i. TaggedFrame (last i) OPCODE_WRITE stag (at i) (payload i)) is)
+cuts_down most credit stag last at payload [] = tt
+cuts_down most credit stag last at payload (i ∷ is) = (refl, cuts_down most credit stag last at payload is)
 
-fills_down : (credit : ℕ) (chunk : List RdmaSegment) (bytes : List ℕ) → AllByRecursion (ServerContent credit) (write_frames chunk bytes)
+fills_down : (most credit : ℕ) (chunk : List RdmaSegment) (bytes : List ℕ) → AllByRecursion (ServerContent most credit) (write_frames chunk bytes)
 unfolding tagged_frames
-fills_down credit [] bytes = tt
-fills_down credit (p ∷ chunk) bytes =
-    each_append (ServerContent credit) (cond (eqb (min p.length (length bytes)) 0) [] (tagged_frames OPCODE_WRITE p.handle p.offset (take p.length bytes))) (write_frames chunk (drop p.length bytes))
-    (by (eqb (min p.length (length bytes)) 0)) (fills_down credit chunk (drop p.length bytes))
+fills_down most credit [] bytes = tt
+fills_down most credit (p ∷ chunk) bytes =
+    each_append (ServerContent most credit) (cond (eqb (min p.length (length bytes)) 0) [] (tagged_frames OPCODE_WRITE p.handle p.offset (take p.length bytes))) (write_frames chunk (drop p.length bytes))
+    (by (eqb (min p.length (length bytes)) 0)) (fills_down most credit chunk (drop p.length bytes))
   where
-    by : (b : Bool) → AllByRecursion (ServerContent credit) (cond b [] (tagged_frames OPCODE_WRITE p.handle p.offset (take p.length bytes)))
+    by : (b : Bool) → AllByRecursion (ServerContent most credit) (cond b [] (tagged_frames OPCODE_WRITE p.handle p.offset (take p.length bytes)))
     by true = tt
-    by false = cuts_down credit p.handle _ _ _ (range_with_len 0 (segment_count (take p.length bytes)))
+    by false = cuts_down most credit p.handle _ _ _ (range_with_len 0 (segment_count (take p.length bytes)))
 
-answer_down : (k : ServerState) → ServerLimits k → (xid : ℕ) (offer : ChunkLists) (reply : List ℕ) (t : Option CallTarget) (o : Option Answer) → xid < 2 ^ 32 → k.credit < 2 ^ 32 → answer_of_target offer k.down_max reply t ≡ o → OfferFits offer → AllByRecursion (ServerContent k.credit) (answer_frames k xid offer o)
-answer_down k l xid offer reply t None word lt e fits = send_down k.credit (chunk_error xid (credit_word k)) (chunk_error_reply xid k.credit word lt)
-answer_down k l xid offer reply t (Some a) word lt e fits =
-    let down = l.down in
+answer_down : (most : ℕ) (k : ServerState) → ServerLimits k → k.down_max ≤ most → (xid : ℕ) (offer : ChunkLists) (reply : List ℕ) (t : Option CallTarget) (o : Option Answer) → xid < 2 ^ 32 → k.credit < 2 ^ 32 → answer_of_target offer k.down_max reply t ≡ o → OfferFits offer → AllByRecursion (ServerContent most k.credit) (answer_frames k xid offer o)
+answer_down most k l room xid offer reply t None word lt e fits =
+    let down = l.down.0 in
+    send_down most k.credit (chunk_error xid (credit_word k)) (chunk_error_reply most xid k.credit (omega (arith, down, room)) word lt)
+answer_down most k l room xid offer reply t (Some a) word lt e fits =
     let target = for_target offer k.down_max reply t a e in
-    let one = answer_reply offer k.down_max target.0 target.1 target.2 xid k.credit reply a (omega (arith, down)) word lt fits target.3 in
-    each_append (ServerContent k.credit) (write_frames (first_chunk offer.write) a.moved) (cond a.long (write_frames (no_segments offer.reply) a.stream) [] ++ send_frames (answer_message xid k.credit offer a))
-    (fills_down k.credit (first_chunk offer.write) a.moved)
-    (each_append (ServerContent k.credit) (cond a.long (write_frames (no_segments offer.reply) a.stream) []) (send_frames (answer_message xid k.credit offer a)) (by a.long) (send_down k.credit (answer_message xid k.credit offer a) one))
+    let one = answer_reply offer most k.down_max target.0 target.1 target.2 xid k.credit reply a l.down room word lt fits target.3 in
+    each_append (ServerContent most k.credit) (write_frames (first_chunk offer.write) a.moved) (cond a.long (write_frames (no_segments offer.reply) a.stream) [] ++ send_frames (answer_message xid k.credit offer a))
+    (fills_down most k.credit (first_chunk offer.write) a.moved)
+    (each_append (ServerContent most k.credit) (cond a.long (write_frames (no_segments offer.reply) a.stream) []) (send_frames (answer_message xid k.credit offer a)) (by a.long) (send_down most k.credit (answer_message xid k.credit offer a) one))
   where
-    by : (b : Bool) → AllByRecursion (ServerContent k.credit) (cond b (write_frames (no_segments offer.reply) a.stream) [])
-    by true = fills_down k.credit (no_segments offer.reply) a.stream
+    by : (b : Bool) → AllByRecursion (ServerContent most k.credit) (cond b (write_frames (no_segments offer.reply) a.stream) [])
+    by true = fills_down most k.credit (no_segments offer.reply) a.stream
     by false = tt
 
-pub execution_down : (k : ServerState) (e : ExecutedCall) → ServerLimits k → e.xid < 2 ^ 32 → k.credit < 2 ^ 32 → CallsFit k.calls → AllByRecursion (ServerContent k.credit) (execution_frames k e)
-execution_down k e l word lt h = answer_down k l e.xid (offer_of k e.xid) e.reply (target_of (call_of e.payload)) _ word lt refl (found_fits e.xid k.calls h)
+pub execution_down : (most : ℕ) (k : ServerState) (e : ExecutedCall) → ServerLimits k → k.down_max ≤ most → e.xid < 2 ^ 32 → k.credit < 2 ^ 32 → CallsFit k.calls → AllByRecursion (ServerContent most k.credit) (execution_frames k e)
+execution_down most k e l room word lt h = answer_down most k l room e.xid (offer_of k e.xid) e.reply (target_of (call_of e.payload)) _ word lt refl (found_fits e.xid k.calls h)

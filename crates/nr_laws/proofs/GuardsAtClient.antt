@@ -43,6 +43,9 @@ use Rattle.nr_laws.proofs.ClientFrame.{says_hello, after_hello}
 use Rattle.nr_laws.proofs.CallNumbers.{XidsFrom, HasOwnXid, xids_append, xids_asked}
 use Rattle.nr_laws.proofs.ClientFrame.{calls_said}
 use Rattle.nr_laws.proofs.AnsweredSteps.{Answered, answered_message_lem, answered_same}
+use Rattle.nr_wire.specs.declared.hello.Side.TheVariants.{Responder}
+use Rattle.nr_laws.proofs.FirstHellos.{first_hello}
+use Rattle.nr_laws.proofs.AgreedSizes.{SizesAgree, matched_down, client_keeps_sizes, client_takes_sizes}
 use Rattle.nr_laws.proofs.Guards.{ClientContent, ServerContent, IsAsked, AreSized, Guards, ClientMessage}
 use Rattle.nr_laws.proofs.GuardsAtServer.{each_at}
 use Rattle.nr_laws.proofs.Basics.{each_append, each_right, each_take, each_kept, each_all}
@@ -51,9 +54,9 @@ use Rattle.nr_laws.proofs.SendFrames.{at_front, each_sends}
 use Rattle.nr_laws.proofs.Outputs.{message_of_call}
 use Rattle.nr_laws.proofs.ExpectedResponses.{sends_answers}
 
-pub front_down : (opened : LinkParameters) (k : ClientState) (s : ServerState) (u d all_up all_down : List FrameContent) (w : Transit) (place : ℕ) (p : FrameContent) (rest : List FrameContent) → EndsAgree opened k s u d all_up all_down w → Guards opened k s u d all_up all_down w place → w.down ≡ p ∷ rest → ServerContent opened.granted p
+pub front_down : (opened : LinkParameters) (k : ClientState) (s : ServerState) (u d all_up all_down : List FrameContent) (w : Transit) (place : ℕ) (p : FrameContent) (rest : List FrameContent) → EndsAgree opened k s u d all_up all_down w → Guards opened k s u d all_up all_down w place → w.down ≡ p ∷ rest → ServerContent (matched_down opened) opened.granted p
 front_down opened k s u d all_up all_down w place p rest l g first =
-    each_at (ServerContent opened.granted) d p (rest ++ w.queued_down) (subst (AllByRecursion (ServerContent opened.granted)) (sym l.parts_down ∙ ap (λ (ps : List FrameContent). d ++ (ps ++ w.queued_down)) first) g.down_said)
+    each_at (ServerContent (matched_down opened) opened.granted) d p (rest ++ w.queued_down) (subst (AllByRecursion (ServerContent (matched_down opened) opened.granted)) (sym l.parts_down ∙ ap (λ (ps : List FrameContent). d ++ (ps ++ w.queued_down)) first) g.down_said)
 
 -- ---- The read of a Read Request
 
@@ -111,12 +114,13 @@ asked_of s w place sink at size stag to rest c first sinks stags within =
 -- ---- What is kept
 
 guards_down : (opened : LinkParameters) (k t : ClientState) (s : ServerState) (u d all_up all_down : List FrameContent) (w : Transit) (place : ℕ) (p : FrameContent) (rest said : List FrameContent) (event : RunEvent) → Guards opened k s u d all_up all_down w place
-    → ServerAgrees opened t s (down_one w said rest) place → WithinWindow opened t → AllByRecursion ClientContent said → AreSized opened t.outstanding → XidsFrom (opened.first_xid + total_of sends_in all_up) said → t.has_hello ≡ true → Answered opened.first_xid t s u (d ++ p ∷ []) all_down (down_one w said rest) → client_end k event ≡ None → t ≡ client_state_after opened k event
+    → ServerAgrees opened t s (down_one w said rest) place → WithinWindow opened t → AllByRecursion (ClientContent opened) said → SizesAgree opened t s u → AreSized opened t.outstanding → XidsFrom (opened.first_xid + total_of sends_in all_up) said → t.has_hello ≡ true → Answered opened.first_xid t s u (d ++ p ∷ []) all_down (down_one w said rest) → client_end k event ≡ None → t ≡ client_state_after opened k event
     → Guards opened t s u (d ++ p ∷ []) (all_up ++ said) all_down (down_one w said rest) place
-guards_down opened k t s u d all_up all_down w place p rest said event g server window up calls xids hello answered stays is = record {
+guards_down opened k t s u d all_up all_down w place p rest said event g server window up sizes calls xids hello answered stays is = record {
   server = server;
   window = window;
-  up_said = each_append ClientContent all_up said g.up_said up;
+  sizes = sizes;
+  up_said = each_append (ClientContent opened) all_up said g.up_said up;
   down_said = g.down_said;
   credit = g.credit;
   calls = calls;
@@ -164,16 +168,16 @@ credits_same n some most =
     let same : credits_of_word n ≡ n = (λ i. cond (ne_eqb n 0 (λ e. omega (arith, e, some)) i) 1 (cond (le-ltb credits_max n most i) credits_max n)) in
     omega (arith, same)
 
-asks_up : (opened : LinkParameters) (os : List OutstandingCall) → AreSized opened os → AllByRecursion ClientContent (calls_frames opened os)
-asks_up opened os h = each_sends ClientContent (λ offset payload. tt) (message_of_call opened) os (each_all (IsAsked opened) (λ o. ClientMessage (message_of_call opened o)) os (λ o asked. asked.0) h)
+asks_up : (opened : LinkParameters) (os : List OutstandingCall) → AreSized opened os → AllByRecursion (ClientContent opened) (calls_frames opened os)
+asks_up opened os h = each_sends (ClientContent opened) (λ offset payload. tt) (message_of_call opened) os (each_all (IsAsked opened) (λ o. ClientMessage opened (message_of_call opened o)) os (λ o asked. asked.0) h)
 
 none_asks : (opened : LinkParameters) (os : List OutstandingCall) → AnswersNone (calls_frames opened os)
 none_asks opened os = sends_answers (message_of_call opened) os
 
-pub guards_hello_down : (opened : LinkParameters) (k : ClientState) (s : ServerState) (u d all_up all_down : List FrameContent) (w : Transit) (place : ℕ) (rest : List FrameContent) (f : Frame) → EndsAgree opened k s u d all_up all_down w → Guards opened k s u d all_up all_down w place → w.down ≡ HelloFrame ∷ rest → is_hello f ≡ true
+pub guards_hello_down : (opened : LinkParameters) (k : ClientState) (s : ServerState) (u d all_up all_down : List FrameContent) (w : Transit) (place : ℕ) (rest : List FrameContent) (f : Frame) → EndsAgree opened k s u d all_up all_down w → Guards opened k s u d all_up all_down w place → w.down ≡ HelloFrame ∷ rest → is_hello f ≡ true → f.bytes ≡ first_hello opened Responder
     → client_end k (FrameReceived f) ≡ None
     → Guards opened (client_state_after opened k (FrameReceived f)) s u (d ++ HelloFrame ∷ []) (all_up ++ client_frames opened k (FrameReceived f)) all_down (down_one w (client_frames opened k (FrameReceived f)) rest) place
-guards_hello_down opened k s u d all_up all_down w place rest f l g first is stays =
+guards_hello_down opened k s u d all_up all_down w place rest f l g first is own stays =
     let t = client_state_after opened k (FrameReceived f) in
     let said = calls_frames opened k.outstanding in
     let says = says_hello opened k f is in
@@ -193,7 +197,7 @@ guards_hello_down opened k s u d all_up all_down w place rest f l g first is sta
       limits = g.server.limits;
     } in
     subst (λ (ps : List FrameContent). Guards opened t s u (d ++ HelloFrame ∷ []) (all_up ++ ps) all_down (down_one w ps rest) place) (sym says)
-    (guards_down opened k t s u d all_up all_down w place HelloFrame rest said (FrameReceived f) g server (subst (WithinWindow opened) (sym after) (record { window = g.window.window; grant = g.window.grant })) (asks_up opened k.outstanding g.calls) (subst (λ (x : ClientState). AreSized opened x.outstanding) (sym after) g.calls) asked (ap (λ (x : ClientState). x.has_hello) after)
+    (guards_down opened k t s u d all_up all_down w place HelloFrame rest said (FrameReceived f) g server (subst (WithinWindow opened) (sym after) (record { window = g.window.window; grant = g.window.grant })) (asks_up opened k.outstanding g.calls) (subst (λ (x : ClientState). SizesAgree opened x s u) (sym after) (client_takes_sizes opened k s u f own g.sizes)) (subst (λ (x : ClientState). AreSized opened x.outstanding) (sym after) g.calls) asked (ap (λ (x : ClientState). x.has_hello) after)
     (answered_same opened.first_xid k t s u d all_down w (down_one w said rest) HelloFrame (ap (λ (x : ClientState). x.outstanding) after) (ap (λ (x : ClientState). x.calls_accepted) after) refl g.answered) stays refl)
 
 pub guards_send_down : (opened : LinkParameters) (k : ClientState) (s : ServerState) (u d all_up all_down : List FrameContent) (w : Transit) (place : ℕ) (message : SentMessage) (rest : List FrameContent) (f : Frame) → IsOpened opened → EndsAgree opened k s u d all_up all_down w → Guards opened k s u d all_up all_down w place → w.down ≡ SendFrame message ∷ rest
@@ -207,7 +211,7 @@ guards_send_down opened k s u d all_up all_down w place message rest f o l g fir
     let after : t ≡ with_segment k f (Ok segment) = after_is_lem opened k f (Ok segment) piece.behind reads in
     let whole : List ℕ = begun_bytes k.received.begun ++ message.payload in
     let same : whole ≡ message.bytes = (at_front k.received.begun w.down w.queued_down (SendFrame message) rest first l.counts.whole_down).1 in
-    let reply : IsReply opened.granted message.bytes = front_down opened k s u d all_up all_down w place (SendFrame message) rest l g first in
+    let reply : IsReply (matched_down opened) opened.granted message.bytes = front_down opened k s u d all_up all_down w place (SendFrame message) rest l g first in
     let fewer : length (filter (λ (x : OutstandingCall). not (eqb x.xid (word_at 0 whole))) k.outstanding) ≤ length k.outstanding = filter_less (λ (x : OutstandingCall). not (eqb x.xid (word_at 0 whole))) k.outstanding in
     let grant : credits_of_word (word_at 8 whole) ≡ credits_of_word opened.granted = ap credits_of_word (ap (λ (xs : List ℕ). word_at 8 xs) same ∙ reply.credits) in
     let window : WithinWindow opened (with_segment k f (Ok segment)) = record {
@@ -223,7 +227,7 @@ guards_send_down opened k s u d all_up all_down w place message rest f o l g fir
       limits = g.server.limits;
     } in
     subst (λ (ps : List FrameContent). Guards opened t s u (d ++ SendFrame message ∷ []) (all_up ++ ps) all_down (down_one w ps rest) place) (sym says)
-    (guards_down opened k t s u d all_up all_down w place (SendFrame message) rest [] (FrameReceived f) g server (subst (WithinWindow opened) (sym after) window) tt (sized_frame opened k t f (Ok segment) after g.calls) tt (behind_hello_lem opened k t s u d all_up all_down w f (Ok segment) after hello)
+    (guards_down opened k t s u d all_up all_down w place (SendFrame message) rest [] (FrameReceived f) g server (subst (WithinWindow opened) (sym after) window) tt (client_keeps_sizes opened k t s u f (Ok segment) after hello g.sizes) (sized_frame opened k t f (Ok segment) after g.calls) tt (behind_hello_lem opened k t s u d all_up all_down w f (Ok segment) after hello)
     (answered_message_lem opened.first_xid k t s u d all_down w (down_one w [] rest) message
     (ap (λ (x : ClientState). x.outstanding) after ∙ ap (λ (xs : List ℕ). filter (λ (o : OutstandingCall). not (eqb o.xid (word_at 0 xs))) k.outstanding) same) (ap (λ (x : ClientState). x.calls_accepted) after) g.answered) stays refl)
   where
@@ -236,15 +240,15 @@ guards_send_down opened k s u d all_up all_down w place message rest f o l g fir
         by false le = omega (arith, le)
 
 -- what the client answers to a Read Request has no message
-tagged_up : (opened : LinkParameters) (k : ClientState) (f : Frame) (r : Result Segment ℕ) → is_hello f ≡ false → frame_segment f ≡ r → AllByRecursion ClientContent (client_frames opened k (FrameReceived f))
+tagged_up : (opened : LinkParameters) (k : ClientState) (f : Frame) (r : Result Segment ℕ) → is_hello f ≡ false → frame_segment f ≡ r → AllByRecursion (ClientContent opened) (client_frames opened k (FrameReceived f))
 unfolding tagged_frames
-tagged_up opened k f r behind is = subst (AllByRecursion ClientContent) (sym (says_is opened k f r behind is)) (by (segment_request r))
+tagged_up opened k f r behind is = subst (AllByRecursion (ClientContent opened)) (sym (says_is opened k f r behind is)) (by (segment_request r))
   where
-    cuts : (opcode stag to : ℕ) (bytes : List ℕ) (is : List ℕ) → AllByRecursion ClientContent (map (tagged_frame opcode stag to bytes) is)
+    cuts : (opcode stag to : ℕ) (bytes : List ℕ) (is : List ℕ) → AllByRecursion (ClientContent opened) (map (tagged_frame opcode stag to bytes) is)
     cuts opcode stag to bytes [] = tt
     cuts opcode stag to bytes (i ∷ is) = (tt, cuts opcode stag to bytes is)
 
-    by : (q : Option ReadRequest) → AllByRecursion ClientContent (response_frames k f.end q)
+    by : (q : Option ReadRequest) → AllByRecursion (ClientContent opened) (response_frames k f.end q)
     by None = tt
     by (Some q) = cuts _ q.sink q.sink_to _ _
 
@@ -285,7 +289,7 @@ guards_read_down opened k s u d all_up all_down w place sink at size stag to res
       limits = g.server.limits;
     } in
     guards_down opened k t s u d all_up all_down w place (RequestFrame sink at size stag to) rest said (FrameReceived f) g server (subst (WithinWindow opened) (sym after) (record { window = g.window.window; grant = g.window.grant }))
-    (tagged_up opened k f (Ok segment) piece.behind reads) (sized_frame opened k t f (Ok segment) after g.calls) (tagged_xids (opened.first_xid + total_of sends_in all_up) opened k f (Ok segment) piece.behind reads) (behind_hello_lem opened k t s u d all_up all_down w f (Ok segment) after hello)
+    (tagged_up opened k f (Ok segment) piece.behind reads) (client_keeps_sizes opened k t s u f (Ok segment) after hello g.sizes) (sized_frame opened k t f (Ok segment) after g.calls) (tagged_xids (opened.first_xid + total_of sends_in all_up) opened k f (Ok segment) piece.behind reads) (behind_hello_lem opened k t s u d all_up all_down w f (Ok segment) after hello)
     (answered_same opened.first_xid k t s u d all_down w (down_one w said rest) (RequestFrame sink at size stag to) (ap (λ (x : ClientState). x.outstanding) after) (ap (λ (x : ClientState). x.calls_accepted) after) refl g.answered) stays refl
   where
     ap_regions : (opened : LinkParameters) (k : ClientState) (es : List RunEvent) → end_state_after (client_rules opened) (initial_client opened) es ≡ live k
@@ -311,7 +315,7 @@ guards_part_down opened k s u d all_up all_down w place offset payload rest f g 
       limits = g.server.limits;
     } in
     subst (λ (ps : List FrameContent). Guards opened t s u (d ++ PartFrame offset payload ∷ []) (all_up ++ ps) all_down (down_one w ps rest) place) (sym says)
-    (guards_down opened k t s u d all_up all_down w place (PartFrame offset payload) rest [] (FrameReceived f) g server (subst (WithinWindow opened) (sym after) (record { window = g.window.window; grant = g.window.grant })) tt (sized_frame opened k t f (Ok segment) after g.calls) tt (behind_hello_lem opened k t s u d all_up all_down w f (Ok segment) after hello)
+    (guards_down opened k t s u d all_up all_down w place (PartFrame offset payload) rest [] (FrameReceived f) g server (subst (WithinWindow opened) (sym after) (record { window = g.window.window; grant = g.window.grant })) tt (client_keeps_sizes opened k t s u f (Ok segment) after hello g.sizes) (sized_frame opened k t f (Ok segment) after g.calls) tt (behind_hello_lem opened k t s u d all_up all_down w f (Ok segment) after hello)
     (answered_same opened.first_xid k t s u d all_down w (down_one w [] rest) (PartFrame offset payload) (ap (λ (x : ClientState). x.outstanding) after) (ap (λ (x : ClientState). x.calls_accepted) after) refl g.answered) stays refl)
 
 pub guards_tagged_down : (opened : LinkParameters) (k : ClientState) (s : ServerState) (u d all_up all_down : List FrameContent) (w : Transit) (place : ℕ) (last : Bool) (opcode stag to : ℕ) (payload : List ℕ) (rest : List FrameContent) (f : Frame) → Guards opened k s u d all_up all_down w place
@@ -332,5 +336,5 @@ guards_tagged_down opened k s u d all_up all_down w place last opcode stag to pa
       limits = g.server.limits;
     } in
     subst (λ (ps : List FrameContent). Guards opened t s u (d ++ TaggedFrame last opcode stag to payload ∷ []) (all_up ++ ps) all_down (down_one w ps rest) place) (sym says)
-    (guards_down opened k t s u d all_up all_down w place (TaggedFrame last opcode stag to payload) rest [] (FrameReceived f) g server (subst (WithinWindow opened) (sym after) (record { window = g.window.window; grant = g.window.grant })) tt (sized_frame opened k t f (Ok segment) after g.calls) tt (behind_hello_lem opened k t s u d all_up all_down w f (Ok segment) after hello)
+    (guards_down opened k t s u d all_up all_down w place (TaggedFrame last opcode stag to payload) rest [] (FrameReceived f) g server (subst (WithinWindow opened) (sym after) (record { window = g.window.window; grant = g.window.grant })) tt (client_keeps_sizes opened k t s u f (Ok segment) after hello g.sizes) (sized_frame opened k t f (Ok segment) after g.calls) tt (behind_hello_lem opened k t s u d all_up all_down w f (Ok segment) after hello)
     (answered_same opened.first_xid k t s u d all_down w (down_one w [] rest) (TaggedFrame last opcode stag to payload) (ap (λ (x : ClientState). x.outstanding) after) (ap (λ (x : ClientState). x.calls_accepted) after) refl g.answered) stays refl)

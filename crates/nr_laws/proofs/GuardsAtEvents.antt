@@ -5,11 +5,10 @@ use Rattle.nr_rpc.specs.Reading.{call_of, target_of}
 use Rattle.std.specs.List.{AllByRecursion}
 use Rattle.std.proofs.lemmas.List.{length-map}
 use Rattle.nr_link.specs.declared.end.End.{End}
-use Rattle.nr_reduce.proofs.OwnLimits.{ClientLimits}
 use Rattle.nr_reduce.specs.declared.mark.LinkParameters.{LinkParameters}
 use Rattle.nr_reduce.specs.declared.outline.Plan.{Plan}
 use Rattle.nr_reduce.specs.Opening.{IsOpened}
-use Rattle.nr_reduce.specs.Limits.{send_max, numbers_end}
+use Rattle.nr_reduce.specs.Limits.{numbers_end}
 use Rattle.nr_reduce.specs.Plans.{plan_size, call_message}
 use Rattle.nr_reduce.specs.History.{AcceptedCall, ExecutedCall}
 use Rattle.nr_reduce.specs.Events.{RunEvent}
@@ -39,6 +38,7 @@ use Rattle.nr_laws.proofs.PendingExecuted.{executed_there}
 use Rattle.nr_laws.proofs.AnsweredCalls.{times, answer_xids, executed_less}
 use Rattle.nr_laws.proofs.AnsweredSteps.{Answered, answered_submit, answered_map, answered_server}
 use Rattle.nr_laws.proofs.GuardsAtServer.{pending_word}
+use Rattle.nr_laws.proofs.AgreedSizes.{matched_up, matched_down}
 use Rattle.nr_laws.proofs.Guards.{ClientContent, ServerContent, IsAsked, AreSized, Guards, execution_down, ClientMessage}
 use Rattle.nr_laws.proofs.Basics.{each_append, each_kept}
 use Rattle.nr_reduce.proofs.WholeWrotes.{ClientEnds, ServerEnds}
@@ -58,13 +58,12 @@ reached_more opened k event stays r = (
 
 -- ---- A call is submitted
 
-sized_call : (opened : LinkParameters) (k : ClientState) (a : AcceptedCall) (plan : Plan) → plan_for k a.xid a.call a.form ≡ Ok plan → a.xid < numbers_end → ClientLimits k → IsAsked opened (outstanding_of k a)
+sized_call : (opened : LinkParameters) (k : ClientState) (a : AcceptedCall) (plan : Plan) → plan_for k a.xid a.call a.form ≡ Ok plan → a.xid < numbers_end → k.up_max ≤ matched_up opened → IsAsked opened (outstanding_of k a)
 unfolding plan_for plan_size
-sized_call opened k a plan is lt limits =
-    let up = limits.up in
+sized_call opened k a plan is lt up =
     let size = message_size (call_payload a.xid a.call) a.form k.up_max k.down_max a.xid opened.wished k.stag plan is in
     let words = call_words_lem a.xid opened.wished k.stag (outstanding_of k a).plan lt in
-    let fits = subst (λ (p : Plan). (16 ≤ length (call_message a.xid opened.wished k.stag p)) × (length (call_message a.xid opened.wished k.stag p) ≤ send_max))
+    let fits = subst (λ (p : Plan). (16 ≤ length (call_message a.xid opened.wished k.stag p)) × (length (call_message a.xid opened.wished k.stag p) ≤ matched_up opened))
     (sym (planned (call_payload a.xid a.call) (plan_for k a.xid a.call a.form) plan is)) (omega (arith, size.0), omega (arith, size.1, up)) in
     ((fits.0, fits.1, words.version, words.kind, one_chunk a.xid opened.wished k.stag (outstanding_of k a).plan), words.xid_is)
 
@@ -72,18 +71,18 @@ none_says : (b : Bool) (message : List ℕ) → AnswersNone (cond b (send_frames
 none_says true message = send_answers message
 none_says false message = (refl, refl)
 
-up_says : (b : Bool) (message : List ℕ) → ClientMessage message → AllByRecursion ClientContent (cond b (send_frames message) [])
-up_says true message h = each_send ClientContent (λ offset payload. tt) message h
-up_says false message h = tt
+up_says : (opened : LinkParameters) (b : Bool) (message : List ℕ) → ClientMessage opened message → AllByRecursion (ClientContent opened) (cond b (send_frames message) [])
+up_says opened true message h = each_send (ClientContent opened) (λ offset payload. tt) message h
+up_says opened false message h = tt
 
-pub guards_submit : (opened : LinkParameters) (k : ClientState) (s : ServerState) (u d all_up all_down : List FrameContent) (w : Transit) (up place : ℕ) (a : AcceptedCall) (plan : Plan) → EndsAgree opened k s u d all_up all_down w → Guards opened k s u d all_up all_down w up → plan_for k a.xid a.call a.form ≡ Ok plan → a.xid ≡ next_xid opened k → a.xid < numbers_end → ClientLimits k → length k.outstanding < k.grant
+pub guards_submit : (opened : LinkParameters) (k : ClientState) (s : ServerState) (u d all_up all_down : List FrameContent) (w : Transit) (up place : ℕ) (a : AcceptedCall) (plan : Plan) → EndsAgree opened k s u d all_up all_down w → Guards opened k s u d all_up all_down w up → plan_for k a.xid a.call a.form ≡ Ok plan → a.xid ≡ next_xid opened k → a.xid < numbers_end → length k.outstanding < k.grant
     → Guards opened (client_state_after opened k (CallSubmitted place a)) s u d (all_up ++ client_frames opened k (CallSubmitted place a)) all_down (up_more w (client_frames opened k (CallSubmitted place a))) up
 unfolding client_state_after client_frames client_end
-guards_submit opened k s u d all_up all_down w up place a plan l g is own lt limits room =
+guards_submit opened k s u d all_up all_down w up place a plan l g is own lt room =
     let t = client_state_after opened k (CallSubmitted place a) in
     let said = client_frames opened k (CallSubmitted place a) in
     let message = call_message a.xid opened.wished k.stag (outstanding_of k a).plan in
-    let one = sized_call opened k a plan is lt limits in
+    let one = sized_call opened k a plan is lt g.sizes.client_up in
     record {
       server = record {
         counts = totals_accepts opened k s w place a g.server.counts;
@@ -93,8 +92,9 @@ guards_submit opened k s u d all_up all_down w up place a plan l g is own lt lim
         regions = g.server.regions;
         limits = g.server.limits;
       };
+      sizes = record { client_up = g.sizes.client_up; client_down = g.sizes.client_down; server_up = g.sizes.server_up; server_down = g.sizes.server_down };
       window = record { window = omega (arith, g.window.grant, room, length-append k.outstanding (outstanding_of k a ∷ [])); grant = g.window.grant };
-      up_said = each_append ClientContent all_up said g.up_said (up_says k.has_hello message one.0);
+      up_said = each_append (ClientContent opened) all_up said g.up_said (up_says opened k.has_hello message one.0);
       down_said = g.down_said;
       credit = g.credit;
       calls = each_append (IsAsked opened) k.outstanding (outstanding_of k a ∷ []) g.calls (one, tt);
@@ -120,7 +120,7 @@ guards_submit opened k s u d all_up all_down w up place a plan l g is own lt lim
     new_xid true e =
         let sends : total_of sends_in all_up ≡ k.calls_accepted = calls_said opened k s u d all_up all_down w l ∙ ap (λ (b : Bool). cond b k.calls_accepted 0) e in
         subst (λ (b : Bool). XidsFrom (opened.first_xid + total_of sends_in all_up) (cond b (send_frames message) [])) (sym e)
-        (send_xids_from (opened.first_xid + total_of sends_in all_up) message ((sized_call opened k a plan is lt limits).1 ∙ omega (arith, own, sends)))
+        (send_xids_from (opened.first_xid + total_of sends_in all_up) message ((sized_call opened k a plan is lt g.sizes.client_up).1 ∙ omega (arith, own, sends)))
     new_xid false e = subst (λ (b : Bool). XidsFrom (opened.first_xid + total_of sends_in all_up) (cond b (send_frames message) [])) (sym e) tt
 
 -- ---- Memory is revoked, and a queue is written
@@ -138,6 +138,7 @@ pub guards_revoke : (opened : LinkParameters) (k : ClientState) (s : ServerState
 unfolding client_state_after client_end
 guards_revoke opened k s u d all_up all_down w up place xid g = record {
   server = record { counts = totals_revoked opened k s w place xid g.server.counts; reads = g.server.reads; waits = g.server.waits; sinks = g.server.sinks; regions = g.server.regions; limits = g.server.limits };
+  sizes = record { client_up = g.sizes.client_up; client_down = g.sizes.client_down; server_up = g.sizes.server_up; server_down = g.sizes.server_down };
   window = record { window = omega (arith, g.window.window, length-map k.outstanding (revoked_call xid)); grant = g.window.grant };
   up_said = g.up_said;
   down_said = g.down_said;
@@ -157,6 +158,7 @@ pub guards_written_up : (opened : LinkParameters) (k : ClientState) (s : ServerS
 unfolding client_state_after client_end
 guards_written_up opened k s u d all_up all_down w up taken all ends g = record {
   server = record { counts = totals_writes_up opened k s w taken all ends g.server.counts; reads = reads_writes_up s w g.server.reads; waits = g.server.waits; sinks = g.server.sinks; regions = g.server.regions; limits = g.server.limits };
+  sizes = record { client_up = g.sizes.client_up; client_down = g.sizes.client_down; server_up = g.sizes.server_up; server_down = g.sizes.server_down };
   window = record { window = g.window.window; grant = g.window.grant };
   up_said = g.up_said;
   down_said = g.down_said;
@@ -182,10 +184,11 @@ guards_execute opened k s u d all_up all_down w up e r rest o l g fits first own
     let xid_word = pending_word opened k s u d all_up all_down w up e.xid l g there in
     record {
       server = server_executes opened k s w up e r rest g.server first own;
+      sizes = record { client_up = g.sizes.client_up; client_down = g.sizes.client_down; server_up = g.sizes.server_up; server_down = g.sizes.server_down };
       window = g.window;
       up_said = g.up_said;
-      down_said = each_append (ServerContent opened.granted) all_down (server_frames opened s (CallExecuted e)) g.down_said
-          (subst (λ (n : ℕ). AllByRecursion (ServerContent n) (server_frames opened s (CallExecuted e))) g.credit (execution_down s e g.server.limits xid_word small fits));
+      down_said = each_append (ServerContent (matched_down opened) opened.granted) all_down (server_frames opened s (CallExecuted e)) g.down_said
+          (subst (λ (n : ℕ). AllByRecursion (ServerContent (matched_down opened) n) (server_frames opened s (CallExecuted e))) g.credit (execution_down (matched_down opened) s e g.server.limits g.sizes.server_down xid_word small fits));
       credit = g.credit;
       calls = g.calls;
       within = g.within;
@@ -203,6 +206,7 @@ pub guards_written_down : (opened : LinkParameters) (k : ClientState) (s : Serve
 unfolding server_state_after
 guards_written_down opened k s u d all_up all_down w up taken all ends g = record {
   server = server_writes opened k s w up taken all ends g.server;
+  sizes = record { client_up = g.sizes.client_up; client_down = g.sizes.client_down; server_up = g.sizes.server_up; server_down = g.sizes.server_down };
   window = g.window;
   up_said = g.up_said;
   down_said = g.down_said;

@@ -38,6 +38,9 @@ use Rattle.nr_laws.proofs.Totals.{total_append}
 use Rattle.nr_laws.proofs.ClientFrame.{calls_said}
 use Rattle.nr_laws.proofs.AnsweredCalls.{times, call_xids, effect_xids, pending_send, pending_tagged, message_xids}
 use Rattle.nr_laws.proofs.AnsweredSteps.{Answered, answered_send, answered_other}
+use Rattle.nr_reduce.proofs.OwnLimits.{ServerLimits, server_event}
+use Rattle.nr_laws.proofs.FirstHellos.{first_hello}
+use Rattle.nr_laws.proofs.AgreedSizes.{SizesAgree, matched_down, down_limited, server_keeps_sizes, server_takes_sizes}
 use Rattle.nr_laws.proofs.Guards.{ClientContent, ServerContent, Guards, step_down}
 use Rattle.nr_laws.proofs.Basics.{each_append}
 use Rattle.nr_laws.proofs.Words.{word_below_lem}
@@ -51,9 +54,9 @@ each_at P [] y ys h = h.0
 each_at P (x ∷ xs) y ys h = each_at P xs y ys h.1
 
 -- what the frame at the front is
-pub front_up : (opened : LinkParameters) (k : ClientState) (s : ServerState) (u d all_up all_down : List FrameContent) (w : Transit) (place : ℕ) (p : FrameContent) (rest : List FrameContent) → EndsAgree opened k s u d all_up all_down w → Guards opened k s u d all_up all_down w place → w.up ≡ p ∷ rest → ClientContent p
+pub front_up : (opened : LinkParameters) (k : ClientState) (s : ServerState) (u d all_up all_down : List FrameContent) (w : Transit) (place : ℕ) (p : FrameContent) (rest : List FrameContent) → EndsAgree opened k s u d all_up all_down w → Guards opened k s u d all_up all_down w place → w.up ≡ p ∷ rest → ClientContent opened p
 front_up opened k s u d all_up all_down w place p rest l g first =
-    each_at ClientContent u p (rest ++ w.queued_up) (subst (AllByRecursion ClientContent) (sym l.parts_up ∙ ap (λ (ps : List FrameContent). u ++ (ps ++ w.queued_up)) first) g.up_said)
+    each_at (ClientContent opened) u p (rest ++ w.queued_up) (subst (AllByRecursion (ClientContent opened)) (sym l.parts_up ∙ ap (λ (ps : List FrameContent). u ++ (ps ++ w.queued_up)) first) g.up_said)
 
 -- and its xid, if it is a message
 pub front_xid : (opened : LinkParameters) (k : ClientState) (s : ServerState) (u d all_up all_down : List FrameContent) (w : Transit) (place : ℕ) (message : SentMessage) (rest : List FrameContent) → EndsAgree opened k s u d all_up all_down w → Guards opened k s u d all_up all_down w place → w.up ≡ SendFrame message ∷ rest → word_at 0 message.bytes ≡ opened.first_xid + s.received.sends
@@ -62,13 +65,14 @@ front_xid opened k s u d all_up all_down w place message rest l g first =
     ∙ ap (λ (n : ℕ). opened.first_xid + n) (sym l.sends_up)
 
 guards_up : (opened : LinkParameters) (k : ClientState) (s t : ServerState) (u d all_up all_down : List FrameContent) (w : Transit) (place end : ℕ) (p : FrameContent) (rest said : List FrameContent) → Guards opened k s u d all_up all_down w place
-    → ServerAgrees opened k t (taken_up w rest said) end → AllByRecursion (ServerContent opened.granted) said → t.credit ≡ s.credit → AreWithin t.reads t.regions → length t.regions ≤ t.received.sends → AllByRecursion (IsNumbered opened.first_xid) t.calls → Answered opened.first_xid k t (u ++ p ∷ []) d (all_down ++ said) (taken_up w rest said)
+    → ServerAgrees opened k t (taken_up w rest said) end → AllByRecursion (ServerContent (matched_down opened) opened.granted) said → SizesAgree opened k t (u ++ p ∷ []) → t.credit ≡ s.credit → AreWithin t.reads t.regions → length t.regions ≤ t.received.sends → AllByRecursion (IsNumbered opened.first_xid) t.calls → Answered opened.first_xid k t (u ++ p ∷ []) d (all_down ++ said) (taken_up w rest said)
     → Guards opened k t (u ++ p ∷ []) d all_up (all_down ++ said) (taken_up w rest said) end
-guards_up opened k s t u d all_up all_down w place end p rest said g server down credit within sinks numbers answered = record {
+guards_up opened k s t u d all_up all_down w place end p rest said g server down sizes credit within sinks numbers answered = record {
   server = server;
   window = g.window;
+  sizes = sizes;
   up_said = g.up_said;
-  down_said = each_append (ServerContent opened.granted) all_down said g.down_said down;
+  down_said = each_append (ServerContent (matched_down opened) opened.granted) all_down said g.down_said down;
   credit = credit ∙ g.credit;
   calls = g.calls;
   within = within;
@@ -130,8 +134,8 @@ pub record ServerTakes (opened : LinkParameters) (k : ClientState) (s : ServerSt
   pub ends : server_end opened s (FrameReceived f) ≡ refusal_end f (frame_effect s f).refusal
   pub kept : server_end opened s (FrameReceived f) ≡ None → Guards opened k (server_state_after opened s (FrameReceived f)) (u ++ p ∷ []) d all_up (all_down ++ server_frames opened s (FrameReceived f)) (taken_up w rest (server_frames opened s (FrameReceived f))) f.end
 
-credit_down : (opened : LinkParameters) (credit : ℕ) (ps : List FrameContent) → credit ≡ opened.granted → AllByRecursion (ServerContent credit) ps → AllByRecursion (ServerContent opened.granted) ps
-credit_down opened credit ps is h = subst (λ (n : ℕ). AllByRecursion (ServerContent n) ps) is h
+credit_down : (opened : LinkParameters) (credit : ℕ) (ps : List FrameContent) → credit ≡ opened.granted → AllByRecursion (ServerContent (matched_down opened) credit) ps → AllByRecursion (ServerContent (matched_down opened) opened.granted) ps
+credit_down opened credit ps is h = subst (λ (n : ℕ). AllByRecursion (ServerContent (matched_down opened) n) ps) is h
 
 within_after : (s : ServerState) (f : Frame) (r : Result Segment ℕ) → frame_segment f ≡ r → AreWithin (frame_effect s f).reads (frame_effect s f).regions → AreWithin (with_by s f r (effect_in s f r)).reads (with_by s f r (effect_in s f r)).regions
 within_after s f r is h =
@@ -143,15 +147,15 @@ sinks_after s f r is n h =
     let e = subst (λ (x : FrameEffect). length x.regions ≤ n) (step_is s f r is) h in
     omega (arith, e, closed_length (is_over (effect_in s f r).calls (effect_in s f r).reads) f.end (effect_in s f r).regions)
 
-pub takes_send : (opened : LinkParameters) (k : ClientState) (s : ServerState) (u d all_up all_down : List FrameContent) (w : Transit) (place : ℕ) (message : SentMessage) (rest : List FrameContent) (f : Frame) → IsOpened opened → EndsAgree opened k s u d all_up all_down w → Guards opened k s u d all_up all_down w place → w.up ≡ SendFrame message ∷ rest
+pub takes_send : (opened : LinkParameters) (k : ClientState) (s : ServerState) (u d all_up all_down : List FrameContent) (w : Transit) (place : ℕ) (message : SentMessage) (rest : List FrameContent) (f : Frame) → IsOpened opened → EndsAgree opened k s u d all_up all_down w → Guards opened k s u d all_up all_down w place → 0 < length u → w.up ≡ SendFrame message ∷ rest
     → Carries s.received.sends s.received.requests f (SendFrame message) → IsBytes f.bytes → f.bytes ≡ frame_bytes opened Initiator (numbered_segment s.received.sends s.received.requests (SendFrame message)) → place < f.end → ServerTakes opened k s u d all_up all_down w (SendFrame message) rest f
-takes_send opened k s u d all_up all_down w place message rest f o l g first piece bytes is lt =
+takes_send opened k s u d all_up all_down w place message rest f o l g received first piece bytes is lt =
     let segment : Segment = last_segment s.received.sends message in
     let reads : frame_segment f ≡ Ok segment = segment_is s.received.sends s.received.requests f (SendFrame message) segment piece refl in
     let completes = (at_front s.received.begun w.up w.queued_up (SendFrame message) rest first l.counts.whole_up).1 in
     let are_bytes = message_bytes s.received message completes l.bytes_up (payload_bytes segment (subst IsBytes is bytes)) in
     let size = front_up opened k s u d all_up all_down w place (SendFrame message) rest l g first in
-    let t = server_takes_send opened k s w place f message rest g.server g.window first piece size.0 size.1 lt in
+    let t = server_takes_send opened k s w place f message rest g.server g.window first piece size.0 (omega (arith, size.1, g.sizes.server_up received)) lt in
     let says = says_frame opened s f piece.behind in
     let after = after_is_lem opened s f (Ok segment) piece.behind reads in
     let small : s.credit < 2 ^ 32 = omega (arith, g.credit, o.granted_fits) in
@@ -175,14 +179,14 @@ takes_send opened k s u d all_up all_down w place message rest f o l g first pie
       kept = λ stays.
           subst (λ (said : List FrameContent). Guards opened k (server_state_after opened s (FrameReceived f)) (u ++ SendFrame message ∷ []) d all_up (all_down ++ said) (taken_up w rest said) f.end) (sym says)
           (guards_up opened k s (server_state_after opened s (FrameReceived f)) u d all_up all_down w place f.end (SendFrame message) rest (effect_frames (frame_effect s f)) g
-          (t.1 (not_refused_lem opened s f piece.behind stays)) (credit_down opened s.credit (effect_frames (frame_effect s f)) g.credit (step_down s.credit (frame_effect s f) (replies_send s f message completes small_xid (word_below_lem 4 message.bytes are_bytes) small reads)))
-          (ap (λ (x : ServerState). x.credit) after) (subst (λ (x : ServerState). AreWithin x.reads x.regions) (sym after) within) (subst (λ (x : ServerState). length x.regions ≤ x.received.sends) (sym after) sinks) numbers answered);
+          (t.1 (not_refused_lem opened s f piece.behind stays)) (credit_down opened s.credit (effect_frames (frame_effect s f)) g.credit (step_down (matched_down opened) s.credit (frame_effect s f) (replies_send (matched_down opened) (down_limited opened).0 s f message completes small_xid (word_below_lem 4 message.bytes are_bytes) small reads)))
+          (server_keeps_sizes opened k s (server_state_after opened s (FrameReceived f)) u (SendFrame message) received (ap (λ (x : ServerState). x.up_max) after) (ap (λ (x : ServerState). x.down_max) after) g.sizes) (ap (λ (x : ServerState). x.credit) after) (subst (λ (x : ServerState). AreWithin x.reads x.regions) (sym after) within) (subst (λ (x : ServerState). length x.regions ≤ x.received.sends) (sym after) sinks) numbers answered);
     }
 
 -- a segment of a Send that isn't its last
-pub takes_part : (opened : LinkParameters) (k : ClientState) (s : ServerState) (u d all_up all_down : List FrameContent) (w : Transit) (place : ℕ) (offset : ℕ) (payload : List ℕ) (rest : List FrameContent) (f : Frame) → IsOpened opened → Guards opened k s u d all_up all_down w place → w.up ≡ PartFrame offset payload ∷ rest
+pub takes_part : (opened : LinkParameters) (k : ClientState) (s : ServerState) (u d all_up all_down : List FrameContent) (w : Transit) (place : ℕ) (offset : ℕ) (payload : List ℕ) (rest : List FrameContent) (f : Frame) → IsOpened opened → Guards opened k s u d all_up all_down w place → 0 < length u → w.up ≡ PartFrame offset payload ∷ rest
     → Carries s.received.sends s.received.requests f (PartFrame offset payload) → place < f.end → ServerTakes opened k s u d all_up all_down w (PartFrame offset payload) rest f
-takes_part opened k s u d all_up all_down w place offset payload rest f o g first piece lt =
+takes_part opened k s u d all_up all_down w place offset payload rest f o g received first piece lt =
     let segment : Segment = part_segment s.received.sends offset payload in
     let reads : frame_segment f ≡ Ok segment = segment_is s.received.sends s.received.requests f (PartFrame offset payload) segment piece refl in
     let t = server_takes_part opened k s w place f offset payload rest g.server g.window first piece lt in
@@ -201,13 +205,13 @@ takes_part opened k s u d all_up all_down w place offset payload rest f o g firs
       kept = λ stays.
           subst (λ (said : List FrameContent). Guards opened k (server_state_after opened s (FrameReceived f)) (u ++ PartFrame offset payload ∷ []) d all_up (all_down ++ said) (taken_up w rest said) f.end) (sym says)
           (guards_up opened k s (server_state_after opened s (FrameReceived f)) u d all_up all_down w place f.end (PartFrame offset payload) rest (effect_frames (frame_effect s f)) g
-          t.1 (credit_down opened s.credit (effect_frames (frame_effect s f)) g.credit (step_down s.credit (frame_effect s f) (part_effect s (λ e. AreReplies s.credit e.errors) tt f offset payload reads)))
-          (ap (λ (x : ServerState). x.credit) after) (subst (λ (x : ServerState). AreWithin x.reads x.regions) (sym after) within) (subst (λ (x : ServerState). length x.regions ≤ x.received.sends) (sym after) sinks) numbers answered);
+          t.1 (credit_down opened s.credit (effect_frames (frame_effect s f)) g.credit (step_down (matched_down opened) s.credit (frame_effect s f) (part_effect s (λ e. AreReplies (matched_down opened) s.credit e.errors) tt f offset payload reads)))
+          (server_keeps_sizes opened k s (server_state_after opened s (FrameReceived f)) u (PartFrame offset payload) received (ap (λ (x : ServerState). x.up_max) after) (ap (λ (x : ServerState). x.down_max) after) g.sizes) (ap (λ (x : ServerState). x.credit) after) (subst (λ (x : ServerState). AreWithin x.reads x.regions) (sym after) within) (subst (λ (x : ServerState). length x.regions ≤ x.received.sends) (sym after) sinks) numbers answered);
     }
 
-pub takes_tagged : (opened : LinkParameters) (k : ClientState) (s : ServerState) (u d all_up all_down : List FrameContent) (w : Transit) (place : ℕ) (last : Bool) (opcode stag to : ℕ) (payload : List ℕ) (rest : List FrameContent) (f : Frame) → IsOpened opened → EndsAgree opened k s u d all_up all_down w → Guards opened k s u d all_up all_down w place
+pub takes_tagged : (opened : LinkParameters) (k : ClientState) (s : ServerState) (u d all_up all_down : List FrameContent) (w : Transit) (place : ℕ) (last : Bool) (opcode stag to : ℕ) (payload : List ℕ) (rest : List FrameContent) (f : Frame) → IsOpened opened → EndsAgree opened k s u d all_up all_down w → Guards opened k s u d all_up all_down w place → 0 < length u
     → w.up ≡ TaggedFrame last opcode stag to payload ∷ rest → Carries s.received.sends s.received.requests f (TaggedFrame last opcode stag to payload) → place < f.end → ServerTakes opened k s u d all_up all_down w (TaggedFrame last opcode stag to payload) rest f
-takes_tagged opened k s u d all_up all_down w place last opcode stag to payload rest f o l g first piece lt =
+takes_tagged opened k s u d all_up all_down w place last opcode stag to payload rest f o l g received first piece lt =
     let segment : Segment = Tagged last opcode stag to payload in
     let reads : frame_segment f ≡ Ok segment = segment_is s.received.sends s.received.requests f (TaggedFrame last opcode stag to payload) segment piece refl in
     let t = server_takes_response opened k s w place f last opcode stag to payload rest g.server first piece lt in
@@ -228,14 +232,14 @@ takes_tagged opened k s u d all_up all_down w place last opcode stag to payload 
       kept = λ stays.
           subst (λ (said : List FrameContent). Guards opened k (server_state_after opened s (FrameReceived f)) (u ++ TaggedFrame last opcode stag to payload ∷ []) d all_up (all_down ++ said) (taken_up w rest said) f.end) (sym says)
           (guards_up opened k s (server_state_after opened s (FrameReceived f)) u d all_up all_down w place f.end (TaggedFrame last opcode stag to payload) rest (effect_frames (frame_effect s f)) g
-          (t.1 (not_refused_lem opened s f piece.behind stays)) (credit_down opened s.credit (effect_frames (frame_effect s f)) g.credit (step_down s.credit (frame_effect s f) (replies_tagged s f last opcode stag to payload (λ n c found. small_xid_lem opened k s u d all_up all_down w place n c l g found) small reads)))
-          (ap (λ (x : ServerState). x.credit) after) (subst (λ (x : ServerState). AreWithin x.reads x.regions) (sym after) within) (subst (λ (x : ServerState). length x.regions ≤ x.received.sends) (sym after) sinks) numbers answered);
+          (t.1 (not_refused_lem opened s f piece.behind stays)) (credit_down opened s.credit (effect_frames (frame_effect s f)) g.credit (step_down (matched_down opened) s.credit (frame_effect s f) (replies_tagged (matched_down opened) (down_limited opened).0 s f last opcode stag to payload (λ n c found. small_xid_lem opened k s u d all_up all_down w place n c l g found) small reads)))
+          (server_keeps_sizes opened k s (server_state_after opened s (FrameReceived f)) u (TaggedFrame last opcode stag to payload) received (ap (λ (x : ServerState). x.up_max) after) (ap (λ (x : ServerState). x.down_max) after) g.sizes) (ap (λ (x : ServerState). x.credit) after) (subst (λ (x : ServerState). AreWithin x.reads x.regions) (sym after) within) (subst (λ (x : ServerState). length x.regions ≤ x.received.sends) (sym after) sinks) numbers answered);
     }
 
 -- the client's hello
-pub hello_guards : (opened : LinkParameters) (k : ClientState) (s : ServerState) (u d all_up all_down : List FrameContent) (w : Transit) (place : ℕ) (rest : List FrameContent) (f : Frame) → Guards opened k s u d all_up all_down w place → w.up ≡ HelloFrame ∷ rest → is_hello f ≡ true → place ≤ f.end
+pub hello_guards : (opened : LinkParameters) (k : ClientState) (s : ServerState) (u d all_up all_down : List FrameContent) (w : Transit) (place : ℕ) (rest : List FrameContent) (f : Frame) → Guards opened k s u d all_up all_down w place → w.up ≡ HelloFrame ∷ rest → is_hello f ≡ true → f.bytes ≡ first_hello opened Initiator → place ≤ f.end
     → Guards opened k (server_state_after opened s (FrameReceived f)) (u ++ HelloFrame ∷ []) d all_up (all_down ++ server_frames opened s (FrameReceived f)) (taken_up w rest (server_frames opened s (FrameReceived f))) f.end
-hello_guards opened k s u d all_up all_down w place rest f g first is le =
+hello_guards opened k s u d all_up all_down w place rest f g first is own le =
     let says = says_hello opened s f is in
     let after = after_hello opened s f is in
     let c = g.server.reads in
@@ -254,9 +258,9 @@ hello_guards opened k s u d all_up all_down w place rest f g first is le =
       waits = waits_greeted opened s f g.server.waits;
       sinks = later_sinks place f.end s.regions s.reads le g.server.sinks;
       regions = record { stags = g.server.regions.stags; calls = g.server.regions.calls };
-      limits = record { up = g.server.limits.up; down = g.server.limits.down };
+      limits = subst ServerLimits after (server_event opened s (FrameReceived f) g.server.limits);
     } in
     subst (λ (said : List FrameContent). Guards opened k (server_state_after opened s (FrameReceived f)) (u ++ HelloFrame ∷ []) d all_up (all_down ++ said) (taken_up w rest said) f.end) (sym says)
     (subst (λ (t : ServerState). Guards opened k t (u ++ HelloFrame ∷ []) d all_up (all_down ++ HelloFrame ∷ []) (taken_up w rest (HelloFrame ∷ [])) f.end) (sym after)
-    (guards_up opened k s t u d all_up all_down w place f.end HelloFrame rest (HelloFrame ∷ []) g server (tt, tt) refl g.within g.sinks g.numbers
+    (guards_up opened k s t u d all_up all_down w place f.end HelloFrame rest (HelloFrame ∷ []) g server (tt, tt) (server_takes_sizes opened k s u HelloFrame f own g.sizes) refl g.within g.sinks g.numbers
     (answered_other opened.first_xid k s t u d all_down w HelloFrame rest (HelloFrame ∷ []) refl (λ x. omega arith) g.answered)))

@@ -164,7 +164,7 @@ goes_to opened r e live = by_end r.ended live
 segment_after : (opened : LinkParameters) (k : ClientState) (f : Frame) (s : Segment) → is_hello f ≡ false → frame_segment f ≡ Ok s → client_state_after opened k (FrameReceived f) ≡ with_segment k f (Ok s)
 unfolding client_state_after
 segment_after opened k f s behind is =
-    ap (λ (b : Bool). cond b (with_hello opened k) (with_segment k f (frame_segment f))) behind ∙ ap (λ (r : Result Segment ℕ). with_segment k f r) is
+    ap (λ (b : Bool). cond b (with_hello opened k f) (with_segment k f (frame_segment f))) behind ∙ ap (λ (r : Result Segment ℕ). with_segment k f r) is
 
 untagged : (h : ReceiveState) (f : Frame) (s : Segment) (stag : ℕ) (message : List ℕ) → message_completed h s ≡ Some message → NotTo stag (tagged_access f s)
 untagged h f (Tagged last opcode own to payload) stag message whole = absurd (let wrong : None ≡ Some message = whole in cc)

@@ -1,6 +1,6 @@
 -- The answer of an executed call ends its client for its reply alone: its lists suit what the call offered, and what they convey is that
 -- reply. A plain server's reply has the call's xid, and doesn't end it.
-use Rattle.std.proofs.Common.{◌≡◌, ℕ, ◌<◌, Bool, true, false, cond, ◌||◌, eqb, List, [], ◌∷◌, ◌++◌, map, Option, None, Some, Result, refl, sym, ap, subst, ◌∙◌, arith, append-nil}
+use Rattle.std.proofs.Common.{◌≡◌, ℕ, ◌≤◌, ◌<◌, Bool, true, false, cond, ◌||◌, eqb, List, [], ◌∷◌, ◌++◌, map, Option, None, Some, Result, refl, sym, ap, subst, ◌∙◌, arith, append-nil}
 use Rattle.std.specs.List.{find, list_any}
 use Rattle.nr_xdr.specs.Item.{IsBytes}
 use Rattle.nr_xdr.specs.Fields.{word_at}
@@ -9,7 +9,8 @@ use Rattle.nr_header.specs.Reading.{header_of}
 use Rattle.nr_wire.specs.declared.hello.Side.TheVariants.{Responder}
 use Rattle.nr_rpc.specs.declared.head.CallHead.{CallHead}
 use Rattle.nr_rpc.specs.declared.head.CallHead.TheVariants as calls
-use Rattle.nr_rpc.specs.Reading.{reply_of, head_xid, xid_of_call, target_of, call_of}
+use Rattle.nr_rpc.specs.Reading.{reply_of, head_xid, xid_of_call, target_of}
+use Rattle.nr_header.specs.Constants.{PAYLOAD_MAX}
 use Rattle.nr_reduce.proofs.OwnLimits.{server_limits}
 use Rattle.nr_reduce.specs.declared.call.Call.{Call}
 use Rattle.nr_outside.specs.declared.moment.Moment.{Moment}
@@ -66,7 +67,6 @@ use Rattle.nr_laws.proofs.PendingRuns.{executes_pending}
 use Rattle.nr_laws.proofs.OwnExecutes.{IsOwnPayload, own_executes}
 use Rattle.nr_laws.proofs.JudgedMessages.{EndsFor}
 use Rattle.nr_laws.proofs.JudgedReplies.{JudgedBy, answer_judged, own_reply_judged}
-use Rattle.nr_link.specs.Limits.{send_max}
 
 record FoundOne (xid : ℕ) (calls : List PendingCall) : Type 0 where
   call : PendingCall
@@ -181,17 +181,22 @@ answer_judges opened link run reason opens typed far d j s = record {
     own = own_executes opened link run m.earlier u.xid plan e.moment e.payload e.place e.reply typed far has
         (record { after = m.later; is = m.is ∙ ap (λ (n : ℕ). m.earlier ++ marks.Execute link n e.moment e.payload e.place e.reply ∷ m.later) same })
 
-    answer : answer_for (lists_of stag plan) send_max u.call.prog u.call.vers u.call.proc e.reply ≡ Some a
-    answer = ap (λ (o : ChunkLists). answer_for o send_max u.call.prog u.call.vers u.call.proc e.reply) (sym offer)
-        ∙ ap (λ (r : Result CallHead ℕ). answer_of_target (offer_of server e.xid) send_max e.reply (target_of r)) (sym own.head)
-        ∙ ap (λ (n : ℕ). answer_of_target (offer_of server e.xid) n e.reply (target_of (call_of e.payload))) (sym (server_limits opened s.earlier).down) ∙ s.is_answer
+    down : ℕ
+    down = server.down_max
+
+    down_small : down ≤ PAYLOAD_MAX
+    down_small = (let limit = (server_limits opened s.earlier).down.1 in omega (arith, limit))
+
+    answer : answer_for (lists_of stag plan) down u.call.prog u.call.vers u.call.proc e.reply ≡ Some a
+    answer = ap (λ (o : ChunkLists). answer_for o down u.call.prog u.call.vers u.call.proc e.reply) (sym offer)
+        ∙ ap (λ (r : Result CallHead ℕ). answer_of_target (offer_of server e.xid) down e.reply (target_of r)) (sym own.head) ∙ s.is_answer
 
     -- what is read of its message
     message : d.message ≡ answer_message e.xid (credit_word server) (lists_of stag plan) a
     message = s.message ∙ ap (λ (o : ChunkLists). answer_message e.xid (credit_word server) o a) offer
 
     again : ReadsAsAnswer (lists_of stag plan) a e.xid (credit_word server) (answer_message e.xid (credit_word server) (lists_of stag plan) a)
-    again = answer_again (read_list stag plan plan.read_at) (write_stag stag plan) (reply_stag stag plan) plan.write plan.reply send_max u.call.prog u.call.vers u.call.proc e.xid (credit_word server) e.reply a bytes p.offer answer (omega arith) word credit
+    again = answer_again (read_list stag plan plan.read_at) (write_stag stag plan) (reply_stag stag plan) plan.write plan.reply down u.call.prog u.call.vers u.call.proc e.xid (credit_word server) e.reply a bytes p.offer answer down_small word credit
 
     body : again.body ≡ j.header.body
     body = same_body_lem e.xid (credit_word server) again.body j.header (sym again.reads ∙ ap header_of (sym message) ∙ j.is_header)
@@ -203,8 +208,8 @@ answer_judges opened link run reason opens typed far d j s = record {
     lists = ap lists_by (sym body) ∙ again.lists
 
     suits : answers_offer a.long (lists_of stag plan) (answer_lists (lists_of stag plan) a) ≡ true
-    suits = suits_offer (read_list stag plan plan.read_at) (write_stag stag plan) (reply_stag stag plan) plan.write plan.reply send_max u.call.prog u.call.vers u.call.proc e.reply a
-        (answered (read_list stag plan plan.read_at) (write_stag stag plan) (reply_stag stag plan) plan.write plan.reply send_max u.call.prog u.call.vers u.call.proc e.reply a bytes answer)
+    suits = suits_offer (read_list stag plan plan.read_at) (write_stag stag plan) (reply_stag stag plan) plan.write plan.reply down u.call.prog u.call.vers u.call.proc e.reply a
+        (answered (read_list stag plan plan.read_at) (write_stag stag plan) (reply_stag stag plan) plan.write plan.reply down u.call.prog u.call.vers u.call.proc e.reply a bytes answer)
 
     -- what the client's memory holds
     next : places_after 0 d.earlier < place
@@ -229,7 +234,7 @@ answer_judges opened link run reason opens typed far d j s = record {
         ∙ ap (λ (o : ChunkLists). front ++ parts_out (map ASegment (answer_segments o a))) offer
 
     conveys : reply_conveyed u.call.prog u.call.vers u.call.proc (cond a.long None (Some a.stream)) (answer_lists (lists_of stag plan) a) (client_memory_at k place) ≡ Some e.reply
-    conveys = memory_conveys k place opened.first_stag stag plan a front send_max u.call.prog u.call.vers u.call.proc e.reply bytes numbers.regions settled backed parts answer
+    conveys = memory_conveys k place opened.first_stag stag plan a front down u.call.prog u.call.vers u.call.proc e.reply bytes numbers.regions settled backed parts answer
 
 pub answer_ends_none : (reply_to : List Entry → Moment → List ℕ → Option (List ℕ)) (adds : Moment → List ℕ → List ℕ → List Entry) (opened : LinkParameters) (link : ℕ) (run : List Mark) (reason : ℕ) → IsOpened opened → IsTyped run → MatchedSoFar opened link run
     → HasPlainReplies (server_with reply_to adds) link run → KeepsReplyLimits (server_with reply_to adds)

@@ -5,13 +5,12 @@ use Rattle.nr_xdr.specs.Item.{IsBytes}
 use Rattle.nr_xdr.specs.Fields.{word_at}
 use Rattle.nr_header.specs.Reading.{header_of}
 use Rattle.nr_wire.specs.declared.hello.Side.TheVariants.{Responder}
-use Rattle.nr_laws.proofs.ExecutedPayloads.{planned_by}
+use Rattle.nr_laws.proofs.ExecutedPayloads.{planned_by, sizes_up, sizes_down, up_limit}
 use Rattle.nr_reduce.specs.declared.call.Submission.TheVariants as submissions
 use Rattle.nr_reduce.specs.declared.mark.Mark.{Mark}
 use Rattle.nr_reduce.specs.declared.mark.Mark.TheVariants as marks
 use Rattle.nr_reduce.specs.declared.mark.LinkParameters.{LinkParameters}
 use Rattle.nr_reduce.specs.declared.outline.Plan.{Plan}
-use Rattle.nr_reduce.specs.Limits.{send_max}
 use Rattle.nr_reduce.specs.Events.{RunEvent, events}
 use Rattle.nr_reduce.specs.Events.RunEvent.{FrameReceived}
 use Rattle.nr_reduce.specs.EndRules.{end_state_after}
@@ -80,7 +79,7 @@ pending_offer opened link run before mark after xid plan typed far asked_so is h
     live_first (server_rules opened) (initial_server opened) own.earlier (FrameReceived own.frame ∷ own.later) (ap (λ (xs : List RunEvent). (end_state_after (server_rules opened) (initial_server opened) xs).ended) (sym own.is_received) ∙ live) in
     let bytes : IsBytes own.message = received_bytes opened link before typed far.asked far.served far.matched own.earlier own.frame (own.later ++ rest) own.segment own.message whole own.behind_hello own.is_segment own.whole not_yet in
     let reads : lists_by own.header.body ≡ lists_of stag p =
-    (let fine = planned_fits (call_payload w.xid w.call) w.form send_max stag p (planned_by opened link w.earlier w.xid w.call w.form p w.accepted.planned) typed_at.0 typed_at.1 (omega (arith, stags)) in
+    (let fine = planned_fits (call_payload w.xid w.call) w.form (sizes_up opened link w.earlier) (sizes_down opened link w.earlier) stag p (up_limit opened link w.earlier) (planned_by opened link w.earlier w.xid w.call w.form p w.accepted.planned) typed_at.0 typed_at.1 (omega (arith, stags)) in
     (plan_reads w.xid opened.wished stag p own.header fine.0 fine.1 (omega (arith, fits)) (ap header_of (sym w.message_is) ∙ own.is_header)).lists) in
     let moved : lists_of stag p ≡ lists_of (client opened link h.before).state.stag plan = (λ i. lists_of (client opened link (o.place i)).state.stag (o.plan_is i)) in
     record { lists = own.lists ∙ reads ∙ moved; offer = subst IsOffer (reads ∙ moved) (read_offer own.message own.header bytes own.is_header) }

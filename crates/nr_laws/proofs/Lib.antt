@@ -98,6 +98,7 @@ pub mod EventsAtServer
 pub mod Replies
 pub mod ReadLimits
 pub mod RequestFields
+mod AgreedSizes
 pub mod Guards
 pub mod GuardsAtServer
 pub mod GuardsAtClient
@@ -164,6 +165,9 @@ pub mod PlannedOffers
 pub mod ChunkCauses
 pub mod AnsweredChanges
 pub mod OwnPlans
+mod MatchedHellos
+mod MatchedSizes
+mod MoreHeld
 pub mod AutoReplies
 pub mod CausedCalls
 pub mod BroughtBytes

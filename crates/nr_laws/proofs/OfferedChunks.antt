@@ -94,7 +94,7 @@ one_event opened es e h = by_ended (state_at opened es).ended
     by_event : (x : RunEvent) → e ≡ x → AllOf P (client_state_after opened k x).regions
     by_event (FrameReceived f) is = by_hello (is_hello f)
       where
-        by_hello : (b : Bool) → AllOf P (cond b (with_hello opened k) (with_segment k f (frame_segment f))).regions
+        by_hello : (b : Bool) → AllOf P (cond b (with_hello opened k f) (with_segment k f (frame_segment f))).regions
         by_hello true = same
         by_hello false = frame_regions (AllOf P) k f (λ test g. all_closed_lem P (chunk_closed opened (es ++ e ∷ [])) test f.end k.regions g) same (frame_segment f)
     by_event (CallSubmitted place a) is =
@@ -202,7 +202,7 @@ lives_after : (opened : LinkParameters) (k : ClientState) (e : RunEvent) → All
 unfolding client_state_after
 lives_after opened k (FrameReceived f) h = by (is_hello f)
   where
-    by : (b : Bool) → AllLive (cond b (with_hello opened k) (with_segment k f (frame_segment f)))
+    by : (b : Bool) → AllLive (cond b (with_hello opened k f) (with_segment k f (frame_segment f)))
     by true = h
     by false = lives_segment k f (frame_segment f) h
 lives_after opened k (CallSubmitted place a) h =

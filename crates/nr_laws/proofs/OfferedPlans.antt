@@ -5,9 +5,9 @@ use Rattle.std.proofs.lemmas.List.{length-replicate, map-append}
 use Rattle.nr_xdr.specs.Item.{IsBytes}
 use Rattle.nr_regions.specs.declared.right.Right.{Right}
 use Rattle.nr_regions.specs.declared.right.Right.TheVariants.{Fetch, Fill}
+use Rattle.nr_link.specs.Agreement.{IsSendLimit}
 use Rattle.nr_reduce.specs.declared.call.Form.{Form}
 use Rattle.nr_reduce.specs.declared.outline.Plan.{Plan}
-use Rattle.nr_reduce.specs.Limits.{send_max}
 use Rattle.nr_reduce.specs.OfferedRegions.{Region}
 use Rattle.nr_reduce.specs.Plans.{Buffer, buffer_if, buffers, has_segment, total, read_stag, write_stag, reply_stag, segments_from, entries_from, read_list, write_list, reply_chunk, lists_of, plan_of, regions_needed, call_message}
 use Rattle.nr_reduce.specs.Holds.{first_chunk, no_segments}
@@ -87,12 +87,12 @@ plan_offered xid place stag p size =
 
 -- ---- The message of a plan
 
-pub planned_offered : (payload : List ℕ) (form : Form) (xid credit place stag : ℕ) (p : Plan) → plan_of payload form send_max send_max ≡ Ok p → IsBytes payload → IsTypedForm form → xid < 2 ^ 32 → stag + regions_needed p ≤ 2 ^ 32
+pub planned_offered : (payload : List ℕ) (form : Form) (up down xid credit place stag : ℕ) (p : Plan) → IsSendLimit up → plan_of payload form up down ≡ Ok p → IsBytes payload → IsTypedForm form → xid < 2 ^ 32 → stag + regions_needed p ≤ 2 ^ 32
     → SendOffered (map (region_of xid place) (buffers stag p)) (call_message xid credit stag p)
-planned_offered payload form xid credit place stag p e bytes typed small stags = λ h is.
-    let fine = planned_fits payload form send_max stag p e bytes typed stags in
+planned_offered payload form up down xid credit place stag p limit e bytes typed small stags = λ h is.
+    let fine = planned_fits payload form up down stag p limit e bytes typed stags in
     let r = plan_reads xid credit stag p h fine.0 fine.1 small is in
-    let size = (planned_chunk payload form send_max send_max p e).size in
+    let size = (planned_chunk payload form up down p e).size in
     let regions : List Region = map (region_of xid place) (buffers stag p) in
     subst (λ (n : ℕ). ListsOffered regions n (lists_by h.body)) (sym (call_words_lem xid credit stag p small).xid_is)
     (subst (ListsOffered regions xid) (sym r.lists) (plan_offered xid place stag p size))

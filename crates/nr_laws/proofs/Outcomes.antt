@@ -100,7 +100,7 @@ after_each opened es (FrameReceived f) h live stays = by (is_hello f) refl
     old : AllByRecursion (WasGiven opened (es ++ FrameReceived f ∷ [])) k.outcomes
     old = each_all (WasGiven opened es) (WasGiven opened (es ++ FrameReceived f ∷ [])) k.outcomes (given_later opened es (FrameReceived f)) h
 
-    by : (b : Bool) → is_hello f ≡ b → AllByRecursion (WasGiven opened (es ++ FrameReceived f ∷ [])) (cond b (with_hello opened k) (with_segment k f (frame_segment f))).outcomes
+    by : (b : Bool) → is_hello f ≡ b → AllByRecursion (WasGiven opened (es ++ FrameReceived f ∷ [])) (cond b (with_hello opened k f) (with_segment k f (frame_segment f))).outcomes
     by true is = old
     by false is = segment_each (WasGiven opened (es ++ FrameReceived f ∷ [])) k f (frame_segment f) old (λ s m c own whole given.
         record { earlier = es; frame = f; later = []; is = refl; behind = is; live = live; stays = stays; segment = s; is_segment = own; message = m; whole = whole; given = given })

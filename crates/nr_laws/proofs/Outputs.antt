@@ -3,7 +3,7 @@ use Rattle.std.proofs.Common.{◌≡◌, ℕ, ◌+◌, ◌*◌, ◌≤◌, Bool,
 use Rattle.std.specs.List.{flat_map, range_with_len, AllByRecursion}
 use Rattle.std.proofs.lemmas.Grind.{flat_map-append}
 use Rattle.nr_xdr.specs.Item.{word, hyper}
-use Rattle.nr_wire.specs.Constants.{OPCODE_READ_REQUEST, OPCODE_READ_RESPONSE, OPCODE_TERMINATE, QUEUE_READ_REQUEST, QUEUE_TERMINATE, REASON_FLAGS}
+use Rattle.nr_wire.specs.Constants.{UNITS_MAX, OPCODE_READ_REQUEST, OPCODE_READ_RESPONSE, OPCODE_TERMINATE, QUEUE_READ_REQUEST, QUEUE_TERMINATE, REASON_FLAGS}
 use Rattle.nr_wire.specs.declared.hello.Side.TheVariants.{Responder}
 use Rattle.nr_wire.specs.Segment.{Segment, encoding}
 use Rattle.nr_wire.specs.Segment.Segment.{Tagged, Untagged}
@@ -55,7 +55,7 @@ bytes_segments (s ∷ segments) = ap (λ (xs : List ℕ). encoding s ++ xs) (byt
 
 -- no longer than a Send may be
 abbrev pub IsShort : List ℕ → Type 0
-IsShort message = length message ≤ send_max
+IsShort message = length message ≤ send_max * UNITS_MAX
 
 flat_map_lem : (f : ℕ → Segment) (is : List ℕ) → flat_map (λ i. encoding (f i)) is ≡ flat_map encoding (map f is)
 flat_map_lem f [] = refl

@@ -76,7 +76,7 @@ pub record Submitted (opened : LinkParameters) (k : ClientState) (s : ServerStat
 short_call : (opened : LinkParameters) (k : ClientState) (a : AcceptedCall) (plan : Plan) → plan_for k a.xid a.call a.form ≡ Ok plan → ClientLimits k → IsShort (call_message a.xid opened.wished k.stag (outstanding_of k a).plan)
 unfolding plan_for
 short_call opened k a plan is limits =
-    let up = limits.up in
+    let up = limits.up.1 in
     let size = message_size (call_payload a.xid a.call) a.form k.up_max k.down_max a.xid opened.wished k.stag plan is in
     subst (λ (p : Plan). IsShort (call_message a.xid opened.wished k.stag p)) (sym (planned (call_payload a.xid a.call) (plan_for k a.xid a.call a.form) plan is)) (omega (arith, size.1, up))
 

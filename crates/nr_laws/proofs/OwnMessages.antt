@@ -22,14 +22,14 @@ use Rattle.nr_laws.specs.ChunkOutcomes.{NoOwnPlanIsRefused}
 use Rattle.nr_laws.proofs.WrittenBytes.{WrittenAs, written_as_lem, message_same_lem}
 use Rattle.nr_laws.proofs.CallWords.{CallWords, call_words_lem}
 use Rattle.nr_laws.proofs.OnceByXid.{at_mark}
-use Rattle.nr_laws.proofs.ExecutedPayloads.{planned_by}
+use Rattle.nr_laws.proofs.ExecutedPayloads.{planned_by, sizes_up, sizes_down}
 use Rattle.nr_laws.proofs.OwnPlans.{payload_some, plan_suits}
 use Rattle.nr_laws.proofs.RefusedMessages.{long_enough}
 use Rattle.nr_laws.proofs.SubmittedPlans.{plan_is_lem}
 
 pub no_own_plan_is_refused : NoOwnPlanIsRefused
 no_own_plan_is_refused opened link run xid typed asked m own =
-    plan_suits k (call_payload xid has.call) has.form xid w.number stag m.plan bytes own (planned_by opened link has.before xid has.call has.form m.plan has.planned) (payload_some xid has.call)
+    plan_suits k (call_payload xid has.call) has.form (sizes_up opened link has.before) (sizes_down opened link has.before) xid w.number stag m.plan bytes own (planned_by opened link has.before xid has.call has.form m.plan has.planned) (payload_some xid has.call)
     (let fits = accepted.xids in omega (arith, fits)) w.fits (let fit = stags in omega (arith, fit)) (ap (λ (x : List ℕ). verdict k x) (sym same) ∙ bad)
   where
     has : HasPlan opened link run xid m.plan

@@ -17,7 +17,6 @@ use Rattle.nr_reduce.specs.declared.mark.Mark.{Mark}
 use Rattle.nr_reduce.specs.declared.mark.Mark.TheVariants as marks
 use Rattle.nr_reduce.specs.declared.mark.LinkParameters.{LinkParameters}
 use Rattle.nr_reduce.specs.declared.outline.Plan.{Plan}
-use Rattle.nr_reduce.specs.Limits.{send_max}
 use Rattle.nr_reduce.specs.Plans.{plan_of, regions_needed, call_message}
 use Rattle.nr_reduce.specs.ChunkBytes.{IsNotGiven}
 use Rattle.nr_reduce.specs.ClientState.{call_payload}
@@ -51,11 +50,11 @@ refused_free : (k : ServerState) (m : List ℕ) → verdict k m ≡ BadChunks �
 unfolding verdict
 refused_free k m e = free_by k m (not (eqb (word_at 4 m) 1)) (eqb (word_at 12 m) 3 || eqb (word_at 12 m) 4) (is_pending k (word_at 0 m)) (by_header k m (header_of m)) e
 
-pub plan_suits : (k : ServerState) (payload : List ℕ) (form : Form) (xid credit stag : ℕ) (p : Plan) → IsBytes payload → IsNotGiven form → plan_of payload form send_max send_max ≡ Ok p → 0 < length payload → xid < 2 ^ 32 → credit < 2 ^ 32
+pub plan_suits : (k : ServerState) (payload : List ℕ) (form : Form) (up down xid credit stag : ℕ) (p : Plan) → IsBytes payload → IsNotGiven form → plan_of payload form up down ≡ Ok p → 0 < length payload → xid < 2 ^ 32 → credit < 2 ^ 32
     → stag + regions_needed p ≤ 2 ^ 32 → verdict k (call_message xid credit stag p) ≡ BadChunks → ⊥
-plan_suits k payload form xid credit stag p bytes own planned some small_x small_c room bad =
+plan_suits k payload form up down xid credit stag p bytes own planned some small_x small_c room bad =
     let free : is_pending k xid ≡ false = ap (λ (x : ℕ). is_pending k x) (sym (call_xid_lem xid credit stag p (omega (arith, small_x)))) ∙ refused_free k (call_message xid credit stag p) bad in
-    need_fine k _ (sym (opens_call k payload form send_max send_max xid credit stag p bytes own planned some small_x small_c room free) ∙ bad)
+    need_fine k _ (sym (opens_call k payload form up down xid credit stag p bytes own planned some small_x small_c room free) ∙ bad)
 
 -- ---- Its stream
 

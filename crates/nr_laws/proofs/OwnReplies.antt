@@ -2,8 +2,7 @@
 use Rattle.std.proofs.Common.{◌≡◌, ℕ, List, ◌∷◌, ◌++◌, Some, Result, sym, ap, ◌∙◌, append_assoc}
 use Rattle.nr_header.specs.declared.header.ChunkLists.{ChunkLists}
 use Rattle.nr_rpc.specs.declared.head.CallHead.{CallHead}
-use Rattle.nr_rpc.specs.Reading.{call_of, target_of}
-use Rattle.nr_reduce.proofs.OwnLimits.{server_limits}
+use Rattle.nr_rpc.specs.Reading.{target_of}
 use Rattle.nr_reduce.specs.declared.call.Outcome.TheVariants as outcomes
 use Rattle.nr_reduce.specs.declared.mark.Mark.{Mark}
 use Rattle.nr_reduce.specs.declared.mark.Mark.TheVariants as marks
@@ -19,7 +18,6 @@ use Rattle.nr_laws.proofs.OwnExecutes.{own_executes}
 use Rattle.nr_laws.proofs.OwnPayloads.{payloads_are_own}
 use Rattle.nr_laws.proofs.Replied.{replied_by_lem}
 use Rattle.nr_laws.proofs.Basics.{some_is_lem}
-use Rattle.nr_link.specs.Limits.{send_max}
 
 pub executed_replies_are_handed_over : ExecutedRepliesAreHandedOver
 executed_replies_are_handed_over opened link run before xid plan reply typed far has at =
@@ -35,9 +33,9 @@ executed_replies_are_handed_over opened link run before xid plan reply typed far
     let conveyed : form_conveyed has.form (call_payload xid has.call) ≡ Some e.payload = payloads_are_own opened link run m.earlier xid plan e.moment e.payload e.place e.reply typed far has mark in
     let own = own_executes opened link run m.earlier xid plan e.moment e.payload e.place e.reply typed far has mark in
     let offer : ChunkLists = offer_of (server_by opened r.answer.earlier) e.xid in
-    let answers : answer_for offer send_max has.call.prog has.call.vers has.call.proc e.reply ≡ Some r.answer.answer =
-    ap (λ (x : Result CallHead ℕ). answer_of_target offer send_max e.reply (target_of x)) (sym own.head)
-    ∙ ap (λ (n : ℕ). answer_of_target offer n e.reply (target_of (call_of e.payload))) (sym (server_limits opened r.answer.earlier).down) ∙ r.answer.is_answer in
+    let down : ℕ = (server_by opened r.answer.earlier).down_max in
+    let answers : answer_for offer down has.call.prog has.call.vers has.call.proc e.reply ≡ Some r.answer.answer =
+    ap (λ (x : Result CallHead ℕ). answer_of_target offer down e.reply (target_of x)) (sym own.head) ∙ r.answer.is_answer in
     let same : reply ≡ e.reply = some_is_lem reply e.reply (sym b.handed ∙ b.own has.call.prog has.call.vers has.call.proc answers) in
     record {
       moment = e.moment;

@@ -54,8 +54,8 @@ own_xids_came opened k f h = by (is_hello f)
     segment (inl same) = own_xids_same opened k (with_segment k f (frame_segment f)) same (segment_accepted k f (frame_segment f)) h
     segment (inr left) = own_xids_kept opened k (with_segment k f (frame_segment f)) left.0 left.1 (segment_accepted k f (frame_segment f)) h
 
-    by : (b : Bool) → OwnXids opened (cond b (with_hello opened k) (with_segment k f (frame_segment f)))
-    by true = own_xids_same opened k (with_hello opened k) refl refl h
+    by : (b : Bool) → OwnXids opened (cond b (with_hello opened k f) (with_segment k f (frame_segment f)))
+    by true = own_xids_same opened k (with_hello opened k f) refl refl h
     by false = segment (segment_out k f (frame_segment f))
 
 above : (n : ℕ) (os : List OutstandingCall) → AreAtMost (λ (o : OutstandingCall). o.xid + 1) n os → IsUnused (λ (o : OutstandingCall). o.xid) n os

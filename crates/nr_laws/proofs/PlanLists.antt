@@ -1,5 +1,5 @@
 -- The message of an accepted call is read with the lists of its plan, in every form.
-use Rattle.std.proofs.Common.{◌≡◌, ℕ, ◌+◌, ◌^◌, ◌≤◌, ◌<◌, Bool, true, false, cond, eqb, List, [], ◌∷◌, ◌++◌, length, drop, Option, None, Some, Ok, refl, sym, ap, subst, ◌∙◌, arith}
+use Rattle.std.proofs.Common.{◌≡◌, ℕ, ◌+◌, ◌*◌, ◌^◌, ◌≤◌, ◌<◌, Bool, true, false, cond, eqb, List, [], ◌∷◌, ◌++◌, length, drop, Option, None, Some, Ok, refl, sym, ap, subst, ◌∙◌, arith}
 use Rattle.std.proofs.lemmas.List.{drop_at}
 use Rattle.nr_xdr.specs.Item.{Item, IsBytes}
 use Rattle.nr_xdr.specs.Item.Item.{Unsigned}
@@ -13,6 +13,8 @@ use Rattle.nr_header.specs.Header.{read_items, segments_items, write_items, repl
 use Rattle.nr_header.specs.WithinLimits.{IsMessage, ListsWithin, CanRead}
 use Rattle.nr_header.specs.Reading.{header_of}
 use Rattle.nr_header.proofs.Messages.{header_take}
+use Rattle.nr_wire.specs.Constants.{UNITS_MAX}
+use Rattle.nr_link.specs.Agreement.{IsSendLimit}
 use Rattle.nr_reduce.specs.declared.call.Offer.{Offer}
 use Rattle.nr_reduce.specs.declared.outline.Plan.{Plan}
 use Rattle.nr_reduce.specs.Limits.{send_max, given_max}
@@ -55,15 +57,15 @@ reply_fit_lem stag (Some ns) h t l =
     by [] h some = absurd (omega (arith, some))
     by (n ∷ ns) h some = h refl
 
-counts : (p : Plan) → plan_size p ≤ send_max → (length (Rattle.nr_reduce.specs.ChunkBytes.lengths p.write) < 2 ^ 32) × (length (Rattle.nr_reduce.specs.ChunkBytes.lengths p.reply) < 2 ^ 32)
+counts : (up : ℕ) (p : Plan) → IsSendLimit up → plan_size p ≤ up → (length (Rattle.nr_reduce.specs.ChunkBytes.lengths p.write) < 2 ^ 32) × (length (Rattle.nr_reduce.specs.ChunkBytes.lengths p.reply) < 2 ^ 32)
 unfolding plan_size
-counts p small = (by_write p.write (omega (arith, small)), by_reply p.reply (omega (arith, small)))
+counts up p limit small = (by_write p.write (omega (arith, small, limit.1)), by_reply p.reply (omega (arith, small, limit.1)))
   where
-    by_write : (w : Option (List ℕ)) → plans.write_size w ≤ send_max → length (Rattle.nr_reduce.specs.ChunkBytes.lengths w) < 2 ^ 32
+    by_write : (w : Option (List ℕ)) → plans.write_size w ≤ send_max * UNITS_MAX → length (Rattle.nr_reduce.specs.ChunkBytes.lengths w) < 2 ^ 32
     by_write None h = omega arith
     by_write (Some ns) h = omega (arith, h)
 
-    by_reply : (r : Option (List ℕ)) → plans.reply_size r ≤ send_max → length (Rattle.nr_reduce.specs.ChunkBytes.lengths r) < 2 ^ 32
+    by_reply : (r : Option (List ℕ)) → plans.reply_size r ≤ send_max * UNITS_MAX → length (Rattle.nr_reduce.specs.ChunkBytes.lengths r) < 2 ^ 32
     by_reply None h = omega arith
     by_reply (Some ns) h = omega (arith, h)
 
@@ -71,9 +73,9 @@ some_true : (ns : List ℕ) → 0 < length ns → has_segment (Some ns) ≡ true
 some_true [] h = absurd (omega (arith, h))
 some_true (n ∷ ns) h = refl
 
-pub given_fit : (payload : List ℕ) (offer : Offer) (stag : ℕ) → given_total offer ≤ given_max → offer.read_at < 2 ^ 32 → plan_size (given_plan payload offer) ≤ send_max → stag + regions_needed (given_plan payload offer) ≤ 2 ^ 32 → AllFit (lists_items (lists_of stag (given_plan payload offer)))
+pub given_fit : (payload : List ℕ) (offer : Offer) (up stag : ℕ) → given_total offer ≤ given_max → offer.read_at < 2 ^ 32 → IsSendLimit up → plan_size (given_plan payload offer) ≤ up → stag + regions_needed (given_plan payload offer) ≤ 2 ^ 32 → AllFit (lists_items (lists_of stag (given_plan payload offer)))
 unfolding lists_of regions_needed
-given_fit payload offer stag small at sized stags = by offer.read offer.write offer.reply (omega (arith, small)) (counts (given_plan payload offer) sized) stags
+given_fit payload offer up stag small at limit sized stags = by offer.read offer.write offer.reply (omega (arith, small)) (counts up (given_plan payload offer) limit sized) stags
   where
     plan : Option (List ℕ) → Option (List ℕ) → Option (List ℕ) → Plan
     plan read w r = given_read payload offer.read_at read (record { inline = payload; read_at = None; read = []; region = []; write = w; reply = r })

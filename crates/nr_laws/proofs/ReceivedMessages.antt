@@ -148,7 +148,7 @@ pub client_receives : (opened : LinkParameters) → Receiving (client_rules open
 unfolding client_state_after
 client_receives opened k (FrameReceived f) = by (is_hello f) (frame_segment f)
   where
-    by : (b : Bool) (r : Result Segment ℕ) → (cond b (with_hello opened k) (with_segment k f r)).received ≡ cond b k.received (received_by k.received r)
+    by : (b : Bool) (r : Result Segment ℕ) → (cond b (with_hello opened k f) (with_segment k f r)).received ≡ cond b k.received (received_by k.received r)
     by true r = refl
     by false (Ok segment) = refl
     by false (Err reason) = refl

@@ -25,7 +25,6 @@ use Rattle.nr_reduce.specs.declared.mark.Mark.{Mark}
 use Rattle.nr_reduce.specs.declared.mark.Mark.TheVariants as marks
 use Rattle.nr_reduce.specs.declared.mark.LinkParameters.{LinkParameters}
 use Rattle.nr_reduce.specs.declared.outline.Plan.{Plan}
-use Rattle.nr_reduce.specs.Limits.{send_max}
 use Rattle.nr_reduce.specs.Plans.{plan_size, lists_of, call_message, entries_from, read_stag, read_list}
 use Rattle.nr_reduce.specs.Chunks.{is_read_chunk_of_item, is_read_chunk_at, item_position}
 use Rattle.nr_reduce.specs.Events.{RunEvent, events}
@@ -59,7 +58,7 @@ use Rattle.nr_laws.proofs.Completed.{version_not}
 use Rattle.nr_laws.proofs.OnceByXid.{at_mark, executed_at_lem}
 use Rattle.nr_laws.proofs.SubmittedPlans.{same_submit, own_submit, plan_is_lem}
 use Rattle.nr_laws.proofs.ExecutedCalls.{frame_message, received_message, live_server, live_part}
-use Rattle.nr_laws.proofs.ExecutedPayloads.{planned_by}
+use Rattle.nr_laws.proofs.ExecutedPayloads.{planned_by, sizes_up, sizes_down, up_limit}
 use Rattle.nr_laws.proofs.ConveyedCalls.{planned_fits, plan_reads}
 use Rattle.nr_laws.proofs.PendingReads.{HasPosition, IsOwn}
 use Rattle.nr_laws.proofs.KeptAtServer.{kept_at_server}
@@ -181,7 +180,7 @@ refused_message opened link run m typed far s r = record {
         let stags = w.accepted.stags in
         let bytes = at_mark TypedMark run w.earlier (marks.Submit link w.call w.form (submissions.Accepted w.xid)) w.later w.is typed in
         let formed = planned_by opened link w.earlier w.xid w.call w.form p w.accepted.planned in
-        let fine = planned_fits (call_payload w.xid w.call) w.form send_max stag p formed bytes.0 bytes.1 (omega (arith, stags)) in
+        let fine = planned_fits (call_payload w.xid w.call) w.form (sizes_up opened link w.earlier) (sizes_down opened link w.earlier) stag p (up_limit opened link w.earlier) formed bytes.0 bytes.1 (omega (arith, stags)) in
         let reads = plan_reads w.xid opened.wished stag p known.header fine.0 fine.1 (omega (arith, fits_xid)) (ap header_of (sym w.message_is) ∙ known.is_header) in
         let read = ap (λ (l : ChunkLists). l.read) (known.lists ∙ reads.lists) in
         let kept = kept_at_server opened link run typed far.served s.earlier (FrameReceived s.frame ∷ s.later) s.is in

@@ -17,6 +17,7 @@ use Rattle.nr_header.specs.declared.header.Body.TheVariants.{Msg, Nomsg}
 use Rattle.nr_header.specs.Header.{header_encoding, lists_items}
 use Rattle.nr_link.specs.Frames.{Frame}
 use Rattle.nr_link.specs.Ending.{frame_segment}
+use Rattle.nr_link.specs.Agreement.{IsSendLimit}
 use Rattle.nr_reduce.specs.Limits.{send_max}
 use Rattle.nr_reduce.specs.Holds.{Answer, answer_for, answer_message, answer_lists, answer_size, chunk_error, version_error, no_segments}
 use Rattle.nr_reduce.specs.ServerState.{PendingCall, ServerState}
@@ -28,15 +29,16 @@ use Rattle.nr_laws.proofs.WritableOffers.{OfferFits}
 use Rattle.nr_laws.proofs.EachEffect.{send_effect, tagged_effect_lem}
 use Rattle.nr_header.proofs.Lengths.{word_len}
 
-pub record IsReply (credit : ℕ) (message : List ℕ) : Type 0 where
+-- a message of at most `most` bytes, with this credit word
+pub record IsReply (most credit : ℕ) (message : List ℕ) : Type 0 where
   pub least : 16 ≤ length message
-  pub most : length message ≤ send_max
+  pub size : length message ≤ most
   pub credits : word_at 8 message ≡ credit
   pub read : IsRead message
 
-abbrev pub AreReplies : ℕ → List (List ℕ) → Type 0
-AreReplies credit [] = Unit {0}
-AreReplies credit (m ∷ messages) = IsReply credit m × AreReplies credit messages
+abbrev pub AreReplies : (most credit : ℕ) → List (List ℕ) → Type 0
+AreReplies most credit [] = Unit {0}
+AreReplies most credit (m ∷ messages) = IsReply most credit m × AreReplies most credit messages
 
 third_word : (a b c : ℕ) (rest : List ℕ) → c < 2 ^ 32 → word_at 8 (word a ++ (word b ++ (word c ++ rest))) ≡ c
 third_word a b c rest lt =
@@ -48,19 +50,19 @@ third_word a b c rest lt =
     ∙ ap word_of (take-append-le 4 (word c) rest (omega (arith, length_word c)) ∙ take_all 4 (word c) (omega (arith, length_word c)))
     ∙ word_of_word c lt
 
-pub chunk_error_reply : (xid credit : ℕ) → xid < 2 ^ 32 → credit < 2 ^ 32 → IsReply credit (chunk_error xid credit)
+pub chunk_error_reply : (most xid credit : ℕ) → send_max ≤ most → xid < 2 ^ 32 → credit < 2 ^ 32 → IsReply most credit (chunk_error xid credit)
 unfolding chunk_error
-chunk_error_reply xid credit small lt =
+chunk_error_reply most xid credit room small lt =
     let a = word_len xid (word 1 ++ (word credit ++ (word 4 ++ (word 2 ++ [])))) in
     let b = word_len 1 (word credit ++ (word 4 ++ (word 2 ++ []))) in
     let c = word_len credit (word 4 ++ (word 2 ++ [])) in
     let d = word_len 4 (word 2 ++ []) in
     let e = word_len 2 [] in
-    record { least = omega (arith, a, b, c, d, e); most = omega (arith, a, b, c, d, e); credits = third_word xid 1 credit (word 4 ++ (word 2 ++ [])) lt; read = read_chunk_error xid credit small lt }
+    record { least = omega (arith, a, b, c, d, e); size = omega (arith, a, b, c, d, e, room); credits = third_word xid 1 credit (word 4 ++ (word 2 ++ [])) lt; read = read_chunk_error xid credit small lt }
 
-version_error_reply : (xid version credit : ℕ) → xid < 2 ^ 32 → version < 2 ^ 32 → credit < 2 ^ 32 → IsReply credit (version_error xid version credit)
+version_error_reply : (most xid version credit : ℕ) → send_max ≤ most → xid < 2 ^ 32 → version < 2 ^ 32 → credit < 2 ^ 32 → IsReply most credit (version_error xid version credit)
 unfolding version_error
-version_error_reply xid version credit small other lt =
+version_error_reply most xid version credit room small other lt =
     let rest = word 4 ++ (word 1 ++ (word 1 ++ (word 1 ++ []))) in
     let a = word_len xid (word version ++ (word credit ++ rest)) in
     let b = word_len version (word credit ++ rest) in
@@ -69,33 +71,33 @@ version_error_reply xid version credit small other lt =
     let e = word_len 1 (word 1 ++ (word 1 ++ [])) in
     let f = word_len 1 (word 1 ++ []) in
     let g = word_len 1 [] in
-    record { least = omega (arith, a, b, c, d, e, f, g); most = omega (arith, a, b, c, d, e, f, g); credits = third_word xid version credit rest lt; read = read_version_error xid version credit small other lt }
+    record { least = omega (arith, a, b, c, d, e, f, g); size = omega (arith, a, b, c, d, e, f, g, room); credits = third_word xid version credit rest lt; read = read_version_error xid version credit small other lt }
 
 -- ---- Of a frame's effect
 
-replies_verdict : (credit : ℕ) (o : CallVerdict) (s : FrameEffect) → AreReplies credit s.errors → AreReplies credit (with_verdict o s).errors
-replies_verdict credit (Refuses reason) s h = h
-replies_verdict credit (IsReady r) s h = h
+replies_verdict : (most credit : ℕ) (o : CallVerdict) (s : FrameEffect) → AreReplies most credit s.errors → AreReplies most credit (with_verdict o s).errors
+replies_verdict most credit (Refuses reason) s h = h
+replies_verdict most credit (IsReady r) s h = h
 
-pub replies_send : (k : ServerState) (f : Frame) (message : SentMessage) → CompletesMessage k.received message → word_at 0 message.bytes < 2 ^ 32 → word_at 4 message.bytes < 2 ^ 32 → k.credit < 2 ^ 32
-    → frame_segment f ≡ Ok (last_segment k.received.sends message) → AreReplies k.credit (frame_effect k f).errors
-replies_send k f message completes xid version lt is =
-    send_effect k (λ m. (word_at 0 m < 2 ^ 32) × (word_at 4 m < 2 ^ 32)) (λ s. AreReplies k.credit s.errors) (record {
-      judged = λ t place c s h. replies_verdict k.credit (by_payload c (pending_payload t place c)) s h;
+pub replies_send : (most : ℕ) → send_max ≤ most → (k : ServerState) (f : Frame) (message : SentMessage) → CompletesMessage k.received message → word_at 0 message.bytes < 2 ^ 32 → word_at 4 message.bytes < 2 ^ 32 → k.credit < 2 ^ 32
+    → frame_segment f ≡ Ok (last_segment k.received.sends message) → AreReplies most k.credit (frame_effect k f).errors
+replies_send most room k f message completes xid version lt is =
+    send_effect k (λ m. (word_at 0 m < 2 ^ 32) × (word_at 4 m < 2 ^ 32)) (λ s. AreReplies most k.credit s.errors) (record {
+      judged = λ t place c s h. replies_verdict most k.credit (by_payload c (pending_payload t place c)) s h;
       ends = λ m reason fit is. tt;
-      version = λ m fit. (version_error_reply (word_at 0 m) (word_at 4 m) k.credit fit.0 fit.1 lt, tt);
-      chunks = λ m fit. (chunk_error_reply (word_at 0 m) k.credit fit.0 lt, tt);
+      version = λ m fit. (version_error_reply most (word_at 0 m) (word_at 4 m) k.credit room fit.0 fit.1 lt, tt);
+      chunks = λ m fit. (chunk_error_reply most (word_at 0 m) k.credit room fit.0 lt, tt);
       pending = λ place m c fit is. tt;
     }) f message completes (xid, version) is
 
-pub replies_tagged : (k : ServerState) (f : Frame) (last : Bool) (opcode stag to : ℕ) (payload : List ℕ) → ((n : ℕ) (c : PendingCall) → find (λ (y : PendingCall). eqb y.number n) k.calls ≡ Some c → c.xid < 2 ^ 32) → k.credit < 2 ^ 32
-    → frame_segment f ≡ Ok (Tagged last opcode stag to payload) → AreReplies k.credit (frame_effect k f).errors
-replies_tagged k f last opcode stag to payload small lt is =
-    tagged_effect_lem k (λ s. AreReplies k.credit s.errors) (record {
+pub replies_tagged : (most : ℕ) → send_max ≤ most → (k : ServerState) (f : Frame) (last : Bool) (opcode stag to : ℕ) (payload : List ℕ) → ((n : ℕ) (c : PendingCall) → find (λ (y : PendingCall). eqb y.number n) k.calls ≡ Some c → c.xid < 2 ^ 32) → k.credit < 2 ^ 32
+    → frame_segment f ≡ Ok (Tagged last opcode stag to payload) → AreReplies most k.credit (frame_effect k f).errors
+replies_tagged most room k f last opcode stag to payload small lt is =
+    tagged_effect_lem k (λ s. AreReplies most k.credit s.errors) (record {
       unchanged = tt;
-      judged = λ t place c s h. replies_verdict k.credit (by_payload c (pending_payload t place c)) s h;
+      judged = λ t place c s h. replies_verdict most k.credit (by_payload c (pending_payload t place c)) s h;
       read = λ r reads is. tt;
-      refused = λ r reads c is found. (chunk_error_reply c.xid k.credit (small r.number c found) lt, tt);
+      refused = λ r reads c is found. (chunk_error_reply most c.xid k.credit room (small r.number c found) lt, tt);
     }) f last opcode stag to payload is
 
 -- ---- Of an executed call
@@ -115,18 +117,18 @@ encoding_words xid credit false lists stream lt =
     ∙ ap (λ (xs : List ℕ). word xid ++ xs) (append_assoc (word 1) (word credit ++ (word 0 ++ rest)) stream ∙ ap (λ (xs : List ℕ). word 1 ++ xs) (append_assoc (word credit) (word 0 ++ rest) stream)))
     ∙ third_word xid 1 credit ((word 0 ++ rest) ++ stream) lt
 
-pub answer_reply : (offer : ChunkLists) (down prog vers proc xid credit : ℕ) (reply : List ℕ) (a : Answer) → down ≤ send_max → xid < 2 ^ 32 → credit < 2 ^ 32 → OfferFits offer → answer_for offer down prog vers proc reply ≡ Some a
-    → IsReply credit (answer_message xid credit offer a)
+pub answer_reply : (offer : ChunkLists) (most down prog vers proc xid credit : ℕ) (reply : List ℕ) (a : Answer) → IsSendLimit down → down ≤ most → xid < 2 ^ 32 → credit < 2 ^ 32 → OfferFits offer → answer_for offer down prog vers proc reply ≡ Some a
+    → IsReply most credit (answer_message xid credit offer a)
 unfolding answer_message
-answer_reply offer down prog vers proc xid credit reply a small word lt fits e =
+answer_reply offer most down prog vers proc xid credit reply a limit room word lt fits e =
     let sizes = answer_length offer down prog vers proc xid credit reply a e in
     let words = encoding_words xid credit a.long (answer_lists offer a) (cond a.long [] a.stream) lt in
-    let room : a.long ≡ false → length a.stream ≤ PAYLOAD_MAX = λ is. (let short = sizes.0 is in omega (arith, short.0, short.1, small)) in
-    by a.long refl sizes.0 sizes.1 words (read_answer offer xid credit a word lt fits.items fits.within room)
+    let short : a.long ≡ false → length a.stream ≤ PAYLOAD_MAX = λ is. (let s = sizes.0 is in omega (arith, s.0, s.1, limit.1)) in
+    by a.long refl sizes.0 sizes.1 words (read_answer offer xid credit a word lt fits.items fits.within short)
   where
     by : (b : Bool) → a.long ≡ b
         → (a.long ≡ false → (length (answer_message xid credit offer a) ≡ answer_size offer.write + length a.stream) × (length (answer_message xid credit offer a) ≤ down))
         → (a.long ≡ true → length (answer_message xid credit offer a) ≡ answer_size offer.write + reply_chunk_len (length (no_segments offer.reply)))
-        → word_at 8 (answer_message xid credit offer a) ≡ credit → IsRead (answer_message xid credit offer a) → IsReply credit (answer_message xid credit offer a)
-    by true is short long words back = record { least = omega (arith, long is); most = omega (arith, long is, fits.size); credits = words; read = back }
-    by false is short long words back = record { least = omega (arith, (short is).0); most = omega (arith, (short is).1, small); credits = words; read = back }
+        → word_at 8 (answer_message xid credit offer a) ≡ credit → IsRead (answer_message xid credit offer a) → IsReply most credit (answer_message xid credit offer a)
+    by true is short long words back = record { least = omega (arith, long is); size = omega (arith, long is, fits.size, limit.0, room); credits = words; read = back }
+    by false is short long words back = record { least = omega (arith, (short is).0); size = omega (arith, (short is).1, room); credits = words; read = back }

@@ -140,7 +140,7 @@ until_event : (opened : LinkParameters) (n : ℕ) (k : ClientState) (e : RunEven
 unfolding client_state_after
 until_event opened n k (FrameReceived f) by h = by_hello (is_hello f)
   where
-    by_hello : (b : Bool) → UntilBy n (cond b (with_hello opened k) (with_segment k f (frame_segment f))).regions
+    by_hello : (b : Bool) → UntilBy n (cond b (with_hello opened k f) (with_segment k f (frame_segment f))).regions
     by_hello true = h
     by_hello false = frame_regions (UntilBy n) k f (λ test g. until_closed test f.end n k.regions by g) h (frame_segment f)
 until_event opened n k (CallSubmitted q a) by h = until_append n k.regions (map (region_of a.xid q) (buffers k.stag (outstanding_of k a).plan)) h (until_new n a.xid q (buffers k.stag (outstanding_of k a).plan))

@@ -190,8 +190,8 @@ revoked_length : (xid : ℕ) (os : List OutstandingCall) → length (map (revoke
 revoked_length xid [] = refl
 revoked_length xid (o ∷ os) = ap (λ (m : ℕ). suc m) (revoked_length xid os)
 
-hello_step : (opened : LinkParameters) (place end : ℕ) (k : ClientState) (sends : List OutputItem) → place ≡ 0 → place < end → SendsAreDue opened place k sends → SendsAreDue opened end (with_hello opened k) (sends ++ send_items (sent_call_items opened 1 k.outstanding))
-hello_step opened place end k sends first lt h =
+hello_step : (opened : LinkParameters) (place end : ℕ) (k : ClientState) (f : Frame) (sends : List OutputItem) → place ≡ 0 → place < end → SendsAreDue opened place k sends → SendsAreDue opened end (with_hello opened k f) (sends ++ send_items (sent_call_items opened 1 k.outstanding))
+hello_step opened place end k f sends first lt h =
     let quiet = place_zero place k.has_hello h.greeted first in
     let w = h.waiting quiet in
     let all : sends ++ send_items (sent_call_items opened 1 k.outstanding) ≡ sent_call_items opened 1 k.outstanding = (λ i. h.silent quiet i ++ calls_are_sends opened 1 k.outstanding i) in
@@ -277,9 +277,9 @@ event_step : (opened : LinkParameters) (place : ℕ) (k : ClientState) (e : RunE
 unfolding client_state_after client_items_at
 event_step opened place k (FrameReceived f) items next good h = by (is_hello f) refl
   where
-    by : (b : Bool) → is_hello f ≡ b → SendsAreDue opened f.end (cond b (with_hello opened k) (with_segment k f (frame_segment f)))
+    by : (b : Bool) → is_hello f ≡ b → SendsAreDue opened f.end (cond b (with_hello opened k f) (with_segment k f (frame_segment f)))
         (send_items items ++ send_items (cond b (sent_call_items opened 1 k.outstanding) (response_items k f.end (segment_request (frame_segment f)))))
-    by true is = (let e = eqb-true f.at 0 is in let at = next.0 in hello_step opened place f.end k (send_items items) (omega (arith, e, at)) next.1 h)
+    by true is = (let e = eqb-true f.at 0 is in let at = next.0 in hello_step opened place f.end k f (send_items items) (omega (arith, e, at)) next.1 h)
     by false is = segment_step opened place f.end k f (frame_segment f) (send_items items) (λ first. clash (is_hello f) (eq-eqb f.at 0 (next.0 ∙ first)) is) next.1 h
 event_step opened place k (CallSubmitted p a) items next good h = submit_step opened place p k a (send_items items) good.next h
 event_step opened place k (MemoryRevoked p xid) items next good h =

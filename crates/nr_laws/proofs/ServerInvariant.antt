@@ -5,7 +5,6 @@ use Rattle.nr_wire.specs.Segment.Segment.{Tagged}
 use Rattle.nr_header.specs.declared.header.ChunkLists.{ChunkLists}
 use Rattle.nr_reduce.proofs.OwnLimits.{ServerLimits, server_event}
 use Rattle.nr_reduce.specs.declared.mark.LinkParameters.{LinkParameters}
-use Rattle.nr_reduce.specs.Limits.{send_max}
 use Rattle.nr_link.specs.Frames.{Frame}
 use Rattle.nr_link.specs.Ending.{frame_segment}
 use Rattle.nr_reduce.specs.OfferedRegions.{Region, regions_closed, closed_if}
@@ -103,7 +102,7 @@ pub record ServerAgrees (opened : LinkParameters) (k : ClientState) (s : ServerS
 
 -- A Send that is received ends the server only by the refusal of its effect; and if it doesn't, all is kept.
 pub server_takes_send : (opened : LinkParameters) (k : ClientState) (s : ServerState) (w : Transit) (place : ℕ) (f : Frame) (message : SentMessage) (rest : List FrameContent) → ServerAgrees opened k s w place → WithinWindow opened k → w.up ≡ SendFrame message ∷ rest
-    → Carries s.received.sends s.received.requests f (SendFrame message) → 16 ≤ length message.bytes → length message.bytes ≤ send_max → place < f.end
+    → Carries s.received.sends s.received.requests f (SendFrame message) → 16 ≤ length message.bytes → length message.bytes ≤ s.up_max → place < f.end
     → (server_end opened s (FrameReceived f) ≡ refusal_end f (frame_effect s f).refusal) × ((frame_effect s f).refusal ≡ None → ServerAgrees opened k (server_state_after opened s (FrameReceived f)) (moved w (frame_effect s f) rest) f.end)
 server_takes_send opened k s w place f message rest j g head p long short lt =
     let segment : Segment = last_segment s.received.sends message in
@@ -111,7 +110,7 @@ server_takes_send opened k s w place f message rest j g head p long short lt =
     let st = effect_in s f (Ok segment) in
     let new = subst (λ (e : FrameEffect). Below (s.received.sends + 1) e.regions) (step_is s f (Ok segment) is) (message_below s f message (at_front s.received.begun w.up w.queued_up (SendFrame message) rest head j.counts.whole_up).1 (record { stags = j.regions.stags; calls = j.regions.calls }) is) in
     let below = closed_below (s.received.sends + 1) f.end (is_over st.calls st.reads) st.regions new in (
-      server_send opened k s w f message rest j.counts g head p long short j.limits,
+      server_send opened k s w f message rest j.counts g head p long short,
       (λ goes_on. record {
         counts = totals_send_up opened k s w f message rest j.counts head p goes_on;
         reads = reads_send_up opened s w f message rest j.reads head p goes_on;

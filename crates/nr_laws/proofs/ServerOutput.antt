@@ -77,7 +77,7 @@ fills_proper (s ∷ chunk) bytes h =
 answer_proper : (k : ServerState) → ServerLimits k → (xid : ℕ) (offer : ChunkLists) (reply : List ℕ) (t : Option CallTarget) (o : Option Answer) → answer_of_target offer k.down_max reply t ≡ o → OfferFits offer → AreWritable (answer_frames k xid offer o)
 answer_proper k l xid offer reply t None e fits = short_proper (chunk_error xid (credit_word k)) (chunk_error_short xid (credit_word k))
 answer_proper k l xid offer reply t (Some a) e fits =
-    let down = l.down in
+    let down = l.down.1 in
     let target = for_target offer k.down_max reply t a e in
     let short = answer_short_lem offer k.down_max target.0 target.1 target.2 xid (credit_word k) reply a (omega (arith, down)) fits target.3 in
     all_proper_append (write_frames (first_chunk offer.write) a.moved) (cond a.long (write_frames (no_segments offer.reply) a.stream) [] ++ send_frames (answer_message xid (credit_word k) offer a))

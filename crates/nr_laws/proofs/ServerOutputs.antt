@@ -1,5 +1,5 @@
 -- What the server of a link says along its events: each of its messages answers an executed call, or refuses a Send.
-use Rattle.std.proofs.Common.{◌≡◌, ℕ, ◌+◌, ◌≤◌, Bool, true, false, cond, not, eqb, List, [], ◌∷◌, ◌++◌, length, map, Option, None, Some, Ok, refl, sym, subst, arith, append-nil}
+use Rattle.std.proofs.Common.{◌≡◌, ℕ, ◌+◌, ◌*◌, ◌≤◌, Bool, true, false, cond, not, eqb, List, [], ◌∷◌, ◌++◌, length, map, Option, None, Some, Ok, refl, sym, subst, arith, append-nil}
 use Rattle.std.specs.List.{find, AllByRecursion}
 use Rattle.std.proofs.lemmas.List.Elements.{All-nil}
 use Rattle.nr_header.specs.WithinLimits.{ListsWithin}
@@ -35,6 +35,7 @@ use Rattle.std.proofs.lemmas.List.{map-append}
 use Rattle.nr_laws.proofs.EachEffect.{MessageRule, ResponseRule, each_effect}
 use Rattle.nr_header.proofs.Lengths.{word_len}
 use Rattle.nr_laws.proofs.Basics.{each_append, each_kept}
+use Rattle.nr_wire.specs.Constants.{UNITS_MAX}
 use Rattle.nr_link.specs.Limits.{send_max}
 
 -- ---- Error messages
@@ -154,7 +155,7 @@ answer_words offer a h =
     by true = chunk_words (no_segments offer.reply) a.stream h.replies
     by false = tt
 
-pub answer_short_lem : (offer : ChunkLists) (down prog vers proc xid credit : ℕ) (reply : List ℕ) (a : Answer) → down ≤ send_max → OfferFits offer → answer_for offer down prog vers proc reply ≡ Some a → IsShort (answer_message xid credit offer a)
+pub answer_short_lem : (offer : ChunkLists) (down prog vers proc xid credit : ℕ) (reply : List ℕ) (a : Answer) → down ≤ send_max * UNITS_MAX → OfferFits offer → answer_for offer down prog vers proc reply ≡ Some a → IsShort (answer_message xid credit offer a)
 answer_short_lem offer down prog vers proc xid credit reply a small fits e =
     let sizes = answer_length offer down prog vers proc xid credit reply a e in
     by a.long refl sizes.0 sizes.1
@@ -196,7 +197,7 @@ found_fits xid (c ∷ calls) h = by (eqb c.xid xid) (found_fits xid calls h.1)
 pub answer_is_short : (k : ServerState) (e : ExecutedCall) → ServerLimits k → CallsFit k.calls → (o : Option Answer) → answer_of_call k e ≡ o → AnswerShort k e.xid (offer_of k e.xid) o
 answer_is_short k e l h None is = chunk_error_short e.xid (credit_word k)
 answer_is_short k e l h (Some a) is =
-    let down = l.down in
+    let down = l.down.1 in
     let t = for_target (offer_of k e.xid) k.down_max e.reply (target_of (call_of e.payload)) a is in
     answer_short_lem (offer_of k e.xid) k.down_max t.0 t.1 t.2 e.xid (credit_word k) e.reply a (omega (arith, down)) (found_fits e.xid k.calls h) t.3
 

@@ -93,7 +93,7 @@ one_event opened es e h = by_ended (client_by opened es).ended
     by_event : (x : RunEvent) → e ≡ x → Each P (client_state_after opened k x).outstanding
     by_event (FrameReceived f) is = by_hello (is_hello f)
       where
-        by_hello : (b : Bool) → Each P (cond b (with_hello opened k) (with_segment k f (frame_segment f))).outstanding
+        by_hello : (b : Bool) → Each P (cond b (with_hello opened k f) (with_segment k f (frame_segment f))).outstanding
         by_hello true = same
         by_hello false = each_segment P k f (frame_segment f) same
     by_event (CallSubmitted place a) is =

@@ -1,5 +1,5 @@
 -- The call that a message answers at a client is the accepted call of its xid, with that call's plan.
-use Rattle.std.proofs.Common.{◌≡◌, ℕ, ◌+◌, ◌&&◌, eqb, List, [], ◌∷◌, ◌++◌, length, Some, Result, Ok, refl, sym, ap, subst, ◌∙◌, arith, append_assoc}
+use Rattle.std.proofs.Common.{◌≡◌, ℕ, ◌&&◌, eqb, List, ◌∷◌, ◌++◌, length, Some, Result, Ok, sym, ap, subst, ◌∙◌, arith, append_assoc}
 use Rattle.nr_wire.specs.declared.hello.Side.TheVariants.{Initiator}
 use Rattle.nr_reduce.specs.declared.call.Call.{Call}
 use Rattle.nr_reduce.specs.declared.call.Form.{Form}
@@ -8,40 +8,30 @@ use Rattle.nr_reduce.specs.declared.mark.Mark.{Mark}
 use Rattle.nr_reduce.specs.declared.mark.Mark.TheVariants as marks
 use Rattle.nr_reduce.specs.declared.mark.LinkParameters.{LinkParameters}
 use Rattle.nr_reduce.specs.declared.outline.Plan.{Plan}
-use Rattle.nr_reduce.specs.History.{AcceptedCall}
 use Rattle.nr_reduce.specs.Matched.{IsPrefixOf}
 use Rattle.nr_reduce.specs.Events.{RunEvent, events}
-use Rattle.nr_reduce.specs.Plans.{TooLarge, Buffer, buffers, regions_needed}
-use Rattle.nr_reduce.specs.ClientState.{ClientState, OutstandingCall, plan_for, is_sent}
+use Rattle.nr_reduce.specs.Plans.{TooLarge, Buffer, buffers}
+use Rattle.nr_reduce.specs.ClientState.{OutstandingCall, plan_for, is_sent}
 use Rattle.nr_reduce.specs.ClientMessages.{answered_call}
-use Rattle.nr_reduce.specs.Client.{client_rules, initial_client, outstanding_of}
+use Rattle.nr_reduce.specs.Client.{client_rules, initial_client}
 use Rattle.nr_reduce.specs.Run.{client}
-use Rattle.nr_reduce.specs.RunLaws.{outstanding_from}
 use Rattle.nr_reduce.specs.Asked.{AskedSoFar, IsAccepted}
 use Rattle.nr_reduce.proofs.Placing.{xids_differ}
 use Rattle.nr_laws.specs.Typed.{IsTyped}
 use Rattle.nr_laws.specs.Payloads.{HasPlan}
 use Rattle.nr_laws.proofs.EventOutputs.{GoesOn, first_preserve, places_after}
 use Rattle.nr_laws.proofs.Memory.{Settled}
-use Rattle.nr_laws.proofs.ClientSays.{ClientGood, accepted_in, accepted_append, asked}
+use Rattle.nr_laws.proofs.ClientSays.{ClientGood, asked, asked_from, asked_append, client_after}
 use Rattle.nr_laws.proofs.ClientRun.{SubmittedCall, client_goes, each_submitted}
 use Rattle.nr_laws.proofs.ClientMemory.{HasBuffers, AllBacked, backed_at, asked_found, keeps_along}
 use Rattle.nr_laws.proofs.Outcomes.{client_by}
 use Rattle.nr_laws.proofs.Ordered.{Order, order}
 use Rattle.nr_laws.proofs.Ordered.Order.{Behind, Here, Before}
-use Rattle.nr_reduce.proofs.Waiting.{start, stag_behind}
 
 -- ---- Calls that were accepted later
 
-from_append : (k : ClientState) (stag : ℕ) (xs ys : List AcceptedCall) → outstanding_from k stag (xs ++ ys) ≡ outstanding_from k stag xs ++ outstanding_from k (stag_behind k stag xs) ys
-from_append k stag [] ys = refl
-from_append k stag (x ∷ xs) ys = ap (λ (os : List OutstandingCall). outstanding_of (record k { stag = stag }) x ∷ os) (from_append k (stag + regions_needed (outstanding_of (record k { stag = stag }) x).plan) xs ys)
-
-asked_append : (opened : LinkParameters) (es more : List RunEvent) → (rest : List OutstandingCall) × (asked opened (es ++ more) ≡ asked opened es ++ rest)
-asked_append opened es more = (
-  outstanding_from (start opened) (stag_behind (start opened) opened.first_stag (accepted_in es)) (accepted_in more),
-  ap (λ (xs : List AcceptedCall). outstanding_from (start opened) opened.first_stag xs) (accepted_append es more) ∙ from_append (start opened) opened.first_stag (accepted_in es) (accepted_in more),
-)
+asked_more : (opened : LinkParameters) (es more : List RunEvent) → (rest : List OutstandingCall) × (asked opened (es ++ more) ≡ asked opened es ++ rest)
+asked_more opened es more = (asked_from opened (client_after opened es) more, asked_append opened es more)
 
 -- ---- The call that is answered
 
@@ -68,7 +58,7 @@ answered_submit opened link run typed asked_so es more is xid o found =
     first_preserve (client_rules opened) (ClientGood opened) 0 (initial_client opened) es more (subst (λ (xs : List RunEvent). GoesOn (client_rules opened) (ClientGood opened) 0 (initial_client opened) xs) is g.goes) in
     let k = keeps_along opened es goes in
     let a = asked_found opened es (λ (x : OutstandingCall). eqb x.xid xid && is_sent (client_by opened es).state x) (client_by opened es).state.outstanding o k.keeps.owns found in
-    let later = asked_append opened es more in
+    let later = asked_more opened es more in
     let whole : asked opened (events link Initiator run) ≡ a.front ++ a.own ∷ (a.back ++ later.0) =
     ap (λ (xs : List RunEvent). asked opened xs) is ∙ later.1 ∙ ap (λ (os : List OutstandingCall). os ++ later.0) a.is ∙ append_assoc a.front (a.own ∷ a.back) later.0 in
     let w = each_submitted opened link run typed asked_so a.front a.own (a.back ++ later.0) whole in

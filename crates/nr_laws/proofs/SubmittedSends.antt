@@ -20,7 +20,6 @@ use Rattle.nr_reduce.specs.declared.mark.Mark.TheVariants as marks
 use Rattle.nr_reduce.specs.declared.mark.LinkParameters.{LinkParameters}
 use Rattle.nr_reduce.specs.declared.outline.Plan.{Plan}
 use Rattle.nr_reduce.specs.History.{AcceptedCall, bytes_received}
-use Rattle.nr_reduce.specs.Limits.{send_max}
 use Rattle.nr_reduce.specs.Plans.{TooLarge, Buffer, buffers, buffer_if, has_segment, write_stag, reply_stag, total, plan_of, lists_of, read_list, entries_from, regions_needed, call_message}
 use Rattle.nr_reduce.specs.Chunks.{Bytes, at_position, entry_bytes, read_bytes, call_conveyed}
 use Rattle.nr_reduce.specs.ChunkBytes.{ChunkHolds}
@@ -42,7 +41,7 @@ use Rattle.nr_laws.specs.SendsConvey.{SendsConvey, OwnSendsConvey}
 use Rattle.nr_laws.proofs.ClientMemory.{find_left, find_right, find_closed, none_from}
 use Rattle.nr_laws.proofs.ConveyedCalls.{planned_fits, plan_reads}
 use Rattle.nr_laws.proofs.ConveyedForms.{HasChunk, no_bytes_lem, planned_chunk, plan_conveys}
-use Rattle.nr_laws.proofs.ExecutedPayloads.{planned_by}
+use Rattle.nr_laws.proofs.ExecutedPayloads.{planned_by, sizes_up, sizes_down, up_limit}
 use Rattle.nr_laws.proofs.HeaderXid.{header_xid, call_xid_lem}
 use Rattle.nr_laws.proofs.FetchedRegions.{IsFetched, fetched_bytes}
 use Rattle.nr_laws.proofs.OnceByXid.{at_mark}
@@ -73,7 +72,7 @@ offers_event : (opened : LinkParameters) (stag : ℕ) (bytes : List ℕ) (k : Cl
 unfolding client_state_after
 offers_event opened stag bytes k (FrameReceived f) h = by (is_hello f)
   where
-    by : (b : Bool) → Offers stag bytes (cond b (with_hello opened k) (with_segment k f (frame_segment f))).regions
+    by : (b : Bool) → Offers stag bytes (cond b (with_hello opened k f) (with_segment k f (frame_segment f))).regions
     by true = h
     by false = frame_regions (λ (rs : List Region). Offers stag bytes rs) k f (λ test. offers_closed test f.end stag bytes k.regions) h (frame_segment f)
 offers_event opened stag bytes k (CallSubmitted p a) h = offers_left stag bytes k.regions (map (region_of a.xid p) (buffers k.stag (outstanding_of k a).plan)) h
@@ -190,20 +189,23 @@ sends_convey opened link run xid plan header typed asked has reads =
     let payload : List ℕ = call_payload xid has.call in
     let same : accepted.plan ≡ plan = same_plan_lem accepted.plan plan (sym accepted.planned ∙ has.planned) in
     let stags : k.stag + regions_needed plan ≤ 2 ^ 32 = subst (λ (p : Plan). k.stag + regions_needed p ≤ 2 ^ 32) same accepted.stags in
-    let planned : plan_of payload has.form send_max send_max ≡ Ok plan = planned_by opened link before xid has.call has.form plan has.planned in
-    let fits = planned_fits payload has.form send_max k.stag plan planned fine.0 fine.1 stags in
+    let up : ℕ = sizes_up opened link before in
+    let down : ℕ = sizes_down opened link before in
+    let limit = up_limit opened link before in
+    let planned : plan_of payload has.form up down ≡ Ok plan = planned_by opened link before xid has.call has.form plan has.planned in
+    let fits = planned_fits payload has.form up down k.stag plan limit planned fine.0 fine.1 stags in
     let r = plan_reads xid opened.wished k.stag plan header fits.0 fits.1 accepted.xids reads in
     let memory : Bytes = placed_bytes opened link Initiator run in
     let offered : has_segment (Some plan.read) ≡ true → memory k.stag ≡ plan.region = λ some.
     offers_bytes opened link k.stag plan.region run
     (subst (λ (whole : List Mark). Offers k.stag plan.region (client opened link whole).state.regions) (append_assoc before (submit ∷ []) has.at.after ∙ sym has.at.is)
     (offers_from opened link k.stag plan.region (before ++ submit ∷ []) has.at.after (submit_offers opened link before xid has.call has.form plan accepted.stays has.planned some))) in
-    let holds = chunk_holds memory k.stag plan (planned_chunk payload has.form send_max send_max plan planned) offered in
+    let holds = chunk_holds memory k.stag plan (planned_chunk payload has.form up down plan planned) offered in
     record {
       own = header_xid (call_message xid opened.wished k.stag plan) header reads ∙ call_xid_lem xid opened.wished k.stag plan accepted.xids;
       lists = r.lists;
       conveys = (λ i. call_conveyed (r.inline i) (r.lists i).read (read_bytes memory (r.lists i).read))
-          ∙ plan_conveys payload has.form send_max k.stag plan (read_bytes memory (lists_of k.stag plan).read) fine.0 fine.1 planned stags holds;
+          ∙ plan_conveys payload has.form up down k.stag plan (read_bytes memory (lists_of k.stag plan).read) fine.0 fine.1 limit planned stags holds;
     }
 
 pub own_sends_convey : OwnSendsConvey
@@ -215,8 +217,10 @@ own_sends_convey opened link run xid plan fits typed asked has own =
     let fine = at_mark TypedMark run before submit has.at.after has.at.is typed in
     let same : accepted.plan ≡ plan = same_plan_lem accepted.plan plan (sym accepted.planned ∙ has.planned) in
     let stags : k.stag + regions_needed plan ≤ 2 ^ 32 = subst (λ (p : Plan). k.stag + regions_needed p ≤ 2 ^ 32) same accepted.stags in
-    let planned : plan_of (call_payload xid has.call) has.form send_max send_max ≡ Ok plan = planned_by opened link before xid has.call has.form plan has.planned in
+    let up : ℕ = sizes_up opened link before in
+    let down : ℕ = sizes_down opened link before in
+    let planned : plan_of (call_payload xid has.call) has.form up down ≡ Ok plan = planned_by opened link before xid has.call has.form plan has.planned in
     let wished = fits.wished_fits in
-    let m = asks (call_payload xid has.call) has.form send_max send_max xid opened.wished k.stag plan fine.0 own planned accepted.xids (omega (arith, wished)) stags in
+    let m = asks (call_payload xid has.call) has.form up down xid opened.wished k.stag plan fine.0 own planned accepted.xids (omega (arith, wished)) stags in
     let header : Header = record { xid = xid; credit = opened.wished; body = m.body } in
     record { header = header; reads = m.reads; conveys = sends_convey opened link run xid plan header typed asked has m.reads }

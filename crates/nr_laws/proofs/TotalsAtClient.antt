@@ -71,7 +71,7 @@ taken k f behind e =
 
 pub after_is_lem : (opened : LinkParameters) (k : ClientState) (f : Frame) (r : Result Segment ℕ) → is_hello f ≡ false → frame_segment f ≡ r → client_state_after opened k (FrameReceived f) ≡ with_segment k f r
 unfolding client_state_after
-after_is_lem opened k f r behind is = λ i. cond (behind i) (with_hello opened k) (with_segment k f (is i))
+after_is_lem opened k f r behind is = λ i. cond (behind i) (with_hello opened k f) (with_segment k f (is i))
 
 pub says_is : (opened : LinkParameters) (k : ClientState) (f : Frame) (r : Result Segment ℕ) → is_hello f ≡ false → frame_segment f ≡ r → client_frames opened k (FrameReceived f) ≡ response_frames k f.end (segment_request r)
 unfolding client_frames
@@ -245,7 +245,7 @@ totals_hello_down opened k s w f rest c first is =
     let sends : total_of sends_in said ≡ length k.outstanding = sends_one sends_in (message_of_call opened) k.outstanding (λ offset payload. refl) (λ m. refl) in
     let none_queued : total_of sends_in w.queued_up ≡ 0 = omega (arith, c.calls_up, before) in
     let all : length (call_ends opened k.due 1 k.outstanding) ≡ length k.outstanding = calls_length opened k.due 1 k.outstanding in
-    let m : TotalsAgree (with_hello opened k) s (down_one w said rest) = record {
+    let m : TotalsAgree (with_hello opened k f) s (down_one w said rest) = record {
       hello = omega (arith, c.hello, hello, ap (total_of hellos_in) first, total_append hellos_in w.queued_up said, sends_zero hellos_in (message_of_call opened) k.outstanding (λ offset payload. refl) (λ m. refl));
       calls_up = omega (arith, c.calls_up, before, c.messages_down, c.waiting, c.out, sends, total_append sends_in w.queued_up said);
       messages_down = omega (arith, c.messages_down, ap (total_of sends_in) first);
@@ -261,7 +261,7 @@ totals_hello_down opened k s w f rest c first is =
       reads = omega (arith, c.reads, ap (total_of requests_in) first, total_append responses_in w.queued_up said, sends_zero responses_in (message_of_call opened) k.outstanding (λ offset payload. refl) (λ m. refl));
       responses = omega (arith, c.responses, total_append responses_in w.queued_up said, sends_zero responses_in (message_of_call opened) k.outstanding (λ offset payload. refl) (λ m. refl));
     } in
-    subst (λ (b : Bool). TotalsAgree (cond b (with_hello opened k) (with_segment k f (frame_segment f))) s (down_one w (cond b said (response_frames k f.end (segment_request (frame_segment f)))) rest)) (sym is) m
+    subst (λ (b : Bool). TotalsAgree (cond b (with_hello opened k f) (with_segment k f (frame_segment f))) s (down_one w (cond b said (response_frames k f.end (segment_request (frame_segment f)))) rest)) (sym is) m
 
 -- ---- The client accepts a call, and writes
 

@@ -15,7 +15,6 @@ use Rattle.nr_reduce.specs.declared.mark.Mark.TheVariants as marks
 use Rattle.nr_reduce.specs.declared.mark.LinkParameters.{LinkParameters}
 use Rattle.nr_reduce.specs.declared.outline.Plan.{Plan}
 use Rattle.nr_reduce.specs.History.{AcceptedCall, completed_calls}
-use Rattle.nr_reduce.specs.Limits.{send_max}
 use Rattle.nr_reduce.specs.Plans.{lists_of}
 use Rattle.nr_reduce.specs.ChunkBytes.{IsNotGiven}
 use Rattle.nr_reduce.specs.Holds.{Answer, answer_writes, answer_message}
@@ -36,7 +35,8 @@ use Rattle.nr_laws.specs.PlainLinks.{server_with, HasPlainReplies}
 
 -- ---- The two causes
 
--- the accepted call of this xid was executed with a reply that what its plan offers doesn't hold
+-- The accepted call of this xid was executed with a reply that what its plan offers doesn't hold, by the length of a Send that is agreed on for
+-- the server as it executes the call.
 pub record HasReplyNotHeld (opened : LinkParameters) (link : ℕ) (run : List Mark) (xid : ℕ) : Type 0 where
   pub plan : Plan
   pub has : HasPlan opened link run xid plan
@@ -46,7 +46,7 @@ pub record HasReplyNotHeld (opened : LinkParameters) (link : ℕ) (run : List Ma
   pub reply : List ℕ
   pub before : List Mark
   pub at : MarkAt run before (marks.Execute link xid moment payload place reply)
-  pub none : answer_of_target (lists_of (client opened link has.before).state.stag plan) send_max reply (target_of (call_of payload)) ≡ None
+  pub none : answer_of_target (lists_of (client opened link has.before).state.stag plan) (server opened link before).state.down_max reply (target_of (call_of payload)) ≡ None
 
 -- the message of the accepted call of this xid is refused, or its offer doesn't hold its reply
 abbrev pub HasChunkCause : LinkParameters → ℕ → List Mark → ℕ → Type 0

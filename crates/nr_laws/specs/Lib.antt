@@ -25,3 +25,4 @@ pub mod AnswersConvey
 pub mod Bounds
 pub mod ServerItems
 pub mod MessageSegments
+pub mod Agreed

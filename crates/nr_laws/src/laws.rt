@@ -2,6 +2,7 @@
 
 ghost use Rattle.nr_laws.specs.Touches.{ClientAccessesAreAllowed, ServerAccessesAreAllowed, ServerRefusesRequests, RevokedMemoryIsFinal};
 ghost use Rattle.nr_laws.specs.Grant.{SubmitsWithinGrant};
+ghost use Rattle.nr_laws.specs.Agreed.{SidesAgree, ClientGoesByAgreement, ServerGoesByAgreement};
 ghost use Rattle.nr_laws.specs.Bounds.{ClientOffersFewSegments, ClientOwesFewResponses, ServerReadsFew, ServerUsesItsReceives};
 ghost use Rattle.nr_laws.specs.Places.{PlacesFollow};
 ghost use Rattle.nr_laws.specs.Once.{NoSendTwice, NoCallTwice, NoXidTwice};
@@ -59,10 +60,19 @@ pub fn chunk_outcomes()
 /// On every link, whatever the peer sends, a side holds little for it at a time. A client owes at most 8 Read Responses that haven't completely
 /// left, and a server has at most 8 Read Requests open. A server that keeps its law uses no more receives than it granted credits: those of pending
 /// calls, of a Send that is begun, and of answers that haven't completely left. The lists of each call that a client which keeps its law has outstanding
-/// have at most the segments for which its Send has room.
+/// have at most the segments for which a Send of the agreed length has room.
 pub fn sides_stay_bounded()
     ensures responses { ClientOwesFewResponses }
     ensures reads { ServerReadsFew }
     ensures receives { ServerUsesItsReceives }
     ensures segments { ClientOffersFewSegments }
+{}
+
+/// On a matched link on which each side received the other's hello, both have agreed on the same lengths of Sends, and on whether a reply is a Send
+/// with Invalidate (RFC 5044 section 7.1; the terms in its private data are own). From then on each side plans calls, answers them and takes Sends
+/// by these lengths.
+pub fn sides_agree()
+    ensures same { SidesAgree }
+    ensures client { ClientGoesByAgreement }
+    ensures server { ServerGoesByAgreement }
 {}

@@ -29,7 +29,7 @@ fn action_words<'a>(action: &Action<&'a str>) -> (&'a str, &'a str, &'a str) {
     }
 }
 
-/// The command of a client with its user and group IDs, address, export, path and target, after `line`.
+/// The command of a client with its user and group IDs, units, address, export, path and target, after `line`.
 fn client_text(alloc: Global, line: &str, client: &Client<&str>) -> Result<String, AllocError> {
     let (name, path, target) = action_words(&client.action);
     let Client {
@@ -37,9 +37,10 @@ fn client_text(alloc: Global, line: &str, client: &Client<&str>) -> Result<Strin
         export,
         uid,
         gid,
+        units,
         action: _,
     } = client;
-    format!(in alloc; "{line}{name} {uid} {gid} {addr} {export} {path} {target}.")
+    format!(in alloc; "{line}{name} {uid} {gid} {units} {addr} {export} {path} {target}.")
 }
 
 /// The command with its values, after `line`.
@@ -75,7 +76,7 @@ fn read(rt: &impl Abort, alloc: Global, words: &str) -> String {
 }
 
 /// Words of a run, parted by spaces (`''` is an empty word), and how what is read of them begins.
-static ROWS: [(&str, &str); 39] = [
+static ROWS: [(&str, &str); 43] = [
     ("n drill", "line drill."),
     (
         "n drill --seed 7 --clients 3 --calls 2000",
@@ -106,22 +107,29 @@ static ROWS: [(&str, &str); 39] = [
     ("n serve -c", "refused error:"),
     ("n serve -- -c", "bad words"),
     ("n serve -- c", "serve c."),
-    ("n mount --uid 5 a e", "line mount 5 0 a e - -."),
-    ("n mount a e --uid +5", "mount 5 0 a e - -."),
+    ("n mount --uid 5 a e", "line mount 5 0 1 a e - -."),
+    ("n mount a e --uid +5", "mount 5 0 1 a e - -."),
     ("n mount a e --uid 5 --uid 5", "refused error:"),
     ("n mount a e --uid -5", "refused error:"),
     ("n mount a e --uid 4294967296", "refused error:"),
     ("n mount a e --uid", "refused error:"),
     ("n mount a e f", "refused error:"),
     ("n get a e p --jobs 2", "refused error:"),
-    ("n get a e --uid 0 p --gid 7", "line get 0 7 a e p -."),
-    ("n ln a e p t", "line ln 0 0 a e p t."),
-    ("n ls a e p", "line ls 0 0 a e p -."),
-    ("n stat a e p", "line stat 0 0 a e p -."),
-    ("n readlink a e p", "line readlink 0 0 a e p -."),
-    ("n mkdir a e p", "line mkdir 0 0 a e p -."),
-    ("n rm a e p", "line rm 0 0 a e p -."),
-    ("n put a e p", "line put 0 0 a e p -."),
+    ("n get a e --uid 0 p --gid 7", "line get 0 7 1 a e p -."),
+    (
+        "n get a --inline 16 e p --gid 7",
+        "line get 0 7 16 a e p -.",
+    ),
+    ("n mount a e --inline=02", "mount 0 0 2 a e - -."),
+    ("n mount a e --inline 0", "refused error:"),
+    ("n mount a e --inline 17", "refused error:"),
+    ("n ln a e p t", "line ln 0 0 1 a e p t."),
+    ("n ls a e p", "line ls 0 0 1 a e p -."),
+    ("n stat a e p", "line stat 0 0 1 a e p -."),
+    ("n readlink a e p", "line readlink 0 0 1 a e p -."),
+    ("n mkdir a e p", "line mkdir 0 0 1 a e p -."),
+    ("n rm a e p", "line rm 0 0 1 a e p -."),
+    ("n put a e p", "line put 0 0 1 a e p -."),
     ("n ln a e p -t", "refused error:"),
     (
         "n --help",

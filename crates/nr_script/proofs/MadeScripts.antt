@@ -10,7 +10,7 @@ use Rattle.nr_xdr.specs.Item.Item.{Unsigned, Hyper, Opaque}
 use Rattle.nr_xdr.specs.Items.{encodings}
 use Rattle.nr_script.specs.declared.script.Opening.{Opening}
 use Rattle.nr_script.specs.declared.script.Line.{Line}
-use Rattle.nr_script.specs.Limits.{clients_max, calls_max, default_capacity}
+use Rattle.nr_script.specs.Limits.{clients_max, calls_max, default_capacity, default_units}
 use Rattle.nr_script.specs.Script.{may_follow, is_client, FollowOn, HasWritableCred, IsTypedLine, IsScript}
 use Rattle.nr_script.specs.Generator.{next, drawn, below, file_args, read_args, written_bytes, file_sync, write_head, write_args, readdir_args, proc_drawn, args_drawn, after_args, move_lines, call_line, turn_lines, drawn_turn, after_drawn_turn, drawn_lines, drawn_credits, made_script, offsets_end, read_counts_end, write_counts_end, listing_count}
 use Rattle.nr_script.proofs.ByteLists.{no_bytes_lem, bytes_more, bytes_both, hyper_bytes, items_bytes}
@@ -155,7 +155,7 @@ lines_len clients (suc calls) state =
 pub made_is : (seed clients calls : ℕ) → 1 ≤ clients → clients ≤ clients_max → calls ≤ calls_max → IsScript (made_script seed clients calls)
 unfolding made_script
 made_is seed clients calls some few short =
-    let opening : Opening = record { clients = clients; credits = drawn_credits; capacity = default_capacity } in
+    let opening : Opening = record { clients = clients; credits = drawn_credits; capacity = default_capacity; client_units = default_units; server_units = default_units } in
     let made = lines_made opening calls seed some in
     let all = drawn_lines clients calls seed in
     record {
@@ -164,6 +164,10 @@ made_is seed clients calls some few short =
       some_credits = omega arith;
       few_credits = omega arith;
       capacity = omega arith;
+      some_client_units = omega arith;
+      few_client_units = omega arith;
+      some_server_units = omega arith;
+      few_server_units = omega arith;
       few_lines = (let count : length all ≤ 2 * calls + 1 = lines_len clients calls seed in omega (arith, count, short));
       follow_on = all_follow opening [] all made;
       creds = all_creds opening all made;

@@ -13,17 +13,18 @@ use Rattle.nr_nfs_base.specs.Procedures.{nfs_program, nfs_version, mount_program
 use Rattle.nr_rpc.specs.declared.cred.Cred.TheVariants as creds
 use Rattle.nr_reduce.specs.declared.call.Form.TheVariants as forms
 use Rattle.nr_reduce.specs.declared.call.Offer.{Offer}
+use Rattle.nr_wire.specs.Constants.{UNITS_MAX}
 use Rattle.nr_reduce.specs.Limits.{credits_max}
 use Rattle.nr_script.specs.declared.script.Opening.{Opening}
 use Rattle.nr_script.specs.declared.script.Line.{Line}
 use Rattle.nr_script.specs.declared.script.Line.TheVariants as lines
 use Rattle.nr_script.specs.declared.program.Program.{Program}
 use Rattle.nr_outside.specs.Whole.{input_max}
-use Rattle.nr_script.specs.Limits.{clients_max, number_max, capacity_max}
+use Rattle.nr_script.specs.Limits.{clients_max, number_max, default_capacity, capacity_max}
 use Rattle.nr_script.specs.Words.{◌>>=◌, is_numeral, numeral_value, number_within, number_in, decoded, bytes_in, arguments_in, parts}
 use Rattle.nr_script.specs.Forms.{OfferPart, semicolon, equals, at_sign, dot, lengths_in, write_lengths_in, position_by, read_part, write_part, reply_part, named_part, part_by, part_in, nothing_offered, with_part, offer_by, offer_in, given, given_form, form_in, numbered_program, program_in}
 use Rattle.nr_script.specs.Forms.OfferPart.{Read, Write, Reply}
-use Rattle.nr_script.specs.Lines.{capacity_in, opening_of, opening_in, sys_cred, sys_line, cred_line_of, cred_line, target_in, call_with, call_line, one_number, two_numbers, client_line, number_line, side_in, raw_line, drain_line, later_line, plain_line, line_named, line_in}
+use Rattle.nr_script.specs.Lines.{capacity_in, sizes_of, sizes_in, opening_of, opening_in, sys_cred, sys_line, cred_line_of, cred_line, target_in, call_with, call_line, one_number, two_numbers, client_line, number_line, side_in, raw_line, drain_line, later_line, plain_line, line_named, line_in}
 use Rattle.nr_script.specs.Script.{ScriptLines, may_follow, space, newline, is_ascii, is_skipped, opened_by, followed_by, with_words, if_read, with_text, script_at_end, read_on, script_from, script_of, FollowOn, HasWritableCred, HasWordPosition, IsTypedLine, IsScript}
 use Rattle.nr_script.specs.private.Steps.{opened}
 use Rattle.nr_script.proofs.ByteLists.{no_bytes_lem, decided}
@@ -279,29 +280,49 @@ record OpeningIsRight (o : Opening) : Type 0 where
   some_credits : 1 ≤ o.credits
   few_credits : o.credits ≤ credits_max
   capacity : o.capacity ≤ capacity_max
+  some_client_units : 1 ≤ o.client_units
+  few_client_units : o.client_units ≤ UNITS_MAX
+  some_server_units : 1 ≤ o.server_units
+  few_server_units : o.server_units ≤ UNITS_MAX
 
-abbrev CapacityFits : ℕ → Type 0
-CapacityFits n = n ≤ capacity_max
+abbrev CapacityFits : ℕ × List (List ℕ) → Type 0
+CapacityFits p = p.0 ≤ capacity_max
 
 capacity_if : (words : List (List ℕ)) → If CapacityFits (capacity_in words)
 capacity_if [] = omega arith
-capacity_if (name ∷ []) = tt
-capacity_if (name ∷ bytes ∷ []) =
-    if_if CapacityFits (bytes_eq name (codes "capacity")) (number_within 0 capacity_max bytes) None (by (number_within 0 capacity_max bytes) (within_if 0 capacity_max bytes)) tt
-  where
-    by : (o : Option ℕ) → If (λ n. (0 ≤ n) × (n ≤ capacity_max)) o → If CapacityFits o
-    by None h = tt
-    by (Some n) h = h.1
-capacity_if (name ∷ bytes ∷ more ∷ others) = tt
+capacity_if (name ∷ []) = omega arith
+capacity_if (name ∷ bytes ∷ others) =
+    if_if CapacityFits (bytes_eq name (codes "capacity")) (number_within 0 capacity_max bytes >>= λ b. Some (b, others)) (Some (default_capacity, name ∷ bytes ∷ others))
+    (then_if (λ n. (0 ≤ n) × (n ≤ capacity_max)) CapacityFits (number_within 0 capacity_max bytes) (λ b. Some (b, others)) (within_if 0 capacity_max bytes) (λ b h. h.1)) (omega arith)
+
+abbrev AreUnits : ℕ → Type 0
+AreUnits units = (1 ≤ units) × (units ≤ UNITS_MAX)
+
+abbrev SizesFit : ℕ × ℕ → Type 0
+SizesFit p = AreUnits p.0 × AreUnits p.1
+
+sizes_if : (words : List (List ℕ)) → If SizesFit (sizes_in words)
+sizes_if [] = ((omega arith, omega arith), (omega arith, omega arith))
+sizes_if (name ∷ []) = tt
+sizes_if (name ∷ client ∷ []) = tt
+sizes_if (name ∷ client ∷ server ∷ []) =
+    if_if SizesFit (bytes_eq name (codes "sizes")) (sizes_of client server) None
+    (then_if AreUnits SizesFit (number_within 1 UNITS_MAX client) (λ a. number_within 1 UNITS_MAX server >>= λ b. Some (a, b)) (within_if 1 UNITS_MAX client)
+    (λ a h. then_if AreUnits SizesFit (number_within 1 UNITS_MAX server) (λ b. Some (a, b)) (within_if 1 UNITS_MAX server) (λ b k. (h, k)))) tt
+sizes_if (name ∷ client ∷ server ∷ more ∷ others) = tt
 
 opening_of_if : (clients credits : List ℕ) (others : List (List ℕ)) → If OpeningIsRight (opening_of clients credits others)
 opening_of_if clients credits others =
     then_if (λ n. (1 ≤ n) × (n ≤ clients_max)) OpeningIsRight (number_within 1 clients_max clients)
-    (λ n. number_within 1 credits_max credits >>= λ g. capacity_in others >>= λ b. Some (record { clients = n; credits = g; capacity = b })) (within_if 1 clients_max clients)
+    (λ n. number_within 1 credits_max credits >>= λ g. capacity_in others >>= λ p. sizes_in p.1 >>= λ s. made n g p s) (within_if 1 clients_max clients)
     (λ n h. then_if (λ g. (1 ≤ g) × (g ≤ credits_max)) OpeningIsRight (number_within 1 credits_max credits)
-    (λ g. capacity_in others >>= λ b. Some (record { clients = n; credits = g; capacity = b })) (within_if 1 credits_max credits)
-    (λ g k. then_if CapacityFits OpeningIsRight (capacity_in others) (λ b. Some (record { clients = n; credits = g; capacity = b })) (capacity_if others)
-    (λ b f. record { some_clients = h.0; few_clients = h.1; some_credits = k.0; few_credits = k.1; capacity = f })))
+    (λ g. capacity_in others >>= λ p. sizes_in p.1 >>= λ s. made n g p s) (within_if 1 credits_max credits)
+    (λ g k. then_if CapacityFits OpeningIsRight (capacity_in others) (λ p. sizes_in p.1 >>= λ s. made n g p s) (capacity_if others)
+    (λ p f. then_if SizesFit OpeningIsRight (sizes_in p.1) (λ s. made n g p s) (sizes_if p.1)
+    (λ s u. record { some_clients = h.0; few_clients = h.1; some_credits = k.0; few_credits = k.1; capacity = f; some_client_units = u.0.0; few_client_units = u.0.1; some_server_units = u.1.0; few_server_units = u.1.1 }))))
+  where
+    made : ℕ → ℕ → ℕ × List (List ℕ) → ℕ × ℕ → Option Opening
+    made n g p s = Some (record { clients = n; credits = g; capacity = p.0; client_units = s.0; server_units = s.1 })
 
 opening_if : (words : List (List ℕ)) → If OpeningIsRight (opening_in words)
 unfolding opening_in
@@ -325,11 +346,7 @@ all_more P (l ∷ all) line h p = (h.0, all_more P all line h.1 p)
 
 -- a script that is being read, but for its number of lines
 record IsRead (script : ScriptLines) : Type 0 where
-  some_clients : 1 ≤ script.opening.clients
-  few_clients : script.opening.clients ≤ clients_max
-  some_credits : 1 ≤ script.opening.credits
-  few_credits : script.opening.credits ≤ credits_max
-  capacity : script.opening.capacity ≤ capacity_max
+  opening : OpeningIsRight script.opening
   follow_on : FollowOn script.opening [] script.lines
   creds : AllByRecursion HasWritableCred script.lines
   typed : AllByRecursion IsTypedLine script.lines
@@ -337,11 +354,7 @@ record IsRead (script : ScriptLines) : Type 0 where
 opened_if : (o : Option Opening) → If OpeningIsRight o → If IsRead (opened_by o)
 opened_if None h = tt
 opened_if (Some o) h = record {
-  some_clients = h.some_clients;
-  few_clients = h.few_clients;
-  some_credits = h.some_credits;
-  few_credits = h.few_credits;
-  capacity = h.capacity;
+  opening = h;
   follow_on = tt;
   creds = tt;
   typed = tt;
@@ -353,11 +366,7 @@ followed_if script (Some line) is h = by (may_follow script.opening script.lines
   where
     by : (b : Bool) → may_follow script.opening script.lines line ≡ b → If IsRead (cond b (Some (record script { lines = script.lines ++ line ∷ [] })) None)
     by true e = record {
-      some_clients = is.some_clients;
-      few_clients = is.few_clients;
-      some_credits = is.some_credits;
-      few_credits = is.few_credits;
-      capacity = is.capacity;
+      opening = is.opening;
       follow_on = follow_more script.opening [] script.lines line e is.follow_on;
       creds = all_more HasWritableCred script.lines line is.creds h.1;
       typed = all_more IsTypedLine script.lines line is.typed h.0;
@@ -383,7 +392,7 @@ text_if read text h =
 
 -- the first line names few clients
 pub opened_clients : (line : List ℕ) (opening : Opening) → with_text None line ≡ Some (Some (opened opening)) → opening.clients ≤ clients_max
-opened_clients line opening e = (subst (λ (o : Option (Option ScriptLines)). If IfScript o) e (text_if None line tt)).few_clients
+opened_clients line opening e = (subst (λ (o : Option (Option ScriptLines)). If IfScript o) e (text_if None line tt)).opening.few_clients
 
 abbrev OkScript : Result ScriptLines ℕ → Type 0
 OkScript (Ok script) = IsRead script
@@ -472,11 +481,15 @@ script_is text script short e =
     let count : length (parts newline text) ≡ count_by (λ c. c == newline) text + 1 = length-slice_split (λ c. c == newline) text in
     let within : count_by (λ c. c == newline) text ≤ length text = count_by-le-length (λ c. c == newline) text in
     record {
-      some_clients = is.some_clients;
-      few_clients = is.few_clients;
-      some_credits = is.some_credits;
-      few_credits = is.few_credits;
-      capacity = is.capacity;
+      some_clients = is.opening.some_clients;
+      few_clients = is.opening.few_clients;
+      some_credits = is.opening.some_credits;
+      few_credits = is.opening.few_credits;
+      capacity = is.opening.capacity;
+      some_client_units = is.opening.some_client_units;
+      few_client_units = is.opening.few_client_units;
+      some_server_units = is.opening.some_server_units;
+      few_server_units = is.opening.few_server_units;
       few_lines = omega (arith, few, count, within, short);
       follow_on = is.follow_on;
       creds = is.creds;

@@ -8,7 +8,7 @@ use Rattle.nr_nfs_base.specs.Procedures.{nfs_program, nfs_version}
 use Rattle.nr_reduce.specs.declared.call.Form.TheVariants.{Auto}
 use Rattle.nr_script.specs.declared.script.Line.{Line}
 use Rattle.nr_script.specs.declared.script.Line.TheVariants as lines
-use Rattle.nr_script.specs.Limits.{default_capacity}
+use Rattle.nr_script.specs.Limits.{default_capacity, default_units}
 use Rattle.nr_script.specs.Script.{ScriptLines}
 
 -- ===== draws
@@ -125,6 +125,6 @@ drawn_credits = 8
 -- the script of a seed, of this many clients and calls
 unfoldable pub made_script : ℕ → ℕ → ℕ → ScriptLines
 made_script seed clients calls = record {
-  opening = record { clients = clients; credits = drawn_credits; capacity = default_capacity };
+  opening = record { clients = clients; credits = drawn_credits; capacity = default_capacity; client_units = default_units; server_units = default_units };
   lines = drawn_lines clients calls seed;
 }

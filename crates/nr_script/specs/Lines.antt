@@ -5,30 +5,43 @@ use Rattle.nr_rpc.specs.declared.cred.Cred.{Cred}
 use Rattle.nr_rpc.specs.declared.cred.Cred.TheVariants as creds
 use Rattle.nr_wire.specs.declared.hello.Side.{Side}
 use Rattle.nr_wire.specs.declared.hello.Side.TheVariants.{Initiator, Responder}
+use Rattle.nr_wire.specs.Constants.{UNITS_MAX}
 use Rattle.nr_reduce.specs.Limits.{credits_max}
 use Rattle.nr_script.specs.declared.script.Opening.{Opening}
 use Rattle.nr_script.specs.declared.script.Line.{Line}
 use Rattle.nr_script.specs.declared.script.Line.TheVariants as lines
 use Rattle.nr_reduce.specs.declared.call.Form.{Form}
 use Rattle.nr_script.specs.declared.program.Program.{Program}
-use Rattle.nr_script.specs.Limits.{clients_max, default_capacity, capacity_max}
+use Rattle.nr_script.specs.Limits.{clients_max, default_capacity, default_units, capacity_max}
 use Rattle.nr_script.specs.Words.{◌>>=◌, number_within, number_in, bytes_in, arguments_in}
 use Rattle.nr_script.specs.Forms.{form_in, program_in}
 
 -- ===== the first line
 
--- `clients N credits G`, and then ` capacity B` if it is given: its number of bytes, or the default
-abbrev pub capacity_in : List (List ℕ) → Option ℕ
-capacity_in [] = Some default_capacity
-capacity_in (name ∷ bytes ∷ []) = if bytes_eq name (codes "capacity") then number_within 0 capacity_max bytes else None
-capacity_in words = None
+-- `clients N credits G`, then ` capacity B` if it is given, and then ` sizes A B` if it is given
+
+-- the number of bytes of `capacity B`, or the default if the words begin with another, and the words that are left
+abbrev pub capacity_in : List (List ℕ) → Option (ℕ × List (List ℕ))
+capacity_in (name ∷ bytes ∷ others) =
+    if bytes_eq name (codes "capacity") then (number_within 0 capacity_max bytes >>= λ b. Some (b, others)) else Some (default_capacity, name ∷ bytes ∷ others)
+capacity_in words = Some (default_capacity, words)
+
+-- the units of each client and of each server, of `sizes A B` or the default, if no words are left
+abbrev pub sizes_of : List ℕ → List ℕ → Option (ℕ × ℕ)
+sizes_of client server = number_within 1 UNITS_MAX client >>= λ a. number_within 1 UNITS_MAX server >>= λ b. Some (a, b)
+
+abbrev pub sizes_in : List (List ℕ) → Option (ℕ × ℕ)
+sizes_in [] = Some (default_units, default_units)
+sizes_in (name ∷ client ∷ server ∷ []) = if bytes_eq name (codes "sizes") then sizes_of client server else None
+sizes_in words = None
 
 abbrev pub opening_of : List ℕ → List ℕ → List (List ℕ) → Option Opening
 opening_of clients credits others = do
   n ← number_within 1 clients_max clients
   g ← number_within 1 credits_max credits
-  b ← capacity_in others
-  Some (record { clients = n; credits = g; capacity = b })
+  capacity ← capacity_in others
+  sizes ← sizes_in capacity.1
+  Some (record { clients = n; credits = g; capacity = capacity.0; client_units = sizes.0; server_units = sizes.1 })
 
 unfoldable pub opening_in : List (List ℕ) → Option Opening
 opening_in (first ∷ clients ∷ second ∷ credits ∷ others) =

@@ -13,6 +13,7 @@ use Rattle.nr_script.specs.declared.script.Line.{Line}
 use Rattle.nr_script.specs.declared.script.Line.TheVariants as lines
 use Rattle.nr_script.specs.declared.script.ScriptFault.{ScriptFault}
 use Rattle.nr_script.specs.declared.script.ScriptFault.TheVariants as faults
+use Rattle.nr_wire.specs.Constants.{UNITS_MAX}
 use Rattle.nr_reduce.specs.Limits.{credits_max}
 use Rattle.nr_script.specs.Limits.{clients_max, capacity_max, number_max, lines_max}
 use Rattle.nr_script.specs.Words.{parts}
@@ -168,6 +169,10 @@ pub record IsScript (script : ScriptLines) : Type 0 where
   pub some_credits : 1 ≤ script.opening.credits
   pub few_credits : script.opening.credits ≤ credits_max
   pub capacity : script.opening.capacity ≤ capacity_max
+  pub some_client_units : 1 ≤ script.opening.client_units
+  pub few_client_units : script.opening.client_units ≤ UNITS_MAX
+  pub some_server_units : 1 ≤ script.opening.server_units
+  pub few_server_units : script.opening.server_units ≤ UNITS_MAX
   pub few_lines : length script.lines ≤ lines_max
   pub follow_on : FollowOn script.opening [] script.lines
   pub creds : AllByRecursion HasWritableCred script.lines

@@ -6,7 +6,7 @@ ghost use Rattle.nr_xdr.specs.Item.{encoding, hyper};
 ghost use Rattle.nr_script.specs.Limits.{calls_max, clients_max};
 ghost use Rattle.nr_script.specs.Generator.{after_args, after_drawn_turn, after_move, after_turn, args_drawn, below, drawn_turn, file_args, drawn_lines, made_script, move_lines, next, proc_drawn, read_args, readdir_args, turn_lines, write_args, write_head, written_bytes};
 
-use crate::lines::DEFAULT_CAPACITY;
+use crate::lines::{DEFAULT_CAPACITY, DEFAULT_UNITS};
 use crate::script::{Line, Opening, Script};
 use nr_nfs_base::NFS_PROGRAM;
 use nr_reduce::Form;
@@ -264,6 +264,8 @@ pub fn make_script(alloc: Global, seed: u64, clients: u32, calls: u64) -> Result
         clients,
         credits: 8,
         capacity: DEFAULT_CAPACITY,
+        client_units: DEFAULT_UNITS,
+        server_units: DEFAULT_UNITS,
     };
     Ok(Script::new(opening, lines))
 }

@@ -1,8 +1,9 @@
 //! The lines of a script, word by word.
 
-ghost use Rattle.std.specs.Prelude.{◌≡◌, None, Some, IfOk, MatchOption, if◌then◌else◌, codes, []};
+ghost use Rattle.std.specs.Prelude.{◌≡◌, None, Some, IfOk, MatchOption, if◌then◌else◌, codes, option_map, []};
 ghost use Rattle.std.specs.Str.{bytes_eq};
-ghost use Rattle.nr_script.specs.Lines.{capacity_in, call_line, cred_line, line_in, line_named, call_with, later_line, one_number, opening_in, opening_of, plain_line, raw_line, side_in, sys_cred, sys_line, target_in, two_numbers};
+ghost use Rattle.nr_script.specs.Lines.{capacity_in, sizes_in, call_line, cred_line, line_in, line_named, call_with, later_line, one_number, opening_in, opening_of, plain_line, raw_line, side_in, sys_cred, sys_line, target_in, two_numbers};
+ghost use Rattle.nr_wire.specs.Constants.{UNITS_MAX as units_max};
 ghost use Rattle.nr_script.specs.private.Pieces.{texts};
 ghost use Rattle.nr_script.specs.Words.{number_within};
 
@@ -13,6 +14,7 @@ use crate::words::{arguments_in, bytes_in, is, number_in, number_within};
 use nr_reduce::{CREDITS_MAX, Form};
 use nr_rpc::{Cred, Gids};
 use nr_wire::Side;
+use nr_wire::constants::UNITS_MAX;
 use nr_xdr::{Memory, Octets};
 use std::alloc::Global;
 
@@ -22,20 +24,52 @@ pub const DEFAULT_CAPACITY: u64 = 1_099_511_627_776;
 /// The maximum that a script may let the journal cost, in bytes.
 pub const CAPACITY_MAX: u64 = 9_223_372_036_854_775_807;
 
+/// The units of a client and of a server, if a script doesn't say.
+pub(crate) const DEFAULT_UNITS: u8 = 1;
+
 /// The maximum number of clients of a script.
 pub const CLIENTS_MAX: u32 = 16;
 
-fn capacity_in(words: &[&[u8]]) -> Option<u64>
-    ensures { result ≡ capacity_in (texts words.now) }
+/// The number of bytes of `capacity B`, or the default if the words begin with another, and the words that are left.
+fn capacity_in<'a>(words: &'a [&'a [u8]]) -> Option<(u64, &'a [&'a [u8]])>
+    ensures { option_map (λ p. (p.0, texts p.1.now)) result ≡ capacity_in (texts words.now) }
 {
     match words {
-        [] => Some(DEFAULT_CAPACITY),
-        [name, bytes] => {
+        [name, bytes, others @ ..] => {
             if is(name, b"capacity") {
-                number_within(0, CAPACITY_MAX, bytes)
+                let bytes = number_within(0, CAPACITY_MAX, bytes)?;
+                Some((bytes, others))
             } else {
-                None
+                Some((DEFAULT_CAPACITY, words))
             }
+        }
+        _ => Some((DEFAULT_CAPACITY, words)),
+    }
+}
+
+/// A number of units.
+fn units_in(word: &[u8]) -> Option<u8>
+    ensures { result ≡ number_within 1 units_max word.now }
+{
+    match number_within(1, u64::from(UNITS_MAX), word) {
+        Some(value) => Some(value as u8),
+        None => None,
+    }
+}
+
+/// The units of each client and of each server: those of `sizes A B`, or the default if no words are left.
+fn sizes_in(words: &[&[u8]]) -> Option<(u8, u8)>
+    ensures { result ≡ sizes_in (texts words.now) }
+{
+    match words {
+        [] => Some((DEFAULT_UNITS, DEFAULT_UNITS)),
+        [name, client, server] => {
+            if !is(name, b"sizes") {
+                return None;
+            }
+            let client = units_in(client)?;
+            let server = units_in(server)?;
+            Some((client, server))
         }
         _ => None,
     }
@@ -56,15 +90,18 @@ fn opening_of(clients: &[u8], credits: &[u8], others: &[&[u8]]) -> Option<Openin
 {
     let clients = count_in(CLIENTS_MAX, clients)?;
     let credits = count_in(CREDITS_MAX, credits)?;
-    let capacity = capacity_in(others)?;
+    let (capacity, others) = capacity_in(others)?;
+    let (client_units, server_units) = sizes_in(others)?;
     Some(Opening {
         clients,
         credits,
         capacity,
+        client_units,
+        server_units,
     })
 }
 
-/// The first line: `clients N credits G`, and then ` capacity B` if it is given.
+/// The first line: `clients N credits G`, then ` capacity B` if it is given, and then ` sizes A B` if it is given.
 #[tactic(auto, unfolding(crate::specs::Lines::opening_in))]
 pub(crate) fn opening_in(words: &[&[u8]]) -> Option<Opening>
     ensures { result ≡ opening_in (texts words.now) }

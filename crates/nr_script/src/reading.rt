@@ -125,7 +125,8 @@ fn add_lines(alloc: Global, draft: &mut Draft, first: u64, text: &[u8]) -> Resul
     }
 }
 
-/// Reads the text of a script: `clients N credits G`, with ` capacity B` after it if it is given, and then the other lines.
+/// Reads the text of a script: `clients N credits G`, with ` capacity B` and then ` sizes A B` after it if they are given, and
+/// then the other lines.
 /// Each line ends with a newline, and words are separated by one space. Empty lines and lines that begin with `#` are
 /// skipped. All is ASCII. The text may have at most `nr_outside::INPUT_MAX` bytes.
 ///

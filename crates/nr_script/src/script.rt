@@ -19,6 +19,10 @@ pub struct Opening {
     pub credits: u32,
     /// How many bytes the journal may cost: at most 2^63 - 1.
     pub capacity: u64,
+    /// The units of the Sends of each client, of 1,024 bytes each: 1 to 16.
+    pub client_units: u8,
+    /// The units of the Sends of each server: 1 to 16.
+    pub server_units: u8,
 }
 
 /// Any other line of a script. A client is named by its number, from 1, and so is its link.

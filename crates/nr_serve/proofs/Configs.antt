@@ -5,10 +5,11 @@ use Rattle.std.proofs.lemmas.Option.{none-some, same_Some}
 use Rattle.std.specs.Str.{is_utf8}
 use Rattle.toml.specs.Data.{Members}
 use Rattle.toml.specs.Parse.{parse_document}
+use Rattle.nr_words.specs.declared.settings.Numbers.{Numbers}
 use Rattle.nr_words.specs.declared.settings.Settings.{Settings}
 use Rattle.nr_words.specs.Lines.{Text}
 use Rattle.nr_words.specs.Limits.{capacity_max, connections_max, credits_max}
-use Rattle.nr_words.specs.Settings.{config_of, count, in_range, integer_at, number_at, path_at, settings_of, text_at, verifier_at, keys_of, records_at}
+use Rattle.nr_words.specs.Settings.{choices_of, config_of, count, in_range, integer_at, keys_of, number_at, numbers_of, path_at, settings_of, text_at, verifier_at}
 use Rattle.nr_serve.specs.Stops.{InRanges}
 
 -- what a step gives came of what the step before gave
@@ -16,9 +17,9 @@ and_then_some : {A B : Type 0} (f : A → Option B) (o : Option A) (y : B) → o
 and_then_some f None y is = absurd (none-some y is)
 and_then_some f (Some x) y is = (x, (refl, is))
 
-map_some : {A B : Type 0} (f : A → B) (o : Option A) (y : B) → option_map f o ≡ Some y → (x : A) × (f x ≡ y)
+map_some : {A B : Type 0} (f : A → B) (o : Option A) (y : B) → option_map f o ≡ Some y → (x : A) × ((o ≡ Some x) × (f x ≡ y))
 map_some f None y is = absurd (none-some y is)
-map_some f (Some x) y is = (x, same_Some (f x) y is)
+map_some f (Some x) y is = (x, (refl, same_Some (f x) y is))
 
 if_some : {A : Type 0} (b : Bool) (o : Option A) (y : A) → (if b then o else None) ≡ Some y → (b ≡ true) × (o ≡ Some y)
 if_some true o y is = (refl, is)
@@ -41,20 +42,31 @@ number_within low high n key members is =
     let (z, (at, range)) = and_then_some (in_range low high) (integer_at key members) n is in
     within low high n z range
 
+numbers_fit : (members : Members) (n : Numbers) → numbers_of members ≡ Some n → (n.credits ≤ credits_max) × ((n.capacity ≤ capacity_max) × (n.connections ≤ connections_max))
+numbers_fit members n is =
+    let (credits, (at1, e1)) = and_then_some _ (number_at 1 credits_max (codes "credits") members) n is in
+    let (capacity, (at2, e2)) = and_then_some _ (number_at 0 capacity_max (codes "capacity") members) n e1 in
+    let (connections, (at3, same)) = map_some _ (number_at 1 connections_max (codes "connections") members) n e2 in (
+      subst (λ (m : Numbers). m.credits ≤ credits_max) same (number_within 1 credits_max credits (codes "credits") members at1),
+      (
+        subst (λ (m : Numbers). m.capacity ≤ capacity_max) same (number_within 0 capacity_max capacity (codes "capacity") members at2),
+        subst (λ (m : Numbers). m.connections ≤ connections_max) same (number_within 1 connections_max connections (codes "connections") members at3),
+      ),
+    )
+
 ranges : (members : Members) (s : Settings Text) → settings_of members ≡ Some s → InRanges s
 ranges members s is =
-    let (six, e0) = if_some (count members == keys_of members) _ s is in
+    let (keys, e0) = if_some (count members == keys_of members) _ s is in
     let (listen, (at1, e1)) = and_then_some _ (text_at (codes "listen") members) s e0 in
     let (export, (at2, e2)) = and_then_some _ (path_at (codes "export") members) s e1 in
-    let (credits, (at3, e3)) = and_then_some _ (number_at 1 credits_max (codes "credits") members) s e2 in
-    let (capacity, (at4, e4)) = and_then_some _ (number_at 0 capacity_max (codes "capacity") members) s e3 in
-    let (connections, (at5, e5)) = and_then_some _ (number_at 1 connections_max (codes "connections") members) s e4 in
-    let (verifier, (at6, e6)) = and_then_some _ (verifier_at (codes "write_verifier") members) s e5 in
-    let (records, same) = map_some _ (records_at members) s e6 in
+    let (numbers, (at3, e3)) = and_then_some _ (numbers_of members) s e2 in
+    let (verifier, (at4, e4)) = and_then_some _ (verifier_at (codes "write_verifier") members) s e3 in
+    let (choices, (at5, same)) = map_some _ (choices_of members) s e4 in
+    let fit = numbers_fit members numbers at3 in
     record {
-      credits = subst (λ (t : Settings Text). t.credits ≤ credits_max) same (number_within 1 credits_max credits (codes "credits") members at3);
-      capacity = subst (λ (t : Settings Text). t.capacity ≤ capacity_max) same (number_within 0 capacity_max capacity (codes "capacity") members at4);
-      connections = subst (λ (t : Settings Text). t.connections ≤ connections_max) same (number_within 1 connections_max connections (codes "connections") members at5);
+      credits = subst (λ (t : Settings Text). t.credits ≤ credits_max) same fit.0;
+      capacity = subst (λ (t : Settings Text). t.capacity ≤ capacity_max) same fit.1.0;
+      connections = subst (λ (t : Settings Text). t.connections ≤ connections_max) same fit.1.1;
     }
 
 pub in_ranges : (text : List ℕ) (s : Settings Text) → config_of text ≡ Some s → InRanges s

@@ -135,6 +135,7 @@ where
         config.credits as u32,
         config.records,
         config.connections as u32,
+        config.units,
     ) {
         Ok(ran) => {
             drop(ran);

@@ -62,5 +62,5 @@ CommandHasStatus setup opened link c status dialer dialer' input input' out out'
 abbrev pub ServedCommandsHaveStatuses : Type 0
 ServedCommandsHaveStatuses =
     (setup : Setup) (opened : LinkParameters) (link : ℕ) (c : Client Text) (status : ℕ) (dialer dialer' : DialerAt) (input input' : SourceAt) (out out' err err' : SinkAt)
-    (end : ClientEnds c status dialer dialer' input input' out out' err err') → IsSane setup.tree → IsSession opened →
+    (end : ClientEnds c status dialer dialer' input input' out out' err err') → IsSane setup.tree → IsSession opened c.units →
     CommandHasStatus setup opened link c status dialer dialer' input input' out out' err err' end

@@ -1,6 +1,6 @@
 -- The command of a line is one that a line can ask for: its positionals are positionals, its numbers in their ranges.
 use Rattle.std.proofs.Common.{◌≡◌, ℕ, ◌<◌, ◌≤◌, Bool, true, false, cond, eqb, List, [], ◌∷◌, Option, Some, None, option_map, refl, subst, arith}
-use Rattle.std.specs.Prelude.{◌&&◌, nat_le, is_some, option_and_then}
+use Rattle.std.specs.Prelude.{◌&&◌, nat_le, is_some, option_and_then, unwrap_or}
 use Rattle.std.proofs.lemmas.Bool.Decides.{nat_tests}
 use Rattle.std.proofs.lemmas.Bool.{eqb-true}
 use Rattle.std.proofs.lemmas.Option.{option_and_then_some, same_Some, none-some, cond_some}
@@ -13,10 +13,10 @@ use Rattle.nr_words.specs.declared.lines.OptionName.TheVariants as option_names
 use Rattle.nr_words.specs.declared.lines.Options.{Options}
 use Rattle.nr_words.specs.declared.lines.Positionals.{Positionals}
 use Rattle.nr_words.specs.declared.lines.State.{State}
-use Rattle.nr_words.specs.Limits.{calls_max, clients_max}
+use Rattle.nr_words.specs.Limits.{calls_max, clients_max, default_units, units_max}
 use Rattle.nr_words.specs.Numbers.{has_leading_zero, number_within, numeral_within, value_after, within}
 use Rattle.nr_words.specs.Lines.{Text, after_free_word, after_word, arity, client, complete, drill_of, finished, is_positional, line_of, once, option_named, start, step, steps, subcommand_named, takes, with_positional, with_value}
-use Rattle.nr_words.specs.Reads.{is_action, is_command}
+use Rattle.nr_words.specs.Reads.{are_units, is_action, is_command}
 
 -- ---- Numbers in their ranges
 
@@ -45,6 +45,7 @@ numeral_fits high text = by (has_leading_zero text)
     by false = number_fits high text
 
 record OptionsFit (o : Options) : Type 0 where
+  inline : InRange units_max o.inline
   clients : InRange clients_max o.clients
   calls : InRange calls_max o.calls
 
@@ -54,11 +55,12 @@ once_fits None None with_number o e f = absurd (none-some _ e)
 once_fits (Some m) value with_number o e f = absurd (none-some _ e)
 
 value_fits : (o : Options) (name : OptionName) (word : Text) (t : Options) → OptionsFit o → with_value o name word ≡ Some t → OptionsFit t
-value_fits o option_names.Uid word t fits e = once_fits o.uid _ _ t e (λ n is. record { clients = fits.clients; calls = fits.calls })
-value_fits o option_names.Gid word t fits e = once_fits o.gid _ _ t e (λ n is. record { clients = fits.clients; calls = fits.calls })
-value_fits o option_names.Seed word t fits e = once_fits o.seed _ _ t e (λ n is. record { clients = fits.clients; calls = fits.calls })
-value_fits o option_names.Clients word t fits e = once_fits o.clients _ _ t e (λ n is. record { clients = subst (InRange clients_max) is (numeral_fits clients_max word); calls = fits.calls })
-value_fits o option_names.Calls word t fits e = once_fits o.calls _ _ t e (λ n is. record { clients = fits.clients; calls = subst (InRange calls_max) is (numeral_fits calls_max word) })
+value_fits o option_names.Uid word t fits e = once_fits o.uid _ _ t e (λ n is. record { inline = fits.inline; clients = fits.clients; calls = fits.calls })
+value_fits o option_names.Gid word t fits e = once_fits o.gid _ _ t e (λ n is. record { inline = fits.inline; clients = fits.clients; calls = fits.calls })
+value_fits o option_names.Inline word t fits e = once_fits o.inline _ _ t e (λ n is. record { inline = subst (InRange units_max) is (numeral_fits units_max word); clients = fits.clients; calls = fits.calls })
+value_fits o option_names.Seed word t fits e = once_fits o.seed _ _ t e (λ n is. record { inline = fits.inline; clients = fits.clients; calls = fits.calls })
+value_fits o option_names.Clients word t fits e = once_fits o.clients _ _ t e (λ n is. record { inline = fits.inline; clients = subst (InRange clients_max) is (numeral_fits clients_max word); calls = fits.calls })
+value_fits o option_names.Calls word t fits e = once_fits o.calls _ _ t e (λ n is. record { inline = fits.inline; clients = fits.clients; calls = subst (InRange calls_max) is (numeral_fits calls_max word) })
 
 -- ---- Positionals
 
@@ -130,7 +132,7 @@ steps_fit subcommand s (word ∷ words) t fits e =
 
 start_fits : StateFits start
 start_fits = record {
-  options = record { clients = tt; calls = tt };
+  options = record { inline = tt; clients = tt; calls = tt };
   positionals = record {
     first = λ lt. absurd (omega (arith, lt));
     second = λ lt. absurd (omega (arith, lt));
@@ -150,26 +152,31 @@ drill_possible None (Some n) calls c a b e = absurd (none-some c e)
 drill_possible (Some seed) None calls c a b e = absurd (none-some c e)
 drill_possible (Some seed) (Some n) None c a b e = absurd (none-some c e)
 
-client_possible : (o : Options) (p : Positionals Text) (action : Action Text) (c : Command Text) → PositionalsFit p → 2 ≤ p.count → is_action action ≡ true → client o p action ≡ Some c → is_command c ≡ true
-client_possible o p action c fits two good e =
+units_possible : (inline : Option ℕ) → InRange units_max inline → are_units (unwrap_or inline default_units) ≡ true
+units_possible None h = refl
+units_possible (Some n) h = grind (arith, nat_tests, h.0, h.1)
+
+client_possible : (o : Options) (p : Positionals Text) (action : Action Text) (c : Command Text) → OptionsFit o → PositionalsFit p → 2 ≤ p.count → is_action action ≡ true → client o p action ≡ Some c → is_command c ≡ true
+client_possible o p action c opt fits two good e =
     let one = fits.first (omega (arith, two)) in
     let other = fits.second (omega (arith, two)) in
-    subst (λ (x : Command Text). is_command x ≡ true) (same_Some _ c e) (rw (one, other, good) refl)
+    let units = units_possible o.inline opt.inline in
+    subst (λ (x : Command Text). is_command x ≡ true) (same_Some _ c e) (rw (one, other, units, good) refl)
 
 complete_possible : (subcommand : Subcommand) (o : Options) (p : Positionals Text) (c : Command Text) → OptionsFit o → PositionalsFit p → p.count ≡ arity subcommand → complete subcommand o p ≡ Some c → is_command c ≡ true
 complete_possible subcommands.Serve o p c opt fits n e = subst (λ (x : Command Text). is_command x ≡ true) (same_Some _ c e) (fits.first (omega (arith, n)))
-complete_possible subcommands.Mount o p c opt fits n e = client_possible o p _ c fits (omega (arith, n)) refl e
-complete_possible subcommands.List o p c opt fits n e = client_possible o p _ c fits (omega (arith, n)) (fits.third (omega (arith, n))) e
-complete_possible subcommands.Stat o p c opt fits n e = client_possible o p _ c fits (omega (arith, n)) (fits.third (omega (arith, n))) e
-complete_possible subcommands.ReadLink o p c opt fits n e = client_possible o p _ c fits (omega (arith, n)) (fits.third (omega (arith, n))) e
-complete_possible subcommands.MakeDirectory o p c opt fits n e = client_possible o p _ c fits (omega (arith, n)) (fits.third (omega (arith, n))) e
-complete_possible subcommands.Remove o p c opt fits n e = client_possible o p _ c fits (omega (arith, n)) (fits.third (omega (arith, n))) e
-complete_possible subcommands.Put o p c opt fits n e = client_possible o p _ c fits (omega (arith, n)) (fits.third (omega (arith, n))) e
-complete_possible subcommands.Get o p c opt fits n e = client_possible o p _ c fits (omega (arith, n)) (fits.third (omega (arith, n))) e
+complete_possible subcommands.Mount o p c opt fits n e = client_possible o p _ c opt fits (omega (arith, n)) refl e
+complete_possible subcommands.List o p c opt fits n e = client_possible o p _ c opt fits (omega (arith, n)) (fits.third (omega (arith, n))) e
+complete_possible subcommands.Stat o p c opt fits n e = client_possible o p _ c opt fits (omega (arith, n)) (fits.third (omega (arith, n))) e
+complete_possible subcommands.ReadLink o p c opt fits n e = client_possible o p _ c opt fits (omega (arith, n)) (fits.third (omega (arith, n))) e
+complete_possible subcommands.MakeDirectory o p c opt fits n e = client_possible o p _ c opt fits (omega (arith, n)) (fits.third (omega (arith, n))) e
+complete_possible subcommands.Remove o p c opt fits n e = client_possible o p _ c opt fits (omega (arith, n)) (fits.third (omega (arith, n))) e
+complete_possible subcommands.Put o p c opt fits n e = client_possible o p _ c opt fits (omega (arith, n)) (fits.third (omega (arith, n))) e
+complete_possible subcommands.Get o p c opt fits n e = client_possible o p _ c opt fits (omega (arith, n)) (fits.third (omega (arith, n))) e
 complete_possible subcommands.Link o p c opt fits n e =
     let path = fits.third (omega (arith, n)) in
     let target = fits.fourth (omega (arith, n)) in
-    client_possible o p _ c fits (omega (arith, n)) (rw (path, target) refl) e
+    client_possible o p _ c opt fits (omega (arith, n)) (rw (path, target) refl) e
 complete_possible subcommands.Drill o p c opt fits n e = drill_possible o.seed o.clients o.calls c opt.clients opt.calls e
 
 command_possible : (subcommand : Subcommand) (s : State Text) (c : Command Text) → StateFits s → finished subcommand s ≡ Some c → is_command c ≡ true

@@ -28,3 +28,11 @@ capacity_max = 9223372036854775807
 
 abbrev pub connections_max : ℕ
 connections_max = 4294967295
+
+-- The maximum of the units that a client or a server has for its Sends in each direction (one unit is 1,024 bytes), and how many it has if
+-- nothing is said
+abbrev pub units_max : ℕ
+units_max = 16
+
+abbrev pub default_units : ℕ
+default_units = 1

@@ -2,7 +2,7 @@
 use Rattle.std.specs.Prelude.{ℕ, ◌==◌, Bool, true, false, not, if◌then◌else◌, List, [], ◌∷◌, codes, Option, Some, None, is_some, option_map, option_and_then, unwrap_or}
 use Rattle.std.specs.Borrow.{Bor}
 use Rattle.std.specs.Str.{bytes_eq}
-use Rattle.nr_words.specs.Limits.{calls_max, clients_max, id_max, seed_max}
+use Rattle.nr_words.specs.Limits.{calls_max, clients_max, default_units, id_max, seed_max, units_max}
 use Rattle.nr_words.specs.Numbers.{numeral_within}
 use Rattle.nr_words.specs.declared.commands.Command.{Command}
 use Rattle.nr_words.specs.declared.commands.Command.TheVariants as commands
@@ -40,6 +40,7 @@ abbrev pub option_named : Text → Option OptionName
 option_named word =
     if bytes_eq word (codes "--uid") then Some option_names.Uid
     else if bytes_eq word (codes "--gid") then Some option_names.Gid
+    else if bytes_eq word (codes "--inline") then Some option_names.Inline
     else if bytes_eq word (codes "--seed") then Some option_names.Seed
     else if bytes_eq word (codes "--clients") then Some option_names.Clients
     else if bytes_eq word (codes "--calls") then Some option_names.Calls
@@ -49,6 +50,7 @@ option_named word =
 abbrev pub is_of_client : OptionName → Bool
 is_of_client option_names.Uid = true
 is_of_client option_names.Gid = true
+is_of_client option_names.Inline = true
 is_of_client _ = false
 
 abbrev pub is_of_drill : OptionName → Bool
@@ -78,6 +80,7 @@ once _ _ with = None
 abbrev pub with_value : Options → OptionName → Text → Option Options
 with_value o option_names.Uid word = once o.uid (numeral_within 0 id_max word) (λ n. record o { uid = Some n })
 with_value o option_names.Gid word = once o.gid (numeral_within 0 id_max word) (λ n. record o { gid = Some n })
+with_value o option_names.Inline word = once o.inline (numeral_within 1 units_max word) (λ n. record o { inline = Some n })
 with_value o option_names.Seed word = once o.seed (numeral_within 0 seed_max word) (λ n. record o { seed = Some n })
 with_value o option_names.Clients word = once o.clients (numeral_within 1 clients_max word) (λ n. record o { clients = Some n })
 with_value o option_names.Calls word = once o.calls (numeral_within 1 calls_max word) (λ n. record o { calls = Some n })
@@ -118,7 +121,8 @@ drill_of (Some seed) (Some clients) (Some calls) = Some (commands.GeneratedDrill
 drill_of _ _ _ = None
 
 abbrev pub client : Options → Positionals Text → Action Text → Option (Command Text)
-client o p action = Some (commands.Client (record { addr = p.first; export = p.second; uid = unwrap_or o.uid 0; gid = unwrap_or o.gid 0; action = action }))
+client o p action =
+    Some (commands.Client (record { addr = p.first; export = p.second; uid = unwrap_or o.uid 0; gid = unwrap_or o.gid 0; units = unwrap_or o.inline default_units; action = action }))
 
 abbrev pub complete : Subcommand → Options → Positionals Text → Option (Command Text)
 complete subcommands.Serve o p = Some (commands.Serve p.first)
@@ -140,7 +144,7 @@ abbrev pub finished : Subcommand → State Text → Option (Command Text)
 finished subcommand s = if is_some s.waiting then None else command_of subcommand s.options s.positionals
 
 abbrev pub no_options : Options
-no_options = record { uid = None; gid = None; seed = None; clients = None; calls = None }
+no_options = record { uid = None; gid = None; inline = None; seed = None; clients = None; calls = None }
 
 abbrev pub start : State Text
 start = record { waiting = None; options = no_options; positionals = record { count = 0; first = []; second = []; third = []; fourth = [] } }
@@ -171,7 +175,7 @@ plain_action (actions.Get path) = actions.Get path.now
 plain_action (actions.Link path target) = actions.Link path.now target.now
 
 abbrev pub plain_client : Client (Bor Text) → Client Text
-plain_client c = record { addr = c.addr.now; export = c.export.now; uid = c.uid; gid = c.gid; action = plain_action c.action }
+plain_client c = record { addr = c.addr.now; export = c.export.now; uid = c.uid; gid = c.gid; units = c.units; action = plain_action c.action }
 
 abbrev pub plain_command : Command (Bor Text) → Command Text
 plain_command (commands.Serve config) = commands.Serve config.now

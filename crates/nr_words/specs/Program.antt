@@ -6,7 +6,7 @@ use Rattle.clap.specs.declared.builder.command.Command.TheViews.{out-Command}
 use Rattle.clap.specs.declared.builder.command.Command.{Command}
 use Rattle.clap.specs.declared.builder.value_parser.ValueParser.{ValueParser}
 use Rattle.clap.specs.declared.builder.value_parser.ValueParser.TheVariants as parsers
-use Rattle.nr_words.specs.Limits.{calls_max, clients_max, id_max, seed_max}
+use Rattle.nr_words.specs.Limits.{calls_max, clients_max, id_max, seed_max, units_max}
 
 abbrev pub positional_rule : Text → Rule
 positional_rule name = record (new_rule name) { required = true }
@@ -14,10 +14,16 @@ positional_rule name = record (new_rule name) { required = true }
 abbrev pub number_rule : Text → ValueParser → Rule
 number_rule name parser = record (new_rule name) { long = Some name; parser = Some parser }
 
+-- with the options of each command of a client
+abbrev pub with_client_options : App → App
+with_client_options app =
+    with_rule (with_rule (with_rule app
+    (number_rule (codes "uid") (parsers.Signed (pos 0) (pos id_max))))
+    (number_rule (codes "gid") (parsers.Signed (pos 0) (pos id_max))))
+    (number_rule (codes "inline") (parsers.Signed (pos 1) (pos units_max)))
+
 abbrev pub client_app : Text → App
-client_app name =
-    with_rule (with_rule (with_rule (with_rule (new_app name) (positional_rule (codes "ADDR"))) (positional_rule (codes "EXPORT")))
-    (number_rule (codes "uid") (parsers.Signed (pos 0) (pos id_max)))) (number_rule (codes "gid") (parsers.Signed (pos 0) (pos id_max)))
+client_app name = with_client_options (with_rule (with_rule (new_app name) (positional_rule (codes "ADDR"))) (positional_rule (codes "EXPORT")))
 
 abbrev pub path_app : Text → App
 path_app name = with_rule (client_app name) (positional_rule (codes "PATH"))
@@ -77,6 +83,10 @@ Adds program command more = (sub : App) → IfOk command (Builds sub) → AddsTo
 -- the same of the commands of a client with a PATH
 abbrev pub AddsPaths : Command → Command → Type 0
 AddsPaths program more = (app : App) → Builds app program → Builds (with_paths app) more
+
+-- a command with the options of a client, whatever the command was
+abbrev pub AddsClientOptions : Command → Command → Type 0
+AddsClientOptions command more = (app : App) → Builds app command → Builds (with_client_options app) more
 
 -- a command with one more argument, whatever the command was
 abbrev pub AddsRule : Command → Rule → Command → Type 0

@@ -1,5 +1,5 @@
 -- What is read of the words of a run.
-use Rattle.std.specs.Prelude.{◌≡◌, ⊤, ◌&&◌, Bool, true, false, nat_le, List, [], ◌∷◌, Option, Some, None, Result, Ok, Err}
+use Rattle.std.specs.Prelude.{◌≡◌, ⊤, ℕ, ◌&&◌, Bool, true, false, nat_le, List, [], ◌∷◌, Option, Some, None, Result, Ok, Err}
 use Rattle.std.specs.Borrow.{Bor}
 use Rattle.std.specs.List.{list_any}
 use Rattle.clap.specs.Words.{fault_of, subcommand_of}
@@ -11,7 +11,7 @@ use Rattle.nr_words.specs.declared.commands.Action.{Action}
 use Rattle.nr_words.specs.declared.commands.Action.TheVariants as actions
 use Rattle.nr_words.specs.declared.words.WordsFault.{WordsFault}
 use Rattle.nr_words.specs.declared.words.WordsFault.TheVariants as faults
-use Rattle.nr_words.specs.Limits.{calls_max, clients_max}
+use Rattle.nr_words.specs.Limits.{calls_max, clients_max, units_max}
 use Rattle.nr_words.specs.Lines.{Text, is_positional, line_of, plain_command}
 use Rattle.nr_words.specs.Spelled.{spelled}
 use Rattle.nr_words.specs.Program.{program_app}
@@ -28,9 +28,12 @@ is_action (actions.Put path) = is_positional path
 is_action (actions.Get path) = is_positional path
 is_action (actions.Link path target) = is_positional path && is_positional target
 
+abbrev pub are_units : ℕ → Bool
+are_units units = nat_le 1 units && nat_le units units_max
+
 abbrev pub is_command : Command Text → Bool
 is_command (commands.Serve config) = is_positional config
-is_command (commands.Client c) = is_positional c.addr && is_positional c.export && is_action c.action
+is_command (commands.Client c) = is_positional c.addr && is_positional c.export && are_units c.units && is_action c.action
 is_command commands.Drill = true
 is_command (commands.GeneratedDrill seed clients calls) = nat_le 1 clients && nat_le clients clients_max && nat_le 1 calls && nat_le calls calls_max
 

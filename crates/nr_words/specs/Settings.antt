@@ -1,5 +1,5 @@
 -- The configuration of a server, a TOML document.
-use Rattle.std.specs.Prelude.{Bool, false, ℕ, ℤ, pos, negsuc, suc, ◌==◌, ◌&&◌, nat_le, if◌then◌else◌, List, length, codes, Option, Some, None, option_and_then, option_map, string_bytes}
+use Rattle.std.specs.Prelude.{Bool, false, ℕ, ℤ, pos, negsuc, suc, ◌+◌, ◌==◌, ◌&&◌, nat_le, if◌then◌else◌, List, length, codes, Option, Some, None, option_and_then, option_map, string_bytes}
 use Rattle.std.specs.Borrow.{Bor}
 use Rattle.std.specs.Result.{result_ok}
 use Rattle.std.specs.Str.{is_utf8}
@@ -8,7 +8,9 @@ use Rattle.toml.specs.Data.{Data, Members, no_members, member, get_member, as_bo
 use Rattle.toml.specs.Parse.{parse_document}
 use Rattle.nr_words.specs.declared.settings.Settings.{Settings}
 use Rattle.nr_words.specs.declared.settings.Config.{Config}
-use Rattle.nr_words.specs.Limits.{capacity_max, connections_max, credits_max, mount_path_max}
+use Rattle.nr_words.specs.declared.settings.Numbers.{Numbers}
+use Rattle.nr_words.specs.declared.settings.Choices.{Choices}
+use Rattle.nr_words.specs.Limits.{capacity_max, connections_max, credits_max, default_units, mount_path_max, units_max}
 use Rattle.nr_words.specs.Lines.{Text}
 
 -- the number of members
@@ -43,21 +45,62 @@ path text = if nat_le 1 (length text) && nat_le (length text) mount_path_max the
 abbrev pub path_at : Text → Members → Option Text
 path_at key members = option_and_then path (text_at key members)
 
--- the boolean at `record`, which may be left out: then it is false
+-- ---- keys that may be left out
+
+-- the boolean at such a key: false if it is left out
 abbrev pub flag_of : Option Data → Option Bool
 flag_of None = Some false
 flag_of (Some value) = as_bool value
 
-abbrev pub records_at : Members → Option Bool
-records_at members = flag_of (get_member (codes "record") members)
+abbrev pub flag_at : Text → Members → Option Bool
+flag_at key members = flag_of (get_member key members)
 
--- the number of keys: six, and `record` if it is there
-abbrev pub keys_with : Option Data → ℕ
-keys_with None = 6
-keys_with (Some value) = 7
+-- how many of the members have such a key
+abbrev pub present : Option Data → ℕ
+present None = 0
+present (Some value) = 1
 
+abbrev pub present_at : Text → Members → ℕ
+present_at key members = present (get_member key members)
+
+-- the number at such a key, if it is in the range: the default if it is left out
+abbrev pub number_or : ℕ → ℕ → ℕ → Text → Members → Option ℕ
+number_or default low high key members = if present_at key members == 0 then Some default else number_at low high key members
+
+-- the number of keys: six, and those that may be left out and are there
 abbrev pub keys_of : Members → ℕ
-keys_of members = keys_with (get_member (codes "record") members)
+keys_of members = 6 + present_at (codes "record") members + present_at (codes "inline") members
+
+abbrev pub choices_of : Members → Option Choices
+choices_of members =
+    option_and_then (λ records.
+    option_map (λ units. record { records = records; units = units })
+    (number_or default_units 1 units_max (codes "inline") members))
+    (flag_at (codes "record") members)
+
+-- ---- a configuration
+
+abbrev pub numbers_of : Members → Option Numbers
+numbers_of members =
+    option_and_then (λ credits.
+    option_and_then (λ capacity.
+    option_map (λ connections. record { credits = credits; capacity = capacity; connections = connections })
+    (number_at 1 connections_max (codes "connections") members))
+    (number_at 0 capacity_max (codes "capacity") members))
+    (number_at 1 credits_max (codes "credits") members)
+
+-- a configuration of these values
+abbrev pub settings_with : {T : Type 0} → T → T → Numbers → List ℕ → Choices → Settings T
+settings_with listen export numbers verifier choices = record {
+  listen = listen;
+  export = export;
+  credits = numbers.credits;
+  capacity = numbers.capacity;
+  connections = numbers.connections;
+  write_verifier = verifier;
+  records = choices.records;
+  units = choices.units;
+}
 
 -- exactly these keys, with values in range
 abbrev pub settings_of : Members → Option (Settings Text)
@@ -65,16 +108,12 @@ settings_of members =
     if count members == keys_of members then
     option_and_then (λ listen.
     option_and_then (λ export.
-    option_and_then (λ credits.
-    option_and_then (λ capacity.
-    option_and_then (λ connections.
+    option_and_then (λ numbers.
     option_and_then (λ verifier.
-    option_map (λ records. record { listen = listen; export = export; credits = credits; capacity = capacity; connections = connections; write_verifier = verifier; records = records })
-    (records_at members))
+    option_map (settings_with listen export numbers verifier)
+    (choices_of members))
     (verifier_at (codes "write_verifier") members))
-    (number_at 1 connections_max (codes "connections") members))
-    (number_at 0 capacity_max (codes "capacity") members))
-    (number_at 1 credits_max (codes "credits") members))
+    (numbers_of members))
     (path_at (codes "export") members))
     (text_at (codes "listen") members)
     else None
@@ -86,7 +125,7 @@ config_of bytes = if is_utf8 bytes then option_and_then settings_of (parse_docum
 -- ---- the same without references, and without strings
 
 abbrev pub plain_settings : Settings (Bor Text) → Settings Text
-plain_settings s = record { listen = s.listen.now; export = s.export.now; credits = s.credits; capacity = s.capacity; connections = s.connections; write_verifier = s.write_verifier; records = s.records }
+plain_settings s = record { listen = s.listen.now; export = s.export.now; credits = s.credits; capacity = s.capacity; connections = s.connections; write_verifier = s.write_verifier; records = s.records; units = s.units }
 
 abbrev pub config_settings : Config → Settings Text
-config_settings c = record { listen = string_bytes c.listen; export = string_bytes c.export; credits = c.credits; capacity = c.capacity; connections = c.connections; write_verifier = c.write_verifier; records = c.records }
+config_settings c = record { listen = string_bytes c.listen; export = string_bytes c.export; credits = c.credits; capacity = c.capacity; connections = c.connections; write_verifier = c.write_verifier; records = c.records; units = c.units }

@@ -48,6 +48,9 @@ pub struct Client<T> {
     pub uid: u32,
     /// The group ID of its calls: 0 unless the line has another.
     pub gid: u32,
+    /// The units of its Sends in each direction, of 1,024 bytes each: 1 to [`UNITS_MAX`](crate::UNITS_MAX), and 1 unless the
+    /// line has another number.
+    pub units: u8,
     /// What it does.
     pub action: Action<T>,
 }

@@ -23,3 +23,9 @@ pub const CAPACITY_MAX: u64 = 9_223_372_036_854_775_807;
 
 /// The maximum number of connections of a server.
 pub const CONNECTIONS_MAX: u64 = 4_294_967_295;
+
+/// The maximum of the units that a client or a server has for its Sends in each direction. One unit is 1,024 bytes.
+pub const UNITS_MAX: u64 = 16;
+
+/// How many units a client or a server has if nothing is said.
+pub const DEFAULT_UNITS: u8 = 1;

@@ -4,7 +4,7 @@ ghost use Rattle.std.specs.Prelude.{◌≡◌, ⊤, map, option_map, string_byte
 ghost use Rattle.nr_words.specs.Lines.{option_named, takes, with_value, with_positional, is_positional, step, steps, start, arity, drill_of, subcommand_named, command_of, finished, line_of, plain_state, plain_positionals, plain_command, plain_client};
 
 use crate::commands::{Action, Client, Command};
-use crate::limits::{CALLS_MAX, CLIENTS_MAX, ID_MAX, SEED_MAX};
+use crate::limits::{CALLS_MAX, CLIENTS_MAX, DEFAULT_UNITS, ID_MAX, SEED_MAX, UNITS_MAX};
 use crate::numbers::numeral_within;
 use std::alloc::AllocError;
 
@@ -29,6 +29,7 @@ pub(crate) enum Subcommand {
 pub(crate) enum OptionName {
     Uid,
     Gid,
+    Inline,
     Seed,
     Clients,
     Calls,
@@ -39,6 +40,7 @@ pub(crate) enum OptionName {
 pub(crate) struct Options {
     pub(crate) uid: Option<u32>,
     pub(crate) gid: Option<u32>,
+    pub(crate) inline: Option<u8>,
     pub(crate) seed: Option<u64>,
     pub(crate) clients: Option<u32>,
     pub(crate) calls: Option<u32>,
@@ -111,6 +113,7 @@ fn option_named(word: &str) -> Option<OptionName>
     match word {
         "--uid" => Some(OptionName::Uid),
         "--gid" => Some(OptionName::Gid),
+        "--inline" => Some(OptionName::Inline),
         "--seed" => Some(OptionName::Seed),
         "--clients" => Some(OptionName::Clients),
         "--calls" => Some(OptionName::Calls),
@@ -128,7 +131,7 @@ fn takes(subcommand: Subcommand, name: OptionName) -> bool
             name,
             OptionName::Seed | OptionName::Clients | OptionName::Calls
         ),
-        _ => matches!(name, OptionName::Uid | OptionName::Gid),
+        _ => matches!(name, OptionName::Uid | OptionName::Gid | OptionName::Inline),
     }
 }
 
@@ -160,6 +163,16 @@ fn with_value(options: Options, name: OptionName, word: &str) -> Option<Options>
         OptionName::Gid => match (options.gid, numeral_within(0, ID_MAX, word.as_bytes())) {
             (None, Some(value)) => Some(Options {
                 gid: Some(value as u32),
+                ..options
+            }),
+            _ => None,
+        },
+        OptionName::Inline => match (
+            options.inline,
+            numeral_within(1, UNITS_MAX, word.as_bytes()),
+        ) {
+            (None, Some(value)) => Some(Options {
+                inline: Some(value as u8),
                 ..options
             }),
             _ => None,
@@ -330,6 +343,7 @@ pub(crate) fn command_of<'a>(
             export: positionals.second,
             uid: options.uid.unwrap_or(0),
             gid: options.gid.unwrap_or(0),
+            units: options.inline.unwrap_or(DEFAULT_UNITS),
             action,
         },
     })
@@ -354,6 +368,7 @@ fn steps<'a>(subcommand: Subcommand, words: &'a [String]) -> Option<State<&'a st
         options: Options {
             uid: None,
             gid: None,
+            inline: None,
             seed: None,
             clients: None,
             calls: None,

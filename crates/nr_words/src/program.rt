@@ -2,9 +2,9 @@
 
 ghost use Rattle.std.specs.Prelude.{◌≡◌, IfOk, false};
 ghost use Rattle.clap.specs.Words.{new_app, rule_of};
-ghost use Rattle.nr_words.specs.Program.{Adds, AddsPaths, AddsRule, AddsTo, Builds, client_app, number_rule, path_app, positional_rule, plain_app, program_app, drill_app, link_app, serve_app};
+ghost use Rattle.nr_words.specs.Program.{Adds, AddsClientOptions, AddsPaths, AddsRule, AddsTo, Builds, client_app, number_rule, path_app, positional_rule, plain_app, program_app, drill_app, link_app, serve_app};
 
-use crate::limits::{CALLS_MAX, CLIENTS_MAX, ID_MAX, SEED_MAX};
+use crate::limits::{CALLS_MAX, CLIENTS_MAX, ID_MAX, SEED_MAX, UNITS_MAX};
 use clap::builder::ValueParser;
 use clap::{Arg, Command};
 use std::alloc::{AllocError, Global};
@@ -18,7 +18,20 @@ const PATH_HELP: &str = "A path from the export's root, its names separated by s
 const TARGET_HELP: &str = "The path that the symbolic link holds; it is not looked up";
 
 const CONFIG_HELP: &str =
-    "A TOML file: listen, export, credits, capacity, connections, write_verifier, and maybe record";
+    "A TOML file: listen, export, credits, capacity, connections, write_verifier, and maybe record and inline";
+
+const UID_HELP: &str = "The user ID of the calls; 0 if it is left out";
+
+const GID_HELP: &str = "The group ID of the calls; 0 if it is left out";
+
+const INLINE_HELP: &str =
+    "The maximum size of a Send in each direction, in units of 1024 bytes, 1 to 16; 1 if it is left out";
+
+const SEED_HELP: &str = "The number from which a script is generated, with --clients and --calls";
+
+const CLIENTS_HELP: &str = "The number of clients of that script, 1 to 16";
+
+const CALLS_HELP: &str = "The number of calls of that script, 1 to 1000000";
 
 /// A required positional, and what `--help` says of it.
 fn positional<'a>(alloc: Global, name: &'a str, help: &'a str) -> Arg<'a>
@@ -28,12 +41,15 @@ fn positional<'a>(alloc: Global, name: &'a str, help: &'a str) -> Arg<'a>
     Arg::new(alloc, name).required(true).help(help)
 }
 
-/// An option with a number.
-fn number<'a>(alloc: Global, name: &'a str, parser: ValueParser<'a>) -> Arg<'a>
+/// An option with a number, and what `--help` says of it.
+fn number<'a>(alloc: Global, name: &'a str, help: &'a str, parser: ValueParser<'a>) -> Arg<'a>
     ensures rule { rule_of result ≡ number_rule name.entry.now parser.entry }
     ensures local { result.global ≡ false }
 {
-    Arg::new(alloc, name).long(name).value_parser(parser)
+    Arg::new(alloc, name)
+        .long(name)
+        .value_parser(parser)
+        .help(help)
 }
 
 /// A command without arguments.
@@ -60,23 +76,33 @@ fn add_number<'a>(
     alloc: Global,
     command: Command<'a>,
     name: &'a str,
+    help: &'a str,
     parser: ValueParser<'a>,
 ) -> Result<Command<'a>, AllocError>
     ensures { IfOk result (AddsRule command.entry (number_rule name.entry.now parser.entry)) }
 {
-    command.arg(number(alloc, name, parser))
+    command.arg(number(alloc, name, help, parser))
 }
 
-/// A command of a client: ADDR EXPORT, `--uid`, `--gid`.
+/// A command with the options of a client: `--uid`, `--gid`, `--inline`.
+fn add_client_options<'a>(alloc: Global, command: Command<'a>) -> Result<Command<'a>, AllocError>
+    ensures { IfOk result (AddsClientOptions command.entry) }
+{
+    let ids = ValueParser::Signed(0, ID_MAX as i64);
+    let command = add_number(alloc, command, "uid", UID_HELP, ids)?;
+    let ids = ValueParser::Signed(0, ID_MAX as i64);
+    let command = add_number(alloc, command, "gid", GID_HELP, ids)?;
+    let units = ValueParser::Signed(1, UNITS_MAX as i64);
+    add_number(alloc, command, "inline", INLINE_HELP, units)
+}
+
+/// A command of a client: ADDR EXPORT, and the options.
 fn client<'a>(alloc: Global, name: &'a str, about: &'a str) -> Result<Command<'a>, AllocError>
     ensures { IfOk result (Builds (client_app name.entry.now)) }
 {
     let command = add_positional(alloc, named(alloc, name, about), "ADDR", ADDR_HELP)?;
     let command = add_positional(alloc, command, "EXPORT", EXPORT_HELP)?;
-    let uid = ValueParser::Signed(0, ID_MAX as i64);
-    let command = add_number(alloc, command, "uid", uid)?;
-    let gid = ValueParser::Signed(0, ID_MAX as i64);
-    add_number(alloc, command, "gid", gid)
+    add_client_options(alloc, command)
 }
 
 /// A command of a client with a PATH.
@@ -106,11 +132,11 @@ fn drill<'a>(alloc: Global) -> Result<Command<'a>, AllocError>
 {
     let about = "Runs a script from standard input, or one that it generates";
     let seed = ValueParser::Unsigned(0, SEED_MAX);
-    let command = add_number(alloc, named(alloc, "drill", about), "seed", seed)?;
+    let command = add_number(alloc, named(alloc, "drill", about), "seed", SEED_HELP, seed)?;
     let clients = ValueParser::Signed(1, CLIENTS_MAX as i64);
-    let command = add_number(alloc, command, "clients", clients)?;
+    let command = add_number(alloc, command, "clients", CLIENTS_HELP, clients)?;
     let calls = ValueParser::Signed(1, CALLS_MAX as i64);
-    add_number(alloc, command, "calls", calls)
+    add_number(alloc, command, "calls", CALLS_HELP, calls)
 }
 
 /// The program itself, without a command.

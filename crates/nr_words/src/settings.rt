@@ -1,11 +1,14 @@
 //! The configuration of a server, a TOML document.
 
-ghost use Rattle.std.specs.Prelude.{◌≡◌, ◌==◌, ⊤, IfErr, IfOk, None, Some, option_map};
+ghost use Rattle.std.specs.Prelude.{◌≡◌, ◌≤◌, ◌==◌, ⊤, IfErr, IfOk, None, Some, codes, option_map};
 ghost use Rattle.toml.specs.View.{table_view};
-ghost use Rattle.nr_words.specs.Settings.{config_of, count, in_range, integer_at, keys_of, plain_settings, path_at, records_at, number_at, config_settings, settings_of, text_at, verifier_at};
+ghost use Rattle.nr_words.specs.Settings.{choices_of, config_of, config_settings, count, flag_at, in_range, integer_at, keys_of, number_at, number_or, numbers_of, path_at, plain_settings, present_at, settings_of, text_at, verifier_at};
+ghost use Rattle.nr_words.specs.Limits.{default_units, units_max};
 ghost use Rattle.nr_words.specs.declared.settings.ConfigFault.TheVariants.{Bad};
 
-use crate::limits::{CAPACITY_MAX, CONNECTIONS_MAX, CREDITS_MAX, MOUNT_PATH_MAX};
+use crate::limits::{
+    CAPACITY_MAX, CONNECTIONS_MAX, CREDITS_MAX, DEFAULT_UNITS, MOUNT_PATH_MAX, UNITS_MAX,
+};
 use hex::FromHex;
 use std::alloc::{AllocError, Global};
 use toml::Table;
@@ -26,6 +29,8 @@ pub struct Settings<T> {
     pub write_verifier: [u8; 8],
     /// Whether it serves RPC over TCP with record marks (RFC 5531 section 11) too.
     pub records: bool,
+    /// The units of its Sends in each direction, of 1,024 bytes each: 1 to [`UNITS_MAX`](crate::UNITS_MAX).
+    pub units: u8,
 }
 
 impl<T: Copy> Clone for Settings<T> {
@@ -57,6 +62,8 @@ pub struct Config {
     pub write_verifier: [u8; 8],
     /// Whether it serves RPC over TCP with record marks (RFC 5531 section 11) too.
     pub records: bool,
+    /// The units of its Sends in each direction, of 1,024 bytes each: 1 to [`UNITS_MAX`](crate::UNITS_MAX).
+    pub units: u8,
 }
 
 /// Why a text gives no configuration.
@@ -144,24 +151,90 @@ fn has_keys(table: &Table, keys: usize) -> bool
     table.len() == keys
 }
 
-/// How many keys the table may have: the six that each table has, and `record` if it is there.
-fn keys_of(table: &Table) -> usize
-    ensures { result ≡ keys_of (table_view table.now) }
+/// How many keys of this name the table has: one or none.
+fn present_at(table: &Table, key: &str) -> usize
+    ensures is { result ≡ present_at key.now (table_view table.now) }
+    ensures few { result ≤ 1 }
 {
-    match table.get("record") {
-        Some(_) => 7,
-        None => 6,
+    match table.get(key) {
+        Some(_) => 1,
+        None => 0,
     }
 }
 
-/// The boolean at the key `record`, `false` if that is not there.
-fn records_at(table: &Table) -> Option<bool>
-    ensures { result ≡ records_at (table_view table.now) }
+/// How many keys the table may have: the six that each table has, and those that may be left out and are there.
+fn keys_of(table: &Table) -> usize
+    ensures { result ≡ keys_of (table_view table.now) }
 {
-    match table.get("record") {
+    6 + present_at(table, "record") + present_at(table, "inline")
+}
+
+/// The boolean at a key, `false` if that is not there.
+fn flag_at(table: &Table, key: &str) -> Option<bool>
+    ensures { result ≡ flag_at key.now (table_view table.now) }
+{
+    match table.get(key) {
         Some(value) => value.as_bool(),
         None => Some(false),
     }
+}
+
+/// The number at a key, if it is in the range, the default if that is not there.
+fn number_or(table: &Table, key: &str, default: u64, low: u64, high: u64) -> Option<u64>
+    ensures { result ≡ number_or default low high key.now (table_view table.now) }
+{
+    if present_at(table, key) == 0 {
+        return Some(default);
+    }
+    number_at(table, key, low, high)
+}
+
+/// The values of the keys that may be left out.
+#[derive(Clone, Copy)]
+struct Choices {
+    records: bool,
+    units: u8,
+}
+
+/// The number of units at `inline`, the default if that is not there.
+fn units_at(table: &Table) -> Option<u8>
+    ensures { result ≡ number_or default_units 1 units_max (codes "inline") (table_view table.now) }
+{
+    match number_or(table, "inline", u64::from(DEFAULT_UNITS), 1, UNITS_MAX) {
+        Some(units) => Some(units as u8),
+        None => None,
+    }
+}
+
+/// What the keys say that may be left out.
+fn choices_of(table: &Table) -> Option<Choices>
+    ensures { result ≡ choices_of (table_view table.now) }
+{
+    let records = flag_at(table, "record")?;
+    let units = units_at(table)?;
+    Some(Choices { records, units })
+}
+
+/// The numbers that each table has.
+#[derive(Clone, Copy)]
+struct Numbers {
+    credits: u64,
+    capacity: u64,
+    connections: u64,
+}
+
+/// What the three keys of numbers say.
+fn numbers_of(table: &Table) -> Option<Numbers>
+    ensures { result ≡ numbers_of (table_view table.now) }
+{
+    let credits = number_at(table, "credits", 1, CREDITS_MAX)?;
+    let capacity = number_at(table, "capacity", 0, CAPACITY_MAX)?;
+    let connections = number_at(table, "connections", 1, CONNECTIONS_MAX)?;
+    Some(Numbers {
+        credits,
+        capacity,
+        connections,
+    })
 }
 
 /// The eight bytes of the sixteen hexadecimal digits at a key.
@@ -172,7 +245,7 @@ fn verifier_at(table: &Table, key: &str) -> Option<[u8; 8]>
     <[u8; 8] as FromHex>::from_hex(text).ok()
 }
 
-/// What the table says: exactly these six keys, and `record` if it is there, with values in range.
+/// What the table says: exactly the six keys, and those that may be left out, with values in range.
 fn settings_of(table: &Table) -> Option<Settings<&str>>
     ensures { option_map plain_settings result ≡ settings_of (table_view table.now) }
 {
@@ -181,25 +254,25 @@ fn settings_of(table: &Table) -> Option<Settings<&str>>
     }
     let listen = text_at(table, "listen")?;
     let export = path_at(table, "export")?;
-    let credits = number_at(table, "credits", 1, CREDITS_MAX)?;
-    let capacity = number_at(table, "capacity", 0, CAPACITY_MAX)?;
-    let connections = number_at(table, "connections", 1, CONNECTIONS_MAX)?;
+    let numbers = numbers_of(table)?;
     let write_verifier = verifier_at(table, "write_verifier")?;
-    let records = records_at(table)?;
+    let choices = choices_of(table)?;
     Some(Settings {
         listen,
         export,
-        credits,
-        capacity,
-        connections,
+        credits: numbers.credits,
+        capacity: numbers.capacity,
+        connections: numbers.connections,
         write_verifier,
-        records,
+        records: choices.records,
+        units: choices.units,
     })
 }
 
 /// Reads a configuration: a TOML document with the six keys `listen` (text), `export` (text of 1 to 1024 bytes), `credits`
 /// (1 to 64), `capacity` (0 to 2^63 - 1), `connections` (1 to 2^32 - 1) and `write_verifier` (text of 16 hexadecimal
-/// digits), which may also have `record` (boolean; `false` if it is left out), and no other.
+/// digits), which may also have `record` (boolean; `false` if it is left out) and `inline` (1 to 16; 1 if it is left out),
+/// and no other.
 pub fn read_config(alloc: Global, bytes: &[u8]) -> Result<Config, ConfigFault>
     ensures ok { IfOk result (λ config. config_of bytes.now ≡ Some (config_settings config)) }
     ensures bad { IfErr result (λ fault. fault ≡ Bad → config_of bytes.now ≡ None) }
@@ -227,5 +300,6 @@ pub fn read_config(alloc: Global, bytes: &[u8]) -> Result<Config, ConfigFault>
         connections: settings.connections,
         write_verifier: settings.write_verifier,
         records: settings.records,
+        units: settings.units,
     })
 }

@@ -2,12 +2,12 @@
 
 ghost use Rattle.std.specs.Prelude.{◌≡◌, IfOk, None, Some, map, true, option_map, string_bytes};
 ghost use Rattle.clap.specs.Words.{found_of, kind_of, rows_of, subcommand_rows_of};
-ghost use Rattle.nr_words.specs.Spelled.{narrow, number_of, options_of, positionals_of, spelled, text_of, without_sign};
-ghost use Rattle.nr_words.specs.Reads.{Reads, ReadsOther, IsFaultOf, is_command, is_action};
+ghost use Rattle.nr_words.specs.Spelled.{narrow, narrow_to_byte, number_of, options_of, positionals_of, spelled, text_of, without_sign};
+ghost use Rattle.nr_words.specs.Reads.{Reads, ReadsOther, IsFaultOf, are_units, is_command, is_action};
 ghost use Rattle.nr_words.specs.Lines.{plain_command, plain_action, plain_positionals};
 
 use crate::commands::{Action, Command};
-use crate::limits::{CALLS_MAX, CLIENTS_MAX, ID_MAX, SEED_MAX};
+use crate::limits::{CALLS_MAX, CLIENTS_MAX, ID_MAX, SEED_MAX, UNITS_MAX};
 use crate::lines::{
     Options, Positionals, Subcommand, arity, command_of, is_positional, read_line, subcommand_named,
 };
@@ -92,6 +92,13 @@ fn is_action(action: &Action<&str>) -> bool
     }
 }
 
+/// Whether a line can ask for this number of units.
+fn are_units(units: u8) -> bool
+    ensures { result ≡ are_units units }
+{
+    1 <= units && u64::from(units) <= UNITS_MAX
+}
+
 /// Whether a line can ask for this command.
 fn is_command(command: &Command<&str>) -> bool
     ensures { result ≡ is_command (plain_command command.now) }
@@ -99,7 +106,10 @@ fn is_command(command: &Command<&str>) -> bool
     match command {
         Command::Serve { config } => is_positional(config),
         Command::Client { client } => {
-            is_positional(client.addr) && is_positional(client.export) && is_action(&client.action)
+            is_positional(client.addr)
+                && is_positional(client.export)
+                && are_units(client.units)
+                && is_action(&client.action)
         }
         Command::Drill => true,
         Command::GeneratedDrill {
@@ -154,6 +164,7 @@ fn options_of(given: &ArgMatches<'_>) -> Options
     Options {
         uid: narrow(number_of(given, "uid", 0, ID_MAX)),
         gid: narrow(number_of(given, "gid", 0, ID_MAX)),
+        inline: narrow_to_byte(number_of(given, "inline", 1, UNITS_MAX)),
         seed: number_of(given, "seed", 0, SEED_MAX),
         clients: narrow(number_of(given, "clients", 1, CLIENTS_MAX)),
         calls: narrow(number_of(given, "calls", 1, CALLS_MAX)),
@@ -170,6 +181,22 @@ fn narrow(value: Option<u64>) -> Option<u32>
                 None
             } else {
                 Some(value as u32)
+            }
+        }
+        None => None,
+    }
+}
+
+/// A number as a `u8`, if it is one.
+fn narrow_to_byte(value: Option<u64>) -> Option<u8>
+    ensures { result ≡ narrow_to_byte value }
+{
+    match value {
+        Some(value) => {
+            if value > u64::from(u8::MAX) {
+                None
+            } else {
+                Some(value as u8)
             }
         }
         None => None,

@@ -140,7 +140,7 @@ open_links s at old new links v count x own each link e first last = by (eqb lin
         differs e = absurd cc
 
 pub opens_one : (tree : Tree) (opening : Opening) (at : ℕ) (d : Drill) (w n : World) (v : DrillLinkState) → at < opening.clients → HasOpened tree opening at d w → Unopened opening.clients at d →
-    Opens (at + 1) opening.credits v w.marks n.marks → IsAfterOpening w v n →
+    Opens (at + 1) opening v w.marks n.marks → IsAfterOpening w v n →
     HasOpened tree opening (at + 1) (after_opening (drill_setting tree opening) (at + 1) d) n
 opens_one tree opening at d w n v lt h un opens a =
     let s = drill_setting tree opening in
@@ -162,7 +162,7 @@ opens_one tree opening at d w n v lt h un opens a =
           (subst (λ (J : List Entry). RepresentsJournal (drill_setup tree opening) J w.server) (sym leaves.journal) h.server);
     }
 
-pub openings_on : (opening : Opening) (old w n : World) (at : ℕ) (v : DrillLinkState) → at < opening.clients → OpenedSoFar opening old w at → Opens (at + 1) opening.credits v w.marks n.marks →
+pub openings_on : (opening : Opening) (old w n : World) (at : ℕ) (v : DrillLinkState) → at < opening.clients → OpenedSoFar opening old w at → Opens (at + 1) opening v w.marks n.marks →
     IsAfterOpening w v n → OpenedSoFar opening old n (at + 1)
 openings_on opening old w n at v lt so_far opens a tree h =
     let s = drill_setting tree opening in

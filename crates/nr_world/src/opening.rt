@@ -73,7 +73,7 @@ impl World {
         ensures { OnOk result (OpensAll opening self.old self.new) }
     {
         for at in 0..opening.clients {
-            let link = DrillLink::open(alloc, &mut self.marks, at + 1, opening.credits)?;
+            let link = DrillLink::open(alloc, &mut self.marks, at + 1, opening)?;
             self.links.push(link)?;
         }
         Ok(())

@@ -8,4 +8,4 @@ invariant_of-result c =
 
 pub returns : goal.returns
 returns c =
-    fresh_link c.args.number c.args.credits _ _ _ _ _ c.in_ok-client.ensures.state c.new.ensures c.new-2.ensures c.new-3.ensures.items c.in_ok-client.ensures.stands c.in-Ok.ensures.live c.in-Ok.ensures.stands
+    fresh_link c.args.number c.args.opening _ _ _ _ _ c.in_ok-client.ensures.state c.new.ensures c.new-2.ensures c.new-3.ensures.items c.in_ok-client.ensures.stands c.in-Ok.ensures.live c.in-Ok.ensures.stands

@@ -1,0 +1,11 @@
+use Rattle.std.proofs.lemmas.Result.{IfOk-weaker}
+use Rattle.nr_words.proofs.program.add_client_options.Goals as goal
+
+pub returns : goal.returns
+returns c =
+    IfOk-weaker c.add_number-3.result _ _
+    (λ more adds app a.
+    let s1 = c.in_ok-command.ensures _ a in
+    let s2 = c.in_ok-command-2.ensures _ s1 in
+    adds _ s2)
+    c.add_number-3.ensures
