@@ -22,8 +22,6 @@ mod random;
 #[cfg(test)]
 mod refused;
 #[cfg(test)]
-mod server_sizes;
-#[cfg(test)]
 mod sizes;
 #[cfg(test)]
 mod vectors;

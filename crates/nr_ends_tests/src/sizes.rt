@@ -1,4 +1,4 @@
-//! What a client end says in its hello, and what it agrees on with its server (RFC 5044 section 7.1; the private data is own).
+//! What each end says in its hello, and what it agrees on with its peer (RFC 5044 section 7.1; the private data is own).
 
 use crate::compare::same;
 use crate::link::TestLink;
@@ -65,7 +65,7 @@ fn hello_with(rt: &impl Abort, alloc: Global, hello: &[u32; 5], rest: &[u32]) ->
 /// Until the server's hello came one unit is agreed.
 fn agreed_row(rt: &impl Abort, alloc: Global, row: usize, size: usize, cells: Row) {
     let (units, said, back, agreed) = cells;
-    let mut link = TestLink::open_client(rt, alloc, 16, units);
+    let mut link = TestLink::open_sized(rt, alloc, 16, (units, 1));
     same(rt, row, link.client_agreed(), (1024, 1024));
     let written = hello_with(rt, alloc, &HELLO, said);
     link.client_writes(rt, alloc, row, written.as_slice());
@@ -80,6 +80,67 @@ fn sizes_are_agreed(rt: HostRuntime) {
     for size in [1, 65536] {
         for (row, cells) in ROWS.iter().enumerate() {
             agreed_row(&rt, rt.alloc(), row, size, *cells);
+        }
+    }
+}
+
+/// The same of a server end: its units; the client's hello and its own; what is agreed.
+static SERVER_ROWS: [Row; 6] = [
+    // The client says nothing.
+    (2, &[0x00010000], &[0x00010000], (1024, 1024)),
+    (
+        2,
+        &[0x00010008, 0x4e523031, 0x01000303],
+        &[0x00010008, 0x4e523031, 0x01000101],
+        (2048, 2048),
+    ),
+    // One unit is said, too.
+    (
+        1,
+        &[0x00010008, 0x4e523031, 0x01000f0f],
+        &[0x00010008, 0x4e523031, 0x01000000],
+        (1024, 1024),
+    ),
+    // The client writes Sends of 15 units, and takes Sends of 16; of 3 and of 5.
+    (
+        16,
+        &[0x00010008, 0x4e523031, 0x01000e0f],
+        &[0x00010008, 0x4e523031, 0x01000f0f],
+        (15360, 16384),
+    ),
+    (
+        16,
+        &[0x00010008, 0x4e523031, 0x01000204],
+        &[0x00010008, 0x4e523031, 0x01000f0f],
+        (3072, 5120),
+    ),
+    // More than 16 units count as 16.
+    (
+        17,
+        &[0x00010008, 0x4e523031, 0x0100ffff],
+        &[0x00010008, 0x4e523031, 0x01000f0f],
+        (16384, 16384),
+    ),
+];
+
+/// Until the client's hello came one unit is agreed.
+fn server_row(rt: &impl Abort, alloc: Global, row: usize, size: usize, cells: Row) {
+    let (units, said, back, agreed) = cells;
+    let mut link = TestLink::open_sized(rt, alloc, 16, (1, units));
+    same(rt, row, link.server_agreed(), (1024, 1024));
+    let fed = hello_with(rt, alloc, &HELLO, said);
+    same(rt, row, link.pieces_up(rt, fed.as_slice(), size), Ok(()));
+    same(rt, row, link.server_agreed(), agreed);
+    let written = hello_with(rt, alloc, &HELLO_BACK, back);
+    link.server_writes(rt, alloc, row, written.as_slice());
+    link.close();
+}
+
+#[test]
+fn servers_agree(rt: HostRuntime) {
+    for size in [1, 65536] {
+        for (row, cells) in SERVER_ROWS.iter().enumerate() {
+            server_row(&rt, rt.alloc(), row, size, *cells);
         }
     }
 }
