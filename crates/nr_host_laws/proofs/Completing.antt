@@ -60,7 +60,7 @@ not_memory e = absurd cc
 
 -- ---- One connection
 
-abbrev terms_of : ℕ → ℕ → Terms
+abbrev terms_of : (credits units read : ℕ) → Terms
 terms_of credits units read = record { credits = credits; units = units; read = read }
 
 module _ (credits units : ℕ) (before after : Outside) (first : Opening) (J : List Entry) (stream : List ℕ) (stands : IsHistory first J before.view.seen) (known : before.left ≡ Some stream)
