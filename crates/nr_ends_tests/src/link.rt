@@ -105,6 +105,21 @@ impl TestLink {
         }
     }
 
+    /// A client end with these units, and a server end with one.
+    pub fn open_client(rt: &impl Abort, alloc: Global, credits: u32, units: u8) -> TestLink {
+        TestLink {
+            client: Requester::open_sized(alloc, credits, units).expect(rt, "memory"),
+            server: Responder::open(alloc, credits).expect(rt, "memory"),
+            fed_up: 0,
+            fed_down: 0,
+        }
+    }
+
+    /// The maximum length of a Send that the client end knows of, towards the server and from it.
+    pub fn client_agreed(&self) -> (u32, u32) {
+        self.client.agreed()
+    }
+
     /// Why the client and the server have ended, if they have.
     pub fn ends(&self) -> (Option<End>, Option<End>) {
         (self.client.end(), self.server.end())
