@@ -239,7 +239,7 @@ client_after : (o : LinkParameters) (place : ℕ) (k : ClientState) (e : RunEven
 unfolding client_state_after
 client_after o place k (FrameReceived f) next c h = by (is_hello f)
   where
-    by : (b : Bool) → ClientOfBytes (cond b (with_hello o k) (with_segment k f (frame_segment f)))
+    by : (b : Bool) → ClientOfBytes (cond b (with_hello o k f) (with_segment k f (frame_segment f)))
     by true = record { begun = h.begun; calls = h.calls; regions = h.regions; accesses = h.accesses; outcomes = h.outcomes }
     by false = segment_after k f (frame_segment f) refl next.2 h
 client_after o place k (CallSubmitted p a) next c h =
