@@ -22,11 +22,6 @@ use Rattle.nr_reduce.specs.declared.mark.Mark.{Mark}
 use Rattle.nr_reduce.specs.declared.mark.LinkParameters.{LinkParameters}
 use Rattle.nr_reduce.specs.History.{bytes_received}
 use Rattle.nr_reduce.specs.Events.{events}
-use Rattle.nr_reduce.specs.Client.{outstanding_of}
-use Rattle.nr_reduce.specs.ClientState.{ClientState}
-use Rattle.nr_reduce.specs.History.{AcceptedCall}
-use Rattle.nr_reduce.specs.Plans.{regions_needed}
-use Rattle.nr_reduce.specs.RunLaws.{outstanding_from}
 use Rattle.nr_reduce.specs.Run.{client, output_due}
 use Rattle.nr_reduce.specs.Asked.{AskedSoFar}
 use Rattle.nr_laws.specs.Typed.{IsTyped}
@@ -38,9 +33,8 @@ use Rattle.nr_reduce.specs.Hellos.{client_hello}
 use Rattle.nr_laws.proofs.Brought.{AreFrom, encoding_is}
 use Rattle.nr_laws.proofs.FirstHellos.{client_hello_is}
 use Rattle.nr_laws.proofs.EventOutputs.{whole_bytes}
-use Rattle.nr_laws.proofs.ClientSays.{HasHello, accepted_in, asked}
+use Rattle.nr_laws.proofs.ClientSays.{HasHello, asked, asked_count}
 use Rattle.nr_laws.proofs.ClientRun.{client_outs, client_outputs}
-use Rattle.nr_reduce.proofs.Waiting.{start}
 use Rattle.nr_drill.specs.WorkLeft.{is_send, is_send_segment}
 use Rattle.nr_drill.proofs.LessUp.{some_bytes_lem}
 
@@ -139,10 +133,6 @@ stream_sends o outs h =
 
 -- ===== on a link whose client hasn't ended
 
-as_many_calls : (k : ClientState) (stag : ℕ) (xs : List AcceptedCall) → length (outstanding_from k stag xs) ≡ length xs
-as_many_calls k stag [] = refl
-as_many_calls k stag (a ∷ xs) = ap suc (as_many_calls k (stag + regions_needed (outstanding_of (record k { stag = stag }) a).plan) xs)
-
 has_hello_lem : (place : ℕ) (b : Bool) → 0 < place → HasHello place b → b ≡ true
 has_hello_lem place b some (inl none) = absurd (let e = none.0 in omega (arith, e, some))
 has_hello_lem place b some (inr is) = is.1
@@ -167,7 +157,7 @@ sends_waiting o link run way typed asked_so lives heard carried =
     ap (λ (xs : List ℕ). sends_among (frames_of Initiator xs)) (carried ∙ t.bytes) ∙ stream_sends o (client_outs o link run) t.says.words in
     let said : length (completed_from None (client_outs o link run)) ≡ length calls =
     ap (λ (ms : List (List ℕ)). length ms) (t.says.completes.completed ∙ (λ i. cond (knows i) (map (message_of_call o) calls) [])) ∙ length-map calls (message_of_call o) in
-    let accepted : length calls ≡ k.calls_accepted = as_many_calls (start o) o.first_stag (accepted_in (events link Initiator run)) ∙ sym t.says.count in
+    let accepted : length calls ≡ k.calls_accepted = asked_count o (events link Initiator run) ∙ sym t.says.count in
     let both : sends_among (frames_of Initiator (got ++ way)) ≡ sends_among (frames_of Initiator got) + sends_among (frames_completed Initiator got way) =
     ap sends_among (frames_one Initiator got way) ∙ ap (λ (fs : List Frame). length fs) (filter-append is_send (frames_of Initiator got) (frames_completed Initiator got way))
     ∙ length-append (filter is_send (frames_of Initiator got)) (filter is_send (frames_completed Initiator got way)) in

@@ -22,6 +22,8 @@ mod random;
 #[cfg(test)]
 mod refused;
 #[cfg(test)]
+mod sizes;
+#[cfg(test)]
 mod vectors;
 #[cfg(test)]
 mod words;

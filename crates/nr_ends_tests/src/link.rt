@@ -105,6 +105,26 @@ impl TestLink {
         }
     }
 
+    /// Two ends with these units, of the client and of the server.
+    pub fn open_sized(rt: &impl Abort, alloc: Global, credits: u32, units: (u8, u8)) -> TestLink {
+        TestLink {
+            client: Requester::open_sized(alloc, credits, units.0).expect(rt, "memory"),
+            server: Responder::open_sized(alloc, credits, units.1).expect(rt, "memory"),
+            fed_up: 0,
+            fed_down: 0,
+        }
+    }
+
+    /// The maximum length of a Send that the client end knows of, towards the server and from it.
+    pub fn client_agreed(&self) -> (u32, u32) {
+        self.client.agreed()
+    }
+
+    /// The same of the server end.
+    pub fn server_agreed(&self) -> (u32, u32) {
+        self.server.agreed()
+    }
+
     /// Why the client and the server have ended, if they have.
     pub fn ends(&self) -> (Option<End>, Option<End>) {
         (self.client.end(), self.server.end())

@@ -39,7 +39,7 @@ use Rattle.nr_requester.specs.RequesterState.{RequesterState, RequesterSide, kep
 use Rattle.nr_requester.specs.Standing.{LinkKeeps, KeepsClient}
 use Rattle.nr_requester.specs.AfterCalls.{submitted, after_submit}
 use Rattle.nr_requester.specs.Answers.{plan_under, answer_by_plan, answer_if, answer_of}
-use Rattle.nr_requester.specs.Laws.{AnswersAsClient, CountsAsClient, EndAsClient}
+use Rattle.nr_requester.specs.Laws.{AnswersAsClient, AgreesAsClient, CountsAsClient, EndAsClient}
 use Rattle.nr_requester.proofs.Links.{sent_is, link_submitted, queue_submitted}
 use Rattle.nr_requester.proofs.KeptCalls.{kept_accepted}
 use Rattle.nr_requester.proofs.Marks.{state_of, lives_as, lives, due_is, numbers, own_events, state_next}
@@ -171,6 +171,9 @@ pub counts_as_client : CountsAsClient
 unfolding calls_outstanding credits_granted
 counts_as_client opened link h run s =
     (let c = kept_counts opened (kept_client h.state) (client opened link run) (length (bytes_received link Initiator run)) s.keeps.kept.keeps in (c.0, c.1.0))
+
+pub agrees_as_client : AgreesAsClient
+agrees_as_client opened link h run s = (s.keeps.kept.keeps.up, s.keeps.kept.keeps.down)
 
 pub end_as_client : EndAsClient
 end_as_client opened link h run s = s.keeps.kept.keeps.ended

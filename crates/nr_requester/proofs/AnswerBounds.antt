@@ -42,19 +42,19 @@ same_total [] (y ∷ ys) h = absurd h
 same_total (x ∷ xs) [] h = absurd h
 same_total (x ∷ xs) (y ∷ ys) h = (let own = ap (λ (c : OutstandingCall). claims_len c.claims) h.0.0 in omega (arith, own, same_total xs ys h.1))
 
-same_fit : (xs ys : List OutstandingCall) → SameCalls xs ys → AllByRecursion CallFits xs → AllByRecursion CallFits ys
-same_fit [] [] h a = tt
-same_fit [] (y ∷ ys) h a = absurd h
-same_fit (x ∷ xs) [] h a = absurd h
-same_fit (x ∷ xs) (y ∷ ys) h a = (
+same_fit : (len : ℕ) (xs ys : List OutstandingCall) → SameCalls xs ys → AllByRecursion (CallFits len) xs → AllByRecursion (CallFits len) ys
+same_fit len [] [] h a = tt
+same_fit len [] (y ∷ ys) h a = absurd h
+same_fit len (x ∷ xs) [] h a = absurd h
+same_fit len (x ∷ xs) (y ∷ ys) h a = (
   record {
     call = (let own = ap (λ (c : OutstandingCall). stored_bytes c.call) h.0.0 in let le = a.0.call in omega (arith, own, le));
     offer = (let own = ap (λ (c : OutstandingCall). claims_len c.claims) h.0.0 in let le = a.0.offer in omega (arith, own, le));
     written = h.0.1.1 a.0.written;
-    room = h.0.1.0 ∙ (a.0.room ∙ ap (λ (c : OutstandingCall). reply_room c.offered) (sym h.0.0));
+    room = h.0.1.0 ∙ (a.0.room ∙ ap (λ (c : OutstandingCall). reply_room len c.offered) (sym h.0.0));
     short = (let own = h.0.1.0 in let le = a.0.short in omega (arith, own, le));
   },
-  same_fit xs ys h.1 a.1,
+  same_fit len xs ys h.1 a.1,
 )
 
 same_unsent : (first s : ℕ) (xs ys : List OutstandingCall) → SameCalls xs ys → length (unsent first s ys) ≡ length (unsent first s xs)
@@ -69,8 +69,8 @@ same_unsent first s (x ∷ xs) (y ∷ ys) h =
     by true rest = ap (λ (n : ℕ). suc n) rest
     by false rest = rest
 
-pub rooms_bounded : (sent first next : ℕ) (e : EndpointState) (xs ys : List OutstandingCall) (answers : List AnsweredCall) → SameCalls xs ys → IsBounded sent first next e xs answers → IsBounded sent first next e ys answers
-rooms_bounded sent first next e xs ys answers h b =
+pub rooms_bounded : (len sent first next : ℕ) (e : EndpointState) (xs ys : List OutstandingCall) (answers : List AnsweredCall) → SameCalls xs ys → IsBounded len sent first next e xs answers → IsBounded len sent first next e ys answers
+rooms_bounded len sent first next e xs ys answers h b =
     let w = b.0 in (
       record {
         staging = w.staging;
@@ -80,7 +80,7 @@ rooms_bounded sent first next e xs ys answers h b =
         link = w.link;
         regions = subst (λ (n : ℕ). RegionsHave e.link.state.memory n) (same_total xs ys h) w.regions;
         counts = record { waiting = (let le = w.counts.waiting in omega (arith, le, same_unsent first e.link.state.send_queue.sends_left xs ys h)); numbered = w.counts.numbered };
-        each = same_fit xs ys h w.each;
+        each = same_fit len xs ys h w.each;
         kept = w.kept;
         distinct = w.distinct;
       },
@@ -145,10 +145,10 @@ call_small true stored call is = absurd cc
 call_small false None call is = absurd cc
 call_small false (Some x) call is = (let same : call_bytes x ≡ call_bytes call = ap (λ (o : Option Call). stored_bytes o) is in omega (arith, same))
 
-answer_fits : (m : RegisteredMemory) (c : OutstandingCall) (f : Found) (p : Option Call) (o : Option Outcome) → p ≡ awaited_call (stored_view c) → o ≡ outcome_by f c.room.bytes → CallFits c → AreHeldFrom m 0 (call_claims c.claims) → AllByRecursion AnswerFits (answered_as m (stored_view c) p o)
-answer_fits m c f None o asked is fits held = tt
-answer_fits m c f (Some call) None asked is fits held = tt
-answer_fits m c f (Some call) (Some o) asked is fits held = (
+answer_fits : (len : ℕ) (m : RegisteredMemory) (c : OutstandingCall) (f : Found) (p : Option Call) (o : Option Outcome) → p ≡ awaited_call (stored_view c) → o ≡ outcome_by f c.room.bytes → CallFits len c → AreHeldFrom m 0 (call_claims c.claims) → AllByRecursion AnswerFits (answered_as m (stored_view c) p o)
+answer_fits len m c f None o asked is fits held = tt
+answer_fits len m c f (Some call) None asked is fits held = tt
+answer_fits len m c f (Some call) (Some o) asked is fits held = (
   record {
     call = (let le = fits.call in omega (arith, le, call_small c.is_forgotten c.call call (sym asked)));
     offer = (let le = fits.offer in omega (arith, le, buffers_small m c.claims.read c.claims.write c.claims.reply held));
@@ -171,10 +171,10 @@ distinct_answer next n calls d answers m (Some call) (Some o) lt apart h = disti
 
 -- ---- Both
 
-pub completed_bounded : (sent first next n room : ℕ) (number : ℕ) (e e2 : EndpointState) (calls calls2 : List OutstandingCall) (answers answers2 : List AnsweredCall) (d : OutstandingCall) (f : Found) → n < length calls → (get_or calls n d).xid - first < sent →
-    CallsSound e.link.state.memory number calls answers room → e2.staging ≡ e.staging → (NothingOutside e → NothingOutside e2) → e2.link ≡ with_memory (released_all e.link.state.memory (stags_of (get_or calls n d).claims)) e.link → calls2 ≡ remove calls n →
-    answers2 ≡ answers ++ answered_as e.link.state.memory (stored_view (get_or calls n d)) (awaited_call (stored_view (get_or calls n d))) (outcome_by f (get_or calls n d).room.bytes) → IsBounded sent first next e calls answers → IsBounded sent first next e2 calls2 answers2
-completed_bounded sent first next n room number e e2 calls calls2 answers answers2 d f lt gone sound same none link_is calls_are answers_are b =
+pub completed_bounded : (len sent first next n room : ℕ) (most number : ℕ) (e e2 : EndpointState) (calls calls2 : List OutstandingCall) (answers answers2 : List AnsweredCall) (d : OutstandingCall) (f : Found) → n < length calls → (get_or calls n d).xid - first < sent →
+    CallsSound most e.link.state.memory number calls answers room → e2.staging ≡ e.staging → (NothingOutside e → NothingOutside e2) → e2.link ≡ with_memory (released_all e.link.state.memory (stags_of (get_or calls n d).claims)) e.link → calls2 ≡ remove calls n →
+    answers2 ≡ answers ++ answered_as e.link.state.memory (stored_view (get_or calls n d)) (awaited_call (stored_view (get_or calls n d))) (outcome_by f (get_or calls n d).room.bytes) → IsBounded len sent first next e calls answers → IsBounded len sent first next e2 calls2 answers2
+completed_bounded len sent first next n room most number e e2 calls calls2 answers answers2 d f lt gone sound same none link_is calls_are answers_are b =
     let w = b.0 in
     let s : LinkState = e.link.state in
     let c : OutstandingCall = get_or calls n d in
@@ -187,15 +187,18 @@ completed_bounded sent first next n room number e e2 calls calls2 answers answer
     let sum : claims_total calls - claims_len c.claims ≡ claims_total left = omega (arith, total_removed n calls d lt) in
     let le = b.1 in
     let waiting = w.counts.waiting in
-    let all : RequesterBounds e2 first next left more = record {
+    let all : RequesterBounds len e2 first next left more = record {
       staging = ap (λ (xs : List ℕ). length xs) same ∙ w.staging;
       outside = none w.outside;
       from = all_removed (λ (x : OutstandingCall). first ≤ x.xid) n calls w.from;
       order = w.order;
-      link = subst (λ (x : LinkState). LinkFits x) (sym state) (record {
+      link = subst (λ (x : LinkState). LinkFits len x) (sym state) (record {
         side = w.link.side;
         receives = w.link.receives;
         receive_length = w.link.receive_length;
+        receive = w.link.receive;
+        up = w.link.up;
+        down = w.link.down;
         hello = w.link.hello;
         queue = w.link.queue;
         responses = w.link.responses;
@@ -204,11 +207,11 @@ completed_bounded sent first next n room number e e2 calls calls2 answers answer
       regions = subst (λ (x : LinkState). RegionsHave x.memory (claims_total left)) (sym state) (subst (λ (k : ℕ). RegionsHave memory k) sum both.1);
       counts = subst (λ (x : LinkState). CountsFit first next x.send_queue left) (sym state)
           (record { waiting = omega (arith, waiting, unsent_removed first s.send_queue.sends_left n calls d lt (omega (arith, gone, le))); numbered = w.counts.numbered });
-      each = all_removed CallFits n calls w.each;
+      each = all_removed (CallFits len) n calls w.each;
       kept = all_append AnswerFits answers (answered_as s.memory (stored_view c) (awaited_call (stored_view c)) (outcome_by f c.room.bytes)) w.kept
-          (answer_fits s.memory c f (awaited_call (stored_view c)) (outcome_by f c.room.bytes) refl refl (nth_of CallFits n calls d lt w.each) held);
+          (answer_fits len s.memory c f (awaited_call (stored_view c)) (outcome_by f c.room.bytes) refl refl (nth_of (CallFits len) n calls d lt w.each) held);
       distinct = distinct_answer number n calls d answers s.memory (awaited_call (stored_view c)) (outcome_by f c.room.bytes) lt sound.apart w.distinct;
     } in (
-      subst (λ (cs : List OutstandingCall). RequesterBounds e2 first next cs answers2) (sym calls_are) (subst (λ (ys : List AnsweredCall). RequesterBounds e2 first next left ys) (sym answers_are) all),
+      subst (λ (cs : List OutstandingCall). RequesterBounds len e2 first next cs answers2) (sym calls_are) (subst (λ (ys : List AnsweredCall). RequesterBounds len e2 first next left ys) (sym answers_are) all),
       subst (λ (x : LinkState). sent ≤ x.send_queue.sends_left) (sym state) le,
     )

@@ -1,5 +1,4 @@
 -- What a requester answers, step by step.
-use Rattle.nr_link.specs.Limits.{send_max}
 use Rattle.std.proofs.Common.{◌≡◌, ◌≢◌, ℕ, ◌^◌, ◌≤◌, Bool, cond, List, [], ◌∷◌, ◌++◌, None, Some, Result, Ok, Err, inl, inr, refl, sym, ap, subst, ◌∙◌, arith}
 use Rattle.std.proofs.lemmas.Bool.{cases_lt, lt-ltb, le-ltb}
 use Rattle.nr_xdr.specs.Item.{word}
@@ -22,6 +21,7 @@ use Rattle.nr_reduce.specs.Plans.{TooLarge, plan_of, regions_needed}
 use Rattle.nr_reduce.specs.ClientState.{call_payload}
 use Rattle.nr_requester.specs.RequesterState.{RequesterState, RequesterSide}
 use Rattle.nr_requester.specs.Standing.{RequesterRepresents}
+use Rattle.nr_requester.specs.HeldBytes.{receive_max}
 use Rattle.nr_requester.specs.AfterCalls.{after_submit}
 use Rattle.nr_requester.specs.Answers.{plan_under, answer_by_plan, answer_if, answer_of, WasSent}
 use Rattle.nr_requester.specs.Sending.{xid_word, answer_for, IsPlan, target_under, head_under}
@@ -51,8 +51,8 @@ live_answer r call form is = ap (answer_if r call form) is
 pub planned_answer : (r : RequesterState) (call : Call) (form : Form) (plan : Plan) → r.side.ended ≡ None → plan_under r call form ≡ Ok plan → answer_of r call form ≡ answer_for r (regions_needed plan)
 planned_answer r call form plan lives is = live_answer r call form lives ∙ ap (answer_by_plan r) is
 
-pub is_plan_lem : (r : RequesterState) (call : Call) (form : Form) (plan : Plan) → plan_under r call form ≡ Ok plan → IsPlan plan
-is_plan_lem r call form plan is = record { payload = call_payload r.next_xid call; form = form; is = is }
+pub is_plan_lem : (r : RequesterState) (call : Call) (form : Form) (plan : Plan) → r.side.agreed.up ≤ receive_max → plan_under r call form ≡ Ok plan → IsPlan plan
+is_plan_lem r call form plan short is = record { payload = call_payload r.next_xid call; form = form; up = r.side.agreed.up; down = r.side.agreed.down; short = short; is = is }
 
 pub sent_stands : (before after : RequesterSide) (call : Call) (form : Form) (xid : ℕ) → WasSent before after call form xid → (opened : LinkParameters) (link : ℕ) (run : List Mark) → RequesterRepresents opened link before run →
     RequesterRepresents opened link after (run ++ marks.Submit link call form (submissions.Accepted xid) ∷ [])
@@ -63,13 +63,13 @@ sent_stands before after call form xid w opened link run s =
 
 -- what the outline of a call's parts is, under the next xid
 pub outlined_by : (r : RequesterState) (call : Call) (form : Form) (n : ℕ) (target : CallTarget) (head args payload : List ℕ) (result : Result Outline CodeTooLarge) → r.next_xid ≡ n → n ≤ 2 ^ 32 → target ≡ target_under n call → args ≡ call.args → head ≡ head_under r.next_xid call →
-    payload ≡ call_encoding (call_of_target target call.cred) args → OutlineAnswers payload result (plan_of payload form send_max send_max) → OutlineAnswers (head ++ call.args) result (plan_under r call form)
+    payload ≡ call_encoding (call_of_target target call.cred) args → OutlineAnswers payload result (plan_of payload form r.side.agreed.up r.side.agreed.down) → OutlineAnswers (head ++ call.args) result (plan_under r call form)
 unfolding call_payload
 outlined_by r call form n target head args payload result next le is-target is-args is-head is-payload answer =
     let whole : payload ≡ call_encoding (call_of_target (target_under n call) call.cred) call.args = is-payload ∙ (λ i. call_encoding (call_of_target (is-target i) call.cred) (is-args i)) in
     let same : head ++ call.args ≡ payload = ap (λ (h : List ℕ). h ++ call.args) (is-head ∙ ap (λ (m : ℕ). head_under m call) next) ∙ sym whole in
     let under : payload ≡ call_payload r.next_xid call = whole ∙ payload_word n call le ∙ ap (λ (m : ℕ). call_payload m call) (sym next) in
-    subst (λ (p : List ℕ). OutlineAnswers p result (plan_under r call form)) (sym same) (subst (λ (p : List ℕ). OutlineAnswers payload result (plan_of p form send_max send_max)) under answer)
+    subst (λ (p : List ℕ). OutlineAnswers p result (plan_under r call form)) (sym same) (subst (λ (p : List ℕ). OutlineAnswers payload result (plan_of p form r.side.agreed.up r.side.agreed.down)) under answer)
 
 pub too_large_answer : (r : RequesterState) (call : Call) (form : Form) (large : TooLarge) → plan_under r call form ≡ Err large → answer_by_plan r (plan_under r call form) ≡ submissions.Refused (refusals.TooLarge large.need large.room)
 too_large_answer r call form large is = ap (answer_by_plan r) is

@@ -267,8 +267,8 @@ module _ (opened : LinkParameters) (k : ClientState) (count : ℕ) (f : Frame) (
   unfolding client_state_after
   state_still a h = by (is_hello f)
     where
-      by : (b : Bool) → StillHolds (next_xid opened (cond b (with_hello opened k) (with_segment k f (frame_segment f)))) (cond b (with_hello opened k) (with_segment k f (frame_segment f))) a
-      by true = still_by (next_xid opened k) (next_xid opened (with_hello opened k)) k (with_hello opened k) a (omega arith) refl refl h
+      by : (b : Bool) → StillHolds (next_xid opened (cond b (with_hello opened k f) (with_segment k f (frame_segment f)))) (cond b (with_hello opened k f) (with_segment k f (frame_segment f))) a
+      by true = still_by (next_xid opened k) (next_xid opened (with_hello opened k f)) k (with_hello opened k f) a (omega arith) refl refl h
       by false = segment_still (frame_segment f) a h
 
   -- after a frame, also one that ends the client
@@ -371,7 +371,7 @@ pub completed_still : (opened : LinkParameters) (k : ClientState) (count : ℕ) 
 unfolding client_state_after
 completed_still opened k count f segment message a offered received lt own goes hello is completes held =
     subst (λ (why : Option End). StillHolds (next_xid opened (next_end_state_by (client_rules opened) k (FrameReceived f) why).state) (next_end_state_by (client_rules opened) k (FrameReceived f) why).state a) (sym goes)
-    (subst (λ (b : Bool). StillHolds (next_xid opened (cond b (with_hello opened k) (with_segment k f (frame_segment f)))) (cond b (with_hello opened k) (with_segment k f (frame_segment f))) a) (sym hello)
+    (subst (λ (b : Bool). StillHolds (next_xid opened (cond b (with_hello opened k f) (with_segment k f (frame_segment f)))) (cond b (with_hello opened k f) (with_segment k f (frame_segment f))) a) (sym hello)
     (subst (λ (s : Result Segment ℕ). StillHolds (next_xid opened (with_segment k f s)) (with_segment k f s) a) (sym is) here))
   where
     after : ClientState

@@ -174,7 +174,7 @@ segment_offers next k f (Ok segment) h =
     let m = request_offers next (with_message k f.end (message_completed k.received segment)) (due_with_response k f segment) (read_request_of segment)
     (message_offers next k f.end (message_completed k.received segment) h) in record { before = m.before; calls = m.calls }
 
-frame_offers : (opened : LinkParameters) (next : ℕ) (k : ClientState) (f : Frame) (b : Bool) → CallsOffer next k → CallsOffer next (cond b (with_hello opened k) (with_segment k f (frame_segment f)))
+frame_offers : (opened : LinkParameters) (next : ℕ) (k : ClientState) (f : Frame) (b : Bool) → CallsOffer next k → CallsOffer next (cond b (with_hello opened k f) (with_segment k f (frame_segment f)))
 frame_offers opened next k f true h = record { before = h.before; calls = h.calls }
 frame_offers opened next k f false h = segment_offers next k f (frame_segment f) h
 
@@ -194,14 +194,14 @@ SubmitNothing (event ∷ es) = SubmitsNothing event × SubmitNothing es
 abbrev pub Offers : LinkParameters → ClientState → Type 0
 Offers opened k = CallsOffer (next_xid opened k) k
 
-frame_accepted : (opened : LinkParameters) (k : ClientState) (f : Frame) (b : Bool) → (cond b (with_hello opened k) (with_segment k f (frame_segment f))).calls_accepted ≡ k.calls_accepted
+frame_accepted : (opened : LinkParameters) (k : ClientState) (f : Frame) (b : Bool) → (cond b (with_hello opened k f) (with_segment k f (frame_segment f))).calls_accepted ≡ k.calls_accepted
 frame_accepted opened k f true = refl
 frame_accepted opened k f false = segment_accepted k f (frame_segment f)
 
 pub event_offers : (opened : LinkParameters) (k : ClientState) (event : RunEvent) → SubmitsNothing event → Offers opened k → Offers opened (client_state_after opened k event)
 unfolding client_state_after
 event_offers opened k (FrameReceived f) none h =
-    let after : ClientState = cond (is_hello f) (with_hello opened k) (with_segment k f (frame_segment f)) in
+    let after : ClientState = cond (is_hello f) (with_hello opened k f) (with_segment k f (frame_segment f)) in
     subst (λ (n : ℕ). CallsOffer (opened.first_xid + n) after) (sym (frame_accepted opened k f (is_hello f))) (frame_offers opened (next_xid opened k) k f (is_hello f) h)
 event_offers opened k (CallSubmitted place a) none h = absurd none
 event_offers opened k (MemoryRevoked place xid) none h = record {

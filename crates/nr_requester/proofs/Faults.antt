@@ -5,7 +5,6 @@ use Rattle.nr_wire.specs.Segment.{Segment}
 use Rattle.nr_wire.specs.Segment.Segment.{Tagged, Untagged}
 use Rattle.nr_regions.specs.declared.denied.Denied.{Denied}
 use Rattle.nr_regions.specs.Access.{Grant}
-use Rattle.nr_link.specs.Limits.{send_max}
 use Rattle.nr_link.specs.Reasons.{REASON_MSN, REASON_OFFSET, REASON_FORM, REASON_REQUESTS, REASON_SHORT, REASON_LONG}
 use Rattle.nr_link.specs.Frames.{Frame}
 use Rattle.nr_link.specs.ReceiveState.{ReceiveState, is_send, message_completed}
@@ -13,6 +12,7 @@ use Rattle.nr_link.specs.SegmentFaults.{Readiness, SegmentReason, segment_reason
 use Rattle.nr_link.specs.SegmentFaults.SegmentReason.{NoBuffer}
 use Rattle.nr_link.specs.Ending.{end_of_fault, frame_end, frame_end_by, frame_segment, missing_access}
 use Rattle.nr_link.proofs.BegunSends.{judged_alike}
+use Rattle.nr_endpoint.specs.Hellos.{receive_length_for}
 use Rattle.nr_endpoint.specs.LinkState.{LinkState}
 use Rattle.nr_endpoint.specs.ReceiveQueue.{sends_begun}
 use Rattle.nr_endpoint.specs.Judging.{next_frame, with_frame, expected_response, readiness}
@@ -26,13 +26,13 @@ use Rattle.nr_reduce.proofs.MemorySteps.{denied_alike}
 use Rattle.nr_requester.specs.Standing.{LinkKeeps}
 
 -- what is ready, by what was received
-ready_with : ReceiveState → Bool → Option Denied → ℕ → Readiness Denied
-ready_with h free missing responses = record { received = h; has_receive = free; message_max = send_max; missing = missing; expected = None; responses = responses }
+ready_with : (message_max : ℕ) → ReceiveState → Bool → Option Denied → ℕ → Readiness Denied
+ready_with message_max h free missing responses = record { received = h; has_receive = free; message_max = message_max; missing = missing; expected = None; responses = responses }
 
-receive_alike : (h : ReceiveState) (free : Bool) (missing : Option Denied) (responses msn : ℕ) (b : Bool) → (is_begun h.begun || free) ≡ true → no_buffer (ready_with h free missing responses) b msn ≡ no_buffer (ready_with h true missing responses) b msn
+receive_alike : (most : ℕ) (h : ReceiveState) (free : Bool) (missing : Option Denied) (responses msn : ℕ) (b : Bool) → (is_begun h.begun || free) ≡ true → no_buffer (ready_with most h free missing responses) b msn ≡ no_buffer (ready_with most h true missing responses) b msn
 unfolding ready_with
-receive_alike h free missing responses msn false some = refl
-receive_alike h free missing responses msn true some =
+receive_alike most h free missing responses msn false some = refl
+receive_alike most h free missing responses msn true some =
     let no : Option (SegmentReason Denied) = Some (NoBuffer msn) in
     ap (λ (x : Bool). cond x None no) some ∙ sym (ap (λ (x : Bool). cond x None no) (always (is_begun h.begun)))
   where
@@ -41,11 +41,11 @@ receive_alike h free missing responses msn true some =
     always false = refl
 
 -- the one receive is free, or a Send is begun in it
-receive_fault : (h : ReceiveState) (free : Bool) (missing : Option Denied) (responses : ℕ) (segment : Segment) → (is_begun h.begun || free) ≡ true → segment_reason (ready_with h free missing responses) segment ≡ segment_reason (ready_with h true missing responses) segment
+receive_fault : (most : ℕ) (h : ReceiveState) (free : Bool) (missing : Option Denied) (responses : ℕ) (segment : Segment) → (is_begun h.begun || free) ≡ true → segment_reason (ready_with most h free missing responses) segment ≡ segment_reason (ready_with most h true missing responses) segment
 unfolding segment_reason ready_with
-receive_fault h free missing responses (Tagged last opcode stag to payload) some = refl
-receive_fault h free missing responses (Untagged last opcode w queue msn offset payload) some =
-    let same = receive_alike h free missing responses msn (is_send opcode) some in
+receive_fault most h free missing responses (Tagged last opcode stag to payload) some = refl
+receive_fault most h free missing responses (Untagged last opcode w queue msn offset payload) some =
+    let same = receive_alike most h free missing responses msn (is_send opcode) some in
     let message : Option (List ℕ) = message_completed h (Untagged last opcode w queue msn offset payload) in
     λ i. first_fault (
     reason_if REASON_MSN (not (eqb msn (next_msn h queue)))
@@ -53,8 +53,8 @@ receive_fault h free missing responses (Untagged last opcode w queue msn offset 
     ∷ same i
     ∷ reason_if REASON_FORM (is_malformed opcode last payload)
     ∷ missing_fault missing
-    ∷ reason_if REASON_REQUESTS (is_too_many (ready_with h true missing responses) opcode)
-    ∷ reason_if REASON_LONG (message_length_is (ltb send_max) message)
+    ∷ reason_if REASON_REQUESTS (is_too_many (ready_with most h true missing responses) opcode)
+    ∷ reason_if REASON_LONG (message_length_is (ltb most) message)
     ∷ reason_if REASON_SHORT (message_length_is (λ n. ltb n 16) message)
     ∷ terminate_fault opcode payload
     ∷ [])
@@ -63,27 +63,26 @@ free_receive : (free : ℕ) (begun : Option (List ℕ)) → free + sends_begun b
 free_receive free (Some b) e = refl
 free_receive free None e = (let one : free ≡ 1 = omega (arith, e) in ap (λ (n : ℕ). ltb 0 n) one)
 
-readiness_alike : (opened : LinkParameters) (s : LinkState) (k : ClientState) (missing : Option Denied) (segment : Segment) → LinkKeeps opened s k → k.down_max ≡ send_max →
+readiness_alike : (opened : LinkParameters) (s : LinkState) (k : ClientState) (missing : Option Denied) (segment : Segment) → LinkKeeps opened s k →
     segment_reason (readiness s missing) segment ≡ segment_reason (client_readiness k missing) segment
 unfolding ready_with
-readiness_alike opened s k missing segment keeps down =
+readiness_alike opened s k missing segment keeps =
     (λ i. segment_reason (record { received = keeps.received i; has_receive = ltb 0 s.receive_queue.free; message_max = keeps.message_max i; missing = missing; expected = expected_response (keeps.no_reads i); responses = keeps.responses.count i }) segment)
-    ∙ judged_alike send_max (ready_with k.received (ltb 0 s.receive_queue.free) missing (responses_owed k)) segment
-    ∙ receive_fault k.received (ltb 0 s.receive_queue.free) missing (responses_owed k) segment (free_receive s.receive_queue.free k.received.begun keeps.receive)
-    ∙ (λ i. segment_reason (record { received = k.received; has_receive = true; message_max = sym down i; missing = missing; expected = None; responses = responses_owed k }) segment)
+    ∙ judged_alike (receive_length_for opened.client) (ready_with k.down_max k.received (ltb 0 s.receive_queue.free) missing (responses_owed k)) segment
+    ∙ receive_fault k.down_max k.received (ltb 0 s.receive_queue.free) missing (responses_owed k) segment (free_receive s.receive_queue.free k.received.begun keeps.receive)
 
-frame_alike : (opened : LinkParameters) (s : LinkState) (k : ClientState) (grants : List Grant) (f : Frame) (r : Result Segment ℕ) → LinkKeeps opened s k → k.down_max ≡ send_max →
+frame_alike : (opened : LinkParameters) (s : LinkState) (k : ClientState) (grants : List Grant) (f : Frame) (r : Result Segment ℕ) → LinkKeeps opened s k →
     frame_end_by (readiness s) grants f r ≡ frame_end_by (client_readiness k) grants f r
-frame_alike opened s k grants f (Ok segment) keeps down =
-    ap (λ (x : Option (SegmentReason Denied)). end_of_fault f segment x) (readiness_alike opened s k (missing_access grants f segment) segment keeps down)
-frame_alike opened s k grants f (Err reason) keeps down = refl
+frame_alike opened s k grants f (Ok segment) keeps =
+    ap (λ (x : Option (SegmentReason Denied)). end_of_fault f segment x) (readiness_alike opened s k (missing_access grants f segment) segment keeps)
+frame_alike opened s k grants f (Err reason) keeps = refl
 
 -- A frame ends the side of the link exactly if, and as, it ends the client for other causes than its message.
-pub ends_alike : (opened : LinkParameters) (s : LinkState) (k : ClientState) (count : ℕ) (frame : List ℕ) → s.ended ≡ None → LinkKeeps opened s k → MemoryKeeps s.memory k count → k.down_max ≡ send_max → count < (next_frame s frame).end →
+pub ends_alike : (opened : LinkParameters) (s : LinkState) (k : ClientState) (count : ℕ) (frame : List ℕ) → s.ended ≡ None → LinkKeeps opened s k → MemoryKeeps s.memory k count → count < (next_frame s frame).end →
     (with_frame s Fpdu frame).ended ≡ frame_end (client_readiness k) (region_grants (next_frame s frame).end k.regions) (next_frame s frame)
 unfolding frame_end
-ends_alike opened s k count frame lives keeps memory down lt =
+ends_alike opened s k count frame lives keeps memory lt =
     let f = next_frame s frame in
     let grants = region_grants f.end k.regions in
     grants_end_alike s grants frame lives (λ access. denied_alike k.regions k.accesses_received count f.end s.memory access memory.offered memory.holds lt)
-    ∙ frame_alike opened s k grants f (frame_segment f) keeps down
+    ∙ frame_alike opened s k grants f (frame_segment f) keeps

@@ -70,8 +70,8 @@ fed_sends link piece = feed_one_keeps (λ a s. SameSends link.state.send_queue s
 
 -- ---- Calls of an endpoint that leave its regions
 
-module _ (sent first next : ℕ) (calls : List OutstandingCall) (answers : List AnsweredCall) (e e2 : EndpointState) (staging : length e2.staging ≡ length e.staging) (outside : e2.outside ≡ e.outside) (b : IsBounded sent first next e calls answers) where
-  moved : e2.link.state.memory.next ≡ e.link.state.memory.next → Fits (claims_total calls) e2.link.state → SameSends e.link.state.send_queue e2.link.state.send_queue → IsBounded sent first next e2 calls answers
+module _ (len sent first next : ℕ) (calls : List OutstandingCall) (answers : List AnsweredCall) (e e2 : EndpointState) (staging : length e2.staging ≡ length e.staging) (outside : e2.outside ≡ e.outside) (b : IsBounded len sent first next e calls answers) where
+  moved : e2.link.state.memory.next ≡ e.link.state.memory.next → Fits len (claims_total calls) e2.link.state → SameSends e.link.state.send_queue e2.link.state.send_queue → IsBounded len sent first next e2 calls answers
   moved stags fits same =
       let w = b.0 in
       let count = ap (λ (xs : List ℕ). length xs) same.1 in
@@ -96,42 +96,42 @@ module _ (sent first next : ℕ) (calls : List OutstandingCall) (answers : List 
         (let le = b.1 in omega (arith, le, left)),
       )
 
-  here : Fits (claims_total calls) e.link.state
+  here : Fits len (claims_total calls) e.link.state
   here = (b.0.link, b.0.regions)
 
-  pub fed_bounded : (piece : List ℕ) → e.link.state.ended ≡ None → e.link.state.receive_queue.deliveries ≡ [] → e.link.state.reads ≡ [] → e2.link ≡ after_call e.link (FeedOne piece) → IsBounded sent first next e2 calls answers
+  pub fed_bounded : (piece : List ℕ) → e.link.state.ended ≡ None → e.link.state.receive_queue.deliveries ≡ [] → e.link.state.reads ≡ [] → e2.link ≡ after_call e.link (FeedOne piece) → IsBounded len sent first next e2 calls answers
   fed_bounded piece lives quiet none is =
       moved (ap (λ (l : LinkSide). l.state.memory.next) is ∙ (step_leaves e.link piece lives quiet none).leaves.next)
-      (subst (λ (l : LinkSide). Fits (claims_total calls) l.state) (sym is) (fed_one_fits (claims_total calls) e.link piece here))
+      (subst (λ (l : LinkSide). Fits len (claims_total calls) l.state) (sym is) (fed_one_fits len (claims_total calls) e.link piece here))
       (subst (λ (l : LinkSide). SameSends e.link.state.send_queue l.state.send_queue) (sym is) (fed_sends e.link piece))
 
   -- another state of the link
-  to_state : (s : LinkState) → e2.link.state ≡ s → s.memory.next ≡ e.link.state.memory.next → Fits (claims_total calls) s → SameSends e.link.state.send_queue s.send_queue → IsBounded sent first next e2 calls answers
+  to_state : (s : LinkState) → e2.link.state ≡ s → s.memory.next ≡ e.link.state.memory.next → Fits len (claims_total calls) s → SameSends e.link.state.send_queue s.send_queue → IsBounded len sent first next e2 calls answers
   to_state s is stags fits same =
-      moved (ap (λ (x : LinkState). x.memory.next) is ∙ stags) (subst (λ (x : LinkState). Fits (claims_total calls) x) (sym is) fits)
+      moved (ap (λ (x : LinkState). x.memory.next) is ∙ stags) (subst (λ (x : LinkState). Fits len (claims_total calls) x) (sym is) fits)
       (subst (λ (x : LinkState). SameSends e.link.state.send_queue x.send_queue) (sym is) same)
 
-  pub same_bounded : e2.link ≡ e.link → IsBounded sent first next e2 calls answers
+  pub same_bounded : e2.link ≡ e.link → IsBounded len sent first next e2 calls answers
   same_bounded is = to_state e.link.state (ap (λ (l : LinkSide). l.state) is) refl here (refl, refl)
 
-  pub next_bounded : e2.link ≡ after_call e.link NextEvent → IsBounded sent first next e2 calls answers
+  pub next_bounded : e2.link ≡ after_call e.link NextEvent → IsBounded len sent first next e2 calls answers
   unfolding after_call
   next_bounded is = to_state (after_call e.link NextEvent).state (ap (λ (l : LinkSide). l.state) is) refl (
-    record { side = b.0.link.side; receives = b.0.link.receives; receive_length = b.0.link.receive_length; hello = b.0.link.hello; queue = b.0.link.queue; responses = b.0.link.responses; regions = b.0.link.regions },
+    record { side = b.0.link.side; receives = b.0.link.receives; receive_length = b.0.link.receive_length; receive = b.0.link.receive; up = b.0.link.up; down = b.0.link.down; hello = b.0.link.hello; queue = b.0.link.queue; responses = b.0.link.responses; regions = b.0.link.regions },
     b.0.regions,
   ) (refl, refl)
 
-  pub post_bounded : e2.link ≡ after_call e.link Post → IsBounded sent first next e2 calls answers
+  pub post_bounded : e2.link ≡ after_call e.link Post → IsBounded len sent first next e2 calls answers
   unfolding after_call
   post_bounded is = to_state (after_call e.link Post).state (ap (λ (l : LinkSide). l.state) is) refl (
-    record { side = b.0.link.side; receives = b.0.link.receives; receive_length = b.0.link.receive_length; hello = b.0.link.hello; queue = b.0.link.queue; responses = b.0.link.responses; regions = b.0.link.regions },
+    record { side = b.0.link.side; receives = b.0.link.receives; receive_length = b.0.link.receive_length; receive = b.0.link.receive; up = b.0.link.up; down = b.0.link.down; hello = b.0.link.hello; queue = b.0.link.queue; responses = b.0.link.responses; regions = b.0.link.regions },
     b.0.regions,
   ) (refl, refl)
 
   going : e.link.state.ended ≡ None → has_ended e.link.state ≡ false
   going lives = ap (λ (o : Option End). is_some o) lives
 
-  pub out_bounded : e.link.state.ended ≡ None → e2.link ≡ after_call e.link OutOfMemory → IsBounded sent first next e2 calls answers
+  pub out_bounded : e.link.state.ended ≡ None → e2.link ≡ after_call e.link OutOfMemory → IsBounded len sent first next e2 calls answers
   unfolding after_call
   out_bounded lives is =
       let s : LinkState = e.link.state in
@@ -141,6 +141,9 @@ module _ (sent first next : ℕ) (calls : List OutstandingCall) (answers : List 
           side = b.0.link.side;
           receives = b.0.link.receives;
           receive_length = b.0.link.receive_length;
+          receive = b.0.link.receive;
+          up = b.0.link.up;
+          down = b.0.link.down;
           hello = b.0.link.hello;
           queue = ended_fits s.send_queue true (subst (λ (x : Bool). QueueFits x s.send_queue) (going lives) b.0.link.queue);
           responses = b.0.link.responses;
@@ -149,11 +152,11 @@ module _ (sent first next : ℕ) (calls : List OutstandingCall) (answers : List 
         b.0.regions,
       ) (refl, refl)
 
-  pub stop_bounded : (reason : ℕ) → e.link.state.ended ≡ None → (e2.link ≡ after_call e.link (Stop reason)) ⊎ (e2.link ≡ after_call e.link OutOfMemory) → IsBounded sent first next e2 calls answers
+  pub stop_bounded : (reason : ℕ) → e.link.state.ended ≡ None → (e2.link ≡ after_call e.link (Stop reason)) ⊎ (e2.link ≡ after_call e.link OutOfMemory) → IsBounded len sent first next e2 calls answers
   unfolding after_call
   stop_bounded reason lives (inl is) =
       let s : LinkState = e.link.state in
       let after : LinkState = with_end_of (ends.Bad s.last reason) s in
       to_state after (ap (λ (l : LinkSide). l.state) is ∙ ap (λ (o : Option End). cond (is_some o) s after) lives) refl
-      (end_fits s (ends.Bad s.last reason) (claims_total calls) (going lives) here) (end_sends s.send_queue s (ends.Bad s.last reason) (refl, refl))
+      (end_fits s (ends.Bad s.last reason) len (claims_total calls) (going lives) here) (end_sends s.send_queue s (ends.Bad s.last reason) (refl, refl))
   stop_bounded reason lives (inr is) = out_bounded lives is

@@ -10,9 +10,9 @@ use Rattle.nr_regions.specs.RegisteredMemory.{Region, RegisteredMemory, Access, 
 use Rattle.nr_regions.proofs.Holding.{live_held, within, get_insert_here, get_insert_other, length_bytes_after_write}
 use Rattle.nr_regions.proofs.Totals.{sound_change}
 use Rattle.nr_regions.specs.Table.{region_len}
-use Rattle.nr_wire.specs.Constants.{HELLO_LEN, OPCODE_READ_RESPONSE, OPCODE_READ_REQUEST}
+use Rattle.nr_wire.specs.Constants.{OPCODE_READ_RESPONSE, OPCODE_READ_REQUEST}
 use Rattle.nr_wire.specs.declared.hello.Side.{Side}
-use Rattle.nr_wire.specs.declared.hello.Side.TheVariants.{Initiator}
+use Rattle.nr_wire.specs.declared.hello.Side.TheVariants.{Initiator, Responder}
 use Rattle.nr_wire.specs.declared.stream.Awaited.{Awaited}
 use Rattle.nr_wire.specs.declared.stream.Awaited.TheVariants.{Hello as HelloFrom, Fpdu}
 use Rattle.nr_wire.specs.Hello.{Hello, hello_of}
@@ -21,14 +21,16 @@ use Rattle.nr_wire.specs.Segment.Segment.{Tagged, Untagged}
 use Rattle.nr_link.specs.declared.end.End.{End}
 use Rattle.nr_link.specs.declared.end.End.TheVariants as ends
 use Rattle.nr_link.specs.Frames.{Frame}
-use Rattle.nr_link.specs.Limits.{open_reads_max, send_max}
+use Rattle.nr_link.specs.Limits.{open_reads_max}
 use Rattle.nr_link.specs.Output.{read_response}
 use Rattle.nr_link.specs.Reasons.{denied_word, NO_BUFFER_WORD}
 use Rattle.nr_link.specs.ReceiveState.{read_request_in}
 use Rattle.nr_link.specs.Ending.{final_output, rejection, is_hello_reason, kind_of}
 use Rattle.nr_endpoint.specs.SendQueue.{SendQueue, with_end}
 use Rattle.nr_endpoint.specs.ReceiveQueue.{with_segment, with_read_done}
-use Rattle.nr_endpoint.specs.Hellos.{own_private}
+use Rattle.nr_link.specs.Agreement.{IsSendLimit}
+use Rattle.nr_link.proofs.Agreements.{agreements_bounded}
+use Rattle.nr_endpoint.specs.Hellos.{own_private, side_agreement}
 use Rattle.nr_endpoint.specs.LinkState.{LinkState, LinkSide, has_ended}
 use Rattle.nr_endpoint.specs.Judging.{segment_end, next_frame, with_end_of, with_frame, with_segment_by, with_fpdu, with_peer_hello, with_effect, with_read_request, with_read_response, reply_hello, fetch_access}
 use Rattle.nr_endpoint.specs.SegmentEnds.{RequestIsFine, denied_if, tagged_end}
@@ -36,12 +38,12 @@ use Rattle.nr_endpoint.specs.Calls.{after_call}
 use Rattle.nr_endpoint.specs.Calls.Call.{FeedOne}
 use Rattle.nr_endpoint.proofs.AlongFrames.{feed_one_keeps}
 use Rattle.nr_endpoint.proofs.Alive.{alive_tagged, alive_request}
-use Rattle.nr_requester.specs.HeldBytes.{region_max, frame_max, QueueFits, RegionsFit, LinkFits, RegionsHave}
+use Rattle.nr_requester.specs.HeldBytes.{region_max, frame_max, hello_max, QueueFits, RegionsFit, LinkFits, RegionsHave}
 use Rattle.nr_requester.proofs.OutputBounds.{response_fits, last_fits, last_len}
 
 -- both: its vectors are within their bounds, and its regions have this number of bytes
-abbrev pub Fits : ℕ → LinkState → Type 0
-Fits total s = LinkFits s × RegionsHave s.memory total
+abbrev pub Fits : (len total : ℕ) → LinkState → Type 0
+Fits len total s = LinkFits len s × RegionsHave s.memory total
 
 -- ---- What it writes last
 
@@ -60,13 +62,16 @@ last_bytes ends.Memory = omega arith
 no_rejection : (side : Side) (end : End) → side ≡ Initiator → length (rejection side end) ≡ 0
 no_rejection side end is = ap (λ (x : Side). length (rejection x end)) is
 
-pub end_fits : (s : LinkState) (end : End) (total : ℕ) → has_ended s ≡ false → Fits total s → Fits total (with_end_of end s)
+pub end_fits : (s : LinkState) (end : End) (len total : ℕ) → has_ended s ≡ false → Fits len total s → Fits len total (with_end_of end s)
 unfolding with_end
-end_fits s end total live f = (
+end_fits s end len total live f = (
   record {
     side = f.0.side;
     receives = f.0.receives;
     receive_length = f.0.receive_length;
+    receive = f.0.receive;
+    up = f.0.up;
+    down = f.0.down;
     hello = omega (arith, f.0.hello, length-append s.send_queue.hello (rejection s.side end), no_rejection s.side end f.0.side);
     queue = last_fits s.send_queue (final_output end) (last_bytes end) (subst (λ (b : Bool). QueueFits b s.send_queue) live f.0.queue);
     responses = f.0.responses;
@@ -120,12 +125,15 @@ allowed_lem : (s : LinkState) (last : Bool) (opcode stag to : ℕ) (payload : Li
 unfolding tagged_end
 allowed_lem s last opcode stag to payload e = tagged_allowed stag to _ _ e
 
-read_fits : (s : LinkState) (last : Bool) (n : ℕ) (b : Bool) (total : ℕ) → Fits total s → Fits total (cond b (with_read_response last n s) s)
-read_fits s last n true total f = (
+read_fits : (s : LinkState) (last : Bool) (n : ℕ) (b : Bool) (len total : ℕ) → Fits len total s → Fits len total (cond b (with_read_response last n s) s)
+read_fits s last n true len total f = (
   record {
     side = f.0.side;
     receives = by last f.0.receives;
     receive_length = by_length last f.0.receive_length;
+    receive = f.0.receive;
+    up = f.0.up;
+    down = f.0.down;
     hello = f.0.hello;
     queue = f.0.queue;
     responses = f.0.responses;
@@ -138,10 +146,10 @@ read_fits s last n true total f = (
     by true e = e
     by false e = e
 
-    by_length : (l : Bool) → s.receive_queue.receive_length ≡ send_max → (cond l (with_read_done s.receive_queue) s.receive_queue).receive_length ≡ send_max
+    by_length : (l : Bool) → s.receive_queue.receive_length ≡ len → (cond l (with_read_done s.receive_queue) s.receive_queue).receive_length ≡ len
     by_length true e = e
     by_length false e = e
-read_fits s last n false total f = f
+read_fits s last n false len total f = f
 
 reached_short : (m : RegisteredMemory) (access : Access) → RegionsFit m → length (bytes_at m access) ≤ region_max
 reached_short m access fit = by (live_region m access.stag) (sym (live_held m access.stag))
@@ -152,7 +160,7 @@ reached_short m access fit = by (live_region m access.stag) (sym (live_held m ac
 
 -- the queue after a Read Request
 record QueueLeft (q : SendQueue) : Type 0 where
-  pub hello : length q.hello ≤ HELLO_LEN
+  pub hello : length q.hello ≤ hello_max
   pub queue : QueueFits false q
   pub responses : length q.response_ends ≤ open_reads_max
 
@@ -173,24 +181,27 @@ answered_fits s f last opcode w queue msn offset payload true is at lives fit le
 
 -- ---- A frame
 
-segment_fits : (s : LinkState) (f : Frame) (segment : Segment) (e : Option End) (total : ℕ) → has_ended s ≡ false → f.at ≡ s.place → segment_end s f segment ≡ e → Fits total s → Fits total (with_segment_by f segment e s)
+segment_fits : (s : LinkState) (f : Frame) (segment : Segment) (e : Option End) (len total : ℕ) → has_ended s ≡ false → f.at ≡ s.place → segment_end s f segment ≡ e → Fits len total s → Fits len total (with_segment_by f segment e s)
 unfolding with_effect with_segment
-segment_fits s f segment (Some end) total live at lives h = end_fits s end total live h
-segment_fits s f (Tagged last opcode stag to payload) None total live at lives h =
+segment_fits s f segment (Some end) len total live at lives h = end_fits s end len total live h
+segment_fits s f (Tagged last opcode stag to payload) None len total live at lives h =
     let m = placed_fits s.memory stag to (kind_of opcode) payload total (allowed_lem s last opcode stag to payload (alive_tagged s f last opcode stag to payload at lives)) h.0.regions h.1 in
     let placed : LinkState = record s { memory = after_place s.memory stag to payload } in
-    let after = read_fits placed last (length payload) (eqb opcode OPCODE_READ_RESPONSE) total (
-      record { side = h.0.side; receives = h.0.receives; receive_length = h.0.receive_length; hello = h.0.hello; queue = h.0.queue; responses = h.0.responses; regions = m.0 },
+    let after = read_fits placed last (length payload) (eqb opcode OPCODE_READ_RESPONSE) len total (
+      record { side = h.0.side; receives = h.0.receives; receive_length = h.0.receive_length; receive = h.0.receive; up = h.0.up; down = h.0.down; hello = h.0.hello; queue = h.0.queue; responses = h.0.responses; regions = m.0 },
       m.1,
     ) in
-    (record { side = after.0.side; receives = after.0.receives; receive_length = after.0.receive_length; hello = after.0.hello; queue = after.0.queue; responses = after.0.responses; regions = after.0.regions }, after.1)
-segment_fits s f (Untagged last opcode w queue msn offset payload) None total live at lives h =
+    (record { side = after.0.side; receives = after.0.receives; receive_length = after.0.receive_length; receive = after.0.receive; up = after.0.up; down = after.0.down; hello = after.0.hello; queue = after.0.queue; responses = after.0.responses; regions = after.0.regions }, after.1)
+segment_fits s f (Untagged last opcode w queue msn offset payload) None len total live at lives h =
     let left = answered_fits s f last opcode w queue msn offset payload (eqb opcode OPCODE_READ_REQUEST) refl at lives h.0.regions
     (record { hello = h.0.hello; queue = subst (λ (b : Bool). QueueFits b s.send_queue) live h.0.queue; responses = h.0.responses }) in (
       record {
         side = h.0.side;
         receives = h.0.receives;
         receive_length = h.0.receive_length;
+        receive = h.0.receive;
+        up = h.0.up;
+        down = h.0.down;
         hello = left.hello;
         queue = subst (λ (b : Bool). QueueFits b (with_read_request (cond (eqb opcode OPCODE_READ_REQUEST) (Some (read_request_in payload)) None) s.memory s.send_queue)) (sym live) left.queue;
         responses = left.responses;
@@ -199,21 +210,28 @@ segment_fits s f (Untagged last opcode w queue msn offset payload) None total li
       h.1,
     )
 
-fpdu_fits : (s : LinkState) (f : Frame) (r : Result Segment ℕ) (total : ℕ) → has_ended s ≡ false → f.at ≡ s.place → Fits total s → Fits total (with_fpdu f r s)
+fpdu_fits : (s : LinkState) (f : Frame) (r : Result Segment ℕ) (len total : ℕ) → has_ended s ≡ false → f.at ≡ s.place → Fits len total s → Fits len total (with_fpdu f r s)
 unfolding with_fpdu
-fpdu_fits s f (Ok segment) total live at h = segment_fits s f segment (segment_end s f segment) total live at refl h
-fpdu_fits s f (Err reason) total live at h = end_fits s (ends.Bad f.at reason) total live h
+fpdu_fits s f (Ok segment) len total live at h = segment_fits s f segment (segment_end s f segment) len total live at refl h
+fpdu_fits s f (Err reason) len total live at h = end_fits s (ends.Bad f.at reason) len total live h
 
 no_reply : (side : Side) (private : List ℕ) → side ≡ Initiator → length (reply_hello side private) ≡ 0
 no_reply side private is = ap (λ (x : Side). length (reply_hello x private)) is
 
-hello_fits : (s : LinkState) (f : Frame) (r : Result Hello ℕ) (total : ℕ) → has_ended s ≡ false → Fits total s → Fits total (with_peer_hello f r s)
+agreed_limits : (side : Side) (own peer_private : List ℕ) → IsSendLimit (side_agreement side own peer_private).up × IsSendLimit (side_agreement side own peer_private).down
+agreed_limits Initiator own peer_private = agreements_bounded own peer_private
+agreed_limits Responder own peer_private = agreements_bounded peer_private own
+
+hello_fits : (s : LinkState) (f : Frame) (r : Result Hello ℕ) (len total : ℕ) → has_ended s ≡ false → Fits len total s → Fits len total (with_peer_hello f r s)
 unfolding with_peer_hello
-hello_fits s f (Ok hello) total live h = (
+hello_fits s f (Ok hello) len total live h = (
   record {
     side = h.0.side;
     receives = h.0.receives;
     receive_length = h.0.receive_length;
+    receive = h.0.receive;
+    up = (agreed_limits s.side (own_private s.terms s.side hello.private) hello.private).0;
+    down = (agreed_limits s.side (own_private s.terms s.side hello.private) hello.private).1;
     hello =
         let own : List ℕ = own_private s.terms s.side hello.private in
         omega (arith, h.0.hello, length-append s.send_queue.hello (reply_hello s.side own), no_reply s.side own h.0.side);
@@ -223,12 +241,12 @@ hello_fits s f (Ok hello) total live h = (
   },
   h.1,
 )
-hello_fits s f (Err reason) total live h = end_fits s (ends.Bad f.at reason) total live h
+hello_fits s f (Err reason) len total live h = end_fits s (ends.Bad f.at reason) len total live h
 
-frame_fits : (total : ℕ) (a : Awaited) (s : LinkState) (frame : List ℕ) → has_ended s ≡ false → Fits total s → Fits total (with_frame s a frame)
-frame_fits total (HelloFrom side) s frame live h = hello_fits s (next_frame s frame) (hello_of side frame) total live h
-frame_fits total Fpdu s frame live h = fpdu_fits s (next_frame s frame) (segment_of frame) total live refl h
+frame_fits : (len total : ℕ) (a : Awaited) (s : LinkState) (frame : List ℕ) → has_ended s ≡ false → Fits len total s → Fits len total (with_frame s a frame)
+frame_fits len total (HelloFrom side) s frame live h = hello_fits s (next_frame s frame) (hello_of side frame) len total live h
+frame_fits len total Fpdu s frame live h = fpdu_fits s (next_frame s frame) (segment_of frame) len total live refl h
 
 -- one step on a piece
-pub fed_one_fits : (total : ℕ) (link : LinkSide) (piece : List ℕ) → Fits total link.state → Fits total (after_call link (FeedOne piece)).state
-fed_one_fits total link piece h = feed_one_keeps (λ a s. Fits total s) (frame_fits total) link piece h
+pub fed_one_fits : (len total : ℕ) (link : LinkSide) (piece : List ℕ) → Fits len total link.state → Fits len total (after_call link (FeedOne piece)).state
+fed_one_fits len total link piece h = feed_one_keeps (λ a s. Fits len total s) (frame_fits len total) link piece h

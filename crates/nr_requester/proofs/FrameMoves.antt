@@ -11,7 +11,6 @@ use Rattle.nr_wire.specs.Segment.Segment.{Untagged}
 use Rattle.nr_regions.specs.declared.denied.Denied.{Denied}
 use Rattle.nr_link.specs.declared.end.End.{End}
 use Rattle.nr_link.specs.declared.end.End.TheVariants as ends
-use Rattle.nr_link.specs.Limits.{send_max}
 use Rattle.nr_link.specs.Reasons.{REASON_MSN, REASON_OFFSET, REASON_FORM, REASON_REQUESTS, REASON_SHORT, REASON_LONG}
 use Rattle.nr_link.specs.Frames.{Frame, is_hello}
 use Rattle.nr_link.specs.ReceiveState.{ReadRequest, is_send, message_completed, read_request_of}
@@ -128,7 +127,7 @@ written_still opened k f = by (is_hello f)
     by_segment (Err reason) = refl
     by_segment (Ok segment) = by_message (message_completed k.received segment) (due_with_response k f segment) (read_request_of segment)
 
-    by : (b : Bool) → (cond b (with_hello opened k) (with_segment k f (frame_segment f))).written ≡ k.written
+    by : (b : Bool) → (cond b (with_hello opened k f) (with_segment k f (frame_segment f))).written ≡ k.written
     by true = refl
     by false = by_segment (frame_segment f)
 
@@ -223,7 +222,7 @@ reads opened k f segment later is none = record {
   end = (λ i. cond (later i) (hello_end (hello_of Responder f.bytes)) (or_message_end k f (none i)))
       ∙ ap (λ (r : Result Segment ℕ). client_message_end k f (segment_message k r)) is;
   output = (λ i. cond (later i) (calls_output opened 1 k.outstanding) (response_output k f.end (segment_request (is i))));
-  state = (λ i. cond (later i) (with_hello opened k) (with_segment k f (is i)));
+  state = (λ i. cond (later i) (with_hello opened k f) (with_segment k f (is i)));
 }
 
 -- a segment that completes no message leaves the outcomes
@@ -284,9 +283,9 @@ without_alike first sent xid (c ∷ cs) = by (eqb c.xid xid) (without_alike firs
     by true rest = rest
     by false rest = ap (λ (xs : List KeptCall). kept_call first sent c ∷ xs) rest
 
-pub completed_is : (r : RequesterState) (message : List ℕ) (xid : ℕ) (outcome : Option Outcome) (s : LinkState) → s.ended ≡ r.side.ended → s.memory ≡ r.side.memory → kept_completed (kept_client r) message ≡ kept_client (judged r s message (GivesOutcome xid outcome))
+pub completed_is : (r : RequesterState) (message : List ℕ) (xid : ℕ) (outcome : Option Outcome) (s : LinkState) → s.ended ≡ r.side.ended → s.memory ≡ r.side.memory → s.agreed ≡ r.side.agreed → kept_completed (kept_client r) message ≡ kept_client (judged r s message (GivesOutcome xid outcome))
 unfolding kept_completed
-completed_is r message xid outcome s ended memory =
+completed_is r message xid outcome s ended memory agreed =
     let x : ℕ = word_at 0 message in
     let calls = without_alike r.first_xid r.sent x r.outstanding in
     let count : length (without x (kept_calls r)) ≡ length (without_call x r.outstanding) = ap (λ (xs : List KeptCall). length xs) calls ∙ length-map (without_call x r.outstanding) (kept_call r.first_xid r.sent) in
@@ -298,6 +297,6 @@ completed_is r message xid outcome s ended memory =
       outstanding = count i;
       calls = calls i;
       memory = stags i;
-      up_max = send_max;
-      down_max = send_max;
+      up_max = (sym agreed i).up;
+      down_max = (sym agreed i).down;
     }

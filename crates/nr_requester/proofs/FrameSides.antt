@@ -1,5 +1,5 @@
 -- The side of the link after a frame that doesn't end it.
-use Rattle.std.proofs.Common.{◌≡◌, ◌≢◌, ℕ, ◌+◌, ◌-◌, ◌<◌, Bool, true, false, cond, not, ◌&&◌, eqb, ltb, List, [], ◌∷◌, ◌++◌, length, Option, None, Some, Ok, refl, sym, ap, subst, ◌∙◌, arith, append_assoc, length-append}
+use Rattle.std.proofs.Common.{◌≡◌, ◌≢◌, ℕ, ◌+◌, ◌-◌, ◌<◌, ◌≤◌, Bool, true, false, cond, not, ◌&&◌, eqb, ltb, List, [], ◌∷◌, ◌++◌, length, Option, None, Some, Ok, refl, sym, ap, subst, ◌∙◌, arith, append_assoc, length-append}
 use Rattle.std.specs.Prelude.{option_and_then, IfSome}
 use Rattle.std.proofs.lemmas.List.{append-nil}
 use Rattle.std.proofs.lemmas.Bool.{ne_eqb}
@@ -15,6 +15,7 @@ use Rattle.nr_link.specs.Output.{msn_word, read_response}
 use Rattle.nr_link.specs.ReceiveState.{ReceiveState, ReadRequest, is_send, received_after, message_completed, read_request_in, read_request_of}
 use Rattle.nr_link.specs.SegmentFaults.{ExpectedResponse, Readiness, SegmentReason, segment_reason, first_fault, missing_fault, reason_if, is_expected, is_unexpected, next_msn, next_offset, no_buffer, is_malformed, is_too_many, message_length_is, terminate_fault}
 use Rattle.nr_link.specs.Ending.{kind_of}
+use Rattle.nr_endpoint.specs.Hellos.{receive_length_for}
 use Rattle.nr_endpoint.specs.LinkState.{LinkState}
 use Rattle.nr_endpoint.specs.SendQueue.{SendQueue, writable}
 use Rattle.nr_endpoint.specs.ReceiveQueue.{sends_begun, takes_receive, message_deliveries, with_segment as received_segment, delivered, posted}
@@ -72,6 +73,7 @@ link_tagged opened s k f last opcode stag to payload keeps fine later some =
       has_hello = keeps.has_hello;
       receive_length = keeps.receive_length;
       message_max = keeps.message_max;
+      fits = keeps.fits;
       terms = keeps.terms;
       received = keeps.received;
       receive = keeps.receive;
@@ -100,10 +102,11 @@ record SameButResponses (k k2 : ClientState) : Type 0 where
   pub written : k2.written ≡ k.written
   pub send_ends : k2.send_ends ≡ k.send_ends
   pub calls_accepted : k2.calls_accepted ≡ k.calls_accepted
+  pub down_max : k2.down_max ≡ k.down_max
 
 same_request_lem : (k : ClientState) (due : ℕ) (req : Option ReadRequest) → SameButResponses k (with_request k due req)
-same_request_lem k due None = record { has_hello = refl; written = refl; send_ends = refl; calls_accepted = refl }
-same_request_lem k due (Some r) = record { has_hello = refl; written = refl; send_ends = refl; calls_accepted = refl }
+same_request_lem k due None = record { has_hello = refl; written = refl; send_ends = refl; calls_accepted = refl; down_max = refl }
+same_request_lem k due (Some r) = record { has_hello = refl; written = refl; send_ends = refl; calls_accepted = refl; down_max = refl }
 
 -- what the queue has more for it is what is due, by what the memory holds
 pub record RequestFine (s : LinkState) (k : ClientState) (end : ℕ) (req : Option ReadRequest) : Type 0 where
@@ -140,13 +143,14 @@ link_untagged opened s k f last opcode w queue msn offset payload keeps later so
       side = keeps.side;
       has_hello = keeps.has_hello ∙ sym same.has_hello;
       receive_length = keeps.receive_length;
-      message_max = keeps.message_max;
+      message_max = keeps.message_max ∙ sym same.down_max;
+      fits = subst (λ (n : ℕ). n ≤ receive_length_for opened.client) (sym same.down_max) keeps.fits;
       terms = keeps.terms;
-      received = received_next s.receive_queue k.received segment keeps.receive_length keeps.received;
+      received = received_next (receive_length_for opened.client) s.receive_queue k.received segment keeps.receive_length keeps.received;
       receive = ap (λ (r : ReceiveState). cond (takes_receive r segment) (s.receive_queue.free - 1) s.receive_queue.free + sends_begun (received_after k.received segment).begun) keeps.received
-          ∙ receive_part k.received s.receive_queue.free segment keeps.receive none;
+          ∙ receive_part (receive_length_for opened.client) k.received s.receive_queue.free segment keeps.receive none;
       none_lent = keeps.none_lent;
-      none_waits = ap (λ (r : ReceiveState). s.receive_queue.deliveries ++ message_deliveries (s.receive_queue.received.sends + 1) (message_completed r segment)) keeps.received ∙ none_told k.received (s.receive_queue.received.sends + 1) s.receive_queue.deliveries segment keeps.none_waits none;
+      none_waits = ap (λ (r : ReceiveState). s.receive_queue.deliveries ++ message_deliveries (s.receive_queue.received.sends + 1) (message_completed r segment)) keeps.received ∙ none_told (receive_length_for opened.client) k.received (s.receive_queue.received.sends + 1) s.receive_queue.deliveries segment keeps.none_waits none;
       no_reads = keeps.no_reads;
       number = left.last_send ∙ keeps.number ∙ ap msn_word (sym same.calls_accepted);
       waiting = λ e. not_greeted k greeted (sym same.has_hello ∙ e);
@@ -229,7 +233,7 @@ queue_request s k end (Some r) fine =
 -- ---- A message that gives an outcome
 
 pub link_message : (opened : LinkParameters) (s : LinkState) (k : ClientState) (f : Frame) (last : Bool) (opcode w queue msn offset : ℕ) (payload message : List ℕ) (m : RegisteredMemory) → LinkKeeps opened s k → s.place ≢ 0 → 0 < f.end →
-    message_completed k.received (Untagged last opcode w queue msn offset payload) ≡ Some message → MessageAt k.received (Untagged last opcode w queue msn offset payload) message →
+    message_completed k.received (Untagged last opcode w queue msn offset payload) ≡ Some message → MessageAt (receive_length_for opened.client) k.received (Untagged last opcode w queue msn offset payload) message →
     LinkKeeps opened (record (taken (after_frame f (with_effect (Untagged last opcode w queue msn offset payload) s))) { memory = m }) (with_segment k f (Ok (Untagged last opcode w queue msn offset payload)))
 unfolding with_effect after_message
 link_message opened s k f last opcode w queue msn offset payload message m keeps later some whole at =
@@ -240,6 +244,7 @@ link_message opened s k f last opcode w queue msn offset payload message m keeps
       has_hello = keeps.has_hello;
       receive_length = freed.receive_length;
       message_max = keeps.message_max;
+      fits = keeps.fits;
       terms = keeps.terms;
       received = freed.received;
       receive = freed.receive;
@@ -277,8 +282,8 @@ link_message opened s k f last opcode w queue msn offset payload message m keeps
       send_queue = with_read_request o s.memory s.send_queue;
     }
 
-    freed : IsFreed s.receive_queue k.received segment
-    freed = is_freed s.receive_queue k.received segment message keeps.receive_length keeps.received keeps.receive keeps.none_lent keeps.none_waits at
+    freed : IsFreed (receive_length_for opened.client) s.receive_queue k.received segment
+    freed = is_freed (receive_length_for opened.client) s.receive_queue k.received segment message keeps.receive_length keeps.received keeps.receive keeps.none_lent keeps.none_waits at
 
     sends_same : sends_ends k.has_hello opened (record (with_request (with_message k f.end (Some message)) more None) { received = received_after k.received segment; accesses_received = k.accesses_received ++ [] }) ≡ sends_ends k.has_hello opened k
     sends_same =

@@ -16,11 +16,11 @@ use Rattle.nr_regions.specs.Events.{after_event, after_arrival}
 use Rattle.nr_regions.specs.Events.MemoryEvent.{Arrive}
 use Rattle.nr_link.specs.declared.end.End.{End}
 use Rattle.nr_link.specs.declared.end.End.TheVariants as ends
-use Rattle.nr_link.specs.Limits.{send_max}
 use Rattle.nr_link.specs.Frames.{Frame, is_hello}
 use Rattle.nr_link.specs.ReceiveState.{ReadRequest, message_completed, read_request_of}
 use Rattle.nr_link.specs.KeptSends.{received_within}
 use Rattle.nr_link.specs.Ending.{kind_of, frame_segment, frame_end, hello_end, final_output}
+use Rattle.nr_endpoint.specs.Hellos.{receive_length_for}
 use Rattle.nr_endpoint.specs.LinkState.{LinkState}
 use Rattle.nr_endpoint.specs.ReceiveQueue.{DeliveredEvent, message_deliveries, with_segment as received_segment}
 use Rattle.nr_endpoint.specs.ReceiveQueue.DeliveredEvent.{MessageReceived}
@@ -110,7 +110,7 @@ module _ (opened : LinkParameters) (r : RequesterState) (k : ClientState) (count
   -- ---- A message
 
   message_taken : (last : Bool) (opcode w queue msn offset : ℕ) (payload message : List ℕ) → Reads opened k f (Untagged last opcode w queue msn offset payload) →
-      message_completed k.received (Untagged last opcode w queue msn offset payload) ≡ Some message → length message ≤ send_max →
+      message_completed k.received (Untagged last opcode w queue msn offset payload) ≡ Some message → length message ≤ receive_length_for opened.client →
       FrameTaken opened r k f (judged r (after_frame f (with_effect (Untagged last opcode w queue msn offset payload) r.side)) message (kept_verdict (kept_calls r) (bytes_under r.side.memory) message))
   unfolding with_effect kept_completed
   message_taken last opcode w queue msn offset payload message said whole fits = by (kept_verdict (kept_calls r) (bytes_under r.side.memory) message) refl
@@ -121,8 +121,8 @@ module _ (opened : LinkParameters) (r : RequesterState) (k : ClientState) (count
       s1 : LinkState
       s1 = after_frame f (with_effect segment r.side)
 
-      at : MessageAt k.received segment message
-      at = message_at k.received segment message whole fits
+      at : MessageAt (receive_length_for opened.client) k.received segment message
+      at = message_at (receive_length_for opened.client) k.received segment message whole fits
 
       same_verdict : kept_verdict (kept_calls r) (bytes_under r.side.memory) message ≡ reply_verdict k f.end message
       same_verdict = kept_judges opened (kept_client r) k count f.end message keeps.client (omega (arith, lt))
@@ -147,7 +147,7 @@ module _ (opened : LinkParameters) (r : RequesterState) (k : ClientState) (count
           let after : RequesterState = judged r s1 message (GivesOutcome xid outcome) in
           let stays : client_end k (FrameReceived f) ≡ None = end_is ∙ ap (end_of_verdict f) is in
           let kept : kept_received (kept_client r) k.received f segment ≡ kept_client after =
-          ap (λ (m : Option (List ℕ)). kept_by_message (kept_client r) m) whole ∙ completed_is r message xid outcome s1 refl refl in
+          ap (λ (m : Option (List ℕ)). kept_by_message (kept_client r) m) whole ∙ completed_is r message xid outcome s1 refl refl refl in
           taken_live opened r k count f after keeps stays (client_next segment after said stays kept)
           (subst (λ (x : ClientState). LinkKeeps opened after.side x) (sym said.state)
           (link_message opened r.side k f last opcode w queue msn offset payload message (released_all r.side.memory (stags_for (word_at 0 message) r.outstanding)) keeps.side later (omega (arith, lt)) whole at))
@@ -173,7 +173,7 @@ module _ (opened : LinkParameters) (r : RequesterState) (k : ClientState) (count
 
   -- ---- Any FPDU
 
-  told_message : (last : Bool) (opcode w queue msn offset : ℕ) (payload message : List ℕ) → message_completed (received_within send_max k.received) (Untagged last opcode w queue msn offset payload) ≡ Some message →
+  told_message : (last : Bool) (opcode w queue msn offset : ℕ) (payload message : List ℕ) → message_completed (received_within (receive_length_for opened.client) k.received) (Untagged last opcode w queue msn offset payload) ≡ Some message →
       (after_frame f (with_effect (Untagged last opcode w queue msn offset payload) r.side)).receive_queue.deliveries ≡ MessageReceived (r.side.receive_queue.received.sends + 1) None message ∷ []
   unfolding with_effect received_segment
   told_message last opcode w queue msn offset payload message whole =
@@ -201,9 +201,9 @@ module _ (opened : LinkParameters) (r : RequesterState) (k : ClientState) (count
           (part_taken last opcode w queue msn offset payload none said whole)
       by (Some message) whole =
           let long : length message ≤ k.down_max = not_long k f last opcode w queue msn offset payload message said.is_segment lives whole in
-          let down = keeps.client.down in
-          let fits : length message ≤ send_max = (let l = long in omega (arith, l, down)) in
-          let at : MessageAt k.received segment message = message_at k.received segment message whole fits in
+          let most = keeps.side.fits in
+          let fits : length message ≤ receive_length_for opened.client = omega (arith, long, most) in
+          let at : MessageAt (receive_length_for opened.client) k.received segment message = message_at (receive_length_for opened.client) k.received segment message whole fits in
           subst (λ (ns : List DeliveredEvent). FrameTaken opened r k f (with_deliveries r s1 ns)) (sym (told_message last opcode w queue msn offset payload message at.whole))
           (message_taken last opcode w queue msn offset payload message said whole fits)
 
@@ -228,7 +228,7 @@ fpdu_taken opened r k count frame keeps lt later = by (with_frame r.side Fpdu fr
     not_hello = ne_eqb r.side.place 0 later
 
     alike : (with_frame r.side Fpdu frame).ended ≡ frame_end (client_readiness k) (region_grants f.end k.regions) f
-    alike = ends_alike opened r.side k count frame keeps.client.ended keeps.side (keeps.client.memory refl) (sym keeps.client.down) lt
+    alike = ends_alike opened r.side k count frame keeps.client.ended keeps.side (keeps.client.memory refl) lt
 
     end_of_link : (end : End) → frame_end (client_readiness k) (region_grants f.end k.regions) f ≡ Some end → client_end k (FrameReceived f) ≡ Some end
     end_of_link end e = (λ i. cond (not_hello i) (hello_end (hello_of Responder frame)) (or_message_end k f (e i)))

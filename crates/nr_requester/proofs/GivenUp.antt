@@ -52,14 +52,14 @@ others_held m n calls d lt h =
     (all_released m 0 (all_claims (take n calls)) (call_claims (get_or calls n d).claims) (all_claims (drop (suc n) calls))
     (subst (λ (cs : List Claim). AreHeldFrom m 0 cs) (claims_around n calls d lt) h)))
 
-pub given_up_sound : (link link2 : LinkSide) (next grant room n : ℕ) (calls calls2 : List OutstandingCall) (answers : List AnsweredCall) (d : OutstandingCall) → RequesterInvariant link next grant calls answers room → n < length calls →
-    link2 ≡ with_memory (released_all link.state.memory (stags_of (get_or calls n d).claims)) link → calls2 ≡ set calls n (given_up (get_or calls n d)) → RequesterInvariant link2 next grant calls2 answers room
-given_up_sound link link2 next grant room n calls calls2 answers d s lt link_is are =
+pub given_up_sound : (link link2 : LinkSide) (len next grant room n : ℕ) (calls calls2 : List OutstandingCall) (answers : List AnsweredCall) (d : OutstandingCall) → RequesterInvariant len link next grant calls answers room → n < length calls →
+    link2 ≡ with_memory (released_all link.state.memory (stags_of (get_or calls n d).claims)) link → calls2 ≡ set calls n (given_up (get_or calls n d)) → RequesterInvariant len link2 next grant calls2 answers room
+given_up_sound link link2 len next grant room n calls calls2 answers d s lt link_is are =
     let after : LinkSide = with_memory (released_all link.state.memory (stags_of (get_or calls n d).claims)) link in
     let y : OutstandingCall = given_up (get_or calls n d) in
     let left : List OutstandingCall = set calls n y in
     let count = count_stays n calls y in
-    let all : RequesterInvariant after next grant left answers room = record {
+    let all : RequesterInvariant len after next grant left answers room = record {
       xid = s.xid;
       few = (let few = s.few in omega (arith, few, count));
       some = s.some;
@@ -68,17 +68,17 @@ given_up_sound link link2 next grant room n calls calls2 answers d s lt link_is 
       none_lent = s.none_lent;
       held = others_held link.state.memory n calls d lt s.held;
       offers = each_stays OffersOwn n calls y tt s.offers;
-      rooms = each_stays HasRoom n calls y (let had = nth_of HasRoom n calls d lt s.rooms in (let len = had.0 in omega (arith, len), had.1)) s.rooms;
+      rooms = each_stays (HasRoom len) n calls y (let had = nth_of (HasRoom len) n calls d lt s.rooms in (let has = had.0 in omega (arith, has), had.1)) s.rooms;
       no_reads = s.no_reads;
       rising = rising_stays next n calls y d refl lt s.rising;
       apart = apart_stays next n calls y d answers refl lt s.apart;
       has_room = (let has = s.has_room in omega (arith, has, count));
     } in
-    subst (λ (l : LinkSide). RequesterInvariant l next grant calls2 answers room) (sym link_is) (subst (λ (cs : List OutstandingCall). RequesterInvariant after next grant cs answers room) (sym are) all)
+    subst (λ (l : LinkSide). RequesterInvariant len l next grant calls2 answers room) (sym link_is) (subst (λ (cs : List OutstandingCall). RequesterInvariant len after next grant cs answers room) (sym are) all)
 
-pub given_up_within : (e e2 : EndpointState) (first next n : ℕ) (calls calls2 : List OutstandingCall) (answers : List AnsweredCall) (d : OutstandingCall) → RequesterBounds e first next calls answers → AreHeldFrom e.link.state.memory 0 (all_claims calls) → n < length calls →
-    e2.staging ≡ e.staging → (NothingOutside e → NothingOutside e2) → e2.link ≡ with_memory (released_all e.link.state.memory (stags_of (get_or calls n d).claims)) e.link → calls2 ≡ set calls n (given_up (get_or calls n d)) → RequesterBounds e2 first next calls2 answers
-given_up_within e e2 first next n calls calls2 answers d w held lt same none link_is are =
+pub given_up_within : (e e2 : EndpointState) (len first next n : ℕ) (calls calls2 : List OutstandingCall) (answers : List AnsweredCall) (d : OutstandingCall) → RequesterBounds len e first next calls answers → AreHeldFrom e.link.state.memory 0 (all_claims calls) → n < length calls →
+    e2.staging ≡ e.staging → (NothingOutside e → NothingOutside e2) → e2.link ≡ with_memory (released_all e.link.state.memory (stags_of (get_or calls n d).claims)) e.link → calls2 ≡ set calls n (given_up (get_or calls n d)) → RequesterBounds len e2 first next calls2 answers
+given_up_within e e2 len first next n calls calls2 answers d w held lt same none link_is are =
     let s : LinkState = e.link.state in
     let c : OutstandingCall = get_or calls n d in
     let y : OutstandingCall = given_up c in
@@ -87,15 +87,18 @@ given_up_within e e2 first next n calls calls2 answers d w held lt same none lin
     let state : e2.link.state ≡ record s { memory = memory } = ap (λ (l : LinkSide). l.state) link_is in
     let both = released_both s.memory c.claims (claims_total calls) (own_held s.memory n calls d lt held) (w.link.regions, w.regions) in
     let sum : claims_total calls - claims_len c.claims ≡ claims_total left = omega (arith, total_changed n calls y d lt) in
-    let all : RequesterBounds e2 first next left answers = record {
+    let all : RequesterBounds len e2 first next left answers = record {
       staging = ap (λ (xs : List ℕ). length xs) same ∙ w.staging;
       outside = none w.outside;
       from = from_stays first n calls y d refl lt w.from;
       order = w.order;
-      link = subst (λ (x : LinkState). LinkFits x) (sym state) (record {
+      link = subst (λ (x : LinkState). LinkFits len x) (sym state) (record {
         side = w.link.side;
         receives = w.link.receives;
         receive_length = w.link.receive_length;
+        receive = w.link.receive;
+        up = w.link.up;
+        down = w.link.down;
         hello = w.link.hello;
         queue = w.link.queue;
         responses = w.link.responses;
@@ -104,23 +107,23 @@ given_up_within e e2 first next n calls calls2 answers d w held lt same none lin
       regions = subst (λ (x : LinkState). RegionsHave x.memory (claims_total left)) (sym state) (subst (λ (k : ℕ). RegionsHave memory k) sum both.1);
       counts = subst (λ (x : LinkState). CountsFit first next x.send_queue left) (sym state)
           (record { waiting = omega (arith, w.counts.waiting, waiting_stays first s.send_queue.sends_left n calls y d refl lt); numbered = w.counts.numbered });
-      each = each_stays CallFits n calls y (record { call = omega arith; offer = omega arith; written = (nth_of CallFits n calls d lt w.each).written; room = (nth_of CallFits n calls d lt w.each).room; short = (nth_of CallFits n calls d lt w.each).short }) w.each;
+      each = each_stays (CallFits len) n calls y (record { call = omega arith; offer = omega arith; written = (nth_of (CallFits len) n calls d lt w.each).written; room = (nth_of (CallFits len) n calls d lt w.each).room; short = (nth_of (CallFits len) n calls d lt w.each).short }) w.each;
       kept = w.kept;
       distinct = w.distinct;
     } in
-    subst (λ (cs : List OutstandingCall). RequesterBounds e2 first next cs answers) (sym are) all
+    subst (λ (cs : List OutstandingCall). RequesterBounds len e2 first next cs answers) (sym are) all
 
 -- ---- A call is forgotten
 
-pub forgot_sound : (link : LinkSide) (next grant room n : ℕ) (calls calls2 : List OutstandingCall) (answers : List AnsweredCall) (d : OutstandingCall) → RequesterInvariant link next grant calls answers room → n < length calls →
-    calls2 ≡ set calls n (forgot (get_or calls n d)) → RequesterInvariant link next grant calls2 answers room
-forgot_sound link next grant room n calls calls2 answers d s lt are =
+pub forgot_sound : (link : LinkSide) (len next grant room n : ℕ) (calls calls2 : List OutstandingCall) (answers : List AnsweredCall) (d : OutstandingCall) → RequesterInvariant len link next grant calls answers room → n < length calls →
+    calls2 ≡ set calls n (forgot (get_or calls n d)) → RequesterInvariant len link next grant calls2 answers room
+forgot_sound link len next grant room n calls calls2 answers d s lt are =
     let c : OutstandingCall = get_or calls n d in
     let y : OutstandingCall = forgot c in
     let left : List OutstandingCall = set calls n y in
     let count = count_stays n calls y in
     let claims : all_claims left ≡ all_claims calls = claims_changed n calls y lt ∙ sym (claims_around n calls d lt) in
-    let all : RequesterInvariant link next grant left answers room = record {
+    let all : RequesterInvariant len link next grant left answers room = record {
       xid = s.xid;
       few = (let few = s.few in omega (arith, few, count));
       some = s.some;
@@ -129,23 +132,23 @@ forgot_sound link next grant room n calls calls2 answers d s lt are =
       none_lent = s.none_lent;
       held = subst (λ (cs : List Claim). AreHeldFrom link.state.memory 0 cs) (sym claims) s.held;
       offers = each_stays OffersOwn n calls y (nth_of OffersOwn n calls d lt s.offers) s.offers;
-      rooms = each_stays HasRoom n calls y (nth_of HasRoom n calls d lt s.rooms) s.rooms;
+      rooms = each_stays (HasRoom len) n calls y (nth_of (HasRoom len) n calls d lt s.rooms) s.rooms;
       no_reads = s.no_reads;
       rising = rising_stays next n calls y d refl lt s.rising;
       apart = apart_stays next n calls y d answers refl lt s.apart;
       has_room = (let has = s.has_room in omega (arith, has, count));
     } in
-    subst (λ (cs : List OutstandingCall). RequesterInvariant link next grant cs answers room) (sym are) all
+    subst (λ (cs : List OutstandingCall). RequesterInvariant len link next grant cs answers room) (sym are) all
 
-pub forgot_within : (e : EndpointState) (first next n : ℕ) (calls calls2 : List OutstandingCall) (answers : List AnsweredCall) (d : OutstandingCall) → RequesterBounds e first next calls answers → n < length calls → calls2 ≡ set calls n (forgot (get_or calls n d)) →
-    RequesterBounds e first next calls2 answers
-forgot_within e first next n calls calls2 answers d w lt are =
+pub forgot_within : (e : EndpointState) (len first next n : ℕ) (calls calls2 : List OutstandingCall) (answers : List AnsweredCall) (d : OutstandingCall) → RequesterBounds len e first next calls answers → n < length calls → calls2 ≡ set calls n (forgot (get_or calls n d)) →
+    RequesterBounds len e first next calls2 answers
+forgot_within e len first next n calls calls2 answers d w lt are =
     let c : OutstandingCall = get_or calls n d in
     let y : OutstandingCall = forgot c in
     let left : List OutstandingCall = set calls n y in
-    let fits : CallFits c = nth_of CallFits n calls d lt w.each in
+    let fits : CallFits len c = nth_of (CallFits len) n calls d lt w.each in
     let sum : claims_total calls ≡ claims_total left = omega (arith, total_changed n calls y d lt) in
-    let all : RequesterBounds e first next left answers = record {
+    let all : RequesterBounds len e first next left answers = record {
       staging = w.staging;
       outside = w.outside;
       from = from_stays first n calls y d refl lt w.from;
@@ -153,18 +156,18 @@ forgot_within e first next n calls calls2 answers d w lt are =
       link = w.link;
       regions = subst (λ (k : ℕ). RegionsHave e.link.state.memory k) sum w.regions;
       counts = record { waiting = omega (arith, w.counts.waiting, waiting_stays first e.link.state.send_queue.sends_left n calls y d refl lt); numbered = w.counts.numbered };
-      each = each_stays CallFits n calls y (record { call = fits.call; offer = fits.offer; written = fits.written; room = fits.room; short = fits.short }) w.each;
+      each = each_stays (CallFits len) n calls y (record { call = fits.call; offer = fits.offer; written = fits.written; room = fits.room; short = fits.short }) w.each;
       kept = w.kept;
       distinct = w.distinct;
     } in
-    subst (λ (cs : List OutstandingCall). RequesterBounds e first next cs answers) (sym are) all
+    subst (λ (cs : List OutstandingCall). RequesterBounds len e first next cs answers) (sym are) all
 
 -- ---- An answer is taken
 
-pub taken_sound : (link : LinkSide) (next grant room room2 xid : ℕ) (calls : List OutstandingCall) (answers answers2 : List AnsweredCall) → RequesterInvariant link next grant calls answers room → answers2 ≡ without_answer xid answers → room2 ≡ room → RequesterInvariant link next grant calls answers2 room2
-taken_sound link next grant room room2 xid calls answers answers2 s are same =
+pub taken_sound : (link : LinkSide) (len next grant room room2 xid : ℕ) (calls : List OutstandingCall) (answers answers2 : List AnsweredCall) → RequesterInvariant len link next grant calls answers room → answers2 ≡ without_answer xid answers → room2 ≡ room → RequesterInvariant len link next grant calls answers2 room2
+taken_sound link len next grant room room2 xid calls answers answers2 s are same =
     let fewer = fewer_left xid answers in
-    let all : RequesterInvariant link next grant calls (without_answer xid answers) room2 = record {
+    let all : RequesterInvariant len link next grant calls (without_answer xid answers) room2 = record {
       xid = s.xid;
       few = s.few;
       some = s.some;
@@ -179,11 +182,11 @@ taken_sound link next grant room room2 xid calls answers answers2 s are same =
       apart = all_left (IsAnswered next calls) xid answers s.apart;
       has_room = (let has = s.has_room in omega (arith, has, fewer, same));
     } in
-    subst (λ (ys : List AnsweredCall). RequesterInvariant link next grant calls ys room2) (sym are) all
+    subst (λ (ys : List AnsweredCall). RequesterInvariant len link next grant calls ys room2) (sym are) all
 
-pub taken_within : (e : EndpointState) (first next xid : ℕ) (calls : List OutstandingCall) (answers answers2 : List AnsweredCall) → RequesterBounds e first next calls answers → answers2 ≡ without_answer xid answers → RequesterBounds e first next calls answers2
-taken_within e first next xid calls answers answers2 w are =
-    let all : RequesterBounds e first next calls (without_answer xid answers) = record {
+pub taken_within : (e : EndpointState) (len first next xid : ℕ) (calls : List OutstandingCall) (answers answers2 : List AnsweredCall) → RequesterBounds len e first next calls answers → answers2 ≡ without_answer xid answers → RequesterBounds len e first next calls answers2
+taken_within e len first next xid calls answers answers2 w are =
+    let all : RequesterBounds len e first next calls (without_answer xid answers) = record {
       staging = w.staging;
       outside = w.outside;
       from = w.from;
@@ -195,7 +198,7 @@ taken_within e first next xid calls answers answers2 w are =
       kept = all_left AnswerFits xid answers w.kept;
       distinct = distinct_left xid answers w.distinct;
     } in
-    subst (λ (ys : List AnsweredCall). RequesterBounds e first next calls ys) (sym are) all
+    subst (λ (ys : List AnsweredCall). RequesterBounds len e first next calls ys) (sym are) all
 
 -- ---- As contracts see it
 

@@ -1,33 +1,35 @@
 -- The server's hello.
-use Rattle.std.proofs.Common.{◌≡◌, ℕ, inl, ◌<◌, ◌≤◌, Bool, true, false, cond, not, List, [], ◌++◌, length, Option, None, Some, Result, Ok, Err, refl, sym, ap, subst, ◌∙◌, arith}
+use Rattle.std.proofs.Common.{◌≡◌, ℕ, inl, ◌<◌, ◌≤◌, Bool, true, false, cond, not, List, [], ◌++◌, length, take, drop, Option, None, Some, Result, Ok, Err, refl, sym, ap, subst, ◌∙◌, arith}
 use Rattle.std.specs.Prelude.{IfSome}
 use Rattle.std.proofs.lemmas.List.{append-nil}
 use Rattle.std.proofs.lemmas.Bool.{ne_eqb, eq-eqb, lt-ltb}
 use Rattle.nr_wire.specs.declared.hello.Side.{Side}
-use Rattle.nr_wire.specs.declared.hello.Side.TheVariants.{Responder}
+use Rattle.nr_wire.specs.declared.hello.Side.TheVariants.{Initiator, Responder}
 use Rattle.nr_wire.specs.declared.stream.Awaited.TheVariants.{Hello as HelloFrom}
-use Rattle.nr_wire.specs.Hello.{Hello, hello_of}
+use Rattle.nr_wire.specs.Constants.{HELLO_LEN}
+use Rattle.nr_wire.specs.Hello.{Hello, hello_of, hello_reason as wire_reason, flags_of, value_unless}
+use Rattle.nr_link.specs.declared.agreement.SideTerms.{SideTerms}
 use Rattle.nr_link.specs.declared.agreement.Agreement.{Agreement}
 use Rattle.nr_link.specs.declared.end.End.{End}
 use Rattle.nr_link.specs.declared.end.End.TheVariants as ends
 use Rattle.nr_link.specs.Frames.{Frame, is_hello}
 use Rattle.nr_link.specs.Output.{terminate_message}
 use Rattle.nr_link.specs.Ending.{frame_segment, frame_end, hello_end, final_output, rejection}
-use Rattle.nr_endpoint.specs.Hellos.{own_private, side_agreement, received_max}
+use Rattle.nr_endpoint.specs.Hellos.{own_private, side_agreement, received_max, receive_length_for}
 use Rattle.nr_endpoint.specs.LinkState.{LinkState}
 use Rattle.nr_endpoint.specs.SendQueue.{writable, with_hello as queue_hello, with_end}
 use Rattle.nr_endpoint.specs.Judging.{with_frame, with_peer_hello, with_end_of, with_agreement, after_frame, next_frame, reply_hello}
 use Rattle.nr_endpoint.specs.Laws.{IsFrameEnd}
-use Rattle.nr_endpoint.proofs.Agreed.{silent_agrees}
+use Rattle.nr_endpoint.proofs.Agreed.{agreed_fits}
 use Rattle.nr_endpoint.proofs.EndLaws.{frames_end_for_these}
 use Rattle.nr_reduce.specs.declared.mark.LinkParameters.{LinkParameters}
-use Rattle.nr_reduce.specs.Limits.{send_max}
+use Rattle.nr_reduce.specs.Hellos.{private_of, client_agreement}
 use Rattle.nr_reduce.specs.OfferedRegions.{region_grants}
 use Rattle.nr_reduce.specs.Events.RunEvent.{FrameReceived}
 use Rattle.nr_reduce.specs.EndRules.{EndState, next_end_state, next_end_state_by, live}
 use Rattle.nr_reduce.specs.ClientState.{ClientState}
 use Rattle.nr_reduce.specs.Client.{client_rules, client_end, client_output, client_state_after, calls_output, call_ends, or_message_end, client_readiness, with_hello, with_segment, response_output, segment_request}
-use Rattle.nr_reduce.specs.KeptClient.{ClientKeeps}
+use Rattle.nr_reduce.specs.KeptClient.{KeptClient, ClientKeeps, kept_greeted}
 use Rattle.nr_reduce.proofs.Releasing.{kept_stays}
 use Rattle.nr_reduce.proofs.Submits.{kept_greets}
 use Rattle.nr_requester.specs.RequesterState.{RequesterState, queue_of, kept_client}
@@ -38,9 +40,33 @@ use Rattle.nr_requester.proofs.FrameMoves.{KeepsLiveClient, FrameTaken, taken_li
 abbrev pub after_hello : RequesterState → List ℕ → RequesterState
 after_hello r frame = record r { side = with_frame r.side (HelloFrom Responder) frame }
 
-link_greeted : (opened : LinkParameters) (s : LinkState) (k : ClientState) (f : Frame) (private : List ℕ) (agreed : Agreement) (most : ℕ) → most ≡ send_max → LinkKeeps opened s k → 0 < f.end → k.has_hello ≡ false →
-    LinkKeeps opened (after_frame f (record s { has_hello = true; send_queue = queue_hello [] s.send_queue; private = private; agreed = agreed; message_max = most })) (with_hello opened k)
-link_greeted opened s k f private agreed most is keeps some none =
+-- the private data of a hello that is accepted
+abbrev private_in : Result Hello ℕ → List ℕ
+private_in (Ok hello) = hello.private
+private_in (Err reason) = []
+
+said_by : (reason : Option ℕ) (value hello : Hello) → value_unless reason value ≡ Ok hello → hello.private ≡ value.private
+said_by None value hello e = ap private_in (sym e)
+said_by (Some reason) value hello e = absurd cc
+
+said_private : (side : Side) (frame : List ℕ) (hello : Hello) → hello_of side frame ≡ Ok hello → hello.private ≡ drop HELLO_LEN frame
+unfolding hello_of
+said_private side frame hello e = said_by (wire_reason side (take HELLO_LEN frame)) (record { side = side; flags = flags_of frame; private = drop HELLO_LEN frame }) hello e
+
+-- what it agrees on with the server
+agrees_as : (opened : LinkParameters) (s : LinkState) (f : Frame) (private : List ℕ) → s.side ≡ Initiator → s.terms ≡ opened.client → private ≡ private_of f →
+    side_agreement s.side (own_private s.terms s.side private) private ≡ client_agreement opened f
+unfolding client_agreement
+agrees_as opened s f private side terms said = λ i. side_agreement (side i) (own_private (terms i) (side i) (said i)) (said i)
+
+kept_as : (opened : LinkParameters) (r : RequesterState) (f : Frame) (own private : List ℕ) → side_agreement r.side.side own private ≡ client_agreement opened f →
+    kept_greeted (kept_client r) (client_agreement opened f) ≡ kept_client (record r { side = after_frame f (with_agreement own private r.side) })
+unfolding kept_greeted
+kept_as opened r f own private agrees = λ i. record (kept_client r) { up_max = (sym agrees i).up; down_max = (sym agrees i).down }
+
+link_greeted : (opened : LinkParameters) (s : LinkState) (k : ClientState) (f : Frame) (private : List ℕ) (agreed : Agreement) (most : ℕ) → most ≡ (client_agreement opened f).down → most ≤ receive_length_for opened.client → LinkKeeps opened s k → 0 < f.end → k.has_hello ≡ false →
+    LinkKeeps opened (after_frame f (record s { has_hello = true; send_queue = queue_hello [] s.send_queue; private = private; agreed = agreed; message_max = most })) (with_hello opened k f)
+link_greeted opened s k f private agreed most is le keeps some none =
     let same : sends_ends k.has_hello opened k ≡ k.send_ends ++ call_ends opened k.due 1 k.outstanding =
     ap (λ (b : Bool). sends_ends b opened k) none ∙ ap (λ (xs : List ℕ). xs ++ call_ends opened k.due 1 k.outstanding) (sym (keeps.none_due none)) in
     let hello : s.send_queue.hello ≡ s.send_queue.hello ++ [] = sym (append-nil s.send_queue.hello) in
@@ -49,6 +75,7 @@ link_greeted opened s k f private agreed most is keeps some none =
       has_hello = refl;
       receive_length = keeps.receive_length;
       message_max = is;
+      fits = subst (λ (n : ℕ). n ≤ receive_length_for opened.client) is le;
       terms = keeps.terms;
       received = keeps.received;
       receive = keeps.receive;
@@ -98,25 +125,31 @@ hello_taken opened r k count frame keeps lt first = by (hello_of Responder frame
     output_is : client_output opened k (FrameReceived f) ≡ calls_output opened 1 k.outstanding
     output_is = ap (λ (b : Bool). cond b (calls_output opened 1 k.outstanding) (response_output k f.end (segment_request (frame_segment f)))) is_first
 
-    state_is : client_state_after opened k (FrameReceived f) ≡ with_hello opened k
-    state_is = ap (λ (b : Bool). cond b (with_hello opened k) (with_segment k f (frame_segment f))) is_first
+    state_is : client_state_after opened k (FrameReceived f) ≡ with_hello opened k f
+    state_is = ap (λ (b : Bool). cond b (with_hello opened k f) (with_segment k f (frame_segment f))) is_first
 
     by : (x : Result Hello ℕ) → hello_of Responder frame ≡ x → FrameTaken opened r k f (record r { side = with_peer_hello f x r.side })
     by (Ok hello) e =
         let own : List ℕ = own_private r.side.terms r.side.side hello.private in
         let agreed : Agreement = side_agreement r.side.side own hello.private in
+        let most : ℕ = received_max r.side.side agreed in
         let after : RequesterState = record r { side = after_frame f (with_agreement own hello.private r.side) } in
         let none : reply_hello r.side.side own ≡ [] = ap (λ (side : Side). reply_hello side own) link.side in
+        let agrees : agreed ≡ client_agreement opened f = agrees_as opened r.side f hello.private link.side link.terms (said_private Responder frame hello e) in
+        let most_is : most ≡ (client_agreement opened f).down = (λ i. received_max (link.side i) (agrees i)) in
+        let most_fits : most ≤ receive_length_for opened.client = subst (λ (terms : SideTerms). most ≤ receive_length_for terms) link.terms (agreed_fits r.side.terms r.side.side hello.private) in
         let within = keeps.due in
-        let greeted : ClientKeeps opened (kept_client r) (live (with_hello opened k)) f.end =
-        kept_stays opened (kept_client r) (live (with_hello opened k)) count f.end (kept_greets opened (kept_client r) k count keeps.client (omega (arith, within))) (omega (arith, lt)) in
-        let next_is : live (with_hello opened k) ≡ next_end_state (client_rules opened) (live k) (FrameReceived f) =
+        let kept : ClientKeeps opened (kept_greeted (kept_client r) (client_agreement opened f)) (live (with_hello opened k f)) f.end =
+        kept_stays opened (kept_greeted (kept_client r) (client_agreement opened f)) (live (with_hello opened k f)) count f.end (kept_greets opened (kept_client r) k f count keeps.client (omega (arith, within))) (omega (arith, lt)) in
+        let greeted : ClientKeeps opened (kept_client after) (live (with_hello opened k f)) f.end =
+        subst (λ (x : KeptClient). ClientKeeps opened x (live (with_hello opened k f)) f.end) (kept_as opened r f own hello.private agrees) kept in
+        let next_is : live (with_hello opened k f) ≡ next_end_state (client_rules opened) (live k) (FrameReceived f) =
         ap (λ (x : ClientState). live x) (sym state_is) ∙ sym (ap (λ (x : Option End). next_end_state_by (client_rules opened) k (FrameReceived f) x) (end_is (Ok hello) e)) in
         taken_live opened r k count f after keeps (end_is (Ok hello) e)
         (subst (λ (x : EndState ClientState). ClientKeeps opened (kept_client after) x f.end) next_is greeted)
         (subst (λ (x : ClientState). LinkKeeps opened after.side x) (sym state_is)
-        (subst (λ (bytes : List ℕ). LinkKeeps opened (after_frame f (record r.side { has_hello = true; send_queue = queue_hello bytes r.side.send_queue; private = own; agreed = agreed; message_max = received_max r.side.side agreed })) (with_hello opened k)) (sym none)
-        (link_greeted opened r.side k f own agreed (received_max r.side.side agreed) (silent_agrees r.side.terms r.side.side hello.private link.terms) link (omega (arith, lt)) no_hello)))
+        (subst (λ (bytes : List ℕ). LinkKeeps opened (after_frame f (record r.side { has_hello = true; send_queue = queue_hello bytes r.side.send_queue; private = own; agreed = agreed; message_max = most })) (with_hello opened k f)) (sym none)
+        (link_greeted opened r.side k f own agreed most most_is most_fits link (omega (arith, lt)) no_hello)))
         refl refl refl refl
         ((λ i. (r.side.send_queue.hello ++ none i) ++ link.waiting no_hello i)
         ∙ (λ i. writable (sym (link.has_hello ∙ no_hello) i) r.side.send_queue ++ sym output_is i)) refl

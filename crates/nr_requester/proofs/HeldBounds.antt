@@ -2,9 +2,7 @@
 use Rattle.std.proofs.Common.{◌≡◌, ℕ, zero, suc, ◌+◌, ◌*◌, ◌<◌, ◌≤◌, max, Bool, true, false, List, [], ◌∷◌, length, map, drop, get_or, sym, ap, subst, ◌∙◌, arith}
 use Rattle.std.specs.List.{AllByRecursion}
 use Rattle.std.proofs.lemmas.List.{length-map, drop_more}
-use Rattle.nr_reduce.specs.Limits.{credits_max}
 use Rattle.nr_wire.specs.Constants.{FPDU_MAX}
-use Rattle.nr_link.specs.Limits.{send_max}
 use Rattle.nr_regions.specs.RegisteredMemory.{RegisteredMemory, bytes_held, outside_held}
 use Rattle.nr_endpoint.specs.EndpointState.{EndpointState, bytes_of, bytes_kept}
 use Rattle.nr_endpoint.specs.LinkState.{LinkState, has_ended}
@@ -12,8 +10,8 @@ use Rattle.nr_endpoint.specs.ReceiveQueue.{ReceiveQueue, receives_kept}
 use Rattle.nr_requester.specs.declared.outstanding.OutstandingCall.{OutstandingCall}
 use Rattle.nr_requester.specs.declared.answer.AnsweredCall.{AnsweredCall}
 use Rattle.nr_requester.specs.RequesterState.{StoredCall, RequesterState, RequesterSide}
-use Rattle.nr_requester.specs.Views.{RequesterInvariant, stored_view, requester_view}
-use Rattle.nr_requester.specs.HeldBytes.{NothingOutside, stored_bytes, calls_bytes, rooms_bytes, bytes_held_by, held_unit, last_max, frame_max, LinkFits, RegionsHave, claims_total, CallFits, answer_bytes, answers_bytes, AnswerFits, RequesterBounds, reply_room}
+use Rattle.nr_requester.specs.Views.{stored_view, requester_view}
+use Rattle.nr_requester.specs.HeldBytes.{NothingOutside, stored_bytes, calls_bytes, rooms_bytes, bytes_held_by, held_unit, last_max, frame_max, send_frames_max, LinkFits, RegionsHave, claims_total, CallFits, answer_bytes, answers_bytes, AnswerFits, RequesterBounds, reply_room}
 use Rattle.nr_requester.proofs.OutputBounds.{count_fewer}
 use Rattle.nr_requester.proofs.ChangedCalls.{nth_of}
 use Rattle.nr_requester.proofs.Unsent.{few_wait}
@@ -24,8 +22,13 @@ last_small : (b : Bool) → last_max b ≤ frame_max
 last_small true = omega arith
 last_small false = omega arith
 
-receives_small : (q : ReceiveQueue) → q.receive_length ≡ send_max → receives_kept q ≤ 1 → q.receive_length * receives_kept q ≤ send_max
-receives_small q is few = subst (λ (n : ℕ). n * receives_kept q ≤ send_max) (sym is) (omega (arith, few))
+receives_small : (q : ReceiveQueue) (len : ℕ) → q.receive_length ≡ len → receives_kept q ≤ 1 → q.receive_length * receives_kept q ≤ len
+receives_small q len is few = by (receives_kept q) few
+  where
+    by : (n : ℕ) → n ≤ 1 → q.receive_length * n ≤ len
+    by zero le = omega arith
+    by (suc zero) le = omega (arith, is)
+    by (suc (suc n)) le = absurd (omega (arith, le))
 
 -- the bytes of the staging buffer, the receive and the output
 abbrev pub link_max : ℕ
@@ -39,18 +42,21 @@ no_outside : (e : EndpointState) → NothingOutside e → outside_held e.outside
 unfolding outside_held
 no_outside e s = sym s.bytes_are
 
-pub link_bytes : (s : LinkState) (total : ℕ) → LinkFits s → RegionsHave s.memory total → receives_kept s.receive_queue ≤ 1 → length s.send_queue.send_ends ≤ credits_max → FPDU_MAX + bytes_of s ≤ link_max + total
-link_bytes s total l have kept few =
+-- but for the frames of the Sends, each of which is that of a call
+pub link_bytes : (s : LinkState) (len total : ℕ) → LinkFits len s → RegionsHave s.memory total → receives_kept s.receive_queue ≤ 1 →
+    FPDU_MAX + bytes_of s ≤ link_max + total + send_frames_max * length s.send_queue.send_ends
+link_bytes s len total l have kept =
     let regions : total ≡ bytes_held s.memory = all_bytes s.memory total have in
-    let receives = receives_small s.receive_queue l.receive_length kept in
+    let receives = receives_small s.receive_queue len l.receive_length kept in
     let queue = l.queue 0 in
-    omega (arith, regions, receives, queue, l.hello, l.responses, few, count_fewer 0 s.send_queue.send_ends, count_fewer 0 s.send_queue.response_ends, last_small (has_ended s))
+    omega (arith, regions, receives, l.receive, queue, l.hello, l.responses, count_fewer 0 s.send_queue.send_ends, count_fewer 0 s.send_queue.response_ends, last_small (has_ended s))
 
 -- ---- The calls
 
-pub each_small : (calls : List OutstandingCall) → AllByRecursion CallFits calls → claims_total calls + calls_bytes (map stored_view calls) + rooms_bytes (map stored_view calls) ≤ held_unit * length calls
-each_small [] h = omega arith
-each_small (c ∷ calls) h = (let one = h.0 in omega (arith, one.call, one.offer, one.room, one.short, each_small calls h.1))
+pub each_small : (len : ℕ) (calls : List OutstandingCall) → AllByRecursion (CallFits len) calls →
+    claims_total calls + calls_bytes (map stored_view calls) + rooms_bytes len (map stored_view calls) + send_frames_max * length calls ≤ held_unit * length calls
+each_small len [] h = omega arith
+each_small len (c ∷ calls) h = (let one = h.0 in omega (arith, one.call, one.offer, one.room, one.short, each_small len calls h.1))
 
 -- one more of them is counted
 pub one_counted : (calls : List OutstandingCall) (i sum n all : ℕ) (c : OutstandingCall) → i < length calls → c ≡ get_or calls i c → n ≡ stored_bytes c.call → sum + calls_bytes (map stored_view (drop i calls)) ≡ all →
@@ -60,12 +66,12 @@ one_counted calls i sum n all c lt is of so_far =
     let step : calls_bytes (map stored_view (drop i calls)) ≡ stored_bytes c.call + calls_bytes (map stored_view (drop (i + 1) calls)) = ap (λ (cs : List OutstandingCall). calls_bytes (map stored_view cs)) first in
     omega (arith, of, so_far, step)
 
-pub one_room : (calls : List OutstandingCall) (i sum n all : ℕ) (c : OutstandingCall) → i < length calls → c ≡ get_or calls i c → n ≡ c.room.len → AllByRecursion CallFits calls →
-    sum + rooms_bytes (map stored_view (drop i calls)) ≡ all → sum + n + rooms_bytes (map stored_view (drop (i + 1) calls)) ≡ all
-one_room calls i sum n all c lt is of fit so_far =
+pub one_room : (len : ℕ) (calls : List OutstandingCall) (i sum n all : ℕ) (c : OutstandingCall) → i < length calls → c ≡ get_or calls i c → n ≡ c.room.len → AllByRecursion (CallFits len) calls →
+    sum + rooms_bytes len (map stored_view (drop i calls)) ≡ all → sum + n + rooms_bytes len (map stored_view (drop (i + 1) calls)) ≡ all
+one_room len calls i sum n all c lt is of fit so_far =
     let first : drop i calls ≡ c ∷ drop (i + 1) calls = drop_more calls i c lt ∙ ap (λ (x : OutstandingCall). x ∷ drop (i + 1) calls) (sym is) in
-    let step : rooms_bytes (map stored_view (drop i calls)) ≡ reply_room c.offered + rooms_bytes (map stored_view (drop (i + 1) calls)) = ap (λ (cs : List OutstandingCall). rooms_bytes (map stored_view cs)) first in
-    let own : c.room.len ≡ reply_room c.offered = (subst (λ (x : OutstandingCall). CallFits x) (sym is) (nth_of CallFits i calls c lt fit)).room in
+    let step : rooms_bytes len (map stored_view (drop i calls)) ≡ reply_room len c.offered + rooms_bytes len (map stored_view (drop (i + 1) calls)) = ap (λ (cs : List OutstandingCall). rooms_bytes len (map stored_view cs)) first in
+    let own : c.room.len ≡ reply_room len c.offered = (subst (λ (x : OutstandingCall). CallFits len x) (sym is) (nth_of (CallFits len) i calls c lt fit)).room in
     omega (arith, of, so_far, step, own)
 
 -- ---- The answers
@@ -89,19 +95,21 @@ one_answer answers i sum n all a lt is of so_far =
 
 -- ---- Both
 
-pub held_is : (e : EndpointState) (first next sent wished first_xid next_xid grant kept more rooms : ℕ) (calls : List OutstandingCall) (answers : List AnsweredCall) (rest : ℕ) (r : RequesterState) → (requester_view e.link sent wished first_xid next_xid grant calls answers).state ≡ r → RequesterBounds e first next calls answers →
-    kept ≡ bytes_kept e → more ≡ calls_bytes (map stored_view calls) → rooms ≡ rooms_bytes (map stored_view calls) → rest ≡ answers_bytes answers → kept + more + rooms + rest ≡ bytes_held_by r
+pub held_is : (e : EndpointState) (len first next sent wished first_xid next_xid grant kept more rooms : ℕ) (calls : List OutstandingCall) (answers : List AnsweredCall) (rest : ℕ) (r : RequesterState) → (requester_view e.link sent wished first_xid next_xid grant calls answers).state ≡ r → RequesterBounds len e first next calls answers →
+    kept ≡ bytes_kept e → more ≡ calls_bytes (map stored_view calls) → rooms ≡ rooms_bytes len (map stored_view calls) → rest ≡ answers_bytes answers → kept + more + rooms + rest ≡ bytes_held_by r
 unfolding bytes_held_by
-held_is e first next sent wished first_xid next_xid grant kept more rooms calls answers rest r is w kept_is more_is rooms_is rest_is =
-    let here : FPDU_MAX + bytes_of e.link.state + calls_bytes (map stored_view calls) + rooms_bytes (map stored_view calls) + answers_bytes answers ≡ bytes_held_by r = ap bytes_held_by is in
-    omega (arith, here, w.staging, no_outside e w.outside, kept_is, more_is, rooms_is, rest_is)
+held_is e len first next sent wished first_xid next_xid grant kept more rooms calls answers rest r is w kept_is more_is rooms_is rest_is =
+    let here : FPDU_MAX + bytes_of e.link.state + calls_bytes (map stored_view calls) + rooms_bytes e.link.state.receive_queue.receive_length (map stored_view calls) + answers_bytes answers ≡ bytes_held_by r = ap bytes_held_by is in
+    let same : rooms_bytes e.link.state.receive_queue.receive_length (map stored_view calls) ≡ rooms_bytes len (map stored_view calls) = ap (λ (n : ℕ). rooms_bytes n (map stored_view calls)) w.link.receive_length in
+    omega (arith, here, same, w.staging, no_outside e w.outside, kept_is, more_is, rooms_is, rest_is)
 
-pub held_bound : (e : EndpointState) (first next grant kept more rooms : ℕ) (calls : List OutstandingCall) (answers : List AnsweredCall) (room : ℕ) → RequesterBounds e first next calls answers → RequesterInvariant e.link next grant calls answers room → receives_kept e.link.state.receive_queue + e.link.state.receive_queue.lent ≡ e.link.state.receive_queue.receives →
-    kept ≡ bytes_kept e → more ≡ calls_bytes (map stored_view calls) → rooms ≡ rooms_bytes (map stored_view calls) → kept + more + rooms ≤ held_unit * (length calls + 4)
-held_bound e first next grant kept more rooms calls answers room w s receives kept_is more_is rooms_is =
+pub held_bound : (e : EndpointState) (len first next kept more rooms : ℕ) (calls : List OutstandingCall) (answers : List AnsweredCall) → RequesterBounds len e first next calls answers → receives_kept e.link.state.receive_queue + e.link.state.receive_queue.lent ≡ e.link.state.receive_queue.receives →
+    kept ≡ bytes_kept e → more ≡ calls_bytes (map stored_view calls) → rooms ≡ rooms_bytes len (map stored_view calls) → kept + more + rooms ≤ held_unit * (length calls + 4)
+held_bound e len first next kept more rooms calls answers w receives kept_is more_is rooms_is =
     let s1 : LinkState = e.link.state in
-    let link = link_bytes s1 (claims_total calls) w.link w.regions (omega (arith, receives, w.link.receives)) (omega (arith, w.counts.waiting, few_wait first s1.send_queue.sends_left calls, s.few)) in
-    omega (arith, link, w.staging, no_outside e w.outside, kept_is, more_is, rooms_is, each_small calls w.each)
+    let link = link_bytes s1 len (claims_total calls) w.link w.regions (omega (arith, receives, w.link.receives)) in
+    let waiting : length s1.send_queue.send_ends ≤ length calls = omega (arith, w.counts.waiting, few_wait first s1.send_queue.sends_left calls) in
+    omega (arith, link, waiting, w.staging, no_outside e w.outside, kept_is, more_is, rooms_is, each_small len calls w.each)
 
 pub held_most : (wished kept rest : ℕ) (calls : List OutstandingCall) (answers : List AnsweredCall) (h : RequesterSide) → h.state.wished ≡ wished → h.state.outstanding ≡ map stored_view calls → h.state.answered ≡ answers → kept ≤ held_unit * (length calls + 4) → rest ≤ held_unit * length answers →
     kept + rest ≤ held_unit * (max h.state.wished (length h.state.outstanding) + length h.state.answered + 4)

@@ -21,7 +21,7 @@ use Rattle.nr_requester.specs.declared.answer.AnsweredCall.{AnsweredCall}
 use Rattle.nr_requester.proofs.Releases.{from_lower}
 use Rattle.nr_requester.specs.Views.{claim_len, HasRoom, AreRising, IsAnswered, RequesterInvariant}
 use Rattle.std.proofs.lemmas.List.{length-replicate}
-use Rattle.nr_link.specs.Limits.{send_max}
+use Rattle.nr_link.specs.declared.agreement.SideTerms.{SideTerms}
 use Rattle.nr_reduce.specs.declared.outline.Plan.{Plan}
 use Rattle.nr_reduce.specs.Plans.{total, has_segment}
 use Rattle.nr_requester.specs.Sending.{some_if, offered_of}
@@ -89,17 +89,17 @@ offers_append : (xs : List OutstandingCall) (o : OutstandingCall) → AllByRecur
 offers_append [] o h one = (one, tt)
 offers_append (x ∷ xs) o h one = (h.0, offers_append xs o h.1 one)
 
-rooms_append : (xs : List OutstandingCall) (o : OutstandingCall) → AllByRecursion HasRoom xs → HasRoom o → AllByRecursion HasRoom (xs ++ o ∷ [])
-rooms_append [] o h one = (one, tt)
-rooms_append (x ∷ xs) o h one = (h.0, rooms_append xs o h.1 one)
+rooms_append : (len : ℕ) (xs : List OutstandingCall) (o : OutstandingCall) → AllByRecursion (HasRoom len) xs → HasRoom len o → AllByRecursion (HasRoom len) (xs ++ o ∷ [])
+rooms_append len [] o h one = (one, tt)
+rooms_append len (x ∷ xs) o h one = (h.0, rooms_append len xs o h.1 one)
 
 -- the room of a call that is sent by its plan
-pub own_room : (m : RegisteredMemory) (p : Plan) (o : OutstandingCall) → o.claims ≡ claims_of m (offered_of p) → (o.room.len ≡ send_max + (total p.write + (total p.reply + 3))) × (o.room.len < 2 ^ 32) → HasRoom o
-own_room m p o is has =
+pub own_room : (len : ℕ) (m : RegisteredMemory) (p : Plan) (o : OutstandingCall) → o.claims ≡ claims_of m (offered_of p) → (o.room.len ≡ len + (total p.write + (total p.reply + 3))) × (o.room.len < 2 ^ 32) → HasRoom len o
+own_room len m p o is has =
     let w : claim_len o.claims.write ≤ total p.write = subst (λ (c : Claims). claim_len c.write ≤ total p.write) (sym is) (within (with_read m (offered_of p)) (has_segment p.write) (total p.write)) in
     let r : claim_len o.claims.reply ≤ total p.reply = subst (λ (c : Claims). claim_len c.reply ≤ total p.reply) (sym is) (within (with_write_buffer m (offered_of p)) (has_segment p.reply) (total p.reply)) in
-    let len = has.0 in
-    (omega (arith, len, w, r), has.1)
+    let room = has.0 in
+    (omega (arith, room, w, r), has.1)
   where
     within : (n : RegisteredMemory) (b : Bool) (count : ℕ) → claim_len (claim_if n (some_if b (replicate count 0))) ≤ count
     within n true count = (let len = length-replicate {A = ℕ} count 0 in omega (arith, len))
@@ -133,9 +133,9 @@ apart_append next xs o (a ∷ answers) own h = (((let lt = h.0.0 in omega (arith
         by true rest e = absurd cc
         by false rest e = rest e
 
-pub sent_sound : (link link2 : LinkSide) (xid grant room room2 : ℕ) (items items2 : List OutstandingCall) (answers answers2 : List AnsweredCall) (o : OutstandingCall) → RequesterInvariant link xid grant items answers room → SentHeld link.state.memory link2.state.memory o.claims → link2.state.receive_queue ≡ link.state.receive_queue → OffersOwn o → HasRoom o → link2.state.reads ≡ link.state.reads →
-    xid < 2 ^ 32 → length items < grant → items2 ≡ items ++ o ∷ [] → answers2 ≡ answers → o.xid ≡ xid → length answers + (length items + 1) ≤ room2 → RequesterInvariant link2 (xid + 1) grant items2 answers2 room2
-sent_sound link link2 xid grant room room2 items items2 answers answers2 o s h queue own has reads fits credit more same number more_room =
+pub sent_sound : (link link2 : LinkSide) (size xid grant room room2 : ℕ) (items items2 : List OutstandingCall) (answers answers2 : List AnsweredCall) (o : OutstandingCall) → RequesterInvariant size link xid grant items answers room → SentHeld link.state.memory link2.state.memory o.claims → link2.state.receive_queue ≡ link.state.receive_queue → OffersOwn o → HasRoom size o → link2.state.reads ≡ link.state.reads →
+    xid < 2 ^ 32 → length items < grant → items2 ≡ items ++ o ∷ [] → answers2 ≡ answers → o.xid ≡ xid → length answers + (length items + 1) ≤ room2 → RequesterInvariant size link2 (xid + 1) grant items2 answers2 room2
+sent_sound link link2 size xid grant room room2 items items2 answers answers2 o s h queue own has reads fits credit more same number more_room =
     let len = ap (λ (xs : List OutstandingCall). length xs) more ∙ length-append items (o ∷ []) in
     let count = ap (λ (xs : List AnsweredCall). length xs) same in
     record {
@@ -149,7 +149,7 @@ sent_sound link link2 xid grant room room2 items items2 answers answers2 o s h q
           (subst (λ (cs : List Claim). AreHeldFrom link2.state.memory 0 cs) (sym (claims_append items o))
           (held_append link.state.memory link2.state.memory 0 (all_claims items) (call_claims o.claims) (h.next, h.keeps) s.held h.own));
       offers = subst (λ (xs : List OutstandingCall). AllByRecursion OffersOwn xs) (sym more) (offers_append items o s.offers own);
-      rooms = subst (λ (xs : List OutstandingCall). AllByRecursion HasRoom xs) (sym more) (rooms_append items o s.rooms has);
+      rooms = subst (λ (xs : List OutstandingCall). AllByRecursion (HasRoom size) xs) (sym more) (rooms_append size items o s.rooms has);
       no_reads = reads ∙ s.no_reads;
       rising = subst (λ (xs : List OutstandingCall). AreRising xs (xid + 1)) (sym more) (rising_append items o xid s.rising number);
       apart = subst (λ (ys : List AnsweredCall). AllByRecursion (IsAnswered (xid + 1) items2) ys) (sym same)
@@ -164,9 +164,9 @@ unfolding after_call
 drain_leaves link n = (refl, (refl, refl))
 
 -- the same with another side of the link, which has its regions and receives
-pub same_sound : (link link2 : LinkSide) (xid grant room room2 : ℕ) (items : List OutstandingCall) (answers : List AnsweredCall) → RequesterInvariant link xid grant items answers room → link2.state.memory ≡ link.state.memory → link2.state.receive_queue ≡ link.state.receive_queue → link2.state.reads ≡ link.state.reads →
-    room ≤ room2 → RequesterInvariant link2 xid grant items answers room2
-same_sound link link2 xid grant room room2 items answers s memory queue reads le = record {
+pub same_sound : (link link2 : LinkSide) (len xid grant room room2 : ℕ) (items : List OutstandingCall) (answers : List AnsweredCall) → RequesterInvariant len link xid grant items answers room → link2.state.memory ≡ link.state.memory → link2.state.receive_queue ≡ link.state.receive_queue → link2.state.reads ≡ link.state.reads →
+    room ≤ room2 → RequesterInvariant len link2 xid grant items answers room2
+same_sound link link2 len xid grant room room2 items answers s memory queue reads le = record {
   xid = s.xid;
   few = s.few;
   some = s.some;
@@ -182,15 +182,15 @@ same_sound link link2 xid grant room room2 items answers s memory queue reads le
   has_room = (let room_was = s.has_room in omega (arith, room_was, le));
 }
 
-pub drain_sound : (link link2 : LinkSide) (n xid grant room : ℕ) (items : List OutstandingCall) (answers : List AnsweredCall) → RequesterInvariant link xid grant items answers room → link2 ≡ after_call link (Drain n) → RequesterInvariant link2 xid grant items answers room
-drain_sound link link2 n xid grant room items answers s is =
-    same_sound link link2 xid grant room room items answers s (ap (λ (l : LinkSide). l.state.memory) is ∙ (drain_leaves link n).0) (ap (λ (l : LinkSide). l.state.receive_queue) is ∙ (drain_leaves link n).1.0) (ap (λ (l : LinkSide). l.state.reads) is ∙ (drain_leaves link n).1.1) (omega arith)
+pub drain_sound : (link link2 : LinkSide) (len n xid grant room : ℕ) (items : List OutstandingCall) (answers : List AnsweredCall) → RequesterInvariant len link xid grant items answers room → link2 ≡ after_call link (Drain n) → RequesterInvariant len link2 xid grant items answers room
+drain_sound link link2 len n xid grant room items answers s is =
+    same_sound link link2 len xid grant room room items answers s (ap (λ (l : LinkSide). l.state.memory) is ∙ (drain_leaves link n).0) (ap (λ (l : LinkSide). l.state.receive_queue) is ∙ (drain_leaves link n).1.0) (ap (λ (l : LinkSide). l.state.reads) is ∙ (drain_leaves link n).1.1) (omega arith)
 
-first_sound : (first_stag xid room : ℕ) → xid ≤ 2 ^ 32 → RequesterInvariant (initial_link Initiator 1 first_stag None) xid 1 [] [] room
+first_sound : (len first_stag xid room : ℕ) (terms : SideTerms) → xid ≤ 2 ^ 32 → RequesterInvariant len (initial_link Initiator 1 first_stag terms) xid 1 [] [] room
 unfolding initial_link
-first_sound first_stag xid room fits = record { xid = fits; few = omega arith; some = omega arith; granted = omega arith; none_waits = refl; none_lent = refl; held = omega arith; offers = tt; rooms = tt; no_reads = refl; rising = tt; apart = tt; has_room = omega arith }
+first_sound len first_stag xid room terms fits = record { xid = fits; few = omega arith; some = omega arith; granted = omega arith; none_waits = refl; none_lent = refl; held = omega arith; offers = tt; rooms = tt; no_reads = refl; rising = tt; apart = tt; has_room = omega arith }
 
-pub opened_sound : (link : LinkSide) (first_xid first_stag n room : ℕ) (items : List OutstandingCall) (answers : List AnsweredCall) → link ≡ initial_link Initiator 1 first_stag None → n ≡ first_xid → first_xid < 2 ^ 32 → items ≡ [] → answers ≡ [] → RequesterInvariant link n 1 items answers room
-opened_sound link first_xid first_stag n room items answers is xid fits none empty =
-    subst (λ (l : LinkSide). RequesterInvariant l n 1 items answers room) (sym is) (subst (λ (ys : List AnsweredCall). RequesterInvariant (initial_link Initiator 1 first_stag None) n 1 items ys room) (sym empty)
-    (subst (λ (xs : List OutstandingCall). RequesterInvariant (initial_link Initiator 1 first_stag None) n 1 xs [] room) (sym none) (first_sound first_stag n room (omega (arith, xid, fits)))))
+pub opened_sound : (link : LinkSide) (len first_xid first_stag n room : ℕ) (terms : SideTerms) (items : List OutstandingCall) (answers : List AnsweredCall) → link ≡ initial_link Initiator 1 first_stag terms → n ≡ first_xid → first_xid < 2 ^ 32 → items ≡ [] → answers ≡ [] → RequesterInvariant len link n 1 items answers room
+opened_sound link len first_xid first_stag n room terms items answers is xid fits none empty =
+    subst (λ (l : LinkSide). RequesterInvariant len l n 1 items answers room) (sym is) (subst (λ (ys : List AnsweredCall). RequesterInvariant len (initial_link Initiator 1 first_stag terms) n 1 items ys room) (sym empty)
+    (subst (λ (xs : List OutstandingCall). RequesterInvariant len (initial_link Initiator 1 first_stag terms) n 1 xs [] room) (sym none) (first_sound len first_stag n room terms (omega (arith, xid, fits)))))

@@ -119,9 +119,9 @@ all_open r (a ∷ answers) apart found = (answered_open r a.xid a apart found.0,
 
 -- ---- All
 
-pub lists_fit : (e : EndpointState) (sent wished first next grant : ℕ) (calls : List OutstandingCall) (answers : List AnsweredCall) (room : ℕ) →
-    RequesterInvariant e.link next grant calls answers room → RequesterBounds e first next calls answers → ListsFit (requester_view e.link sent wished first next grant calls answers).state
-lists_fit e sent wished first next grant calls answers room i w =
+pub lists_fit : (e : EndpointState) (len sent wished first next grant : ℕ) (calls : List OutstandingCall) (answers : List AnsweredCall) (room : ℕ) →
+    RequesterInvariant len e.link next grant calls answers room → RequesterBounds len e first next calls answers → ListsFit (requester_view e.link sent wished first next grant calls answers).state
+lists_fit e len sent wished first next grant calls answers room i w =
     let r : RequesterState = (requester_view e.link sent wished first next grant calls answers).state in
     let count : length (map stored_view calls) ≡ length calls = length-map calls stored_view in
     record {

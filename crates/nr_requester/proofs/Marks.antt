@@ -5,9 +5,12 @@ use Rattle.std.proofs.lemmas.List.{length-take}
 use Rattle.nr_wire.specs.declared.hello.Side.TheVariants.{Initiator, Responder}
 use Rattle.nr_link.specs.declared.end.End.{End}
 use Rattle.nr_link.specs.Input.{InputState, initial_input}
-use Rattle.nr_link.specs.Output.{hello_with, own_hello}
+use Rattle.nr_link.specs.Output.{hello_with}
 use Rattle.nr_link.specs.declared.agreement.SideTerms.{SideTerms}
-use Rattle.nr_reduce.specs.Hellos.{client_hello, initiator_says}
+use Rattle.nr_link.specs.Agreement.{initiator_private}
+use Rattle.nr_link.specs.Limits.{send_max}
+use Rattle.nr_reduce.specs.Hellos.{client_hello}
+use Rattle.nr_endpoint.specs.Hellos.{receive_length_for}
 use Rattle.nr_endpoint.specs.LinkState.{LinkState}
 use Rattle.nr_endpoint.specs.SendQueue.{written}
 use Rattle.nr_reduce.specs.declared.mark.LinkParameters.{LinkParameters}
@@ -242,17 +245,21 @@ others_leave_client opened link h run mark s no_events no_write no_feed =
 
 -- ---- As it is opened
 
-kept_opened : (opened : LinkParameters) (staging : List ℕ) → opened_client opened ≡ kept_client (opened_as opened.first_xid opened.first_stag opened.wished staging).state
+kept_opened : (opened : LinkParameters) (staging : List ℕ) → opened_client opened ≡ kept_client (opened_as opened.first_xid opened.first_stag opened.wished opened.client staging).state
 unfolding opened_as
 kept_opened opened staging = refl
 
-link_opened : (opened : LinkParameters) (link : ℕ) (staging : List ℕ) → LinkKeeps opened (opened_as opened.first_xid opened.first_stag opened.wished staging).state.side (state_of opened link [])
-unfolding client events opened_as
+some_units : (terms : SideTerms) → send_max ≤ receive_length_for terms
+some_units terms = omega arith
+
+link_opened : (opened : LinkParameters) (link : ℕ) (staging : List ℕ) → LinkKeeps opened (opened_as opened.first_xid opened.first_stag opened.wished opened.client staging).state.side (state_of opened link [])
+unfolding client events opened_as client_hello
 link_opened opened link staging = record {
   side = refl;
   has_hello = refl;
   receive_length = refl;
   message_max = refl;
+  fits = some_units opened.client;
   terms = refl;
   received = refl;
   receive = refl;
@@ -269,18 +276,18 @@ link_opened opened link staging = record {
   greeted = refl;
 }
 
--- a client that says nothing has a hello without private data
-silent_hello : (opened : LinkParameters) → opened.client ≡ None → client_hello opened ≡ own_hello Initiator
-unfolding client_hello
-silent_hello opened silent = ap (λ (said : SideTerms). hello_with Initiator (initiator_says said)) silent
+-- its queue is its hello
+queue_opened : (opened : LinkParameters) (staging : List ℕ) → client_hello opened ≡ queue_of (opened_as opened.first_xid opened.first_stag opened.wished opened.client staging).state
+unfolding opened_as client_hello
+queue_opened opened staging = sym (append-nil (hello_with Initiator (initiator_private opened.client)))
 
-pub begins_client : (opened : LinkParameters) (link : ℕ) (staging : List ℕ) → opened.client ≡ None → KeepsClient opened link (opened_as opened.first_xid opened.first_stag opened.wished staging) []
+pub begins_client : (opened : LinkParameters) (link : ℕ) (staging : List ℕ) → KeepsClient opened link (opened_as opened.first_xid opened.first_stag opened.wished opened.client staging) []
 unfolding opened_as
-begins_client opened link staging silent = record {
+begins_client opened link staging = record {
   first = refl;
   wished = refl;
-  kept = subst (λ (k : KeptClient). ClientRepresents opened link k (initial_input Responder) (own_hello Initiator ++ []) []) (kept_opened opened staging)
-      (subst (λ (q : List ℕ). ClientRepresents opened link (opened_client opened) (initial_input Responder) q []) (silent_hello opened silent ∙ sym (append-nil (own_hello Initiator))) (client_begins_lem opened link));
+  kept = subst (λ (k : KeptClient). ClientRepresents opened link k (initial_input Responder) (queue_of (opened_as opened.first_xid opened.first_stag opened.wished opened.client staging).state) []) (kept_opened opened staging)
+      (subst (λ (q : List ℕ). ClientRepresents opened link (opened_client opened) (initial_input Responder) q []) (queue_opened opened staging) (client_begins_lem opened link));
   sent = λ none. refl;
   side = λ none. link_opened opened link staging;
 }

@@ -179,8 +179,13 @@ one_of P cs at d lt h = (all_without (take at cs) (get_or cs at d) (drop (suc at
 pub one_offers : (cs : List OutstandingCall) (at : ℕ) (d : OutstandingCall) → at < length cs → AllByRecursion OffersOwn cs → OffersOwn (get_or cs at d)
 one_offers = one_of OffersOwn
 
-pub one_room : (cs : List OutstandingCall) (at : ℕ) (d : OutstandingCall) → at < length cs → AllByRecursion HasRoom cs → HasRoom (get_or cs at d)
-one_room = one_of HasRoom
+-- a shorter message needs less room
+pub shorter_rooms : (n len : ℕ) (cs : List OutstandingCall) → n ≤ len → AllByRecursion (HasRoom len) cs → AllByRecursion (HasRoom n) cs
+shorter_rooms n len [] le h = tt
+shorter_rooms n len (c ∷ cs) le h = (((let has = h.0.0 in omega (arith, has, le)), h.0.1), shorter_rooms n len cs le h.1)
+
+pub one_room : (len : ℕ) (cs : List OutstandingCall) (at : ℕ) (d : OutstandingCall) → at < length cs → AllByRecursion (HasRoom len) cs → HasRoom len (get_or cs at d)
+one_room len = one_of (HasRoom len)
 
 pub one_held : (m : RegisteredMemory) (cs : List OutstandingCall) (at : ℕ) (d : OutstandingCall) → at < length cs → AreHeldFrom m 0 (all_claims cs) → AreHeldFrom m 0 (call_claims (get_or cs at d).claims)
 one_held m cs at d lt h = call_held (take at cs) (get_or cs at d) (drop (suc at) cs) m (subst (λ (xs : List OutstandingCall). AreHeldFrom m 0 (all_claims xs)) (around cs at d lt) h)

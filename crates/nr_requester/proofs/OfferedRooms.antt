@@ -1,7 +1,6 @@
 -- The room of a reply, by the lists of a plan.
 use Rattle.std.specs.Prelude.{sum}
 use Rattle.std.proofs.Common.{◌≡◌, ◌∙◌, ℕ, ◌+◌, List, Option, None, Some, refl, sym, arith}
-use Rattle.nr_link.specs.Limits.{send_max}
 use Rattle.nr_reduce.specs.Chunks.{chunk_total}
 use Rattle.nr_reduce.specs.declared.outline.Plan.{Plan}
 use Rattle.nr_reduce.specs.Plans.{total, segments_from, write_list, reply_chunk, write_stag, reply_stag, lists_of}
@@ -19,6 +18,6 @@ reply_total : (stag : ℕ) (lengths : Option (List ℕ)) → chunk_if (reply_chu
 reply_total stag None = refl
 reply_total stag (Some lengths) = segments_added stag 0 lengths
 
-pub room_offered : (stag : ℕ) (p : Plan) → reply_room (lists_of stag p) ≡ send_max + (total p.write + (total p.reply + 3))
+pub room_offered : (len stag : ℕ) (p : Plan) → reply_room len (lists_of stag p) ≡ len + (total p.write + (total p.reply + 3))
 unfolding lists_of
-room_offered stag p = omega (arith, written_total (write_stag stag p) p.write, reply_total (reply_stag stag p) p.reply)
+room_offered len stag p = omega (arith, written_total (write_stag stag p) p.write, reply_total (reply_stag stag p) p.reply)

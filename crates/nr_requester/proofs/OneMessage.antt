@@ -131,9 +131,9 @@ same_xid (x ∷ xs) [] at d h = absurd h
 same_xid (x ∷ xs) (y ∷ ys) zero d h = ap (λ (c : OutstandingCall). c.xid) (sym h.0.0)
 same_xid (x ∷ xs) (y ∷ ys) (suc n) d h = same_xid xs ys n d h.1
 
-pub sound_as : (m m2 : RegisteredMemory) (next room room2 : ℕ) (calls calls2 : List OutstandingCall) (answers answers2 : List AnsweredCall) → m2 ≡ m → calls2 ≡ calls → answers2 ≡ answers → room2 ≡ room → CallsSound m next calls answers room → CallsSound m2 next calls2 answers2 room2
-sound_as m m2 next room room2 calls calls2 answers answers2 em ec ea er s =
-    subst (λ (x : RegisteredMemory). CallsSound x next calls2 answers2 room2) (sym em)
-    (subst (λ (x : List OutstandingCall). CallsSound m next x answers2 room2) (sym ec)
-    (subst (λ (x : List AnsweredCall). CallsSound m next calls x room2) (sym ea)
-    (subst (λ (x : ℕ). CallsSound m next calls answers x) (sym er) s)))
+pub sound_as : (len : ℕ) (m m2 : RegisteredMemory) (next room room2 : ℕ) (calls calls2 : List OutstandingCall) (answers answers2 : List AnsweredCall) → m2 ≡ m → calls2 ≡ calls → answers2 ≡ answers → room2 ≡ room → CallsSound len m next calls answers room → CallsSound len m2 next calls2 answers2 room2
+sound_as len m m2 next room room2 calls calls2 answers answers2 em ec ea er s =
+    subst (λ (x : RegisteredMemory). CallsSound len x next calls2 answers2 room2) (sym em)
+    (subst (λ (x : List OutstandingCall). CallsSound len m next x answers2 room2) (sym ec)
+    (subst (λ (x : List AnsweredCall). CallsSound len m next calls x room2) (sym ea)
+    (subst (λ (x : ℕ). CallsSound len m next calls answers x) (sym er) s)))

@@ -4,7 +4,6 @@ use Rattle.std.proofs.lemmas.Bool.{eqb-true}
 use Rattle.nr_wire.specs.Constants.{OPCODE_SEND, OPCODE_READ_REQUEST}
 use Rattle.nr_wire.specs.Segment.{Segment}
 use Rattle.nr_wire.specs.Segment.Segment.{Tagged, Untagged}
-use Rattle.nr_link.specs.Limits.{send_max}
 use Rattle.nr_link.specs.KeptSends.{begun_within, received_within}
 use Rattle.nr_link.specs.ReceiveState.{ReceiveState, is_send, begun_bytes, received_after, send_continued, message_completed, read_request_in, read_request_of}
 use Rattle.nr_link.specs.SegmentFaults.{is_begun}
@@ -12,67 +11,67 @@ use Rattle.nr_link.proofs.BegunSends.{kept_alike, messages_alike}
 use Rattle.nr_endpoint.specs.ReceiveQueue.{ReceiveQueue, DeliveredEvent, sends_begun, takes_receive, message_deliveries, with_segment, delivered, posted, lent_for}
 use Rattle.nr_endpoint.specs.ReceiveQueue.DeliveredEvent.{MessageReceived}
 
-begun_is : (o : Option (List ℕ)) → is_begun (begun_within send_max o) ≡ is_begun o
-begun_is None = refl
-begun_is (Some b) = refl
+begun_is : (len : ℕ) (o : Option (List ℕ)) → is_begun (begun_within len o) ≡ is_begun o
+begun_is len None = refl
+begun_is len (Some b) = refl
 
 -- what is kept after a segment is that of what was received after it
-pub received_next : (q : ReceiveQueue) (h : ReceiveState) (segment : Segment) → q.receive_length ≡ send_max → q.received ≡ received_within send_max h → received_within q.receive_length (received_after q.received segment) ≡ received_within send_max (received_after h segment)
-received_next q h segment len is = (λ i. received_within (len i) (received_after (is i) segment)) ∙ kept_alike send_max h segment
+pub received_next : (len : ℕ) (q : ReceiveQueue) (h : ReceiveState) (segment : Segment) → q.receive_length ≡ len → q.received ≡ received_within len h → received_within q.receive_length (received_after q.received segment) ≡ received_within len (received_after h segment)
+received_next len q h segment length_is is = (λ i. received_within (length_is i) (received_after (is i) segment)) ∙ kept_alike len h segment
 
 -- ---- A segment that makes no message complete
 
-one_begun : (free : ℕ) (b : Option (List ℕ)) → free + sends_begun b ≡ 1 → cond (not (is_begun (begun_within send_max b))) (free - 1) free + 1 ≡ 1
-one_begun free None e = omega (arith, e)
-one_begun free (Some x) e = e
+one_begun : (len free : ℕ) (b : Option (List ℕ)) → free + sends_begun b ≡ 1 → cond (not (is_begun (begun_within len b))) (free - 1) free + 1 ≡ 1
+one_begun len free None e = omega (arith, e)
+one_begun len free (Some x) e = e
 
-pub receive_part : (h : ReceiveState) (free : ℕ) (segment : Segment) → free + sends_begun h.begun ≡ 1 → message_completed h segment ≡ None →
-    cond (takes_receive (received_within send_max h) segment) (free - 1) free + sends_begun (received_after h segment).begun ≡ 1
-receive_part h free (Tagged last opcode stag to payload) e none = e
-receive_part h free (Untagged last opcode w queue msn offset payload) e none = by (is_send opcode) last (eqb opcode OPCODE_READ_REQUEST) none
+pub receive_part : (len : ℕ) (h : ReceiveState) (free : ℕ) (segment : Segment) → free + sends_begun h.begun ≡ 1 → message_completed h segment ≡ None →
+    cond (takes_receive (received_within len h) segment) (free - 1) free + sends_begun (received_after h segment).begun ≡ 1
+receive_part len h free (Tagged last opcode stag to payload) e none = e
+receive_part len h free (Untagged last opcode w queue msn offset payload) e none = by (is_send opcode) last (eqb opcode OPCODE_READ_REQUEST) none
   where
     by : (b l r : Bool) → cond (b && l) (Some (begun_bytes h.begun ++ payload)) None ≡ None →
-        cond (b && not (is_begun (begun_within send_max h.begun))) (free - 1) free
+        cond (b && not (is_begun (begun_within len h.begun))) (free - 1) free
         + sends_begun (cond b (send_continued h l payload) (cond r (record { sends = h.sends; begun = h.begun; requests = h.requests + 1 }) h)).begun ≡ 1
     by true true r is = absurd cc
-    by true false r is = one_begun free h.begun e
+    by true false r is = one_begun len free h.begun e
     by false l true is = e
     by false l false is = e
 
-message_none : (h : ReceiveState) (segment : Segment) → message_completed h segment ≡ None → message_completed (received_within send_max h) segment ≡ None
-message_none h (Tagged last opcode stag to payload) none = refl
-message_none h (Untagged last opcode w queue msn offset payload) none = by (is_send opcode && last) none
+message_none : (len : ℕ) (h : ReceiveState) (segment : Segment) → message_completed h segment ≡ None → message_completed (received_within len h) segment ≡ None
+message_none len h (Tagged last opcode stag to payload) none = refl
+message_none len h (Untagged last opcode w queue msn offset payload) none = by (is_send opcode && last) none
   where
-    by : (b : Bool) → cond b (Some (begun_bytes h.begun ++ payload)) None ≡ None → cond b (Some (begun_bytes (begun_within send_max h.begun) ++ payload)) None ≡ None
+    by : (b : Bool) → cond b (Some (begun_bytes h.begun ++ payload)) None ≡ None → cond b (Some (begun_bytes (begun_within len h.begun) ++ payload)) None ≡ None
     by true is = absurd cc
     by false is = refl
 
-pub none_told : (h : ReceiveState) (number : ℕ) (deliveries : List DeliveredEvent) (segment : Segment) → deliveries ≡ [] → message_completed h segment ≡ None → deliveries ++ message_deliveries number (message_completed (received_within send_max h) segment) ≡ []
-none_told h number deliveries segment none is = λ i. none i ++ message_deliveries number (message_none h segment is i)
+pub none_told : (len : ℕ) (h : ReceiveState) (number : ℕ) (deliveries : List DeliveredEvent) (segment : Segment) → deliveries ≡ [] → message_completed h segment ≡ None → deliveries ++ message_deliveries number (message_completed (received_within len h) segment) ≡ []
+none_told len h number deliveries segment none is = λ i. none i ++ message_deliveries number (message_none len h segment is i)
 
 -- ---- A message
 
-pub record MessageAt (h : ReceiveState) (segment : Segment) (message : List ℕ) : Type 0 where
-  pub whole : message_completed (received_within send_max h) segment ≡ Some message
+pub record MessageAt (len : ℕ) (h : ReceiveState) (segment : Segment) (message : List ℕ) : Type 0 where
+  pub whole : message_completed (received_within len h) segment ≡ Some message
   pub no_request : read_request_of segment ≡ None
   pub begun : (received_after h segment).begun ≡ None
-  pub takes : takes_receive (received_within send_max h) segment ≡ not (is_begun h.begun)
+  pub takes : takes_receive (received_within len h) segment ≡ not (is_begun h.begun)
 
 -- one that is no longer than its receive is delivered as it was received
-pub message_at : (h : ReceiveState) (segment : Segment) (message : List ℕ) → message_completed h segment ≡ Some message → length message ≤ send_max → MessageAt h segment message
-message_at h (Tagged last opcode stag to payload) message is le = absurd cc
-message_at h (Untagged last opcode w queue msn offset payload) message is le = by (is_send opcode) refl last refl
+pub message_at : (len : ℕ) (h : ReceiveState) (segment : Segment) (message : List ℕ) → message_completed h segment ≡ Some message → length message ≤ len → MessageAt len h segment message
+message_at len h (Tagged last opcode stag to payload) message is le = absurd cc
+message_at len h (Untagged last opcode w queue msn offset payload) message is le = by (is_send opcode) refl last refl
   where
     other : (b : Bool) → eqb opcode OPCODE_SEND ≡ b → b ≡ true → eqb opcode OPCODE_READ_REQUEST ≡ false
     other true e t = (let three : opcode ≡ 3 = eqb-true opcode 3 e in ap (λ (n : ℕ). eqb n OPCODE_READ_REQUEST) three)
     other false e t = absurd cc
 
-    by : (b : Bool) → is_send opcode ≡ b → (l : Bool) → last ≡ l → MessageAt h (Untagged last opcode w queue msn offset payload) message
+    by : (b : Bool) → is_send opcode ≡ b → (l : Bool) → last ≡ l → MessageAt len h (Untagged last opcode w queue msn offset payload) message
     by true send true whole = record {
-      whole = messages_alike send_max h (Untagged last opcode w queue msn offset payload) message is le;
+      whole = messages_alike len h (Untagged last opcode w queue msn offset payload) message is le;
       no_request = ap (λ (b : Bool). cond b (Some (read_request_in payload)) None) (other (is_send opcode) refl send);
       begun = λ i. (cond (send i) (send_continued h (whole i) payload) (cond (eqb opcode OPCODE_READ_REQUEST) (record { sends = h.sends; begun = h.begun; requests = h.requests + 1 }) h)).begun;
-      takes = (λ i. send i && not (begun_is h.begun i));
+      takes = (λ i. send i && not (begun_is len h.begun i));
     }
     by true send false whole = absurd (let wrong : None ≡ Some message = (λ i. cond (sym send i && sym whole i) (Some (begun_bytes h.begun ++ payload)) None) ∙ is in cc)
     by false send l whole = absurd (let wrong : None ≡ Some message = (λ i. cond (sym send i && last) (Some (begun_bytes h.begun ++ payload)) None) ∙ is in cc)
@@ -85,22 +84,22 @@ unfoldable pub after_message : ReceiveQueue → Segment → ReceiveQueue
 after_message q segment = posted (delivered (with_segment segment q))
 
 -- once it was delivered and its receive was posted again, the receive is free
-pub record IsFreed (q : ReceiveQueue) (h : ReceiveState) (segment : Segment) : Type 0 where
-  pub receive_length : (after_message q segment).receive_length ≡ send_max
-  pub received : (after_message q segment).received ≡ received_within send_max (received_after h segment)
+pub record IsFreed (len : ℕ) (q : ReceiveQueue) (h : ReceiveState) (segment : Segment) : Type 0 where
+  pub receive_length : (after_message q segment).receive_length ≡ len
+  pub received : (after_message q segment).received ≡ received_within len (received_after h segment)
   pub receive : (after_message q segment).free + sends_begun (received_after h segment).begun ≡ 1
   pub none_lent : (after_message q segment).lent ≡ 0
   pub none_waits : (after_message q segment).deliveries ≡ []
 
-pub is_freed : (q : ReceiveQueue) (h : ReceiveState) (segment : Segment) (message : List ℕ) → q.receive_length ≡ send_max → q.received ≡ received_within send_max h → q.free + sends_begun h.begun ≡ 1 → q.lent ≡ 0 → q.deliveries ≡ [] → MessageAt h segment message → IsFreed q h segment
+pub is_freed : (len : ℕ) (q : ReceiveQueue) (h : ReceiveState) (segment : Segment) (message : List ℕ) → q.receive_length ≡ len → q.received ≡ received_within len h → q.free + sends_begun h.begun ≡ 1 → q.lent ≡ 0 → q.deliveries ≡ [] → MessageAt len h segment message → IsFreed len q h segment
 unfolding after_message with_segment
-is_freed q h segment message len received free lent none m =
+is_freed len q h segment message length_is received free lent none m =
     let takes : takes_receive q.received segment ≡ not (is_begun h.begun) = ap (λ (r : ReceiveState). takes_receive r segment) received ∙ m.takes in
     let told_is : q.deliveries ++ message_deliveries (q.received.sends + 1) (message_completed q.received segment) ≡ MessageReceived (q.received.sends + 1) None message ∷ [] =
     (λ i. none i ++ message_deliveries (q.received.sends + 1) (message_completed (received i) segment)) ∙ ap (message_deliveries (q.received.sends + 1)) m.whole in
     record {
-      receive_length = len;
-      received = received_next q h segment len received;
+      receive_length = length_is;
+      received = received_next len q h segment length_is received;
       receive =
           (λ i. (cond (takes i) (q.free - 1) q.free + 1) + sends_begun (m.begun i)) ∙ (let one = freed q.free h.begun free in omega (arith, one));
       none_lent = (let one : lent_for (q.deliveries ++ message_deliveries (q.received.sends + 1) (message_completed q.received segment)) ≡ 1 = ap lent_for told_is in omega (arith, lent, one));

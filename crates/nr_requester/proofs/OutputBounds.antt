@@ -11,11 +11,11 @@ use Rattle.nr_wire.specs.Segment.{Segment, encoding, header, control, payload_in
 use Rattle.nr_wire.specs.Segment.Segment.{Tagged, Untagged}
 use Rattle.nr_wire.specs.Constants.{LENGTH_LEN, OPCODE_SEND, OPCODE_READ_RESPONSE, OPCODE_TERMINATE, QUEUE_SEND, QUEUE_TERMINATE}
 use Rattle.nr_wire.proofs.HalfWords.{length_half_word}
-use Rattle.nr_link.specs.Limits.{segment_max, send_max}
+use Rattle.nr_link.specs.Limits.{segment_max}
 use Rattle.nr_link.specs.Output.{msn_word, cut, segment_count, segment_payload, send, read_response, terminate_message}
 use Rattle.nr_endpoint.specs.SendQueue.{SendQueue, next_number, ends_left, with_send, send_output, with_response, fpdus_written, written}
 use Rattle.nr_endpoint.proofs.ItemEnds.{left_twice, left_kept}
-use Rattle.nr_requester.specs.HeldBytes.{frame_max, region_max, response_max, QueueFits}
+use Rattle.nr_requester.specs.HeldBytes.{frame_max, region_max, receive_max, send_frames_max, response_max, QueueFits}
 
 -- ---- The bytes of a message
 
@@ -79,7 +79,7 @@ cut_len segment bytes of =
         let len : length (payload_in s) ≡ length (segment_payload bytes i) = ap (λ (xs : List ℕ). length xs) is in
         omega (arith, encoding_len s, len, length-take segment_max (drop (segment_max * i) bytes))
 
-pub send_len : (msn : ℕ) (message : List ℕ) → length message ≤ send_max → length (send msn message) ≤ frame_max
+pub send_len : (msn : ℕ) (message : List ℕ) → length message ≤ receive_max → length (send msn message) ≤ send_frames_max
 unfolding send
 send_len msn message small =
     let len = cut_len (λ last offset payload. Untagged last OPCODE_SEND 0 QUEUE_SEND (msn_word msn) offset payload) message (λ last offset payload. refl) in
@@ -125,7 +125,7 @@ count_fewer n (end ∷ ends) =
 
 -- ---- A queue stays within its bounds
 
-pub send_fits : (q : SendQueue) (message : List ℕ) → length message ≤ send_max → QueueFits false q → QueueFits false (with_send message q)
+pub send_fits : (q : SendQueue) (message : List ℕ) → length message ≤ receive_max → QueueFits false q → QueueFits false (with_send message q)
 send_fits q message small fits n =
     let out : List ℕ = send_output q message in
     let len = length-append q.fpdus out in

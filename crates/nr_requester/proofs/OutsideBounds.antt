@@ -11,6 +11,7 @@ use Rattle.nr_regions.specs.RegisteredMemory.{RegisteredMemory, Outside, outside
 use Rattle.nr_regions.specs.Table.{IsTotal}
 use Rattle.nr_regions.proofs.Totals.{sound_initial, sound_register, sound_release}
 use Rattle.nr_wire.specs.declared.hello.Side.TheVariants.{Initiator}
+use Rattle.nr_link.specs.declared.agreement.SideTerms.{SideTerms}
 use Rattle.nr_endpoint.specs.declared.offering.Offered.{Offered}
 use Rattle.nr_endpoint.specs.EndpointState.{EndpointState}
 use Rattle.nr_endpoint.specs.LinkState.{LinkSide, initial_link}
@@ -21,13 +22,13 @@ use Rattle.nr_requester.specs.HeldBytes.{NothingOutside}
 
 -- ---- As it is opened
 
-initial_next : (first_stag : ℕ) → (initial_link Initiator 1 first_stag None).state.memory.next ≡ first_stag
+initial_next : (first_stag : ℕ) (terms : SideTerms) → (initial_link Initiator 1 first_stag terms).state.memory.next ≡ first_stag
 unfolding initial_link initial_memory
-initial_next first_stag = refl
+initial_next first_stag terms = refl
 
-pub opened_outside : (e : EndpointState) (first_stag : ℕ) → e.link ≡ initial_link Initiator 1 first_stag None → e.outside ≡ empty → first_stag ≤ 2 ^ 32 → NothingOutside e
-opened_outside e first_stag is none fits =
-    let next : e.link.state.memory.next ≡ first_stag = ap (λ (l : LinkSide). l.state.memory.next) is ∙ initial_next first_stag in
+pub opened_outside : (e : EndpointState) (first_stag : ℕ) (terms : SideTerms) → e.link ≡ initial_link Initiator 1 first_stag terms → e.outside ≡ empty → first_stag ≤ 2 ^ 32 → NothingOutside e
+opened_outside e first_stag terms is none fits =
+    let next : e.link.state.memory.next ≡ first_stag = ap (λ (l : LinkSide). l.state.memory.next) is ∙ initial_next first_stag terms in
     subst (λ (n : ℕ). IsTotal outside_len n 0 e.outside) (sym next) (subst (λ (m : FinMap nat_cmp Outside). IsTotal outside_len first_stag 0 m) (sym none) (sound_initial outside_len first_stag fits))
 
 -- ---- A region is released

@@ -1,16 +1,19 @@
 -- What a plan offers is short.
-use Rattle.std.proofs.Common.{◌≡◌, ℕ, ◌+◌, ◌-◌, ◌≤◌, List, [], length, take, drop, replicate, sum, Option, None, Some, Result, Ok, sym, subst, arith, length-append}
+use Rattle.std.proofs.Common.{◌≡◌, ℕ, ◌+◌, ◌-◌, ◌≤◌, Bool, true, false, cond, not, ◌&&◌, eqb, leb, List, [], length, take, drop, replicate, sum, Option, None, Some, Result, Ok, refl, sym, ap, subst, arith, length-append}
 use Rattle.std.proofs.lemmas.List.{length-take, length-drop, length-replicate}
-use Rattle.nr_header.specs.Constants.{PAYLOAD_MAX}
-use Rattle.nr_link.specs.Limits.{send_max}
+use Rattle.nr_header.specs.Constants.{HEADER_LEN_MIN, PAYLOAD_MAX}
 use Rattle.nr_reduce.specs.declared.call.Form.{Form}
 use Rattle.nr_reduce.specs.declared.call.Form.TheVariants as forms
 use Rattle.nr_reduce.specs.declared.call.Offer.{Offer}
 use Rattle.nr_reduce.specs.declared.outline.Plan.{Plan}
 use Rattle.nr_reduce.specs.ChunkBytes.{IsNotGiven}
+use Rattle.nr_reduce.specs.Largest.{largest_reply}
 use Rattle.nr_reduce.specs.Limits.{given_max}
-use Rattle.nr_reduce.specs.Plans.{TooLarge, total, given_region, given_read, given_total, given_within, plan_size, plan_in_form, within, plan_of}
-use Rattle.nr_reduce.proofs.PlanKinds.{Offering, offered, IsSmall, MessageKind, shape, IsPlan, is_plan, within_ok_lem}
+use Rattle.nr_reduce.specs.declared.item.Item.{Item}
+use Rattle.nr_reduce.specs.declared.item.Of.TheVariants.{Call}
+use Rattle.nr_reduce.specs.Items.{reducible_item}
+use Rattle.nr_reduce.specs.Plans.{TooLarge, total, inline_plan, chunk_for, write_offer, offering, auto_offer, reduced_plan, reduced_plan_by, long_plan, given_region, given_read, given_total, given_within, plan_size, plan_in_form, within, plan_of}
+use Rattle.nr_reduce.proofs.PlanKinds.{Offering, offered, IsSmall, largest_small, write_offering, MessageKind, shape, IsPlan, is_plan, within_ok_lem}
 use Rattle.nr_reduce.proofs.PlanKinds.Offering.{Nothing, One}
 use Rattle.nr_reduce.proofs.PlanKinds.MessageKind.{Short, Chunked, Long}
 use Rattle.nr_reduce.proofs.Sizes.{is_formed}
@@ -25,22 +28,62 @@ kind_region payload Short w r h = omega arith
 kind_region payload (Chunked i) w r h = omega (arith, h, length-take i.len (drop i.pos payload), length-drop i.pos payload)
 kind_region payload Long w r h = h
 
-shape_fits : (payload : List ℕ) (kind : MessageKind) (w r : Offering) → length payload ≤ PAYLOAD_MAX → IsSmall w → IsSmall r → PlanFits (shape payload kind (offered w) (offered r))
-shape_fits payload kind w r h write reply =
-    let a = kind_region payload kind (offered w) (offered r) h in
-    let b = small_total w write in
-    let c = small_total r reply in
-    by kind a b c
-  where
-    by : (k : MessageKind) → length (shape payload k (offered w) (offered r)).region ≤ PAYLOAD_MAX → total (offered w) ≤ 40000 → total (offered r) ≤ 40000 → PlanFits (shape payload k (offered w) (offered r))
-    by Short a b c = record { region = omega (arith, a); write = omega (arith, b); reply = omega (arith, c); all = omega (arith, a, b, c); back = omega (arith, b, c) }
-    by (Chunked i) a b c = record { region = omega (arith, a); write = omega (arith, b); reply = omega (arith, c); all = omega (arith, a, b, c); back = omega (arith, b, c) }
-    by Long a b c = record { region = omega (arith, a); write = omega (arith, b); reply = omega (arith, c); all = omega (arith, a, b, c); back = omega (arith, b, c) }
+-- What goes back of a call in a form of its own goes through one chunk.
+abbrev IsBack : Plan → Type 0
+IsBack p = total p.write + total p.reply ≤ 40000
 
-own_fits : (payload : List ℕ) (form : Form) (p : Plan) → IsNotGiven form → plan_of payload form send_max send_max ≡ Ok p → PlanFits p
-own_fits payload form p own is =
-    let plan : IsPlan payload form send_max send_max p = is_plan payload form send_max send_max p own is in
-    subst PlanFits (sym plan.shaped.is) (shape_fits payload plan.shaped.kind plan.shaped.write plan.shaped.reply plan.payload_fits plan.shaped.write_small plan.shaped.reply_small)
+back_if : (b : Bool) (p q : Plan) → IsBack p → IsBack q → IsBack (cond b p q)
+back_if true p q h k = h
+back_if false p q h k = k
+
+reduced_back : (payload : List ℕ) (p : Plan) → IsBack p → IsBack (reduced_plan payload p)
+unfolding reduced_plan
+reduced_back payload p h = by (reducible_item Call payload)
+  where
+    by : (o : Option Item) → IsBack (reduced_plan_by payload p o)
+    by None = h
+    by (Some i) = h
+
+write_small : (payload : List ℕ) → total (chunk_for (write_offer payload)) ≤ 40000
+write_small payload = (let o = write_offering payload in subst (λ (w : Option (List ℕ)). total w ≤ 40000) (sym o.is) (small_total o.offering o.small))
+
+offering_back : (payload : List ℕ) → IsBack (offering payload (write_offer payload) (inline_plan payload))
+offering_back payload = by (write_offer payload) refl
+  where
+    by : (o : Option ℕ) → write_offer payload ≡ o → IsBack (offering payload o (inline_plan payload))
+    by None e = omega (arith, largest_small payload)
+    by (Some n) e = (let same : total (chunk_for (write_offer payload)) ≡ total (chunk_for (Some n)) = ap (λ (w : Option ℕ). total (chunk_for w)) e in omega (arith, same, write_small payload))
+
+inline_back : (payload : List ℕ) → IsBack (inline_plan payload)
+inline_back payload = omega arith
+
+form_back : (payload : List ℕ) (form : Form) (up down : ℕ) → IsNotGiven form → IsBack (plan_in_form payload form up down)
+form_back payload forms.Auto up down own =
+    let p : Plan = auto_offer payload down (inline_plan payload) in
+    let h : IsBack p = back_if (leb (HEADER_LEN_MIN + largest_reply payload) down) (inline_plan payload) (offering payload (write_offer payload) (inline_plan payload)) (inline_back payload) (offering_back payload) in
+    let reduced : Plan = reduced_plan payload p in
+    let long : Plan = long_plan payload p in
+    let fits : Bool = not (eqb (length reduced.read) 0) && leb (plan_size reduced) up in
+    back_if (leb (plan_size p) up) p (cond fits reduced long) h (back_if fits reduced long (reduced_back payload p h) h)
+form_back payload forms.Inline up down own = inline_back payload
+form_back payload forms.Chunk up down own =
+    reduced_back payload (record (inline_plan payload) { write = chunk_for (write_offer payload) }) (omega (arith, write_small payload))
+form_back payload forms.Long up down own = omega (arith, largest_small payload)
+form_back payload (forms.Given offer) up down own = absurd own
+
+shape_fits : (payload : List ℕ) (kind : MessageKind) (w r : Offering) → length payload ≤ PAYLOAD_MAX → IsBack (shape payload kind (offered w) (offered r)) → PlanFits (shape payload kind (offered w) (offered r))
+shape_fits payload kind w r h back = by kind (kind_region payload kind (offered w) (offered r) h) back
+  where
+    by : (k : MessageKind) → length (shape payload k (offered w) (offered r)).region ≤ PAYLOAD_MAX → IsBack (shape payload k (offered w) (offered r)) → PlanFits (shape payload k (offered w) (offered r))
+    by Short a b = record { region = omega (arith, a); write = omega (arith, b); reply = omega (arith, b); all = omega (arith, a, b); back = omega (arith, b) }
+    by (Chunked i) a b = record { region = omega (arith, a); write = omega (arith, b); reply = omega (arith, b); all = omega (arith, a, b); back = omega (arith, b) }
+    by Long a b = record { region = omega (arith, a); write = omega (arith, b); reply = omega (arith, b); all = omega (arith, a, b); back = omega (arith, b) }
+
+own_fits : (payload : List ℕ) (form : Form) (up down : ℕ) (p : Plan) → IsNotGiven form → plan_of payload form up down ≡ Ok p → PlanFits p
+own_fits payload form up down p own is =
+    let plan : IsPlan payload form up down p = is_plan payload form up down p own is in
+    let back : IsBack p = subst IsBack (is_formed payload form up down p is).is (form_back payload form up down own) in
+    subst PlanFits (sym plan.shaped.is) (shape_fits payload plan.shaped.kind plan.shaped.write plan.shaped.reply plan.payload_fits (subst IsBack plan.shaped.is back))
 
 -- a given offer
 given_len : (payload : List ℕ) (at size : ℕ) → length (given_region payload at size) ≡ size
@@ -59,24 +102,24 @@ read_fits payload at (Some lengths) w r h =
     let len = given_len payload at (sum lengths) in
     record { region = omega (arith, h, len); write = omega (arith, h); reply = omega (arith, h); all = omega (arith, h, len); back = omega (arith, h) }
 
-given_small : (payload : List ℕ) (offer : Offer) (p : Plan) → plan_of payload (forms.Given offer) send_max send_max ≡ Ok p → given_total offer ≤ given_max
+given_small : (payload : List ℕ) (offer : Offer) (up down : ℕ) (p : Plan) → plan_of payload (forms.Given offer) up down ≡ Ok p → given_total offer ≤ given_max
 unfolding plan_of
-given_small payload offer p is =
-    let q : Plan = plan_in_form payload (forms.Given offer) send_max send_max in
-    let sent : Result Plan TooLarge = within (plan_size q) send_max (Ok q) in
+given_small payload offer up down p is =
+    let q : Plan = plan_in_form payload (forms.Given offer) up down in
+    let sent : Result Plan TooLarge = within (plan_size q) up (Ok q) in
     (within_ok_lem (given_total offer) given_max sent p (within_ok_lem (length payload) PAYLOAD_MAX (within (given_total offer) given_max sent) p is).1).0
 
-pub plan_bounds : (payload : List ℕ) (form : Form) (p : Plan) → plan_of payload form send_max send_max ≡ Ok p → PlanFits p
-plan_bounds payload forms.Auto p is = own_fits payload forms.Auto p tt is
-plan_bounds payload forms.Inline p is = own_fits payload forms.Inline p tt is
-plan_bounds payload forms.Chunk p is = own_fits payload forms.Chunk p tt is
-plan_bounds payload forms.Long p is = own_fits payload forms.Long p tt is
-plan_bounds payload (forms.Given offer) p is =
-    subst PlanFits (is_formed payload (forms.Given offer) send_max send_max p is).is (read_fits payload offer.read_at offer.read offer.write offer.reply (given_small payload offer p is))
+pub plan_bounds : (payload : List ℕ) (form : Form) (up down : ℕ) (p : Plan) → plan_of payload form up down ≡ Ok p → PlanFits p
+plan_bounds payload forms.Auto up down p is = own_fits payload forms.Auto up down p tt is
+plan_bounds payload forms.Inline up down p is = own_fits payload forms.Inline up down p tt is
+plan_bounds payload forms.Chunk up down p is = own_fits payload forms.Chunk up down p tt is
+plan_bounds payload forms.Long up down p is = own_fits payload forms.Long up down p tt is
+plan_bounds payload (forms.Given offer) up down p is =
+    subst PlanFits (is_formed payload (forms.Given offer) up down p is).is (read_fits payload offer.read_at offer.read offer.write offer.reply (given_small payload offer up down p is))
 
 -- a payload that has a plan
-pub payload_small : (payload : List ℕ) (form : Form) (p : Plan) → plan_of payload form send_max send_max ≡ Ok p → length payload ≤ PAYLOAD_MAX
+pub payload_small : (payload : List ℕ) (form : Form) (up down : ℕ) (p : Plan) → plan_of payload form up down ≡ Ok p → length payload ≤ PAYLOAD_MAX
 unfolding plan_of
-payload_small payload form p is =
-    let q : Plan = plan_in_form payload form send_max send_max in
-    (within_ok_lem (length payload) PAYLOAD_MAX (given_within form (within (plan_size q) send_max (Ok q))) p is).0
+payload_small payload form up down p is =
+    let q : Plan = plan_in_form payload form up down in
+    (within_ok_lem (length payload) PAYLOAD_MAX (given_within form (within (plan_size q) up (Ok q))) p is).0

@@ -14,14 +14,15 @@ use Rattle.nr_reduce.specs.declared.call.Submission.TheVariants as submissions
 use Rattle.nr_reduce.specs.declared.mark.LinkParameters.{LinkParameters}
 use Rattle.nr_reduce.specs.declared.mark.Mark.{Mark}
 use Rattle.nr_reduce.specs.declared.mark.Mark.TheVariants as marks
-use Rattle.nr_reduce.specs.ClientState.{client_memory_at}
+use Rattle.nr_reduce.specs.ClientState.{ClientState, client_memory_at}
+use Rattle.nr_reduce.specs.EndRules.{EndState}
 use Rattle.nr_reduce.specs.History.{bytes_received}
 use Rattle.nr_reduce.specs.Run.{client, placed_bytes, grants_of}
 use Rattle.nr_reduce.specs.Credits.{calls_outstanding, credits_granted}
 use Rattle.nr_reduce.specs.KeptClient.{bytes_under, HoldsFor}
 use Rattle.nr_requester.specs.RequesterState.{StoredCall, RequesterFeeding, feeding_of, stags_of, kept_call}
 use Rattle.nr_requester.specs.AfterPiece.{requester_ended, after_frame, after_piece}
-use Rattle.nr_requester.specs.Laws.{MemoryAsClient, MemoryOut, CountsOut, RefusesOut, PieceStaysOut}
+use Rattle.nr_requester.specs.Laws.{MemoryAsClient, MemoryOut, AgreesOut, CountsOut, RefusesOut, PieceStaysOut}
 use Rattle.nr_requester.proofs.Answered.{ended_answer}
 use Rattle.nr_requester.proofs.AllMarks.{others_stay_out}
 
@@ -49,6 +50,12 @@ memory_out_lem opened link h stopped run out = stored_hold opened link stopped h
 pub counts_out_lem : CountsOut
 unfolding calls_outstanding credits_granted
 counts_out_lem opened link h stopped run out = (out.out.keeps.outstanding, out.out.keeps.grant)
+
+pub agrees_out_lem : AgreesOut
+agrees_out_lem opened link h stopped run out = (
+  out.out.keeps.up ∙ sym (ap (λ (e : EndState ClientState). e.state.up_max) out.same),
+  out.out.keeps.down ∙ sym (ap (λ (e : EndState ClientState). e.state.down_max) out.same),
+)
 
 pub refuses_out : RefusesOut
 refuses_out opened link h stopped run call form out = (

@@ -57,9 +57,9 @@ module _ (link link2 : LinkSide) (piece : List ℕ) (e : Result ℕ End) (f : Fe
   by_queues m lives = f.queues (same_error ∙ ap the_error m) lives
 
 -- the side ended by the frame
-pub err_step : (link link2 : LinkSide) (sent wished first next grant room : ℕ) (items : List OutstandingCall) (answers : List AnsweredCall) (piece : List ℕ) (e : Result ℕ End) (end : End) → FedOne link link2 piece e → link2.state.ended ≡ Some end → link.state.ended ≡ None →
-    RequesterInvariant link next grant items answers room → IsStep (requester_view link sent wished first next grant items answers) piece (requester_view link2 sent wished first next grant items answers)
-err_step link link2 sent wished first next grant room items answers piece e end f is lives s = by end is (by_other link link2 piece e f end is) (by_memory link link2 piece e f end is) (λ m. by_whole link link2 piece e f end is m (ap (λ (x : Option End). is_some x) lives)) (λ m. by_queues link link2 piece e f end is m (ap (λ (x : Option End). is_some x) lives))
+pub err_step : (link link2 : LinkSide) (len sent wished first next grant room : ℕ) (items : List OutstandingCall) (answers : List AnsweredCall) (piece : List ℕ) (e : Result ℕ End) (end : End) → FedOne link link2 piece e → link2.state.ended ≡ Some end → link.state.ended ≡ None →
+    RequesterInvariant len link next grant items answers room → IsStep (requester_view link sent wished first next grant items answers) piece (requester_view link2 sent wished first next grant items answers)
+err_step link link2 len sent wished first next grant room items answers piece e end f is lives s = by end is (by_other link link2 piece e f end is) (by_memory link link2 piece e f end is) (λ m. by_whole link link2 piece e f end is m (ap (λ (x : Option End). is_some x) lives)) (λ m. by_queues link link2 piece e f end is m (ap (λ (x : Option End). is_some x) lives))
   where
     h : RequesterFeeding
     h = requester_view link sent wished first next grant items answers
@@ -77,27 +77,27 @@ err_step link link2 sent wished first next grant room items answers piece e end 
     by (ends.NoBuffer at) ended other memory whole queues = on (ends.NoBuffer at) ended (other (λ eq. cc))
     by (ends.Terminated reason) ended other memory whole queues = on (ends.Terminated reason) ended (other (λ eq. cc))
 
-pub err_sound : (link link2 : LinkSide) (next grant room : ℕ) (items : List OutstandingCall) (answers : List AnsweredCall) (piece : List ℕ) (e : Result ℕ End) (end : End) → FedOne link link2 piece e → link2.state.ended ≡ Some end → link.state.ended ≡ None → RequesterInvariant link next grant items answers room → RequesterInvariant link2 next grant items answers room
-err_sound link link2 next grant room items answers piece e end f is lives s = ended_sound link link2 piece next grant room items answers end s lives is (by_other link link2 piece e f end is) (by_memory link link2 piece e f end is)
+pub err_sound : (link link2 : LinkSide) (len next grant room : ℕ) (items : List OutstandingCall) (answers : List AnsweredCall) (piece : List ℕ) (e : Result ℕ End) (end : End) → FedOne link link2 piece e → link2.state.ended ≡ Some end → link.state.ended ≡ None → RequesterInvariant len link next grant items answers room → RequesterInvariant len link2 next grant items answers room
+err_sound link link2 len next grant room items answers piece e end f is lives s = ended_sound link link2 piece len next grant room items answers end s lives is (by_other link link2 piece e f end is) (by_memory link link2 piece e f end is)
 
 -- it went on, and took what came
-pub ok_step : (link link1 link2 : LinkSide) (sent wished first next grant grant2 room n : ℕ) (items items2 : List OutstandingCall) (answers answers2 : List AnsweredCall) (piece : List ℕ) → FedOne link link1 piece (Ok n) → link.state.ended ≡ None → RequesterInvariant link next grant items answers room →
+pub ok_step : (link link1 link2 : LinkSide) (len sent wished first next grant grant2 room n : ℕ) (items items2 : List OutstandingCall) (answers answers2 : List AnsweredCall) (piece : List ℕ) → FedOne link link1 piece (Ok n) → link.state.ended ≡ None → RequesterInvariant len link next grant items answers room →
     TakesDeliveries (requester_view link1 sent wished first next grant items answers) (requester_view link2 sent wished first next grant2 items2 answers2) → IsStep (requester_view link sent wished first next grant items answers) piece (requester_view link2 sent wished first next grant2 items2 answers2)
-ok_step link link1 link2 sent wished first next grant grant2 room n items items2 answers answers2 piece f lives s told =
+ok_step link link1 link2 len sent wished first next grant grant2 room n items items2 answers answers2 piece f lives s told =
     let o = ok_state link link1 piece n f in
     step_told (requester_view link sent wished first next grant items answers) piece lives s.none_waits s.no_reads (requester_view link2 sent wished first next grant2 items2 answers2)
     (ap (λ (l : LinkSide). l.state.ended) (sym o.0) ∙ o.1)
     (subst (λ (l : LinkSide). TakesDeliveries (requester_view l sent wished first next grant items answers) (requester_view link2 sent wished first next grant2 items2 answers2)) o.0 told)
 
-pub ok_ready : (link link1 : LinkSide) (next grant room n : ℕ) (items : List OutstandingCall) (answers : List AnsweredCall) (piece : List ℕ) → FedOne link link1 piece (Ok n) → link.state.ended ≡ None → RequesterInvariant link next grant items answers room → IsReady link1 items answers room
-ok_ready link link1 next grant room n items answers piece f lives s = (let o = ok_state link link1 piece n f in ready_lem link link1 piece next grant room items answers s lives o.0 o.1)
+pub ok_ready : (link link1 : LinkSide) (len next grant room n : ℕ) (items : List OutstandingCall) (answers : List AnsweredCall) (piece : List ℕ) → FedOne link link1 piece (Ok n) → link.state.ended ≡ None → RequesterInvariant len link next grant items answers room → link1.state.receive_queue.receive_length ≡ len → IsReady link1 items answers room
+ok_ready link link1 len next grant room n items answers piece f lives s receive = (let o = ok_state link link1 piece n f in ready_lem link link1 piece len next grant room items answers s lives o.0 o.1 receive)
 
-pub ok_sound : (link link1 link2 : LinkSide) (next grant grant2 room room2 n : ℕ) (items items2 : List OutstandingCall) (answers answers2 : List AnsweredCall) (piece : List ℕ) → FedOne link link1 piece (Ok n) → link.state.ended ≡ None → RequesterInvariant link next grant items answers room →
-    (CallsSound link1.state.memory next items answers room → CallsSound link2.state.memory next items2 answers2 room2) → ((1 ≤ grant) × (grant ≤ credits_max) → (1 ≤ grant2) × (grant2 ≤ credits_max)) → length items2 ≤ length items → IsQuiet link2 → RequesterInvariant link2 next grant2 items2 answers2 room2
-ok_sound link link1 link2 next grant grant2 room room2 n items items2 answers answers2 piece f lives s sound granted fewer quiet =
+pub ok_sound : (link link1 link2 : LinkSide) (len next grant grant2 room room2 n : ℕ) (items items2 : List OutstandingCall) (answers answers2 : List AnsweredCall) (piece : List ℕ) → FedOne link link1 piece (Ok n) → link.state.ended ≡ None → RequesterInvariant len link next grant items answers room →
+    (CallsSound len link1.state.memory next items answers room → CallsSound len link2.state.memory next items2 answers2 room2) → ((1 ≤ grant) × (grant ≤ credits_max) → (1 ≤ grant2) × (grant2 ≤ credits_max)) → length items2 ≤ length items → IsQuiet link2 → RequesterInvariant len link2 next grant2 items2 answers2 room2
+ok_sound link link1 link2 len next grant grant2 room room2 n items items2 answers answers2 piece f lives s sound granted fewer quiet =
     let o = ok_state link link1 piece n f in
     let w : StepLeaves link piece (after_call link (FeedOne piece)) = step_leaves link piece lives s.none_waits s.no_reads in
-    let c = sound (subst (λ (l : LinkSide). CallsSound l.state.memory next items answers room) (sym o.0) (leaves_calls link.state (after_call link (FeedOne piece)).state next room items answers w.leaves (calls_sound link next grant room items answers s))) in
+    let c = sound (subst (λ (l : LinkSide). CallsSound len l.state.memory next items answers room) (sym o.0) (leaves_calls link.state (after_call link (FeedOne piece)).state len next room items answers w.leaves (calls_sound link len next grant room items answers s))) in
     let g = granted (s.some, s.granted) in
     record {
       xid = s.xid;

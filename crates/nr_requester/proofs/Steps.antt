@@ -103,6 +103,7 @@ message_told link0 link1 link2 sent wished first next grant grant2 number items 
               memory = ap (λ (x : LinkSide). x.state.memory) l;
               queue = ap (λ (x : LinkSide). x.state.send_queue) l;
               hello = ap (λ (x : LinkSide). x.state.has_hello) l;
+              agreed = ap (λ (x : LinkSide). x.state.agreed) l;
               place = ap (λ (x : LinkSide). x.state.place) l;
               same = ap (λ (h : RequesterFeeding). h.state) same_calls;
             })
@@ -219,6 +220,7 @@ module _ (h : RequesterFeeding) (piece : List ℕ) (lives : h.state.side.ended �
           memory = out.memory ∙ d.memory;
           queue = out.queue ∙ d.queue;
           hello = out.hello ∙ d.hello;
+          agreed = out.agreed ∙ d.agreed;
           same = out.same;
         };
         whole = w.1;
@@ -254,6 +256,7 @@ module _ (h : RequesterFeeding) (piece : List ℕ) (lives : h.state.side.ended �
           memory = ap (λ (x : RequesterFeeding). x.state.side.memory) a;
           queue = ap (λ (x : RequesterFeeding). x.state.side.send_queue) a;
           hello = ap (λ (x : RequesterFeeding). x.state.side.has_hello) a;
+          agreed = ap (λ (x : RequesterFeeding). x.state.side.agreed) a;
           same = ap (λ (x : RequesterFeeding). x.state) is ∙ ap (λ (t : LinkState). record h.state { side = t }) (sym (ap (λ (x : RequesterFeeding). x.state.side) is));
         };
         whole = whole;
@@ -272,16 +275,16 @@ module _ (h : RequesterFeeding) (piece : List ℕ) (lives : h.state.side.ended �
 
 -- ---- What holds of the code's values
 
-pub calls_sound : (link : LinkSide) (next grant room : ℕ) (items : List OutstandingCall) (answers : List AnsweredCall) → RequesterInvariant link next grant items answers room → CallsSound link.state.memory next items answers room
-calls_sound link next grant room items answers s = record { held = s.held; offers = s.offers; rooms = s.rooms; rising = s.rising; apart = s.apart; has_room = s.has_room }
+pub calls_sound : (link : LinkSide) (len next grant room : ℕ) (items : List OutstandingCall) (answers : List AnsweredCall) → RequesterInvariant len link next grant items answers room → CallsSound len link.state.memory next items answers room
+calls_sound link len next grant room items answers s = record { held = s.held; offers = s.offers; rooms = s.rooms; rising = s.rising; apart = s.apart; has_room = s.has_room }
 
-pub leaves_calls : (s t : LinkState) (next room : ℕ) (items : List OutstandingCall) (answers : List AnsweredCall) → Leaves s t → CallsSound s.memory next items answers room → CallsSound t.memory next items answers room
-leaves_calls s t next room items answers l c =
+pub leaves_calls : (s t : LinkState) (len next room : ℕ) (items : List OutstandingCall) (answers : List AnsweredCall) → Leaves s t → CallsSound len s.memory next items answers room → CallsSound len t.memory next items answers room
+leaves_calls s t len next room items answers l c =
     record { held = held_still s.memory t.memory 0 _ l.held l.next c.held; offers = c.offers; rooms = c.rooms; rising = c.rising; apart = c.apart; has_room = c.has_room }
 
-pub ready_lem : (link link2 : LinkSide) (piece : List ℕ) (next grant room : ℕ) (items : List OutstandingCall) (answers : List AnsweredCall) → RequesterInvariant link next grant items answers room → link.state.ended ≡ None → link2 ≡ after_call link (FeedOne piece) → link2.state.ended ≡ None →
-    IsReady link2 items answers room
-ready_lem link link2 piece next grant room items answers s lives is live2 =
+pub ready_lem : (link link2 : LinkSide) (piece : List ℕ) (len next grant room : ℕ) (items : List OutstandingCall) (answers : List AnsweredCall) → RequesterInvariant len link next grant items answers room → link.state.ended ≡ None → link2 ≡ after_call link (FeedOne piece) → link2.state.ended ≡ None →
+    link2.state.receive_queue.receive_length ≡ len → IsReady link2 items answers room
+ready_lem link link2 piece len next grant room items answers s lives is live2 receive =
     let a : LinkSide = after_call link (FeedOne piece) in
     let w : StepLeaves link piece a = step_leaves link piece lives s.none_waits s.no_reads in
     subst (λ (x : LinkSide). IsReady x items answers room) (sym is) (record {
@@ -290,7 +293,8 @@ ready_lem link link2 piece next grant room items answers s lives is live2 =
       none_lent = w.leaves.lent ∙ s.none_lent;
       no_reads = w.leaves.reads;
       next_xid = next;
-      calls = leaves_calls link.state a.state next room items answers w.leaves (calls_sound link next grant room items answers s);
+      calls = subst (λ (n : ℕ). CallsSound n a.state.memory next items answers room) (sym (ap (λ (x : LinkSide). x.state.receive_queue.receive_length) (sym is) ∙ receive))
+          (leaves_calls link.state a.state len next room items answers w.leaves (calls_sound link len next grant room items answers s));
     })
   where
     by : (a : LinkSide) → StepLeaves link piece a → (a.state.receive_queue.deliveries ≡ []) ⊎ Delivers link.state a.state → (a.state.receive_queue.deliveries ≡ []) ⊎ ((a.rest ≡ []) × (is_whole link.awaited (link.rest ++ piece) ≡ true)) → (a.state.receive_queue.deliveries ≡ []) ⊎ OneWaits a
@@ -299,17 +303,17 @@ ready_lem link link2 piece next grant room items answers s lives is live2 =
     by a w (inr d) (inr r) = inr (record { number = d.number; message = d.message; is = d.is; rest = r.0 })
 
 -- after the step ended the side
-pub ended_sound : (link link2 : LinkSide) (piece : List ℕ) (next grant room : ℕ) (items : List OutstandingCall) (answers : List AnsweredCall) (end : End) → RequesterInvariant link next grant items answers room → link.state.ended ≡ None → link2.state.ended ≡ Some end →
-    (end ≢ ends.Memory → link2 ≡ after_call link (FeedOne piece)) → (end ≡ ends.Memory → link2 ≡ after_call link OutOfMemory) → RequesterInvariant link2 next grant items answers room
+pub ended_sound : (link link2 : LinkSide) (piece : List ℕ) (len next grant room : ℕ) (items : List OutstandingCall) (answers : List AnsweredCall) (end : End) → RequesterInvariant len link next grant items answers room → link.state.ended ≡ None → link2.state.ended ≡ Some end →
+    (end ≢ ends.Memory → link2 ≡ after_call link (FeedOne piece)) → (end ≡ ends.Memory → link2 ≡ after_call link OutOfMemory) → RequesterInvariant len link2 next grant items answers room
 unfolding after_call
-ended_sound link link2 piece next grant room items answers end s lives e other memory = by end e other memory
+ended_sound link link2 piece len next grant room items answers end s lives e other memory = by end e other memory
   where
-    after : (end : End) → link2.state.ended ≡ Some end → link2 ≡ after_call link (FeedOne piece) → RequesterInvariant link2 next grant items answers room
+    after : (end : End) → link2.state.ended ≡ Some end → link2 ≡ after_call link (FeedOne piece) → RequesterInvariant len link2 next grant items answers room
     after end e is =
         let a : LinkSide = after_call link (FeedOne piece) in
         let w : StepLeaves link piece a = step_leaves link piece lives s.none_waits s.no_reads in
-        let c = leaves_calls link.state a.state next room items answers w.leaves (calls_sound link next grant room items answers s) in
-        subst (λ (x : LinkSide). RequesterInvariant x next grant items answers room) (sym is) (record {
+        let c = leaves_calls link.state a.state len next room items answers w.leaves (calls_sound link len next grant room items answers s) in
+        subst (λ (x : LinkSide). RequesterInvariant len x next grant items answers room) (sym is) (record {
           xid = s.xid;
           few = s.few;
           some = s.some;
@@ -325,8 +329,8 @@ ended_sound link link2 piece next grant room items answers end s lives e other m
           has_room = c.has_room;
         })
 
-    out : link2 ≡ after_call link OutOfMemory → RequesterInvariant link2 next grant items answers room
-    out is = subst (λ (x : LinkSide). RequesterInvariant x next grant items answers room) (sym (is ∙ ap (λ (o : Option End). record { awaited = link.awaited; rest = []; state = cond (is_some o) link.state (record link.state { ended = Some ends.Memory }) }) lives)) (record {
+    out : link2 ≡ after_call link OutOfMemory → RequesterInvariant len link2 next grant items answers room
+    out is = subst (λ (x : LinkSide). RequesterInvariant len x next grant items answers room) (sym (is ∙ ap (λ (o : Option End). record { awaited = link.awaited; rest = []; state = cond (is_some o) link.state (record link.state { ended = Some ends.Memory }) }) lives)) (record {
       xid = s.xid;
       few = s.few;
       some = s.some;
@@ -342,7 +346,7 @@ ended_sound link link2 piece next grant room items answers end s lives e other m
       has_room = s.has_room;
     })
 
-    by : (x : End) → link2.state.ended ≡ Some x → (x ≢ ends.Memory → link2 ≡ after_call link (FeedOne piece)) → (x ≡ ends.Memory → link2 ≡ after_call link OutOfMemory) → RequesterInvariant link2 next grant items answers room
+    by : (x : End) → link2.state.ended ≡ Some x → (x ≢ ends.Memory → link2 ≡ after_call link (FeedOne piece)) → (x ≡ ends.Memory → link2 ≡ after_call link OutOfMemory) → RequesterInvariant len link2 next grant items answers room
     by ends.Memory e other memory = out (memory refl)
     by (ends.Bad at reason) e other memory = after (ends.Bad at reason) e (other (λ eq. cc))
     by (ends.Denied stag to why) e other memory = after (ends.Denied stag to why) e (other (λ eq. cc))

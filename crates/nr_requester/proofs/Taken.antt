@@ -50,13 +50,13 @@ same_offers [] (y ∷ ys) h o = absurd h
 same_offers (x ∷ xs) [] h o = absurd h
 same_offers (x ∷ xs) (y ∷ ys) h o = (subst OffersOwn (sym h.0.0) o.0, same_offers xs ys h.1 o.1)
 
-same_rooms : (xs ys : List OutstandingCall) → SameCalls xs ys → AllByRecursion HasRoom xs → AllByRecursion HasRoom ys
-same_rooms [] [] h o = tt
-same_rooms [] (y ∷ ys) h o = absurd h
-same_rooms (x ∷ xs) [] h o = absurd h
-same_rooms (x ∷ xs) (y ∷ ys) h o = (
-  subst HasRoom (sym h.0.0) ((let le = o.0.0 in let lt = o.0.1 in let len = h.0.1.0 in (omega (arith, le, len), omega (arith, lt, len)))),
-  same_rooms xs ys h.1 o.1,
+same_rooms : (len : ℕ) (xs ys : List OutstandingCall) → SameCalls xs ys → AllByRecursion (HasRoom len) xs → AllByRecursion (HasRoom len) ys
+same_rooms len [] [] h o = tt
+same_rooms len [] (y ∷ ys) h o = absurd h
+same_rooms len (x ∷ xs) [] h o = absurd h
+same_rooms len (x ∷ xs) (y ∷ ys) h o = (
+  subst (HasRoom len) (sym h.0.0) ((let le = o.0.0 in let lt = o.0.1 in let same = h.0.1.0 in (omega (arith, le, same), omega (arith, lt, same)))),
+  same_rooms len xs ys h.1 o.1,
 )
 
 same_above : (n : ℕ) (xs ys : List OutstandingCall) → SameCalls xs ys → AllByRecursion (λ (d : OutstandingCall). n < d.xid) xs → AllByRecursion (λ (d : OutstandingCall). n < d.xid) ys
@@ -95,11 +95,11 @@ same_apart next xs ys (a ∷ answers) h o = ((o.0.0, none_alike a.xid xs ys h o.
 pub same_length : (xs ys : List OutstandingCall) → SameCalls xs ys → length ys ≡ length xs
 same_length xs ys h = sym (length-map ys stored_view) ∙ ap (λ (cs : List StoredCall). length cs) (same_views xs ys h) ∙ length-map xs stored_view
 
-pub same_sound : (m : RegisteredMemory) (next room : ℕ) (xs ys : List OutstandingCall) (answers : List AnsweredCall) → SameCalls xs ys → CallsSound m next xs answers room → CallsSound m next ys answers room
-same_sound m next room xs ys answers h s = record {
+pub same_sound : (len : ℕ) (m : RegisteredMemory) (next room : ℕ) (xs ys : List OutstandingCall) (answers : List AnsweredCall) → SameCalls xs ys → CallsSound len m next xs answers room → CallsSound len m next ys answers room
+same_sound len m next room xs ys answers h s = record {
   held = subst (λ (cs : List Rattle.nr_regions.specs.RegisteredMemory.Claim). AreHeldFrom m 0 cs) (sym (same_claims xs ys h)) s.held;
   offers = same_offers xs ys h s.offers;
-  rooms = same_rooms xs ys h s.rooms;
+  rooms = same_rooms len xs ys h s.rooms;
   rising = same_rising next xs ys h s.rising;
   apart = same_apart next xs ys answers h s.apart;
   has_room = (let le = s.has_room in omega (arith, le, same_length xs ys h));
@@ -117,9 +117,9 @@ own_answer next items m c None o lt none = tt
 own_answer next items m c (Some call) None lt none = tt
 own_answer next items m c (Some call) (Some o) lt none = ((lt, none), tt)
 
-pub completed_sound : (m : RegisteredMemory) (next room at : ℕ) (items : List OutstandingCall) (answers : List AnsweredCall) (d : OutstandingCall) (p : Option Call) (o : Option Outcome) → at < length items → CallsSound m next items answers room →
-    CallsSound (released_all m (stags_of (get_or items at d).claims)) next (remove items at) (answers ++ answered_as m (stored_view (get_or items at d)) p o) room
-completed_sound m next room at items answers d p o lt s =
+pub completed_sound : (len : ℕ) (m : RegisteredMemory) (next room at : ℕ) (items : List OutstandingCall) (answers : List AnsweredCall) (d : OutstandingCall) (p : Option Call) (o : Option Outcome) → at < length items → CallsSound len m next items answers room →
+    CallsSound len (released_all m (stags_of (get_or items at d).claims)) next (remove items at) (answers ++ answered_as m (stored_view (get_or items at d)) p o) room
+completed_sound len m next room at items answers d p o lt s =
     let xs : List OutstandingCall = take at items in
     let c : OutstandingCall = get_or items at d in
     let zs : List OutstandingCall = drop (suc at) items in
@@ -127,30 +127,30 @@ completed_sound m next room at items answers d p o lt s =
     let rising : AreRising (xs ++ c ∷ zs) next = subst (λ (ys : List OutstandingCall). AreRising ys next) whole s.rising in
     let r = rising_without xs c zs next rising in
     let none = none_here xs c zs next rising in
-    let len = ap (λ (ys : List OutstandingCall). length ys) whole ∙ length-append xs (c ∷ zs) in
-    let len2 = length-append xs zs in
+    let count = ap (λ (ys : List OutstandingCall). length ys) whole ∙ length-append xs (c ∷ zs) in
+    let count2 = length-append xs zs in
     let more = length-append answers (answered_as m (stored_view c) p o) in
     let one = one_answer m (stored_view c) p o in
     record {
       held = held_without xs c zs m (subst (λ (ys : List OutstandingCall). AreHeldFrom m 0 (all_claims ys)) whole s.held);
       offers = (all_without xs c zs OffersOwn (subst (λ (ys : List OutstandingCall). AllByRecursion OffersOwn ys) whole s.offers)).0;
-      rooms = (all_without xs c zs HasRoom (subst (λ (ys : List OutstandingCall). AllByRecursion HasRoom ys) whole s.rooms)).0;
+      rooms = (all_without xs c zs (HasRoom len) (subst (λ (ys : List OutstandingCall). AllByRecursion (HasRoom len) ys) whole s.rooms)).0;
       rising = r.0;
       apart = all_append (IsAnswered next (xs ++ zs)) answers (answered_as m (stored_view c) p o) (apart_without xs c zs next answers (subst (λ (ys : List OutstandingCall). AllByRecursion (IsAnswered next ys) answers) whole s.apart)) (own_answer next (xs ++ zs) m (stored_view c) p o r.1 none);
-      has_room = (let le = s.has_room in omega (arith, le, len, len2, more, one));
+      has_room = (let le = s.has_room in omega (arith, le, count, count2, more, one));
     }
 
 -- what the verdict makes
-pub judged_gives : (first sent next room at : ℕ) (link link2 : LinkSide) (items mid : List OutstandingCall) (answers answers2 : List AnsweredCall) (grant grant2 : ℕ) (message : List ℕ) (d : OutstandingCall) (outcome : Option Outcome) (memory : Bytes) →
-    kept_verdict (kept_views first sent items) memory message ≡ GivesOutcome (get_or items at d).xid outcome → at < length mid → SameCalls items mid → CallsSound link.state.memory next items answers room → (get_or items at d).xid ≡ (get_or mid at d).xid →
+pub judged_gives : (len first sent next room at : ℕ) (link link2 : LinkSide) (items mid : List OutstandingCall) (answers answers2 : List AnsweredCall) (grant grant2 : ℕ) (message : List ℕ) (d : OutstandingCall) (outcome : Option Outcome) (memory : Bytes) →
+    kept_verdict (kept_views first sent items) memory message ≡ GivesOutcome (get_or items at d).xid outcome → at < length mid → SameCalls items mid → CallsSound len link.state.memory next items answers room → (get_or items at d).xid ≡ (get_or mid at d).xid →
     link2 ≡ with_memory (released_all link.state.memory (stags_of (get_or mid at d).claims)) (after_call link Post) → answers2 ≡ answers ++ answered_as link.state.memory (stored_view (get_or mid at d)) (awaited_call (stored_view (get_or mid at d))) outcome → grant2 ≡ credits_of_word (word_at 8 message) →
     JudgesTo (kept_verdict (kept_views first sent items) memory message) message link link2 items (remove mid at) answers answers2 grant grant2
-judged_gives first sent next room at link link2 items mid answers answers2 grant grant2 message d outcome memory verdict lt same sound xid link_is answers_are grant_is =
+judged_gives len first sent next room at link link2 items mid answers answers2 grant grant2 message d outcome memory verdict lt same sound xid link_is answers_are grant_is =
     let xs : List OutstandingCall = take at mid in
     let c : OutstandingCall = get_or mid at d in
     let zs : List OutstandingCall = drop (suc at) mid in
     let whole : mid ≡ xs ++ c ∷ zs = around mid at d lt in
-    let s : CallsSound link.state.memory next mid answers room = same_sound link.state.memory next room items mid answers same sound in
+    let s : CallsSound len link.state.memory next mid answers room = same_sound len link.state.memory next room items mid answers same sound in
     let rising : AreRising (xs ++ c ∷ zs) next = subst (λ (ys : List OutstandingCall). AreRising ys next) whole s.rising in
     let views : map stored_view items ≡ map stored_view (xs ++ c ∷ zs) = sym (same_views items mid same) ∙ ap (λ (ys : List OutstandingCall). map stored_view ys) whole in
     let of : IsOfCall (map stored_view items) message (get_or items at d).xid = verdict_call first sent (map stored_view items) memory message (get_or items at d).xid outcome verdict in

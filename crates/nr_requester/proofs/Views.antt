@@ -3,6 +3,7 @@ use Rattle.std.proofs.Common.{◌≡◌, ℕ, ◌^◌, ◌≤◌, Bool, ltb, Lis
 use Rattle.std.specs.Prelude.{IfOk, IfErr, OnOk, Option, Result, Ok, Err}
 use Rattle.std.specs.Io.KnownBytes.{Appends}
 use Rattle.nr_wire.specs.declared.hello.Side.TheVariants.{Initiator}
+use Rattle.nr_link.specs.declared.agreement.SideTerms.{SideTerms}
 use Rattle.nr_endpoint.specs.SendQueue.{writable, output_len}
 use Rattle.nr_reduce.specs.Opening.{ClientOpened}
 use Rattle.nr_reduce.specs.declared.mark.Mark.TheVariants as marks
@@ -34,9 +35,9 @@ if_err (Err x) f h = f x h
 
 -- ---- As it is opened
 
-pub opened_stands : (h : RequesterSide) (first_xid first_stag wished : ℕ) → h ≡ opened_as first_xid first_stag wished h.staging → (opened : LinkParameters) (link : ℕ) → opened.first_xid ≡ first_xid → opened.first_stag ≡ first_stag → ClientOpened opened wished → RequesterRepresents opened link h []
-opened_stands h first_xid first_stag wished is opened link xid stag credits =
-    subst (λ (x : RequesterSide). RequesterRepresents opened link x []) ((λ i. opened_as (xid i) (stag i) (credits.0 i) h.staging) ∙ sym is) (begins opened link h.staging credits.1)
+pub opened_stands : (h : RequesterSide) (first_xid first_stag wished : ℕ) (terms : SideTerms) → h ≡ opened_as first_xid first_stag wished terms h.staging → (opened : LinkParameters) (link : ℕ) → opened.first_xid ≡ first_xid → opened.first_stag ≡ first_stag → ClientOpened opened wished terms → RequesterRepresents opened link h []
+opened_stands h first_xid first_stag wished terms is opened link xid stag with =
+    subst (λ (x : RequesterSide). RequesterRepresents opened link x []) ((λ i. opened_as (xid i) (stag i) (with.0 i) (with.1 i) h.staging) ∙ sym is) (begins opened link h.staging)
 
 -- ---- After a drain
 

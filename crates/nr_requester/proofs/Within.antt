@@ -1,8 +1,9 @@
 -- What holds of each requester beside that its calls' regions are held, after each call of its owner and each step of its side of the link.
-use Rattle.std.proofs.Common.{◌≡◌, ℕ, ◌+◌, ◌-◌, ◌^◌, ◌<◌, ◌≤◌, Bool, true, false, List, [], ◌∷◌, ◌++◌, length, Option, None, Some, Ok, refl, sym, ap, subst, ◌∙◌, arith, length-append}
+use Rattle.std.proofs.Common.{◌≡◌, ℕ, ◌+◌, ◌-◌, ◌^◌, ◌<◌, ◌≤◌, max, Bool, true, false, List, [], ◌∷◌, ◌++◌, length, Option, None, Some, Ok, refl, sym, ap, subst, ◌∙◌, arith, length-append}
 use Rattle.std.specs.Prelude.{is_some}
 use Rattle.std.specs.List.{AllByRecursion}
 use Rattle.std.proofs.lemmas.List.{length-drop}
+use Rattle.std.proofs.Math.Nat.{min-le_right}
 use Rattle.std.specs.Ordering.{nat_cmp}
 use Rattle.std.specs.FinMap.{empty, get-empty}
 use Rattle.nr_rpc.specs.Constants.{MACHINE_MAX}
@@ -13,15 +14,18 @@ use Rattle.nr_rpc.specs.declared.cred.Cred.TheVariants as creds
 use Rattle.nr_rpc.specs.Credential.{CanWriteCred}
 use Rattle.nr_rpc.specs.declared.head.CallHead.TheVariants.{Version2}
 use Rattle.nr_rpc.specs.Call.{call_head}
-use Rattle.nr_wire.specs.Constants.{FPDU_MAX, HELLO_LEN}
+use Rattle.nr_wire.specs.Constants.{FPDU_MAX, NUMBERED_TERMS_LEN, UNITS_MAX}
 use Rattle.nr_wire.specs.declared.hello.Side.TheVariants.{Initiator}
 use Rattle.nr_wire.specs.Hello.{hello_encoding, key}
 use Rattle.nr_regions.specs.RegisteredMemory.{RegisteredMemory, initial_memory, held_region, Region}
 use Rattle.nr_regions.proofs.Totals.{sound_initial}
 use Rattle.nr_regions.specs.Table.{region_len}
 use Rattle.nr_link.specs.declared.end.End.{End}
-use Rattle.nr_link.specs.Limits.{send_max, open_reads_max}
-use Rattle.nr_link.specs.Output.{hello_with, own_hello}
+use Rattle.nr_link.specs.Limits.{open_reads_max}
+use Rattle.nr_link.specs.declared.agreement.SideTerms.{SideTerms}
+use Rattle.nr_link.specs.Agreement.{initiator_private}
+use Rattle.nr_link.specs.Output.{hello_with}
+use Rattle.nr_endpoint.specs.Hellos.{receive_length_for}
 use Rattle.nr_endpoint.specs.EndpointState.{EndpointState}
 use Rattle.nr_endpoint.specs.SendQueue.{SendQueue, with_send, written}
 use Rattle.nr_endpoint.specs.LinkState.{LinkState, LinkSide, has_ended, initial_link}
@@ -34,13 +38,14 @@ use Rattle.nr_reduce.specs.declared.outline.Plan.{Plan}
 use Rattle.nr_reduce.specs.ClientState.{call_payload}
 use Rattle.nr_reduce.specs.Plans.{total, plan_of, buffers, call_message, regions_needed}
 use Rattle.nr_reduce.specs.KeptClient.{registered_all}
+use Rattle.nr_reduce.proofs.PrivateData.{initiator_short}
 use Rattle.nr_reduce.proofs.Sizes.{message_size}
 use Rattle.nr_requester.specs.declared.answer.AnsweredCall.{AnsweredCall}
 use Rattle.nr_requester.specs.declared.outstanding.OutstandingCall.{OutstandingCall}
 use Rattle.nr_requester.specs.AfterCalls.{submitted, sent_unless}
 use Rattle.nr_requester.specs.Sending.{IsPlan, offered_of}
 use Rattle.nr_requester.specs.Views.{AreRising}
-use Rattle.nr_requester.specs.HeldBytes.{NothingOutside, cred_bytes, call_bytes, stored_bytes, call_max, QueueFits, LinkFits, RegionsHave, CountsFit, claims_len, claims_total, CallFits, PlanFits, RequesterBounds, reply_room}
+use Rattle.nr_requester.specs.HeldBytes.{NothingOutside, cred_bytes, call_bytes, stored_bytes, receive_max, hello_max, call_max, QueueFits, LinkFits, RegionsHave, CountsFit, claims_len, claims_total, CallFits, PlanFits, RequesterBounds, reply_room}
 use Rattle.nr_requester.proofs.OutputBounds.{send_fits, written_fits, count_fewer}
 use Rattle.nr_requester.proofs.PlanBounds.{plan_bounds, payload_small}
 use Rattle.nr_requester.proofs.OutsideBounds.{opened_outside, same_outside}
@@ -66,40 +71,58 @@ first_regions first_stag fits = (
   sound_initial region_len first_stag fits,
 )
 
-hello_is : length (own_hello Initiator) ≡ HELLO_LEN
+hello_len : (private : List ℕ) → length private ≤ NUMBERED_TERMS_LEN → length (hello_with Initiator private) ≤ hello_max
 unfolding hello_with hello_encoding key half_word
-hello_is = refl
+hello_len private short = omega (arith, short)
 
-hello_small : length (own_hello Initiator) ≤ HELLO_LEN
-hello_small = omega (arith, hello_is)
+-- units that count are at most UNITS_MAX
+receive_small : (terms : SideTerms) → receive_length_for terms ≤ receive_max
+receive_small terms = omega (arith, min-le_right (max terms.units 1) UNITS_MAX)
 
-first_link : (first_stag : ℕ) → first_stag ≤ 2 ^ 32 → LinkFits (initial_link Initiator 1 first_stag None).state × RegionsHave (initial_link Initiator 1 first_stag None).state.memory 0
+first_link : (first_stag : ℕ) (terms : SideTerms) → first_stag ≤ 2 ^ 32 →
+    LinkFits (receive_length_for terms) (initial_link Initiator 1 first_stag terms).state × RegionsHave (initial_link Initiator 1 first_stag terms).state.memory 0
 unfolding initial_link
-first_link first_stag fits =
-    let b = first_regions first_stag fits in
-    (record { side = refl; receives = refl; receive_length = refl; hello = hello_small; queue = λ n. omega arith; responses = omega arith; regions = b.0 }, b.1)
+first_link first_stag terms fits =
+    let b = first_regions first_stag fits in (
+      record {
+        side = refl;
+        receives = refl;
+        receive_length = refl;
+        receive = receive_small terms;
+        up = (omega arith, omega arith);
+        down = (omega arith, omega arith);
+        hello = hello_len (initiator_private terms) (initiator_short terms);
+        queue = λ n. omega arith;
+        responses = omega arith;
+        regions = b.0;
+      },
+      b.1,
+    )
 
-first_counts : (first first_stag : ℕ) → CountsFit first first (initial_link Initiator 1 first_stag None).state.send_queue []
+first_counts : (first first_stag : ℕ) (terms : SideTerms) → CountsFit first first (initial_link Initiator 1 first_stag terms).state.send_queue []
 unfolding initial_link
-first_counts first first_stag = record { waiting = omega arith; numbered = omega arith }
+first_counts first first_stag terms = record { waiting = omega arith; numbered = omega arith }
 
-pub opened_within : (e : EndpointState) (first first_stag next : ℕ) (calls : List OutstandingCall) (answers : List AnsweredCall) → length e.staging ≡ FPDU_MAX → e.outside ≡ empty → e.link ≡ initial_link Initiator 1 first_stag None → first_stag < 2 ^ 32 → next ≡ first → calls ≡ [] → answers ≡ [] → RequesterBounds e first next calls answers
-opened_within e first first_stag next calls answers staging nothing is fits same none empty =
-    let l = first_link first_stag (omega (arith, fits)) in
-    let all : RequesterBounds e first first [] [] = record {
+pub opened_within : (e : EndpointState) (len first first_stag next : ℕ) (terms : SideTerms) (calls : List OutstandingCall) (answers : List AnsweredCall) → length e.staging ≡ FPDU_MAX → e.outside ≡ empty → e.link ≡ initial_link Initiator 1 first_stag terms → len ≡ receive_length_for terms →
+    first_stag < 2 ^ 32 → next ≡ first → calls ≡ [] → answers ≡ [] → RequesterBounds len e first next calls answers
+opened_within e len first first_stag next terms calls answers staging nothing is receives fits same none empty =
+    let l = first_link first_stag terms (omega (arith, fits)) in
+    let all : RequesterBounds (receive_length_for terms) e first first [] [] = record {
       staging = staging;
-      outside = opened_outside e first_stag is nothing (omega (arith, fits));
+      outside = opened_outside e first_stag terms is nothing (omega (arith, fits));
       from = tt;
       order = omega arith;
-      link = subst (λ (x : LinkSide). LinkFits x.state) (sym is) l.0;
+      link = subst (λ (x : LinkSide). LinkFits (receive_length_for terms) x.state) (sym is) l.0;
       regions = subst (λ (x : LinkSide). RegionsHave x.state.memory 0) (sym is) l.1;
-      counts = subst (λ (x : LinkSide). CountsFit first first x.state.send_queue []) (sym is) (first_counts first first_stag);
+      counts = subst (λ (x : LinkSide). CountsFit first first x.state.send_queue []) (sym is) (first_counts first first_stag terms);
       each = tt;
       kept = tt;
       distinct = tt;
     } in
-    subst (λ (n : ℕ). RequesterBounds e first n calls answers) (sym same)
-    (subst (λ (cs : List OutstandingCall). RequesterBounds e first first cs answers) (sym none) (subst (λ (ys : List AnsweredCall). RequesterBounds e first first [] ys) (sym empty) all))
+    subst (λ (n : ℕ). RequesterBounds n e first next calls answers) (sym receives)
+    (subst (λ (n : ℕ). RequesterBounds (receive_length_for terms) e first n calls answers) (sym same)
+    (subst (λ (cs : List OutstandingCall). RequesterBounds (receive_length_for terms) e first first cs answers) (sym none)
+    (subst (λ (ys : List AnsweredCall). RequesterBounds (receive_length_for terms) e first first [] ys) (sym empty) all)))
 
 -- ---- A call more
 
@@ -112,14 +135,15 @@ total_append [] o = omega arith
 total_append (x ∷ xs) o = (let rest = total_append xs o in omega (arith, rest))
 
 -- the message of a plan is queued and its regions are registered
-sent_state : (s : LinkState) (plan : Plan) (xid credit total : ℕ) → IsPlan plan → s.ended ≡ None → s.memory.next + regions_needed plan ≤ 2 ^ 32 → LinkFits s → RegionsHave s.memory total →
-    LinkFits (submitted s (call_message xid credit s.memory.next plan) (buffers s.memory.next plan))
+sent_state : (s : LinkState) (plan : Plan) (len xid credit total : ℕ) → IsPlan plan → s.ended ≡ None → s.memory.next + regions_needed plan ≤ 2 ^ 32 → LinkFits len s → RegionsHave s.memory total →
+    LinkFits len (submitted s (call_message xid credit s.memory.next plan) (buffers s.memory.next plan))
     × RegionsHave (submitted s (call_message xid credit s.memory.next plan) (buffers s.memory.next plan)).memory (total + claims_len (claims_of s.memory (offered_of plan)))
-sent_state s plan xid credit total i lives stags l have =
+sent_state s plan len xid credit total i lives stags l have =
     let live : has_ended s ≡ false = ap (λ (x : Option End). is_some x) lives in
-    let fits : PlanFits plan = plan_bounds i.payload i.form plan i.is in
+    let fits : PlanFits plan = plan_bounds i.payload i.form i.up i.down plan i.is in
     let message : List ℕ = call_message xid credit s.memory.next plan in
-    let small = (message_size i.payload i.form send_max send_max xid credit s.memory.next plan i.is).1 in
+    let size = (message_size i.payload i.form i.up i.down xid credit s.memory.next plan i.is).1 in
+    let small : length message ≤ receive_max = omega (arith, size, i.short) in
     let both = offered_both s.memory (offered_of plan) total (plan_short plan fits) (omega (arith, stags, count_offered plan)) (l.regions, have) in
     let here : registered_all s.memory (buffers s.memory.next plan) ≡ with_offered s.memory (offered_of plan) = registered_offered s.memory s.memory.next plan in
     let after : Both (registered_all s.memory (buffers s.memory.next plan)) (total + claims_len (claims_of s.memory (offered_of plan))) =
@@ -128,6 +152,9 @@ sent_state s plan xid credit total i lives stags l have =
         side = l.side;
         receives = l.receives;
         receive_length = l.receive_length;
+        receive = l.receive;
+        up = l.up;
+        down = l.down;
         hello = l.hello;
         queue = subst (λ (b : Bool). QueueFits b (with_send message s.send_queue)) (sym live) (send_fits s.send_queue message small (subst (λ (b : Bool). QueueFits b s.send_queue) live l.queue));
         responses = l.responses;
@@ -136,32 +163,32 @@ sent_state s plan xid credit total i lives stags l have =
       after.1,
     )
 
-pub sent_within : (e e2 : EndpointState) (first next xid credit : ℕ) (calls calls2 : List OutstandingCall) (answers answers2 : List AnsweredCall) (o : OutstandingCall) (plan : Plan) → RequesterBounds e first next calls answers → AreRising calls next → e2.staging ≡ e.staging → (NothingOutside e → NothingOutside e2) →
+pub sent_within : (e e2 : EndpointState) (len first next xid credit : ℕ) (calls calls2 : List OutstandingCall) (answers answers2 : List AnsweredCall) (o : OutstandingCall) (plan : Plan) → RequesterBounds len e first next calls answers → AreRising calls next → e2.staging ≡ e.staging → (NothingOutside e → NothingOutside e2) →
     e2.link ≡ with_state (submitted e.link.state (call_message xid credit e.link.state.memory.next plan) (buffers e.link.state.memory.next plan)) e.link → IsPlan plan → e.link.state.ended ≡ None →
-    e.link.state.memory.next + regions_needed plan ≤ 2 ^ 32 → o.claims ≡ claims_of e.link.state.memory (offered_of plan) → stored_bytes o.call ≤ call_max → o.room.bytes ≡ [] → o.room.len ≡ reply_room o.offered → o.room.len ≤ send_max + (total plan.write + (total plan.reply + 3)) → o.xid ≡ next → calls2 ≡ calls ++ o ∷ [] → answers2 ≡ answers → RequesterBounds e2 first (next + 1) calls2 answers2
-sent_within e e2 first next xid credit calls calls2 answers answers2 o plan w rising same none link_is i lives stags claims small empty offered room number more kept =
+    e.link.state.memory.next + regions_needed plan ≤ 2 ^ 32 → o.claims ≡ claims_of e.link.state.memory (offered_of plan) → stored_bytes o.call ≤ call_max → o.room.bytes ≡ [] → o.room.len ≡ reply_room len o.offered → o.room.len ≤ len + (total plan.write + (total plan.reply + 3)) → o.xid ≡ next → calls2 ≡ calls ++ o ∷ [] → answers2 ≡ answers → RequesterBounds len e2 first (next + 1) calls2 answers2
+sent_within e e2 len first next xid credit calls calls2 answers answers2 o plan w rising same none link_is i lives stags claims small empty offered room number more kept =
     let s : LinkState = e.link.state in
     let after : LinkState = submitted s (call_message xid credit s.memory.next plan) (buffers s.memory.next plan) in
     let state : e2.link.state ≡ after = ap (λ (l : LinkSide). l.state) link_is in
-    let l = sent_state s plan xid credit (claims_total calls) i lives stags w.link w.regions in
-    let len : claims_len o.claims ≡ claims_len (claims_of s.memory (offered_of plan)) = ap (λ (c : Claims). claims_len c) claims in
-    let sum : claims_total calls + claims_len (claims_of s.memory (offered_of plan)) ≡ claims_total (calls ++ o ∷ []) = omega (arith, len, total_append calls o) in
-    let fits : PlanFits plan = plan_bounds i.payload i.form plan i.is in
+    let l = sent_state s plan len xid credit (claims_total calls) i lives stags w.link w.regions in
+    let own : claims_len o.claims ≡ claims_len (claims_of s.memory (offered_of plan)) = ap (λ (c : Claims). claims_len c) claims in
+    let sum : claims_total calls + claims_len (claims_of s.memory (offered_of plan)) ≡ claims_total (calls ++ o ∷ []) = omega (arith, own, total_append calls o) in
+    let fits : PlanFits plan = plan_bounds i.payload i.form i.up i.down plan i.is in
     let short = plan_len s.memory plan fits in
-    let all : RequesterBounds e2 first (next + 1) (calls ++ o ∷ []) answers = record {
+    let all : RequesterBounds len e2 first (next + 1) (calls ++ o ∷ []) answers = record {
       staging = ap (λ (xs : List ℕ). length xs) same ∙ w.staging;
       outside = none w.outside;
       from = all_append (λ (c : OutstandingCall). first ≤ c.xid) calls o w.from (omega (arith, number, w.order));
       order = omega (arith, w.order);
-      link = subst (λ (x : LinkState). LinkFits x) (sym state) l.0;
+      link = subst (λ (x : LinkState). LinkFits len x) (sym state) l.0;
       regions = subst (λ (x : LinkState). RegionsHave x.memory (claims_total (calls ++ o ∷ []))) (sym state) (subst (λ (n : ℕ). RegionsHave after.memory n) sum l.1);
       counts = subst (λ (x : LinkState). CountsFit first (next + 1) x.send_queue (calls ++ o ∷ [])) (sym state)
           (counts_sent first next _ s.send_queue after.send_queue calls o refl refl number w.order w.counts);
-      each = all_append CallFits calls o w.each (record { call = small; offer = omega (arith, len, short); written = (let none : length o.room.bytes ≡ 0 = ap (λ (xs : List ℕ). length xs) empty in omega (arith, none)); room = offered; short = (let back = fits.back in omega (arith, room, back)) });
+      each = all_append (CallFits len) calls o w.each (record { call = small; offer = omega (arith, own, short); written = (let none : length o.room.bytes ≡ 0 = ap (λ (xs : List ℕ). length xs) empty in omega (arith, none)); room = offered; short = (let back = fits.back in omega (arith, room, back, w.link.receive)) });
       kept = w.kept;
       distinct = w.distinct;
     } in
-    subst (λ (cs : List OutstandingCall). RequesterBounds e2 first (next + 1) cs answers2) (sym more) (subst (λ (ys : List AnsweredCall). RequesterBounds e2 first (next + 1) (calls ++ o ∷ []) ys) (sym kept) all)
+    subst (λ (cs : List OutstandingCall). RequesterBounds len e2 first (next + 1) cs answers2) (sym more) (subst (λ (ys : List AnsweredCall). RequesterBounds len e2 first (next + 1) (calls ++ o ∷ []) ys) (sym kept) all)
 
 -- a call that has a plan is short
 cred_small : (cred : Cred) → CanWriteCred cred → cred_bytes cred ≤ MACHINE_MAX
@@ -173,14 +200,14 @@ args_within : (xid : ℕ) (call : Call) → length call.args ≤ length (call_pa
 unfolding call_payload
 args_within xid call = omega (arith, length-append (call_head (Version2 xid call.prog call.vers call.proc call.cred 0)) call.args)
 
-pub call_small : (xid : ℕ) (call : Call) (form : Form) (plan : Plan) → plan_of (call_payload xid call) form send_max send_max ≡ Ok plan → CanWriteCred call.cred → call_bytes call ≤ call_max
-call_small xid call form plan is can =
-    let a = payload_small (call_payload xid call) form plan is in
+pub call_small : (xid : ℕ) (call : Call) (form : Form) (up down : ℕ) (plan : Plan) → plan_of (call_payload xid call) form up down ≡ Ok plan → CanWriteCred call.cred → call_bytes call ≤ call_max
+call_small xid call form up down plan is can =
+    let a = payload_small (call_payload xid call) form up down plan is in
     omega (arith, a, args_within xid call, cred_small call.cred can)
 
 -- ---- A drain
 
-written_hello : (n : ℕ) (q : SendQueue) → length q.hello ≤ HELLO_LEN → length (written n q).hello ≤ HELLO_LEN
+written_hello : (n : ℕ) (q : SendQueue) → length q.hello ≤ hello_max → length (written n q).hello ≤ hello_max
 unfolding written
 written_hello n q h = omega (arith, h, length-drop n q.hello)
 
@@ -188,11 +215,14 @@ written_responses : (n : ℕ) (q : SendQueue) → length q.response_ends ≤ ope
 unfolding written
 written_responses n q h = omega (arith, h, count_fewer (n - length q.hello) q.response_ends)
 
-drained_link : (s : LinkState) (n : ℕ) → LinkFits s → LinkFits (record s { send_queue = written n s.send_queue })
-drained_link s n l = record {
+drained_link : (len : ℕ) (s : LinkState) (n : ℕ) → LinkFits len s → LinkFits len (record s { send_queue = written n s.send_queue })
+drained_link len s n l = record {
   side = l.side;
   receives = l.receives;
   receive_length = l.receive_length;
+  receive = l.receive;
+  up = l.up;
+  down = l.down;
   hello = written_hello n s.send_queue l.hello;
   queue = written_fits (has_ended s) n s.send_queue l.queue;
   responses = written_responses n s.send_queue l.responses;
@@ -203,9 +233,9 @@ drain_is : (link : LinkSide) (n : ℕ) → (after_call link (Drain n)).state ≡
 unfolding after_call
 drain_is link n = refl
 
-pub drained_within : (e e2 : EndpointState) (first next n : ℕ) (calls : List OutstandingCall) (answers : List AnsweredCall) → RequesterBounds e first next calls answers → AreRising calls next → e2.staging ≡ e.staging → e2.outside ≡ e.outside → e2.link ≡ after_call e.link (Drain n) →
-    RequesterBounds e2 first next calls answers
-drained_within e e2 first next n calls answers w rising same out is =
+pub drained_within : (e e2 : EndpointState) (len first next n : ℕ) (calls : List OutstandingCall) (answers : List AnsweredCall) → RequesterBounds len e first next calls answers → AreRising calls next → e2.staging ≡ e.staging → e2.outside ≡ e.outside → e2.link ≡ after_call e.link (Drain n) →
+    RequesterBounds len e2 first next calls answers
+drained_within e e2 len first next n calls answers w rising same out is =
     let s : LinkState = e.link.state in
     let state : e2.link.state ≡ record s { send_queue = written n s.send_queue } = ap (λ (l : LinkSide). l.state) is ∙ drain_is e.link n in
     record {
@@ -213,7 +243,7 @@ drained_within e e2 first next n calls answers w rising same out is =
       outside = same_outside e e2 (ap (λ (x : LinkState). x.memory.next) state) out w.outside;
       from = w.from;
       order = w.order;
-      link = subst (λ (x : LinkState). LinkFits x) (sym state) (drained_link s n w.link);
+      link = subst (λ (x : LinkState). LinkFits len x) (sym state) (drained_link len s n w.link);
       regions = subst (λ (x : LinkState). RegionsHave x.memory (claims_total calls)) (sym state) w.regions;
       counts = subst (λ (x : LinkState). CountsFit first next x.send_queue calls) (sym state) (counts_written n first next s.send_queue calls rising w.from w.counts);
       each = w.each;

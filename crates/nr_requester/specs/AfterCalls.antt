@@ -3,6 +3,7 @@ use Rattle.std.specs.Prelude.{ℕ, ◌+◌, Bool, true, false, not, ◌==◌, if
 use Rattle.std.specs.List.{filter, find}
 use Rattle.nr_wire.specs.declared.hello.Side.TheVariants.{Initiator, Responder}
 use Rattle.nr_wire.specs.declared.stream.Awaited.TheVariants.{Hello as HelloFrom}
+use Rattle.nr_link.specs.declared.agreement.SideTerms.{SideTerms}
 use Rattle.nr_endpoint.specs.LinkState.{LinkState, has_ended, initial_state}
 use Rattle.nr_regions.specs.RegisteredMemory.{RegisteredMemory}
 use Rattle.nr_endpoint.specs.SendQueue.{written, with_send}
@@ -17,11 +18,11 @@ use Rattle.nr_requester.specs.RequesterState.{stags_of, StoredCall, RequesterSid
 use Rattle.nr_requester.specs.CountedMarks.{has_bytes, one_mark_more, marks_if}
 use Rattle.nr_requester.specs.Sending.{offered_of}
 
-unfoldable pub opened_as : (first_xid first_stag wished : ℕ) → (staging : List ℕ) → RequesterSide
-opened_as first_xid first_stag wished staging = record {
+unfoldable pub opened_as : (first_xid first_stag wished : ℕ) → SideTerms → (staging : List ℕ) → RequesterSide
+opened_as first_xid first_stag wished terms staging = record {
   awaited = HelloFrom Responder;
   rest = [];
-  state = record { side = initial_state Initiator 1 first_stag None; sent = 0; wished = wished; first_xid = first_xid; next_xid = first_xid; grant = 1; outstanding = []; answered = [] };
+  state = record { side = initial_state Initiator 1 first_stag terms; sent = 0; wished = wished; first_xid = first_xid; next_xid = first_xid; grant = 1; outstanding = []; answered = [] };
   staging = staging;
   marks = 0;
 }

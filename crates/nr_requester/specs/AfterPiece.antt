@@ -108,4 +108,5 @@ pub record RanOut (before after : RequesterFeeding) : Type 0 where
   pub memory : after.state.side.memory ≡ before.state.side.memory
   pub queue : after.state.side.send_queue ≡ before.state.side.send_queue
   pub hello : after.state.side.has_hello ≡ before.state.side.has_hello
+  pub agreed : after.state.side.agreed ≡ before.state.side.agreed
   pub same : after.state ≡ record before.state { side = after.state.side }

@@ -7,16 +7,16 @@ use Rattle.nr_reduce.specs.declared.call.Refused.TheVariants as refusals
 use Rattle.nr_reduce.specs.declared.call.Submission.{Submission}
 use Rattle.nr_reduce.specs.declared.call.Submission.TheVariants as submissions
 use Rattle.nr_reduce.specs.declared.outline.Plan.{Plan}
-use Rattle.nr_reduce.specs.Limits.{numbers_end, send_max}
+use Rattle.nr_reduce.specs.Limits.{numbers_end}
 use Rattle.nr_reduce.specs.Plans.{TooLarge, regions_needed, plan_of}
 use Rattle.nr_reduce.specs.ClientState.{call_payload}
 use Rattle.nr_reduce.specs.SubmitAnswer.{unless_spent}
 use Rattle.nr_requester.specs.RequesterState.{RequesterState, RequesterSide}
 use Rattle.nr_requester.specs.AfterCalls.{after_submit}
 
--- the plan of a call under the next xid
+-- the plan of a call under the next xid, by what is agreed
 abbrev pub plan_under : RequesterState → Call → Form → Result Plan TooLarge
-plan_under r call form = plan_of (call_payload r.next_xid call) form send_max send_max
+plan_under r call form = plan_of (call_payload r.next_xid call) form r.side.agreed.up r.side.agreed.down
 
 abbrev pub answer_by_plan : RequesterState → Result Plan TooLarge → Submission
 answer_by_plan r (Err large) = submissions.Refused (refusals.TooLarge large.need large.room)

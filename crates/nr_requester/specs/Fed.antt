@@ -45,11 +45,12 @@ pub record OneWaits (link : LinkSide) : Type 0 where
   pub is : link.state.receive_queue.deliveries ≡ MessageReceived number None message ∷ []
   pub rest : link.rest ≡ []
 
--- What holds of the calls: their regions are held, and are those that they offer; there is room for their replies and answers; their xids rise.
-pub record CallsSound (m : RegisteredMemory) (next_xid : ℕ) (outstanding : List OutstandingCall) (answered : List AnsweredCall) (room : ℕ) : Type 0 where
+-- What holds of the calls: their regions are held, and are those that they offer; there is room for their replies, in a message of this length,
+-- and for their answers; their xids rise.
+pub record CallsSound (len : ℕ) (m : RegisteredMemory) (next_xid : ℕ) (outstanding : List OutstandingCall) (answered : List AnsweredCall) (room : ℕ) : Type 0 where
   pub held : AreHeldFrom m 0 (all_claims outstanding)
   pub offers : AllByRecursion OffersOwn outstanding
-  pub rooms : AllByRecursion HasRoom outstanding
+  pub rooms : AllByRecursion (HasRoom len) outstanding
   pub rising : AreRising outstanding next_xid
   pub apart : AllByRecursion (IsAnswered next_xid outstanding) answered
   pub has_room : length answered + length outstanding ≤ room
@@ -61,7 +62,7 @@ pub record IsReady (link : LinkSide) (outstanding : List OutstandingCall) (answe
   pub none_lent : link.state.receive_queue.lent ≡ 0
   pub no_reads : link.state.reads ≡ []
   pub next_xid : ℕ
-  pub calls : CallsSound link.state.memory next_xid outstanding answered room
+  pub calls : CallsSound link.state.receive_queue.receive_length link.state.memory next_xid outstanding answered room
 
 -- ---- A message
 
@@ -90,6 +91,7 @@ pub record StoppedOut (before after : RequesterFeeding) : Type 0 where
   pub memory : after.state.side.memory ≡ before.state.side.memory
   pub queue : after.state.side.send_queue ≡ before.state.side.send_queue
   pub hello : after.state.side.has_hello ≡ before.state.side.has_hello
+  pub agreed : after.state.side.agreed ≡ before.state.side.agreed
   pub place : after.state.side.place ≡ before.state.side.place
   pub same : after.state ≡ record before.state { side = after.state.side }
 

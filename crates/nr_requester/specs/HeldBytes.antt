@@ -8,9 +8,10 @@ use Rattle.nr_rpc.specs.declared.cred.Cred.TheVariants as creds
 use Rattle.nr_regions.specs.RegisteredMemory.{Region, RegisteredMemory, Claim, held_region, outside_len}
 use Rattle.nr_endpoint.specs.declared.offering.Claims.{Claims}
 use Rattle.nr_regions.specs.Table.{IsTotal, region_len}
-use Rattle.nr_wire.specs.Constants.{FPDU_MAX, HELLO_LEN}
+use Rattle.nr_wire.specs.Constants.{FPDU_MAX, HELLO_LEN, NUMBERED_TERMS_LEN, UNITS_MAX}
 use Rattle.nr_wire.specs.declared.hello.Side.TheVariants.{Initiator}
 use Rattle.nr_link.specs.Limits.{send_max, open_reads_max}
+use Rattle.nr_link.specs.Agreement.{IsSendLimit}
 use Rattle.nr_endpoint.specs.LinkState.{LinkState, has_ended}
 use Rattle.nr_endpoint.specs.SendQueue.{SendQueue, ends_left}
 use Rattle.nr_endpoint.specs.EndpointState.{EndpointState, bytes_of}
@@ -64,7 +65,7 @@ abbrev pub answers_bytes : List AnsweredCall → ℕ
 answers_bytes [] = 0
 answers_bytes (a ∷ answers) = answer_bytes a + answers_bytes answers
 
--- The room in which the payload of a reply is put together: that of a Send, of the chunks that were offered for it, and of an item's pad.
+-- The room in which the payload of a reply is put together: that of a receive, of the chunks that were offered for it, and of an item's pad.
 abbrev pub chunks_total : List (List RdmaSegment) → ℕ
 chunks_total [] = 0
 chunks_total (chunk ∷ chunks) = chunk_total chunk + chunks_total chunks
@@ -73,17 +74,17 @@ abbrev pub chunk_if : Option (List RdmaSegment) → ℕ
 chunk_if None = 0
 chunk_if (Some chunk) = chunk_total chunk
 
-abbrev pub reply_room : ChunkLists → ℕ
-reply_room offered = send_max + (chunks_total offered.write + (chunk_if offered.reply + 3))
+abbrev pub reply_room : (receive_length : ℕ) → ChunkLists → ℕ
+reply_room receive_length offered = receive_length + (chunks_total offered.write + (chunk_if offered.reply + 3))
 
-abbrev pub rooms_bytes : List StoredCall → ℕ
-rooms_bytes [] = 0
-rooms_bytes (c ∷ calls) = reply_room c.offered + rooms_bytes calls
+abbrev pub rooms_bytes : (receive_length : ℕ) → List StoredCall → ℕ
+rooms_bytes receive_length [] = 0
+rooms_bytes receive_length (c ∷ calls) = reply_room receive_length c.offered + rooms_bytes receive_length calls
 
 -- The bytes of the staging buffer, the receives, the regions and the output, and those of the calls, of the rooms of their replies, and of
 -- the answers.
 unfoldable pub bytes_held_by : RequesterState → ℕ
-bytes_held_by r = FPDU_MAX + bytes_of r.side + calls_bytes r.outstanding + rooms_bytes r.outstanding + answers_bytes r.answered
+bytes_held_by r = FPDU_MAX + bytes_of r.side + calls_bytes r.outstanding + rooms_bytes r.side.receive_queue.receive_length r.outstanding + answers_bytes r.answered
 
 -- ---- Bounds
 
@@ -98,20 +99,31 @@ region_max = given_max
 abbrev pub frame_max : ℕ
 frame_max = 4136
 
+-- the maximum of a receive, and of what is agreed for a Send, in bytes; such a Send has at most four frames
+abbrev pub receive_max : ℕ
+receive_max = send_max * UNITS_MAX
+
+abbrev pub send_frames_max : ℕ
+send_frames_max = 4 * frame_max
+
+-- the maximum of a hello
+abbrev pub hello_max : ℕ
+hello_max = HELLO_LEN + NUMBERED_TERMS_LEN
+
 -- the maximum of a call, and of what it offers, all its regions together
 abbrev pub call_max : ℕ
 call_max = 45056
 
 abbrev pub offer_max : ℕ
-offer_max = 122880
+offer_max = 81920
+
+-- the maximum of what a call offers for its reply
+abbrev pub back_max : ℕ
+back_max = 65536
 
 -- the maximum of the payload of a reply
 abbrev pub held_reply_max : ℕ
 held_reply_max = 94208
-
--- the maximum of what a call offers for its reply
-abbrev pub back_max : ℕ
-back_max = 81920
 
 -- a plan's regions are within these
 pub record PlanFits (p : Plan) : Type 0 where
@@ -130,20 +142,23 @@ abbrev pub last_max : Bool → ℕ
 last_max true = frame_max
 last_max false = 0
 
--- From any offset on, the queue has a frame for each Send and a Read Response for each that ends after it.
+-- From any offset on, the queue has the frames of each Send, and of each Read Response, that ends after it.
 abbrev pub QueueFits : Bool → SendQueue → Type 0
-QueueFits ended q = (n : ℕ) → length q.fpdus - n ≤ frame_max * length (ends_left n q.send_ends) + response_max * length (ends_left n q.response_ends) + last_max ended
+QueueFits ended q = (n : ℕ) → length q.fpdus - n ≤ send_frames_max * length (ends_left n q.send_ends) + response_max * length (ends_left n q.response_ends) + last_max ended
 
 -- no region is longer than it may be
 abbrev pub RegionsFit : RegisteredMemory → Type 0
 RegionsFit m = (stag : ℕ) (region : Region) → held_region m stag ≡ Some region → length region.buf ≤ region_max
 
--- A side of a link whose vectors are within their bounds: it has one receive, and owes at most eight Read Responses.
-pub record LinkFits (s : LinkState) : Type 0 where
+-- A side of a link whose vectors are within their bounds: it has one receive, of this length, and owes at most eight Read Responses.
+pub record LinkFits (len : ℕ) (s : LinkState) : Type 0 where
   pub side : s.side ≡ Initiator
   pub receives : s.receive_queue.receives ≡ 1
-  pub receive_length : s.receive_queue.receive_length ≡ send_max
-  pub hello : length s.send_queue.hello ≤ HELLO_LEN
+  pub receive_length : s.receive_queue.receive_length ≡ len
+  pub receive : len ≤ receive_max
+  pub up : IsSendLimit s.agreed.up
+  pub down : IsSendLimit s.agreed.down
+  pub hello : length s.send_queue.hello ≤ hello_max
   pub queue : QueueFits (has_ended s) s.send_queue
   pub responses : length s.send_queue.response_ends ≤ open_reads_max
   pub regions : RegionsFit s.memory
@@ -181,12 +196,12 @@ abbrev pub claims_total : List OutstandingCall → ℕ
 claims_total [] = 0
 claims_total (c ∷ calls) = claims_len c.claims + claims_total calls
 
--- a call, its regions and the room of its reply are within these, and that room is as long as its offer says
-pub record CallFits (c : OutstandingCall) : Type 0 where
+-- a call, its regions and the room of its reply are within these, and that room is as long as the receive and its offer say
+pub record CallFits (len : ℕ) (c : OutstandingCall) : Type 0 where
   pub call : stored_bytes c.call ≤ call_max
   pub offer : claims_len c.claims ≤ offer_max
   pub written : length c.room.bytes ≤ c.room.len
-  pub room : c.room.len ≡ reply_room c.offered
+  pub room : c.room.len ≡ reply_room len c.offered
   pub short : c.room.len ≤ held_reply_max
 
 -- so are an answered call, its buffers and its reply
@@ -202,18 +217,18 @@ AreDistinct (a ∷ answers) = AllByRecursion (λ (b : AnsweredCall). b.xid ≢ a
 
 -- What holds of each requester beside `RequesterInvariant`: the size of its staging buffer, and the bounds of its side of the link, of its regions, its
 -- calls and its answers; a Send that waits is that of an outstanding call.
-pub record RequesterBounds (e : EndpointState) (first next : ℕ) (calls : List OutstandingCall) (answers : List AnsweredCall) : Type 0 where
+pub record RequesterBounds (len : ℕ) (e : EndpointState) (first next : ℕ) (calls : List OutstandingCall) (answers : List AnsweredCall) : Type 0 where
   pub staging : length e.staging ≡ FPDU_MAX
   pub outside : NothingOutside e
   pub from : AreFrom first calls
   pub order : first ≤ next
-  pub link : LinkFits e.link.state
+  pub link : LinkFits len e.link.state
   pub regions : RegionsHave e.link.state.memory (claims_total calls)
   pub counts : CountsFit first next e.link.state.send_queue calls
-  pub each : AllByRecursion CallFits calls
+  pub each : AllByRecursion (CallFits len) calls
   pub kept : AllByRecursion AnswerFits answers
   pub distinct : AreDistinct answers
 
 -- Of the number of Sends that it knows to have left, each has.
-abbrev pub IsBounded : (sent first next : ℕ) → EndpointState → List OutstandingCall → List AnsweredCall → Type 0
-IsBounded sent first next e calls answers = RequesterBounds e first next calls answers × (sent ≤ e.link.state.send_queue.sends_left)
+abbrev pub IsBounded : (len sent first next : ℕ) → EndpointState → List OutstandingCall → List AnsweredCall → Type 0
+IsBounded len sent first next e calls answers = RequesterBounds len e first next calls answers × (sent ≤ e.link.state.send_queue.sends_left)

@@ -36,7 +36,7 @@ use Rattle.nr_requester.specs.Buffers.{bytes_of_buffers}
 use Rattle.nr_requester.specs.OpenCalls.{open_call, remaining_call, found_answer, buffers_of}
 
 abbrev pub Begins : Type 0
-Begins = (opened : LinkParameters) (link : ℕ) (staging : List ℕ) → opened.client ≡ None → RequesterRepresents opened link (opened_as opened.first_xid opened.first_stag opened.wished staging) []
+Begins = (opened : LinkParameters) (link : ℕ) (staging : List ℕ) → RequesterRepresents opened link (opened_as opened.first_xid opened.first_stag opened.wished opened.client staging) []
 
 -- It answers a call as its client does.
 abbrev pub AnswersAsClient : Type 0
@@ -47,6 +47,11 @@ AnswersAsClient = (opened : LinkParameters) (link : ℕ) (h : RequesterSide) (ru
 abbrev pub CountsAsClient : Type 0
 CountsAsClient = (opened : LinkParameters) (link : ℕ) (h : RequesterSide) (run : List Mark) → RequesterRepresents opened link h run →
     (length h.state.outstanding ≡ calls_outstanding opened link run) × (h.state.grant ≡ credits_granted opened link run)
+
+-- It knows how long a Send may be in each direction, also after an End.
+abbrev pub AgreesAsClient : Type 0
+AgreesAsClient = (opened : LinkParameters) (link : ℕ) (h : RequesterSide) (run : List Mark) → RequesterRepresents opened link h run →
+    (h.state.side.agreed.up ≡ (client opened link run).state.up_max) × (h.state.side.agreed.down ≡ (client opened link run).state.down_max)
 
 -- It counts its marks.
 abbrev pub CountsMarks : Type 0
@@ -146,6 +151,10 @@ MemoryOut = (opened : LinkParameters) (link : ℕ) (h : RequesterSide) (stopped 
 abbrev pub CountsOut : Type 0
 CountsOut = (opened : LinkParameters) (link : ℕ) (h : RequesterSide) (stopped run : List Mark) → RequesterRunsOut opened link h stopped run →
     (length h.state.outstanding ≡ calls_outstanding opened link stopped) × (h.state.grant ≡ credits_granted opened link stopped)
+
+abbrev pub AgreesOut : Type 0
+AgreesOut = (opened : LinkParameters) (link : ℕ) (h : RequesterSide) (stopped run : List Mark) → RequesterRunsOut opened link h stopped run →
+    (h.state.side.agreed.up ≡ (client opened link run).state.up_max) × (h.state.side.agreed.down ≡ (client opened link run).state.down_max)
 
 abbrev pub CountsMarksOut : Type 0
 CountsMarksOut = (opened : LinkParameters) (link : ℕ) (h : RequesterSide) (stopped run : List Mark) → RequesterRunsOut opened link h stopped run → h.marks ≡ counted_marks link run

@@ -10,7 +10,6 @@ use Rattle.nr_endpoint.specs.LinkState.{LinkState}
 use Rattle.nr_endpoint.specs.EndpointState.{cut_frame_len}
 use Rattle.nr_endpoint.specs.SendQueue.{writable}
 use Rattle.nr_reduce.specs.declared.call.Call.{Call}
-use Rattle.nr_reduce.specs.Limits.{send_max}
 use Rattle.nr_reduce.specs.KeptCalls.{KeptCall}
 use Rattle.nr_reduce.specs.KeptClient.{KeptClient}
 use Rattle.nr_requester.specs.declared.answer.AnsweredCall.{AnsweredCall}
@@ -92,8 +91,8 @@ kept_client r = record {
   outstanding = length r.outstanding;
   calls = kept_calls r;
   memory = r.side.memory;
-  up_max = send_max;
-  down_max = send_max;
+  up_max = r.side.agreed.up;
+  down_max = r.side.agreed.down;
 }
 
 abbrev pub input_kept : RequesterSide → InputState

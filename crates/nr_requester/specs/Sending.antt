@@ -5,7 +5,7 @@ use Rattle.nr_rpc.specs.Call.{call_head, call_of_target}
 use Rattle.nr_endpoint.specs.declared.offering.Offered.{Offered}
 use Rattle.nr_reduce.specs.declared.outline.Plan.{Plan}
 use Rattle.nr_reduce.specs.Plans.{has_segment, total, plan_of}
-use Rattle.nr_reduce.specs.Limits.{numbers_end, send_max}
+use Rattle.nr_reduce.specs.Limits.{numbers_end}
 use Rattle.nr_reduce.specs.SubmitAnswer.{unless_spent}
 use Rattle.nr_reduce.specs.CallOutlines.{outline_plan}
 use Rattle.nr_reduce.specs.declared.call.Call.{Call}
@@ -14,6 +14,7 @@ use Rattle.nr_reduce.specs.declared.call.Refused.TheVariants as refusals
 use Rattle.nr_reduce.specs.declared.call.Submission.{Submission}
 use Rattle.nr_reduce.specs.declared.call.Submission.TheVariants as submissions
 use Rattle.nr_requester.specs.RequesterState.{RequesterState}
+use Rattle.nr_requester.specs.HeldBytes.{receive_max}
 use Rattle.nr_requester.specs.declared.messages.PlannedCall.{PlannedCall}
 
 -- the chunks of a plan have few segments
@@ -34,11 +35,14 @@ offered_of p = record {
   reply = some_if (has_segment p.reply) (replicate (total p.reply) 0);
 }
 
--- a plan of a payload in a form, whose Send fits
+-- a plan of a payload in a form, whose Send fits what is agreed
 pub record IsPlan (p : Plan) : Type 0 where
   pub payload : List ℕ
   pub form : Form
-  pub is : plan_of payload form send_max send_max ≡ Ok p
+  pub up : ℕ
+  pub down : ℕ
+  pub short : up ≤ receive_max
+  pub is : plan_of payload form up down ≡ Ok p
 
 -- numbers and a credit are left for a call with `needed` regions
 pub record HasNumbers (r : RequesterState) (needed : ℕ) : Type 0 where

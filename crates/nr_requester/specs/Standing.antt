@@ -1,15 +1,15 @@
 -- The marks that a requester stands for.
-use Rattle.std.specs.Prelude.{◌≡◌, ℕ, ◌+◌, Bool, true, false, not, ◌==◌, List, [], ◌∷◌, ◌++◌, length, None}
+use Rattle.std.specs.Prelude.{◌≡◌, ℕ, ◌+◌, ◌≤◌, Bool, true, false, not, ◌==◌, List, [], ◌∷◌, ◌++◌, length, None}
 use Rattle.nr_wire.specs.declared.hello.Side.TheVariants.{Initiator}
 use Rattle.nr_link.specs.Output.{msn_word}
 use Rattle.nr_link.specs.KeptSends.{received_within}
+use Rattle.nr_endpoint.specs.Hellos.{receive_length_for}
 use Rattle.nr_endpoint.specs.LinkState.{LinkState}
 use Rattle.nr_endpoint.specs.ReceiveQueue.{sends_begun}
 use Rattle.nr_endpoint.specs.SendQueue.{ends_left}
 use Rattle.nr_reduce.specs.declared.mark.LinkParameters.{LinkParameters}
 use Rattle.nr_reduce.specs.declared.mark.Mark.{Mark}
 use Rattle.nr_reduce.specs.declared.mark.Mark.TheVariants as marks
-use Rattle.nr_reduce.specs.Limits.{send_max}
 use Rattle.nr_reduce.specs.Written.{ends_waiting}
 use Rattle.nr_reduce.specs.ClientState.{ClientState}
 use Rattle.nr_reduce.specs.Client.{calls_output, call_ends}
@@ -33,15 +33,17 @@ abbrev pub sends_ends : Bool → LinkParameters → ClientState → List ℕ
 sends_ends true opened k = k.send_ends
 sends_ends false opened k = call_ends opened k.due 1 k.outstanding
 
--- The side of the link of a client in this state, which hasn't ended. It never reads; its one receive is free, or has a Send that is begun.
+-- The side of the link of a client in this state, which hasn't ended. It never reads; its one receive is free, or has a Send that is begun, and
+-- what is agreed for the server's Sends fits it.
 -- Sends of calls that were accepted before the server's hello wait in the queue.
 pub record LinkKeeps (opened : LinkParameters) (s : LinkState) (k : ClientState) : Type 0 where
   pub side : s.side ≡ Initiator
   pub has_hello : s.has_hello ≡ k.has_hello
-  pub receive_length : s.receive_queue.receive_length ≡ send_max
-  pub message_max : s.message_max ≡ send_max
-  pub terms : s.terms ≡ None
-  pub received : s.receive_queue.received ≡ received_within send_max k.received
+  pub receive_length : s.receive_queue.receive_length ≡ receive_length_for opened.client
+  pub message_max : s.message_max ≡ k.down_max
+  pub fits : k.down_max ≤ receive_length_for opened.client
+  pub terms : s.terms ≡ opened.client
+  pub received : s.receive_queue.received ≡ received_within (receive_length_for opened.client) k.received
   pub receive : s.receive_queue.free + sends_begun k.received.begun ≡ 1
   pub none_lent : s.receive_queue.lent ≡ 0
   pub none_waits : s.receive_queue.deliveries ≡ []

@@ -2,7 +2,6 @@
 use Rattle.std.specs.Prelude.{◌≡◌, ℕ, ◌+◌, ◌^◌, ◌<◌, ◌≤◌, ◌==◌, length, List, [], ◌∷◌, map, Option, None, Some, true}
 use Rattle.std.specs.List.{AllByRecursion, find}
 use Rattle.nr_regions.specs.RegisteredMemory.{Claim}
-use Rattle.nr_link.specs.Limits.{send_max}
 use Rattle.nr_endpoint.specs.LinkState.{LinkSide}
 use Rattle.nr_reduce.specs.Limits.{credits_max}
 use Rattle.nr_requester.specs.declared.outstanding.OutstandingCall.{OutstandingCall}
@@ -18,9 +17,9 @@ abbrev pub claim_len : Option Claim → ℕ
 claim_len None = 0
 claim_len (Some claim) = claim.len
 
--- the room in which the payload of the largest reply through a call's chunks is put together
-abbrev pub HasRoom : OutstandingCall → Type 0
-HasRoom c = (send_max + (claim_len c.claims.write + (claim_len c.claims.reply + 3)) ≤ c.room.len) × (c.room.len < 2 ^ 32)
+-- the room in which the payload of the largest reply is put together, in a message of this length and through a call's chunks
+abbrev pub HasRoom : (len : ℕ) → OutstandingCall → Type 0
+HasRoom len c = (len + (claim_len c.claims.write + (claim_len c.claims.reply + 3)) ≤ c.room.len) × (c.room.len < 2 ^ 32)
 
 -- the calls come in the order of their xids, all of which are below this
 abbrev pub AreRising : List OutstandingCall → ℕ → Type 0
@@ -41,8 +40,8 @@ forgot c = record { xid = c.xid; call = c.call; is_forgotten = true; offered = c
 
 -- What holds of each requester: its numbers are in range, a credit is granted, and no more calls are outstanding than can be; no event waits
 -- and no receive is lent; the regions of its calls are held, and are those that the calls offer; xids rise; it reads nothing of
--- its peer; and there is room for each reply, and for the answers of all calls that are outstanding.
-pub record RequesterInvariant (link : LinkSide) (next_xid grant : ℕ) (outstanding : List OutstandingCall) (answered : List AnsweredCall) (room : ℕ) : Type 0 where
+-- its peer; and there is room for each reply, in a message of this length, and for the answers of all calls that are outstanding.
+pub record RequesterInvariant (len : ℕ) (link : LinkSide) (next_xid grant : ℕ) (outstanding : List OutstandingCall) (answered : List AnsweredCall) (room : ℕ) : Type 0 where
   pub xid : next_xid ≤ 2 ^ 32
   pub few : length outstanding ≤ credits_max
   pub some : 1 ≤ grant
@@ -51,7 +50,7 @@ pub record RequesterInvariant (link : LinkSide) (next_xid grant : ℕ) (outstand
   pub none_lent : link.state.receive_queue.lent ≡ 0
   pub held : AreHeldFrom link.state.memory 0 (all_claims outstanding)
   pub offers : AllByRecursion OffersOwn outstanding
-  pub rooms : AllByRecursion HasRoom outstanding
+  pub rooms : AllByRecursion (HasRoom len) outstanding
   pub no_reads : link.state.reads ≡ []
   pub rising : AreRising outstanding next_xid
   pub apart : AllByRecursion (IsAnswered next_xid outstanding) answered

@@ -51,11 +51,13 @@ fn calls_bytes(calls: &[OutstandingCall]) -> u128
     sum
 }
 
-fn rooms_bytes(calls: &[OutstandingCall]) -> u128
+/// The bytes of the rooms, each as long as a receive of this length and what its call offers say.
+fn rooms_bytes(calls: &[OutstandingCall], receive_length: u32) -> u128
     requires few { length calls.now ≤ credits_max }
-    requires fit { AllByRecursion CallFits calls.now }
-    ensures { result ≡ rooms_bytes (map stored_view calls.now) }
+    requires fit { AllByRecursion (CallFits receive_length) calls.now }
+    ensures { result ≡ rooms_bytes receive_length (map stored_view calls.now) }
 {
+    let _ = receive_length;
     let mut sum: u128 = 0;
     for call in calls {
         sum += call.room.len() as u128;
@@ -115,7 +117,7 @@ impl Requester {
         self.endpoint.facts();
         self.endpoint.held()
             + calls_bytes(self.outstanding.as_slice())
-            + rooms_bytes(self.outstanding.as_slice())
+            + rooms_bytes(self.outstanding.as_slice(), self.receive_length)
             + answers_bytes(self.answered.as_slice())
     }
 }

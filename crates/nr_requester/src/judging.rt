@@ -8,7 +8,6 @@ ghost use Rattle.nr_header.specs.Header.{error_body};
 ghost use Rattle.nr_header.specs.Reading.{header_of};
 ghost use Rattle.nr_header.specs.Header.{no_lists};
 ghost use Rattle.nr_header.specs.ReadInto.{body_with, with_lists};
-ghost use Rattle.nr_link.specs.Limits.{send_max};
 ghost use Rattle.nr_reduce.specs.ClientMessages.ReplyVerdict.{GivesOutcome};
 ghost use Rattle.nr_reduce.specs.Chunks.{Bytes};
 ghost use Rattle.nr_reduce.specs.KeptCalls.{KeptCall, kept_body, kept_by, kept_verdict};
@@ -83,9 +82,8 @@ fn found(
 ) -> Result<Found, u32>
     requires held { AreHeldFrom regions.now.memory 0 (call_claims call.old.claims) }
     requires offers { OffersOwn call.old }
-    requires room { HasRoom call.old }
+    requires room { HasRoom (length message.now) call.old }
     requires stream { StreamWithin (body_with kind lists.now) (length message.now) }
-    requires message { length message.now ≤ send_max }
     ensures ok { IfOk result (λ f. (first sent : ℕ) → kept_body (kept_view first sent call.old) (bytes_under regions.now.memory) message.now (body_with kind lists.now) ≡ GivesOutcome call.old.xid (outcome_by f call.new.room.bytes)) }
     ensures within { IfOk result (λ f. LiesWithin f call.new.room.bytes) }
     ensures err { IfErr result (λ reason. (first sent : ℕ) → Ends (kept_body (kept_view first sent call.old) (bytes_under regions.now.memory) message.now (body_with kind lists.now)) reason) }
@@ -131,9 +129,8 @@ fn by_header(
     requires header { with_lists lists.now (Ok header) ≡ header_of message.now }
     requires held { AreHeldFrom regions.now.memory 0 (all_claims calls.old) }
     requires offers { AllByRecursion OffersOwn calls.old }
-    requires rooms { AllByRecursion HasRoom calls.old }
+    requires rooms { AllByRecursion (HasRoom (length message.now)) calls.old }
     requires stream { StreamWithin (body_with header.kind lists.now) (length message.now) }
-    requires message { length message.now ≤ send_max }
     ensures ok { IfOk result (λ f. Brings first_xid sent calls.old calls.new (bytes_under regions.now.memory) message.now f.0 f.1) }
     ensures err { IfErr result (λ reason. Ends (kept_verdict (kept_views first_xid sent calls.old) (bytes_under regions.now.memory) message.now) reason) }
     ensures same { SameCalls calls.old calls.new }
@@ -159,8 +156,8 @@ fn judged(
     requires empty { room.old ≡ no_lists }
     requires held { AreHeldFrom regions.now.memory 0 (all_claims calls.old) }
     requires offers { AllByRecursion OffersOwn calls.old }
-    requires rooms { AllByRecursion HasRoom calls.old }
-    requires message { (16 ≤ length message.now) × (length message.now ≤ send_max) }
+    requires rooms { AllByRecursion (HasRoom (length message.now)) calls.old }
+    requires message { 16 ≤ length message.now }
     ensures ok { IfOk result (λ f. Brings first_xid sent calls.old calls.new (bytes_under regions.now.memory) message.now f.0 f.1) }
     ensures err { IfErr result (λ reason. Ends (kept_verdict (kept_views first_xid sent calls.old) (bytes_under regions.now.memory) message.now) reason) }
     ensures same { SameCalls calls.old calls.new }
@@ -181,8 +178,8 @@ pub fn verdict(
 ) -> Result<(usize, Found), u32>
     requires held { AreHeldFrom regions.now.memory 0 (all_claims calls.old.items) }
     requires offers { AllByRecursion OffersOwn calls.old.items }
-    requires rooms { AllByRecursion HasRoom calls.old.items }
-    requires message { (16 ≤ length message.now) × (length message.now ≤ send_max) }
+    requires rooms { AllByRecursion (HasRoom (length message.now)) calls.old.items }
+    requires message { 16 ≤ length message.now }
     ensures ok { IfOk result (λ f. Brings first_xid sent calls.old.items calls.new.items (bytes_under regions.now.memory) message.now f.0 f.1) }
     ensures err { IfErr result (λ reason. Ends (kept_verdict (kept_views first_xid sent calls.old.items) (bytes_under regions.now.memory) message.now) reason) }
     ensures same { SameCalls calls.old.items calls.new.items }

@@ -3,10 +3,10 @@
 ghost use Rattle.std.specs.Prelude.{◌≡◌, ℕ, ◌+◌, ◌^◌, ◌<◌, ◌≤◌, [], ◌∷◌, ◌++◌, length, sum, replicate, option_map, Some, if◌then◌else◌, IfOk, IfSome};
 ghost use Rattle.nr_reduce.specs.CallOutlines.{chunk_lengths};
 ghost use Rattle.nr_reduce.specs.Plans.{segments_from, entries_from, has_segment, one_if, read_list, write_list, reply_chunk, lists_of, read_stag, write_stag, reply_stag, regions_needed, call_message, total, body_by};
-ghost use Rattle.nr_link.specs.Limits.{send_max};
 ghost use Rattle.nr_header.specs.declared.header.ChunkLists.{ChunkLists};
 ghost use Rattle.nr_header.specs.Header.{header_encoding, lists_body, ChunksFit};
 ghost use Rattle.nr_header.specs.Slices.{lists_of_slices};
+ghost use Rattle.nr_requester.specs.HeldBytes.{receive_max};
 ghost use Rattle.nr_requester.specs.Sending.{AreFew, some_if, offered_of, call_plan};
 
 use crate::offered::OfferedLists;
@@ -16,9 +16,7 @@ use nr_reduce::{ChunkLengths, Outline, PayloadBuffer};
 use nr_xdr::{Memory, Octets};
 use std::alloc::Global;
 
-/// The most bytes of a Send, of a chunk that a reply is taken through, and of an item's pad.
-const SEND_MAX: u64 = nr_link::constants::SEND_MAX as u64;
-
+/// The most bytes of a chunk that a reply is taken through, and of an item's pad.
 const CHUNK_MAX: u64 = 1073741824;
 
 const PAD_MAX: u64 = 3;
@@ -346,11 +344,16 @@ fn total_of(lengths: Option<ChunkLengths<'_>>) -> u64
     }
 }
 
-/// The room in which the payload of a reply is put together: that of a Send, of both chunks of the plan, and of an item's pad. No
+/// The room in which the payload of a reply is put together: that of a receive, of both chunks of the plan, and of an item's pad. No
 /// chunk of a plan has 2^30 bytes; of one that had, it would be out of memory.
-pub fn reply_room(alloc: Global, plan: PlannedCall<'_>) -> Result<PayloadBuffer, Memory>
+pub fn reply_room(
+    alloc: Global,
+    plan: PlannedCall<'_>,
+    receive_length: u32,
+) -> Result<PayloadBuffer, Memory>
     requires few { AreFew (call_plan plan) }
-    ensures len { IfOk result (λ room. (room.len ≡ send_max + (total (call_plan plan.entry).write + (total (call_plan plan.entry).reply + 3))) × (room.len < 2 ^ 32)) }
+    requires receive { receive_length ≤ receive_max }
+    ensures len { IfOk result (λ room. (room.len ≡ receive_length + (total (call_plan plan.entry).write + (total (call_plan plan.entry).reply + 3))) × (room.len < 2 ^ 32)) }
     ensures empty { IfOk result (λ room. room.bytes ≡ []) }
 {
     let write = total_of(plan.outline.write);
@@ -361,6 +364,6 @@ pub fn reply_room(alloc: Global, plan: PlannedCall<'_>) -> Result<PayloadBuffer,
     if reply > CHUNK_MAX {
         return Err(Memory);
     }
-    let len = SEND_MAX + (write + (reply + PAD_MAX));
+    let len = u64::from(receive_length) + (write + (reply + PAD_MAX));
     PayloadBuffer::new(alloc, len as usize)
 }

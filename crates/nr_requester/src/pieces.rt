@@ -5,7 +5,6 @@ ghost use Rattle.std.specs.Result.{result_err};
 ghost use Rattle.nr_wire.specs.declared.hello.Side.TheVariants.{Initiator};
 ghost use Rattle.nr_wire.specs.Feeding.{bytes_taken};
 ghost use Rattle.nr_wire.specs.Stream.{IsPartial};
-ghost use Rattle.nr_link.specs.Limits.{send_max};
 ghost use Rattle.nr_link.specs.declared.end.End.TheVariants as ends;
 ghost use Rattle.nr_endpoint.specs.Calls.{after_call, IsStopReason};
 ghost use Rattle.nr_endpoint.specs.Calls.Call.{Stop, OutOfMemory};
@@ -167,17 +166,16 @@ fn take_message(
     requires live { endpoint.old.link.state.ended ≡ None }
     requires frame { 0 < endpoint.old.link.state.place }
     requires lent { 0 < endpoint.old.link.state.receive_queue.lent }
-    requires receives { endpoint.old.link.state.receive_queue.receive_length ≡ send_max }
-    requires buf { length buf ≡ send_max }
+    requires buf { length buf ≡ endpoint.old.link.state.receive_queue.receive_length }
     requires len { (16 ≤ len) × (len ≤ length buf) }
-    requires calls { (next : ℕ) × CallsSound endpoint.old.link.state.memory next outstanding.old.items answered.old.items (vec_capacity answered.old) }
+    requires calls { (next : ℕ) × CallsSound endpoint.old.link.state.receive_queue.receive_length endpoint.old.link.state.memory next outstanding.old.items answered.old.items (vec_capacity answered.old) }
     ensures judged { JudgesTo (kept_verdict (kept_views first_xid sent outstanding.old.items) (bytes_under endpoint.old.link.state.memory) (take len buf)) (take len buf) endpoint.old.link endpoint.new.link
         outstanding.old.items outstanding.new.items answered.old.items answered.new.items grant.old grant.new }
-    ensures sound { (next : ℕ) → CallsSound endpoint.old.link.state.memory next outstanding.old.items answered.old.items (vec_capacity answered.old) →
-        CallsSound endpoint.new.link.state.memory next outstanding.new.items answered.new.items (vec_capacity answered.new) }
+    ensures sound { (most next : ℕ) → CallsSound most endpoint.old.link.state.memory next outstanding.old.items answered.old.items (vec_capacity answered.old) →
+        CallsSound most endpoint.new.link.state.memory next outstanding.new.items answered.new.items (vec_capacity answered.new) }
     ensures granted { (1 ≤ grant.old) × (grant.old ≤ credits_max) → (1 ≤ grant.new) × (grant.new ≤ credits_max) }
     ensures fewer { length outstanding.new.items ≤ length outstanding.old.items }
-    ensures bounded { (next : ℕ) → IsBounded sent first_xid next endpoint.old outstanding.old.items answered.old.items → IsBounded sent first_xid next endpoint.new outstanding.new.items answered.new.items }
+    ensures bounded { (most next : ℕ) → IsBounded most sent first_xid next endpoint.old outstanding.old.items answered.old.items → IsBounded most sent first_xid next endpoint.new outstanding.new.items answered.new.items }
     ensures staging { endpoint.new.staging ≡ endpoint.old.staging }
 {
     let (message, _) = buf.as_slice().split_at(len);
@@ -202,14 +200,13 @@ fn take_event(
     first_xid: u32,
     sent: u64,
 )
-    requires receives { endpoint.old.link.state.receive_queue.receive_length ≡ send_max }
     requires ready { IsReady endpoint.old.link outstanding.old.items answered.old.items (vec_capacity answered.old) }
     ensures deliveries { (wished next : ℕ) → TakesDeliveries (requester_view endpoint.old.link sent wished first_xid next grant.old outstanding.old.items answered.old.items) (requester_view endpoint.new.link sent wished first_xid next grant.new outstanding.new.items answered.new.items) }
-    ensures sound { (next : ℕ) → CallsSound endpoint.old.link.state.memory next outstanding.old.items answered.old.items (vec_capacity answered.old) →
-        CallsSound endpoint.new.link.state.memory next outstanding.new.items answered.new.items (vec_capacity answered.new) }
+    ensures sound { (most next : ℕ) → CallsSound most endpoint.old.link.state.memory next outstanding.old.items answered.old.items (vec_capacity answered.old) →
+        CallsSound most endpoint.new.link.state.memory next outstanding.new.items answered.new.items (vec_capacity answered.new) }
     ensures granted { (1 ≤ grant.old) × (grant.old ≤ credits_max) → (1 ≤ grant.new) × (grant.new ≤ credits_max) }
     ensures fewer { length outstanding.new.items ≤ length outstanding.old.items }
-    ensures bounded { (next : ℕ) → IsBounded sent first_xid next endpoint.old outstanding.old.items answered.old.items → IsBounded sent first_xid next endpoint.new outstanding.new.items answered.new.items }
+    ensures bounded { (most next : ℕ) → IsBounded most sent first_xid next endpoint.old outstanding.old.items answered.old.items → IsBounded most sent first_xid next endpoint.new outstanding.new.items answered.new.items }
     ensures quiet { (endpoint.new.link.state.receive_queue.deliveries ≡ []) × ((endpoint.new.link.state.receive_queue.lent ≡ 0) × (endpoint.new.link.state.reads ≡ [])) }
     ensures staging { endpoint.new.staging ≡ endpoint.old.staging }
 {

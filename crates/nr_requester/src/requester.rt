@@ -6,11 +6,15 @@ ghost use Rattle.nr_outside.specs.Faults.{Rises};
 ghost use Rattle.nr_wire.specs.declared.hello.Side.TheVariants.{Initiator};
 ghost use Rattle.nr_wire.specs.Constants.{FPDU_MAX};
 ghost use Rattle.nr_wire.specs.Stream.{IsPartial};
+ghost use Rattle.nr_link.specs.Agreement.{IsSendLimit, default_terms, sized_terms};
+ghost use Rattle.nr_endpoint.specs.Hellos.{receive_length_for};
 ghost use Rattle.nr_endpoint.specs.declared.fault.DrainFault.TheVariants as drains;
 ghost use Rattle.nr_reduce.specs.Opening.{ClientOpened};
 ghost use Rattle.nr_reduce.specs.Limits.{credits_max};
 ghost use Rattle.nr_reduce.specs.declared.mark.LinkParameters.{LinkParameters};
+ghost use Rattle.nr_reduce.specs.declared.mark.Mark.{Mark};
 ghost use Rattle.nr_reduce.specs.declared.mark.Mark.TheVariants as marks;
+ghost use Rattle.nr_reduce.specs.Run.{client};
 ghost use Rattle.nr_requester.specs.RequesterState.{queue_of};
 ghost use Rattle.nr_requester.specs.Standing.{RequesterRepresents, StandsOn, StaysOut};
 ghost use Rattle.nr_requester.specs.Fed.{fed_bytes};
@@ -23,9 +27,11 @@ ghost use Rattle.nr_requester.specs.CountedMarks.{marks_if};
 use crate::answer::AnsweredCall;
 use crate::outstanding::OutstandingCall;
 use nr_endpoint::{DrainFault, Endpoint};
-use nr_link::End;
+use nr_link::constants::SEND_MAX;
+use nr_link::{End, SideTerms};
 use nr_outside::Sink;
 use nr_wire::Side;
+use nr_wire::constants::UNITS_MAX;
 use nr_xdr::Memory;
 use std::alloc::Global;
 use std::marker::Model;
@@ -35,6 +41,8 @@ use std::marker::Model;
 pub struct Requester {
     pub(crate) alloc: Global,
     pub(crate) endpoint: Endpoint,
+    // The length of its receive in bytes.
+    pub(crate) receive_length: u32,
     // The number of Sends that had completely left when the link ended, or have by now.
     pub(crate) sent: u64,
     pub(crate) wished: u32,
@@ -63,12 +71,12 @@ impl Model for Requester {
     ghost use Rattle.nr_requester.specs.HeldBytes.{IsBounded};
     ghost use Rattle.std.specs.Prelude.{vec_capacity};
 
-    ghost invariant = { λ r. RequesterInvariant r.endpoint.link r.next_xid r.grant r.outstanding.items r.answered.items (vec_capacity r.answered) × IsBounded r.sent r.first_xid r.next_xid r.endpoint r.outstanding.items r.answered.items };
+    ghost invariant = { λ r. RequesterInvariant r.receive_length r.endpoint.link r.next_xid r.grant r.outstanding.items r.answered.items (vec_capacity r.answered) × IsBounded r.receive_length r.sent r.first_xid r.next_xid r.endpoint r.outstanding.items r.answered.items };
 }
 
 impl Requester {
     /// A client end whose first call has this xid and whose first region has this STag, which isn't 0. It wishes for this many
-    /// credits. Its hello waits to be drained.
+    /// credits. A Send in either direction has at most 1,024 bytes. Its hello waits to be drained.
     pub fn open_at(
         alloc: Global,
         first_xid: u32,
@@ -76,22 +84,33 @@ impl Requester {
         credits: u32,
     ) -> Result<Requester, Memory>
         requires { 0 < first_stag }
-        ensures state { IfOk result (λ r. r ≡ opened_as first_xid first_stag credits r.staging) }
+        ensures state { IfOk result (λ r. r ≡ opened_as first_xid first_stag credits default_terms r.staging) }
         ensures staging { IfOk result (λ r. length r.staging ≡ FPDU_MAX) }
         ensures fed { IfOk result (λ r. fed_bytes r ≡ 0) }
-        ensures stands { IfOk result (λ r. (opened : LinkParameters) (link : ℕ) → opened.first_xid ≡ first_xid → opened.first_stag ≡ first_stag → ClientOpened opened credits → RequesterRepresents opened link r []) }
+        ensures stands { IfOk result (λ r. (opened : LinkParameters) (link : ℕ) → opened.first_xid ≡ first_xid → opened.first_stag ≡ first_stag → ClientOpened opened credits default_terms → RequesterRepresents opened link r []) }
     {
-        Requester::new(alloc, first_xid, first_stag, credits)
+        Requester::new(alloc, first_xid, first_stag, credits, 1)
     }
 
-    /// A client end whose first xid and first STag are 1.
+    /// A client end whose first xid and first STag are 1. A Send in either direction has at most 1,024 bytes.
     pub fn open(alloc: Global, credits: u32) -> Result<Requester, Memory>
-        ensures state { IfOk result (λ r. r ≡ opened_as 1 1 credits r.staging) }
+        ensures state { IfOk result (λ r. r ≡ opened_as 1 1 credits default_terms r.staging) }
         ensures staging { IfOk result (λ r. length r.staging ≡ FPDU_MAX) }
         ensures fed { IfOk result (λ r. fed_bytes r ≡ 0) }
-        ensures stands { IfOk result (λ r. (opened : LinkParameters) (link : ℕ) → opened.first_xid ≡ 1 → opened.first_stag ≡ 1 → ClientOpened opened credits → RequesterRepresents opened link r []) }
+        ensures stands { IfOk result (λ r. (opened : LinkParameters) (link : ℕ) → opened.first_xid ≡ 1 → opened.first_stag ≡ 1 → ClientOpened opened credits default_terms → RequesterRepresents opened link r []) }
     {
-        Requester::open_at(alloc, 1, 1, credits)
+        Requester::open_sized(alloc, credits, 1)
+    }
+
+    /// The same, if a Send in either direction may have this many units of 1,024 bytes: 0 counts as 1, and more than 16 as 16. Its hello
+    /// says so, unless it is one unit (RFC 5044 section 7.1, private data). What the server says in its hello decides, too: see `agreed`.
+    pub fn open_sized(alloc: Global, credits: u32, units: u8) -> Result<Requester, Memory>
+        ensures state { IfOk result (λ r. r ≡ opened_as 1 1 credits (sized_terms units) r.staging) }
+        ensures staging { IfOk result (λ r. length r.staging ≡ FPDU_MAX) }
+        ensures fed { IfOk result (λ r. fed_bytes r ≡ 0) }
+        ensures stands { IfOk result (λ r. (opened : LinkParameters) (link : ℕ) → opened.first_xid ≡ 1 → opened.first_stag ≡ 1 → ClientOpened opened credits (sized_terms units) → RequesterRepresents opened link r []) }
+    {
+        Requester::new(alloc, 1, 1, credits, units)
     }
 
     #[tactic(auto, unfolding(crate::specs::AfterCalls::opened_as, nr_endpoint::specs::LinkState::initial_link))]
@@ -100,16 +119,19 @@ impl Requester {
         first_xid: u32,
         first_stag: u32,
         credits: u32,
+        units: u8,
     ) -> Result<Requester, Memory>
         requires { 0 < first_stag }
-        ensures state { IfOk result (λ r. r ≡ opened_as first_xid first_stag credits r.staging) }
+        ensures state { IfOk result (λ r. r ≡ opened_as first_xid first_stag credits (sized_terms units) r.staging) }
         ensures staging { IfOk result (λ r. length r.staging ≡ FPDU_MAX) }
         ensures fed { IfOk result (λ r. fed_bytes r ≡ 0) }
     {
-        let endpoint = Endpoint::open(alloc, Side::Initiator, 1, first_stag, None)?;
+        let terms = SideTerms::sized(units);
+        let endpoint = Endpoint::open(alloc, Side::Initiator, 1, first_stag, terms)?;
         Ok(Requester {
             alloc,
             endpoint,
+            receive_length: receive_length(units),
             sent: 0,
             wished: credits,
             first_xid,
@@ -140,6 +162,17 @@ impl Requester {
         ensures { result ≡ self.now.state.grant }
     {
         self.grant
+    }
+
+    /// The maximum length of a Send in bytes: towards the server, and from it. The hellos of both sides agree on it: 1,024 times the lesser of
+    /// the units of both; until the server's was accepted, and if one of them says nothing, it is 1,024 in both directions. Takes no memory.
+    pub fn agreed(&self) -> (u32, u32)
+        ensures up { result.0 ≡ self.now.state.side.agreed.up }
+        ensures down { result.1 ≡ self.now.state.side.agreed.down }
+        ensures stands { (opened : LinkParameters) (link : ℕ) (run : List Mark) → RequesterRepresents opened link self.now run →
+            (result.0 ≡ (client opened link run).state.up_max) × (result.1 ≡ (client opened link run).state.down_max) }
+    {
+        self.endpoint.agreed()
     }
 
     /// How many marks it made: calls that were accepted, drains that moved bytes, pieces that have bytes (also after an End other than
@@ -173,6 +206,8 @@ impl Requester {
         ensures outstanding { length self.now.state.outstanding ≤ credits_max }
         ensures granted { (1 ≤ self.now.state.grant) × (self.now.state.grant ≤ credits_max) }
         ensures xid { self.now.state.next_xid ≤ 2 ^ 32 }
+        // What is agreed for a Send is from one unit to UNITS_MAX of them, in each direction.
+        ensures agreed { IsSendLimit self.now.state.side.agreed.up × IsSendLimit self.now.state.side.agreed.down }
         // What is kept of the stream is less than a frame, and nothing once the side has ended.
         ensures partial { IsPartial self.now.awaited self.now.rest }
         ensures ended { is_some self.now.state.side.ended ≡ true → self.now.rest ≡ [] }
@@ -212,6 +247,13 @@ impl Requester {
         self.marks = marks_if(self.endpoint.output_len() < before, self.marks);
         drained
     }
+}
+
+/// The length of a receive of these units, in bytes.
+fn receive_length(units: u8) -> u32
+    ensures { result ≡ receive_length_for (sized_terms units) }
+{
+    SEND_MAX * u32::from(units.max(1).min(UNITS_MAX))
 }
 
 /// The count of marks after one mark more, if that is counted.

@@ -5,7 +5,6 @@ ghost use Rattle.nr_rpc.specs.Credential.{CanWriteCred};
 ghost use Rattle.nr_endpoint.specs.Calls.{with_state};
 ghost use Rattle.nr_endpoint.specs.Offering.{claims_of};
 ghost use Rattle.nr_endpoint.specs.LinkState.{LinkSide};
-ghost use Rattle.nr_link.specs.Limits.{send_max};
 ghost use Rattle.nr_reduce.specs.Plans.{buffers, regions_needed, call_message, lists_of, total};
 ghost use Rattle.nr_reduce.specs.CallOutlines.{outline_plan, OutlineAnswers};
 ghost use Rattle.nr_reduce.specs.declared.call.Refused.TheVariants as refusals;
@@ -15,7 +14,7 @@ ghost use Rattle.nr_requester.specs.AfterCalls.{submitted, after_submit};
 ghost use Rattle.nr_requester.specs.Answers.{answer_of, plan_under, WasSent};
 ghost use Rattle.nr_requester.specs.Sending.{IsPlan, HasNumbers, answer_for, offered_of, xid_word, target_under, head_under, call_plan};
 ghost use Rattle.nr_requester.specs.HeldClaims.{SentHeld, IsOfferOf};
-ghost use Rattle.nr_requester.specs.HeldBytes.{call_bytes, call_max, NothingOutside};
+ghost use Rattle.nr_requester.specs.HeldBytes.{call_bytes, call_max, receive_max, NothingOutside};
 ghost use Rattle.nr_requester.specs.Standing.{StandsOn};
 ghost use Rattle.nr_requester.specs.Fed.{fed_bytes};
 ghost use Rattle.nr_requester.specs.OpenCalls.{OpensTicket};
@@ -27,7 +26,6 @@ use crate::outstanding::OutstandingCall;
 use crate::requester::{Requester, marks_if};
 use crate::ticket::Ticket;
 use nr_endpoint::{Claims, Endpoint};
-use nr_link::constants::SEND_MAX;
 use nr_reduce::{Call, Form, Outline, PayloadBuffer, Refused, TooLarge, outline_of, written_parts};
 use nr_rpc::{CallTarget, write_call_head};
 use nr_xdr::{Memory, Octets};
@@ -125,7 +123,9 @@ fn send_with_room(
     xid: u32,
     credit: u32,
     plan: PlannedCall<'_>,
+    receive_length: u32,
 ) -> Result<SentCall, Memory>
+    requires receive { receive_length ≤ receive_max }
     requires live { endpoint.old.link.state.ended ≡ None }
     requires planned { IsPlan (call_plan plan) }
     requires stags { endpoint.old.link.state.memory.next + regions_needed (call_plan plan) ≤ 2 ^ 32 }
@@ -134,14 +134,14 @@ fn send_with_room(
     ensures claims { IfOk result (λ s. s.sent.claims ≡ claims_of endpoint.old.link.state.memory (offered_of (call_plan plan.entry))) }
     ensures held { IfOk result (λ s. SentHeld endpoint.old.link.state.memory endpoint.new.link.state.memory s.sent.claims) }
     ensures offer { IfOk result (λ s. IsOfferOf s.sent.claims s.sent.lists) }
-    ensures room { IfOk result (λ s. (s.room.len ≡ send_max + (total (call_plan plan.entry).write + (total (call_plan plan.entry).reply + 3))) × (s.room.len < 2 ^ 32)) }
+    ensures room { IfOk result (λ s. (s.room.len ≡ receive_length + (total (call_plan plan.entry).write + (total (call_plan plan.entry).reply + 3))) × (s.room.len < 2 ^ 32)) }
     ensures empty { IfOk result (λ s. s.room.bytes ≡ []) }
     ensures staging { endpoint.new.staging ≡ endpoint.old.staging }
     ensures outside { OnOk result (NothingOutside endpoint.old → NothingOutside endpoint.new) }
     ensures outside_err { OnErr result (endpoint.new.outside ≡ endpoint.old.outside) }
     ensures err { OnErr result (endpoint.new.link ≡ endpoint.old.link) }
 {
-    let room = reply_room(alloc, plan)?;
+    let room = reply_room(alloc, plan, receive_length)?;
     match send_plan(alloc, endpoint, xid, credit, plan) {
         Ok(sent) => Ok(SentCall { sent, room }),
         Err(memory) => {
@@ -221,6 +221,7 @@ impl Requester {
                 args: call.args.as_slice(),
                 outline,
             },
+            self.receive_length,
         ) {
             Ok(sent) => sent,
             Err(_) => return Err(call),
@@ -305,7 +306,8 @@ impl Requester {
     fn planned<'a>(&self, call: &Call, head: &[u8], form: &'a Form) -> Result<Outline<'a>, TooLarge>
         requires cred { CanWriteCred call.now.cred }
         requires head { head.now ≡ head_under self.now.state.next_xid call.now }
-        ensures { OutlineAnswers (head.now ++ call.now.args) result (plan_under self.now.state call.now form.now) }
+        ensures outline { OutlineAnswers (head.now ++ call.now.args) result (plan_under self.now.state call.now form.now) }
+        ensures short { self.now.state.side.agreed.up ≤ receive_max }
     {
         let parts = written_parts(
             target_under(self.next_xid, call),
@@ -313,7 +315,8 @@ impl Requester {
             head,
             call.args.as_slice(),
         );
-        outline_of(parts, form, SEND_MAX, SEND_MAX)
+        let (up, down) = self.endpoint.agreed();
+        outline_of(parts, form, up, down)
     }
 
     /// Submits a call whose head is written, on a link that has not ended.

@@ -8,6 +8,7 @@ use Rattle.nr_header.specs.Constants.{VERSION}
 use Rattle.nr_header.specs.Length.{write_chunk_len, write_list_len}
 use Rattle.nr_header.specs.WithinLimits.{ListsWithin}
 use Rattle.nr_header.proofs.Lengths.{chunk_error_length}
+use Rattle.nr_link.specs.Agreement.{IsSendLimit}
 use Rattle.nr_link.specs.Limits.{send_max}
 use Rattle.nr_rpc.specs.Reading.{call_of, target_of}
 use Rattle.nr_rpc.specs.declared.head.CallTarget.{CallTarget}
@@ -31,24 +32,25 @@ list_len (chunk ∷ chunks) =
     omega (arith, all, count, rest)
 
 -- an answer that an offer within the limits holds
-held_short : (xid credits : ℕ) (lists : ChunkLists) (prog vers proc : ℕ) (reply : List ℕ) (o : Option Answer) → ListsWithin lists → answer_for lists send_max prog vers proc reply ≡ o → length (message_for xid credits lists o) ≤ send_max
-held_short xid credits lists prog vers proc reply None within is = error_short xid credits
-held_short xid credits lists prog vers proc reply (Some a) within is = by a.long refl
+held_short : (down xid credits : ℕ) (lists : ChunkLists) (prog vers proc : ℕ) (reply : List ℕ) (o : Option Answer) → IsSendLimit down → ListsWithin lists → answer_for lists down prog vers proc reply ≡ o → length (message_for xid credits lists o) ≤ down
+held_short down xid credits lists prog vers proc reply None limit within is = (let small = error_short xid credits in let least = limit.0 in omega (arith, small, least))
+held_short down xid credits lists prog vers proc reply (Some a) limit within is = by a.long refl
   where
-    by : (long : Bool) → a.long ≡ long → length (answer_message xid credits lists a) ≤ send_max
-    by false here = ((answer_length lists send_max prog vers proc xid credits reply a is).0 here).1
+    by : (long : Bool) → a.long ≡ long → length (answer_message xid credits lists a) ≤ down
+    by false here = ((answer_length lists down prog vers proc xid credits reply a is).0 here).1
     by true away =
-        let len = (answer_length lists send_max prog vers proc xid credits reply a is).1 away in
+        let len = (answer_length lists down prog vers proc xid credits reply a is).1 away in
+        let least = limit.0 in
         let list = list_len lists.write in
         let chunks = within.write_chunks in
         let segments = within.write_segments in
         let few = reply_few lists.reply within.reply_segments in
-        omega (arith, len, list, chunks, segments, few)
+        omega (arith, len, list, chunks, segments, few, least)
 
-target_short : (xid credits : ℕ) (lists : ChunkLists) (reply : List ℕ) (o : Option CallTarget) → ListsWithin lists → length (message_for xid credits lists (answer_of_target lists send_max reply o)) ≤ send_max
-target_short xid credits lists reply None within = held_short xid credits lists 0 0 0 reply (answer_for lists send_max 0 0 0 reply) within refl
-target_short xid credits lists reply (Some t) within = held_short xid credits lists t.prog t.vers t.proc reply (answer_for lists send_max t.prog t.vers t.proc reply) within refl
+target_short : (down xid credits : ℕ) (lists : ChunkLists) (reply : List ℕ) (o : Option CallTarget) → IsSendLimit down → ListsWithin lists → length (message_for xid credits lists (answer_of_target lists down reply o)) ≤ down
+target_short down xid credits lists reply None limit within = held_short down xid credits lists 0 0 0 reply (answer_for lists down 0 0 0 reply) limit within refl
+target_short down xid credits lists reply (Some t) limit within = held_short down xid credits lists t.prog t.vers t.proc reply (answer_for lists down t.prog t.vers t.proc reply) limit within refl
 
 -- Whatever the reply, the message of the answer to a call with lists within the limits has at most the bytes of a Send.
-pub message_short : (xid credits : ℕ) (c : PendingCall) (stream reply : List ℕ) → ListsWithin c.lists → length (message_for xid credits c.lists (answer_to c stream reply)) ≤ send_max
-message_short xid credits c stream reply within = target_short xid credits c.lists reply (target_of (call_of stream)) within
+pub message_short : (down xid credits : ℕ) (c : PendingCall) (stream reply : List ℕ) → IsSendLimit down → ListsWithin c.lists → length (message_for xid credits c.lists (answer_to down c stream reply)) ≤ down
+message_short down xid credits c stream reply limit within = target_short down xid credits c.lists reply (target_of (call_of stream)) limit within

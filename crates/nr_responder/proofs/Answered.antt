@@ -9,7 +9,7 @@ use Rattle.nr_header.specs.declared.header.ChunkLists.{ChunkLists}
 use Rattle.nr_rpc.specs.Reading.{call_of, target_of}
 use Rattle.nr_link.specs.declared.end.End.{End}
 use Rattle.nr_link.specs.Input.{InputState}
-use Rattle.nr_link.specs.Limits.{send_max}
+use Rattle.nr_link.specs.Agreement.{IsSendLimit}
 use Rattle.nr_link.specs.Output.{send}
 use Rattle.nr_endpoint.specs.declared.framing.RemoteWrite.{RemoteWrite}
 use Rattle.nr_endpoint.specs.FedBytes.{fed_bytes}
@@ -122,12 +122,12 @@ output_is : (k : ServerState) (xid : ℕ) (offer : ChunkLists) (a : Option Answe
 output_is k xid offer None = refl
 output_is k xid offer (Some a) = refl
 
-due_is : (k : ServerState) (e : ExecutedCall) (offer : ChunkLists) → offer_of k e.xid ≡ offer → k.down_max ≡ send_max →
-    execution_output k e ≡ writes_for offer (answer_of_target offer send_max e.reply (target_of (call_of e.payload))) ++ send (k.messages_queued + 1) (message_for e.xid k.credit offer (answer_of_target offer send_max e.reply (target_of (call_of e.payload))))
+due_is : (k : ServerState) (e : ExecutedCall) (offer : ChunkLists) (down : ℕ) → offer_of k e.xid ≡ offer → k.down_max ≡ down →
+    execution_output k e ≡ writes_for offer (answer_of_target offer down e.reply (target_of (call_of e.payload))) ++ send (k.messages_queued + 1) (message_for e.xid k.credit offer (answer_of_target offer down e.reply (target_of (call_of e.payload))))
 unfolding execution_output
-due_is k e offer is down =
-    (λ i. answer_output k e.xid (is i) (answer_of_target (is i) (down i) e.reply (target_of (call_of e.payload))))
-    ∙ output_is k e.xid offer (answer_of_target offer send_max e.reply (target_of (call_of e.payload)))
+due_is k e offer down is agreed =
+    (λ i. answer_output k e.xid (is i) (answer_of_target (is i) (agreed i) e.reply (target_of (call_of e.payload))))
+    ∙ output_is k e.xid offer (answer_of_target offer down e.reply (target_of (call_of e.payload)))
 
 first_of_lem : (ready : List ReadyCall) (r : ReadyCall) → slice_get ready 0 ≡ Some r → ready ≡ r ∷ drop 1 ready
 first_of_lem [] r is = absurd cc
@@ -187,12 +187,13 @@ answered_goes opened end so_far v after e r sent is h next xid payload a =
     let stream : a.stream ≡ e.payload =
     stream_is r own.first a.call a.stream (subst (HasStream r own.first) f.same f.holds) (subst (λ (p : Option (List ℕ)). IsPayload a.call p a.stream) same_first a.conveyed) ∙ sym payload in
     let offer : offer_of k e.xid ≡ a.call.lists = ap (λ (x : ℕ). offer_of k x) xid ∙ (ap offer_by f.first ∙ ap (λ (c : PendingCall). c.lists) f.same) in
-    let answer : Option Answer = answer_to a.call a.stream e.reply in
-    let same_answer : answer_of_target a.call.lists send_max e.reply (target_of (call_of e.payload)) ≡ answer = ap (λ (bytes : List ℕ). answer_of_target a.call.lists send_max e.reply (target_of (call_of bytes))) (sym stream) in
+    let down : ℕ = v.link.state.agreed.down in
+    let answer : Option Answer = answer_to down a.call a.stream e.reply in
+    let same_answer : answer_of_target a.call.lists down e.reply (target_of (call_of e.payload)) ≡ answer = ap (λ (bytes : List ℕ). answer_of_target a.call.lists down e.reply (target_of (call_of bytes))) (sym stream) in
     let message : List ℕ = message_for e.xid v.credits a.call.lists answer in
     let writes : List ℕ = writes_output a.writes in
     let due : execution_output k e ≡ writes ++ send (k.messages_queued + 1) message =
-    due_is k e a.call.lists offer h.server.down
+    due_is k e a.call.lists down offer (sym h.link.down)
     ∙ (λ i. writes_for a.call.lists (same_answer i) ++ send (k.messages_queued + 1) (message_for e.xid (sym h.credits i) a.call.lists (same_answer i)))
     ∙ ap (λ (bytes : List ℕ). bytes ++ send (k.messages_queued + 1) message) (sym a.written) in
     let then : ResponderSide = record {
@@ -214,7 +215,6 @@ answered_goes opened end so_far v after e r sent is h next xid payload a =
       credits = h.credits;
       reads = h.reads;
       sinks = h.sinks;
-      silent = h.silent;
       payloads = payloads_out r.xid k.calls (drop 1 k.ready) (drop 1 v.fetching.payloads) own.others;
       quiet = λ z. absurd (omega (arith, z, behind));
     } in
@@ -227,6 +227,13 @@ answered_goes opened end so_far v after e r sent is h next xid payload a =
           ∙ answered_queue k.messages_queued writes message v.link.state.send_queue h.link.queue.sends
           ∙ ap (λ (bytes : List ℕ). queue v ++ bytes) (sym due ∙ sym (executed_due opened k e end.ended is) ∙ sym (append-nil (output_for_in (server_rules opened) k (CallExecuted e) end.ended)));
     }
+
+-- how long a Send of a responder may be
+pub down_limit : (opened : LinkParameters) (link : ℕ) (run : List Mark) (v : ResponderSide) → ResponderRepresents opened link run v → end_of v ≡ None → IsSendLimit v.link.state.agreed.down
+down_limit opened link run v stands live_now =
+    let h : RepresentsServer opened link run v = represents opened link run v live_now stands in
+    let both : (h.end.ended ≡ None) × Keeps opened h.end.state h.input v = not_ended_lem opened h.end h.input v live_now h.keeps in
+    subst IsSendLimit (sym both.1.link.down) both.1.server.down
 
 pub answered_stands : (opened : LinkParameters) (link : ℕ) (run : List Mark) (v after : ResponderSide) (xid : ℕ) (moment : Moment) (payload : List ℕ) (place : ℕ) (reply : List ℕ) (sent : Sent) → ResponderRepresents opened link run v → end_of v ≡ None →
     IsExecuted opened link run xid payload → Answers v after xid reply sent → ResponderRepresents opened link (run ++ marks.Execute link xid moment payload place reply ∷ []) after

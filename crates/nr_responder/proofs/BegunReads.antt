@@ -31,13 +31,14 @@ use Rattle.nr_responder.specs.private.Handling.{out}
 use Rattle.nr_responder.specs.private.Reading.{opening, with_opened}
 use Rattle.nr_responder.specs.private.Starting.{BeginsReads, OpensReads, reads_more, with_around, with_room}
 use Rattle.nr_responder.specs.Rooms.{payload_room}
-use Rattle.nr_responder.specs.Sound.{AreFetched, AreHeldFrom, QueuesInvariant, HasOutside, HasRoom, HasWindow, InBuffer, SameInput, around_of, claims_of, payloads_of, state_of, xids_of}
+use Rattle.nr_responder.specs.Sound.{AreFetched, AreHeldFrom, QueuesInvariant, HasOutside, HasRoom, HasWindow, InBuffer, InReceive, SameInput, around_of, claims_of, payloads_of, state_of, xids_of}
 use Rattle.nr_responder.specs.Views.{call_view, read_view, sink_view}
 use Rattle.nr_responder.proofs.ListedReads.{same_sinks}
 use Rattle.nr_responder.proofs.ReadEffects.{requests_ends}
 use Rattle.nr_responder.proofs.Removed.{all_pushed_lem}
 use Rattle.nr_responder.proofs.HeldSinks.{fetched_as}
 use Rattle.nr_responder.proofs.Windows.{around_pushed, found_held, moved_window}
+use Rattle.nr_responder.proofs.Sounds.{bufs_as, used_as, limit_as}
 
 pub on_ok : {T E : Type 0} (r : Result T E) (P Q : Type 0) → (P → Q) → OnOk r P → OnOk r Q
 on_ok (Ok x) P Q f h = f h
@@ -236,7 +237,7 @@ started_input number read chunks old new sinks later before after b = record {
 }
 
 pub started_sound : (number : ℕ) (read : List ReadSegment) (chunks : List ℕ) (old new : List ReadEntry) (sinks after_sinks : List OpenSink) (before after : LinkSide) (calls later : List Pending) (one : Pending) (ready : List Ready) (used : List (List ℕ)) (a b c a2 : ℕ) →
-    BeginsReads number read chunks old new sinks after_sinks before after → InBuffer one → later ≡ calls ++ one ∷ [] → a2 ≡ a → QueuesInvariant 1 before.state calls ready used a b c → QueuesInvariant 0 after.state later ready used a2 b c
+    BeginsReads number read chunks old new sinks after_sinks before after → InReceive before.state.receive_queue.receive_length one → later ≡ calls ++ one ∷ [] → a2 ≡ a → QueuesInvariant 1 before.state calls ready used a b c → QueuesInvariant 0 after.state later ready used a2 b c
 started_sound number read chunks old new sinks after_sinks before after calls later one ready used a b c a2 begins whole later_is cap h =
     let same : (after.state.receive_queue ≡ before.state.receive_queue) × (after.state.send_queue.send_ends ≡ before.state.send_queue.send_ends) = started_link number read chunks old new sinks after_sinks before after begins in
     let count : length later ≡ length calls + 1 = ap (λ (xs : List Pending). length xs) later_is ∙ length-append calls (one ∷ []) in
@@ -246,12 +247,12 @@ started_sound number read chunks old new sinks after_sinks before after calls la
       unsent_is = h.unsent_is ∙ ap (λ (xs : List ℕ). length xs) (sym same.1);
       lent = omega (arith, count, h.lent, lent);
       few = omega (arith, count, h.few);
-      bufs = subst (λ (xs : List Pending). All InBuffer xs) (sym later_is) (all_pushed_lem InBuffer calls one h.bufs whole);
-      used_bufs = h.used_bufs;
+      bufs = bufs_as _ _ _ (ap (λ (q : ReceiveQueue). q.receive_length) same.0) (subst (λ (xs : List Pending). All (InReceive before.state.receive_queue.receive_length) xs) (sym later_is) (all_pushed_lem (InReceive before.state.receive_queue.receive_length) calls one h.bufs whole));
+      used_bufs = used_as _ _ _ (ap (λ (q : ReceiveQueue). q.receive_length) same.0) h.used_bufs;
       calls_fit = omega (arith, h.calls_fit, receives, cap);
       ready_fit = omega (arith, h.ready_fit, receives);
       used_fit = omega (arith, h.used_fit, receives);
-      receive_length = ap (λ (q : ReceiveQueue). q.receive_length) same.0 ∙ h.receive_length;
+      limit = limit_as _ _ (ap (λ (q : ReceiveQueue). q.receive_length) same.0) h.limit;
     }
 
 -- there is room for a call more

@@ -107,5 +107,5 @@ window_room e f sinks after old new before later read chunks call start around w
     window = λ some. begun_window e f sinks after read chunks call start around w o lists size (b.sinks_are ∙ ap (λ (l : LinkSide). map sink_view sinks ++ open_sinks (sinks_from call.number l.state.memory.next read chunks)) same);
   };
   apart = λ some. apart;
-  few = (let len = whole.len in let room = ap room_len none in omega (arith, size, len, room));
+  few = (let len = whole.len in let most = whole.buf in let room = ap room_len none in omega (arith, size, len, most, room));
 }

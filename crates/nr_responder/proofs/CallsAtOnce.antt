@@ -146,7 +146,6 @@ complete_takes opened k input v frame w queue_number msn offset payload c whole 
       credits = h.credits;
       reads = h.reads;
       sinks = h.sinks;
-      silent = h.silent;
       payloads = payloads_told k.calls k.reads c whole k.ready v.fetching.payloads inline new h.server.ready h.payloads;
       quiet = λ e. absurd (omega (arith, e, behind_hello));
     } in

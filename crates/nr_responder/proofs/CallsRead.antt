@@ -294,7 +294,10 @@ reading_keeps opened k s frame c h is some =
       received = told_h.received;
       receive_length = told_h.receive_length;
       message_max = told_h.message_max;
+      fits = told_h.fits;
       terms = told_h.terms;
+      up = told_h.up;
+      down = told_h.down;
       free = (let all = told_h.free in omega (arith, all, count));
       lent = (let all = told_h.lent in omega (arith, all, count));
       told = refl;
@@ -399,7 +402,6 @@ reading_takes opened k input v frame w queue_number msn offset payload c h behin
       credits = h.credits;
       reads = refl;
       sinks = sym (open_append k.regions regions);
-      silent = h.silent;
       payloads = payloads_pushed k.calls k.reads c k.ready v.fetching.payloads none h.server.ready h.payloads;
       quiet = λ e. absurd (omega (arith, e, behind_hello));
     } in

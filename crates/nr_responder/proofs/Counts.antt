@@ -50,3 +50,13 @@ pub answered_all : {E : Type 0} (r : Result Sent E) (v after : ResponderSide) (x
     ResponderRepresents opened link (run ++ marks.Execute link xid moment payload place reply ∷ []) after)
 answered_all (Ok sent) v after xid reply live a = λ opened link run moment payload place h x. answered_stands opened link run v after xid moment payload place reply sent h live x a
 answered_all (Err e) v after xid reply live a = tt
+
+-- what is agreed is what the server of a run has agreed on
+pub agreed_of_run : (opened : LinkParameters) (link : ℕ) (run : List Mark) (v : ResponderSide) → end_of v ≡ None → ResponderRepresents opened link run v →
+    (v.link.state.agreed.up ≡ (server opened link run).state.up_max) × (v.link.state.agreed.down ≡ (server opened link run).state.down_max)
+agreed_of_run opened link run v live stands =
+    let h : RepresentsServer opened link run v = represents opened link run v live stands in
+    let keeps : Keeps opened h.end.state h.input v = (not_ended_lem opened h.end h.input v live h.keeps).1 in (
+      keeps.link.up ∙ ap (λ (e : EndState ServerState). e.state.up_max) h.stands.keeps,
+      keeps.link.down ∙ ap (λ (e : EndState ServerState). e.state.down_max) h.stands.keeps,
+    )

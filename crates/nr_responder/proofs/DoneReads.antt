@@ -4,7 +4,7 @@ use Rattle.std.specs.Prelude.{◌⊎◌, slice_get, find, min}
 use Rattle.std.specs.List.{AllByRecursion, filter, list_any, remove}
 use Rattle.std.proofs.lemmas.Bool.{eqb-true, eq-eqb, ne_eqb}
 use Rattle.std.proofs.lemmas.List.{length-map, length-take, map-append}
-use Rattle.nr_link.specs.Limits.{open_reads_max, send_max}
+use Rattle.nr_link.specs.Limits.{open_reads_max}
 use Rattle.nr_endpoint.specs.Receives.{IsReceive}
 use Rattle.nr_endpoint.specs.LinkState.{LinkState, LinkSide}
 use Rattle.nr_endpoint.specs.SendQueue.{with_send}
@@ -22,7 +22,7 @@ use Rattle.nr_responder.specs.Fetching.{Fetching}
 use Rattle.nr_responder.specs.ResponderState.{ResponderSide, unsent}
 use Rattle.nr_responder.specs.private.Handling.{IsServerOf, OrOut, out}
 use Rattle.nr_responder.specs.Keeping.{IsReadyOf, OwnNumbers, OwnReady, OwnXids}
-use Rattle.nr_responder.specs.Sound.{AreFetched, AreHeldFrom, QueuesInvariant, HasOutside, KeepsOutside, around_of, claims_of, HasRoom, InBuffer, ServerEndInvariant, payloads_of, state_of, xids_of}
+use Rattle.nr_responder.specs.Sound.{AreFetched, AreHeldFrom, QueuesInvariant, HasOutside, KeepsOutside, around_of, claims_of, HasRoom, InReceive, ServerEndInvariant, payloads_of, state_of, xids_of}
 use Rattle.nr_responder.specs.Views.{call_view, read_view, sink_view}
 use Rattle.nr_responder.specs.private.Reading.{opening}
 use Rattle.nr_responder.specs.private.DoneReads.{IsOfCall, ReadsOn, ReadyMade}
@@ -53,6 +53,7 @@ use Rattle.nr_regions.specs.RegisteredMemory.{Outside, RegisteredMemory}
 use Rattle.nr_responder.proofs.ReadsGoOn.{requests_ends}
 use Rattle.nr_responder.proofs.Executed.{one_out_lem, without_call}
 use Rattle.nr_responder.proofs.Removed.{all_pushed_lem, all_removed, length_removed}
+use Rattle.nr_responder.proofs.Sounds.{bufs_as, used_as, limit_as}
 
 abbrev pub without : ResponderSide → List PendingRead → ResponderSide
 without v reads = record { link = v.link; calls = v.calls; ready = v.ready; credits = v.credits; fetching = record { reads = reads; sinks = v.fetching.sinks; payloads = v.fetching.payloads } }
@@ -428,7 +429,7 @@ dropped_fetched e f m kept calls reads later sinks is memory outside h =
     fetched_as e f calls later sinks memory outside (record { held = h.held; short = h.short; rooms = λ k d lt. dropped_rooms e.outside sinks m kept reads later (get_or calls k d) is (h.rooms k d lt); outside = h.outside })
 
 -- the message of a call was queued, and its receive waits until that has left
-pub refused_sound : (s t : LinkState) (at : ℕ) (call : Pending) (calls later : List Pending) (ready : List Ready) (used after : List (List ℕ)) (a b c d e : ℕ) → t.receive_queue ≡ s.receive_queue → length t.send_queue.send_ends ≡ unsent s + 1 → at < length calls → InBuffer call → later ≡ remove calls at →
+pub refused_sound : (s t : LinkState) (at : ℕ) (call : Pending) (calls later : List Pending) (ready : List Ready) (used after : List (List ℕ)) (a b c d e : ℕ) → t.receive_queue ≡ s.receive_queue → length t.send_queue.send_ends ≡ unsent s + 1 → at < length calls → InReceive s.receive_queue.receive_length call → later ≡ remove calls at →
     length ready < length calls → after ≡ used ++ call.buf ∷ [] → d ≡ a → e ≡ c → QueuesInvariant 0 s calls ready used a b c → QueuesInvariant 0 t later ready after d b e
 refused_sound s t at call calls later ready used after a b c d e queue ends lt whole left few used_is calls_room used_room h =
     let count : length later + 1 ≡ length calls = ap (λ (xs : List Pending). length xs + 1) left ∙ length_removed calls at lt in
@@ -437,12 +438,12 @@ refused_sound s t at call calls later ready used after a b c d e queue ends lt w
       unsent_is = omega (arith, used_count, ends, h.unsent_is);
       lent = omega (arith, used_count, count, h.lent, ap (λ (q : ReceiveQueue). q.lent) queue);
       few = omega (arith, count, few);
-      bufs = subst (λ (xs : List Pending). All InBuffer xs) (sym left) (all_removed InBuffer calls at h.bufs);
-      used_bufs = subst (λ (xs : List (List ℕ)). All (IsReceive send_max) xs) (sym used_is) (all_pushed_lem (IsReceive send_max) used call.buf h.used_bufs whole.buf);
+      bufs = bufs_as _ _ _ (ap (λ (q : ReceiveQueue). q.receive_length) queue) (subst (λ (xs : List Pending). All (InReceive s.receive_queue.receive_length) xs) (sym left) (all_removed (InReceive s.receive_queue.receive_length) calls at h.bufs));
+      used_bufs = used_as _ _ _ (ap (λ (q : ReceiveQueue). q.receive_length) queue) (subst (λ (xs : List (List ℕ)). All (IsReceive s.receive_queue.receive_length) xs) (sym used_is) (all_pushed_lem (IsReceive s.receive_queue.receive_length) used call.buf h.used_bufs whole.0));
       calls_fit = omega (arith, h.calls_fit, calls_room, ap (λ (q : ReceiveQueue). q.receives) queue);
       ready_fit = omega (arith, h.ready_fit, ap (λ (q : ReceiveQueue). q.receives) queue);
       used_fit = omega (arith, h.used_fit, used_room, ap (λ (q : ReceiveQueue). q.receives) queue);
-      receive_length = ap (λ (q : ReceiveQueue). q.receive_length) queue ∙ h.receive_length;
+      limit = limit_as _ _ (ap (λ (q : ReceiveQueue). q.receive_length) queue) h.limit;
     }
 
 pub refused_ends : (message : List ℕ) (opened : List PendingRead) (over : List SinkRegion) (l m n : LinkSide) → m ≡ with_opened_after message opened l → n ≡ with_released over m → length n.state.send_queue.send_ends ≡ unsent l.state + 1
@@ -460,7 +461,7 @@ refused_link message opened over l m n sent closed = closed ∙ ap (λ (x : Link
 pub emptied : Pending → Pending
 emptied c = record { number = c.number; xid = c.xid; buf = c.buf; len = c.len; stream_at = c.stream_at; inline = c.inline; room = None; around = c.around; target = c.target; item = c.item }
 
-pub emptied_sound : (r : ServerEnd) (at : ℕ) (c : Pending) (calls : List Pending) → calls ≡ set r.calls.items at c → InBuffer c → HasRoom r.endpoint.outside r.sinks.items r.reads.items c → at < length r.calls.items → c.around ≡ (get_or r.calls.items at c).around → ServerEndInvariant r →
+pub emptied_sound : (r : ServerEnd) (at : ℕ) (c : Pending) (calls : List Pending) → calls ≡ set r.calls.items at c → InReceive r.endpoint.link.state.receive_queue.receive_length c → HasRoom r.endpoint.outside r.sinks.items r.reads.items c → at < length r.calls.items → c.around ≡ (get_or r.calls.items at c).around → ServerEndInvariant r →
     QueuesInvariant 0 r.endpoint.link.state calls r.ready.items r.used.items (vec_capacity r.calls) (deque_capacity r.ready) (deque_capacity r.used) × AreFetched r.endpoint calls r.reads.items r.sinks.items
 emptied_sound r at c calls is whole room lt same h =
     let count : length calls ≡ length r.calls.items = ap (λ (xs : List Pending). length xs) is ∙ length-set r.calls.items at c in (
@@ -468,12 +469,12 @@ emptied_sound r at c calls is whole room lt same h =
         unsent_is = h.0.unsent_is;
         lent = omega (arith, h.0.lent, count);
         few = omega (arith, h.0.few, count);
-        bufs = subst (λ (xs : List Pending). All InBuffer xs) (sym is) (All-set InBuffer r.calls.items at c whole h.0.bufs);
+        bufs = subst (λ (xs : List Pending). All (InReceive r.endpoint.link.state.receive_queue.receive_length) xs) (sym is) (All-set (InReceive r.endpoint.link.state.receive_queue.receive_length) r.calls.items at c whole h.0.bufs);
         used_bufs = h.0.used_bufs;
         calls_fit = h.0.calls_fit;
         ready_fit = h.0.ready_fit;
         used_fit = h.0.used_fit;
-        receive_length = h.0.receive_length;
+        limit = h.0.limit;
       },
       record { held = h.1.held; short = h.1.short; rooms = subst (λ (xs : List Pending). All (HasRoom r.endpoint.outside r.sinks.items r.reads.items) xs) (sym is) (All-set (HasRoom r.endpoint.outside r.sinks.items r.reads.items) r.calls.items at c room h.1.rooms); outside = more_outside r.endpoint (around_of r.calls.items) (around_of calls) (let sum = around_set r.calls.items at c c lt in let set_is = ap (λ (cs : List Pending). around_of cs) is in omega (arith, sum, set_is, same)) h.1.outside },
     )

@@ -91,7 +91,6 @@ keeps_drained opened end so_far v n within (inl (is, h)) =
       credits = h.credits;
       reads = h.reads;
       sinks = h.sinks;
-      silent = h.silent;
       payloads = h.payloads;
       quiet = h.quiet;
     } in

@@ -144,7 +144,6 @@ step_goes v after piece m live_now p step lives handled opened end so_far keeps 
           credits = h.credits;
           reads = h.reads;
           sinks = h.sinks;
-          silent = h.silent;
           payloads = h.payloads;
           quiet = h.quiet;
         } in

@@ -19,7 +19,7 @@ use Rattle.nr_endpoint.specs.Judging.{next_frame, with_frame}
 use Rattle.nr_endpoint.specs.Laws.{DeniesAlike}
 use Rattle.nr_endpoint.proofs.GrantLaws.{grants_end_alike}
 use Rattle.nr_reduce.specs.declared.mark.LinkParameters.{LinkParameters}
-use Rattle.nr_reduce.specs.Limits.{send_max}
+use Rattle.nr_endpoint.specs.Hellos.{receive_length_for}
 use Rattle.nr_reduce.specs.Plans.{one_if}
 use Rattle.nr_reduce.specs.OfferedRegions.{region_grants}
 use Rattle.nr_reduce.specs.ServerState.{PendingRead, ServerState, receives_in_use}
@@ -55,16 +55,15 @@ pub receives_used : (opened : LinkParameters) (k : ServerState) (s : LinkState) 
 receives_used opened k s h = rw (in_use k (unsent s) (waiting_is k s.send_queue h.queue)) h.free
 
 pub readiness_alike : (opened : LinkParameters) (k : ServerState) (s : LinkState) (missing : Option Denied) → LinkKeeps opened k s → IsServer k s.place →
-    endpoint.readiness s missing ≡ record (server_readiness opened k missing) { received = received_within send_max k.received }
+    endpoint.readiness s missing ≡ record (server_readiness opened k missing) { received = received_within (receive_length_for opened.server) k.received }
 readiness_alike opened k s missing h is =
     let free : ltb 0 s.receive_queue.free ≡ ltb (receives_in_use k) opened.granted = free_if s.receive_queue.free (receives_in_use k) opened.granted (receives_used opened k s h) in
     let expected : endpoint.expected_response s.reads ≡ server.expected_read_response k.response_bytes k.reads = ap endpoint.expected_response h.reads ∙ expected_alike k.response_bytes k.reads in
     let responses : length s.send_queue.response_ends ≡ 0 = ap (λ (xs : List ℕ). length xs) h.queue.responses in
-    let most : s.message_max ≡ k.up_max = h.message_max ∙ sym is.up in
     λ i. record {
       received = h.received i;
       has_receive = free i;
-      message_max = most i;
+      message_max = h.message_max i;
       missing = missing;
       expected = expected i;
       responses = responses i;
@@ -74,7 +73,7 @@ pub faults_alike : (opened : LinkParameters) (k : ServerState) (s : LinkState) (
     segment_reason (endpoint.readiness s missing) segment ≡ segment_reason (server_readiness opened k missing) segment
 faults_alike opened k s missing segment h is =
     ap (λ (r : Readiness Denied). segment_reason r segment) (readiness_alike opened k s missing h is)
-    ∙ judged_alike send_max (server_readiness opened k missing) segment
+    ∙ judged_alike (receive_length_for opened.server) (server_readiness opened k missing) segment
 
 -- ---- A frame
 

@@ -1,29 +1,31 @@
 -- A frame that ends a responder for the rules of the link, and the client's hello.
-use Rattle.std.proofs.Common.{◌≡◌, ◌≢◌, ℕ, ◌+◌, ◌<◌, ◌≤◌, Bool, true, false, eqb, cond, List, [], ◌++◌, length, Option, Some, None, Result, Ok, Err, refl, sym, ap, subst, ◌∙◌, arith, inl, inr, is_some}
+use Rattle.std.proofs.Common.{◌≡◌, ◌≢◌, ℕ, ◌+◌, ◌<◌, ◌≤◌, Bool, true, false, eqb, cond, List, [], ◌++◌, length, take, drop, Option, Some, None, Result, Ok, Err, refl, sym, ap, subst, ◌∙◌, arith, inl, inr, is_some}
 use Rattle.std.specs.Prelude.{IfSome, map}
 use Rattle.std.proofs.lemmas.Bool.{ne_eqb, eq-eqb, lt-ltb}
 use Rattle.nr_wire.specs.declared.hello.Side.{Side}
 use Rattle.nr_wire.specs.declared.hello.Side.TheVariants.{Initiator, Responder}
 use Rattle.nr_wire.specs.declared.stream.Awaited.{Awaited}
 use Rattle.nr_wire.specs.declared.stream.Awaited.TheVariants.{Hello as HelloFrom, Fpdu}
-use Rattle.nr_wire.specs.Constants.{REASON_FLAGS}
-use Rattle.nr_wire.specs.Hello.{Hello, hello_of}
+use Rattle.nr_wire.specs.Constants.{HELLO_LEN, REASON_FLAGS}
+use Rattle.nr_wire.specs.Hello.{Hello, hello_of, hello_reason, flags_of, value_unless}
 use Rattle.nr_wire.specs.Segment.{Segment, segment_of}
 use Rattle.nr_link.specs.declared.end.End.{End}
 use Rattle.nr_link.specs.declared.end.End.TheVariants as ends
 use Rattle.nr_link.specs.Frames.{Frame}
 use Rattle.nr_link.specs.Input.{InputState}
-use Rattle.nr_link.specs.Output.{hello_with, own_hello, terminate_message}
+use Rattle.nr_link.specs.Output.{terminate_message}
 use Rattle.nr_link.specs.declared.agreement.SideTerms.{SideTerms}
-use Rattle.nr_reduce.specs.Hellos.{private_of, responder_says, server_hello}
+use Rattle.nr_link.specs.declared.agreement.Agreement.{Agreement}
+use Rattle.nr_link.proofs.Agreements.{agreements_bounded}
+use Rattle.nr_reduce.specs.Hellos.{private_of, server_private, server_hello, server_agreement}
 use Rattle.nr_link.specs.Ending.{final_output, frame_end, hello_end, last_output}
 use Rattle.nr_endpoint.specs.SendQueue.{with_end, with_hello, writable}
 use Rattle.nr_endpoint.specs.LinkState.{LinkState, LinkSide}
 use Rattle.nr_endpoint.specs.Judging.{segment_end, next_frame, with_frame, with_fpdu, with_peer_hello, with_segment_by, with_end_of, reply_hello}
-use Rattle.nr_endpoint.specs.Hellos.{own_private}
+use Rattle.nr_endpoint.specs.Hellos.{own_private, side_agreement, received_max, receive_length_for}
 use Rattle.nr_endpoint.specs.Laws.{IsFrameEnd, IsFrameReason}
 use Rattle.nr_endpoint.proofs.EndLaws.{effect_ended, frames_end_for_these}
-use Rattle.nr_endpoint.proofs.Agreed.{silent_agrees, silent_reply}
+use Rattle.nr_endpoint.proofs.Agreed.{agreed_fits}
 use Rattle.nr_reduce.specs.declared.mark.LinkParameters.{LinkParameters}
 use Rattle.nr_reduce.specs.OfferedRegions.{region_grants}
 use Rattle.nr_reduce.specs.Events.RunEvent.{FrameReceived}
@@ -168,33 +170,69 @@ ended_takes opened k input later v frame end h some ended =
 
 -- ---- The hello
 
--- a server that says nothing has a hello without private data, whatever the client's is
-pub silent_hello : (opened : LinkParameters) (f : Frame) → opened.server ≡ None → server_hello opened f ≡ own_hello Responder
-unfolding server_hello
-silent_hello opened f silent = ap (λ (said : SideTerms). hello_with Responder (responder_says said (private_of f))) silent
+-- the private data of a hello that is accepted
+hello_private_by : (side : Side) (frame : List ℕ) (hello : Hello) (o : Option ℕ) → value_unless o (record { side = side; flags = flags_of frame; private = drop HELLO_LEN frame }) ≡ Ok hello → hello.private ≡ drop HELLO_LEN frame
+hello_private_by side frame hello None is =
+    let same : ◌≡◌ {A = Hello} (record { side = side; flags = flags_of frame; private = drop HELLO_LEN frame }) hello = cc in
+    ap (λ (h : Hello). h.private) (sym same)
+hello_private_by side frame hello (Some reason) is = absurd cc
 
-pub hello_link : (opened : LinkParameters) (k : ServerState) (s : LinkState) (frame : List ℕ) (hello : Hello) → opened.server ≡ None → LinkKeeps opened k s → IsServer k s.place → k.message_ends ≡ [] →
+pub hello_private : (side : Side) (frame : List ℕ) (hello : Hello) → hello_of side frame ≡ Ok hello → hello.private ≡ drop HELLO_LEN frame
+unfolding hello_of
+hello_private side frame hello is = hello_private_by side frame hello (hello_reason side (take HELLO_LEN frame)) is
+
+-- the private data of the hello with which a responder answers
+abbrev pub replied : LinkState → Hello → List ℕ
+replied s hello = own_private s.terms s.side hello.private
+
+pub replied_is : (opened : LinkParameters) (s : LinkState) (frame : List ℕ) (hello : Hello) → s.terms ≡ opened.server → s.side ≡ Responder → hello_of Initiator frame ≡ Ok hello → replied s hello ≡ server_private opened (next_frame s frame)
+replied_is opened s frame hello terms side reads = λ i. own_private (terms i) (side i) (hello_private Initiator frame hello reads i)
+
+-- its hello
+pub reply_is : (opened : LinkParameters) (s : LinkState) (frame : List ℕ) (hello : Hello) → s.terms ≡ opened.server → s.side ≡ Responder → hello_of Initiator frame ≡ Ok hello → reply_hello s.side (replied s hello) ≡ server_hello opened (next_frame s frame)
+unfolding server_hello
+reply_is opened s frame hello terms side reads = λ i. reply_hello (side i) (replied_is opened s frame hello terms side reads i)
+
+-- what is agreed then
+agreed_is : (opened : LinkParameters) (s : LinkState) (frame : List ℕ) (hello : Hello) → s.terms ≡ opened.server → s.side ≡ Responder → hello_of Initiator frame ≡ Ok hello →
+    side_agreement s.side (replied s hello) hello.private ≡ server_agreement opened (next_frame s frame)
+unfolding server_agreement
+agreed_is opened s frame hello terms side reads = λ i. side_agreement (side i) (replied_is opened s frame hello terms side reads i) (hello_private Initiator frame hello reads i)
+
+-- and how long a Send of the client may be, which fits its receive
+received_is : (opened : LinkParameters) (s : LinkState) (frame : List ℕ) (hello : Hello) → s.terms ≡ opened.server → s.side ≡ Responder → hello_of Initiator frame ≡ Ok hello →
+    received_max s.side (side_agreement s.side (replied s hello) hello.private) ≡ (server_agreement opened (next_frame s frame)).up
+received_is opened s frame hello terms side reads = λ i. received_max (side i) (agreed_is opened s frame hello terms side reads i)
+
+pub hello_link : (opened : LinkParameters) (k : ServerState) (s : LinkState) (frame : List ℕ) (hello : Hello) → hello_of Initiator frame ≡ Ok hello → LinkKeeps opened k s → IsServer k s.place → k.message_ends ≡ [] →
     LinkKeeps opened (with_own_hello opened k (next_frame s frame)) (with_peer_hello (next_frame s frame) (Ok hello) s)
 unfolding with_peer_hello
-hello_link opened k s frame hello silent h is none = record {
-  live = h.live;
-  side = h.side;
-  received = h.received;
-  receive_length = h.receive_length;
-  message_max = silent_agrees s.terms s.side hello.private h.terms;
-  terms = h.terms;
-  free = h.free;
-  lent = h.lent;
-  told = h.told;
-  reads = h.reads;
-  memory = holds_later k.regions k.accesses_received s.place (s.place + length frame) s.memory (omega arith) is.accesses h.memory;
-  next = h.next;
-  queue =
-      let reply : List ℕ = reply_hello s.side (own_private s.terms s.side hello.private) in
-      subst (λ (own : List ℕ). QueueKeeps (record k { due = k.due + length own }) (with_hello reply s.send_queue)) (sym (silent_hello opened (next_frame s frame) silent))
-      (subst (λ (bytes : List ℕ). QueueKeeps (record k { due = k.due + length (own_hello Responder) }) (with_hello bytes s.send_queue)) (sym (silent_reply s.terms s.side Responder hello.private h.terms h.side))
-      (greeted_has k.written k.due k.messages_queued k.requests_sent k.message_ends (own_hello Responder) s.send_queue none h.queue));
-}
+hello_link opened k s frame hello reads h is none =
+    let f : Frame = next_frame s frame in
+    let agreed = agreed_is opened s frame hello h.terms h.side reads in
+    let most = received_is opened s frame hello h.terms h.side reads in
+    let fits : received_max s.side (side_agreement s.side (replied s hello) hello.private) ≤ receive_length_for opened.server =
+    subst (λ (t : SideTerms). received_max s.side (side_agreement s.side (replied s hello) hello.private) ≤ receive_length_for t) h.terms (agreed_fits s.terms s.side hello.private) in
+    record {
+      live = h.live;
+      side = h.side;
+      received = h.received;
+      receive_length = h.receive_length;
+      message_max = most;
+      fits = subst (λ (n : ℕ). n ≤ receive_length_for opened.server) most fits;
+      terms = h.terms;
+      up = ap (λ (a : Agreement). a.up) agreed;
+      down = ap (λ (a : Agreement). a.down) agreed;
+      free = h.free;
+      lent = h.lent;
+      told = h.told;
+      reads = h.reads;
+      memory = holds_later k.regions k.accesses_received s.place (s.place + length frame) s.memory (omega arith) is.accesses h.memory;
+      next = h.next;
+      queue =
+          subst (λ (bytes : List ℕ). QueueKeeps (with_own_hello opened k f) (with_hello bytes s.send_queue)) (sym (reply_is opened s frame hello h.terms h.side reads))
+          (greeted_has k.written k.due k.messages_queued k.requests_sent k.message_ends (server_hello opened f) s.send_queue none h.queue);
+    }
 
 pub server_later : (k : ServerState) (place later : ℕ) → place ≤ later → IsServer k place → IsServer k later
 server_later k place later le is = record {
@@ -215,8 +253,9 @@ server_later k place later le is = record {
   down = is.down;
 }
 
--- its hello is due: nothing else of it changes
+-- its hello is due, and both sides have agreed
 pub own_hello_server : (opened : LinkParameters) (k : ServerState) (f : Frame) (place : ℕ) → IsServer k place → IsServer (with_own_hello opened k f) place
+unfolding server_agreement
 own_hello_server opened k f place is = record {
   offered = is.offered;
   accesses = is.accesses;
@@ -231,6 +270,6 @@ own_hello_server opened k f place is = record {
   ready_xids = is.ready_xids;
   ready = is.ready;
   idle = is.idle;
-  up = is.up;
-  down = is.down;
+  up = (agreements_bounded (private_of f) (server_private opened f)).0;
+  down = (agreements_bounded (private_of f) (server_private opened f)).1;
 }

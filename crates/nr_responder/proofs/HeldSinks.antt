@@ -35,6 +35,7 @@ use Rattle.nr_responder.proofs.Handled.{step_counts}
 use Rattle.nr_responder.proofs.Posted.{memory_as}
 use Rattle.nr_responder.proofs.Removed.{all_removed, all_pushed_lem}
 use Rattle.nr_responder.proofs.Windows.{around_pushed, around_removed, less_outside, more_outside, same_outside}
+use Rattle.nr_link.specs.declared.agreement.SideTerms.{SideTerms}
 
 -- ---- The memory stays
 
@@ -93,13 +94,13 @@ fetched_failed e f piece end calls reads sinks live p fed out outside h = by end
 
 -- ---- As it is opened
 
-first_next : (credits : ℕ) → (initial_link Responder credits 1 None).state.memory.next ≡ 1
+first_next : (credits : ℕ) (terms : SideTerms) → (initial_link Responder credits 1 terms).state.memory.next ≡ 1
 unfolding initial_link initial_memory
-first_next credits = refl
+first_next credits terms = refl
 
-pub fetched_first : (e : EndpointState) (credits : ℕ) (calls : List Pending) → e.link ≡ initial_link Responder credits 1 None → e.outside ≡ empty → calls ≡ [] → AreFetched e calls [] []
-fetched_first e credits calls is none no_calls =
-    let next : e.link.state.memory.next ≡ 1 = ap (λ (l : LinkSide). l.state.memory.next) is ∙ first_next credits in
+pub fetched_first : (e : EndpointState) (credits : ℕ) (terms : SideTerms) (calls : List Pending) → e.link ≡ initial_link Responder credits 1 terms → e.outside ≡ empty → calls ≡ [] → AreFetched e calls [] []
+fetched_first e credits terms calls is none no_calls =
+    let next : e.link.state.memory.next ≡ 1 = ap (λ (l : LinkSide). l.state.memory.next) is ∙ first_next credits terms in
     record {
       held = omega (arith, next);
       short = All-nil _;

@@ -11,7 +11,7 @@ use Rattle.nr_regions.specs.declared.right.Right.TheVariants.{Sink}
 use Rattle.nr_regions.specs.RegisteredMemory.{RegisteredMemory, bytes_in, live_region, held_region}
 use Rattle.nr_regions.specs.Access.{Grant, TaggedSegment, contents}
 use Rattle.nr_regions.proofs.Holding.{live_held}
-use Rattle.nr_link.specs.Limits.{send_max}
+use Rattle.nr_endpoint.specs.Hellos.{receive_length_for}
 use Rattle.nr_link.specs.Frames.{Frame}
 use Rattle.nr_link.specs.Ending.{frame_segment}
 use Rattle.nr_link.specs.KeptSends.{received_within}
@@ -82,14 +82,17 @@ done_state k f stag to payload calls reads ready kept is =
 
 -- ---- The side of the link once the read was delivered
 
-pub record TakesLast (k : ServerState) (f : Frame) (a : TaggedSegment) (rest : List PendingRead) (granted : ℕ) (t : LinkState) : Type 0 where
+pub record TakesLast (k : ServerState) (f : Frame) (a : TaggedSegment) (rest : List PendingRead) (opened : LinkParameters) (t : LinkState) : Type 0 where
   pub live : t.ended ≡ None
   pub side : t.side ≡ Responder
-  pub received : t.receive_queue.received ≡ received_within send_max k.received
-  pub receive_length : t.receive_queue.receive_length ≡ send_max
-  pub message_max : t.message_max ≡ send_max
-  pub terms : t.terms ≡ None
-  pub free : t.receive_queue.free + (unsent t + length k.calls + one_if (is_begun k.received.begun)) ≡ granted
+  pub received : t.receive_queue.received ≡ received_within (receive_length_for opened.server) k.received
+  pub receive_length : t.receive_queue.receive_length ≡ receive_length_for opened.server
+  pub message_max : t.message_max ≡ k.up_max
+  pub fits : k.up_max ≤ receive_length_for opened.server
+  pub terms : t.terms ≡ opened.server
+  pub up : t.agreed.up ≡ k.up_max
+  pub down : t.agreed.down ≡ k.down_max
+  pub free : t.receive_queue.free + (unsent t + length k.calls + one_if (is_begun k.received.begun)) ≡ opened.granted
   pub lent : t.receive_queue.lent ≡ length k.calls + unsent t
   pub told : t.receive_queue.deliveries ≡ []
   pub reads : t.reads ≡ later_responses (take 7 rest)
@@ -99,7 +102,7 @@ pub record TakesLast (k : ServerState) (f : Frame) (a : TaggedSegment) (rest : L
   pub place : t.place ≡ f.end
   pub last : t.last ≡ f.at
 
-pub done_link : (opened : LinkParameters) (k : ServerState) (f : Frame) (a : TaggedSegment) (rest reads : List PendingRead) (calls : List PendingCall) (ready : List ReadyCall) (kept : ℕ) (t : LinkState) → TakesLast k f a rest opened.granted t → AreReceived f.at k.accesses_received → AreOffered f.at k.regions →
+pub done_link : (opened : LinkParameters) (k : ServerState) (f : Frame) (a : TaggedSegment) (rest reads : List PendingRead) (calls : List PendingCall) (ready : List ReadyCall) (kept : ℕ) (t : LinkState) → TakesLast k f a rest opened t → AreReceived f.at k.accesses_received → AreOffered f.at k.regions →
     f.at ≤ f.end → a.end ≡ f.end → length calls ≡ length k.calls → kept ≤ 8 → t.reads ≡ later_responses (take kept reads) →
     LinkKeeps opened (after_done k a calls reads ready kept) (side_after_done t (opening kept reads) (over_sinks calls reads (open_sinks k.regions)))
 done_link opened k f a rest reads calls ready kept t h arrived was_offered le at same few opens =
@@ -117,7 +120,10 @@ done_link opened k f a rest reads calls ready kept t h arrived was_offered le at
       received = h.received;
       receive_length = h.receive_length;
       message_max = h.message_max;
+      fits = h.fits;
       terms = h.terms;
+      up = h.up;
+      down = h.down;
       free = (let all = h.free in omega (arith, all, same, count));
       lent = (let all = h.lent in omega (arith, all, same, count));
       told = h.told;

@@ -5,7 +5,9 @@ use Rattle.std.specs.Ordering.{nat_cmp}
 use Rattle.nr_wire.specs.declared.hello.Side.TheVariants.{Initiator, Responder}
 use Rattle.nr_link.specs.Input.{initial_input}
 use Rattle.nr_regions.specs.RegisteredMemory.{initial_memory, live_region, held_region}
-use Rattle.nr_link.specs.Limits.{send_max}
+use Rattle.nr_link.specs.declared.agreement.SideTerms.{SideTerms}
+use Rattle.nr_link.specs.Agreement.{IsSendLimit}
+use Rattle.nr_endpoint.specs.Hellos.{receive_length_for}
 use Rattle.nr_endpoint.specs.LinkState.{LinkSide, initial_link, initial_state}
 use Rattle.nr_reduce.specs.Opening.{ServerOpened}
 use Rattle.nr_reduce.specs.declared.mark.LinkParameters.{LinkParameters}
@@ -43,22 +45,25 @@ server_first opened = record {
   ready_xids = tt;
   ready = tt;
   idle = λ e. refl;
-  up = refl;
-  down = refl;
+  up = (omega arith, omega arith);
+  down = (omega arith, omega arith);
 }
 
 next_first : (initial_memory 1).next ≡ 1 + 0
 unfolding initial_memory
 next_first = refl
 
-link_first : (opened : LinkParameters) → LinkKeeps opened (server.initial_server_state opened) (initial_state Responder opened.granted 1 None)
+link_first : (opened : LinkParameters) → LinkKeeps opened (server.initial_server_state opened) (initial_state Responder opened.granted 1 opened.server)
 link_first opened = record {
   live = refl;
   side = refl;
   received = refl;
   receive_length = refl;
   message_max = refl;
+  fits = omega arith;
   terms = refl;
+  up = refl;
+  down = refl;
   free = omega arith;
   lent = refl;
   told = refl;
@@ -68,9 +73,9 @@ link_first opened = record {
   queue = record { due_is = refl; ends_are = sym (ends_none 0 0); each = tt; sends = refl; requests_are = refl; responses = refl };
 }
 
-keeps_first : (opened : LinkParameters) → opened.server ≡ None → Keeps opened (server.initial_server_state opened) (initial_input Initiator) (opened_state opened.granted (initial_link Responder opened.granted 1 None))
+keeps_first : (opened : LinkParameters) → Keeps opened (server.initial_server_state opened) (initial_input Initiator) (opened_state opened.granted (initial_link Responder opened.granted 1 opened.server))
 unfolding initial_link
-keeps_first opened silent = record {
+keeps_first opened = record {
   link = link_first opened;
   input = record { awaited = refl; rest = refl; place = refl };
   begins = BeforeHello refl refl refl refl;
@@ -80,34 +85,38 @@ keeps_first opened silent = record {
   credits = refl;
   reads = refl;
   sinks = refl;
-  silent = silent;
   payloads = tt;
   quiet = λ e. (refl, refl);
 }
 
-queue_first : (opened : LinkParameters) → queue (opened_state opened.granted (initial_link Responder opened.granted 1 None)) ≡ []
+queue_first : (opened : LinkParameters) → queue (opened_state opened.granted (initial_link Responder opened.granted 1 opened.server)) ≡ []
 unfolding initial_link
 queue_first opened = refl
 
-pub opened_stands_lem : (opened : LinkParameters) (link : ℕ) (credits : ℕ) (l : LinkSide) → ServerOpened opened credits → l ≡ initial_link Responder credits 1 None → ResponderRepresents opened link [] (opened_state credits l)
-opened_stands_lem opened link credits l same is =
-    let first : RepresentsServer opened link [] (opened_state opened.granted (initial_link Responder opened.granted 1 None)) = record {
+pub opened_stands_lem : (opened : LinkParameters) (link : ℕ) (credits : ℕ) (terms : SideTerms) (l : LinkSide) → ServerOpened opened credits terms → l ≡ initial_link Responder credits 1 terms → ResponderRepresents opened link [] (opened_state credits l)
+opened_stands_lem opened link credits terms l same is =
+    let first : RepresentsServer opened link [] (opened_state opened.granted (initial_link Responder opened.granted 1 opened.server)) = record {
       end = initial_server opened;
       input = initial_input Initiator;
       stands = subst (λ (bytes : List ℕ). ServerRepresents opened link (initial_server opened) (initial_input Initiator) bytes []) (sym (queue_first opened)) (server_begins_lem opened link);
-      keeps = inl (refl, keeps_first opened same.1);
+      keeps = inl (refl, keeps_first opened);
     } in
     subst (λ (x : LinkSide). ResponderRepresents opened link [] (opened_state credits x)) (sym is)
-    (subst (λ (n : ℕ). ResponderRepresents opened link [] (opened_state n (initial_link Responder n 1 None))) same.0 (inl first))
+    (subst (λ (t : SideTerms). ResponderRepresents opened link [] (opened_state credits (initial_link Responder credits 1 t))) same.1
+    (subst (λ (n : ℕ). ResponderRepresents opened link [] (opened_state n (initial_link Responder n 1 opened.server))) same.0 (inl first)))
 
-pub opened_length : (l : LinkSide) (credits : ℕ) → l ≡ initial_link Responder credits 1 None → l.state.receive_queue.receive_length ≡ send_max
+pub opened_length : (l : LinkSide) (credits : ℕ) (terms : SideTerms) → l ≡ initial_link Responder credits 1 terms → l.state.receive_queue.receive_length ≡ receive_length_for terms
 unfolding initial_link
-opened_length l credits is = ap (λ (x : LinkSide). x.state.receive_queue.receive_length) is
+opened_length l credits terms is = ap (λ (x : LinkSide). x.state.receive_queue.receive_length) is
 
-pub opened_lives : (l : LinkSide) (credits : ℕ) → l ≡ initial_link Responder credits 1 None → l.state.ended ≡ None
-unfolding initial_link
-opened_lives l credits is = ap (λ (x : LinkSide). x.state.ended) is
+-- each receive is from one unit to UNITS_MAX of them
+pub own_limit : (terms : SideTerms) → IsSendLimit (receive_length_for terms)
+own_limit terms = (omega arith, omega arith)
 
-pub opened_queues : (l : LinkSide) (credits : ℕ) → l ≡ initial_link Responder credits 1 None → (l.state.receive_queue.lent ≡ 0) × ((l.state.receive_queue.receives ≡ credits) × (l.state.send_queue.send_ends ≡ []))
+pub opened_lives : (l : LinkSide) (credits : ℕ) (terms : SideTerms) → l ≡ initial_link Responder credits 1 terms → l.state.ended ≡ None
 unfolding initial_link
-opened_queues l credits is = (ap (λ (x : LinkSide). x.state.receive_queue.lent) is, (ap (λ (x : LinkSide). x.state.receive_queue.receives) is, ap (λ (x : LinkSide). x.state.send_queue.send_ends) is))
+opened_lives l credits terms is = ap (λ (x : LinkSide). x.state.ended) is
+
+pub opened_queues : (l : LinkSide) (credits : ℕ) (terms : SideTerms) → l ≡ initial_link Responder credits 1 terms → (l.state.receive_queue.lent ≡ 0) × ((l.state.receive_queue.receives ≡ credits) × (l.state.send_queue.send_ends ≡ []))
+unfolding initial_link
+opened_queues l credits terms is = (ap (λ (x : LinkSide). x.state.receive_queue.lent) is, (ap (λ (x : LinkSide). x.state.receive_queue.receives) is, ap (λ (x : LinkSide). x.state.send_queue.send_ends) is))

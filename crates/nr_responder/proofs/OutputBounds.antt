@@ -3,7 +3,6 @@ use Rattle.std.proofs.Common.{◌≡◌, ℕ, ◌+◌, ◌*◌, ◌<◌, ◌≤�
 use Rattle.std.specs.List.{AllByRecursion, list_any, filter}
 use Rattle.std.proofs.lemmas.Bool.{eqb-true, ne_eqb}
 use Rattle.std.proofs.lemmas.List.{length-map, length-take, length-drop, take-append-drop}
-use Rattle.nr_wire.specs.Constants.{HELLO_LEN}
 use Rattle.nr_wire.specs.Hello.{Hello, hello_of}
 use Rattle.nr_wire.specs.declared.hello.Side.{Side}
 use Rattle.nr_wire.specs.declared.hello.Side.TheVariants.{Initiator, Responder}
@@ -17,7 +16,6 @@ use Rattle.nr_link.specs.Limits.{open_reads_max}
 use Rattle.nr_link.specs.Input.{InputState}
 use Rattle.nr_endpoint.specs.SendQueue.{SendQueue, with_end, with_send}
 use Rattle.nr_endpoint.specs.Hellos.{own_private}
-use Rattle.nr_endpoint.proofs.Agreed.{silent_reply}
 use Rattle.nr_endpoint.specs.LinkState.{LinkState, LinkSide, initial_link}
 use Rattle.nr_endpoint.specs.Judging.{next_frame, reply_hello, with_end_of, with_frame, with_peer_hello}
 use Rattle.nr_endpoint.specs.Calls.{after_call}
@@ -45,7 +43,7 @@ use Rattle.nr_responder.proofs.Frames.{ended_frame}
 use Rattle.nr_endpoint.proofs.Pieces.{frame_place}
 use Rattle.nr_responder.proofs.Handled.{chunk_short, told_of}
 use Rattle.nr_responder.proofs.Out.{lives_same}
-use Rattle.nr_responder.proofs.OutputLengths.{own_hello_is, rejection_len}
+use Rattle.nr_responder.proofs.OutputLengths.{own_hello_len, rejection_len}
 use Rattle.nr_responder.proofs.OwnedSinks.{call_among}
 use Rattle.nr_responder.proofs.PendingReads.{AreOf, reads_own}
 use Rattle.nr_responder.proofs.Posted.{sent_link, told_link_lem}
@@ -53,6 +51,9 @@ use Rattle.nr_responder.proofs.QueueBounds.{end_hello, end_most, more_calls, mos
 use Rattle.nr_responder.proofs.Responses.{frame_is}
 use Rattle.nr_responder.proofs.Shares.{IsOwned, most_of, owned_total, share_append, share_filtered}
 use Rattle.nr_responder.proofs.SinkBounds.{kept_waiting, without_pending}
+use Rattle.nr_link.specs.declared.agreement.SideTerms.{SideTerms}
+use Rattle.nr_link.specs.Output.{hello_with}
+use Rattle.nr_reduce.proofs.PrivateData.{responder_short}
 
 -- ---- Reads that wait
 
@@ -160,18 +161,20 @@ pub told_lives : (w : ResponderSide) → OutputLives w → OutputLives (told_of 
 told_lives w f = (let t = told_queue w.link in same_lives w (after_call w.link NextEvent) t.0 (λ e. sym t.1 ∙ e) f)
 
 -- the client's hello
-greeted_lives : (v : ResponderSide) (m : LinkSide) (f : Frame) (r : Result Hello ℕ) → v.link.state.side ≡ Responder → v.link.state.terms ≡ None → v.link.state.place ≡ 0 → 0 < f.end → m.state ≡ with_peer_hello f r v.link.state → m.state.ended ≡ None → OutputLives v → OutputLives (on_link v m)
+greeted_lives : (v : ResponderSide) (m : LinkSide) (f : Frame) (r : Result Hello ℕ) → v.link.state.side ≡ Responder → v.link.state.place ≡ 0 → 0 < f.end → m.state ≡ with_peer_hello f r v.link.state → m.state.ended ≡ None → OutputLives v → OutputLives (on_link v m)
 unfolding with_peer_hello
-greeted_lives v m f (Err reason) side terms place some is lives h = absurd (not_none m.state.ended _ (ap (λ (t : LinkState). t.ended) is) lives)
-greeted_lives v m f (Ok hello) side terms place some is lives h = record {
+greeted_lives v m f (Err reason) side place some is lives h = absurd (not_none m.state.ended _ (ap (λ (t : LinkState). t.ended) is) lives)
+greeted_lives v m f (Ok hello) side place some is lives h = record {
   queue = subst (λ (q : SendQueue). QueueFits q (length (drop open_reads_max v.fetching.reads)) (length v.calls)) (sym (ap (λ (t : LinkState). t.send_queue) is)) (λ n. h.queue n);
   reads = h.reads;
   hello =
       (let none = h.none place in
       let reply : List ℕ = reply_hello v.link.state.side (own_private v.link.state.terms v.link.state.side hello.private) in
       let len : length m.state.send_queue.hello ≡ length (v.link.state.send_queue.hello ++ reply) = ap (λ (t : LinkState). length t.send_queue.hello) is in
-      let own : length reply ≡ HELLO_LEN = ap (λ (bytes : List ℕ). length bytes) (silent_reply v.link.state.terms v.link.state.side Responder hello.private terms side) ∙ own_hello_is in
-      omega (arith, none, len, own, length-append v.link.state.send_queue.hello reply));
+      let private : List ℕ = own_private v.link.state.terms Responder hello.private in
+      let own : length reply ≡ length (hello_with Responder private) = ap (λ (x : Side). length (reply_hello x (own_private v.link.state.terms x hello.private))) side in
+      let short = own_hello_len private (responder_short v.link.state.terms hello.private) in
+      omega (arith, none, len, own, short, length-append v.link.state.send_queue.hello reply));
   none = λ e. absurd (let at : m.state.place ≡ f.end = ap (λ (t : LinkState). t.place) is in omega (arith, at, e, some));
 }
 
@@ -187,7 +190,7 @@ fed_lives opened k so_far v piece m h (WholeFrame frame w frame_is_taken long li
 
     by : Begins v.link → OutputLives (on_link v m)
     by (BeforeHello place awaited hello none) =
-        greeted_lives v m (next_frame s frame) (hello_of Initiator frame) h.link.side h.link.terms place (omega (arith, long)) (state ∙ ap (λ (a : Awaited). with_frame s a frame) awaited) lives f
+        greeted_lives v m (next_frame s frame) (hello_of Initiator frame) h.link.side place (omega (arith, long)) (state ∙ ap (λ (a : Awaited). with_frame s a frame) awaited) lives f
     by (AfterHello place awaited hello) =
         let now : m.state ≡ with_frame s Fpdu frame = state ∙ ap (λ (a : Awaited). with_frame s a frame) awaited in
         let lives_on : (with_frame s Fpdu frame).ended ≡ None = sym (ap (λ (t : LinkState). t.ended) now) ∙ lives in
@@ -329,7 +332,7 @@ handled_out opened k so_far message v after m keeps lives h g (Refused answer ef
     f = record {
       queue =
           subst (λ (l : LinkSide). QueueFits l.state.send_queue (length (drop open_reads_max v.fetching.reads)) (length v.calls)) (sym sent)
-          (send_fits told.state.send_queue answer (length (drop open_reads_max v.fetching.reads)) (length v.calls) (length (drop open_reads_max v.fetching.reads)) (length v.calls) short (omega arith) (omega arith) (waits_lem now shares t.reads) t.queue);
+          (send_fits told.state.send_queue answer (length (drop open_reads_max v.fetching.reads)) (length v.calls) (length (drop open_reads_max v.fetching.reads)) (length v.calls) (omega (arith, short)) (omega arith) (omega arith) (waits_lem now shares t.reads) t.queue);
       reads = t.reads;
       hello = (let small = t.hello in let len = ap (λ (l : LinkSide). length l.state.send_queue.hello) sent in omega (arith, small, len));
       none = λ e. ap (λ (l : LinkSide). length l.state.send_queue.hello) sent ∙ t.none (sym (ap (λ (l : LinkSide). l.state.place) sent) ∙ e);
@@ -433,7 +436,7 @@ refused_lives v n r rest xid reads own g f = record {
 
     sent : QueueFits (with_send message q) (length waiting) (length calls)
     sent =
-        send_fits q message (length (drop open_reads_max (r ∷ rest))) (length v.calls) (length waiting) (length calls) (chunk_short xid v.credits)
+        send_fits q message (length (drop open_reads_max (r ∷ rest))) (length v.calls) (length waiting) (length calls) (let small = chunk_short xid v.credits in omega (arith, small))
         (omega (arith, filter_fewer (λ (x : PendingRead). not (eqb x.number n)) (drop kept rest), length-drop kept rest, length-drop open_reads_max (r ∷ rest), length-take open_reads_max (r ∷ rest)))
         (one_without n v.calls own) (waiting_most calls waiting pending waiting_few) (subst (λ (rs : List PendingRead). QueueFits q (length (drop open_reads_max rs)) (length v.calls)) reads f.queue)
 
@@ -473,9 +476,9 @@ drained_out v after n is h =
           };
     })
 
-first_lives : (credits : ℕ) → OutputLives (opened_side credits)
+first_lives : (credits : ℕ) (terms : SideTerms) → OutputLives (opened_side credits terms)
 unfolding initial_link
-first_lives credits = record { queue = λ n. omega arith; reads = λ n. omega arith; hello = omega arith; none = λ e. refl }
+first_lives credits terms = record { queue = λ n. omega arith; reads = λ n. omega arith; hello = omega arith; none = λ e. refl }
 
-pub opened_out : (v : ResponderSide) (credits : ℕ) → v ≡ opened_side credits → OutputFits v
-opened_out v credits is = subst OutputFits (sym is) (live_out (opened_side credits) (first_lives credits))
+pub opened_out : (v : ResponderSide) (credits : ℕ) (terms : SideTerms) → v ≡ opened_side credits terms → OutputFits v
+opened_out v credits terms is = subst OutputFits (sym is) (live_out (opened_side credits terms) (first_lives credits terms))

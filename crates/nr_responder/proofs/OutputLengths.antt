@@ -8,7 +8,7 @@ use Rattle.nr_xdr.proofs.WordBytes.{length_word, length_hyper}
 use Rattle.nr_wire.specs.Fields.{half_word}
 use Rattle.nr_wire.specs.Segment.{Segment, encoding, header, control, payload_in, tail_len, ulpdu_size}
 use Rattle.nr_wire.specs.Segment.Segment.{Tagged, Untagged}
-use Rattle.nr_wire.specs.Constants.{LENGTH_LEN, HELLO_LEN, OPCODE_SEND, OPCODE_WRITE, OPCODE_READ_REQUEST, OPCODE_TERMINATE, QUEUE_SEND, QUEUE_READ_REQUEST, QUEUE_TERMINATE, REASON_FLAGS}
+use Rattle.nr_wire.specs.Constants.{LENGTH_LEN, HELLO_LEN, NUMBERED_TERMS_LEN, UNITS_MAX, OPCODE_SEND, OPCODE_WRITE, OPCODE_READ_REQUEST, OPCODE_TERMINATE, QUEUE_SEND, QUEUE_READ_REQUEST, QUEUE_TERMINATE, REASON_FLAGS}
 use Rattle.nr_wire.specs.Hello.{hello_encoding, key}
 use Rattle.nr_wire.specs.declared.hello.Side.{Side}
 use Rattle.nr_wire.specs.declared.hello.Side.TheVariants.{Initiator, Responder}
@@ -21,7 +21,7 @@ use Rattle.nr_link.specs.declared.end.End.TheVariants as ends
 use Rattle.nr_link.specs.Ending.{final_output, rejection, is_hello_reason}
 use Rattle.nr_link.specs.Reasons.{denied_word, NO_BUFFER_WORD}
 use Rattle.nr_link.specs.Limits.{segment_max, send_max}
-use Rattle.nr_link.specs.Output.{msn_word, cut, hello_with, own_hello, read_request, refusing_hello, segment_count, segment_payload, send, terminate_message, write}
+use Rattle.nr_link.specs.Output.{msn_word, cut, hello_with, read_request, refusing_hello, segment_count, segment_payload, send, terminate_message, write}
 use Rattle.nr_rpc.specs.declared.head.CallTarget.{CallTarget}
 use Rattle.nr_reduce.specs.Server.{answer_of_target}
 use Rattle.nr_reduce.specs.declared.item.Item.{Item}
@@ -30,7 +30,7 @@ use Rattle.nr_reduce.specs.declared.item.Of.TheVariants.{Reply}
 use Rattle.nr_reduce.specs.Items.{moved_of, stream_of, reducible_item}
 use Rattle.nr_reduce.specs.Chunks.{chunk_total}
 use Rattle.nr_reduce.specs.Holds.{Answer, Parts, answer_for, answer_size, answer_with, answer_writes, first_chunk, fits_reply, no_segments, parts_by, parts_in, writes_into}
-use Rattle.nr_responder.specs.HeldBytes.{frame_max, sent_reply_max, request_max, writes_max}
+use Rattle.nr_responder.specs.HeldBytes.{frame_max, hello_max, send_frames_max, sent_reply_max, request_max, writes_max}
 
 -- ---- A frame
 
@@ -94,7 +94,7 @@ cut_len segment bytes of =
         let len : length (payload_in s) ≡ length (segment_payload bytes i) = ap (λ (xs : List ℕ). length xs) is in
         omega (arith, encoding_len s, len, length-take segment_max (drop (segment_max * i) bytes))
 
-pub send_len : (msn : ℕ) (message : List ℕ) → length message ≤ send_max → length (send msn message) ≤ frame_max
+pub send_len : (msn : ℕ) (message : List ℕ) → length message ≤ send_max * UNITS_MAX → length (send msn message) ≤ send_frames_max
 unfolding send
 send_len msn message small =
     let len = cut_len (λ last offset payload. Untagged last OPCODE_SEND 0 QUEUE_SEND (msn_word msn) offset payload) message (λ last offset payload. refl) in
@@ -152,9 +152,9 @@ rejection_len Responder (ends.NoBuffer msn) = omega arith
 rejection_len Responder (ends.Terminated reason) = omega arith
 rejection_len Responder ends.Memory = omega arith
 
-pub own_hello_is : length (own_hello Responder) ≡ HELLO_LEN
+pub own_hello_len : (private : List ℕ) → length private ≤ NUMBERED_TERMS_LEN → length (hello_with Responder private) ≤ hello_max
 unfolding hello_with hello_encoding key half_word
-own_hello_is = refl
+own_hello_len private short = omega (arith, short)
 
 -- ---- RDMA Writes
 
@@ -211,9 +211,9 @@ answer_fits : (offer : ChunkLists) (down prog vers proc : ℕ) (reply : List ℕ
 unfolding answer_for
 answer_fits offer down prog vers proc reply = with_fits offer down reply (parts_in (Reply prog vers proc) offer.write reply) (parts_fit (Reply prog vers proc) offer.write reply)
 
-pub target_fits : (offer : ChunkLists) (reply : List ℕ) (o : Option CallTarget) → AnswerFits reply (answer_of_target offer send_max reply o)
-target_fits offer reply None = answer_fits offer send_max 0 0 0 reply
-target_fits offer reply (Some t) = answer_fits offer send_max t.prog t.vers t.proc reply
+pub target_fits : (offer : ChunkLists) (down : ℕ) (reply : List ℕ) (o : Option CallTarget) → AnswerFits reply (answer_of_target offer down reply o)
+target_fits offer down reply None = answer_fits offer down 0 0 0 reply
+target_fits offer down reply (Some t) = answer_fits offer down t.prog t.vers t.proc reply
 
 first_few : (chunks : List (List RdmaSegment)) → All (λ chunk. length chunk ≤ 16) chunks → length (first_chunk chunks) ≤ 16
 first_few [] h = omega arith

@@ -1,11 +1,11 @@
 -- The output of a responder stays within its bounds at each of its steps.
-use Rattle.std.proofs.Common.{◌≡◌, ◌≢◌, ℕ, zero, suc, ◌+◌, ◌<◌, ◌≤◌, List, [], ◌∷◌, length, drop, Option, None, Some, refl, sym, ap, subst, ◌∙◌, arith, inl, inr}
+use Rattle.std.proofs.Common.{◌≡◌, ◌*◌, ◌≢◌, ℕ, zero, suc, ◌+◌, ◌<◌, ◌≤◌, List, [], ◌∷◌, length, drop, Option, None, Some, refl, sym, ap, subst, ◌∙◌, arith, inl, inr}
 use Rattle.std.specs.Prelude.{◌⊎◌, slice_get}
 use Rattle.std.specs.List.{remove}
 use Rattle.nr_wire.specs.Stream.{IsPartial}
 use Rattle.nr_link.specs.declared.end.End.{End}
 use Rattle.nr_link.specs.declared.end.End.TheVariants as ends
-use Rattle.nr_link.specs.Limits.{open_reads_max}
+use Rattle.nr_link.specs.Limits.{open_reads_max, send_max}
 use Rattle.nr_link.specs.Input.{InputState}
 use Rattle.nr_endpoint.specs.LinkState.{LinkSide}
 use Rattle.nr_endpoint.specs.ReceiveQueue.DeliveredEvent.{ReadDone}
@@ -37,6 +37,8 @@ use Rattle.nr_responder.proofs.QueueBounds.{sends_fit}
 use Rattle.nr_responder.proofs.Removed.{length_removed}
 use Rattle.nr_responder.proofs.ServerSteps.{new_is_read}
 use Rattle.nr_responder.proofs.Stepped.{FewDeliveries, few_deliveries}
+use Rattle.nr_link.specs.Agreement.{IsSendLimit}
+use Rattle.nr_wire.specs.Constants.{UNITS_MAX}
 
 pub failed_out : (v : ResponderSide) (piece : List ℕ) (m : LinkSide) (end : End) → end_of v ≡ None → IsPartial v.link.awaited v.link.rest → m.state.ended ≡ Some end → (end ≢ ends.Memory → m ≡ after_call v.link (FeedOne piece)) → (end ≡ ends.Memory → m ≡ after_call v.link OutOfMemory) → OutputFits v → OutputFits (on_link v m)
 failed_out v piece m end live p ended fed out_of h = by end ended fed out_of
@@ -105,14 +107,14 @@ answer_few : (lists : ChunkLists) (reply : List ℕ) (o : Option Answer) → Lis
 answer_few lists reply None within fits most = omega arith
 answer_few lists reply (Some a) within fits most = writes_len lists a (length reply) within fits most
 
-pub writes_few : (lists : ChunkLists) (c : PendingCall) (stream reply : List ℕ) → c.lists ≡ lists → ListsWithin lists → length reply ≤ sent_reply_max → length (writes_for lists (answer_to c stream reply)) ≤ writes_max
-writes_few lists c stream reply is within most = answer_few lists reply (answer_to c stream reply) within (target_fits c.lists reply (target_of (call_of stream))) most
+pub writes_few : (lists : ChunkLists) (down : ℕ) (c : PendingCall) (stream reply : List ℕ) → c.lists ≡ lists → ListsWithin lists → length reply ≤ sent_reply_max → length (writes_for lists (answer_to down c stream reply)) ≤ writes_max
+writes_few lists down c stream reply is within most = answer_few lists reply (answer_to down c stream reply) within (target_fits c.lists down reply (target_of (call_of stream))) most
 
-pub answered_out : (v after : ResponderSide) (xid : ℕ) (reply : List ℕ) (sent : Sent) → end_of v ≡ None → OutputFits v → (end_of after ≡ None → SharesFit after) → Answers v after xid reply sent → OutputFits after
-answered_out v after xid reply sent live fit on a = subst OutputFits (sym a.state) (live_out w f)
+pub answered_out : (v after : ResponderSide) (xid : ℕ) (reply : List ℕ) (sent : Sent) → end_of v ≡ None → IsSendLimit v.link.state.agreed.down → OutputFits v → (end_of after ≡ None → SharesFit after) → Answers v after xid reply sent → OutputFits after
+answered_out v after xid reply sent live limit fit on a = subst OutputFits (sym a.state) (live_out w f)
   where
     message : List ℕ
-    message = message_for xid v.credits a.call.lists (answer_to a.call a.stream reply)
+    message = message_for xid v.credits a.call.lists (answer_to v.link.state.agreed.down a.call a.stream reply)
 
     w : ResponderSide
     w = answered_by a.at a.writes message v
@@ -135,11 +137,14 @@ answered_out v after xid reply sent live fit on a = subst OutputFits (sym a.stat
     waiting : ℕ
     waiting = length (drop open_reads_max v.fetching.reads)
 
+    short : length message ≤ send_max * UNITS_MAX
+    short = (let least = a.short in let most = limit.1 in omega (arith, least, most))
+
     f : OutputLives w
     f = record {
       queue =
           subst (λ (l : LinkSide). QueueFits l.state.send_queue waiting (length (remove v.calls a.at))) (sym link_is)
-          (sends_fit v.link.state.send_queue (writes_output a.writes) message waiting (length v.calls) waiting (length (remove v.calls a.at)) a.few a.short (omega arith) (omega (arith, fewer)) (waits_lem w shares h.reads) h.queue);
+          (sends_fit v.link.state.send_queue (writes_output a.writes) message waiting (length v.calls) waiting (length (remove v.calls a.at)) a.few short (omega arith) (omega (arith, fewer)) (waits_lem w shares h.reads) h.queue);
       reads = h.reads;
       hello = (let small = h.hello in let len = ap (λ (l : LinkSide). length l.state.send_queue.hello) link_is in omega (arith, small, len));
       none = λ e. ap (λ (l : LinkSide). length l.state.send_queue.hello) link_is ∙ h.none (sym (ap (λ (l : LinkSide). l.state.place) link_is) ∙ e);

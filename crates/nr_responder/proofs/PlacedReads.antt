@@ -27,7 +27,7 @@ use Rattle.nr_responder.specs.ResponderState.{ResponderSide}
 use Rattle.nr_responder.specs.private.DoneReads.{IsPlaced}
 use Rattle.nr_responder.specs.private.Reading.{bytes_of_sink, is_sink_over, left_sinks, opening, over_sinks, sink_bytes, with_opened, with_released}
 use Rattle.nr_responder.specs.private.ReadsDone.{read_payload, reading_on}
-use Rattle.nr_responder.specs.Sound.{AreFetched, AreHeldFrom, HasOutside, HasRoom, HasWindow, InBuffer, KeepsOutside, QueuesInvariant, around_of, claims_of, payloads_of, room_len, state_of, xids_of}
+use Rattle.nr_responder.specs.Sound.{AreFetched, AreHeldFrom, HasOutside, HasRoom, HasWindow, InBuffer, InReceive, KeepsOutside, QueuesInvariant, around_of, claims_of, payloads_of, room_len, state_of, xids_of}
 use Rattle.nr_responder.specs.Views.{call_view, inline_of, read_view, sink_view}
 use Rattle.nr_responder.proofs.HeldSinks.{held_at, read_has_room}
 use Rattle.nr_responder.proofs.JoinedPayloads.{conveyed_is}
@@ -164,7 +164,7 @@ placed_state r f g calls sinks ready kept xid payload opened closed calls_are si
 pub emptied_around : (p new : Pending) → new ≡ record p { around = 0 } → InBuffer p → InBuffer new
 emptied_around p new is h = subst InBuffer (sym is) (record { buf = h.buf; len = h.len; at = h.at; lists = h.lists; target = h.target; item = h.item })
 
-pub readied_queues : (s : LinkState) (at : ℕ) (new : Pending) (calls later : List Pending) (ready readied : List Ready) (q : Ready) (used : List (List ℕ)) (a b later_b c : ℕ) → InBuffer new → later ≡ set calls at new → readied ≡ ready ++ q ∷ [] → length ready < length calls → later_b ≡ b →
+pub readied_queues : (s : LinkState) (at : ℕ) (new : Pending) (calls later : List Pending) (ready readied : List Ready) (q : Ready) (used : List (List ℕ)) (a b later_b c : ℕ) → InReceive s.receive_queue.receive_length new → later ≡ set calls at new → readied ≡ ready ++ q ∷ [] → length ready < length calls → later_b ≡ b →
     QueuesInvariant 0 s calls ready used a b c → QueuesInvariant 0 s later readied used a later_b c
 readied_queues s at new calls later ready readied q used a b later_b c whole is ready_is few room h =
     let count : length later ≡ length calls = ap (λ (xs : List Pending). length xs) is ∙ length-set calls at new in
@@ -173,12 +173,12 @@ readied_queues s at new calls later ready readied q used a b later_b c whole is 
       unsent_is = h.unsent_is;
       lent = omega (arith, h.lent, count);
       few = omega (arith, few, count, one);
-      bufs = subst (λ (xs : List Pending). All InBuffer xs) (sym is) (All-set InBuffer calls at new whole h.bufs);
+      bufs = subst (λ (xs : List Pending). All (InReceive s.receive_queue.receive_length) xs) (sym is) (All-set (InReceive s.receive_queue.receive_length) calls at new whole h.bufs);
       used_bufs = h.used_bufs;
       calls_fit = h.calls_fit;
       ready_fit = omega (arith, h.ready_fit, room);
       used_fit = h.used_fit;
-      receive_length = h.receive_length;
+      limit = h.limit;
     }
 
 pub placed_fetched : (e f g : EndpointState) (at stag : ℕ) (p new : Pending) (o : Outside) (opened : List PendingRead) (calls later : List Pending) (reads : List ReadEntry) (sinks left : List OpenSink) → f.link ≡ with_opened opened e.link → f.outside ≡ e.outside →

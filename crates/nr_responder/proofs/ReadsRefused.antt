@@ -289,8 +289,8 @@ kept_front zero f rest le = refl
 kept_front (suc kept) f [] le = absurd (omega (arith, le))
 kept_front (suc kept) f (r ∷ rest) le = ap (λ (rs : List PendingRead). r ∷ rs) (kept_front kept f rest (omega (arith, le)))
 
-sent_last : (opened : LinkParameters) (k : ServerState) (f : Frame) (a : TaggedSegment) (rest : List PendingRead) (calls : List PendingCall) (message : List ℕ) (t : LinkState) → TakesLast k f a rest opened.granted t → length calls + 1 ≡ length k.calls →
-    TakesLast (with_error k calls message) f a rest opened.granted (with_sent t message)
+sent_last : (opened : LinkParameters) (k : ServerState) (f : Frame) (a : TaggedSegment) (rest : List PendingRead) (calls : List PendingCall) (message : List ℕ) (t : LinkState) → TakesLast k f a rest opened t → length calls + 1 ≡ length k.calls →
+    TakesLast (with_error k calls message) f a rest opened (with_sent t message)
 sent_last opened k f a rest calls message t h fewer =
     let one : length (t.send_queue.send_ends ++ length (t.send_queue.fpdus ++ send_output t.send_queue message) ∷ []) ≡ unsent t + 1 =
     length-append t.send_queue.send_ends (length (t.send_queue.fpdus ++ send_output t.send_queue message) ∷ []) in
@@ -300,7 +300,10 @@ sent_last opened k f a rest calls message t h fewer =
       received = h.received;
       receive_length = h.receive_length;
       message_max = h.message_max;
+      fits = h.fits;
       terms = h.terms;
+      up = h.up;
+      down = h.down;
       free = (let all = h.free in omega (arith, all, fewer, one));
       lent = (let all = h.lent in omega (arith, all, fewer, one));
       told = h.told;
@@ -376,7 +379,7 @@ refused_done opened k so_far v frame x rest h some long lives r is reads c =
     let state : with_effect k f (refused_effect k calls left message kept) ≡ k' = refused_state k f r.stag r.to r.payload message a calls left kept segment refl in
     let next : next_end_state (server_rules opened) (live k) (FrameReceived f) ≡ live k' = at.next ∙ ap (λ (t : ServerState). live t) state in
     let fewer : length calls + 1 ≡ length k.calls = one_without n k.calls c.call h.server.numbers (ap (λ (m : ℕ). find (λ d. eqb d.number m) k.calls) number ∙ same.found) in
-    let last : TakesLast k1 f a rest opened.granted (with_sent t message) = sent_last opened k f a rest calls message t (takes_last opened k so_far v frame x rest h long r reads) fewer in
+    let last : TakesLast k1 f a rest opened (with_sent t message) = sent_last opened k f a rest calls message t (takes_last opened k so_far v frame x rest h long r reads) fewer in
     let opens : t.reads ≡ later_responses (take kept left) =
     last.reads ∙ ap later_responses (sym (taken_less kept rest few) ∙ sym (kept_front kept (λ (r : PendingRead). not (eqb r.number n)) rest within)) in
     let holds : EffectHolds k calls left [] = refused_holds k s.place kept n x rest reads (sym number) h.server in
@@ -393,7 +396,6 @@ refused_done opened k so_far v frame x rest h some long lives r is reads c =
       credits = h.credits;
       reads = refl;
       sinks = sym (open_left calls left f.end k.regions);
-      silent = h.silent;
       payloads = subst (λ (rs : List ReadyCall). ArePayloads calls rs (v.fetching.payloads ++ [])) (sym (append-nil k.ready))
           (subst (λ (ps : List (Option (List ℕ))). ArePayloads calls k.ready ps) (sym (append-nil v.fetching.payloads)) (payloads_left n k.calls k.ready v.fetching.payloads h.payloads));
       quiet = λ e. absurd (omega (arith, e, some));

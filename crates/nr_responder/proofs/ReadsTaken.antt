@@ -120,7 +120,6 @@ response_part_takes opened k so_far v frame h some long lives r is =
       credits = h.credits;
       reads = h.reads;
       sinks = h.sinks;
-      silent = h.silent;
       payloads = h.payloads;
       quiet = λ e. absurd (omega (arith, e, some));
     } in
@@ -162,14 +161,17 @@ pub taken_less : (n : ℕ) (rest : List PendingRead) → n ≡ length (take 7 re
 taken_less n rest is = ap (λ (m : ℕ). take m rest) is ∙ take_count 7 rest
 
 pub takes_last : (opened : LinkParameters) (k : ServerState) (so_far : InputState) (v : ResponderSide) (frame : List ℕ) (x : PendingRead) (rest : List PendingRead) → Keeps opened k so_far v → 0 < length frame → (r : IsResponse v.link.state frame) → k.reads ≡ x ∷ rest →
-    TakesLast k (next_frame v.link.state frame) (response_access v.link.state frame r.stag r.to r.payload) rest opened.granted (done_side v.link.state frame r.stag r.to r.payload)
+    TakesLast k (next_frame v.link.state frame) (response_access v.link.state frame r.stag r.to r.payload) rest opened (done_side v.link.state frame r.stag r.to r.payload)
 takes_last opened k so_far v frame x rest h long r reads = record {
   live = h.link.live;
   side = h.link.side;
   received = h.link.received;
   receive_length = h.link.receive_length;
   message_max = h.link.message_max;
+  fits = h.link.fits;
   terms = h.link.terms;
+  up = h.link.up;
+  down = h.link.down;
   free = h.link.free;
   lent = h.link.lent;
   told = h.link.told;
@@ -210,7 +212,7 @@ done_takes opened k so_far v frame x rest ready payloads h some long lives r is 
     let next : next_end_state (server_rules opened) (live k) (FrameReceived f) ≡ live k' = at.next ∙ ap (λ (t : ServerState). live t) state in
     let few : kept ≡ length (take 7 rest) = omega arith in
     let after : LinkState = side_after_done t (opening kept rest) (over_sinks k.calls rest (open_sinks k.regions)) in
-    let last : TakesLast k f a rest opened.granted t = takes_last opened k so_far v frame x rest h long r reads in
+    let last : TakesLast k f a rest opened t = takes_last opened k so_far v frame x rest h long r reads in
     let opens : t.reads ≡ later_responses (take kept rest) = last.reads ∙ ap later_responses (sym (taken_less kept rest few)) in
     let keeps : Keeps opened k' (behind so_far frame) (done_with v t k.calls (open_sinks k.regions) rest kept (map (λ q. q.xid) ready) payloads) =
     record {
@@ -223,7 +225,6 @@ done_takes opened k so_far v frame x rest ready payloads h some long lives r is 
       credits = h.credits;
       reads = refl;
       sinks = sym (open_left k.calls rest f.end k.regions);
-      silent = h.silent;
       payloads = has;
       quiet = λ e. absurd (omega (arith, e, some));
     } in

@@ -8,7 +8,7 @@ use Rattle.nr_wire.specs.Segment.{Segment, segment_of}
 use Rattle.nr_wire.specs.Segment.Segment.{Untagged}
 use Rattle.nr_wire.specs.Constants.{OPCODE_SEND}
 use Rattle.nr_link.specs.declared.end.End.{End}
-use Rattle.nr_link.specs.Limits.{send_max}
+use Rattle.nr_endpoint.specs.Hellos.{receive_length_for}
 use Rattle.nr_link.specs.ReceiveState.{ReceiveState, begun_bytes, send_continued}
 use Rattle.nr_link.specs.KeptSends.{begun_within, received_within}
 use Rattle.nr_link.specs.SegmentFaults.{is_begun}
@@ -46,19 +46,19 @@ frame_lives s bytes segment is lives =
 
 -- ---- What is kept of a begun Send
 
-same_begun : (b : Option (List ℕ)) → is_begun (begun_within send_max b) ≡ is_begun b
-same_begun None = refl
-same_begun (Some bytes) = refl
+same_begun : (n : ℕ) (b : Option (List ℕ)) → is_begun (begun_within n b) ≡ is_begun b
+same_begun n None = refl
+same_begun n (Some bytes) = refl
 
 -- the bytes of a message that fits its receive are all kept
-pub message_kept : (b : Option (List ℕ)) (payload : List ℕ) → length (begun_bytes b) ≤ send_max → begun_bytes (begun_within send_max b) ++ payload ≡ begun_bytes b ++ payload
-message_kept None payload le = refl
-message_kept (Some bytes) payload le = ap (λ (xs : List ℕ). xs ++ payload) (kept_short send_max bytes le)
+pub message_kept : (n : ℕ) (b : Option (List ℕ)) (payload : List ℕ) → length (begun_bytes b) ≤ n → begun_bytes (begun_within n b) ++ payload ≡ begun_bytes b ++ payload
+message_kept n None payload le = refl
+message_kept n (Some bytes) payload le = ap (λ (xs : List ℕ). xs ++ payload) (kept_short n bytes le)
 
 -- ---- A segment of a Send, and another
 
 pub begun_fine : (opened : LinkParameters) (k : ServerState) (s : LinkState) → LinkKeeps opened k s → is_begun s.receive_queue.received.begun ≡ is_begun k.received.begun
-begun_fine opened k s h = ap (λ (r : ReceiveState). is_begun r.begun) h.received ∙ same_begun k.received.begun
+begun_fine opened k s h = ap (λ (r : ReceiveState). is_begun r.begun) h.received ∙ same_begun (receive_length_for opened.server) k.received.begun
 
 free_less : (b c : Bool) (free rest granted : ℕ) → b ≡ c → free + (rest + one_if c) ≡ granted → (b ≡ false → 0 < free) → cond (not b) (free - 1) free + (rest + 1) ≡ granted
 free_less true true free rest granted same is some = is
@@ -107,10 +107,13 @@ part_keeps opened k s bytes payload h is some = record {
   side = h.side;
   received =
       (λ i. received_within (h.receive_length i) (send_continued (h.received i) false payload))
-      ∙ kept_alike send_max k.received (Untagged false OPCODE_SEND 0 0 0 0 payload);
+      ∙ kept_alike (receive_length_for opened.server) k.received (Untagged false OPCODE_SEND 0 0 0 0 payload);
   receive_length = h.receive_length;
   message_max = h.message_max;
+  fits = h.fits;
   terms = h.terms;
+  up = h.up;
+  down = h.down;
   free = free_less (is_begun s.receive_queue.received.begun) (is_begun k.received.begun) s.receive_queue.free (unsent s + length k.calls) opened.granted (begun_fine opened k s h) h.free some;
   lent = h.lent;
   told = append-nil s.receive_queue.deliveries ∙ h.told;
@@ -136,7 +139,10 @@ told_keeps opened k s bytes c stream h is some =
       received = λ i. record { sends = (h.received i).sends + 1; begun = None; requests = (h.received i).requests };
       receive_length = h.receive_length;
       message_max = h.message_max;
+      fits = h.fits;
       terms = h.terms;
+      up = h.up;
+      down = h.down;
       free = omega (arith, free, more);
       lent = omega (arith, h.lent, more);
       told = refl;

@@ -9,8 +9,8 @@ use Rattle.nr_header.specs.declared.header.ChunkLists.{ChunkLists}
 use Rattle.nr_header.specs.WithinLimits.{read_total}
 use Rattle.nr_link.specs.declared.end.End.{End}
 use Rattle.nr_link.specs.declared.end.End.TheVariants as ends
-use Rattle.nr_link.specs.Limits.{open_reads_max, send_max}
-use Rattle.nr_endpoint.specs.ReceiveQueue.{ReceiveQueue, initial_receives}
+use Rattle.nr_link.specs.Limits.{open_reads_max}
+use Rattle.nr_endpoint.specs.ReceiveQueue.{ReceiveQueue}
 use Rattle.nr_link.specs.Input.{InputState}
 use Rattle.nr_regions.specs.RegisteredMemory.{RegisteredMemory}
 use Rattle.nr_endpoint.specs.LinkState.{LinkState, LinkSide}
@@ -24,7 +24,7 @@ use Rattle.nr_reduce.specs.ServerState.{PendingCall, PendingRead, ServerState}
 use Rattle.nr_reduce.specs.ServerReads.{chunks_of, reads_from, regions_from}
 use Rattle.nr_reduce.specs.declared.mark.LinkParameters.{LinkParameters}
 use Rattle.nr_responder.specs.Fetching.{Fetching, SinkRegion, open_if, open_sinks, sink_of_region}
-use Rattle.nr_responder.specs.HeldBytes.{sinks_count, sinks_share, sinks_total, IsOfPending, RegionsHave, SameReceives, SharesFit, SinksFit}
+use Rattle.nr_responder.specs.HeldBytes.{sinks_count, sinks_share, sinks_total, IsOfPending, RegionsHave, SameReceives, SharesFit, SinksFit, ReceivesFit}
 use Rattle.nr_responder.specs.Keeping.{Keeps}
 use Rattle.nr_responder.specs.ResponderState.{ResponderSide, end_of}
 use Rattle.nr_responder.specs.Sound.{AreHeldFrom}
@@ -40,6 +40,7 @@ use Rattle.nr_responder.proofs.PendingReads.{AreOf, reads_own}
 use Rattle.nr_responder.proofs.Posted.{stopped_as, memory_as, memory_ends, sent_link, told_link_lem}
 use Rattle.nr_responder.proofs.Shares.{share_append, share_filtered, sizes_append}
 use Rattle.nr_responder.proofs.SinkTotals.{claim_of_sink, registered_have, released_have, regions_total}
+use Rattle.nr_link.specs.Agreement.{IsSendLimit}
 
 -- ---- Reads of pending calls
 
@@ -148,6 +149,9 @@ few_kept P (suc n) (suc m) (x ∷ xs) ys le h = few_kept P n m xs ys (omega (ari
 pub receives_on : (p q r : ReceiveQueue) → SameReceives p q → SameReceives q r → SameReceives p r
 receives_on p q r a b = record { count = b.count ∙ a.count; len = b.len ∙ a.len }
 
+pub receives_fit_on : (credits : ℕ) (q r : ReceiveQueue) → ReceivesFit credits q → SameReceives q r → ReceivesFit credits r
+receives_fit_on credits q r a b = record { count = b.count ∙ a.count; len = subst IsSendLimit (sym b.len) a.len }
+
 pub receives_same : (q r : ReceiveQueue) → r ≡ q → SameReceives q r
 receives_same q r is = record { count = ap (λ (x : ReceiveQueue). x.receives) is; len = ap (λ (x : ReceiveQueue). x.receive_length) is }
 
@@ -158,7 +162,7 @@ told_receives l = (let t = told_link_lem l (after_call l NextEvent) refl in reco
 
 pub on_link_fits : (v : ResponderSide) (l : LinkSide) → SameReceives v.link.state.receive_queue l.state.receive_queue → l.state.memory ≡ v.link.state.memory → (l.state.ended ≡ None → end_of v ≡ None) → SinksFit v → SinksFit (on_link v l)
 on_link_fits v l same memory lives h = record {
-  receives = receives_on _ v.link.state.receive_queue l.state.receive_queue h.receives same;
+  receives = receives_fit_on _ v.link.state.receive_queue l.state.receive_queue h.receives same;
   memory = subst (λ (m : RegisteredMemory). RegionsHave m (sinks_total v.fetching.sinks)) (sym memory) h.memory;
   most = h.most;
   count = h.count;
@@ -167,7 +171,7 @@ on_link_fits v l same memory lives h = record {
 
 pub ready_fits : (v : ResponderSide) (l : LinkSide) (c : PendingCall) → SameReceives v.link.state.receive_queue l.state.receive_queue → l.state.memory ≡ v.link.state.memory → (l.state.ended ≡ None → end_of v ≡ None) → SinksFit v → SinksFit (with_ready v l c)
 ready_fits v l c same memory lives h = record {
-  receives = receives_on _ v.link.state.receive_queue l.state.receive_queue h.receives same;
+  receives = receives_fit_on _ v.link.state.receive_queue l.state.receive_queue h.receives same;
   memory = subst (λ (m : RegisteredMemory). RegionsHave m (sinks_total v.fetching.sinks)) (sym memory) h.memory;
   most = (let most = h.most in omega (arith, most, length-append v.calls (c ∷ [])));
   count = (let count = h.count in omega (arith, count, length-append v.calls (c ∷ [])));
@@ -184,7 +188,7 @@ stop_ends l reason live none =
 -- and keeps its sinks
 ended_fits : (v : ResponderSide) (l : LinkSide) (fetching : Fetching) → SameReceives v.link.state.receive_queue l.state.receive_queue → l.state.memory ≡ v.link.state.memory → fetching.sinks ≡ v.fetching.sinks → (l.state.ended ≡ None → ⊥) → SinksFit v → SinksFit (ended_as v l fetching)
 ended_fits v l fetching same memory sinks over h = record {
-  receives = receives_on _ v.link.state.receive_queue l.state.receive_queue h.receives same;
+  receives = receives_fit_on _ v.link.state.receive_queue l.state.receive_queue h.receives same;
   memory = subst (λ (m : RegisteredMemory). RegionsHave m (sinks_total fetching.sinks)) (sym memory) (subst (λ (ss : List SinkRegion). RegionsHave v.link.state.memory (sinks_total ss)) (sym sinks) h.memory);
   most = (let most = h.most in let same = ap (λ (ss : List SinkRegion). sinks_total ss) sinks in omega (arith, most, same));
   count = (let count = h.count in let same = ap (λ (ss : List SinkRegion). length ss) sinks in omega (arith, count, same));
@@ -197,7 +201,7 @@ ended_fits v l fetching same memory sinks over h = record {
 abbrev pub LivesOn : ResponderSide → Type 0
 LivesOn v = end_of v ≡ None → (opened : LinkParameters) × ((k : ServerState) × ((so_far : InputState) × Keeps opened k so_far v))
 
-pub live_fits : (v : ResponderSide) → LivesOn v → end_of v ≡ None → SameReceives (initial_receives v.credits send_max) v.link.state.receive_queue → RegionsHave v.link.state.memory (sinks_total v.fetching.sinks) → SharesFit v → SinksFit v
+pub live_fits : (v : ResponderSide) → LivesOn v → end_of v ≡ None → ReceivesFit v.credits v.link.state.receive_queue → RegionsHave v.link.state.memory (sinks_total v.fetching.sinks) → SharesFit v → SinksFit v
 live_fits v on live receives have fit =
     let h = on live in
     record { receives = receives; memory = have; most = live_most h.0 h.1.0 h.1.1.0 v h.1.1.1 fit; count = live_count h.0 h.1.0 h.1.1.0 v h.1.1.1 fit; each = λ live. fit }

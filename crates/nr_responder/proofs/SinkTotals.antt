@@ -34,19 +34,20 @@ use Rattle.nr_responder.specs.Views.{sink_view}
 use Rattle.nr_responder.specs.private.CallsRead.{registered}
 use Rattle.nr_responder.specs.private.Reading.{released}
 use Rattle.nr_responder.proofs.HeldSinks.{held_above}
+use Rattle.nr_link.specs.declared.agreement.SideTerms.{SideTerms}
 
 -- ---- As it is opened
 
-first_memory : (credits : ℕ) → (initial_link Responder credits 1 None).state.memory ≡ initial_memory 1
+first_memory : (credits : ℕ) (terms : SideTerms) → (initial_link Responder credits 1 terms).state.memory ≡ initial_memory 1
 unfolding initial_link
-first_memory credits = refl
+first_memory credits terms = refl
 
 none_held : RegionsHave (initial_memory 1) 0
 unfolding initial_memory
 none_held = sound_initial region_len 1 (omega arith)
 
-pub opened_have : (l : LinkSide) (credits : ℕ) → l ≡ initial_link Responder credits 1 None → RegionsHave l.state.memory 0
-opened_have l credits is = subst (λ (m : RegisteredMemory). RegionsHave m 0) (sym (ap (λ (x : LinkSide). x.state.memory) is ∙ first_memory credits)) none_held
+pub opened_have : (l : LinkSide) (credits : ℕ) (terms : SideTerms) → l ≡ initial_link Responder credits 1 terms → RegionsHave l.state.memory 0
+opened_have l credits terms is = subst (λ (m : RegisteredMemory). RegionsHave m 0) (sym (ap (λ (x : LinkSide). x.state.memory) is ∙ first_memory credits terms)) none_held
 
 -- ---- A frame
 

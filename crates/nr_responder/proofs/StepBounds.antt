@@ -12,7 +12,7 @@ use Rattle.nr_link.specs.Input.{InputState}
 use Rattle.nr_outside.specs.declared.moment.Moment.{Moment}
 use Rattle.nr_regions.specs.RegisteredMemory.{RegisteredMemory, bytes_held}
 use Rattle.nr_endpoint.specs.LinkState.{LinkSide, initial_link}
-use Rattle.nr_endpoint.specs.ReceiveQueue.{initial_receives, receives_kept}
+use Rattle.nr_endpoint.specs.ReceiveQueue.{receives_kept}
 use Rattle.nr_endpoint.specs.ReceiveQueue.DeliveredEvent.{ReadDone}
 use Rattle.nr_endpoint.specs.Calls.{after_call, after_calls}
 use Rattle.nr_endpoint.specs.Calls.Call.{FeedOne, NextEvent, OutOfMemory}
@@ -25,7 +25,7 @@ use Rattle.nr_reduce.specs.ServerState.{PendingCall, PendingRead, ServerState}
 use Rattle.nr_reduce.specs.ServerReads.{is_read}
 use Rattle.nr_responder.specs.declared.call.Sent.{Sent}
 use Rattle.nr_responder.specs.Answering.{Answers, answer_to, answered_by, message_for}
-use Rattle.nr_responder.specs.HeldBytes.{sinks_total, IsOfPending, IsBounded, KeptFits, RegionsHave, SameReceives, SharesFit, SinksFit, held_unit}
+use Rattle.nr_responder.specs.HeldBytes.{sinks_total, IsOfPending, IsBounded, KeptFits, RegionsHave, SharesFit, SinksFit, held_unit, ReceivesFit}
 use Rattle.nr_responder.specs.Keeping.{Keeps}
 use Rattle.nr_responder.specs.ResponderState.{ResponderSide, ResponderState, after_drain, bytes_held_by, end_of, opened_side, unsent}
 use Rattle.nr_responder.specs.Standing.{RepresentsServer, ResponderRepresents, RepresentsSome}
@@ -33,7 +33,7 @@ use Rattle.nr_responder.specs.Sound.{AreHeldFrom}
 use Rattle.nr_responder.specs.Rooms.{payload_room}
 use Rattle.nr_responder.specs.private.Handling.{IsServerOf, IsTaken, on_link, out}
 use Rattle.nr_responder.specs.private.ReadsDone.{HandlesRead}
-use Rattle.nr_responder.proofs.Answered.{NextKept, next_kept, answer_link, answered_stands, payload_is_lem}
+use Rattle.nr_responder.proofs.Answered.{NextKept, next_kept, answer_link, answered_stands, payload_is_lem, down_limit}
 use Rattle.nr_responder.proofs.DoneReads.{impossible_none}
 use Rattle.nr_responder.proofs.Executed.{with_answer}
 use Rattle.nr_responder.proofs.Fed.{StepOf, not_ended_lem, step_next, step_of}
@@ -43,9 +43,13 @@ use Rattle.nr_responder.proofs.Marks.{represents}
 use Rattle.nr_responder.proofs.OutputSteps.{answered_out}
 use Rattle.nr_responder.proofs.QueueBounds.{count_fewer}
 use Rattle.nr_responder.proofs.Posted.{memory_as, told_link_lem}
-use Rattle.nr_responder.proofs.SinkBounds.{LivesOn, handled_fits, live_fits, on_link_fits, read_fits, read_out_fits, receives_on, receives_same, told_receives}
+use Rattle.nr_responder.proofs.SinkBounds.{LivesOn, handled_fits, live_fits, on_link_fits, read_fits, read_out_fits, receives_fit_on, receives_same, told_receives}
 use Rattle.nr_responder.proofs.SinkTotals.{claim_of_sink, fed_one_have, opened_have}
 use Rattle.nr_responder.proofs.Stepped.{FewDeliveries, few_deliveries}
+use Rattle.nr_link.specs.declared.agreement.SideTerms.{SideTerms}
+use Rattle.nr_wire.specs.Constants.{UNITS_MAX}
+use Rattle.std.proofs.lemmas.Nat.{mul-le}
+use Rattle.nr_responder.proofs.Opened.{own_limit}
 
 -- one that lives and stands for some marks keeps a server's state
 pub lives_on_lem : (opened : LinkParameters) (link : ℕ) (run : List Mark) (v : ResponderSide) → ResponderRepresents opened link run v → LivesOn v
@@ -63,7 +67,7 @@ pub fed_fits : (v : ResponderSide) (piece : List ℕ) (m : LinkSide) → end_of 
 fed_fits v piece m live step is h =
     let have : RegionsHave m.state.memory (sinks_total v.fetching.sinks) = subst (λ (l : LinkSide). RegionsHave l.state.memory (sinks_total v.fetching.sinks)) (sym is) (fed_one_have (sinks_total v.fetching.sinks) v.link piece h.memory) in
     let counts = step_counts v.link m piece step in
-    record { receives = receives_on _ v.link.state.receive_queue m.state.receive_queue h.receives (record { count = counts.receives; len = counts.receive_length }); memory = have; most = h.most; count = h.count; each = λ lives. (let f : SharesFit v = h.each live in record { shares = f.shares; counts = f.counts; waiting = f.waiting }) }
+    record { receives = receives_fit_on _ v.link.state.receive_queue m.state.receive_queue h.receives (record { count = counts.receives; len = counts.receive_length }); memory = have; most = h.most; count = h.count; each = λ lives. (let f : SharesFit v = h.each live in record { shares = f.shares; counts = f.counts; waiting = f.waiting }) }
 
 -- or it ended, or ran out of memory
 pub failed_fits : (v : ResponderSide) (piece : List ℕ) (m : LinkSide) (end : End) → end_of v ≡ None → IsPartial v.link.awaited v.link.rest → (end ≢ ends.Memory → m ≡ after_call v.link (FeedOne piece)) → (end ≡ ends.Memory → m ≡ after_call v.link OutOfMemory) → SinksFit v → SinksFit (on_link v m)
@@ -168,10 +172,10 @@ own_number (d ∷ calls) zero c x n there own all = (let same : d ≡ c = cc in 
 own_number (d ∷ calls) (suc at) c x n there own all = own_number calls at c x n there own all.1
 
 pub answered_fits : (opened : LinkParameters) (link : ℕ) (run : List Mark) (v after : ResponderSide) (xid : ℕ) (reply : List ℕ) (sent : Sent) → ResponderRepresents opened link run v → end_of v ≡ None → slice_get v.ready 0 ≡ Some xid → LivesOn after → SinksFit v → Answers v after xid reply sent → SinksFit after
-answered_fits opened link run v after xid reply sent stands live first on fit a = subst SinksFit (sym a.state) (live_fits w (subst LivesOn a.state on) live_now (receives_on _ _ _ fit.receives (receives_same _ _ (ap (λ (l : LinkSide). l.state.receive_queue) link_is))) have (record { shares = f.shares; counts = f.counts; waiting = waiting }))
+answered_fits opened link run v after xid reply sent stands live first on fit a = subst SinksFit (sym a.state) (live_fits w (subst LivesOn a.state on) live_now (receives_fit_on _ _ _ fit.receives (receives_same _ _ (ap (λ (l : LinkSide). l.state.receive_queue) link_is))) have (record { shares = f.shares; counts = f.counts; waiting = waiting }))
   where
     message : List ℕ
-    message = message_for xid v.credits a.call.lists (answer_to a.call a.stream reply)
+    message = message_for xid v.credits a.call.lists (answer_to v.link.state.agreed.down a.call a.stream reply)
 
     w : ResponderSide
     w = answered_by a.at a.writes message v
@@ -207,15 +211,15 @@ drained_fits v after n is h = subst SinksFit (sym is) (record { receives = recor
 
 -- ---- As it is opened
 
-opened_receives : (credits : ℕ) → SameReceives (initial_receives credits send_max) (opened_side credits).link.state.receive_queue
+opened_receives : (credits : ℕ) (terms : SideTerms) → ReceivesFit credits (opened_side credits terms).link.state.receive_queue
 unfolding initial_link
-opened_receives credits = record { count = refl; len = refl }
+opened_receives credits terms = record { count = refl; len = own_limit terms }
 
-pub opened_fits : (v : ResponderSide) (credits : ℕ) → v ≡ opened_side credits → SinksFit v
-opened_fits v credits is =
+pub opened_fits : (v : ResponderSide) (credits : ℕ) (terms : SideTerms) → v ≡ opened_side credits terms → SinksFit v
+opened_fits v credits terms is =
     subst SinksFit (sym is) (record {
-      receives = opened_receives credits;
-      memory = opened_have (opened_side credits).link credits refl;
+      receives = opened_receives credits terms;
+      memory = opened_have (opened_side credits terms).link credits terms refl;
       most = omega arith;
       count = omega arith;
       each = λ live. record { shares = λ n. omega arith; counts = λ n. omega arith; waiting = tt };
@@ -233,7 +237,7 @@ answer_fits (Ok sent) s t xid reply live first a err opened link run stands fit 
     let more : List Mark = run ++ marks.Execute link xid some_moment a.stream 0 reply ∷ [] in
     let on : ResponderRepresents opened link more t.side = answered_stands opened link run s.side t.side xid some_moment a.stream 0 reply sent stands live x a in
     let sinks : SinksFit t.side = answered_fits opened link run s.side t.side xid reply sent stands live first (lives_on_lem opened link more t.side on) fit.sinks a in
-    (record { sinks = sinks; output = answered_out s.side t.side xid reply sent live fit.output sinks.each a }, (opened, (link, (more, on))))
+    (record { sinks = sinks; output = answered_out s.side t.side xid reply sent live (down_limit opened link run s.side stands live) fit.output sinks.each a }, (opened, (link, (more, on))))
 answer_fits (Err e) s t xid reply live first a err opened link run stands fit =
     (subst (λ (x : ResponderState). KeptFits x.side) (sym err) fit, subst (λ (x : ResponderState). RepresentsSome x.side) (sym err) (opened, (link, (run, stands))))
 
@@ -251,7 +255,10 @@ held_bound v result is b rooms receives lent =
     let output = b.0.output.most 0 in
     let hello = b.0.output.hello in
     let waiting = count_fewer 0 v.side.link.state.send_queue.send_ends in
-    let kept : v.side.link.state.receive_queue.receive_length * receives_kept v.side.link.state.receive_queue ≡ send_max * receives_kept v.side.link.state.receive_queue = ap (λ (n : ℕ). n * receives_kept v.side.link.state.receive_queue) b.0.sinks.receives.len in
+    let most = b.0.sinks.receives.len.1 in
+    let n : ℕ = v.side.link.state.receive_queue.receive_length in
+    let of_kept = mul-le n (receives_kept v.side.link.state.receive_queue) (send_max * UNITS_MAX) (receives_kept v.side.link.state.receive_queue) most (omega arith) in
+    let of_lent = mul-le n (length v.side.calls + unsent v.side.link.state) (send_max * UNITS_MAX) (length v.side.calls + unsent v.side.link.state) most (omega arith) in
     let regions = regions_most v.side b.0.sinks in
     let count = b.0.sinks.receives.count in
-    omega (arith, is, staging, kept, regions, count, output, hello, waiting, rooms, receives, lent)
+    omega (arith, is, staging, of_kept, of_lent, regions, count, output, hello, waiting, rooms, receives, lent)

@@ -2,8 +2,7 @@
 use Rattle.std.proofs.Common.{◌≡◌, ◌≢◌, ℕ, ◌+◌, ◌<◌, Bool, true, false, cond, List, [], ◌∷◌, ◌++◌, length, Option, None, Result, Ok, Err, refl, sym, ap, subst, ◌∙◌, arith, inl, inr}
 use Rattle.std.proofs.lemmas.List.{append-nil}
 use Rattle.std.proofs.lemmas.Bool.{eq-eqb}
-use Rattle.nr_wire.specs.declared.hello.Side.{Side}
-use Rattle.nr_wire.specs.declared.hello.Side.TheVariants.{Initiator, Responder}
+use Rattle.nr_wire.specs.declared.hello.Side.TheVariants.{Initiator}
 use Rattle.nr_wire.specs.declared.stream.Awaited.{Awaited}
 use Rattle.nr_wire.specs.declared.stream.Awaited.TheVariants.{Hello as HelloFrom, Fpdu}
 use Rattle.nr_wire.specs.Constants.{OPCODE_SEND}
@@ -15,17 +14,15 @@ use Rattle.nr_link.specs.declared.end.End.TheVariants as ends
 use Rattle.nr_link.specs.Frames.{Frame, is_hello}
 use Rattle.nr_link.specs.Input.{InputState}
 use Rattle.nr_link.specs.ReceiveState.{ReceiveState}
-use Rattle.nr_link.specs.Output.{own_hello}
 use Rattle.nr_reduce.specs.Hellos.{server_hello}
 use Rattle.nr_link.specs.Ending.{frame_end, hello_end}
 use Rattle.nr_endpoint.specs.ReceiveQueue.{DeliveredEvent}
 use Rattle.nr_endpoint.specs.ReceiveQueue.DeliveredEvent.{MessageReceived}
 use Rattle.nr_endpoint.specs.SendQueue.{with_hello}
 use Rattle.nr_endpoint.specs.LinkState.{LinkState, LinkSide}
-use Rattle.nr_endpoint.specs.Judging.{next_frame, with_frame, with_peer_hello, with_end_of, reply_hello}
+use Rattle.nr_endpoint.specs.Judging.{next_frame, with_frame, with_peer_hello, with_end_of}
 use Rattle.nr_endpoint.specs.Calls.{after_call}
 use Rattle.nr_endpoint.specs.Calls.Call.{NextEvent, Stop, Send}
-use Rattle.nr_endpoint.proofs.Agreed.{silent_reply}
 use Rattle.nr_reduce.specs.declared.mark.LinkParameters.{LinkParameters}
 use Rattle.nr_reduce.specs.OfferedRegions.{region_grants}
 use Rattle.nr_reduce.specs.Events.RunEvent.{FrameReceived}
@@ -42,7 +39,7 @@ use Rattle.nr_responder.specs.private.Handling.Handled.{Stopped, Refused, Ready,
 use Rattle.nr_responder.proofs.Queues.{hello_queue}
 use Rattle.nr_responder.proofs.Executed.{with_message}
 use Rattle.nr_responder.proofs.SendFrames.{frame_lives, part_framed, last_framed}
-use Rattle.nr_responder.proofs.Frames.{behind, TakesFrame, hello_link, server_later, own_hello_server, silent_hello}
+use Rattle.nr_responder.proofs.Frames.{behind, TakesFrame, hello_link, server_later, own_hello_server, reply_is}
 use Rattle.nr_responder.proofs.Whole.{part_takes, ready_takes, refused_takes, stopped_takes, told_link, told_framed, whole_message}
 use Rattle.nr_responder.proofs.CallsAtOnce.{complete_takes}
 use Rattle.nr_responder.proofs.CallsRead.{reading_takes}
@@ -74,7 +71,7 @@ greeted opened k so_far v frame hello h place none some reads =
     let f : Frame = next_frame s frame in
     let server = hello_server opened k f hello place reads in
     let keeps : Keeps opened (with_own_hello opened k f) (behind so_far frame) (on_link v (record { awaited = Fpdu; rest = []; state = with_peer_hello f (Ok hello) s })) = record {
-      link = hello_link opened k s frame hello h.silent h.link h.server (h.quiet place).1;
+      link = hello_link opened k s frame hello reads h.link h.server (h.quiet place).1;
       input = record { awaited = refl; rest = refl; place = ap (λ (n : ℕ). n + length frame) h.input.place };
       begins = AfterHello (omega (arith, some)) refl refl;
       server = own_hello_server opened k f (s.place + length frame) (server_later k s.place (s.place + length frame) (omega arith) h.server);
@@ -83,16 +80,15 @@ greeted opened k so_far v frame hello h place none some reads =
       credits = h.credits;
       reads = h.reads;
       sinks = h.sinks;
-      silent = h.silent;
       payloads = h.payloads;
       quiet = λ e. absurd (omega (arith, e, some));
     } in
     record {
       keeps = subst (λ (e : EndState ServerState). KeepsEnd opened e (behind so_far frame) (on_link v (record { awaited = Fpdu; rest = []; state = with_peer_hello f (Ok hello) s }))) (sym server.0) (inl (refl, keeps));
       output =
-          ap (λ (bytes : List ℕ). queued_bytes (with_hello bytes s.send_queue)) (silent_reply s.terms s.side Responder hello.private h.link.terms h.link.side)
-          ∙ hello_queue (own_hello Responder) s.send_queue none
-          ∙ ap (λ (bytes : List ℕ). queued_bytes s.send_queue ++ bytes) (sym (server.1 ∙ silent_hello opened f h.silent));
+          ap (λ (bytes : List ℕ). queued_bytes (with_hello bytes s.send_queue)) (reply_is opened s frame hello h.link.terms h.link.side reads)
+          ∙ hello_queue (server_hello opened f) s.send_queue none
+          ∙ ap (λ (bytes : List ℕ). queued_bytes s.send_queue ++ bytes) (sym server.1);
     }
 
 refused_hello : (s : LinkState) (f : Frame) (reason : ℕ) → (with_peer_hello f (Err reason) s).ended ≢ None

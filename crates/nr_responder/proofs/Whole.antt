@@ -16,7 +16,7 @@ use Rattle.nr_rpc.specs.declared.head.CallHead.{CallHead}
 use Rattle.nr_rpc.specs.Reading.{call_of}
 use Rattle.nr_link.specs.declared.end.End.{End}
 use Rattle.nr_link.specs.declared.end.End.TheVariants as ends
-use Rattle.nr_link.specs.Limits.{send_max}
+use Rattle.nr_endpoint.specs.Hellos.{receive_length_for}
 use Rattle.nr_link.specs.Frames.{Frame, is_hello}
 use Rattle.nr_link.specs.Input.{InputState}
 use Rattle.nr_link.specs.ReceiveState.{ReceiveState, begun_bytes, send_continued, received_after}
@@ -127,7 +127,6 @@ part_takes opened k input v frame w queue_number msn offset payload h behind_hel
       credits = h.credits;
       reads = h.reads;
       sinks = h.sinks;
-      silent = h.silent;
       payloads = h.payloads;
       quiet = λ e. absurd (omega (arith, e, behind_hello));
     } in
@@ -150,14 +149,15 @@ whole_message s payload = begun_bytes s.receive_queue.received.begun ++ payload
 
 pub same_message : (opened : LinkParameters) (k : ServerState) (s : LinkState) (payload : List ℕ) → LinkKeeps opened k s → send_len s payload ≤ s.message_max → whole_message s payload ≡ begun_bytes k.received.begun ++ payload
 same_message opened k s payload h fits =
-    let same : begun_bytes s.receive_queue.received.begun ≡ begun_bytes (begun_within send_max k.received.begun) = ap (λ (r : ReceiveState). begun_bytes r.begun) h.received in
-    let count : length (begun_bytes (begun_within send_max k.received.begun)) ≡ length (begun_bytes k.received.begun) = by k.received.begun in
-    let short : length (begun_bytes k.received.begun) ≤ send_max = omega (arith, fits, h.message_max, ap (λ (xs : List ℕ). length xs) same, count) in
-    ap (λ (xs : List ℕ). xs ++ payload) same ∙ message_kept k.received.begun payload short
+    let n : ℕ = receive_length_for opened.server in
+    let same : begun_bytes s.receive_queue.received.begun ≡ begun_bytes (begun_within n k.received.begun) = ap (λ (r : ReceiveState). begun_bytes r.begun) h.received in
+    let count : length (begun_bytes (begun_within n k.received.begun)) ≡ length (begun_bytes k.received.begun) = by n k.received.begun in
+    let short : length (begun_bytes k.received.begun) ≤ n = omega (arith, fits, h.message_max, h.fits, ap (λ (xs : List ℕ). length xs) same, count) in
+    ap (λ (xs : List ℕ). xs ++ payload) same ∙ message_kept n k.received.begun payload short
   where
-    by : (b : Option (List ℕ)) → length (begun_bytes (begun_within send_max b)) ≡ length (begun_bytes b)
-    by None = refl
-    by (Some bytes) = kept_len_lem send_max bytes
+    by : (n : ℕ) (b : Option (List ℕ)) → length (begun_bytes (begun_within n b)) ≡ length (begun_bytes b)
+    by n None = refl
+    by n (Some bytes) = kept_len_lem n bytes
 
 pub told_framed : (opened : LinkParameters) (k : ServerState) (s : LinkState) (frame : List ℕ) (w queue_number msn offset : ℕ) (payload : List ℕ) → LinkKeeps opened k s →
     with_frame s Fpdu frame ≡ framed s frame (Untagged true OPCODE_SEND w queue_number msn offset payload) →
@@ -208,7 +208,6 @@ ready_takes opened k input v frame w queue_number msn offset payload xid write r
       credits = h.credits;
       reads = h.reads;
       sinks = h.sinks;
-      silent = h.silent;
       payloads = payloads_told k.calls k.reads c stream k.ready v.fetching.payloads refl new h.server.ready h.payloads;
       quiet = λ e. absurd (omega (arith, e, behind_hello));
     } in
@@ -265,7 +264,10 @@ refused_keeps opened k s bytes message h is some =
       received = told_h.received;
       receive_length = told_h.receive_length;
       message_max = told_h.message_max;
+      fits = told_h.fits;
       terms = told_h.terms;
+      up = told_h.up;
+      down = told_h.down;
       free = omega (arith, told_h.free, more, one);
       lent = omega (arith, told_h.lent, more, one);
       told = told_h.told;
@@ -330,7 +332,6 @@ refused_takes opened k input v frame w queue_number msn offset payload message h
       credits = h.credits;
       reads = h.reads;
       sinks = h.sinks;
-      silent = h.silent;
       payloads = h.payloads;
       quiet = λ e. absurd (omega (arith, e, behind_hello));
     } in

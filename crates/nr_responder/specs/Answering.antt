@@ -1,7 +1,6 @@
 -- What an answer makes of a responder.
 use Rattle.std.specs.Prelude.{◌≡◌, ℕ, ◌≤◌, List, [], length, drop, Option, Some, None, slice_get, if◌then◌else◌}
 use Rattle.std.specs.List.{remove}
-use Rattle.nr_link.specs.Limits.{send_max}
 use Rattle.nr_rpc.specs.Reading.{call_of, target_of}
 use Rattle.nr_header.specs.declared.header.ChunkLists.{ChunkLists}
 use Rattle.nr_endpoint.specs.declared.framing.RemoteWrite.{RemoteWrite}
@@ -26,21 +25,21 @@ abbrev pub writes_for : ChunkLists → Option Answer → List ℕ
 writes_for offer None = []
 writes_for offer (Some answer) = answer_writes offer answer
 
--- how the reply to a call with this stream is sent back
-abbrev pub answer_to : PendingCall → (stream reply : List ℕ) → Option Answer
-answer_to call stream reply = answer_of_target call.lists send_max reply (target_of (call_of stream))
+-- how the reply to a call with this stream is sent back, if a Send of the responder has at most `down` bytes
+abbrev pub answer_to : (down : ℕ) → PendingCall → (stream reply : List ℕ) → Option Answer
+answer_to down call stream reply = answer_of_target call.lists down reply (target_of (call_of stream))
 
 -- by RDMA_MSG, by RDMA_NOMSG, or by ERR_CHUNK
 abbrev pub sent_as : Option Answer → Sent
 sent_as None = sents.Chunk
 sent_as (Some answer) = if answer.long then sents.Long else sents.Inline
 
--- the answer to a call with this stream was queued
+-- the answer to a call with this stream was queued, by what its side had agreed on
 pub record Queues (call : PendingCall) (stream reply : List ℕ) (credits : ℕ) (before after : LinkSide) (sent : Sent) : Type 0 where
   pub writes : List RemoteWrite
-  pub written : writes_output writes ≡ writes_for call.lists (answer_to call stream reply)
-  pub link : after ≡ after_calls before (answer_calls writes (message_for call.xid credits call.lists (answer_to call stream reply)))
-  pub sent_is : sent ≡ sent_as (answer_to call stream reply)
+  pub written : writes_output writes ≡ writes_for call.lists (answer_to before.state.agreed.down call stream reply)
+  pub link : after ≡ after_calls before (answer_calls writes (message_for call.xid credits call.lists (answer_to before.state.agreed.down call stream reply)))
+  pub sent_is : sent ≡ sent_as (answer_to before.state.agreed.down call stream reply)
 
 -- with the answer to the call at a place queued
 abbrev pub answered_by : ℕ → List RemoteWrite → List ℕ → ResponderSide → ResponderSide
@@ -57,6 +56,7 @@ abbrev pub IsPayload : PendingCall → Option (List ℕ) → List ℕ → Type 0
 IsPayload call None stream = call.inline ≡ Some stream
 IsPayload call (Some payload) stream = stream ≡ payload
 
+-- A call that was the first to be ready is answered, by what is agreed: its message has at most the bytes of a Send of the responder.
 pub record Answers (before after : ResponderSide) (xid : ℕ) (reply : List ℕ) (sent : Sent) : Type 0 where
   pub at : ℕ
   pub call : PendingCall
@@ -67,8 +67,8 @@ pub record Answers (before after : ResponderSide) (xid : ℕ) (reply : List ℕ)
   pub first : slice_get before.fetching.payloads 0 ≡ Some payload
   pub conveyed : IsPayload call payload stream
   pub writes : List RemoteWrite
-  pub written : writes_output writes ≡ writes_for call.lists (answer_to call stream reply)
-  pub short : length (message_for xid before.credits call.lists (answer_to call stream reply)) ≤ send_max
+  pub written : writes_output writes ≡ writes_for call.lists (answer_to before.link.state.agreed.down call stream reply)
+  pub short : length (message_for xid before.credits call.lists (answer_to before.link.state.agreed.down call stream reply)) ≤ before.link.state.agreed.down
   pub few : length (writes_output writes) ≤ writes_max
-  pub state : after ≡ answered_by at writes (message_for xid before.credits call.lists (answer_to call stream reply)) before
-  pub sent_is : sent ≡ sent_as (answer_to call stream reply)
+  pub state : after ≡ answered_by at writes (message_for xid before.credits call.lists (answer_to before.link.state.agreed.down call stream reply)) before
+  pub sent_is : sent ≡ sent_as (answer_to before.link.state.agreed.down call stream reply)

@@ -4,9 +4,10 @@ use Rattle.std.specs.List.{AllByRecursion, list_any}
 use Rattle.nr_regions.specs.RegisteredMemory.{RegisteredMemory}
 use Rattle.nr_regions.specs.Table.{IsTotal, region_len}
 use Rattle.nr_header.specs.Constants.{PAYLOAD_MAX, READ_SEGMENTS_MAX}
-use Rattle.nr_wire.specs.Constants.{FPDU_MAX, HELLO_LEN}
-use Rattle.nr_link.specs.Limits.{open_reads_max, send_max}
-use Rattle.nr_endpoint.specs.ReceiveQueue.{ReceiveQueue, initial_receives}
+use Rattle.nr_wire.specs.Constants.{FPDU_MAX, HELLO_LEN, NUMBERED_TERMS_LEN}
+use Rattle.nr_link.specs.Agreement.{IsSendLimit}
+use Rattle.nr_link.specs.Limits.{open_reads_max}
+use Rattle.nr_endpoint.specs.ReceiveQueue.{ReceiveQueue}
 use Rattle.nr_endpoint.specs.SendQueue.{SendQueue, ends_left}
 use Rattle.nr_reduce.specs.ServerState.{PendingCall, PendingRead}
 use Rattle.nr_responder.specs.Fetching.{SinkRegion}
@@ -56,6 +57,11 @@ pub record SameReceives (p q : ReceiveQueue) : Type 0 where
   pub count : q.receives ≡ p.receives
   pub len : q.receive_length ≡ p.receive_length
 
+-- a receive for each credit, of one unit to UNITS_MAX of them
+pub record ReceivesFit (credits : ℕ) (q : ReceiveQueue) : Type 0 where
+  pub count : q.receives ≡ credits
+  pub len : IsSendLimit q.receive_length
+
 -- The regions are the sinks: those of each pending call, and those of calls that are over, of which some Read Request is open.
 -- There is a receive for each credit.
 pub record SinksFit (v : ResponderSide) : Type 0 where
@@ -63,16 +69,19 @@ pub record SinksFit (v : ResponderSide) : Type 0 where
   pub most : sinks_total v.fetching.sinks ≤ PAYLOAD_MAX * (length v.calls + open_reads_max)
   pub count : length v.fetching.sinks ≤ READ_SEGMENTS_MAX * (length v.calls + open_reads_max)
   pub each : end_of v ≡ None → SharesFit v
-  pub receives : SameReceives (initial_receives v.credits send_max) v.link.state.receive_queue
+  pub receives : ReceivesFit v.credits v.link.state.receive_queue
 
 -- ---- Output
 
--- the maximum of a reply, of the frame of a segment, and of that of a Read Request, in bytes
+-- the maximum of a reply, of the frame of a segment, of the frames of a Send, and of the frame of a Read Request, in bytes
 abbrev pub sent_reply_max : ℕ
 sent_reply_max = 65536
 
 abbrev pub frame_max : ℕ
 frame_max = 4136
+
+abbrev pub send_frames_max : ℕ
+send_frames_max = 4 * frame_max
 
 abbrev pub request_max : ℕ
 request_max = 68
@@ -85,7 +94,7 @@ abbrev pub writes_max : ℕ
 writes_max = 48 * frame_max
 
 abbrev pub answer_max : ℕ
-answer_max = writes_max + frame_max + requests_max
+answer_max = writes_max + send_frames_max + requests_max
 
 -- From any offset on, the queue has an answer for each Send that ends after it, and the Read Requests of the pending calls but those that
 -- wait.
@@ -96,6 +105,10 @@ QueueFits q waiting calls = (n : ℕ) → length q.fpdus - n + request_max * wai
 abbrev pub reads_share : ℕ → List PendingRead → ℕ
 reads_share n reads = share (λ r. r.number) (λ r. 1) n reads
 
+-- the maximum of a hello, which may have private data, in bytes
+abbrev pub hello_max : ℕ
+hello_max = HELLO_LEN + NUMBERED_TERMS_LEN
+
 -- once the side has ended, with one message more
 abbrev pub QueueMost : SendQueue → ℕ → Type 0
 QueueMost q calls = (n : ℕ) → length q.fpdus - n ≤ answer_max * length (ends_left n q.send_ends) + requests_max * calls + frame_max
@@ -104,13 +117,13 @@ QueueMost q calls = (n : ℕ) → length q.fpdus - n ≤ answer_max * length (en
 pub record OutputLives (v : ResponderSide) : Type 0 where
   pub queue : QueueFits v.link.state.send_queue (length (drop open_reads_max v.fetching.reads)) (length v.calls)
   pub reads : (n : ℕ) → reads_share n v.fetching.reads ≤ READ_SEGMENTS_MAX
-  pub hello : length v.link.state.send_queue.hello ≤ HELLO_LEN
+  pub hello : length v.link.state.send_queue.hello ≤ hello_max
   pub none : v.link.state.place ≡ 0 → length v.link.state.send_queue.hello ≡ 0
 
--- once it has ended, it may have one message more, and a hello more
+-- once it has ended, it may have one message more, and a hello without private data more
 pub record OutputFits (v : ResponderSide) : Type 0 where
   pub most : QueueMost v.link.state.send_queue (length v.calls)
-  pub hello : length v.link.state.send_queue.hello ≤ 2 * HELLO_LEN
+  pub hello : length v.link.state.send_queue.hello ≤ hello_max + HELLO_LEN
   pub each : end_of v ≡ None → OutputLives v
 
 -- ---- Lists

@@ -5,10 +5,11 @@ use Rattle.nr_wire.specs.declared.hello.Side.TheVariants.{Initiator, Responder}
 use Rattle.nr_wire.specs.declared.stream.Awaited.TheVariants.{Hello as HelloFrom, Fpdu}
 use Rattle.nr_regions.specs.declared.right.Right.TheVariants.{Sink}
 use Rattle.nr_link.specs.Input.{InputState}
-use Rattle.nr_link.specs.Limits.{send_max}
+use Rattle.nr_link.specs.Agreement.{IsSendLimit}
 use Rattle.nr_link.specs.KeptSends.{received_within}
 use Rattle.nr_link.specs.Output.{msn_word}
 use Rattle.nr_link.specs.SegmentFaults.{ExpectedResponse, is_begun}
+use Rattle.nr_endpoint.specs.Hellos.{receive_length_for}
 use Rattle.nr_endpoint.specs.SendQueue.{SendQueue, output_len}
 use Rattle.nr_endpoint.specs.LinkState.{LinkState, LinkSide}
 use Rattle.nr_endpoint.specs.Laws.{KeepsInput}
@@ -57,7 +58,8 @@ ArePayloads calls (r ∷ ready) [] = ⊥
 ArePayloads calls (r ∷ ready) (p ∷ payloads) = HasPayload calls r p × ArePayloads calls ready payloads
 
 -- The state of a server, as it comes along a run after n bytes were received: its regions are sinks under the STags from 1 on,
--- those that are over are closed and no others, and nothing has the number of a Send that hasn't come.
+-- those that are over are closed and no others, nothing has the number of a Send that hasn't come, and a Send may be from one unit to
+-- UNITS_MAX of them long.
 pub record IsServer (k : ServerState) (place : ℕ) : Type 0 where
   pub offered : AreOffered place k.regions
   pub accesses : AreReceived place k.accesses_received
@@ -72,8 +74,8 @@ pub record IsServer (k : ServerState) (place : ℕ) : Type 0 where
   pub ready_xids : OwnReady k.ready
   pub ready : AllByRecursion (IsReadyOf k.calls k.reads) k.ready
   pub idle : k.reads ≡ [] → k.response_bytes ≡ 0
-  pub up : k.up_max ≡ send_max
-  pub down : k.down_max ≡ send_max
+  pub up : IsSendLimit k.up_max
+  pub down : IsSendLimit k.down_max
 
 -- Before the client's hello it has nothing to write. After it FPDUs come.
 pub data Begins (link : LinkSide) : Type 0 where
@@ -113,14 +115,17 @@ pub record QueueHas (written due messages requests : ℕ) (ends : List ℕ) (q :
 abbrev pub QueueKeeps : ServerState → SendQueue → Type 0
 QueueKeeps k q = QueueHas k.written k.due k.messages_queued k.requests_sent k.message_ends q
 
--- What an endpoint keeps of a server's state.
+-- What an endpoint keeps of a server's state. Its receives are as long as its terms ask for, and a Send is as long at most as both hellos agree.
 pub record LinkKeeps (opened : LinkParameters) (k : ServerState) (s : LinkState) : Type 0 where
   pub live : s.ended ≡ None
   pub side : s.side ≡ Responder
-  pub received : s.receive_queue.received ≡ received_within send_max k.received
-  pub receive_length : s.receive_queue.receive_length ≡ send_max
-  pub message_max : s.message_max ≡ send_max
-  pub terms : s.terms ≡ None
+  pub received : s.receive_queue.received ≡ received_within (receive_length_for opened.server) k.received
+  pub receive_length : s.receive_queue.receive_length ≡ receive_length_for opened.server
+  pub message_max : s.message_max ≡ k.up_max
+  pub fits : k.up_max ≤ receive_length_for opened.server
+  pub terms : s.terms ≡ opened.server
+  pub up : s.agreed.up ≡ k.up_max
+  pub down : s.agreed.down ≡ k.down_max
   pub free : s.receive_queue.free + (unsent s + length k.calls + one_if (is_begun k.received.begun)) ≡ opened.granted
   pub lent : s.receive_queue.lent ≡ length k.calls + unsent s
   pub told : s.receive_queue.deliveries ≡ []
@@ -140,7 +145,6 @@ pub record Keeps (opened : LinkParameters) (k : ServerState) (input_now : InputS
   pub credits : v.credits ≡ k.credit
   pub reads : v.fetching.reads ≡ k.reads
   pub sinks : v.fetching.sinks ≡ open_sinks k.regions
-  pub silent : opened.server ≡ None
   pub payloads : ArePayloads k.calls k.ready v.fetching.payloads
   pub quiet : v.link.state.place ≡ 0 → (v.ready ≡ []) × (k.message_ends ≡ [])
 

@@ -2,13 +2,13 @@
 -- those that wait to be executed, in the order in which they became ready; its credits; what it fetches; the whole staging buffer, which
 -- begins with the bytes of the frame that isn't complete; and how many bytes the buffers have that it keeps for payloads of calls that are
 -- read, with those of buffers outside their regions.
-use Rattle.std.specs.Prelude.{◌≡◌, ℕ, ◌+◌, ◌-◌, ◌*◌, max, List, [], ◌++◌, length, drop, Option, None}
+use Rattle.std.specs.Prelude.{◌≡◌, ℕ, ◌+◌, ◌-◌, ◌*◌, max, List, [], ◌++◌, length, drop, Option}
 use Rattle.nr_wire.specs.declared.hello.Side.TheVariants.{Responder}
 use Rattle.nr_link.specs.declared.end.End.{End}
 use Rattle.nr_endpoint.specs.SendQueue.{SendQueue, writable, written}
 use Rattle.nr_endpoint.specs.LinkState.{LinkState, LinkSide, initial_link}
 use Rattle.nr_endpoint.specs.EndpointState.{bytes_of, cut_frame_len}
-use Rattle.nr_link.specs.Limits.{send_max}
+use Rattle.nr_link.specs.declared.agreement.SideTerms.{SideTerms}
 use Rattle.nr_reduce.specs.ServerState.{PendingCall}
 use Rattle.nr_responder.specs.Fetching.{Fetching, nothing_fetched}
 
@@ -24,9 +24,9 @@ pub record ResponderState : Type 0 where
   pub staging : List ℕ
   pub rooms : ℕ
 
--- the side as it is opened with this number of credits: its first region gets the STag 1
-abbrev pub opened_side : ℕ → ResponderSide
-opened_side credits = record { link = initial_link Responder credits 1 None; calls = []; ready = []; credits = credits; fetching = nothing_fetched }
+-- the side as it is opened with this number of credits and these terms: its first region gets the STag 1
+abbrev pub opened_side : ℕ → SideTerms → ResponderSide
+opened_side credits terms = record { link = initial_link Responder credits 1 terms; calls = []; ready = []; credits = credits; fetching = nothing_fetched }
 
 -- A feed changes the staging buffer only in two prefixes: that of the bytes which are staged after it, and that of the frame which the
 -- bytes staged before it begin, as far as it was fed.
@@ -57,7 +57,7 @@ unsent s = length s.send_queue.send_ends
 -- How many bytes all byte buffers have that are kept: the staging buffer, the receives, of which one is lent for each call that isn't answered
 -- and for each Send that hasn't left, the regions, the output, and the buffers for payloads of calls that are read, with the bytes outside of regions.
 abbrev pub bytes_held_by : ResponderState → ℕ
-bytes_held_by v = length v.staging + bytes_of v.side.link.state + send_max * (length v.side.calls + unsent v.side.link.state) + v.rooms
+bytes_held_by v = length v.staging + bytes_of v.side.link.state + v.side.link.state.receive_queue.receive_length * (length v.side.calls + unsent v.side.link.state) + v.rooms
 
 -- n receives are posted again
 abbrev pub posted_times : ℕ → LinkSide → LinkSide

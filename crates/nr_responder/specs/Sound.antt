@@ -1,5 +1,5 @@
 -- What a responder keeps of its own, whatever the marks.
-use Rattle.std.specs.Prelude.{◌≡◌, ◌≢◌, ◌⊎◌, ℕ, ◌+◌, ◌<◌, ◌≤◌, true, false, is_some, List, [], ◌∷◌, length, map, sum_by, find, Option, None, Some, IfSome, All, slice_get, take, drop, vec_capacity}
+use Rattle.std.specs.Prelude.{◌≡◌, ◌≢◌, ◌⊎◌, ℕ, ◌+◌, ◌*◌, ◌<◌, ◌≤◌, true, false, is_some, List, [], ◌∷◌, length, map, sum_by, find, Option, None, Some, IfSome, All, slice_get, take, drop, vec_capacity}
 use Rattle.std.specs.VecDeque.{deque_capacity}
 use Rattle.std.specs.List.{AllByRecursion}
 use Rattle.std.specs.Ordering.{nat_cmp}
@@ -18,6 +18,8 @@ use Rattle.nr_responder.specs.declared.call.ReadEntry.{ReadEntry}
 use Rattle.nr_responder.specs.declared.call.OpenSink.{OpenSink}
 use Rattle.nr_endpoint.specs.Receives.{IsReceive}
 use Rattle.nr_endpoint.specs.LinkState.{LinkState, LinkSide}
+use Rattle.nr_wire.specs.Constants.{UNITS_MAX}
+use Rattle.nr_link.specs.Agreement.{IsSendLimit}
 use Rattle.nr_link.specs.Limits.{send_max}
 use Rattle.nr_responder.specs.declared.call.Pending.{Pending}
 use Rattle.nr_responder.specs.declared.server_end.ServerEnd.{ServerEnd}
@@ -64,12 +66,16 @@ with_staging r = record { side = state_of r; staging = r.endpoint.staging; rooms
 -- A pending call's message lies in its receive buffer, it has lists that are within the limits, and what its head asks for and its item are those of its
 -- stream.
 pub record InBuffer (c : Pending) : Type 0 where
-  pub buf : length c.buf ≡ send_max
-  pub len : c.len ≤ send_max
+  pub buf : length c.buf ≤ send_max * UNITS_MAX
+  pub len : c.len ≤ length c.buf
   pub at : c.stream_at ≤ c.len
   pub lists : HasLists (take c.len c.buf)
   pub target : IfSome c.target (λ t. t ≡ target_of (call_of (drop c.stream_at (take c.len c.buf))))
   pub item : IfSome c.item (λ i. (c.inline ≡ true) × (i ≡ call_item (drop c.stream_at (take c.len c.buf))))
+
+-- the same of a call whose receive has n bytes
+abbrev pub InReceive : ℕ → Pending → Type 0
+InReceive n c = IsReceive n c.buf × InBuffer c
 
 -- a link that has queued something, or ended
 pub record SameInput (l m : LinkSide) : Type 0 where
@@ -79,17 +85,17 @@ pub record SameInput (l m : LinkSide) : Type 0 where
   pub rest : (m.rest ≡ l.rest) ⊎ (m.rest ≡ [])
 
 -- A receive is lent for each call that is pending, for each Send that hasn't left, and for n more; there is room for a call and for
--- a buffer of each receive; and each receive has send_max bytes.
+-- a buffer of each receive; and each receive has the same number of bytes, those of one unit to UNITS_MAX of them.
 pub record QueuesInvariant (n : ℕ) (s : LinkState) (calls : List Pending) (ready : List Ready) (used : List (List ℕ)) (calls_room ready_room used_room : ℕ) : Type 0 where
   pub unsent_is : length used ≡ unsent s
   pub lent : length used + length calls + n ≤ s.receive_queue.lent
   pub few : length ready ≤ length calls
-  pub bufs : All InBuffer calls
-  pub used_bufs : All (IsReceive send_max) used
+  pub limit : IsSendLimit s.receive_queue.receive_length
+  pub bufs : All (InReceive s.receive_queue.receive_length) calls
+  pub used_bufs : All (IsReceive s.receive_queue.receive_length) used
   pub calls_fit : s.receive_queue.receives ≤ calls_room
   pub ready_fit : s.receive_queue.receives ≤ ready_room
   pub used_fit : s.receive_queue.receives ≤ used_room
-  pub receive_length : s.receive_queue.receive_length ≡ send_max
 
 abbrev pub IsRoom : Option ℕ → Type 0
 IsRoom None = ⊥

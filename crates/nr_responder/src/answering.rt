@@ -4,7 +4,7 @@ ghost use Rattle.std.specs.Prelude.{◌≡◌, ℕ, ◌+◌, ◌≤◌, ◌<◌,
 ghost use Rattle.nr_header.specs.Slices.{lists_of_slices};
 ghost use Rattle.nr_header.specs.WithinLimits.{ListsWithin, SegmentsEnd};
 ghost use Rattle.nr_endpoint.specs.Offering.{FitsRegion, writes_output};
-ghost use Rattle.nr_link.specs.Limits.{send_max};
+ghost use Rattle.nr_link.specs.Agreement.{IsSendLimit};
 ghost use Rattle.nr_link.specs.Output.{write};
 ghost use Rattle.nr_rpc.specs.Reading.{call_of, target_of};
 ghost use Rattle.nr_reduce.specs.Server.{answer_of_target};
@@ -17,7 +17,6 @@ ghost use Rattle.nr_responder.specs.Sound.{InBuffer};
 use crate::call::{Pending, Sent, lists_again};
 use nr_endpoint::{Endpoint, RemoteWrite};
 use nr_header::{Chunk, ListSlices, ListsRoom, RdmaSegment, TransportError, VERSION, write_error};
-use nr_link::constants::SEND_MAX;
 use nr_reduce::{Answer, answer_for, answer_message};
 use nr_rpc::{CallTarget, call_target};
 use nr_xdr::{Memory, Octets};
@@ -62,24 +61,19 @@ fn target_of(stream: &[u8], known: Option<Option<CallTarget>>) -> Option<CallTar
     }
 }
 
-/// How the reply to a call whose head asks for this is sent back, by what it offered; `None` if the offer doesn't hold it.
+/// How the reply to a call whose head asks for this is sent back, by what it offered, if a Send has at most `down` bytes; `None` if the offer
+/// doesn't hold it.
 fn answer_to<'a>(
     lists: ListSlices<'_>,
     target: Option<CallTarget>,
     reply: &'a [u8],
+    down: u32,
 ) -> Option<Answer<'a>>
-    ensures { option_map answer_view result ≡ answer_of_target (lists_of_slices lists.entry) send_max reply.now target }
+    ensures { option_map answer_view result ≡ answer_of_target (lists_of_slices lists.entry) down reply.now target }
 {
     match target {
-        Some(target) => answer_for(
-            lists,
-            target.prog,
-            target.vers,
-            target.proc,
-            reply,
-            SEND_MAX,
-        ),
-        None => answer_for(lists, 0, 0, 0, reply, SEND_MAX),
+        Some(target) => answer_for(lists, target.prog, target.vers, target.proc, reply, down),
+        None => answer_for(lists, 0, 0, 0, reply, down),
     }
 }
 
@@ -239,13 +233,15 @@ fn queue_with(
 ) -> Result<Sent, Memory>
     requires call { InBuffer call.now }
     requires lists { lists_of_slices lists ≡ (call_view call.now).lists }
+    requires limit { IsSendLimit endpoint.old.link.state.agreed.down }
     requires target { IfSome target (λ t. t ≡ target_of (call_of stream.now)) }
     ensures queued { IfOk result (Queues (call_view call.now) stream.now reply.now credits endpoint.old.link endpoint.new.link) }
     ensures err { OnErr result (endpoint.new.link ≡ endpoint.old.link) }
     ensures staging { endpoint.new.staging ≡ endpoint.old.staging }
     ensures outside { endpoint.new.outside ≡ endpoint.old.outside }
 {
-    let answer = answer_to(lists, target_of(stream, target), reply);
+    let (_, down) = endpoint.agreed();
+    let answer = answer_to(lists, target_of(stream, target), reply, down);
     let sent = sent_as(&answer);
     let message = message_for(alloc, call.xid, credits, lists, answer)?;
     let mut writes = Vec::new(alloc);
@@ -265,6 +261,7 @@ pub(crate) fn queue_answer(
     reply: &[u8],
 ) -> Result<Sent, Memory>
     requires call { InBuffer call.now }
+    requires limit { IsSendLimit endpoint.old.link.state.agreed.down }
     requires target { IfSome target (λ t. t ≡ target_of (call_of stream.now)) }
     ensures queued { IfOk result (Queues (call_view call.now) stream.now reply.now credits endpoint.old.link endpoint.new.link) }
     ensures err { OnErr result (endpoint.new.link ≡ endpoint.old.link) }

@@ -4,6 +4,7 @@ ghost use Rattle.std.specs.Prelude.{◌≡◌, ◌≢◌, ◌⊎◌, ◌+◌, �
 ghost use Rattle.std.specs.List.{list_all, list_any};
 ghost use Rattle.nr_header.specs.Constants.{PAYLOAD_MAX};
 ghost use Rattle.nr_header.specs.WithinLimits.{read_total};
+ghost use Rattle.nr_endpoint.specs.Receives.{IsReceive};
 ghost use Rattle.nr_responder.specs.private.Handling.{FetchesCall, out};
 ghost use Rattle.nr_responder.specs.Sound.{state_of, InBuffer, ServerEndInvariant, ServerEndInvariantWith, SameInput, WindowsAreRead, WindowsInvariant};
 ghost use Rattle.nr_reduce.specs.ServerReads.{is_read};
@@ -99,6 +100,7 @@ impl ServerEnd {
         requires live { self.old.endpoint.link.state.ended ≡ None }
         requires frame { 0 < self.old.endpoint.link.state.place }
         requires call { InBuffer call }
+        requires receive { IsReceive self.old.endpoint.link.state.receive_queue.receive_length call.buf }
         requires empty { (call.around ≡ 0) × (call.room ≡ None) }
         requires read { read.now ≡ (call_view call).lists.read }
         requires reads { read_total read.now ≤ PAYLOAD_MAX }
@@ -123,6 +125,7 @@ impl ServerEnd {
         requires live { self.old.endpoint.link.state.ended ≡ None }
         requires frame { 0 < self.old.endpoint.link.state.place }
         requires call { InBuffer call }
+        requires receive { IsReceive self.old.endpoint.link.state.receive_queue.receive_length call.buf }
         requires empty { (call.around ≡ 0) × (call.room ≡ None) }
         requires read { read.now ≡ (call_view call).lists.read }
         requires reads { read_total read.now ≤ PAYLOAD_MAX }
@@ -147,6 +150,7 @@ impl ServerEnd {
         requires live { self.old.endpoint.link.state.ended ≡ None }
         requires frame { 0 < self.old.endpoint.link.state.place }
         requires call { InBuffer call }
+        requires receive { IsReceive self.old.endpoint.link.state.receive_queue.receive_length call.buf }
         requires empty { (call.around ≡ 0) × (call.room ≡ None) }
         requires read { read.now ≡ (call_view call).lists.read }
         requires reads { read_total read.now ≤ PAYLOAD_MAX }
@@ -177,6 +181,7 @@ impl ServerEnd {
         requires windows { WindowsAreRead self.old.calls.items self.old.reads.items }
         requires live { self.old.endpoint.link.state.ended ≡ None }
         requires call { InBuffer call }
+        requires receive { IsReceive self.old.endpoint.link.state.receive_queue.receive_length call.buf }
         requires empty { (call.around ≡ 0) × (call.room ≡ None) }
         requires read { read.now ≡ (call_view call).lists.read }
         requires reads { read_total read.now ≤ PAYLOAD_MAX }
@@ -203,6 +208,7 @@ impl ServerEnd {
         requires windows { WindowsAreRead self.old.calls.items self.old.reads.items }
         requires live { self.old.endpoint.link.state.ended ≡ None }
         requires call { InBuffer call }
+        requires receive { IsReceive self.old.endpoint.link.state.receive_queue.receive_length call.buf }
         requires empty { (call.around ≡ 0) × (call.room ≡ None) }
         requires read { read.now ≡ (call_view call).lists.read }
         requires reads { read_total read.now ≤ PAYLOAD_MAX }
@@ -236,6 +242,7 @@ impl ServerEnd {
         requires windows { WindowsAreRead self.old.calls.items self.old.reads.items }
         requires live { self.old.endpoint.link.state.ended ≡ None }
         requires call { InBuffer call }
+        requires receive { IsReceive self.old.endpoint.link.state.receive_queue.receive_length call.buf }
         requires empty { (call.around ≡ 0) × (call.room ≡ None) }
         requires read { read.now ≡ (call_view call).lists.read }
         requires reads { read_total read.now ≤ PAYLOAD_MAX }
@@ -274,6 +281,7 @@ impl ServerEnd {
         requires live { self.old.endpoint.link.state.ended ≡ None }
         requires frame { 0 < self.old.endpoint.link.state.place }
         requires call { InBuffer call }
+        requires receive { IsReceive self.old.endpoint.link.state.receive_queue.receive_length call.buf }
         requires empty { (call.around ≡ 0) × (call.room ≡ None) }
         requires read { read.now ≡ (call_view call).lists.read }
         requires none { HasNoBytes read.now }

@@ -1,7 +1,6 @@
 //! What a message makes of a responder (RFC 8166 sections 4.2 to 4.5).
 
-ghost use Rattle.std.specs.Prelude.{◌≡◌, ℕ, ◌+◌, ◌<◌, ◌≤◌, [], ◌∷◌, ◌++◌, take, map, Option, None, option_map, IfOk, IsOk, true, ◌⊎◌};
-ghost use Rattle.nr_link.specs.Limits.{send_max};
+ghost use Rattle.std.specs.Prelude.{◌≡◌, ℕ, ◌+◌, ◌<◌, ◌≤◌, [], ◌∷◌, ◌++◌, length, take, map, Option, None, option_map, IfOk, IsOk, true, ◌⊎◌};
 ghost use Rattle.nr_header.specs.Constants.{FIXED_LEN};
 ghost use Rattle.nr_header.specs.Header.{no_lists};
 ghost use Rattle.nr_header.specs.ReadInto.{lists_in};
@@ -79,8 +78,8 @@ impl ServerEnd {
         requires windows { WindowsAreRead self.old.calls.items self.old.reads.items }
         requires live { self.old.endpoint.link.state.ended ≡ None }
         requires frame { 0 < self.old.endpoint.link.state.place }
-        requires buf { IsReceive send_max buf }
-        requires len { (FIXED_LEN ≤ len) × (len ≤ send_max) }
+        requires buf { IsReceive self.old.endpoint.link.state.receive_queue.receive_length buf }
+        requires len { (FIXED_LEN ≤ len) × (len ≤ length buf) }
         ensures made { Makes (state_of self.old) number (take len buf) (state_of self.new) }
         ensures windows { WindowsInvariant self.new }
         ensures sound { ServerEndInvariant self.new }
@@ -99,8 +98,8 @@ impl ServerEnd {
         requires windows { WindowsAreRead self.old.calls.items self.old.reads.items }
         requires live { self.old.endpoint.link.state.ended ≡ None }
         requires frame { 0 < self.old.endpoint.link.state.place }
-        requires buf { IsReceive send_max buf }
-        requires len { (FIXED_LEN ≤ len) × (len ≤ send_max) }
+        requires buf { IsReceive self.old.endpoint.link.state.receive_queue.receive_length buf }
+        requires len { (FIXED_LEN ≤ len) × (len ≤ length buf) }
         ensures made { Makes (state_of self.old) number (take len buf) (state_of self.new) }
         ensures windows { WindowsInvariant self.new }
         ensures sound { ServerEndInvariant self.new }
@@ -155,7 +154,7 @@ impl ServerEnd {
         requires sound { ServerEndInvariantWith 1 self.old }
         requires windows { WindowsAreRead self.old.calls.items self.old.reads.items }
         requires live { self.old.endpoint.link.state.ended ≡ None }
-        requires buf { IsReceive send_max buf }
+        requires buf { IsReceive self.old.endpoint.link.state.receive_queue.receive_length buf }
         ensures link { (IfOk made (λ m. self.new.endpoint.link ≡ after_call self.old.endpoint.link (Send m)) × IsOk made) ⊎ (self.new.endpoint.link ≡ after_call self.old.endpoint.link OutOfMemory) }
         ensures same { (self.new.calls ≡ self.old.calls) × (self.new.ready ≡ self.old.ready) × (self.new.credits ≡ self.old.credits) }
         ensures reads { (self.new.reads.items ≡ self.old.reads.items) × (self.new.sinks.items ≡ self.old.sinks.items) }
@@ -175,8 +174,8 @@ impl ServerEnd {
         requires windows { WindowsAreRead self.old.calls.items self.old.reads.items }
         requires live { self.old.endpoint.link.state.ended ≡ None }
         requires frame { 0 < self.old.endpoint.link.state.place }
-        requires buf { IsReceive send_max buf }
-        requires len { (FIXED_LEN ≤ len) × (len ≤ send_max) }
+        requires buf { IsReceive self.old.endpoint.link.state.receive_queue.receive_length buf }
+        requires len { (FIXED_LEN ≤ len) × (len ≤ length buf) }
         requires stream { stream_at ≤ len }
         requires lists { HasLists (take len buf) }
         requires fresh { is_read (map read_view self.old.reads.items) number ≡ true }
@@ -213,6 +212,7 @@ impl ServerEnd {
         requires windows { WindowsAreRead self.old.calls.items self.old.reads.items }
         requires read { (call.around ≡ 0) × (is_read (map read_view self.old.reads.items) call.number ≡ true) }
         requires call { InBuffer call }
+        requires receive { IsReceive self.old.endpoint.link.state.receive_queue.receive_length call.buf }
         requires room { HasRoom self.old.endpoint.outside self.old.sinks.items self.old.reads.items call }
         ensures pushed { (self.new.calls.items ≡ self.old.calls.items ++ call ∷ []) × (self.new.ready.items ≡ self.old.ready.items ++ record { xid = call.xid; payload = payload } ∷ []) }
         ensures same { (self.new.endpoint ≡ self.old.endpoint) × (self.new.credits ≡ self.old.credits) }

@@ -19,6 +19,7 @@ ghost use Rattle.nr_responder.specs.Answering.{Answers};
 ghost use Rattle.nr_responder.specs.Draining.{Drains};
 ghost use Rattle.nr_link.specs.declared.end.End.TheVariants as ends;
 ghost use Rattle.nr_header.specs.Constants.{PAYLOAD_MAX};
+ghost use Rattle.nr_link.specs.Agreement.{default_terms, sized_terms};
 ghost use Rattle.nr_link.specs.Limits.{open_reads_max};
 ghost use Rattle.nr_link.specs.SegmentFaults.{is_begun};
 ghost use Rattle.nr_regions.specs.RegisteredMemory.{bytes_held};
@@ -35,7 +36,7 @@ ghost use Rattle.nr_responder.specs.Steps.{Fed, taken_of};
 use crate::call::{CallId, Sent};
 use crate::server_end::ServerEnd;
 use nr_endpoint::DrainFault;
-use nr_link::End;
+use nr_link::{End, SideTerms};
 use nr_outside::Sink;
 use nr_xdr::Memory;
 use std::alloc::Global;
@@ -67,18 +68,42 @@ impl Model for Responder {
 }
 
 impl Responder {
-    /// The server end of a link that grants this many credits. Takes the staging buffer, a receive for each credit, and room for a call of
-    /// each; not its hello, whose room is taken when the client's is accepted. `Err`: memory ran out, and nothing was made.
+    /// The server end of a link that grants this many credits, with one unit: [`Responder::open_sized`].
     pub fn open(alloc: Global, credits: u32) -> Result<Responder, Memory>
-        ensures state { IfOk result (λ r. r.side ≡ opened_side credits) }
+        ensures state { IfOk result (λ r. r.side ≡ opened_side credits default_terms) }
         ensures live { IfOk result (λ r. end_of r.side ≡ None) }
         ensures fed { IfOk result (λ r. fed_bytes r.side.link ≡ 0) }
         ensures staging { IfOk result (λ r. length r.staging ≡ FPDU_MAX) }
-        ensures stands { IfOk result (λ r. (opened : LinkParameters) (link : ℕ) → ServerOpened opened credits → ResponderRepresents opened link [] r.side) }
+        ensures stands { IfOk result (λ r. (opened : LinkParameters) (link : ℕ) → ServerOpened opened credits default_terms → ResponderRepresents opened link [] r.side) }
+    {
+        Responder::open_sized(alloc, credits, 1)
+    }
+
+    /// The server end of a link that grants this many credits. It writes and takes Sends of at most this many units of 1,024 bytes, from 1 to 16
+    /// (0 counts as 1, and more than 16 as 16): if the client's hello says its terms, so does its own, and the least of both is agreed for each
+    /// direction ([`Responder::agreed`]). Takes the staging buffer, a receive of these units for each credit, and room for a call of each; not
+    /// its hello, whose room is taken when the client's is accepted. `Err`: memory ran out, and nothing was made.
+    pub fn open_sized(alloc: Global, credits: u32, units: u8) -> Result<Responder, Memory>
+        ensures state { IfOk result (λ r. r.side ≡ opened_side credits (sized_terms units)) }
+        ensures live { IfOk result (λ r. end_of r.side ≡ None) }
+        ensures fed { IfOk result (λ r. fed_bytes r.side.link ≡ 0) }
+        ensures staging { IfOk result (λ r. length r.staging ≡ FPDU_MAX) }
+        ensures stands { IfOk result (λ r. (opened : LinkParameters) (link : ℕ) → ServerOpened opened credits (sized_terms units) → ResponderRepresents opened link [] r.side) }
     {
         Ok(Responder {
-            end: ServerEnd::open(alloc, credits)?,
+            end: ServerEnd::open(alloc, credits, SideTerms::sized(units))?,
         })
+    }
+
+    /// The maximum length of a Send in bytes: from the client, and from this side. The hellos of both sides agree on it; until the client's was
+    /// accepted, and if it says no terms, it is 1,024 in both directions. Takes no memory.
+    pub fn agreed(&self) -> (u32, u32)
+        ensures up { result.0 ≡ self.now.side.link.state.agreed.up }
+        ensures down { result.1 ≡ self.now.side.link.state.agreed.down }
+        ensures of_run { end_of self.now.side ≡ None → (opened : LinkParameters) (link : ℕ) (run : List Mark) → ResponderRepresents opened link run self.now.side →
+            (result.0 ≡ (server opened link run).state.up_max) × (result.1 ≡ (server opened link run).state.down_max) }
+    {
+        self.end.agreed()
     }
 
     /// Takes a piece of the client's stream. `Err` if and only if the side has ended, with why; a side that has ended takes no more.

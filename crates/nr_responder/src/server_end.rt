@@ -6,7 +6,7 @@ ghost use Rattle.nr_outside.specs.Faults.{Rises};
 ghost use Rattle.nr_endpoint.specs.declared.fault.DrainFault.TheVariants as drains;
 ghost use Rattle.nr_wire.specs.Constants.{FPDU_MAX};
 ghost use Rattle.nr_wire.specs.Feeding.{bytes_taken};
-ghost use Rattle.nr_link.specs.Limits.{send_max};
+ghost use Rattle.nr_link.specs.Agreement.{IsSendLimit};
 ghost use Rattle.nr_rpc.specs.Reading.{call_of, target_of, xid_of_call};
 ghost use Rattle.nr_header.specs.Constants.{FIXED_LEN};
 ghost use Rattle.nr_endpoint.specs.FedBytes.{fed_bytes};
@@ -35,8 +35,8 @@ use crate::answering::{SENDABLE, queue_answer};
 use crate::call::{OpenSink, Pending, ReadEntry, Ready, Sent, place_of, stream_of};
 use crate::payloads::{first_payload, ready_payload};
 use nr_endpoint::{DrainFault, Endpoint, Event};
-use nr_link::End;
 use nr_link::constants::{REASON_HEAD, REASON_XID};
+use nr_link::{End, SideTerms};
 use nr_outside::Sink;
 use nr_rpc::{CallTarget, call_xid};
 use nr_wire::Side;
@@ -130,11 +130,10 @@ pub(crate) fn send_error(endpoint: &mut Endpoint, made: Result<Octets, Memory>) 
 fn post_until(endpoint: &mut Endpoint, used: &mut VecDeque<Octets>, left: usize)
     requires left { left ≤ length used.old.items }
     requires lent { length used.old.items ≤ endpoint.old.link.state.receive_queue.lent + left }
-    requires receives { endpoint.old.link.state.receive_queue.receive_length ≡ send_max }
-    requires bufs { All (IsReceive send_max) used.old.items }
+    requires bufs { All (IsReceive endpoint.old.link.state.receive_queue.receive_length) used.old.items }
     ensures posted { endpoint.new.link ≡ posted_times (length used.old.items - left) endpoint.old.link }
     ensures left { length used.new.items ≡ left }
-    ensures bufs { All (IsReceive send_max) used.new.items }
+    ensures bufs { All (IsReceive endpoint.old.link.state.receive_queue.receive_length) used.new.items }
     ensures room { deque_capacity used.new ≡ deque_capacity used.old }
     ensures staging { endpoint.new.staging ≡ endpoint.old.staging }
     ensures outside { endpoint.new.outside ≡ endpoint.old.outside }
@@ -159,21 +158,21 @@ fn taken_at(end: Option<End>, all: usize, part: usize) -> usize
 }
 
 impl ServerEnd {
-    /// The server end of a link that grants this number of credits.
-    pub fn open(alloc: Global, credits: u32) -> Result<ServerEnd, Memory>
+    /// The server end of a link that grants this number of credits, with these terms.
+    pub fn open(alloc: Global, credits: u32, terms: SideTerms) -> Result<ServerEnd, Memory>
         ensures sound { IfOk result ServerEndInvariant }
         ensures windows { IfOk result WindowsInvariant }
-        ensures state { IfOk result (λ r. state_of r ≡ opened_side credits) }
+        ensures state { IfOk result (λ r. state_of r ≡ opened_side credits terms) }
         ensures live { IfOk result (λ r. end_of (state_of r) ≡ None) }
         ensures fed { IfOk result (λ r. fed_bytes r.endpoint.link ≡ 0) }
         ensures staging { IfOk result (λ r. length r.endpoint.staging ≡ FPDU_MAX) }
-        ensures stands { IfOk result (λ r. (opened : LinkParameters) (link : ℕ) → ServerOpened opened credits → ResponderRepresents opened link [] (state_of r)) }
+        ensures stands { IfOk result (λ r. (opened : LinkParameters) (link : ℕ) → ServerOpened opened credits terms → ResponderRepresents opened link [] (state_of r)) }
         ensures bounded { IfOk result (λ r. KeptFits (state_of r)) }
     {
         let ready = VecDeque::with_capacity(alloc, credits as usize)?;
         let used = VecDeque::with_capacity(alloc, credits as usize)?;
         let calls = Vec::with_capacity(alloc, credits as usize)?;
-        let endpoint = Endpoint::open(alloc, Side::Responder, credits, 1, None)?;
+        let endpoint = Endpoint::open(alloc, Side::Responder, credits, 1, terms)?;
         Ok(ServerEnd {
             endpoint,
             calls,
@@ -361,6 +360,7 @@ impl ServerEnd {
         requires next { 0 < length self.old.ready.items }
         requires inline { (d : Pending) → slice_get (payloads_of self.old.ready.items) 0 ≡ Some None → (get_or self.old.calls.items at d).inline ≡ true }
         requires short { length reply.now ≤ sent_reply_max }
+        requires limit { IsSendLimit self.old.endpoint.link.state.agreed.down }
         ensures answers { IfOk result (λ sent. Answers (state_of self.old) (state_of self.new) xid reply.now sent) }
         ensures err { OnErr result (with_staging self.new ≡ with_staging self.old) }
         ensures fed { fed_bytes self.new.endpoint.link ≡ fed_bytes self.old.endpoint.link }

@@ -1,4 +1,4 @@
-use Rattle.std.proofs.Common.{sym, ◌∙◌}
+use Rattle.std.proofs.Common.{length, sym, ◌∙◌}
 use Rattle.nr_reduce.specs.KeptClient.{bytes_under}
 use Rattle.nr_requester.specs.Judged.{kept_view, kept_views}
 use Rattle.nr_requester.proofs.MessageBodies.{no_call, by_call, one_offers, one_room, one_held, same_all, same_set, brings_lem, header_with}
@@ -18,7 +18,7 @@ pub found-requires-clause-offers : goal.found-requires-clause-offers
 found-requires-clause-offers c = one_offers c.args.calls.now c.in-Some.at c.index-calls-at.result c.in-Some.ensures.0 c.requires.offers
 
 pub found-requires-clause-room : goal.found-requires-clause-room
-found-requires-clause-room c = one_room c.args.calls.now c.in-Some.at c.index-calls-at.result c.in-Some.ensures.0 c.requires.rooms
+found-requires-clause-room c = one_room (length c.args.message.now) c.args.calls.now c.in-Some.at c.index-calls-at.result c.in-Some.ensures.0 c.requires.rooms
 
 pub returns-in-Ok-clause-ok : goal.returns-in-Ok-clause-ok
 returns-in-Ok-clause-ok c =

@@ -1,7 +1,7 @@
 use Rattle.nr_requester.proofs.AllMarks.{begins, submit_is_a_mark, drain_is_a_mark, piece_runs_out, revoke_is_a_mark, revoke_stays_out, forget_is_a_mark, done_is_a_mark, others_leave_it, others_stay_out}
-use Rattle.nr_requester.proofs.Accepting.{answers_as_client, counts_as_client, end_as_client}
+use Rattle.nr_requester.proofs.Accepting.{answers_as_client, agrees_as_client, counts_as_client, end_as_client}
 use Rattle.nr_requester.proofs.Fed.{piece_is_a_mark}
-use Rattle.nr_requester.proofs.RunOut.{memory_as_client, memory_out_lem, counts_out_lem, refuses_out, piece_stays_out_lem}
+use Rattle.nr_requester.proofs.RunOut.{memory_as_client, memory_out_lem, agrees_out_lem, counts_out_lem, refuses_out, piece_stays_out_lem}
 use Rattle.nr_requester.proofs.DueAnswers.{answers_are_due, answers_out}
 use Rattle.nr_requester.proofs.FirstDue.{first_is_due_first, first_out}
 use Rattle.nr_requester.proofs.laws.requesters_stand_for_marks.Goals as goal
@@ -80,3 +80,9 @@ returns-clause-marks c = λ opened link h run s. s.counted
 
 pub returns-clause-marks_out : goal.returns-clause-marks_out
 returns-clause-marks_out c = λ opened link h stopped run out. out.counted
+
+pub returns-clause-agrees : goal.returns-clause-agrees
+returns-clause-agrees c = agrees_as_client
+
+pub returns-clause-agrees_out : goal.returns-clause-agrees_out
+returns-clause-agrees_out c = agrees_out_lem

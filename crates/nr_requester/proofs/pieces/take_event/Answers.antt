@@ -1,4 +1,4 @@
-use Rattle.std.proofs.Common.{◌≡◌, ℕ, List, length, ◌<◌, ◌∷◌, take, sym, ap, subst, ◌∙◌}
+use Rattle.std.proofs.Common.{ℕ, List, length, ◌<◌, ◌∷◌, take, sym, ap, subst, ◌∙◌}
 use Rattle.std.specs.Prelude.{vec_capacity}
 use Rattle.nr_regions.specs.RegisteredMemory.{RegisteredMemory}
 use Rattle.nr_endpoint.specs.LinkState.{LinkSide}
@@ -17,14 +17,9 @@ use Rattle.nr_requester.proofs.pieces.take_event.Goals as goal
 pub take_message-requires-clause-live : goal.take_message-requires-clause-live
 take_message-requires-clause-live c = ap (λ (l : LinkSide). l.state.ended) c.in-Some-Message.ensures.state ∙ (next_ended c.args.endpoint.now.link ∙ c.requires.ready.live)
 
-pub take_message-requires-clause-receives : goal.take_message-requires-clause-receives
-take_message-requires-clause-receives c =
-    ap (λ (l : LinkSide). l.state.receive_queue.receive_length) c.in-Some-Message.ensures.state ∙ (next_receives c.args.endpoint.now.link ∙ c.requires.receives)
-
 pub take_message-requires-clause-buf : goal.take_message-requires-clause-buf
 take_message-requires-clause-buf c =
     (subst (λ (e : Event). HasBuffer c.next_event.new.self.link.state.receive_queue.receive_length e) c.in-Some-Message.field-0-is c.in-Some-Message.ensures.buffer).0
-    ∙ take_message-requires-clause-receives c
 
 pub take_message-requires-clause-lent : goal.take_message-requires-clause-lent
 take_message-requires-clause-lent c =
@@ -34,7 +29,11 @@ take_message-requires-clause-lent c =
 pub take_message-requires-clause-calls : goal.take_message-requires-clause-calls
 take_message-requires-clause-calls c =
     let memory = ap (λ (l : LinkSide). l.state.memory) c.in-Some-Message.ensures.state ∙ next_memory c.args.endpoint.now.link in
-    (c.requires.ready.next_xid, subst (λ (m : RegisteredMemory). CallsSound m c.requires.ready.next_xid c.args.outstanding.now.items c.args.answered.now.items (vec_capacity c.args.answered.now)) (sym memory) c.requires.ready.calls)
+    let receive = ap (λ (l : LinkSide). l.state.receive_queue.receive_length) c.in-Some-Message.ensures.state ∙ next_receives c.args.endpoint.now.link in (
+      c.requires.ready.next_xid,
+      subst (λ (n : ℕ). CallsSound n c.next_event.new.self.link.state.memory c.requires.ready.next_xid c.args.outstanding.now.items c.args.answered.now.items (vec_capacity c.args.answered.now)) (sym receive)
+          (subst (λ (m : RegisteredMemory). CallsSound c.args.endpoint.now.link.state.receive_queue.receive_length m c.requires.ready.next_xid c.args.outstanding.now.items c.args.answered.now.items (vec_capacity c.args.answered.now)) (sym memory) c.requires.ready.calls),
+    )
 
 pub returns-in-Some-Message-clause-deliveries : goal.returns-in-Some-Message-clause-deliveries
 returns-in-Some-Message-clause-deliveries c = λ wished next.
@@ -43,9 +42,9 @@ returns-in-Some-Message-clause-deliveries c = λ wished next.
     c.requires.ready.live w.is w.rest c.in-Some-Message.ensures.state c.take_message.ensures.judged
 
 pub returns-in-Some-Message-clause-sound : goal.returns-in-Some-Message-clause-sound
-returns-in-Some-Message-clause-sound c = λ next s.
+returns-in-Some-Message-clause-sound c = λ most next s.
     let memory = ap (λ (l : LinkSide). l.state.memory) c.in-Some-Message.ensures.state ∙ next_memory c.args.endpoint.now.link in
-    c.take_message.ensures.sound next (subst (λ (m : RegisteredMemory). CallsSound m next c.args.outstanding.now.items c.args.answered.now.items (vec_capacity c.args.answered.now)) (sym memory) s)
+    c.take_message.ensures.sound most next (subst (λ (m : RegisteredMemory). CallsSound most m next c.args.outstanding.now.items c.args.answered.now.items (vec_capacity c.args.answered.now)) (sym memory) s)
 
 pub returns-in-Some-Message-clause-quiet : goal.returns-in-Some-Message-clause-quiet
 returns-in-Some-Message-clause-quiet c =
@@ -55,14 +54,14 @@ returns-in-Some-Message-clause-quiet c =
     c.next_event.new.self.link c.take_message.new.endpoint.link c.args.outstanding.now.items c.take_message.new.outstanding.items c.args.answered.now.items c.take_message.new.answered.items c.args.grant.now c.take_message.new.grant c.in-Some-Message.ensures.state c.take_message.ensures.judged
 
 pub returns-in-Some-Message-clause-bounded : goal.returns-in-Some-Message-clause-bounded
-returns-in-Some-Message-clause-bounded c = λ next bounded.
-    c.take_message.ensures.bounded next
-    (next_bounded c.args.sent c.args.first_xid next c.args.outstanding.now.items c.args.answered.now.items c.args.endpoint.now c.next_event.new.self (ap (λ (xs : List ℕ). length xs) c.next_event.ensures.staging) c.next_event.ensures.outside bounded c.in-Some-Message.ensures.state)
+returns-in-Some-Message-clause-bounded c = λ most next bounded.
+    c.take_message.ensures.bounded most next
+    (next_bounded most c.args.sent c.args.first_xid next c.args.outstanding.now.items c.args.answered.now.items c.args.endpoint.now c.next_event.new.self (ap (λ (xs : List ℕ). length xs) c.next_event.ensures.staging) c.next_event.ensures.outside bounded c.in-Some-Message.ensures.state)
 
 pub returns-in-Some-ReadDone-clause-bounded : goal.returns-in-Some-ReadDone-clause-bounded
-returns-in-Some-ReadDone-clause-bounded c = λ next bounded.
-    next_bounded c.args.sent c.args.first_xid next c.args.outstanding.now.items c.args.answered.now.items c.args.endpoint.now c.next_event.new.self (ap (λ (xs : List ℕ). length xs) c.next_event.ensures.staging) c.next_event.ensures.outside bounded c.in-Some-ReadDone.ensures.state
+returns-in-Some-ReadDone-clause-bounded c = λ most next bounded.
+    next_bounded most c.args.sent c.args.first_xid next c.args.outstanding.now.items c.args.answered.now.items c.args.endpoint.now c.next_event.new.self (ap (λ (xs : List ℕ). length xs) c.next_event.ensures.staging) c.next_event.ensures.outside bounded c.in-Some-ReadDone.ensures.state
 
 pub returns-in-None-clause-bounded : goal.returns-in-None-clause-bounded
-returns-in-None-clause-bounded c = λ next bounded.
-    same_bounded c.args.sent c.args.first_xid next c.args.outstanding.now.items c.args.answered.now.items c.args.endpoint.now c.next_event.new.self (ap (λ (xs : List ℕ). length xs) c.next_event.ensures.staging) c.next_event.ensures.outside bounded c.in-None.ensures.state
+returns-in-None-clause-bounded c = λ most next bounded.
+    same_bounded most c.args.sent c.args.first_xid next c.args.outstanding.now.items c.args.answered.now.items c.args.endpoint.now c.next_event.new.self (ap (λ (xs : List ℕ). length xs) c.next_event.ensures.staging) c.next_event.ensures.outside bounded c.in-None.ensures.state

@@ -1,4 +1,3 @@
-use Rattle.nr_link.specs.Limits.{send_max}
 use Rattle.std.proofs.Common.{ℕ, List, ◌++◌, length, length-append, sym, ap, subst, ◌∙◌, arith}
 use Rattle.nr_header.specs.Header.{ChunksFit}
 use Rattle.nr_header.specs.Slices.{lists_of_slices}
@@ -21,9 +20,10 @@ offered_of-requires c = record { few = few (call_plan c.args.plan) (plan_fits (c
 pub offer_parts-requires-clause-size : goal.offer_parts-requires-clause-size
 offer_parts-requires-clause-size c =
     let p = c.requires.planned in
-    let size = (message_size p.payload p.form send_max send_max c.args.xid c.args.credit c.args.endpoint.now.link.state.memory.next (call_plan c.args.plan) p.is).1 in
+    let short = p.short in
+    let size = (message_size p.payload p.form p.up p.down c.args.xid c.args.credit c.args.endpoint.now.link.state.memory.next (call_plan c.args.plan) p.is).1 in
     let len = ap (λ (xs : List ℕ). length xs) (message_by c.args.xid c.args.credit c.args.endpoint.now.link.state.memory.next (call_plan c.args.plan) (lists_of_slices c.as_slices.result) c.in_ok-front.front c.as_slice.result.now c.in_ok-front.stream.now c.as_slice.ensures c.in_ok-front.ensures (c.as_slices.ensures ∙ c.requires.lists)) in
-    omega (arith, size, len, length-append c.as_slice.result.now c.in_ok-front.stream.now)
+    omega (arith, size, short, len, length-append c.as_slice.result.now c.in_ok-front.stream.now)
 
 pub offer_parts-requires-clause-stags : goal.offer_parts-requires-clause-stags
 offer_parts-requires-clause-stags c =

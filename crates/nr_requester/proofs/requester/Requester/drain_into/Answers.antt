@@ -17,8 +17,8 @@ returns-clause-taken c d =
 pub invariant_of-self : goal.invariant_of-self
 invariant_of-self g c =
     let t = c.drain_into-drained.ensures.taken in (
-      drain_sound c.self.inside.endpoint.link c.drain_into-drained.new.self.link t.0 c.self.inside.next_xid c.self.inside.grant _ c.self.inside.outstanding.items c.self.inside.answered.items c.self.invariant.0 t.3,
-      (drained_within c.self.inside.endpoint c.drain_into-drained.new.self c.self.inside.first_xid c.self.inside.next_xid t.0 c.self.inside.outstanding.items c.self.inside.answered.items c.self.invariant.1.0 c.self.invariant.0.rising c.drain_into-drained.ensures.staging c.drain_into-drained.ensures.outside t.3, drained_sent c.self.inside.endpoint.link c.drain_into-drained.new.self.link c.self.inside.sent c.sent_by_now-self-inside.result t.0 t.3 c.sent_by_now-self-inside.ensures (few_left c.self.inside.endpoint.link c.self.inside.first_xid c.self.inside.next_xid c.self.inside.outstanding.items c.self.invariant.1.0.counts c.self.invariant.0.xid) c.self.invariant.1.1),
+      drain_sound c.self.inside.endpoint.link c.drain_into-drained.new.self.link c.self.inside.receive_length t.0 c.self.inside.next_xid c.self.inside.grant _ c.self.inside.outstanding.items c.self.inside.answered.items c.self.invariant.0 t.3,
+      (drained_within c.self.inside.endpoint c.drain_into-drained.new.self c.self.inside.receive_length c.self.inside.first_xid c.self.inside.next_xid t.0 c.self.inside.outstanding.items c.self.inside.answered.items c.self.invariant.1.0 c.self.invariant.0.rising c.drain_into-drained.ensures.staging c.drain_into-drained.ensures.outside t.3, drained_sent c.self.inside.endpoint.link c.drain_into-drained.new.self.link c.self.inside.sent c.sent_by_now-self-inside.result t.0 t.3 c.sent_by_now-self-inside.ensures (few_left c.self.inside.endpoint.link c.self.inside.first_xid c.self.inside.next_xid c.self.inside.outstanding.items c.self.invariant.1.0.counts c.self.invariant.0.xid) c.self.invariant.1.1),
     )
 
 pub returns-clause-tickets : goal.returns-clause-tickets

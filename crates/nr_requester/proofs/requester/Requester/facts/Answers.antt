@@ -1,4 +1,5 @@
 use Rattle.std.proofs.Common.{refl, ap, subst, arith}
+use Rattle.nr_link.specs.Agreement.{IsSendLimit}
 use Rattle.nr_requester.specs.RequesterState.{RequesterFeeding, RequesterSide}
 use Rattle.nr_requester.specs.OpenCalls.{IsFresh}
 use Rattle.nr_requester.specs.Views.{requester_view}
@@ -16,3 +17,7 @@ returns-clause-fresh c = λ xid le.
     let i = c.self.inside in
     let next = ap (λ (h : RequesterSide). h.state.next_xid) c.self.view_is in
     subst (λ (h : RequesterSide). IsFresh h.state xid) c.self.view_is (are_fresh i.next_xid xid i.outstanding.items i.answered.items c.self.invariant.0.rising c.self.invariant.0.apart (omega (arith, le, next)))
+
+pub returns-clause-agreed : goal.returns-clause-agreed
+returns-clause-agreed c =
+    subst (λ (h : RequesterSide). IsSendLimit h.state.side.agreed.up × IsSendLimit h.state.side.agreed.down) c.self.view_is (c.self.invariant.1.0.link.up, c.self.invariant.1.0.link.down)

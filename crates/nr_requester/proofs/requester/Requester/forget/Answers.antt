@@ -20,7 +20,7 @@ invariant_of-self c =
     is_found i.outstanding.items c.as_slice.result.now c.args.ticket c.xid-xid.result c.in-Some.at c.as_slice.ensures.value c.xid-xid.ensures c.in-Some.ensures.some.0 c.in-Some.ensures.some.1 in
     let d : OutstandingCall = c.index_mut.result.now in
     let are = ap (λ (y : OutstandingCall). set i.outstanding.items c.in-Some.at y) (c.mark_forgotten.ensures ∙ ap (λ (o : OutstandingCall). forgot o) c.index_mut.ensures.value) in
-    (forgot_sound i.endpoint.link i.next_xid i.grant _ c.in-Some.at i.outstanding.items _ i.answered.items d c.self.invariant.0 f.within are, (forgot_within i.endpoint i.first_xid i.next_xid c.in-Some.at i.outstanding.items _ i.answered.items d c.self.invariant.1.0 f.within are, c.self.invariant.1.1))
+    (forgot_sound i.endpoint.link i.receive_length i.next_xid i.grant _ c.in-Some.at i.outstanding.items _ i.answered.items d c.self.invariant.0 f.within are, (forgot_within i.endpoint i.receive_length i.first_xid i.next_xid c.in-Some.at i.outstanding.items _ i.answered.items d c.self.invariant.1.0 f.within are, c.self.invariant.1.1))
 
 pub returns-in-Some-clause-state : goal.returns-in-Some-clause-state
 returns-in-Some-clause-state c =
@@ -57,8 +57,8 @@ returns-in-Some-clause-out c =
 pub invariant_of-self-2 : goal.invariant_of-self-2
 invariant_of-self-2 c =
     let i = c.self.inside in (
-      taken_sound i.endpoint.link i.next_xid i.grant _ _ c.xid-xid.result i.outstanding.items i.answered.items c.take_answer.new.answered.items c.self.invariant.0 c.take_answer.ensures.left c.take_answer.ensures.capacity,
-      (taken_within i.endpoint i.first_xid i.next_xid c.xid-xid.result i.outstanding.items i.answered.items c.take_answer.new.answered.items c.self.invariant.1.0 c.take_answer.ensures.left, c.self.invariant.1.1),
+      taken_sound i.endpoint.link i.receive_length i.next_xid i.grant _ _ c.xid-xid.result i.outstanding.items i.answered.items c.take_answer.new.answered.items c.self.invariant.0 c.take_answer.ensures.left c.take_answer.ensures.capacity,
+      (taken_within i.endpoint i.receive_length i.first_xid i.next_xid c.xid-xid.result i.outstanding.items i.answered.items c.take_answer.new.answered.items c.self.invariant.1.0 c.take_answer.ensures.left, c.self.invariant.1.1),
     )
 
 pub returns-clause-state : goal.returns-clause-state

@@ -29,9 +29,9 @@ invariant_of-self c =
     let f : IsFound i.outstanding.items c.args.xid c.in-Some.at =
     is_found i.outstanding.items c.as_slice.result.now c.args.xid c.args.xid c.in-Some.at c.as_slice.ensures.value refl c.in-Some.ensures.some.0 c.in-Some.ensures.some.1 in
     let d : OutstandingCall = given i.outstanding.items c.in-Some.at in (
-      given_up_sound i.endpoint.link c.revoke_at-call.new.endpoint.link i.next_xid i.grant _ c.in-Some.at i.outstanding.items c.revoke_at-call.new.calls.items i.answered.items d c.self.invariant.0 f.within (c.revoke_at-call.ensures.link d) (c.revoke_at-call.ensures.calls d),
+      given_up_sound i.endpoint.link c.revoke_at-call.new.endpoint.link i.receive_length i.next_xid i.grant _ c.in-Some.at i.outstanding.items c.revoke_at-call.new.calls.items i.answered.items d c.self.invariant.0 f.within (c.revoke_at-call.ensures.link d) (c.revoke_at-call.ensures.calls d),
       (
-        given_up_within i.endpoint c.revoke_at-call.new.endpoint i.first_xid i.next_xid c.in-Some.at i.outstanding.items c.revoke_at-call.new.calls.items i.answered.items d c.self.invariant.1.0 c.self.invariant.0.held f.within c.revoke_at-call.ensures.staging c.revoke_at-call.ensures.outside
+        given_up_within i.endpoint c.revoke_at-call.new.endpoint i.receive_length i.first_xid i.next_xid c.in-Some.at i.outstanding.items c.revoke_at-call.new.calls.items i.answered.items d c.self.invariant.1.0 c.self.invariant.0.held f.within c.revoke_at-call.ensures.staging c.revoke_at-call.ensures.outside
             (c.revoke_at-call.ensures.link d) (c.revoke_at-call.ensures.calls d),
         subst (λ (l : LinkSide). i.sent ≤ l.state.send_queue.sends_left) (sym (c.revoke_at-call.ensures.link d)) c.self.invariant.1.1,
       ),
@@ -91,8 +91,8 @@ unreachable-requires-in-None-take_answer c =
 pub invariant_of-self-2 : goal.invariant_of-self-2
 invariant_of-self-2 c =
     let i = c.self.inside in (
-      taken_sound i.endpoint.link i.next_xid i.grant _ _ c.args.xid i.outstanding.items i.answered.items c.take_answer.new.answered.items c.self.invariant.0 c.take_answer.ensures.left c.take_answer.ensures.capacity,
-      (taken_within i.endpoint i.first_xid i.next_xid c.args.xid i.outstanding.items i.answered.items c.take_answer.new.answered.items c.self.invariant.1.0 c.take_answer.ensures.left, c.self.invariant.1.1),
+      taken_sound i.endpoint.link i.receive_length i.next_xid i.grant _ _ c.args.xid i.outstanding.items i.answered.items c.take_answer.new.answered.items c.self.invariant.0 c.take_answer.ensures.left c.take_answer.ensures.capacity,
+      (taken_within i.endpoint i.receive_length i.first_xid i.next_xid c.args.xid i.outstanding.items i.answered.items c.take_answer.new.answered.items c.self.invariant.1.0 c.take_answer.ensures.left, c.self.invariant.1.1),
     )
 
 pub returns-clause-call : goal.returns-clause-call

@@ -1,5 +1,4 @@
 use Rattle.std.proofs.Common.{◌≡◌, ℕ, ◌+◌, ◌^◌, ◌<◌, ◌≤◌, false, List, [], ◌∷◌, ◌++◌, length, None, Some, refl, sym, ap, subst, ◌∙◌, arith}
-use Rattle.nr_link.specs.Limits.{send_max}
 use Rattle.std.proofs.lemmas.List.{length-map}
 use Rattle.nr_endpoint.specs.LinkState.{LinkSide}
 use Rattle.nr_endpoint.specs.Calls.{with_state}
@@ -28,6 +27,9 @@ send_with_room-requires-clause-stags c =
     let same = ap (λ (args : List ℕ). regions_needed (outline_plan (c.args.head.now ++ args) c.args.outline)) c.as_slice.ensures in
     omega (arith, next, fits, same)
 
+pub send_with_room-requires-clause-receive : goal.send_with_room-requires-clause-receive
+send_with_room-requires-clause-receive c = c.self.invariant.1.0.link.receive
+
 pub invariant_of-self-2 : goal.invariant_of-self-2
 invariant_of-self-2 c =
     let number = ap (λ (h : RequesterSide). h.state.next_xid) c.self.view_is in
@@ -49,14 +51,14 @@ invariant_of-self-2 c =
     let link_is : c.send_with_room.new.endpoint.link ≡ with_state (submitted s (call_message c.self.inside.next_xid c.self.inside.wished s.memory.next plan) (buffers s.memory.next plan)) c.self.inside.endpoint.link =
     c.in-Ok.ensures.link ∙ ap (λ (p : Plan). with_state (submitted s (call_message c.self.inside.next_xid c.self.inside.wished s.memory.next p) (buffers s.memory.next p)) c.self.inside.endpoint.link) same in
     let claims_are : c.in-Ok.sent.sent.claims ≡ claims_of s.memory (offered_of plan) = c.in-Ok.ensures.claims ∙ ap (λ (p : Plan). claims_of s.memory (offered_of p)) same in
-    let room_is = subst (λ (p : Plan). (c.in-Ok.sent.room.len ≡ send_max + (total p.write + (total p.reply + 3))) × (c.in-Ok.sent.room.len < 2 ^ 32)) same c.in-Ok.ensures.room in
+    let room_is = subst (λ (p : Plan). (c.in-Ok.sent.room.len ≡ c.self.inside.receive_length + (total p.write + (total p.reply + 3))) × (c.in-Ok.sent.room.len < 2 ^ 32)) same c.in-Ok.ensures.room in
     let lists_are : c.in-Ok.sent.sent.lists ≡ lists_of s.memory.next plan = c.in-Ok.ensures.lists ∙ ap (λ (p : Plan). lists_of s.memory.next p) same in
-    let offered : c.in-Ok.sent.room.len ≡ reply_room c.in-Ok.sent.sent.lists = room_is.0 ∙ (sym (room_offered s.memory.next plan) ∙ ap (λ (l : ChunkLists). reply_room l) (sym lists_are)) in (
-      sent_sound c.self.inside.endpoint.link c.send_with_room.new.endpoint.link c.self.inside.next_xid c.self.inside.grant _ _ c.self.inside.outstanding.items c.push_reserved.new.self.items c.self.inside.answered.items c.make_room.new.answered.items o
-          c.self.invariant.0 c.in-Ok.ensures.held queue c.in-Ok.ensures.offer (own_room s.memory plan o claims_are room_is) (ap (λ (l : LinkSide). l.state.reads) c.in-Ok.ensures.link) (omega (arith, xid, number)) (omega (arith, count, credit, grant, len))
+    let offered : c.in-Ok.sent.room.len ≡ reply_room c.self.inside.receive_length c.in-Ok.sent.sent.lists = room_is.0 ∙ (sym (room_offered c.self.inside.receive_length s.memory.next plan) ∙ ap (λ (l : ChunkLists). reply_room c.self.inside.receive_length l) (sym lists_are)) in (
+      sent_sound c.self.inside.endpoint.link c.send_with_room.new.endpoint.link c.self.inside.receive_length c.self.inside.next_xid c.self.inside.grant _ _ c.self.inside.outstanding.items c.push_reserved.new.self.items c.self.inside.answered.items c.make_room.new.answered.items o
+          c.self.invariant.0 c.in-Ok.ensures.held queue c.in-Ok.ensures.offer (own_room c.self.inside.receive_length s.memory plan o claims_are room_is) (ap (λ (l : LinkSide). l.state.reads) c.in-Ok.ensures.link) (omega (arith, xid, number)) (omega (arith, count, credit, grant, len))
           (c.push_reserved.ensures.items ∙ ap (λ (xs : List OutstandingCall). xs ++ o ∷ []) c.make_room.ensures.outstanding) c.make_room.ensures.answered refl c.in_default.ensures.answer,
       (
-        sent_within c.self.inside.endpoint c.send_with_room.new.endpoint c.self.inside.first_xid c.self.inside.next_xid c.self.inside.next_xid c.self.inside.wished c.self.inside.outstanding.items c.push_reserved.new.self.items c.self.inside.answered.items c.make_room.new.answered.items o plan c.self.invariant.1.0 c.self.invariant.0.rising
+        sent_within c.self.inside.endpoint c.send_with_room.new.endpoint c.self.inside.receive_length c.self.inside.first_xid c.self.inside.next_xid c.self.inside.next_xid c.self.inside.wished c.self.inside.outstanding.items c.push_reserved.new.self.items c.self.inside.answered.items c.make_room.new.answered.items o plan c.self.invariant.1.0 c.self.invariant.0.rising
             c.send_with_room.ensures.staging c.in-Ok.ensures.outside link_is planned lives stags claims_are c.requires.small c.in-Ok.ensures.empty offered (let len = room_is.0 in omega (arith, len)) refl
             (c.push_reserved.ensures.items ∙ ap (λ (xs : List OutstandingCall). xs ++ o ∷ []) c.make_room.ensures.outstanding) c.make_room.ensures.answered,
         subst (λ (l : LinkSide). c.self.inside.sent ≤ l.state.send_queue.sends_left) (sym link_is) c.self.invariant.1.1,

@@ -15,8 +15,8 @@ invariant_of-self c =
     let lives = ap (λ (h : RequesterSide). h.state.side.ended) c.self.view_is ∙ c.requires.live in
     let f : FedOne c.self.inside.endpoint.link c.feed_one.new.self.link c.args.left.now (Err c.in_default.field-0) =
     record { ended = c.in_default.ensures.ended; state = c.in_default.ensures.state; memory = c.in_default.ensures.memory; whole = λ m going. (c.in_default.ensures.frame m going).0; queues = λ m going. (c.in_default.ensures.frame m going).1 } in (
-      err_sound c.self.inside.endpoint.link c.feed_one.new.self.link c.self.inside.next_xid c.self.inside.grant (vec_capacity c.self.inside.answered) c.self.inside.outstanding.items c.self.inside.answered.items c.args.left.now (Err c.in_default.field-0) c.in_default.field-0 f (sym c.in_default.ensures.ended) lives c.self.invariant.0,
-      err_bounded c.self.inside.sent c.self.inside.first_xid c.self.inside.next_xid c.self.inside.grant (vec_capacity c.self.inside.answered) c.self.inside.outstanding.items c.self.inside.answered.items c.self.inside.endpoint c.feed_one.new.self c.args.left.now (Err c.in_default.field-0) c.in_default.field-0 f (sym c.in_default.ensures.ended) lives c.self.invariant.0 c.feed_one.ensures.staging.len c.feed_one.ensures.outside c.self.invariant.1,
+      err_sound c.self.inside.endpoint.link c.feed_one.new.self.link c.self.inside.receive_length c.self.inside.next_xid c.self.inside.grant (vec_capacity c.self.inside.answered) c.self.inside.outstanding.items c.self.inside.answered.items c.args.left.now (Err c.in_default.field-0) c.in_default.field-0 f (sym c.in_default.ensures.ended) lives c.self.invariant.0,
+      err_bounded c.self.inside.receive_length c.self.inside.sent c.self.inside.first_xid c.self.inside.next_xid c.self.inside.grant (vec_capacity c.self.inside.answered) c.self.inside.outstanding.items c.self.inside.answered.items c.self.inside.endpoint c.feed_one.new.self c.args.left.now (Err c.in_default.field-0) c.in_default.field-0 f (sym c.in_default.ensures.ended) lives c.self.invariant.0 c.feed_one.ensures.staging.len c.feed_one.ensures.outside c.self.invariant.1,
     )
 
 pub returns-in_default-clause-step : goal.returns-in_default-clause-step
@@ -25,31 +25,27 @@ returns-in_default-clause-step c =
     let f : FedOne c.self.inside.endpoint.link c.feed_one.new.self.link c.args.left.now (Err c.in_default.field-0) =
     record { ended = c.in_default.ensures.ended; state = c.in_default.ensures.state; memory = c.in_default.ensures.memory; whole = λ m going. (c.in_default.ensures.frame m going).0; queues = λ m going. (c.in_default.ensures.frame m going).1 } in
     subst (λ (h : RequesterSide). IsStep (feeding_of h) c.args.left.now (requester_view c.feed_one.new.self.link c.self.inside.sent c.self.inside.wished c.self.inside.first_xid c.self.inside.next_xid c.self.inside.grant c.self.inside.outstanding.items c.self.inside.answered.items)) c.self.view_is
-    (err_step c.self.inside.endpoint.link c.feed_one.new.self.link c.self.inside.sent c.self.inside.wished c.self.inside.first_xid c.self.inside.next_xid c.self.inside.grant (vec_capacity c.self.inside.answered) c.self.inside.outstanding.items c.self.inside.answered.items c.args.left.now (Err c.in_default.field-0) c.in_default.field-0 f (sym c.in_default.ensures.ended) lives c.self.invariant.0)
+    (err_step c.self.inside.endpoint.link c.feed_one.new.self.link c.self.inside.receive_length c.self.inside.sent c.self.inside.wished c.self.inside.first_xid c.self.inside.next_xid c.self.inside.grant (vec_capacity c.self.inside.answered) c.self.inside.outstanding.items c.self.inside.answered.items c.args.left.now (Err c.in_default.field-0) c.in_default.field-0 f (sym c.in_default.ensures.ended) lives c.self.invariant.0)
 
-pub take_event-requires-clause-ready : goal.take_event-requires-clause-ready
-take_event-requires-clause-ready c =
+pub take_event-requires : goal.take_event-requires
+take_event-requires c =
     let lives = ap (λ (h : RequesterSide). h.state.side.ended) c.self.view_is ∙ c.requires.live in
     let f : FedOne c.self.inside.endpoint.link c.feed_one.new.self.link c.args.left.now (Ok c.in-Ok.taken) =
     record { ended = c.in-Ok.ensures.ended; state = c.in-Ok.ensures.state; memory = c.in-Ok.ensures.memory; whole = λ m going. (c.in-Ok.ensures.frame m going).0; queues = λ m going. (c.in-Ok.ensures.frame m going).1 } in
-    ok_ready c.self.inside.endpoint.link c.feed_one.new.self.link c.self.inside.next_xid c.self.inside.grant (vec_capacity c.self.inside.answered) c.in-Ok.taken c.self.inside.outstanding.items c.self.inside.answered.items c.args.left.now f lives c.self.invariant.0
-
-pub take_event-requires-clause-receives : goal.take_event-requires-clause-receives
-take_event-requires-clause-receives c =
-    let lives = ap (λ (h : RequesterSide). h.state.side.ended) c.self.view_is ∙ c.requires.live in
-    let f : FedOne c.self.inside.endpoint.link c.feed_one.new.self.link c.args.left.now (Ok c.in-Ok.taken) =
-    record { ended = c.in-Ok.ensures.ended; state = c.in-Ok.ensures.state; memory = c.in-Ok.ensures.memory; whole = λ m going. (c.in-Ok.ensures.frame m going).0; queues = λ m going. (c.in-Ok.ensures.frame m going).1 } in
-    (fed_bounded c.self.inside.sent c.self.inside.first_xid c.self.inside.next_xid c.self.inside.outstanding.items c.self.inside.answered.items c.self.inside.endpoint c.feed_one.new.self c.feed_one.ensures.staging.len c.feed_one.ensures.outside c.self.invariant.1 c.args.left.now lives c.self.invariant.0.none_waits c.self.invariant.0.no_reads (ok_state c.self.inside.endpoint.link c.feed_one.new.self.link c.args.left.now c.in-Ok.taken f).0).0.link.receive_length
+    record {
+      ready = ok_ready c.self.inside.endpoint.link c.feed_one.new.self.link c.self.inside.receive_length c.self.inside.next_xid c.self.inside.grant (vec_capacity c.self.inside.answered) c.in-Ok.taken c.self.inside.outstanding.items c.self.inside.answered.items c.args.left.now f lives c.self.invariant.0
+          (fed_bounded c.self.inside.receive_length c.self.inside.sent c.self.inside.first_xid c.self.inside.next_xid c.self.inside.outstanding.items c.self.inside.answered.items c.self.inside.endpoint c.feed_one.new.self c.feed_one.ensures.staging.len c.feed_one.ensures.outside c.self.invariant.1 c.args.left.now lives c.self.invariant.0.none_waits c.self.invariant.0.no_reads (ok_state c.self.inside.endpoint.link c.feed_one.new.self.link c.args.left.now c.in-Ok.taken f).0).0.link.receive_length;
+    }
 
 pub invariant_of-self-2 : goal.invariant_of-self-2
 invariant_of-self-2 c =
     let lives = ap (λ (h : RequesterSide). h.state.side.ended) c.self.view_is ∙ c.requires.live in
     let f : FedOne c.self.inside.endpoint.link c.feed_one.new.self.link c.args.left.now (Ok c.in-Ok.taken) =
     record { ended = c.in-Ok.ensures.ended; state = c.in-Ok.ensures.state; memory = c.in-Ok.ensures.memory; whole = λ m going. (c.in-Ok.ensures.frame m going).0; queues = λ m going. (c.in-Ok.ensures.frame m going).1 } in (
-      ok_sound c.self.inside.endpoint.link c.feed_one.new.self.link c.take_event.new.endpoint.link c.self.inside.next_xid c.self.inside.grant c.take_event.new.grant (vec_capacity c.self.inside.answered) (vec_capacity c.take_event.new.answered) c.in-Ok.taken c.self.inside.outstanding.items c.take_event.new.outstanding.items c.self.inside.answered.items c.take_event.new.answered.items c.args.left.now f lives c.self.invariant.0
-          (c.take_event.ensures.sound c.self.inside.next_xid) c.take_event.ensures.granted c.take_event.ensures.fewer c.take_event.ensures.quiet,
-      c.take_event.ensures.bounded c.self.inside.next_xid
-          (fed_bounded c.self.inside.sent c.self.inside.first_xid c.self.inside.next_xid c.self.inside.outstanding.items c.self.inside.answered.items c.self.inside.endpoint c.feed_one.new.self c.feed_one.ensures.staging.len c.feed_one.ensures.outside c.self.invariant.1 c.args.left.now lives c.self.invariant.0.none_waits c.self.invariant.0.no_reads (ok_state c.self.inside.endpoint.link c.feed_one.new.self.link c.args.left.now c.in-Ok.taken f).0),
+      ok_sound c.self.inside.endpoint.link c.feed_one.new.self.link c.take_event.new.endpoint.link c.self.inside.receive_length c.self.inside.next_xid c.self.inside.grant c.take_event.new.grant (vec_capacity c.self.inside.answered) (vec_capacity c.take_event.new.answered) c.in-Ok.taken c.self.inside.outstanding.items c.take_event.new.outstanding.items c.self.inside.answered.items c.take_event.new.answered.items c.args.left.now f lives c.self.invariant.0
+          (c.take_event.ensures.sound c.self.inside.receive_length c.self.inside.next_xid) c.take_event.ensures.granted c.take_event.ensures.fewer c.take_event.ensures.quiet,
+      c.take_event.ensures.bounded c.self.inside.receive_length c.self.inside.next_xid
+          (fed_bounded c.self.inside.receive_length c.self.inside.sent c.self.inside.first_xid c.self.inside.next_xid c.self.inside.outstanding.items c.self.inside.answered.items c.self.inside.endpoint c.feed_one.new.self c.feed_one.ensures.staging.len c.feed_one.ensures.outside c.self.invariant.1 c.args.left.now lives c.self.invariant.0.none_waits c.self.invariant.0.no_reads (ok_state c.self.inside.endpoint.link c.feed_one.new.self.link c.args.left.now c.in-Ok.taken f).0),
     )
 
 pub returns-clause-step : goal.returns-clause-step
@@ -58,7 +54,7 @@ returns-clause-step c =
     let f : FedOne c.self.inside.endpoint.link c.feed_one.new.self.link c.args.left.now (Ok c.in-Ok.taken) =
     record { ended = c.in-Ok.ensures.ended; state = c.in-Ok.ensures.state; memory = c.in-Ok.ensures.memory; whole = λ m going. (c.in-Ok.ensures.frame m going).0; queues = λ m going. (c.in-Ok.ensures.frame m going).1 } in
     subst (λ (h : RequesterSide). IsStep (feeding_of h) c.args.left.now (requester_view c.take_event.new.endpoint.link c.self.inside.sent c.self.inside.wished c.self.inside.first_xid c.self.inside.next_xid c.take_event.new.grant c.take_event.new.outstanding.items c.take_event.new.answered.items)) c.self.view_is
-    (ok_step c.self.inside.endpoint.link c.feed_one.new.self.link c.take_event.new.endpoint.link c.self.inside.sent c.self.inside.wished c.self.inside.first_xid c.self.inside.next_xid c.self.inside.grant c.take_event.new.grant (vec_capacity c.self.inside.answered) c.in-Ok.taken c.self.inside.outstanding.items c.take_event.new.outstanding.items c.self.inside.answered.items c.take_event.new.answered.items c.args.left.now f lives c.self.invariant.0
+    (ok_step c.self.inside.endpoint.link c.feed_one.new.self.link c.take_event.new.endpoint.link c.self.inside.receive_length c.self.inside.sent c.self.inside.wished c.self.inside.first_xid c.self.inside.next_xid c.self.inside.grant c.take_event.new.grant (vec_capacity c.self.inside.answered) c.in-Ok.taken c.self.inside.outstanding.items c.take_event.new.outstanding.items c.self.inside.answered.items c.take_event.new.answered.items c.args.left.now f lives c.self.invariant.0
     (c.take_event.ensures.deliveries c.self.inside.wished c.self.inside.next_xid))
 
 pub returns-in_default-clause-tickets : goal.returns-in_default-clause-tickets

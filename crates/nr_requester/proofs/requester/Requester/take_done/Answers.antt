@@ -20,8 +20,8 @@ pub invariant_of-self : goal.invariant_of-self
 invariant_of-self c =
     let i = c.self.inside in
     let one = one_answer_there c.args.xid c.in-Some.at i.answered.items c.as_slice.result.now c.remove-call.result c.as_slice.ensures.value c.self.invariant.1.0.distinct c.in-Some.ensures.some.0 c.in-Some.ensures.some.1 c.remove-call.ensures.value in (
-      taken_sound i.endpoint.link i.next_xid i.grant _ _ c.args.xid i.outstanding.items i.answered.items c.remove-call.new.self.items c.self.invariant.0 (c.remove-call.ensures.items ∙ one.1) c.remove-call.ensures.capacity,
-      (taken_within i.endpoint i.first_xid i.next_xid c.args.xid i.outstanding.items i.answered.items c.remove-call.new.self.items c.self.invariant.1.0 (c.remove-call.ensures.items ∙ one.1), c.self.invariant.1.1),
+      taken_sound i.endpoint.link i.receive_length i.next_xid i.grant _ _ c.args.xid i.outstanding.items i.answered.items c.remove-call.new.self.items c.self.invariant.0 (c.remove-call.ensures.items ∙ one.1) c.remove-call.ensures.capacity,
+      (taken_within i.endpoint i.receive_length i.first_xid i.next_xid c.args.xid i.outstanding.items i.answered.items c.remove-call.new.self.items c.self.invariant.1.0 (c.remove-call.ensures.items ∙ one.1), c.self.invariant.1.1),
     )
 
 pub returns-clause-found : goal.returns-clause-found

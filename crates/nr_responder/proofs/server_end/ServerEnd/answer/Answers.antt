@@ -3,7 +3,7 @@ use Rattle.std.specs.List.{list_any}
 use Rattle.nr_responder.specs.declared.call.Pending.{Pending}
 use Rattle.nr_responder.specs.Sound.{state_of, with_staging}
 use Rattle.nr_responder.specs.Views.{call_view, inline_of}
-use Rattle.nr_responder.proofs.Answered.{has, get_view, inline_is_lem, none_any, payload_there_lem, same_item, next_read_lem}
+use Rattle.nr_responder.proofs.Answered.{has, get_view, inline_is_lem, none_any, payload_there_lem, same_item, next_read_lem, down_limit}
 use Rattle.nr_responder.proofs.Counts.{answered_all}
 use Rattle.nr_responder.proofs.StepBounds.{answer_fits}
 use Rattle.nr_responder.proofs.ReadWindows.{none_outside}
@@ -50,3 +50,6 @@ answer_at-requires-clause-none c = λ d.
     none_outside c.args.self.now.calls.items c.in-Some.at d c.args.self.now.reads.items place
     (next_read_lem s.0 s.1.0 s.1.1.0 (state_of c.args.self.now) c.args.xid s.1.1.1 c.requires.live c.requires.next c.in-Some.at (call_view p)
     (get_view c.args.self.now.calls.items c.in-Some.at p place (same_item c.args.self.now.calls.items c.in-Some.at p d place)) own) (c.requires.windows c.requires.live)
+
+pub answer_at-requires-clause-limit : goal.answer_at-requires-clause-limit
+answer_at-requires-clause-limit c = (let s = c.requires.stands in down_limit s.0 s.1.0 s.1.1.0 (state_of c.args.self.now) s.1.1.1 c.requires.live)

@@ -10,7 +10,7 @@ use Rattle.nr_responder.specs.Sound.{InBuffer, payloads_of, xids_of}
 use Rattle.nr_responder.proofs.Answered.{answer_link, answered_fed, get_view, same_item, payloads_dropped, xids_dropped}
 use Rattle.nr_responder.proofs.Removed.{map_removed}
 use Rattle.nr_responder.proofs.HeldSinks.{fetched_removed}
-use Rattle.nr_responder.proofs.Sounds.{sound_answered, sound_room_as}
+use Rattle.nr_responder.proofs.Sounds.{kept_receive, sound_answered, sound_room_as}
 use Rattle.nr_responder.proofs.AnswerMessages.{message_short}
 use Rattle.nr_responder.proofs.OutputSteps.{writes_few}
 use Rattle.nr_responder.proofs.ReadWindows.{removed_windows}
@@ -22,9 +22,9 @@ returns-clause-answers c =
     let p : Pending = c.index-2.result.now in
     let stream : List ℕ = c.ready_payload-target.result.0.now in
     let paid = c.ready_payload-target.ensures.payload in
-    let whole : InBuffer p = subst InBuffer (sym c.index-2.ensures) (c.requires.sound.0.bufs c.args.at p c.requires.at) in
+    let whole : InBuffer p = (kept_receive 0 c.args.self.now.endpoint.link.state c.args.self.now.calls.items c.args.self.now.ready.items c.args.self.now.used.items _ _ _ c.args.at p c.requires.at c.index-2.ensures c.requires.sound.0).1 in
     let own : p.xid ≡ c.args.xid = ap (λ (x : Pending). x.xid) c.index-2.ensures ∙ c.requires.own p in
-    let link = q.link ∙ ap (λ (x : ℕ). after_calls c.args.self.now.endpoint.link (answer_calls q.writes (message_for x c.args.self.now.credits (call_view p).lists (answer_to (call_view p) stream c.args.reply.now)))) own in
+    let link = q.link ∙ ap (λ (x : ℕ). after_calls c.args.self.now.endpoint.link (answer_calls q.writes (message_for x c.args.self.now.credits (call_view p).lists (answer_to c.args.self.now.endpoint.link.state.agreed.down (call_view p) stream c.args.reply.now)))) own in
     let calls = ap (map call_view) c.remove-call.ensures.items ∙ map_removed call_view c.args.self.now.calls.items c.args.at in
     let ready : c.pop_front.new.self.items ≡ drop 1 c.args.self.now.ready.items = search rules in
     record {
@@ -38,8 +38,8 @@ returns-clause-answers c =
       conveyed = subst (λ (x : Pending). IsPayload (call_view x) paid.0 stream) (c.index.ensures ∙ sym (same_item c.args.self.now.calls.items c.args.at c.index.result.now p c.requires.at) ∙ sym c.index-2.ensures) paid.1.1;
       writes = q.writes;
       written = q.written;
-      short = message_short c.args.xid c.args.self.now.credits (call_view p) stream c.args.reply.now whole.lists.within;
-      few = (let len = ap (λ (bytes : List ℕ). length bytes) q.written in let most = writes_few (call_view p).lists (call_view p) stream c.args.reply.now refl whole.lists.within c.requires.short in omega (arith, len, most));
+      short = message_short c.args.self.now.endpoint.link.state.agreed.down c.args.xid c.args.self.now.credits (call_view p) stream c.args.reply.now c.requires.limit whole.lists.within;
+      few = (let len = ap (λ (bytes : List ℕ). length bytes) q.written in let most = writes_few (call_view p).lists c.args.self.now.endpoint.link.state.agreed.down (call_view p) stream c.args.reply.now refl whole.lists.within c.requires.short in omega (arith, len, most));
       state = λ i. record { link = link i; calls = calls i; ready = (ap xids_of ready ∙ xids_dropped c.args.self.now.ready.items) i; credits = c.args.self.now.credits; fetching = record { reads = map read_view c.args.self.now.reads.items; sinks = map sink_view c.args.self.now.sinks.items; payloads = (ap payloads_of ready ∙ payloads_dropped c.args.self.now.ready.items) i } };
       sent_is = q.sent_is;
     }
@@ -47,7 +47,7 @@ returns-clause-answers c =
 pub returns-clause-sound : goal.returns-clause-sound
 returns-clause-sound c =
     let q = c.in_ok-sent.ensures.queued in
-    let one : InBuffer c.remove-call.result = subst InBuffer (sym c.remove-call.ensures.value) (c.requires.sound.0.bufs c.args.at c.remove-call.result c.requires.at) in (
+    let one = kept_receive 0 c.args.self.now.endpoint.link.state c.args.self.now.calls.items c.args.self.now.ready.items c.args.self.now.used.items _ _ _ c.args.at c.remove-call.result c.requires.at c.remove-call.ensures.value c.requires.sound.0 in (
       sound_room_as 0 c.queue_answer.new.endpoint.link.state c.remove-call.new.self.items c.pop_front.new.self.items c.push_back_reserved.new.self.items _ _ _ _ _ _ (search rules) (search rules) (search rules) (sound_answered c.args.self.now.endpoint.link.state c.queue_answer.new.endpoint.link.state (writes_output q.writes) _ c.args.at c.remove-call.result c.args.self.now.calls.items c.remove-call.new.self.items c.args.self.now.ready.items c.pop_front.new.self.items
           c.args.self.now.used.items c.push_back_reserved.new.self.items _ _ _ (ap (λ (l : LinkSide). l.state) (q.link ∙ answer_link c.args.self.now.endpoint.link q.writes _ c.requires.live)) c.requires.at one c.remove-call.ensures.items (search rules) c.requires.next (search rules) c.requires.sound.0),
       fetched_removed c.args.self.now.endpoint c.queue_answer.new.endpoint c.args.at c.index.result.now c.args.self.now.calls.items c.remove-call.new.self.items c.args.self.now.reads.items c.args.self.now.sinks.items (ap (λ (l : LinkSide). l.state.memory) (q.link ∙ answer_link c.args.self.now.endpoint.link q.writes _ c.requires.live)) c.queue_answer.ensures.outside c.requires.at (c.requires.none c.index.result.now) c.remove-call.ensures.items c.requires.sound.1,

@@ -12,7 +12,7 @@ use Rattle.nr_responder.specs.Sound.{state_of}
 use Rattle.nr_responder.proofs.Drained.{drained_link, drained_queues, drained_stands}
 use Rattle.nr_responder.proofs.Executed.{fewer_wait}
 use Rattle.nr_responder.proofs.HeldSinks.{fetched_as}
-use Rattle.nr_responder.proofs.Sounds.{sound_drained}
+use Rattle.nr_responder.proofs.Sounds.{sound_drained, used_as}
 use Rattle.nr_responder.proofs.OutputBounds.{drained_out}
 use Rattle.nr_responder.proofs.StepBounds.{drained_fits}
 use Rattle.nr_responder.proofs.server_end.ServerEnd.drain_into.Goals as goal
@@ -29,11 +29,11 @@ post_until-requires-clause-lent g c =
     let q = drained_queues c.args.self.now.endpoint.link c.drain_into-result.new.self.link t.0 t.3 in
     omega (arith, ap (λ (x : ReceiveQueue). x.lent) q.0, c.requires.sound.0.lent)
 
-pub post_until-requires-clause-receives : goal.post_until-requires-clause-receives
-post_until-requires-clause-receives g c =
+pub post_until-requires-clause-bufs : goal.post_until-requires-clause-bufs
+post_until-requires-clause-bufs g c =
     let t = c.drain_into-result.ensures.taken in
     let q = drained_queues c.args.self.now.endpoint.link c.drain_into-result.new.self.link t.0 t.3 in
-    ap (λ (x : ReceiveQueue). x.receive_length) q.0 ∙ c.requires.sound.0.receive_length
+    used_as _ _ _ (ap (λ (x : ReceiveQueue). x.receive_length) q.0) c.requires.sound.0.used_bufs
 
 pub returns-clause-taken : goal.returns-clause-taken
 returns-clause-taken g c =
@@ -68,7 +68,7 @@ returns-clause-sound g c =
     let link = c.post_until.ensures.posted ∙ drained_link c.args.self.now.endpoint.link m t.0 (length c.args.self.now.used.items - c.sends_waiting-left.result) t.3
     ∙ ap (λ (k : ℕ). record { awaited = c.args.self.now.endpoint.link.awaited; rest = c.args.self.now.endpoint.link.rest; state = drained_posted c.args.self.now.endpoint.link.state t.0 k }) posts in (
       sound_drained c.args.self.now.endpoint.link.state c.post_until.new.endpoint.link.state t.0 c.args.self.now.calls.items c.args.self.now.ready.items c.args.self.now.used.items _ _ _ _ _ (ap (λ (x : LinkSide). x.state) link)
-          (c.post_until.ensures.left ∙ c.sends_waiting-left.ensures ∙ ap (λ (x : SendQueue). length x.send_ends) q.1) c.post_until.ensures.bufs c.post_until.ensures.room c.requires.sound.0,
+          (c.post_until.ensures.left ∙ c.sends_waiting-left.ensures ∙ ap (λ (x : SendQueue). length x.send_ends) q.1) (used_as _ _ _ (sym (ap (λ (x : ReceiveQueue). x.receive_length) q.0)) c.post_until.ensures.bufs) c.post_until.ensures.room c.requires.sound.0,
       fetched_as c.args.self.now.endpoint c.post_until.new.endpoint c.args.self.now.calls.items c.args.self.now.reads.items c.args.self.now.sinks.items (ap (λ (x : LinkSide). x.state.memory) link) (c.post_until.ensures.outside ∙ c.drain_into-result.ensures.outside) c.requires.sound.1,
     )
 

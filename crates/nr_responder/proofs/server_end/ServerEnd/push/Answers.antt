@@ -6,7 +6,7 @@ use Rattle.nr_responder.proofs.server_end.ServerEnd.push.Goals as goal
 
 pub returns-clause-sound : goal.returns-clause-sound
 returns-clause-sound c = (
-  sound_room_as 0 c.args.self.now.endpoint.link.state _ _ c.args.self.now.used.items _ _ _ _ _ _ (search rules) (search rules) refl (sound_pushed c.args.self.now.endpoint.link.state c.args.self.now.calls.items _ c.args.call _ c.args.self.now.ready.items _ c.args.self.now.used.items _ _ _ c.requires.call c.push_reserved.ensures.items c.push_back_reserved.ensures.items c.requires.sound.0),
+  sound_room_as 0 c.args.self.now.endpoint.link.state _ _ c.args.self.now.used.items _ _ _ _ _ _ (search rules) (search rules) refl (sound_pushed c.args.self.now.endpoint.link.state c.args.self.now.calls.items _ c.args.call _ c.args.self.now.ready.items _ c.args.self.now.used.items _ _ _ (c.requires.receive, c.requires.call) c.push_reserved.ensures.items c.push_back_reserved.ensures.items c.requires.sound.0),
   fetched_pushed c.args.self.now.endpoint c.args.self.now.calls.items _ c.args.call c.args.self.now.reads.items c.args.self.now.sinks.items c.requires.room c.push_reserved.ensures.items c.requires.sound.1,
 )
 

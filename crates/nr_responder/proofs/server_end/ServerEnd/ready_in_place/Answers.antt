@@ -1,8 +1,9 @@
-use Rattle.std.proofs.Common.{◌≡◌, ℕ, true, List, [], ◌∷◌, ◌++◌, take, drop, get_or, map, Some, is_some, refl, sym, ap, subst, ◌∙◌, arith, inl, set}
+use Rattle.std.proofs.Common.{length, ◌≡◌, ℕ, true, List, [], ◌∷◌, ◌++◌, take, drop, get_or, map, Some, is_some, refl, sym, ap, ◌∙◌, arith, inl, set}
 use Rattle.std.proofs.Math.Seq.{map-set_same}
 use Rattle.nr_reduce.specs.Chunks.{whole}
 use Rattle.nr_reduce.specs.ServerReads.{is_read}
 use Rattle.nr_reduce.specs.declared.item.Of.TheVariants as of
+use Rattle.nr_endpoint.specs.LinkState.{LinkSide}
 use Rattle.nr_responder.specs.declared.call.Pending.{Pending}
 use Rattle.nr_responder.specs.declared.call.OpenSink.{OpenSink}
 use Rattle.nr_responder.specs.private.Reading.{left_sinks, opening, over_sinks, with_opened, with_released}
@@ -16,6 +17,7 @@ use Rattle.nr_responder.proofs.PlacedReads.{InPlace, emptied_around, in_place, i
 use Rattle.nr_responder.proofs.ReadsGoOn.{opened_closed_queues}
 use Rattle.nr_responder.proofs.ReadWindows.{done_placed}
 use Rattle.nr_responder.proofs.server_end.ServerEnd.ready_in_place.Goals as goal
+use Rattle.nr_responder.proofs.Sounds.{kept_receive}
 
 pub close_with-buffer-requires-clause-at : goal.close_with-buffer-requires-clause-at
 close_with-buffer-requires-clause-at c = (c.requires.placed no_call).within
@@ -45,11 +47,13 @@ payload_in_place-payload-requires-clause-most c =
     in_place c.args.self.now c.args.at c.args.sink.1 c.args.sink.2 p c.args.sink.0 no_sink c.open_reads.new.endpoint (opening c.args.kept (map read_view c.args.self.now.reads.items)) c.close_with-buffer.result c.requires.window c.requires.placed c.requires.sound.1.held c.index_mut.ensures.value opened c.open_reads.ensures.outside (c.requires.moved no_sink) (c.close_with-buffer.ensures.bytes no_sink) in
     let len = h.len in
     let around_is = h.call.around_is in
-    let whole : InBuffer p = subst InBuffer (sym c.index_mut.ensures.value) (c.requires.sound.0.bufs c.args.at p c.requires.at) in
+    let kept = kept_receive 0 c.args.self.now.endpoint.link.state c.args.self.now.calls.items c.args.self.now.ready.items c.args.self.now.used.items _ _ _ c.args.at p c.requires.at c.index_mut.ensures.value c.requires.sound.0 in
+    let whole : InBuffer p = kept.1 in
     let few = whole.len in
+    let most = whole.buf in
     let short = c.requires.sound.1.short c.args.sink.1 no_sink (c.requires.placed no_call).within in
     let moved = c.requires.moved no_sink in
-    omega (arith, len, around_is, few, short, moved)
+    omega (arith, len, around_is, few, most, short, moved)
 
 pub payload_in_place-payload-requires-clause-whole : goal.payload_in_place-payload-requires-clause-whole
 payload_in_place-payload-requires-clause-whole c =
@@ -88,9 +92,10 @@ returns-in-Ok-clause-sound c =
     in_place c.args.self.now c.args.at c.args.sink.1 c.args.sink.2 p c.args.sink.0 no_sink c.open_reads.new.endpoint (opening c.args.kept (map read_view c.args.self.now.reads.items)) c.close_with-buffer.result c.requires.window c.requires.placed c.requires.sound.1.held c.index_mut.ensures.value opened c.open_reads.ensures.outside (c.requires.moved no_sink) (c.close_with-buffer.ensures.bytes no_sink) in
     let sinks = map sink_view c.args.self.now.sinks.items in
     let left = c.close_with-buffer.ensures.sinks ∙ (λ i. left_sinks (map call_view (c.as_slice-in-Ok.ensures.value i)) (map read_view (c.as_slice-in-Ok-2.ensures.value i)) sinks) in
-    let whole : InBuffer p = subst InBuffer (sym c.index_mut.ensures.value) (c.requires.sound.0.bufs c.args.at p c.requires.at) in
+    let kept = kept_receive 0 c.args.self.now.endpoint.link.state c.args.self.now.calls.items c.args.self.now.ready.items c.args.self.now.used.items _ _ _ c.args.at p c.requires.at c.index_mut.ensures.value c.requires.sound.0 in
+    let whole : InBuffer p = kept.1 in
     let read : is_read (map read_view c.args.self.now.reads.items) p.number ≡ true = ap (λ (x : Pending). is_read (map read_view c.args.self.now.reads.items) x.number) c.index_mut.ensures.value ∙ c.requires.read p in (
-      readied_queues c.close_with-buffer.new.endpoint.link.state c.args.at c.payload_in_place-payload.new.call c.args.self.now.calls.items _ c.args.self.now.ready.items c.push_back_reserved.new.self.items _ c.args.self.now.used.items _ _ _ _ (emptied_around p c.payload_in_place-payload.new.call c.payload_in_place-payload.ensures.call whole) refl c.push_back_reserved.ensures.items c.requires.few
+      readied_queues c.close_with-buffer.new.endpoint.link.state c.args.at c.payload_in_place-payload.new.call c.args.self.now.calls.items _ c.args.self.now.ready.items c.push_back_reserved.new.self.items _ c.args.self.now.used.items _ _ _ _ (ap (λ (x : Pending). length x.buf) c.payload_in_place-payload.ensures.call ∙ kept.0 ∙ sym (ap (λ (x : LinkSide). x.state.receive_queue.receive_length) c.close_with-buffer.ensures.link ∙ ap (λ (x : LinkSide). x.state.receive_queue.receive_length) opened), emptied_around p c.payload_in_place-payload.new.call c.payload_in_place-payload.ensures.call whole) refl c.push_back_reserved.ensures.items c.requires.few
           c.push_back_reserved.ensures.capacity
           (opened_closed_queues c.args.self.now.endpoint.link c.open_reads.new.endpoint.link c.close_with-buffer.new.endpoint.link (opening c.args.kept (map read_view c.args.self.now.reads.items)) (over_sinks (map call_view c.as_slice-in-Ok.result.now) (map read_view c.as_slice-in-Ok-2.result.now) sinks) c.args.self.now.calls.items c.args.self.now.ready.items c.args.self.now.used.items _ _ _ opened c.close_with-buffer.ensures.link c.requires.sound.0),
       placed_fetched c.args.self.now.endpoint c.open_reads.new.endpoint c.close_with-buffer.new.endpoint c.args.at k.registration.stag p c.payload_in_place-payload.new.call h.call.outside (opening c.args.kept (map read_view c.args.self.now.reads.items)) c.args.self.now.calls.items _ c.args.self.now.reads.items c.args.self.now.sinks.items c.close_with-buffer.new.sinks.items

@@ -10,12 +10,13 @@ use Rattle.nr_responder.specs.ResponderState.{ResponderSide}
 use Rattle.nr_responder.specs.private.DoneReads.{IsOfCall}
 use Rattle.nr_responder.specs.private.Reading.{left_sinks, opening, over_sinks, with_opened_after, with_released}
 use Rattle.nr_responder.specs.private.ReadsDone.{has_bad_chunk}
-use Rattle.nr_responder.specs.Sound.{QueuesInvariant, InBuffer, payloads_of, state_of, xids_of}
+use Rattle.nr_responder.specs.Sound.{QueuesInvariant, payloads_of, state_of, xids_of}
 use Rattle.nr_responder.specs.Views.{call_view, read_view, sink_view}
 use Rattle.nr_responder.proofs.DoneReads.{dropped_fetched, refused_ends, refused_fetched, refused_link, refused_sound, refuses}
 use Rattle.nr_responder.proofs.Removed.{map_removed}
 use Rattle.nr_responder.proofs.ReadWindows.{done_refused}
 use Rattle.nr_responder.proofs.server_end.ServerEnd.refuse_read.Goals as goal
+use Rattle.nr_responder.proofs.Sounds.{kept_receive}
 
 pub run_out-requires : goal.run_out-requires
 run_out-requires c = record {
@@ -57,7 +58,7 @@ returns-in-Ok-clause-sound c =
     let reads : List PendingRead = map read_view c.drop_waiting.new.reads.items in
     let sinks : List SinkRegion = map sink_view c.args.self.now.sinks.items in
     let opened = c.in-Ok.ensures.ok ∙ (λ i. with_opened_after message (opening c.args.kept (map read_view (c.as_slice.ensures.value i))) c.args.self.now.endpoint.link) in
-    let whole : InBuffer c.remove-call.result = subst InBuffer (sym c.remove-call.ensures.value) (c.requires.sound.0.bufs c.args.at c.remove-call.result c.requires.at) in (
+    let whole = kept_receive 0 c.args.self.now.endpoint.link.state c.args.self.now.calls.items c.args.self.now.ready.items c.args.self.now.used.items _ _ _ c.args.at c.remove-call.result c.requires.at c.remove-call.ensures.value c.requires.sound.0 in (
       refused_sound c.args.self.now.endpoint.link.state c.close_over.new.endpoint.link.state c.args.at c.remove-call.result c.args.self.now.calls.items c.remove-call.new.self.items c.args.self.now.ready.items c.args.self.now.used.items c.push_back_reserved.new.self.items _ _ _ _ _
           (ap (λ (l : LinkSide). l.state.receive_queue) c.close_over.ensures.link ∙ ap (λ (l : LinkSide). l.state.receive_queue) opened)
           (refused_ends message (opening c.args.kept reads) (over_sinks (map call_view c.as_slice-in-Ok.result.now) (map read_view c.as_slice-in-Ok-2.result.now) sinks) c.args.self.now.endpoint.link c.queue_refusal.new.endpoint.link c.close_over.new.endpoint.link opened c.close_over.ensures.link)

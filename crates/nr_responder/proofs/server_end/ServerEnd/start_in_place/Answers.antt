@@ -29,7 +29,8 @@ pub begin_in_place-requires-clause-window : goal.begin_in_place-requires-clause-
 begin_in_place-requires-clause-window c =
     let within = c.requires.window.within in
     let len = c.requires.call.len in
-    (omega (arith, within), omega (arith, len))
+    let most = c.requires.call.buf in
+    (omega (arith, within), omega (arith, len, most))
 
 pub begin_in_place-requires-clause-stags : goal.begin_in_place-requires-clause-stags
 begin_in_place-requires-clause-stags c = (let one = ap (λ (ps : List ℕ). length ps) c.requires.window.chunks_are in omega (arith, one, c.requires.stags))
@@ -63,7 +64,7 @@ returns-in-Ok-clause-started c =
 pub returns-in-Ok-clause-sound : goal.returns-in-Ok-clause-sound
 returns-in-Ok-clause-sound c = (
   started_sound c.args.call.number c.args.read.now c.args.chunks.now c.args.self.now.reads.items c.begin_in_place.new.reads.items c.args.self.now.sinks.items c.begin_in_place.new.sinks.items c.args.self.now.endpoint.link c.begin_in_place.new.endpoint.link
-      c.args.self.now.calls.items c.push_around.new.calls.items (with_around c.args.call (c.args.call.len - c.args.call.stream_at + 3)) c.args.self.now.ready.items c.args.self.now.used.items _ _ _ _ c.in-Ok.ensures.ok (around_in_buffer c.args.call (c.args.call.len - c.args.call.stream_at + 3) c.requires.call) c.push_around.ensures.items c.push_around.ensures.capacity c.requires.sound.0,
+      c.args.self.now.calls.items c.push_around.new.calls.items (with_around c.args.call (c.args.call.len - c.args.call.stream_at + 3)) c.args.self.now.ready.items c.args.self.now.used.items _ _ _ _ c.in-Ok.ensures.ok (c.requires.receive, around_in_buffer c.args.call (c.args.call.len - c.args.call.stream_at + 3) c.requires.call) c.push_around.ensures.items c.push_around.ensures.capacity c.requires.sound.0,
   started_fetched c.args.self.now.endpoint c.begin_in_place.new.endpoint c.args.self.now.reads.items c.begin_in_place.new.reads.items c.args.call.number c.args.self.now.endpoint.link.state.memory.next c.args.read.now c.args.chunks.now c.args.self.now.calls.items c.push_around.new.calls.items
       (with_around c.args.call (c.args.call.len - c.args.call.stream_at + 3)) c.args.self.now.sinks.items c.begin_in_place.new.sinks.items (open_sinks (sinks_from c.args.call.number c.args.self.now.endpoint.link.state.memory.next c.args.read.now c.args.chunks.now)) c.begin_in_place.ensures.held c.begin_in_place.ensures.short
       (c.in-Ok.ensures.outside.more (around_of c.args.self.now.calls.items) c.requires.sound.1.outside)

@@ -54,7 +54,7 @@ returns-in-Ok-clause-started c =
 pub returns-in-Ok-clause-sound : goal.returns-in-Ok-clause-sound
 returns-in-Ok-clause-sound c = (
   started_sound c.args.call.number c.args.read.now c.args.chunks.now c.args.self.now.reads.items c.begin_reads.new.reads.items c.args.self.now.sinks.items c.begin_reads.new.sinks.items c.args.self.now.endpoint.link c.begin_reads.new.endpoint.link
-      c.args.self.now.calls.items c.push_reading.new.calls.items (with_room c.args.call c.in-Ok.room) c.args.self.now.ready.items c.args.self.now.used.items _ _ _ _ c.in-Ok.ensures.ok (in_buffer c.args.call c.in-Ok.room c.requires.call) c.push_reading.ensures.items c.push_reading.ensures.capacity c.requires.sound.0,
+      c.args.self.now.calls.items c.push_reading.new.calls.items (with_room c.args.call c.in-Ok.room) c.args.self.now.ready.items c.args.self.now.used.items _ _ _ _ c.in-Ok.ensures.ok (c.requires.receive, in_buffer c.args.call c.in-Ok.room c.requires.call) c.push_reading.ensures.items c.push_reading.ensures.capacity c.requires.sound.0,
   started_fetched c.args.self.now.endpoint c.begin_reads.new.endpoint c.args.self.now.reads.items c.begin_reads.new.reads.items c.args.call.number c.args.self.now.endpoint.link.state.memory.next c.args.read.now c.args.chunks.now c.args.self.now.calls.items c.push_reading.new.calls.items
       (with_room c.args.call c.in-Ok.room) c.args.self.now.sinks.items c.begin_reads.new.sinks.items (open_sinks (sinks_from c.args.call.number c.args.self.now.endpoint.link.state.memory.next c.args.read.now c.args.chunks.now)) c.begin_reads.ensures.held c.begin_reads.ensures.short
       (more_outside c.begin_reads.new.endpoint (around_of c.args.self.now.calls.items) (around_of c.args.self.now.calls.items + c.args.call.around) (omega arith) (c.begin_reads.ensures.outside (around_of c.args.self.now.calls.items) c.requires.sound.1.outside))

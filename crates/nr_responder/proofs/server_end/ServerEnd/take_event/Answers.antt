@@ -1,10 +1,8 @@
-use Rattle.std.proofs.Common.{◌≡◌, ℕ, ◌≤◌, List, [], ◌∷◌, length, take, sym, ap, subst, ◌∙◌, arith}
-use Rattle.nr_link.specs.Limits.{send_max}
+use Rattle.std.proofs.Common.{ℕ, List, [], ◌∷◌, length, take, sym, ap, subst, ◌∙◌, arith}
 use Rattle.nr_endpoint.specs.declared.event.Event.{Event}
 use Rattle.nr_endpoint.specs.LinkState.{LinkSide}
 use Rattle.nr_endpoint.specs.Calls.{after_call}
 use Rattle.nr_endpoint.specs.Calls.Call.{NextEvent}
-use Rattle.nr_endpoint.specs.ReceiveQueue.{ReceiveQueue}
 use Rattle.nr_endpoint.specs.Receives.{HasBuffer}
 use Rattle.nr_endpoint.specs.Views.{delivery}
 use Rattle.nr_responder.specs.ResponderState.{ResponderSide}
@@ -25,17 +23,15 @@ message-requires-clause-sound c =
     (sound_told c.args.self.now.endpoint.link c.next_event.new.self.link _ _ _ c.next_event.new.self.link.state.receive_queue.deliveries c.args.self.now.calls.items c.args.self.now.ready.items c.args.self.now.used.items _ _ _ c.in-Some-Message.ensures.state one c.requires.sound.0, fetched_as c.args.self.now.endpoint c.next_event.new.self c.args.self.now.calls.items c.args.self.now.reads.items c.args.self.now.sinks.items (told_link_lem c.args.self.now.endpoint.link c.next_event.new.self.link c.in-Some-Message.ensures.state).memory c.next_event.ensures.outside c.requires.sound.1)
 
 pub message-requires-clause-buf : goal.message-requires-clause-buf
-message-requires-clause-buf c =
-    let t = told_link_lem c.args.self.now.endpoint.link c.next_event.new.self.link c.in-Some-Message.ensures.state in
-    (subst (λ (e : Event). HasBuffer c.next_event.new.self.link.state.receive_queue.receive_length e) c.in-Some-Message.field-0-is c.in-Some-Message.ensures.buffer).0
-    ∙ ap (λ (q : ReceiveQueue). q.receive_length) t.queue ∙ c.requires.sound.0.receive_length
+message-requires-clause-buf c = (subst (λ (e : Event). HasBuffer c.next_event.new.self.link.state.receive_queue.receive_length e) c.in-Some-Message.field-0-is c.in-Some-Message.ensures.buffer).0
 
 pub message-requires-clause-len : goal.message-requires-clause-len
 message-requires-clause-len c =
-    let t = told_link_lem c.args.self.now.endpoint.link c.next_event.new.self.link c.in-Some-Message.ensures.state in
     let b = subst (λ (e : Event). HasBuffer c.next_event.new.self.link.state.receive_queue.receive_length e) c.in-Some-Message.field-0-is c.in-Some-Message.ensures.buffer in
-    let is : c.next_event.new.self.link.state.receive_queue.receive_length ≡ send_max = ap (λ (q : ReceiveQueue). q.receive_length) t.queue ∙ c.requires.sound.0.receive_length in
-    (b.1.0, subst (λ (n : ℕ). c.in-Some-Message.len ≤ n) is b.1.1)
+    let least = b.1.0 in
+    let most = b.1.1 in
+    let size = b.0 in
+    (omega (arith, least), omega (arith, most, size))
 
 pub message-requires-clause-live : goal.message-requires-clause-live
 message-requires-clause-live c = (told_link_lem c.args.self.now.endpoint.link c.next_event.new.self.link c.in-Some-Message.ensures.state).live ∙ c.requires.live

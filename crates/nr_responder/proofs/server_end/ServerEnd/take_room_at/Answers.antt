@@ -3,13 +3,14 @@ use Rattle.std.proofs.Math.Seq.{map-set_same}
 use Rattle.nr_reduce.specs.ServerReads.{is_read}
 use Rattle.nr_reduce.specs.ServerState.{PendingCall}
 use Rattle.nr_responder.specs.declared.call.Pending.{Pending}
-use Rattle.nr_responder.specs.Sound.{InBuffer, fetching_of, room_len, xids_of}
+use Rattle.nr_responder.specs.Sound.{InBuffer, InReceive, fetching_of, room_len, xids_of}
 use Rattle.nr_responder.specs.Views.{call_view, read_view}
 use Rattle.nr_responder.proofs.Answered.{same_item}
 use Rattle.nr_responder.proofs.DoneReads.{emptied_sound}
 use Rattle.nr_responder.proofs.HeldSinks.{read_has_room}
 use Rattle.nr_responder.proofs.ReadWindows.{set_windows}
 use Rattle.nr_responder.proofs.server_end.ServerEnd.take_room_at.Goals as goal
+use Rattle.nr_responder.proofs.Sounds.{kept_receive}
 
 pub returns-clause-same : goal.returns-clause-same
 returns-clause-same c =
@@ -21,9 +22,10 @@ pub returns-clause-sound : goal.returns-clause-sound
 returns-clause-sound c =
     let d : Pending = c.index_mut.result.now in
     let around : c.take_out_room.new.call.around ≡ (get_or c.args.self.now.calls.items c.args.at d).around = ap (λ (x : Pending). x.around) c.take_out_room.ensures.call ∙ ap (λ (x : Pending). x.around) c.index_mut.ensures.value in
-    let whole : InBuffer d = subst InBuffer (sym c.index_mut.ensures.value) (c.requires.sound.0.bufs c.args.at d c.requires.at) in
+    let kept = kept_receive 0 c.args.self.now.endpoint.link.state c.args.self.now.calls.items c.args.self.now.ready.items c.args.self.now.used.items _ _ _ c.args.at d c.requires.at c.index_mut.ensures.value c.requires.sound.0 in
+    let whole : InBuffer d = kept.1 in
     emptied_sound c.args.self.now c.args.at c.take_out_room.new.call (set c.args.self.now.calls.items c.args.at c.take_out_room.new.call) refl
-    (subst InBuffer (sym c.take_out_room.ensures.call) (record { buf = whole.buf; len = whole.len; at = whole.at; lists = whole.lists; target = whole.target; item = whole.item }))
+    (subst (InReceive c.args.self.now.endpoint.link.state.receive_queue.receive_length) (sym c.take_out_room.ensures.call) (kept.0, record { buf = whole.buf; len = whole.len; at = whole.at; lists = whole.lists; target = whole.target; item = whole.item }))
     (read_has_room c.args.self.now.endpoint.outside c.args.self.now.sinks.items c.args.self.now.reads.items c.take_out_room.new.call
     (ap (λ (x : Pending). is_read (map read_view c.args.self.now.reads.items) x.number) c.take_out_room.ensures.call ∙ ap (λ (x : Pending). is_read (map read_view c.args.self.now.reads.items) x.number) c.index_mut.ensures.value ∙ c.requires.read d)
     (around ∙ c.requires.empty d) (let none = ap (λ (x : Pending). room_len x.room) c.take_out_room.ensures.call in omega (arith, none)))
