@@ -53,6 +53,7 @@ USES = [
     'use Rattle.nr_reduce.specs.Server.{server_rules, initial_server}',
     'use Rattle.nr_laws.specs.Payloads.{form_conveyed}',
     'use Rattle.nr_reduce.specs.Served.{first_ready}',
+    'use Rattle.nr_reduce.specs.Hellos.{client_agreement, server_agreement}',
 ]
 ROLES: dict[str, str] = {
     'events': 'λ link side before mark. events_at link side before mark',
@@ -94,6 +95,8 @@ ROLES: dict[str, str] = {
     'memory': 'λ state place stag. client_memory_at state place stag',
     'tagged': 'λ frame segment. tagged_access frame segment',
     'chunks': 'λ state call. buffers state.stag (outstanding_of state call).plan',
+    'agreed_client': 'λ opened f. client_agreement opened f',
+    'agreed_server': 'λ opened f. server_agreement opened f',
     'waits': 'λ state ended. first_ready state.ready ended',
     'send_conveys': 'λ opened link side run message body. call_conveyed (inline_by message body) (lists_by body).read '
                     '(read_bytes (placed_bytes opened link side run) (lists_by body).read)',
@@ -143,6 +146,7 @@ LAWS = (
     'offered_memory: server_bytes',
     'offered_memory: reads',
     'grant',
+    'sides_agree',
     'calls_complete',
     'segments_keep_the_rules: client',
     'segments_keep_the_rules: server',
@@ -178,6 +182,7 @@ class Link:
         self.executes: dict[int, Recorded] = {}
         self.dones: dict[int, str] = {}
         self.numbers: set[int] = set()
+        self.hellos: dict[str, Value] = {}
         self.revoked: list[tuple[dict[int, list[int]], list[int]]] = []
         self.brought: dict[str, list[tuple[int, int, list[int]]]] = {'client': [], 'server': []}
         # what regions held as they were handed back: a law, and bytes by STag
@@ -228,6 +233,7 @@ class Link:
     def frame(self, side: str, before: Value, f: Value) -> None:
         ask = self.names.ask
         if ask('hello', f):
+            self.hellos[side] = f
             return
         segment = ask('segment', f)
         if segment.n != 'Ok':
@@ -433,6 +439,11 @@ class Link:
                                         list(self.marks), submitted['message'], header.a[0]['body'])
                 want = self.names.ask('conveyed', submitted['made'], submitted['payload'])
                 self.note('sends_convey', brings == want, self.kind(x) + matched)
+        if self.matched and len(self.hellos) == 2:
+            agreed = {s: self.names.ask('agreed_' + s, self.opened, f) for s, f in self.hellos.items()}
+            goes = all(self.ends[s]['state'][k + '_max'] == agreed[s][k] for s in agreed for k in ('up', 'down'))
+            larger = agreed['client']['up'] > 1024 or agreed['client']['down'] > 1024
+            self.note('sides_agree', agreed['client'] == agreed['server'] and goes, ('larger',) if larger else ())
         # the laws below ask that each Wrote writes all output due
         if not self.matched or any(m.get('cut') for m in mine):
             return

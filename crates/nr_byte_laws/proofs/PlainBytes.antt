@@ -41,11 +41,11 @@ use Rattle.nr_outside.specs.declared.moment.Moment.{Moment}
 use Rattle.nr_reduce.specs.declared.mark.Entry.{Entry}
 use Rattle.nr_tree.specs.Tree.{Tree}
 use Rattle.nr_tree.specs.declared.rules.Space.{Space}
-use Rattle.nr_plain.specs.Setup.{Parameters, Setup, State, caller_of, time_of, space_of}
+use Rattle.nr_plain.specs.Setup.{Parameters, State, caller_of, time_of, space_of}
 use Rattle.nr_plain.specs.Programs.{nfs_tree, nfs_results, only_reads, mount_results}
 use Rattle.nr_plain.specs.Journal.{nfs_procedure_of, tree_by_arguments, tree_by_procedure, next_state, state_after, first_state, state_of}
-use Rattle.nr_plain.specs.Replies.{Answer, refusal, accepted, results_reply, entries_if, nfs_by_arguments, nfs_by_procedure, mount_by_arguments, mount_by_procedure, mount_procedure_of, cred_refusal, nfs_call, mount_call, program_call, call_by_cred, answer_to, answer_by, plain_reply}
-use Rattle.nr_plain.specs.Added.{has_succeeded, entries_by_procedure, entries_by_program, entries_by_cred, entries_by_call, entries_of_call}
+use Rattle.nr_plain.specs.Replies.{Answer, refusal, accepted, results_reply, entries_if, nfs_by_arguments, nfs_by_procedure, mount_by_arguments, mount_by_procedure, mount_procedure_of, cred_refusal, nfs_call, mount_call, program_call, call_by_cred, answer_to, answer_by}
+use Rattle.nr_plain.specs.Added.{has_succeeded, entries_by_procedure, entries_by_program, entries_by_cred, entries_by_call}
 use Rattle.nr_laws.proofs.Basics.{each_right, each_take}
 use Rattle.nr_script.proofs.ByteLists.{no_bytes_lem, bytes_both, OfBytes, AreOfBytes, items_bytes}
 use Rattle.nr_byte_laws.specs.InBytes.{AddedEntriesAreInBytes, EntryInBytes, IsInBytes, PlainRepliesAreBytes}

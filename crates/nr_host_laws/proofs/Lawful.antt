@@ -1,5 +1,5 @@
 -- The marks of a connection that memory didn't end, with one Wrote before each piece: the law of a link's server holds of them in full.
-use Rattle.std.proofs.Common.{◌≡◌, ℕ, ◌+◌, ◌<◌, ◌⊎◌, inl, inr, List, [], ◌++◌, length, Option, refl, sym, ap, subst, ◌∙◌, None}
+use Rattle.std.proofs.Common.{◌≡◌, ℕ, ◌+◌, ◌<◌, ◌⊎◌, inl, inr, List, [], ◌++◌, length, Option, refl, sym, ap, subst, ◌∙◌}
 use Rattle.nr_outside.specs.Content.{HandsOut}
 use Rattle.nr_outside.specs.declared.moment.Moment.{Moment}
 use Rattle.nr_wire.specs.declared.hello.Side.TheVariants.{Initiator, Responder}

@@ -14,7 +14,9 @@ use Rattle.nr_laws.specs.PlainLinks.{HasPlainReplies, server_with}
 use Rattle.nr_laws.specs.Stays.{AreConveyedOrRefused, HasNoRevoke}
 use Rattle.nr_wire.specs.declared.hello.Side.TheVariants.{Initiator, Responder}
 use Rattle.nr_link.specs.OutputItem.{is_send_item, items_written}
-use Rattle.nr_link.specs.Output.{own_hello}
+use Rattle.nr_link.specs.declared.agreement.SideTerms.{SideTerms}
+use Rattle.nr_link.specs.Agreement.{initiator_private}
+use Rattle.nr_link.specs.Output.{hello_with}
 use Rattle.nr_reduce.specs.declared.mark.Entry.{Entry}
 use Rattle.nr_reduce.specs.declared.mark.LinkParameters.{LinkParameters}
 use Rattle.nr_reduce.specs.DueItems.{hello_due, items_due}
@@ -57,9 +59,10 @@ ConnectionsComplete =
     IsHistory first J before.view.seen → before.left ≡ Some stream → IsCompleteStream credits units (setup_in first) J stream →
     Completes credits units first J before after stream end
 
--- A client that sends nothing, or its hello alone, sends a complete stream, whatever the server stands for.
+-- A client that sends nothing, or its hello alone, sends a complete stream, whatever the client's terms are, and whatever the server stands for.
 abbrev pub StreamsWithoutCalls : Type 0
-StreamsWithoutCalls = (credits units : ℕ) (s : Setup) (J : List Entry) → IsCompleteStream credits units s J [] × IsCompleteStream credits units s J (own_hello Initiator)
+StreamsWithoutCalls = (credits units : ℕ) (s : Setup) (J : List Entry) →
+    IsCompleteStream credits units s J [] × ((t : SideTerms) → IsCompleteStream credits units s J (hello_with Initiator (initiator_private t)))
 
 -- A connection that served a complete stream of bytes answered each Send of it: as many messages were completely
 -- written as Sends were received, if the first tree of its server holds bytes, and the journal has entries in bytes.
