@@ -6,13 +6,13 @@ use Rattle.std.specs.Cmp.{nat_cmp_total, unsigned_tied}
 use Rattle.std.specs.Map.{lookup}
 use Rattle.std.specs.HashMap.{HashMap}
 use Rattle.std.specs.HashMap as hash
-use Rattle.std.specs.FinMap.{empty, find, from_entries, get, get-empty, get-from_entries}
+use Rattle.std.specs.FinMap.{find, get, get-from_entries}
 use Rattle.std.proofs.lemmas.Bool.{eq-eqb, ne_eqb, cases_eq}
 use Rattle.std.proofs.lemmas.List.{get_or-replicate}
 use Rattle.std.proofs.Math.Nat.{mod-lt}
 use Rattle.nr_cache.specs.Entries.{KeptEntry, window, top_of, found_in, found_for, entries_of}
 use Rattle.nr_cache.specs.Entries.Finding.{NewCall}
-use Rattle.nr_cache.specs.Windows.{Replies, Remembers, found_at, by_slot, no_replies, replies_kept}
+use Rattle.nr_cache.specs.Windows.{Replies, Remembers, found_at, by_slot, no_replies}
 use Rattle.nr_cache.specs.Caches.{Clients, clients_of, RemembersAll, RemembersBy, HasClient, found_if, found_by, kept_if, kept_of}
 use Rattle.nr_cache.proofs.Windows.{in_entries, at_slot}
 use Rattle.nr_cache.proofs.Finding.{own_among, other_more}
@@ -37,7 +37,7 @@ module _ {S : Type 0} where
   changed_at m n client w each = record {
     own = get_client n client ∙ each client ∙ ap (λ (b : Bool). cond b (Some w) (hash.get nat_eq m client)) (eq-eqb client client refl);
     others = λ other ne.
-      get_client n other ∙ each other ∙ ap (λ (b : Bool). cond b (Some w) (hash.get nat_eq m other)) (ne_eqb client other ne) ∙ sym (get_client m other);
+        get_client n other ∙ each other ∙ ap (λ (b : Bool). cond b (Some w) (hash.get nat_eq m other)) (ne_eqb client other ne) ∙ sym (get_client m other);
   }
 
 -- ---- What is found
