@@ -1,0 +1,51 @@
+-- A call as a gateway forwards it (RFC 5531 section 9): with another xid, its credential as it was read, and the verifier AUTH_NONE.
+use Rattle.std.specs.Prelude.{◌≡◌, ℕ, ◌^◌, ◌<◌, ◌≤◌, true, List, ◌++◌, length, drop, is_some, Result, Ok, Err}
+use Rattle.std.specs.Option.{option_map}
+use Rattle.nr_xdr.specs.Item.{IsBytes, word}
+use Rattle.nr_rpc.specs.Call.{call_encoding}
+use Rattle.nr_rpc.specs.Reading.{call_of, head_xid, target_of}
+use Rattle.nr_rpc.specs.declared.head.CallHead.{CallHead}
+use Rattle.nr_rpc.specs.declared.head.CallHead.TheVariants as calls
+use Rattle.nr_outside.specs.declared.moment.Moment.{Moment}
+use Rattle.nr_reduce.specs.declared.mark.Entry.{Entry}
+use Rattle.nr_plain.specs.Replies.{Answer, plain_answer, plain_reply}
+use Rattle.nr_plain.specs.Setup.{Parameters, Setup, State}
+
+-- by the head that was read: what is no call of RPC version 2 is not forwarded
+abbrev pub forwarded_by : ℕ → List ℕ → Result CallHead ℕ → List ℕ
+forwarded_by x q (Ok (calls.Version2 xid prog vers proc cred args_at)) = call_encoding (calls.Version2 x prog vers proc cred args_at) (drop args_at q)
+forwarded_by x q (Ok (calls.Other xid rpcvers)) = q
+forwarded_by x q (Err at) = q
+
+abbrev pub forwarded : ℕ → List ℕ → List ℕ
+forwarded x q = forwarded_by x q (call_of q)
+
+-- a reply with another xid, which is its first word
+abbrev pub with_xid : ℕ → List ℕ → List ℕ
+with_xid x reply = word x ++ drop 4 reply
+
+abbrev pub answer_with_xid : ℕ → Answer → Answer
+answer_with_xid x a = record { reply = with_xid x a.reply; entries = a.entries }
+
+-- a call of RPC version 2
+abbrev pub IsVersion2 : List ℕ → Type 0
+IsVersion2 q = is_some (target_of (call_of q)) ≡ true
+
+-- Over every state of the plain server the answer to the forwarded call is that to the call itself, but for the xid: the same entry, or none.
+abbrev pub ForwardedAnswersAreAlike : Type 0
+ForwardedAnswersAreAlike = (s : Parameters) (st : State) (m : Moment) (x : ℕ) (q : List ℕ) → IsBytes q → x < 2 ^ 32 → IsVersion2 q →
+    plain_answer s st m (forwarded x q) ≡ option_map (answer_with_xid x) (plain_answer s st m q)
+
+-- so is its reply at each place of a journal
+abbrev pub ForwardedRepliesAreAlike : Type 0
+ForwardedRepliesAreAlike = (s : Setup) (J : List Entry) (place : ℕ) (m : Moment) (x : ℕ) (q : List ℕ) → IsBytes q → x < 2 ^ 32 → IsVersion2 q →
+    plain_reply s J place m (forwarded x q) ≡ option_map (with_xid x) (plain_reply s J place m q)
+
+-- With the xid of the call the reply to the forwarded call is the reply to the call itself.
+abbrev pub RepliesComeBack : Type 0
+RepliesComeBack = (s : Setup) (J : List Entry) (place : ℕ) (m : Moment) (x : ℕ) (q : List ℕ) (head : CallHead) → IsBytes q → x < 2 ^ 32 → IsVersion2 q →
+    call_of q ≡ Ok head → option_map (with_xid (head_xid head)) (plain_reply s J place m (forwarded x q)) ≡ plain_reply s J place m q
+
+-- A forwarded call has at most as many bytes as the call.
+abbrev pub ForwardedCallsAreNoLonger : Type 0
+ForwardedCallsAreNoLonger = (x : ℕ) (q : List ℕ) → IsBytes q → length (forwarded x q) ≤ length q
