@@ -64,7 +64,7 @@ def raw(echo, count):
 
 def calls(program, folder, count):
     with server(program, folder, count) as address:
-        return rate([[LINKS, address, "getattr", str(TURNS), "1"]] * count)
+        return rate([[LINKS, address, "getattr", str(TURNS), "1", "0", "1"]] * count)
 
 
 def main(folder):

@@ -135,7 +135,7 @@ impl Peer {
 fn opened(alloc: Global, side: Side, receives: u32) -> Option<Endpoint>
     ensures { IfSome result (λ e. fed_bytes e.link ≡ 0) }
 {
-    Endpoint::open(alloc, side, receives, 1, SideTerms::one_unit()).ok()
+    Endpoint::open(alloc, side, receives, 1, SideTerms::default_terms()).ok()
 }
 
 /// A Send from one peer to the other, which takes it.

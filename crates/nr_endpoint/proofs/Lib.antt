@@ -35,7 +35,7 @@ pub mod OutputItems
 pub mod QueuedItems
 pub mod Bounds
 pub mod KeptLists
-pub mod SidesAgree
+pub mod AgreesByHellos
 pub mod Received
 pub mod OneDelivery
 pub mod ReceivedEvents

@@ -13,8 +13,9 @@ abbrev pub HasAgreed : SideTerms → Side → (private : List ℕ) → Agreement
 HasAgreed terms side private agreed =
     (peer_private : List ℕ) × (private ≡ own_private terms side peer_private) × (agreed ≡ side_agreement side private peer_private)
 
--- Until the peer's hello was accepted one unit is agreed in each direction; afterwards what the private data of both hellos says. A Send of the
--- peer is refused by what is agreed for its direction, and that fits each receive. In each direction it is from one unit to UNITS_MAX of them.
+-- Until the peer's hello was accepted one unit is agreed in each direction; afterwards what the own hello and some private data of the peer say.
+-- The limit of a message of the peer is what is agreed for its direction, and fits each receive. In each direction it is from one unit to
+-- UNITS_MAX of them.
 pub record IsAgreed (terms : SideTerms) (side : Side) (has_hello : Bool) (private : List ℕ) (agreed : Agreement) (message_max : ℕ) : Type 0 where
   pub before : has_hello ≡ false → agreed ≡ default_agreement
   pub after : has_hello ≡ true → HasAgreed terms side private agreed
@@ -23,7 +24,7 @@ pub record IsAgreed (terms : SideTerms) (side : Side) (has_hello : Bool) (privat
   pub up : IsSendLimit agreed.up
   pub down : IsSendLimit agreed.down
 
-abbrev pub SidesAgree : Type 0
-SidesAgree = (side : Side) (receives first_stag : ℕ) (terms : SideTerms) (calls : List Call) →
+abbrev pub AgreesByHellos : Type 0
+AgreesByHellos = (side : Side) (receives first_stag : ℕ) (terms : SideTerms) (calls : List Call) →
     let s = (after_calls (initial_link side receives first_stag terms) calls).state in
     IsAgreed s.terms s.side s.has_hello s.private s.agreed s.message_max

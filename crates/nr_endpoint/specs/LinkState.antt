@@ -44,7 +44,7 @@ peer Initiator = Responder
 peer Responder = Initiator
 
 -- What a side was opened with: the number of receives, the STag that its first region gets, and its terms. Until the peer's hello was accepted
--- nothing is agreed.
+-- one unit is agreed in each direction.
 abbrev pub initial_state : Side → ℕ → ℕ → SideTerms → LinkState
 initial_state side receives first_stag terms = record {
   side = side;

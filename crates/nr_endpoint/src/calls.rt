@@ -30,7 +30,7 @@ use nr_xdr::{Memory, Octets};
 
 impl Endpoint {
     /// The maximum length of a Send in bytes: from the initiator, and from the responder. The hellos of both sides agree on it; until the
-    /// peer's was accepted, and if one of them says nothing, it is 1,024 in both directions. Takes no memory.
+    /// peer's was accepted, and if one of them has no terms, it is 1,024 in both directions. Takes no memory.
     pub fn agreed(&self) -> (u32, u32)
         ensures up { result.0 ≡ self.now.link.state.agreed.up }
         ensures down { result.1 ≡ self.now.link.state.agreed.down }

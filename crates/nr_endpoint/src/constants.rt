@@ -12,7 +12,7 @@ pub const SHARED_MIN: usize = 1024;
 /// The maximum number of bytes of an FPDU besides its segment's payload: of the header, the pad and the CRC.
 pub const FRAMING_MAX: usize = HEADER_MAX + TAIL_MAX;
 
-/// The maximum length of a Send in bytes.
+/// The unit of the length of a Send, in bytes.
 pub const SEND_MAX: usize = nr_link::constants::SEND_MAX as usize;
 
 /// The minimum length of a Send in bytes: the fixed words of a transport header (RFC 8166 section 4.1).

@@ -1,7 +1,7 @@
 //! Laws of an endpoint, over the calls that it stands for.
 
 ghost use Rattle.nr_endpoint.specs.ReceivedLaws.{EventsOfReceivedBytes, ReceivedBytes};
-ghost use Rattle.nr_endpoint.specs.AgreedLaws.{SidesAgree};
+ghost use Rattle.nr_endpoint.specs.AgreedLaws.{AgreesByHellos};
 ghost use Rattle.nr_endpoint.specs.KeptLists.{HeldRegionsAreRegistered, WaitingSendsHaveBytes};
 ghost use Rattle.nr_endpoint.specs.OutputLaws.{AllowedCallsJoin, FpdusFollowHello, OutputIsItems, SendsGoByItems, SendsWaitByItems, ResponsesGoByItems, SidesStayBounded};
 ghost use Rattle.nr_endpoint.specs.Laws.{PiecesJoin, StepsReach, StepsFeed, EndStays, KeepsLessThanFrame, EndedKeepsNothing, StreamIsKept, PlaceIsFed, MemoryFollowsEvents, PlacesAreAllowed, PlacesAreInOrder, ArrivalsRise, EventsAreDelivered, EventsAreInOrder, EventsFollowAccesses, OneFrameDeliversAtItsEnd, OneFrameDeliversOnce, ReadsAreAllowed, NothingElseIsRead, OtherFramesQueueNothing, OpenRegionHolds, ReleasedBufferHolds, ReleasedStaysClosed, ClaimsStay, NoFpduBeforeHello, FramesEndForThese, GrantsEndAlike, OffersDenyAlike, NoFrameStops, OthersComeFromStop, MemoryComesFromOutOfMemory, EndedQueuesNothing, EndIsKept, StopQueuesLast, OutOfMemoryQueuesNothing};
@@ -88,11 +88,11 @@ pub fn sides_stay_bounded()
     ensures greeted { FpdusFollowHello }
 {}
 
-/// What a side agrees with its peer: one unit for a Send in each direction until the peer's hello was accepted, and then what both hellos
-/// say, from 1,024 to 16,384 bytes. A Send of the peer that is longer than what is agreed for its direction ends the side, and one that isn't
-/// fits a receive.
-pub fn sides_agree()
-    ensures { SidesAgree }
+/// What a side agrees with its peer: one unit for a Send in each direction until the peer's hello was accepted, and then what its own hello and
+/// some private data of its peer say, from 1,024 to 16,384 bytes. The limit of a message is what is agreed for its direction, and a message
+/// within it fits a receive.
+pub fn agrees_by_hellos()
+    ensures { AgreesByHellos }
 {}
 
 /// The lists of a side that only its calls bound: at most as many Sends wait as there are bytes of FPDUs to write, and as many regions are held as were

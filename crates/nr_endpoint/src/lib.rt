@@ -42,9 +42,9 @@ pub use event::Event;
 pub use fault::{DrainFault, ReadRefused};
 pub use framing::RemoteWrite;
 pub use laws::{
-    accesses_follow_bytes, claims_stay, ends_by_grants, events_follow_accesses, however_cut,
-    lists_stay_bounded, memory_follows_accesses, no_fpdu_before_hello, output_in_items,
-    reasons_of_frames, sides_agree, sides_stay_bounded, stream_is_kept,
+    accesses_follow_bytes, agrees_by_hellos, claims_stay, ends_by_grants, events_follow_accesses,
+    however_cut, lists_stay_bounded, memory_follows_accesses, no_fpdu_before_hello,
+    output_in_items, reasons_of_frames, sides_stay_bounded, stream_is_kept,
 };
 pub use offering::{Claims, Offered};
 pub use requests::RemoteRead;

@@ -93,7 +93,7 @@ impl LinkSide {
             send_queue,
             terms,
             private,
-            agreed: Agreement::default_sizes(),
+            agreed: Agreement::default_agreement(),
             message_max: u64::from(SEND_MAX),
         })
     }

@@ -3,7 +3,7 @@
 
 use crate::compare::same;
 use crate::endpoint::TestEndpoint;
-use crate::given::{REPLY, REQUEST, bytes_of, writes};
+use crate::given::{REPLY, REQUEST, bytes_of, feed_pieces, greeted, writes};
 use nr_link::{End, SideTerms};
 use nr_outside::MemSink;
 use nr_wire::Side;
@@ -31,7 +31,7 @@ static ANSWERED: [Row; 20] = [
     (2, b"NR02\x01\x00\x03\x03", 8, None, (1024, 1024)),
     (2, b"NR01\x02\x00\x03\x03", 8, None, (1024, 1024)),
     (2, b"RN01\x01\x00\x03\x03", 512, None, (1024, 1024)),
-    // Four units, and in each direction one.
+    // Four units, and in each direction one. A byte of units is their number less one.
     (
         2,
         b"NR01\x01\x00\x03\x03",
@@ -53,6 +53,7 @@ static ANSWERED: [Row; 20] = [
         Some(0x0100_0101),
         (2048, 1024),
     ),
+    // Three units and five.
     (
         16,
         b"NR01\x01\x00\x02\x04",
@@ -216,34 +217,49 @@ fn replies_with_terms(rt: HostRuntime) {
     }
 }
 
-/// The length of a Send of an initiator, and the end of a responder that has agreed on 1,024 bytes, after a hello of 28 bytes.
-static LONG_SENDS: [(usize, Option<End>); 2] = [
-    (1024, None),
-    (1025, Some(End::Bad { at: 28, reason: 22 })),
+/// The side that a Send comes to, the length of the Send, and the end of that side, which has agreed on 1,024 bytes, after a hello of 28.
+static LONG_SENDS: [(Side, usize, Option<End>); 4] = [
+    (Side::Responder, 1024, None),
+    (Side::Responder, 1025, Some(End::Bad { at: 28, reason: 22 })),
+    (Side::Initiator, 1024, None),
+    (Side::Initiator, 1025, Some(End::Bad { at: 28, reason: 22 })),
 ];
 
-/// A responder whose receives have 2,048 bytes ends if a Send is longer than the 1,024 that are agreed.
-fn long_send(rt: &impl Abort, alloc: Global, row: usize, len: usize, end: Option<End>) {
-    let mut to = requested(rt, alloc, row, 2, b"NR01\x01\x00\x00\x00", 8);
-    let mut from = TestEndpoint::open_with(rt, alloc, Side::Initiator, SideTerms::one_unit());
-    let reply = hello(rt, alloc, &REPLY[..4], b"", 0);
-    same(rt, row, from.feed(rt, reply.as_slice()), Ok(()));
-    let mut sink = MemSink::new(alloc, Vec::new(alloc));
-    same(rt, row, from.drain_into(&mut sink), Ok(()));
-    let written = sink.bytes().len();
+/// A side of two units, whose receives have 2,048 bytes, that was fed the hello of a peer of one unit.
+fn with_longer_receives(rt: &impl Abort, alloc: Global, row: usize, side: Side) -> TestEndpoint {
+    let one_unit = b"NR01\x01\x00\x00\x00";
+    match side {
+        Side::Responder => requested(rt, alloc, row, 2, one_unit, 8),
+        Side::Initiator => {
+            let mut to = TestEndpoint::open_with(rt, alloc, side, SideTerms::sized(2));
+            let reply = hello(rt, alloc, &REPLY[..4], one_unit, 8);
+            same(rt, row, to.feed(rt, reply.as_slice()), Ok(()));
+            to
+        }
+    }
+}
+
+/// Ends the test if a side ends otherwise for a Send of this length.
+fn long_send(rt: &impl Abort, alloc: Global, row: usize, cells: (Side, usize, Option<End>)) {
+    let (side, len, end) = cells;
+    let mut to = with_longer_receives(rt, alloc, row, side);
+    let mut from = match side {
+        Side::Responder => greeted(rt, alloc, Side::Initiator),
+        Side::Initiator => greeted(rt, alloc, Side::Responder),
+    };
     let message = vec![in alloc; 7u8; len].expect(rt, "memory");
     same(rt, row, from.send(rt, message.as_slice()), Ok(()));
+    let mut sink = MemSink::new(alloc, Vec::new(alloc));
     same(rt, row, from.drain_into(&mut sink), Ok(()));
-    let fed = to.feed(rt, &sink.bytes()[written..]);
-    same(rt, row, fed.err(), end);
+    same(rt, row, to.feed(rt, sink.bytes()).err(), end);
     drop(from);
     drop(to);
 }
 
 #[test]
 fn sends_longer_than_agreed(rt: HostRuntime) {
-    for (row, (len, end)) in LONG_SENDS.iter().enumerate() {
-        long_send(&rt, rt.alloc(), row, *len, *end);
+    for (row, cells) in LONG_SENDS.iter().enumerate() {
+        long_send(&rt, rt.alloc(), row, *cells);
     }
 }
 
@@ -251,19 +267,24 @@ fn sends_longer_than_agreed(rt: HostRuntime) {
 fn sixteen(rt: &impl Abort, alloc: Global) -> (TestEndpoint, TestEndpoint) {
     let mut from = TestEndpoint::open_with(rt, alloc, Side::Initiator, SideTerms::sized(16));
     let mut to = TestEndpoint::open_with(rt, alloc, Side::Responder, SideTerms::sized(16));
-    pass(rt, alloc, &mut from, &mut to);
-    pass(rt, alloc, &mut to, &mut from);
+    pass(rt, alloc, &mut from, &mut to, 65544);
+    pass(rt, alloc, &mut to, &mut from, 65544);
     same(rt, 0, from.endpoint().agreed(), (16384, 16384));
     same(rt, 1, to.endpoint().agreed(), (16384, 16384));
     (from, to)
 }
 
-/// Feeds to the one what the other has to write. Answers its length.
-fn pass(rt: &impl Abort, alloc: Global, from: &mut TestEndpoint, to: &mut TestEndpoint) -> usize {
+/// Feeds to the one what the other has to write, in pieces of this length. Answers how many bytes those were.
+fn pass(
+    rt: &impl Abort,
+    alloc: Global,
+    from: &mut TestEndpoint,
+    to: &mut TestEndpoint,
+    piece: usize,
+) -> usize {
     let mut sink = MemSink::new(alloc, Vec::new(alloc));
     same(rt, 0, from.drain_into(&mut sink), Ok(()));
-    let fed = to.feed(rt, sink.bytes());
-    same(rt, 1, fed.err(), to.endpoint().end());
+    feed_pieces(rt, 1, to, sink.bytes(), piece);
     sink.bytes().len()
 }
 
@@ -283,11 +304,18 @@ static SENDS: [(usize, usize, Option<End>); 4] = [
     ),
 ];
 
-fn sends(rt: &impl Abort, alloc: Global, row: usize, cells: (usize, usize, Option<End>)) {
+/// Ends the test if a Send makes something else of the side that gets it, in pieces of this length.
+fn sends(
+    rt: &impl Abort,
+    alloc: Global,
+    row: usize,
+    cells: (usize, usize, Option<End>),
+    piece: usize,
+) {
     let (mut from, mut to) = sixteen(rt, alloc);
     let message = vec![in alloc; 7u8; cells.0].expect(rt, "memory");
     same(rt, row, from.send(rt, message.as_slice()), Ok(()));
-    same(rt, row, pass(rt, alloc, &mut from, &mut to), cells.1);
+    same(rt, row, pass(rt, alloc, &mut from, &mut to, piece), cells.1);
     same(rt, row, to.endpoint().end(), cells.2);
     if cells.2.is_none() {
         let (buf, len) = to.message(rt, alloc);
@@ -300,6 +328,8 @@ fn sends(rt: &impl Abort, alloc: Global, row: usize, cells: (usize, usize, Optio
 #[test]
 fn sends_of_several_frames(rt: HostRuntime) {
     for (row, cells) in SENDS.iter().enumerate() {
-        sends(&rt, rt.alloc(), row, *cells);
+        for piece in [1, 65544] {
+            sends(&rt, rt.alloc(), row, *cells, piece);
+        }
     }
 }

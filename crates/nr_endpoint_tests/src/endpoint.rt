@@ -88,7 +88,7 @@ fn stop_reason(rt: &impl Abort, reason: u32) -> u32
 impl TestEndpoint {
     /// An endpoint with two receives, whose first region has STag 1, and which has one unit.
     pub fn open(rt: &impl Abort, alloc: Global, side: Side) -> TestEndpoint {
-        TestEndpoint::open_with(rt, alloc, side, SideTerms::one_unit())
+        TestEndpoint::open_with(rt, alloc, side, SideTerms::default_terms())
     }
 
     /// The same with these terms.

@@ -79,9 +79,13 @@ const HELD: u128 = 65544 + 65536 + 65560 + 20 + 1048;
 #[test]
 fn offers(rt: HostRuntime) {
     let alloc = rt.alloc();
-    let mut endpoint = Endpoint::open(alloc, Side::Initiator, 64, 1, SideTerms::one_unit()).expect(
-        &rt, "memory",
-    );
+    let mut endpoint = Endpoint::open(
+        alloc,
+        Side::Initiator,
+        64,
+        1,
+        SideTerms::default_terms(),
+    ).expect(&rt, "memory");
     same(&rt, 0, endpoint.receives_free(), 64);
     endpoint.facts();
     same(
@@ -132,9 +136,13 @@ fn fed_hello(rt: &impl Abort, alloc: Global) -> Endpoint {
     if hello.len() > 100 {
         panic!(rt; "a hello has 20 bytes");
     }
-    let mut endpoint = Endpoint::open(alloc, Side::Initiator, 1, 1, SideTerms::one_unit()).expect(
-        rt, "memory",
-    );
+    let mut endpoint = Endpoint::open(
+        alloc,
+        Side::Initiator,
+        1,
+        1,
+        SideTerms::default_terms(),
+    ).expect(rt, "memory");
     same(rt, 0, endpoint.feed(hello.as_slice()), Ok(()));
     endpoint
 }

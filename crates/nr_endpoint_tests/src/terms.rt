@@ -11,7 +11,7 @@ use std::process::Abort;
 type Agreed = (&'static [u8], &'static [u8], (u32, u32, bool));
 
 static AGREED: [Agreed; 13] = [
-    // A side says nothing: no private data, seven bytes, another name, another version.
+    // A side has no terms: no private data, seven bytes, another name, another version.
     (b"", b"NR01\x01\x00\x01\x01", (1024, 1024, false)),
     (b"NR01\x01\x00\x01\x01", b"", (1024, 1024, false)),
     (
@@ -85,11 +85,11 @@ fn both_agree(rt: HostRuntime) {
             *want,
         );
     }
-    let nothing = Agreement::default_sizes();
+    let default = Agreement::default_agreement();
     same(
         &rt,
         0,
-        (nothing.up, nothing.down, nothing.invalidates),
+        (default.up, default.down, default.invalidates),
         (1024, 1024, false),
     );
 }
@@ -151,7 +151,7 @@ fn sides_say_their_terms(rt: HostRuntime) {
     same(
         &rt,
         0,
-        SideTerms::one_unit().initiator_private().is_empty(),
+        SideTerms::default_terms().initiator_private().is_empty(),
         true,
     );
 }

@@ -18,7 +18,7 @@ static ROWS: [Row; 6] = [
         &[0x00010008, 0x4e523031, 0x01000f0f],
         (1024, 1024),
     ),
-    // The server says nothing, or something else.
+    // The server's hello has no terms: no private data, or other data.
     (
         16,
         &[0x00010008, 0x4e523031, 0x01000f0f],
@@ -86,7 +86,7 @@ fn sizes_are_agreed(rt: HostRuntime) {
 
 /// The same of a server end: its units; the client's hello and its own; what is agreed.
 static SERVER_ROWS: [Row; 6] = [
-    // The client says nothing.
+    // The client's hello has no terms.
     (2, &[0x00010000], &[0x00010000], (1024, 1024)),
     (
         2,

@@ -27,7 +27,7 @@ responder_private_by t (Some terms) = terms_encoding t.units 0 t.invalidates
 unfoldable pub responder_private : SideTerms → (initiator : List ℕ) → List ℕ
 responder_private t initiator = responder_private_by t (terms_in initiator)
 
--- until the peer's hello was accepted, and if one of the sides says nothing
+-- until the peer's hello was accepted, and if one of both has no terms
 abbrev pub default_agreement : Agreement
 default_agreement = record { up = send_max; down = send_max; invalidates = false }
 

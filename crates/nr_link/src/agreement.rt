@@ -33,7 +33,7 @@ pub struct Agreement {
 }
 
 impl SideTerms {
-    /// These units, at most 16; no number of a client, and no Sends with Invalidate.
+    /// These units, no number of a client, and no Sends with Invalidate.
     pub fn sized(units: u8) -> SideTerms
         ensures { result ≡ sized_terms units }
     {
@@ -45,7 +45,7 @@ impl SideTerms {
     }
 
     /// What a side is opened with unless it is told otherwise: one unit, no number of a client, no Sends with Invalidate.
-    pub fn one_unit() -> SideTerms
+    pub fn default_terms() -> SideTerms
         ensures { result ≡ default_terms }
     {
         SideTerms::sized(1)
@@ -79,7 +79,7 @@ impl SideTerms {
 
 impl Agreement {
     /// What is agreed unless both sides say terms: one unit in each direction.
-    pub fn default_sizes() -> Agreement
+    pub fn default_agreement() -> Agreement
         ensures { result ≡ default_agreement }
     {
         Agreement {
@@ -96,7 +96,7 @@ impl Agreement {
     {
         let (Some(initiator), Some(responder)) = (read_terms(initiator), read_terms(responder))
         else {
-            return Agreement::default_sizes();
+            return Agreement::default_agreement();
         };
         Agreement {
             up: SEND_MAX * u32::from(initiator.sends.min(responder.receives)),

@@ -22,7 +22,7 @@ xid_of_reply (Ok head) = Some (reply_xid head)
 xid_of_reply (Err at) = None
 
 -- A payload without a call head has no reply. A reply begins with a reply head of the call's xid (RFC 5531 section 9), and is no longer than
--- the call lets it be. What the call offers in the form Auto holds it, if a Send back may have send_max bytes; and one that adds an entry to
+-- the call lets it be. What the call offers in the form Auto holds it, if a Send back may have send_max bytes or more; and one that adds an entry to
 -- the journal fits every offer within the limits of a header, so that no change is made whose reply can't be sent.
 pub record KeepsReplyLimits (plain : PlainServer) : Type 0 where
   pub call : (J : List Entry) (m : Moment) (payload reply : List ℕ) → plain.Replies J m payload reply → IsOk (call_of payload)

@@ -7,7 +7,7 @@ use Rattle.nr_link.specs.Limits.{send_max as link_send_max}
 abbrev pub credits_max : ℕ
 credits_max = 64
 
--- the maximum length of a Send in bytes, in each direction, unless the sides agree on another
+-- the unit of the length of a Send, in bytes: its maximum in each direction, unless the sides agree on more
 abbrev pub send_max : ℕ
 send_max = link_send_max
 

@@ -165,8 +165,8 @@ impl Requester {
     }
 
     /// The maximum length of a Send in bytes: towards the server, and from it. The hellos of both sides agree on it: 1,024 times the lesser of
-    /// the units that one side says it writes and the other says it takes. Until the server's hello was accepted, and if one of both says
-    /// nothing, it is 1,024 in both directions. Takes no memory.
+    /// the units that one side says it writes and the other says it takes. Until the server's hello was accepted, and if one of both has
+    /// no terms, it is 1,024 in both directions. Takes no memory.
     pub fn agreed(&self) -> (u32, u32)
         ensures up { result.0 ≡ self.now.state.side.agreed.up }
         ensures down { result.1 ≡ self.now.state.side.agreed.down }

@@ -80,7 +80,7 @@ impl Responder {
     }
 
     /// The server end of a link that grants this many credits. It writes and takes Sends of at most this many units of 1,024 bytes, from 1 to 16
-    /// (0 counts as 1, and more than 16 as 16): if the client's hello says its terms, so does its own, and the least of both is agreed for each
+    /// (0 counts as 1, and more than 16 as 16): if the client's hello says its terms, so does its own, and the lesser of both is agreed for each
     /// direction ([`Responder::agreed`]). Takes the staging buffer, a receive of these units for each credit, and room for a call of each; not
     /// its hello, whose room is taken when the client's is accepted. `Err`: memory ran out, and nothing was made.
     pub fn open_sized(alloc: Global, credits: u32, units: u8) -> Result<Responder, Memory>

@@ -25,7 +25,7 @@ const UID_HELP: &str = "The user ID of the calls; 0 if it is left out";
 const GID_HELP: &str = "The group ID of the calls; 0 if it is left out";
 
 const INLINE_HELP: &str =
-    "The maximum size of a Send in each direction, in units of 1024 bytes, 1 to 16; 1 if it is left out";
+    "The maximum length of a Send in each direction, in units of 1024 bytes, 1 to 16; 1 if it is left out";
 
 const SEED_HELP: &str = "The number from which a script is generated, with --clients and --calls";
 

@@ -19,7 +19,7 @@ use Rattle.nr_endpoint.specs.LinkState.{LinkState, LinkSide, has_ended, initial_
 use Rattle.nr_endpoint.specs.Judging.{segment_end, next_frame, with_frame, with_segment_by, with_fpdu, with_peer_hello, with_effect, with_read_response}
 use Rattle.nr_endpoint.specs.Calls.{Call, after_call, after_calls}
 use Rattle.nr_endpoint.specs.Calls.Call.{Feed, FeedOne, NextEvent, Post, Stop, OutOfMemory, Send, WriteRemote, ReadRemote, Drain, Register, Release}
-use Rattle.nr_endpoint.specs.AgreedLaws.{IsAgreed, SidesAgree}
+use Rattle.nr_endpoint.specs.AgreedLaws.{IsAgreed, AgreesByHellos}
 use Rattle.nr_endpoint.proofs.Agreed.{agreed_fits}
 use Rattle.nr_endpoint.proofs.AlongFrames.{feed_keeps, feed_one_keeps}
 
@@ -109,5 +109,5 @@ initial_agrees Responder receives first_stag terms = record {
   down = (omega arith, omega arith);
 }
 
-pub sides_agree_lem : SidesAgree
-sides_agree_lem side receives first_stag terms calls = calls_agree (initial_link side receives first_stag terms) calls (initial_agrees side receives first_stag terms)
+pub agrees_by_hellos_lem : AgreesByHellos
+agrees_by_hellos_lem side receives first_stag terms calls = calls_agree (initial_link side receives first_stag terms) calls (initial_agrees side receives first_stag terms)
