@@ -16,9 +16,9 @@ type FirstSession = Session<
     NumberedSink<Counted<MemSink>, Brand>,
 >;
 
-/// LOOKUP of `a` in file 1 is the first call.
+/// A client of two units says them in private data of its hello, which is own. LOOKUP of `a` in file 1 is the first call.
 static SENT: &str = "\
-client-hello \
+4d504120494420526571204672616d65000100084e52303101000101 \
 0086414300000000000000000000000100000000000000010000000100000010000000000000000000000000000000000000000100000000\
 00000002000186a30000000300000003000000010000001c00000000000000076e667372646d610000000000000000000000000000000000\
 00000000000000080000000000000001000000016100000000000000\n\
@@ -47,7 +47,7 @@ fn found(rt: &impl Abort, alloc: Global, session: &mut FirstSession) -> usize {
 #[test]
 fn a_name_that_is_looked_up(rt: HostRuntime) {
     let mut dial = dialer(&rt, rt.alloc(), RECEIVED, "");
-    let Ok(mut session) = FirstSession::open(rt.alloc(), &mut dial, "here", 0, 0, 1) else {
+    let Ok(mut session) = FirstSession::open(rt.alloc(), &mut dial, "here", 0, 0, 2) else {
         panic!(rt; "no session")
     };
     let len = found(&rt, rt.alloc(), &mut session);

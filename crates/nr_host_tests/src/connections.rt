@@ -107,7 +107,7 @@ static ROWS: [Row; 14] = [
     (204, &[20, 92, 92], &[], &[1], "LinkWrite", 20, 1),
 ];
 
-/// Serves a connection, and compares how it ends, what its sink takes, and how many calls are executed.
+/// Serves a connection with one credit and Sends of two units, and compares how it ends, what its sink takes, and how many calls are executed.
 fn same_end(
     rt: &(impl Abort + Wait),
     alloc: Global,
@@ -121,7 +121,7 @@ fn same_end(
     let (shared, mut pass) = shared(rt, alloc);
     let mut clock = MemClock::new(&MOMENTS);
     let got = serve_connection(
-        rt, alloc, source, &mut sink, &shared, &mut pass, &mut clock, 1, 1,
+        rt, alloc, source, &mut sink, &shared, &mut pass, &mut clock, 1, 2,
     );
     let text = format!(in alloc; "{got:?}").expect(rt, "memory");
     same(rt, row, text.as_str(), end);
@@ -168,7 +168,17 @@ const NULL: [u32; 23] = [
 type Part = &'static [u32];
 
 /// What the client sends, how the connection ends, and what the server sends. No call is executed.
-static STOPS: [(&[Part], &str, &[Part]); 10] = [
+static STOPS: [(&[Part], &str, &[Part]); 11] = [
+    // The hello of a client of four units: both say their units in private data, which is own.
+    (
+        &[&[
+            0x4d504120, 0x49442052, 0x65712046, 0x72616d65, 0x00010008, 0x4e523031, 0x01000303,
+        ]],
+        "Closed",
+        &[&[
+            0x4d504120, 0x49442052, 0x65702046, 0x72616d65, 0x00010008, 0x4e523031, 0x01000101,
+        ]],
+    ),
     // The client's stream ends while a call waits for its read chunk.
     (
         &[&HELLO, &WRITE],
