@@ -5,7 +5,6 @@ use Rattle.std.proofs.lemmas.Option.{none-some, same_Some}
 use Rattle.std.specs.Str.{is_utf8}
 use Rattle.toml.specs.Data.{Members}
 use Rattle.toml.specs.Parse.{parse_document}
-use Rattle.nr_words.specs.declared.settings.Numbers.{Numbers}
 use Rattle.nr_words.specs.declared.settings.Settings.{Settings}
 use Rattle.nr_words.specs.Lines.{Text}
 use Rattle.nr_words.specs.Limits.{capacity_max, connections_max, credits_max}
@@ -42,18 +41,6 @@ number_within low high n key members is =
     let (z, (at, range)) = and_then_some (in_range low high) (integer_at key members) n is in
     within low high n z range
 
-numbers_fit : (members : Members) (n : Numbers) → numbers_of members ≡ Some n → (n.credits ≤ credits_max) × ((n.capacity ≤ capacity_max) × (n.connections ≤ connections_max))
-numbers_fit members n is =
-    let (credits, (at1, e1)) = and_then_some _ (number_at 1 credits_max (codes "credits") members) n is in
-    let (capacity, (at2, e2)) = and_then_some _ (number_at 0 capacity_max (codes "capacity") members) n e1 in
-    let (connections, (at3, same)) = map_some _ (number_at 1 connections_max (codes "connections") members) n e2 in (
-      subst (λ (m : Numbers). m.credits ≤ credits_max) same (number_within 1 credits_max credits (codes "credits") members at1),
-      (
-        subst (λ (m : Numbers). m.capacity ≤ capacity_max) same (number_within 0 capacity_max capacity (codes "capacity") members at2),
-        subst (λ (m : Numbers). m.connections ≤ connections_max) same (number_within 1 connections_max connections (codes "connections") members at3),
-      ),
-    )
-
 ranges : (members : Members) (s : Settings Text) → settings_of members ≡ Some s → InRanges s
 ranges members s is =
     let (keys, e0) = if_some (count members == keys_of members) _ s is in
@@ -62,11 +49,16 @@ ranges members s is =
     let (numbers, (at3, e3)) = and_then_some _ (numbers_of members) s e2 in
     let (verifier, (at4, e4)) = and_then_some _ (verifier_at (codes "write_verifier") members) s e3 in
     let (choices, (at5, same)) = map_some _ (choices_of members) s e4 in
-    let fit = numbers_fit members numbers at3 in
+    let (credits, (at6, e6)) = and_then_some _ (number_at 1 credits_max (codes "credits") members) numbers at3 in
+    let (capacity, (at7, e7)) = and_then_some _ (number_at 0 capacity_max (codes "capacity") members) numbers e6 in
+    let (connections, (at8, made)) = map_some _ (number_at 1 connections_max (codes "connections") members) numbers e7 in
+    let few : numbers.credits ≤ credits_max = rw (← made) (number_within 1 credits_max credits (codes "credits") members at6) in
+    let small : numbers.capacity ≤ capacity_max = rw (← made) (number_within 0 capacity_max capacity (codes "capacity") members at7) in
+    let short : numbers.connections ≤ connections_max = rw (← made) (number_within 1 connections_max connections (codes "connections") members at8) in
     record {
-      credits = subst (λ (t : Settings Text). t.credits ≤ credits_max) same fit.0;
-      capacity = subst (λ (t : Settings Text). t.capacity ≤ capacity_max) same fit.1.0;
-      connections = subst (λ (t : Settings Text). t.connections ≤ connections_max) same fit.1.1;
+      credits = subst (λ (t : Settings Text). t.credits ≤ credits_max) same few;
+      capacity = subst (λ (t : Settings Text). t.capacity ≤ capacity_max) same small;
+      connections = subst (λ (t : Settings Text). t.connections ≤ connections_max) same short;
     }
 
 pub in_ranges : (text : List ℕ) (s : Settings Text) → config_of text ≡ Some s → InRanges s
