@@ -1,11 +1,9 @@
 //! Tests of `nr_turnstile`, over three values that stand for a history: a counter, a list, and a desk of questions and
-//! answers; and over a value with a pass of another turnstile. Tests of `nr_cache`.
+//! answers; and over a value with a pass of another turnstile.
 #![tactic(auto)]
 
 mod additions;
 mod asks;
-#[cfg(test)]
-mod cache;
 #[cfg(test)]
 mod compare;
 mod counter;
