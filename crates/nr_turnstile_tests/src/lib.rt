@@ -1,9 +1,11 @@
 //! Tests of `nr_turnstile`, over three values that stand for a history: a counter, a list, and a desk of questions and
-//! answers; and over a value with a pass of another turnstile.
+//! answers; and over a value with a pass of another turnstile. Tests of `nr_cache`.
 #![tactic(auto)]
 
 mod additions;
 mod asks;
+#[cfg(test)]
+mod cache;
 #[cfg(test)]
 mod compare;
 mod counter;
