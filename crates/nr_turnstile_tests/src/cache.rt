@@ -20,8 +20,8 @@ enum Known {
 
 use Known::{Kept, New, Old};
 
-// The client, the xid, what is known of the call, and the place of the entry that is then kept of it, if any. The reply of
-// an entry has as many bytes as its place says.
+/// The client, the xid, what is known of the call, and the place of the entry that is then kept of it, if any. The reply of
+/// an entry has as many bytes as its place says.
 static ROWS: [(u64, u32, Known, Option<u64>); 35] = [
     (5, 1, New, Some(0)),
     (5, 1, Kept(0, 0), None),
@@ -61,7 +61,7 @@ static ROWS: [(u64, u32, Known, Option<u64>); 35] = [
 ];
 
 /// What the cache has of a call.
-fn known(cache: &Cache, client: u64, xid: u32) -> Known
+fn look_up(cache: &Cache, client: u64, xid: u32) -> Known
     requires { client ≢ 0 }
 {
     match cache.find(client, xid) {
@@ -102,7 +102,7 @@ fn replies_are_found_until_they_are_old(rt: HostRuntime) {
         if *client == 0 {
             panic!(rt; "row {row} has no client");
         }
-        same(&rt, row, known(&cache, *client, *xid), *want);
+        same(&rt, row, look_up(&cache, *client, *xid), *want);
         if let Some(place) = *place {
             keep(&rt, rt.alloc(), &mut cache, *client, *xid, place);
         }
