@@ -211,7 +211,13 @@ fn feed_all(endpoint: &mut Endpoint, bytes: &mut Vec<u8>, len: usize, work: Work
 fn responder(alloc: Global) -> Result<Endpoint, Memory>
     ensures { IfOk result (λ e. fed_bytes e.link ≡ 0) }
 {
-    let mut endpoint = Endpoint::open(alloc, Side::Responder, RECEIVES, 1, SideTerms::default_terms())?;
+    let mut endpoint = Endpoint::open(
+        alloc,
+        Side::Responder,
+        RECEIVES,
+        1,
+        SideTerms::default_terms(),
+    )?;
     let region = Octets::from_vec(vec![in alloc; 0u8; 4096]?);
     match endpoint.register(region, Right::Fill) {
         Ok(_) => Ok(endpoint),

@@ -10,9 +10,7 @@ static GETATTR_ARGS: [u8; 12] = [0, 0, 0, 8, 0, 0, 0, 0, 0, 0, 0, 1];
 
 /// How the arguments of a READ and of a WRITE begin: the handle of file 2, and the offset. The count follows, and those of a WRITE go on
 /// with FILE_SYNC, the length of the data, and the data.
-static FILE_AND_OFFSET: [u8; 20] = [
-    0, 0, 0, 8, 0, 0, 0, 0, 0, 0, 0, 2, 0, 0, 0, 0, 0, 0, 0, 0,
-];
+static FILE_AND_OFFSET: [u8; 20] = [0, 0, 0, 8, 0, 0, 0, 0, 0, 0, 0, 2, 0, 0, 0, 0, 0, 0, 0, 0];
 
 /// The word of FILE_SYNC.
 static FILE_SYNC: [u8; 4] = [0, 0, 0, 2];

@@ -121,7 +121,9 @@ fn look_and_serve<I: Source, O: Sink, C: Clock, R: Wait>(
         Err(_) => return (peeked.into_inner(), LinkEnd::Rdma(ConnEnd::LinkRead)),
     };
     let source = peeked.into_inner();
-    serve_looked::<Brand, I, O, C, R>(rt, alloc, source, sink, shared, pass, clock, credits, units, byte)
+    serve_looked::<Brand, I, O, C, R>(
+        rt, alloc, source, sink, shared, pass, clock, credits, units, byte,
+    )
 }
 
 /// Serves one link to its end. With `records` it may carry RPC over RDMA or RPC over TCP with record marks, as its
@@ -151,6 +153,16 @@ pub fn serve_link<I: Source, O: Sink, C: Clock, R: Wait>(
         return look_and_serve(rt, alloc, source, sink, shared, pass, clock, credits, units);
     }
     let mut source = source;
-    let end = serve_connection(rt, alloc, &mut source, sink, shared, pass, clock, credits, units);
+    let end = serve_connection(
+        rt,
+        alloc,
+        &mut source,
+        sink,
+        shared,
+        pass,
+        clock,
+        credits,
+        units,
+    );
     (source, LinkEnd::Rdma(end))
 }
