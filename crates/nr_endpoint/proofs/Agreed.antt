@@ -8,7 +8,7 @@ use Rattle.nr_wire.specs.declared.terms.Terms.{Terms}
 use Rattle.nr_wire.specs.Terms.{terms_in, terms_encoding, terms_key, units_byte, units_of_byte}
 use Rattle.nr_link.specs.declared.agreement.SideTerms.{SideTerms}
 use Rattle.nr_link.specs.Agreement.{initiator_private, responder_private, responder_private_by, agreement, agreed_by}
-use Rattle.nr_link.specs.Limits.{send_max}
+use Rattle.nr_link.specs.Limits.{send_unit}
 use Rattle.nr_endpoint.specs.Hellos.{own_private, side_agreement, received_max, receive_length_for}
 
 -- these terms, if there are any, say n units in both directions
@@ -48,12 +48,12 @@ responder_says t peer_private = responder_says_by t (terms_in peer_private)
 units_said : (units : ℕ) → units_of_byte (units_byte units) ≡ min (max units 1) UNITS_MAX
 units_said units = omega arith
 
-down_fits : (initiator responder : Option Terms) (n : ℕ) → 1 ≤ n → Says n initiator → (agreed_by initiator responder).down ≤ send_max * n
+down_fits : (initiator responder : Option Terms) (n : ℕ) → 1 ≤ n → Says n initiator → (agreed_by initiator responder).down ≤ send_unit * n
 down_fits None responder n some says = omega (arith, some)
 down_fits (Some i) None n some says = omega (arith, some)
 down_fits (Some i) (Some r) n some says = (let receives = says.1 in omega (arith, min-le_right r.sends i.receives, receives))
 
-up_fits : (initiator responder : Option Terms) (n : ℕ) → 1 ≤ n → Says n responder → (agreed_by initiator responder).up ≤ send_max * n
+up_fits : (initiator responder : Option Terms) (n : ℕ) → 1 ≤ n → Says n responder → (agreed_by initiator responder).up ≤ send_unit * n
 up_fits None responder n some says = omega (arith, some)
 up_fits (Some i) None n some says = omega (arith, some)
 up_fits (Some i) (Some r) n some says = (let receives = says.1 in omega (arith, min-le_right i.sends r.receives, receives))

@@ -6,7 +6,7 @@ use Rattle.nr_wire.specs.declared.hello.Side.TheVariants.{Initiator, Responder}
 use Rattle.nr_link.specs.declared.agreement.SideTerms.{SideTerms}
 use Rattle.nr_link.specs.declared.agreement.Agreement.{Agreement}
 use Rattle.nr_link.specs.Agreement.{initiator_private, responder_private, agreement}
-use Rattle.nr_link.specs.Limits.{send_max}
+use Rattle.nr_link.specs.Limits.{send_unit}
 
 -- the private data of a side's hello, by that of its peer's, to which a responder answers
 abbrev pub own_private : SideTerms → Side → (peer_private : List ℕ) → List ℕ
@@ -30,4 +30,4 @@ received_max Responder agreed = agreed.up
 
 -- the length of each receive in bytes: of the units of the side's terms, from 1 to UNITS_MAX
 abbrev pub receive_length_for : SideTerms → ℕ
-receive_length_for terms = send_max * min (max terms.units 1) UNITS_MAX
+receive_length_for terms = send_unit * min (max terms.units 1) UNITS_MAX

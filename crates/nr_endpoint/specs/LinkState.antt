@@ -8,7 +8,7 @@ use Rattle.nr_link.specs.declared.end.End.{End}
 use Rattle.nr_link.specs.declared.agreement.SideTerms.{SideTerms}
 use Rattle.nr_link.specs.declared.agreement.Agreement.{Agreement}
 use Rattle.nr_link.specs.Agreement.{default_agreement}
-use Rattle.nr_link.specs.Limits.{send_max}
+use Rattle.nr_link.specs.Limits.{send_unit}
 use Rattle.nr_link.specs.SegmentFaults.{ExpectedResponse}
 use Rattle.nr_regions.specs.RegisteredMemory.{RegisteredMemory, initial_memory}
 use Rattle.nr_endpoint.specs.Hellos.{first_private, receive_length_for}
@@ -59,7 +59,7 @@ initial_state side receives first_stag terms = record {
   terms = terms;
   private = first_private terms side;
   agreed = default_agreement;
-  message_max = send_max;
+  message_max = send_unit;
 }
 
 -- a side between two pieces of the peer's stream: the kind of the frame that comes next, and the bytes of it so far

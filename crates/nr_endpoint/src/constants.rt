@@ -13,7 +13,7 @@ pub const SHARED_MIN: usize = 1024;
 pub const FRAMING_MAX: usize = HEADER_MAX + TAIL_MAX;
 
 /// The unit of the length of a Send, in bytes.
-pub const SEND_MAX: usize = nr_link::constants::SEND_MAX as usize;
+pub const SEND_UNIT: usize = nr_link::constants::SEND_UNIT as usize;
 
 /// The minimum length of a Send in bytes: the fixed words of a transport header (RFC 8166 section 4.1).
 pub const SEND_MIN: u64 = 16;

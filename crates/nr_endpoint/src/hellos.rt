@@ -5,7 +5,7 @@ ghost use Rattle.arrayvec.specs.ArrayVec.{array_vec_len};
 ghost use Rattle.nr_wire.specs.Constants.{NUMBERED_TERMS_LEN};
 ghost use Rattle.nr_endpoint.specs.Hellos.{own_private, first_private, side_agreement, received_max, receive_length_for};
 
-use crate::constants::SEND_MAX;
+use crate::constants::SEND_UNIT;
 use arrayvec::ArrayVec;
 use nr_link::{Agreement, SideTerms};
 use nr_wire::Side;
@@ -60,5 +60,5 @@ pub fn received_max(side: Side, agreed: Agreement) -> u32
 pub fn receive_length(terms: SideTerms) -> usize
     ensures { result ≡ receive_length_for terms }
 {
-    SEND_MAX * usize::from(terms.units.max(1).min(UNITS_MAX))
+    SEND_UNIT * usize::from(terms.units.max(1).min(UNITS_MAX))
 }

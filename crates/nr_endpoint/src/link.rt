@@ -22,7 +22,7 @@ use crate::hellos::{
 use crate::reads::Reads;
 use crate::receive_queue::ReceiveQueue;
 use crate::send_queue::SendQueue;
-use nr_link::constants::SEND_MAX;
+use nr_link::constants::SEND_UNIT;
 use nr_link::{Agreement, End, SideTerms};
 use nr_regions::Regions;
 use nr_wire::{Awaited, Segment, Side};
@@ -94,7 +94,7 @@ impl LinkSide {
             terms,
             private,
             agreed: Agreement::default_agreement(),
-            message_max: u64::from(SEND_MAX),
+            message_max: u64::from(SEND_UNIT),
         })
     }
 

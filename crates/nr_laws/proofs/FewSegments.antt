@@ -19,7 +19,7 @@ use Rattle.nr_reduce.specs.Events.{RunEvent, events}
 use Rattle.nr_reduce.specs.Events.RunEvent.{FrameReceived, CallSubmitted, MemoryRevoked, CallExecuted, QueueWritten}
 use Rattle.nr_reduce.specs.Hellos.{client_private, private_of, client_agreement}
 use Rattle.nr_reduce.specs.History.{AcceptedCall}
-use Rattle.nr_reduce.specs.Limits.{given_max, send_max}
+use Rattle.nr_reduce.specs.Limits.{given_max, send_unit}
 use Rattle.nr_reduce.specs.Plans.{TooLarge, given_total, given_within, plan_in_form, plan_of, plan_size, reply_size, within, write_size}
 use Rattle.nr_reduce.specs.Run.{client}
 use Rattle.nr_reduce.proofs.PlanKinds.{within_ok_lem}
@@ -71,8 +71,8 @@ abbrev AllFit : ℕ → List OutstandingCall → Type 0
 AllFit up os = AllByRecursion (λ (o : OutstandingCall). Fits up o.plan) os
 
 record FewAt (place : ℕ) (k : ClientState) : Type 0 where
-  least : send_max ≤ k.up_max
-  first : place ≡ 0 → k.up_max ≡ send_max
+  least : send_unit ≤ k.up_max
+  first : place ≡ 0 → k.up_max ≡ send_unit
   fit : AllFit k.up_max k.outstanding
 
 fit_more : (n m : ℕ) (os : List OutstandingCall) → n ≤ m → AllFit n os → AllFit m os
@@ -104,7 +104,7 @@ few_hello : (opened : LinkParameters) (place : ℕ) (k : ClientState) (f : Frame
 unfolding client_agreement
 few_hello opened place k f first some h =
     let a = (agreements_bounded (client_private opened) (private_of f)).0 in
-    let up : k.up_max ≡ send_max = h.first first in
+    let up : k.up_max ≡ send_unit = h.first first in
     record { least = a.0; first = λ e. absurd (omega (arith, e, some)); fit = fit_more k.up_max (with_hello opened k f).up_max k.outstanding (omega (arith, up, a.0)) h.fit }
 
 few_segment : (place : ℕ) (k : ClientState) (f : Frame) (r : Result Segment ℕ) → 0 < f.end → FewAt place k → FewAt f.end (with_segment k f r)

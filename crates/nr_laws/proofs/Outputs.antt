@@ -9,7 +9,7 @@ use Rattle.nr_wire.specs.Segment.{Segment, encoding}
 use Rattle.nr_wire.specs.Segment.Segment.{Tagged, Untagged}
 use Rattle.nr_link.specs.declared.end.End.{End as Stop}
 use Rattle.nr_link.specs.declared.end.End.TheVariants as ends
-use Rattle.nr_link.specs.Limits.{segment_max, send_max}
+use Rattle.nr_link.specs.Limits.{segment_max, send_unit}
 use Rattle.nr_link.specs.Reasons.{denied_word, NO_BUFFER_WORD}
 use Rattle.nr_link.specs.Output.{segment_count, segment_payload, cut, msn_word, send, read_response, read_request, terminate_message, refusing_hello}
 use Rattle.nr_laws.specs.MessageSegments.{message_segment, message_segments}
@@ -55,7 +55,7 @@ bytes_segments (s ∷ segments) = ap (λ (xs : List ℕ). encoding s ++ xs) (byt
 
 -- no longer than a Send may be
 abbrev pub IsShort : List ℕ → Type 0
-IsShort message = length message ≤ send_max * UNITS_MAX
+IsShort message = length message ≤ send_unit * UNITS_MAX
 
 flat_map_lem : (f : ℕ → Segment) (is : List ℕ) → flat_map (λ i. encoding (f i)) is ≡ flat_map encoding (map f is)
 flat_map_lem f [] = refl

@@ -17,7 +17,7 @@ use Rattle.nr_wire.specs.Constants.{UNITS_MAX}
 use Rattle.nr_link.specs.Agreement.{IsSendLimit}
 use Rattle.nr_reduce.specs.declared.call.Offer.{Offer}
 use Rattle.nr_reduce.specs.declared.outline.Plan.{Plan}
-use Rattle.nr_reduce.specs.Limits.{send_max, given_max}
+use Rattle.nr_reduce.specs.Limits.{send_unit, given_max}
 use Rattle.nr_reduce.specs.Plans.{TooLarge, plan_of, plan_size, plan_in_form, given_plan, given_read, given_total, within, total, has_segment, one_if, read_stag, write_stag, reply_stag, regions_needed, segments_from, entries_from, read_list, write_list, reply_chunk, lists_of, body_by, call_message}
 use Rattle.nr_reduce.specs.Plans as plans
 use Rattle.nr_reduce.specs.ChunkBytes.{IsNotGiven, MessageConveys, lists_by, inline_by}
@@ -61,11 +61,11 @@ counts : (up : ℕ) (p : Plan) → IsSendLimit up → plan_size p ≤ up → (le
 unfolding plan_size
 counts up p limit small = (by_write p.write (omega (arith, small, limit.1)), by_reply p.reply (omega (arith, small, limit.1)))
   where
-    by_write : (w : Option (List ℕ)) → plans.write_size w ≤ send_max * UNITS_MAX → length (Rattle.nr_reduce.specs.ChunkBytes.lengths w) < 2 ^ 32
+    by_write : (w : Option (List ℕ)) → plans.write_size w ≤ send_unit * UNITS_MAX → length (Rattle.nr_reduce.specs.ChunkBytes.lengths w) < 2 ^ 32
     by_write None h = omega arith
     by_write (Some ns) h = omega (arith, h)
 
-    by_reply : (r : Option (List ℕ)) → plans.reply_size r ≤ send_max * UNITS_MAX → length (Rattle.nr_reduce.specs.ChunkBytes.lengths r) < 2 ^ 32
+    by_reply : (r : Option (List ℕ)) → plans.reply_size r ≤ send_unit * UNITS_MAX → length (Rattle.nr_reduce.specs.ChunkBytes.lengths r) < 2 ^ 32
     by_reply None h = omega arith
     by_reply (Some ns) h = omega (arith, h)
 

@@ -18,7 +18,7 @@ use Rattle.nr_header.specs.Header.{header_encoding, lists_items}
 use Rattle.nr_link.specs.Frames.{Frame}
 use Rattle.nr_link.specs.Ending.{frame_segment}
 use Rattle.nr_link.specs.Agreement.{IsSendLimit}
-use Rattle.nr_reduce.specs.Limits.{send_max}
+use Rattle.nr_reduce.specs.Limits.{send_unit}
 use Rattle.nr_reduce.specs.Holds.{Answer, answer_for, answer_message, answer_lists, answer_size, chunk_error, version_error, no_segments}
 use Rattle.nr_reduce.specs.ServerState.{PendingCall, ServerState}
 use Rattle.nr_reduce.specs.ServerMessages.{CallVerdict, by_payload, pending_payload}
@@ -50,7 +50,7 @@ third_word a b c rest lt =
     ∙ ap word_of (take-append-le 4 (word c) rest (omega (arith, length_word c)) ∙ take_all 4 (word c) (omega (arith, length_word c)))
     ∙ word_of_word c lt
 
-pub chunk_error_reply : (most xid credit : ℕ) → send_max ≤ most → xid < 2 ^ 32 → credit < 2 ^ 32 → IsReply most credit (chunk_error xid credit)
+pub chunk_error_reply : (most xid credit : ℕ) → send_unit ≤ most → xid < 2 ^ 32 → credit < 2 ^ 32 → IsReply most credit (chunk_error xid credit)
 unfolding chunk_error
 chunk_error_reply most xid credit room small lt =
     let a = word_len xid (word 1 ++ (word credit ++ (word 4 ++ (word 2 ++ [])))) in
@@ -60,7 +60,7 @@ chunk_error_reply most xid credit room small lt =
     let e = word_len 2 [] in
     record { least = omega (arith, a, b, c, d, e); size = omega (arith, a, b, c, d, e, room); credits = third_word xid 1 credit (word 4 ++ (word 2 ++ [])) lt; read = read_chunk_error xid credit small lt }
 
-version_error_reply : (most xid version credit : ℕ) → send_max ≤ most → xid < 2 ^ 32 → version < 2 ^ 32 → credit < 2 ^ 32 → IsReply most credit (version_error xid version credit)
+version_error_reply : (most xid version credit : ℕ) → send_unit ≤ most → xid < 2 ^ 32 → version < 2 ^ 32 → credit < 2 ^ 32 → IsReply most credit (version_error xid version credit)
 unfolding version_error
 version_error_reply most xid version credit room small other lt =
     let rest = word 4 ++ (word 1 ++ (word 1 ++ (word 1 ++ []))) in
@@ -79,7 +79,7 @@ replies_verdict : (most credit : ℕ) (o : CallVerdict) (s : FrameEffect) → Ar
 replies_verdict most credit (Refuses reason) s h = h
 replies_verdict most credit (IsReady r) s h = h
 
-pub replies_send : (most : ℕ) → send_max ≤ most → (k : ServerState) (f : Frame) (message : SentMessage) → CompletesMessage k.received message → word_at 0 message.bytes < 2 ^ 32 → word_at 4 message.bytes < 2 ^ 32 → k.credit < 2 ^ 32
+pub replies_send : (most : ℕ) → send_unit ≤ most → (k : ServerState) (f : Frame) (message : SentMessage) → CompletesMessage k.received message → word_at 0 message.bytes < 2 ^ 32 → word_at 4 message.bytes < 2 ^ 32 → k.credit < 2 ^ 32
     → frame_segment f ≡ Ok (last_segment k.received.sends message) → AreReplies most k.credit (frame_effect k f).errors
 replies_send most room k f message completes xid version lt is =
     send_effect k (λ m. (word_at 0 m < 2 ^ 32) × (word_at 4 m < 2 ^ 32)) (λ s. AreReplies most k.credit s.errors) (record {
@@ -90,7 +90,7 @@ replies_send most room k f message completes xid version lt is =
       pending = λ place m c fit is. tt;
     }) f message completes (xid, version) is
 
-pub replies_tagged : (most : ℕ) → send_max ≤ most → (k : ServerState) (f : Frame) (last : Bool) (opcode stag to : ℕ) (payload : List ℕ) → ((n : ℕ) (c : PendingCall) → find (λ (y : PendingCall). eqb y.number n) k.calls ≡ Some c → c.xid < 2 ^ 32) → k.credit < 2 ^ 32
+pub replies_tagged : (most : ℕ) → send_unit ≤ most → (k : ServerState) (f : Frame) (last : Bool) (opcode stag to : ℕ) (payload : List ℕ) → ((n : ℕ) (c : PendingCall) → find (λ (y : PendingCall). eqb y.number n) k.calls ≡ Some c → c.xid < 2 ^ 32) → k.credit < 2 ^ 32
     → frame_segment f ≡ Ok (Tagged last opcode stag to payload) → AreReplies most k.credit (frame_effect k f).errors
 replies_tagged most room k f last opcode stag to payload small lt is =
     tagged_effect_lem k (λ s. AreReplies most k.credit s.errors) (record {

@@ -36,7 +36,7 @@ use Rattle.nr_laws.proofs.EachEffect.{MessageRule, ResponseRule, each_effect}
 use Rattle.nr_header.proofs.Lengths.{word_len}
 use Rattle.nr_laws.proofs.Basics.{each_append, each_kept}
 use Rattle.nr_wire.specs.Constants.{UNITS_MAX}
-use Rattle.nr_link.specs.Limits.{send_max}
+use Rattle.nr_link.specs.Limits.{send_unit}
 
 -- ---- Error messages
 
@@ -155,7 +155,7 @@ answer_words offer a h =
     by true = chunk_words (no_segments offer.reply) a.stream h.replies
     by false = tt
 
-pub answer_short_lem : (offer : ChunkLists) (down prog vers proc xid credit : ℕ) (reply : List ℕ) (a : Answer) → down ≤ send_max * UNITS_MAX → OfferFits offer → answer_for offer down prog vers proc reply ≡ Some a → IsShort (answer_message xid credit offer a)
+pub answer_short_lem : (offer : ChunkLists) (down prog vers proc xid credit : ℕ) (reply : List ℕ) (a : Answer) → down ≤ send_unit * UNITS_MAX → OfferFits offer → answer_for offer down prog vers proc reply ≡ Some a → IsShort (answer_message xid credit offer a)
 answer_short_lem offer down prog vers proc xid credit reply a small fits e =
     let sizes = answer_length offer down prog vers proc xid credit reply a e in
     by a.long refl sizes.0 sizes.1

@@ -17,7 +17,7 @@ use Rattle.nr_header.specs.Header.{read_items, segments_items, write_items, repl
 use Rattle.nr_header.specs.WithinLimits.{read_total, Ends, SegmentsEnd, ListsWithin, CanRead}
 use Rattle.nr_header.specs.Constants.{PAYLOAD_MAX, REPLY_SEGMENTS_MAX}
 use Rattle.nr_header.proofs.Messages.{header_take}
-use Rattle.nr_reduce.specs.Limits.{send_max}
+use Rattle.nr_reduce.specs.Limits.{send_unit}
 use Rattle.nr_reduce.specs.Holds.{first_chunk, no_segments, answer_size}
 use Rattle.nr_reduce.specs.ServerState.{PendingCall, ServerState, next_stag}
 use Rattle.nr_reduce.specs.ServerReads.{chunks_of}
@@ -39,7 +39,7 @@ EntriesFit (r ∷ read) = ((r.length < 2 ^ 32) × (r.handle < 2 ^ 32) × (r.offs
 pub record OfferFits (lists : ChunkLists) : Type 0 where
   pub reads : EntriesFit lists.read
   pub total : read_total lists.read ≤ PAYLOAD_MAX
-  pub size : answer_size lists.write + reply_chunk_len (length (no_segments lists.reply)) ≤ send_max
+  pub size : answer_size lists.write + reply_chunk_len (length (no_segments lists.reply)) ≤ send_unit
   pub writes : SegmentsFit (first_chunk lists.write)
   pub replies : SegmentsFit (no_segments lists.reply)
   pub items : AllFit (lists_items lists)

@@ -4,7 +4,7 @@ use Rattle.std.proofs.Math.Nat.{min-le_left, min-le_right}
 use Rattle.nr_wire.specs.Constants.{UNITS_MAX}
 use Rattle.nr_wire.specs.declared.terms.Terms.{Terms}
 use Rattle.nr_wire.specs.Terms.{terms_in, units_of_byte}
-use Rattle.nr_link.specs.Limits.{send_max}
+use Rattle.nr_link.specs.Limits.{send_unit}
 use Rattle.nr_link.specs.Agreement.{agreement, agreed_by, IsSendLimit, AgreementsAreBounded, DefaultsWithoutTerms}
 
 abbrev AreUnits : ℕ → Type 0
@@ -25,7 +25,7 @@ said : (private : List ℕ) → AreSaid (terms_in private)
 unfolding terms_in
 said private = said_if _ _ (units _) (units _)
 
-least : (m n : ℕ) → AreUnits m → AreUnits n → IsSendLimit (send_max * min m n)
+least : (m n : ℕ) → AreUnits m → AreUnits n → IsSendLimit (send_unit * min m n)
 least m n a b = (omega (arith, a.0, b.0), omega (arith, min-le_left m n, a.1))
 
 bounded_by : (initiator responder : Option Terms) → AreSaid initiator → AreSaid responder →

@@ -6,7 +6,7 @@ use Rattle.nr_wire.specs.declared.terms.Terms.{Terms}
 use Rattle.nr_wire.specs.Terms.{terms_encoding, terms_in, units_byte}
 use Rattle.nr_link.specs.declared.agreement.SideTerms.{SideTerms}
 use Rattle.nr_link.specs.declared.agreement.Agreement.{Agreement}
-use Rattle.nr_link.specs.Limits.{send_max}
+use Rattle.nr_link.specs.Limits.{send_unit}
 
 -- a side with these units, without a number, that makes and takes no Send with Invalidate
 abbrev pub sized_terms : (units : ℕ) → SideTerms
@@ -29,14 +29,14 @@ responder_private t initiator = responder_private_by t (terms_in initiator)
 
 -- until the peer's hello was accepted, and if one of both has no terms
 abbrev pub default_agreement : Agreement
-default_agreement = record { up = send_max; down = send_max; invalidates = false }
+default_agreement = record { up = send_unit; down = send_unit; invalidates = false }
 
 abbrev pub agreed_by : Option Terms → Option Terms → Agreement
 agreed_by None responder = default_agreement
 agreed_by (Some i) None = default_agreement
 agreed_by (Some i) (Some r) = record {
-  up = send_max * min i.sends r.receives;
-  down = send_max * min r.sends i.receives;
+  up = send_unit * min i.sends r.receives;
+  down = send_unit * min r.sends i.receives;
   invalidates = i.invalidates && r.invalidates;
 }
 
@@ -46,7 +46,7 @@ agreement initiator responder = agreed_by (terms_in initiator) (terms_in respond
 
 -- a length that a direction may have: from one unit to UNITS_MAX of them
 abbrev pub IsSendLimit : ℕ → Type 0
-IsSendLimit size = (send_max ≤ size) × (size ≤ send_max * UNITS_MAX)
+IsSendLimit size = (send_unit ≤ size) × (size ≤ send_unit * UNITS_MAX)
 
 -- Whatever the private data of both hellos is, the agreed lengths are from one unit to UNITS_MAX of them.
 abbrev pub AgreementsAreBounded : Type 0

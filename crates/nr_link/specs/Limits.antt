@@ -11,5 +11,5 @@ abbrev pub open_reads_max : ℕ
 open_reads_max = 8
 
 -- the unit of the length of a Send, in bytes: its maximum in each direction, unless the sides agree on more
-abbrev pub send_max : ℕ
-send_max = 1024
+abbrev pub send_unit : ℕ
+send_unit = 1024

@@ -5,7 +5,7 @@ ghost use Rattle.arrayvec.specs.ArrayVec.{array_vec_len};
 ghost use Rattle.nr_wire.specs.Constants.{NUMBERED_TERMS_LEN};
 ghost use Rattle.nr_link.specs.Agreement.{agreement, default_agreement, default_terms, initiator_private, responder_private, sized_terms};
 
-use crate::constants::SEND_MAX;
+use crate::constants::SEND_UNIT;
 use arrayvec::ArrayVec;
 use nr_wire::constants::NUMBERED_TERMS_LEN;
 use nr_wire::{read_terms, write_terms};
@@ -83,8 +83,8 @@ impl Agreement {
         ensures { result ≡ default_agreement }
     {
         Agreement {
-            up: SEND_MAX,
-            down: SEND_MAX,
+            up: SEND_UNIT,
+            down: SEND_UNIT,
             invalidates: false,
         }
     }
@@ -99,8 +99,8 @@ impl Agreement {
             return Agreement::default_agreement();
         };
         Agreement {
-            up: SEND_MAX * u32::from(initiator.sends.min(responder.receives)),
-            down: SEND_MAX * u32::from(responder.sends.min(initiator.receives)),
+            up: SEND_UNIT * u32::from(initiator.sends.min(responder.receives)),
+            down: SEND_UNIT * u32::from(responder.sends.min(initiator.receives)),
             invalidates: initiator.invalidates && responder.invalidates,
         }
     }

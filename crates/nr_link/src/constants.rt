@@ -2,7 +2,7 @@
 //! words of a Terminate. All are this implementation's own.
 
 /// The unit of the length of a Send, in bytes: its maximum in each direction unless both hellos agree on more.
-pub const SEND_MAX: u32 = 1024;
+pub const SEND_UNIT: u32 = 1024;
 
 /// A message number isn't the next of its queue (RFC 5041 section 4.3).
 pub const REASON_MSN: u32 = 11;

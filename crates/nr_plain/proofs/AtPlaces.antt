@@ -9,7 +9,7 @@ use Rattle.nr_reduce.specs.declared.call.Form.TheVariants as forms
 use Rattle.nr_reduce.specs.declared.outline.Plan.{Plan}
 use Rattle.nr_reduce.specs.Plans.{plan_of, lists_of}
 use Rattle.nr_reduce.specs.Largest.{largest_reply}
-use Rattle.nr_reduce.specs.Limits.{send_max}
+use Rattle.nr_reduce.specs.Limits.{send_unit}
 use Rattle.nr_reduce.specs.Server.{answer_of_target}
 use Rattle.nr_tree.specs.Sane.{IsSane}
 use Rattle.nr_plain.specs.Setup.{Setup}
@@ -37,7 +37,7 @@ within_limit_at s J k m payload reply sane bytes e =
     let of : IsReplyOf (plain_answer s.parameters (state_of s (take k J)) m payload) reply = answered s J k m payload reply e in
     subst (λ (r : List ℕ). length r ≤ largest_reply payload) of.replied (within_limit s.parameters (state_of s (take k J)) m payload of.answer bytes (tree_sane s J k sane) of.is)
 
-pub auto_held_at : (s : Setup) (J : List Entry) (k : ℕ) (m : Moment) (payload reply : List ℕ) (up down stag : ℕ) (p : Plan) → IsSane s.tree → IsBytes payload → plain_reply s J k m payload ≡ Some reply → send_max ≤ down
+pub auto_held_at : (s : Setup) (J : List Entry) (k : ℕ) (m : Moment) (payload reply : List ℕ) (up down stag : ℕ) (p : Plan) → IsSane s.tree → IsBytes payload → plain_reply s J k m payload ≡ Some reply → send_unit ≤ down
     → plan_of payload forms.Auto up down ≡ Ok p → answer_of_target (lists_of stag p) down reply (target_of (call_of payload)) ≢ None
 auto_held_at s J k m payload reply up down stag p sane bytes e room plan =
     let of : IsReplyOf (plain_answer s.parameters (state_of s (take k J)) m payload) reply = answered s J k m payload reply e in

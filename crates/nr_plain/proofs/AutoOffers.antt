@@ -51,7 +51,7 @@ use Rattle.nr_plain.proofs.ReplyItems.{IsSuited, refused_suited, read_suited, re
 use Rattle.nr_plain.proofs.ReplyLimits.{within_limit}
 use Rattle.nr_plain.proofs.ResultLimits.{path_short, piece_short}
 use Rattle.nr_nfs_base.specs.Limits.{link_target_max, transfer_max}
-use Rattle.nr_reduce.specs.Limits.{send_max}
+use Rattle.nr_reduce.specs.Limits.{send_unit}
 
 -- ===== the replies to READ and READLINK suit their offers
 
@@ -125,7 +125,7 @@ module _ (s : Parameters) (st : State) (sane : IsSane st.tree) (m : Moment) (pay
 
 -- ===== offers that hold
 
-module _ (reply : List ℕ) (down : ℕ) (room : send_max ≤ down) where
+module _ (reply : List ℕ) (down : ℕ) (room : send_unit ≤ down) where
   -- one chunk with one segment of this length
   total_one : (g : RdmaSegment) → chunk_total (g ∷ []) ≡ g.length
   unfolding chunk_total
@@ -218,7 +218,7 @@ nothing = None
 same_number : (x y : ℕ) → Some x ≡ Some y → x ≡ y
 same_number x y e = cc
 
-module _ (s : Parameters) (st : State) (m : Moment) (payload : List ℕ) (bytes : IsBytes payload) (sane : IsSane st.tree) (down : ℕ) (room : send_max ≤ down) where
+module _ (s : Parameters) (st : State) (m : Moment) (payload : List ℕ) (bytes : IsBytes payload) (sane : IsSane st.tree) (down : ℕ) (room : send_unit ≤ down) where
   module _ (offer : ChunkLists) (g : RdmaSegment) (n : ℕ) (is : offer.write ≡ (g ∷ []) ∷ []) (len : g.length ≡ n) where
     module _ (xid : ℕ) (fits : xid < 2 ^ 32) (cred : Cred) (args_at : ℕ) where
       abbrev Goal : ℕ → ℕ → ℕ → Type 0
@@ -293,7 +293,7 @@ module _ (s : Parameters) (st : State) (m : Moment) (payload : List ℕ) (bytes 
         let kept : Keeps q p = subst (Keeps q) (planned payload up down p e) (auto_keeps payload up q) in
         auto_holds (lists_of stag p) (write_stag stag p) (reply_stag stag p) (ap (write_list (write_stag stag p)) kept.0) (ap (reply_chunk (reply_stag stag p)) kept.1)
 
-pub auto_held : (s : Parameters) (st : State) (m : Moment) (payload : List ℕ) (a : Answer) (up down stag : ℕ) (p : Plan) → IsBytes payload → IsSane st.tree → plain_answer s st m payload ≡ Some a → send_max ≤ down → plan_of payload forms.Auto up down ≡ Ok p
+pub auto_held : (s : Parameters) (st : State) (m : Moment) (payload : List ℕ) (a : Answer) (up down stag : ℕ) (p : Plan) → IsBytes payload → IsSane st.tree → plain_answer s st m payload ≡ Some a → send_unit ≤ down → plan_of payload forms.Auto up down ≡ Ok p
     → answer_of_target (lists_of stag p) down a.reply (target_of (call_of payload)) ≢ None
 auto_held s st m payload a up down stag p bytes sane e room plan = by (call_of payload) refl e
   where

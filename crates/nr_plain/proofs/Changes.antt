@@ -47,7 +47,7 @@ use Rattle.nr_plain.proofs.ReplyLimits.{results_size, numbered}
 use Rattle.nr_plain.proofs.ResultLimits.{wcc_part, make_fits}
 use Rattle.nr_plain.proofs.Serving.{mount_none}
 use Rattle.nr_plain.specs.ReplySizes.{results_max, reply_max}
-use Rattle.nr_reduce.specs.Limits.{send_max}
+use Rattle.nr_reduce.specs.Limits.{send_unit}
 
 -- ===== offers
 
@@ -82,7 +82,7 @@ inline_held offer down p le none =
     ap (λ (b : Bool). cond b (Some (record { long = false; stream = p.stream; moved = p.moved })) (cond (fits_reply offer.reply (length p.stream)) (Some (record { long = true; stream = p.stream; moved = p.moved })) None)) (le-leb (answer_size offer.write + length p.stream) down le) in
     absurd cc
 
-short_held : (offer : ChunkLists) (down prog vers proc : ℕ) (reply : List ℕ) → ListsWithin offer → send_max ≤ down → length reply ≤ reply_max → Plain proc → answer_for offer down prog vers proc reply ≢ None
+short_held : (offer : ChunkLists) (down prog vers proc : ℕ) (reply : List ℕ) → ListsWithin offer → send_unit ≤ down → length reply ≤ reply_max → Plain proc → answer_for offer down prog vers proc reply ≢ None
 unfolding answer_for
 short_held offer down prog vers proc reply within room le plain =
     subst (λ (o : Option Parts). answer_with offer down o ≢ None) (sym (whole_stream prog vers proc offer.write reply plain))
@@ -159,7 +159,7 @@ module _ (s : Parameters) (st : State) (xid : ℕ) (e : Entry) where
 
 -- the reply is short, and every offer holds it
 abbrev IsHeld : List ℕ → Result CallHead ℕ → Answer → Type 0
-IsHeld payload r a = a.entries ≢ [] → (length a.reply ≤ reply_max) × ((offer : ChunkLists) (down : ℕ) → ListsWithin offer → send_max ≤ down → answer_of_target offer down a.reply (target_of r) ≢ None)
+IsHeld payload r a = a.entries ≢ [] → (length a.reply ≤ reply_max) × ((offer : ChunkLists) (down : ℕ) → ListsWithin offer → send_unit ≤ down → answer_of_target offer down a.reply (target_of r) ≢ None)
 
 answer_held : (s : Parameters) (st : State) (m : Moment) (payload : List ℕ) (head : CallHead) → IsHeld payload (Ok head) (answer_to s st m payload head)
 answer_held s st m payload (calls.Version2 xid prog vers proc cred args_at) some =
@@ -175,6 +175,6 @@ held s st m payload a (Err at) found = absurd cc
 pub changes_short : (s : Parameters) (st : State) (m : Moment) (payload : List ℕ) (a : Answer) → plain_answer s st m payload ≡ Some a → a.entries ≢ [] → length a.reply ≤ reply_max
 changes_short s st m payload a e some = (held s st m payload a (call_of payload) e some).0
 
-pub changes_held : (s : Parameters) (st : State) (m : Moment) (payload : List ℕ) (a : Answer) (offer : ChunkLists) (down : ℕ) → plain_answer s st m payload ≡ Some a → a.entries ≢ [] → ListsWithin offer → send_max ≤ down
+pub changes_held : (s : Parameters) (st : State) (m : Moment) (payload : List ℕ) (a : Answer) (offer : ChunkLists) (down : ℕ) → plain_answer s st m payload ≡ Some a → a.entries ≢ [] → ListsWithin offer → send_unit ≤ down
     → answer_of_target offer down a.reply (target_of (call_of payload)) ≢ None
 changes_held s st m payload a offer down e some within room = (held s st m payload a (call_of payload) e some).1 offer down within room

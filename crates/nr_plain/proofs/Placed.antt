@@ -9,7 +9,7 @@ use Rattle.nr_rpc.specs.declared.head.CallHead.{CallHead}
 use Rattle.nr_rpc.specs.Reading.{call_of, reply_of, target_of, xid_of_call}
 use Rattle.nr_reduce.specs.declared.mark.Entry.{Entry}
 use Rattle.nr_outside.specs.declared.moment.Moment.{Moment}
-use Rattle.nr_reduce.specs.Limits.{send_max}
+use Rattle.nr_reduce.specs.Limits.{send_unit}
 use Rattle.nr_reduce.specs.Server.{answer_of_target}
 use Rattle.nr_plain.specs.Setup.{Parameters, Setup, State}
 use Rattle.nr_plain.specs.Journal.{state_of}
@@ -33,6 +33,6 @@ pub calls_alone : (s : Setup) (J : List Entry) (place : ℕ) (m : Moment) (paylo
 calls_alone s J place m payload = has_answer s.parameters (state_of s (take place J)) m payload (call_of payload)
 
 pub changes_held_at : (s : Setup) (J : List Entry) (place : ℕ) (m : Moment) (payload reply : List ℕ) (offer : ChunkLists) (down : ℕ) → plain_reply s J place m payload ≡ Some reply
-    → entries_of_call m payload reply ≢ [] → ListsWithin offer → send_max ≤ down → answer_of_target offer down reply (target_of (call_of payload)) ≢ None
+    → entries_of_call m payload reply ≢ [] → ListsWithin offer → send_unit ≤ down → answer_of_target offer down reply (target_of (call_of payload)) ≢ None
 changes_held_at s J place m payload reply offer down e some within room =
     changes_held s.parameters (state_of s (take place J)) m payload (record { reply = reply; entries = entries_of_call m payload reply }) offer down (answer_of_reply s J place m payload reply e) some within room

@@ -12,7 +12,7 @@ use Rattle.nr_reduce.specs.declared.call.Form.TheVariants as forms
 use Rattle.nr_reduce.specs.declared.outline.Plan.{Plan}
 use Rattle.nr_reduce.specs.Plans.{plan_of, lists_of}
 use Rattle.nr_reduce.specs.Largest.{largest_reply}
-use Rattle.nr_reduce.specs.Limits.{send_max}
+use Rattle.nr_reduce.specs.Limits.{send_unit}
 use Rattle.nr_reduce.specs.Server.{answer_of_target}
 use Rattle.nr_tree.specs.Sane.{IsSane}
 use Rattle.nr_plain.specs.Setup.{Parameters, Setup, State}
@@ -45,22 +45,22 @@ abbrev pub ChangesAreShort : Type 0
 ChangesAreShort = (s : Parameters) (st : State) (m : Moment) (payload : List ℕ) (a : Answer) → plain_answer s st m payload ≡ Some a →
     a.entries ≢ [] → length a.reply ≤ reply_max
 
--- So every offer within the limits of a header holds it, if a Send back may have send_max bytes or more.
+-- So every offer within the limits of a header holds it, if a Send back may have send_unit bytes or more.
 abbrev pub ChangesFitEveryOffer : Type 0
 ChangesFitEveryOffer = (s : Parameters) (st : State) (m : Moment) (payload : List ℕ) (a : Answer) (offer : ChunkLists) (down : ℕ) →
-    plain_answer s st m payload ≡ Some a → a.entries ≢ [] → ListsWithin offer → send_max ≤ down →
+    plain_answer s st m payload ≡ Some a → a.entries ≢ [] → ListsWithin offer → send_unit ≤ down →
     answer_of_target offer down a.reply (target_of (call_of payload)) ≢ None
 
 -- So does it at any place of a journal, if the call and the reply say that there is an entry.
 abbrev pub PlacedChangesFitEveryOffer : Type 0
 PlacedChangesFitEveryOffer = (s : Setup) (J : List Entry) (place : ℕ) (m : Moment) (payload reply : List ℕ) (offer : ChunkLists) (down : ℕ) →
-    plain_reply s J place m payload ≡ Some reply → entries_of_call m payload reply ≢ [] → ListsWithin offer → send_max ≤ down →
+    plain_reply s J place m payload ≡ Some reply → entries_of_call m payload reply ≢ [] → ListsWithin offer → send_unit ≤ down →
     answer_of_target offer down reply (target_of (call_of payload)) ≢ None
 
 -- What a call offers in the form Auto holds its reply at each place of a journal, if the first tree is sane.
 abbrev pub AutoOffersHoldTheirReplies : Type 0
 AutoOffersHoldTheirReplies = (s : Setup) (J : List Entry) (place : ℕ) (m : Moment) (payload reply : List ℕ) (up down stag : ℕ) (p : Plan) → IsSane s.tree →
-    IsBytes payload → plain_reply s J place m payload ≡ Some reply → send_max ≤ down → plan_of payload forms.Auto up down ≡ Ok p →
+    IsBytes payload → plain_reply s J place m payload ≡ Some reply → send_unit ≤ down → plan_of payload forms.Auto up down ≡ Ok p →
     answer_of_target (lists_of stag p) down reply (target_of (call_of payload)) ≢ None
 
 -- the plain server that was opened with this setup: its reply over a journal, at the journal's end

@@ -13,7 +13,7 @@ use Rattle.nr_reduce.specs.declared.outline.Plan.{Plan}
 use Rattle.nr_link.specs.Agreement.{IsSendLimit}
 use Rattle.nr_link.proofs.Agreements.{agreements_bounded}
 use Rattle.nr_reduce.specs.Hellos.{client_private, private_of, server_private, client_agreement, server_agreement}
-use Rattle.nr_reduce.specs.Limits.{send_max}
+use Rattle.nr_reduce.specs.Limits.{send_unit}
 use Rattle.nr_reduce.specs.Plans.{TooLarge, plan_of}
 use Rattle.nr_reduce.specs.Events.{RunEvent, events}
 use Rattle.nr_reduce.specs.Events.RunEvent.{FrameReceived, CallSubmitted, MemoryRevoked, CallExecuted, QueueWritten}
@@ -26,7 +26,7 @@ use Rattle.nr_reduce.specs.ServerFrames.{frame_effect}
 use Rattle.nr_reduce.specs.Run.{client, server}
 use Rattle.nr_reduce.proofs.OwnStags.{kept_after}
 
-one_unit : IsSendLimit send_max
+one_unit : IsSendLimit send_unit
 one_unit = (omega arith, omega arith)
 
 pub record ClientLimits (k : ClientState) : Type 0 where

@@ -27,7 +27,7 @@ use Rattle.nr_reduce.specs.Events.{RunEvent, if_own, events_at, events}
 use Rattle.nr_reduce.specs.Events.RunEvent.{FrameReceived, CallSubmitted, MemoryRevoked, CallExecuted, QueueWritten}
 use Rattle.nr_reduce.specs.EndRules.{EndState, next_end_state, next_end_state_by, next_end_state_in, end_state_after, output_for, output_for_by, output_for_in}
 use Rattle.nr_reduce.specs.OfferedRegions.{region_grants}
-use Rattle.nr_reduce.specs.Limits.{send_max}
+use Rattle.nr_reduce.specs.Limits.{send_unit}
 use Rattle.nr_reduce.specs.ClientState.{OutstandingCall, ClientState, is_sent, plan_for}
 use Rattle.nr_reduce.specs.Written.{ends_written}
 use Rattle.nr_reduce.specs.ClientMessages.{ReplyVerdict, reply_verdict, reply_by_header, by_call}
@@ -50,8 +50,8 @@ record Waiting (opened : LinkParameters) (accepted : List AcceptedCall) (k : Cli
   pub calls : map as_submitted k.outstanding ≡ outstanding_from (start opened) opened.first_stag accepted
   pub stag : k.stag ≡ stag_behind (start opened) opened.first_stag accepted
   pub ends : k.send_ends ≡ []
-  pub up : k.up_max ≡ send_max
-  pub down : k.down_max ≡ send_max
+  pub up : k.up_max ≡ send_unit
+  pub down : k.down_max ≡ send_unit
 
 abbrev Waits : LinkParameters → List AcceptedCall → ClientState → Type 0
 Waits opened accepted k = k.has_hello ≡ false → Waiting opened accepted k

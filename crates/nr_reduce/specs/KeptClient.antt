@@ -16,7 +16,7 @@ use Rattle.nr_reduce.specs.declared.call.Call.{Call}
 use Rattle.nr_reduce.specs.declared.outline.Plan.{Plan}
 use Rattle.nr_reduce.specs.Plans.{Buffer, buffers, lists_of}
 use Rattle.nr_reduce.specs.declared.mark.LinkParameters.{LinkParameters}
-use Rattle.nr_reduce.specs.Limits.{send_max}
+use Rattle.nr_reduce.specs.Limits.{send_unit}
 use Rattle.nr_reduce.specs.OfferedRegions.{Region}
 use Rattle.nr_reduce.specs.OfferedMemory.{region_at, AreOffered, AreReceived, HoldsRegions}
 use Rattle.nr_reduce.specs.EndRules.{EndState}
@@ -132,8 +132,8 @@ opened_client opened = record {
   outstanding = 0;
   calls = [];
   memory = initial_memory opened.first_stag;
-  up_max = send_max;
-  down_max = send_max;
+  up_max = send_unit;
+  down_max = send_unit;
 }
 
 -- ---- What it keeps once regions are released

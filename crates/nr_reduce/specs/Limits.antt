@@ -1,15 +1,15 @@
 -- Sizes and limits, each by its one name. All are own. The bytes of a stream and of a read list together, and the counts of
 -- segments, are in nr_header.
 use Rattle.std.specs.Prelude.{ℕ}
-use Rattle.nr_link.specs.Limits.{send_max as link_send_max}
+use Rattle.nr_link.specs.Limits.{send_unit as link_send_unit}
 
 -- the maximum of credits that a side may ask for or grant, and that a credit word counts for
 abbrev pub credits_max : ℕ
 credits_max = 64
 
 -- the unit of the length of a Send, in bytes: its maximum in each direction, unless the sides agree on more
-abbrev pub send_max : ℕ
-send_max = link_send_max
+abbrev pub send_unit : ℕ
+send_unit = link_send_unit
 
 -- the maximum of an offer that is given, all its chunks together, in bytes
 abbrev pub given_max : ℕ

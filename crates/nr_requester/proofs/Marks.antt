@@ -8,7 +8,7 @@ use Rattle.nr_link.specs.Input.{InputState, initial_input}
 use Rattle.nr_link.specs.Output.{hello_with}
 use Rattle.nr_link.specs.declared.agreement.SideTerms.{SideTerms}
 use Rattle.nr_link.specs.Agreement.{initiator_private}
-use Rattle.nr_link.specs.Limits.{send_max}
+use Rattle.nr_link.specs.Limits.{send_unit}
 use Rattle.nr_reduce.specs.Hellos.{client_hello}
 use Rattle.nr_endpoint.specs.Hellos.{receive_length_for}
 use Rattle.nr_endpoint.specs.LinkState.{LinkState}
@@ -249,7 +249,7 @@ kept_opened : (opened : LinkParameters) (staging : List ℕ) → opened_client o
 unfolding opened_as
 kept_opened opened staging = refl
 
-some_units : (terms : SideTerms) → send_max ≤ receive_length_for terms
+some_units : (terms : SideTerms) → send_unit ≤ receive_length_for terms
 some_units terms = omega arith
 
 link_opened : (opened : LinkParameters) (link : ℕ) (staging : List ℕ) → LinkKeeps opened (opened_as opened.first_xid opened.first_stag opened.wished opened.client staging).state.side (state_of opened link [])

@@ -10,7 +10,7 @@ use Rattle.nr_endpoint.specs.declared.offering.Claims.{Claims}
 use Rattle.nr_regions.specs.Table.{IsTotal, region_len}
 use Rattle.nr_wire.specs.Constants.{FPDU_MAX, HELLO_LEN, NUMBERED_TERMS_LEN, UNITS_MAX}
 use Rattle.nr_wire.specs.declared.hello.Side.TheVariants.{Initiator}
-use Rattle.nr_link.specs.Limits.{send_max, open_reads_max}
+use Rattle.nr_link.specs.Limits.{send_unit, open_reads_max}
 use Rattle.nr_link.specs.Agreement.{IsSendLimit}
 use Rattle.nr_endpoint.specs.LinkState.{LinkState, has_ended}
 use Rattle.nr_endpoint.specs.SendQueue.{SendQueue, ends_left}
@@ -101,7 +101,7 @@ frame_max = 4136
 
 -- the maximum of a receive, and of what is agreed for a Send, in bytes; such a Send has at most four frames
 abbrev pub receive_max : ℕ
-receive_max = send_max * UNITS_MAX
+receive_max = send_unit * UNITS_MAX
 
 abbrev pub send_frames_max : ℕ
 send_frames_max = 4 * frame_max

@@ -27,7 +27,7 @@ ghost use Rattle.nr_requester.specs.CountedMarks.{marks_if};
 use crate::answer::AnsweredCall;
 use crate::outstanding::OutstandingCall;
 use nr_endpoint::{DrainFault, Endpoint};
-use nr_link::constants::SEND_MAX;
+use nr_link::constants::SEND_UNIT;
 use nr_link::{End, SideTerms};
 use nr_outside::Sink;
 use nr_wire::Side;
@@ -254,7 +254,7 @@ impl Requester {
 fn receive_length(units: u8) -> u32
     ensures { result ≡ receive_length_for (sized_terms units) }
 {
-    SEND_MAX * u32::from(units.max(1).min(UNITS_MAX))
+    SEND_UNIT * u32::from(units.max(1).min(UNITS_MAX))
 }
 
 /// The count of marks after one mark more, if that is counted.

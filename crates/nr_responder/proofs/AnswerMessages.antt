@@ -9,7 +9,7 @@ use Rattle.nr_header.specs.Length.{write_chunk_len, write_list_len}
 use Rattle.nr_header.specs.WithinLimits.{ListsWithin}
 use Rattle.nr_header.proofs.Lengths.{chunk_error_length}
 use Rattle.nr_link.specs.Agreement.{IsSendLimit}
-use Rattle.nr_link.specs.Limits.{send_max}
+use Rattle.nr_link.specs.Limits.{send_unit}
 use Rattle.nr_rpc.specs.Reading.{call_of, target_of}
 use Rattle.nr_rpc.specs.declared.head.CallTarget.{CallTarget}
 use Rattle.nr_reduce.specs.Holds.{Answer, answer_for, answer_message, chunk_error}
@@ -19,7 +19,7 @@ use Rattle.nr_reduce.proofs.AnswerMessages.{answer_length}
 use Rattle.nr_responder.specs.Answering.{answer_to, message_for}
 use Rattle.nr_responder.proofs.OutputLengths.{reply_few}
 
-error_short : (xid credits : ℕ) → length (chunk_error xid credits) ≤ send_max
+error_short : (xid credits : ℕ) → length (chunk_error xid credits) ≤ send_unit
 unfolding chunk_error
 error_short xid credits = (let len = chunk_error_length xid credits VERSION in omega (arith, len))
 

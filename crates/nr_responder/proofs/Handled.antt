@@ -21,7 +21,7 @@ use Rattle.nr_reduce.specs.ServerMessages.Verdict.{MakesPending}
 use Rattle.nr_reduce.specs.ServerFrames.{by_message}
 use Rattle.nr_reduce.specs.Holds.{chunk_error, version_error}
 use Rattle.nr_header.specs.Constants.{VERSION}
-use Rattle.nr_link.specs.Limits.{send_max}
+use Rattle.nr_link.specs.Limits.{send_unit}
 use Rattle.nr_header.proofs.Lengths.{chunk_error_length, versions_length}
 use Rattle.nr_responder.specs.ResponderState.{ResponderSide}
 use Rattle.nr_responder.specs.private.Handling.{Handled, IsServerOf, MessageTakes, Begins, Makes, OrOut, begun_call, inline_call, refused_effect, on_link, out, with_ready, IsReadCall}
@@ -56,7 +56,7 @@ ended_or_out : (v after : ResponderSide) (number reason : ℕ) (message : List �
 ended_or_out v after number reason message other refuses (inl is) = inl (λ k server count. Stopped reason (refuses k server count) other is)
 ended_or_out v after number reason message other refuses (inr is) = inr (record { is_out = is; takes = λ k server count. EndsFor reason (refuses k server count) other })
 
-refused_or_out : (v after : ResponderSide) (number : ℕ) (message answer : List ℕ) → length answer ≤ send_max → ((k : ServerState) → IsServerOf k v → (place : ℕ) → by_message k place (Some message) ≡ refused_effect k answer) →
+refused_or_out : (v after : ResponderSide) (number : ℕ) (message answer : List ℕ) → length answer ≤ send_unit → ((k : ServerState) → IsServerOf k v → (place : ℕ) → by_message k place (Some message) ≡ refused_effect k answer) →
     OrOut (told_of v) (after_call (after_call v.link NextEvent) (Send answer)) after → Goes v number message after ⊎ RanOutOf v number message after
 refused_or_out v after number message answer short effect (inl is) = inl (λ k server count. Refused answer (effect k server) short is)
 refused_or_out v after number message answer short effect (inr is) = inr (record { is_out = is; takes = λ k server count. ErrorFor answer (effect k server) })
@@ -91,11 +91,11 @@ begins_handled v after number message lists stream_at call (IsReady head reads o
         (is ∙ ap (λ (c : PendingCall). with_ready (told_of v) (after_call v.link NextEvent) c) same)
 
 -- an error message is short
-version_short : (xid version credits : ℕ) → length (version_error xid version credits) ≤ send_max
+version_short : (xid version credits : ℕ) → length (version_error xid version credits) ≤ send_unit
 unfolding version_error
 version_short xid version credits = omega (arith, versions_length xid credits version VERSION VERSION)
 
-pub chunk_short : (xid credits : ℕ) → length (chunk_error xid credits) ≤ send_max
+pub chunk_short : (xid credits : ℕ) → length (chunk_error xid credits) ≤ send_unit
 unfolding chunk_error
 chunk_short xid credits = omega (arith, chunk_error_length xid credits VERSION)
 

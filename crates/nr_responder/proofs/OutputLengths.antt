@@ -20,7 +20,7 @@ use Rattle.nr_link.specs.declared.end.End.{End}
 use Rattle.nr_link.specs.declared.end.End.TheVariants as ends
 use Rattle.nr_link.specs.Ending.{final_output, rejection, is_hello_reason}
 use Rattle.nr_link.specs.Reasons.{denied_word, NO_BUFFER_WORD}
-use Rattle.nr_link.specs.Limits.{segment_max, send_max}
+use Rattle.nr_link.specs.Limits.{segment_max, send_unit}
 use Rattle.nr_link.specs.Output.{msn_word, cut, hello_with, read_request, refusing_hello, segment_count, segment_payload, send, terminate_message, write}
 use Rattle.nr_rpc.specs.declared.head.CallTarget.{CallTarget}
 use Rattle.nr_reduce.specs.Server.{answer_of_target}
@@ -94,7 +94,7 @@ cut_len segment bytes of =
         let len : length (payload_in s) ≡ length (segment_payload bytes i) = ap (λ (xs : List ℕ). length xs) is in
         omega (arith, encoding_len s, len, length-take segment_max (drop (segment_max * i) bytes))
 
-pub send_len : (msn : ℕ) (message : List ℕ) → length message ≤ send_max * UNITS_MAX → length (send msn message) ≤ send_frames_max
+pub send_len : (msn : ℕ) (message : List ℕ) → length message ≤ send_unit * UNITS_MAX → length (send msn message) ≤ send_frames_max
 unfolding send
 send_len msn message small =
     let len = cut_len (λ last offset payload. Untagged last OPCODE_SEND 0 QUEUE_SEND (msn_word msn) offset payload) message (λ last offset payload. refl) in

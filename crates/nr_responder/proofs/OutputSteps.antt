@@ -5,7 +5,7 @@ use Rattle.std.specs.List.{remove}
 use Rattle.nr_wire.specs.Stream.{IsPartial}
 use Rattle.nr_link.specs.declared.end.End.{End}
 use Rattle.nr_link.specs.declared.end.End.TheVariants as ends
-use Rattle.nr_link.specs.Limits.{open_reads_max, send_max}
+use Rattle.nr_link.specs.Limits.{open_reads_max, send_unit}
 use Rattle.nr_link.specs.Input.{InputState}
 use Rattle.nr_endpoint.specs.LinkState.{LinkSide}
 use Rattle.nr_endpoint.specs.ReceiveQueue.DeliveredEvent.{ReadDone}
@@ -137,7 +137,7 @@ answered_out v after xid reply sent live limit fit on a = subst OutputFits (sym 
     waiting : ℕ
     waiting = length (drop open_reads_max v.fetching.reads)
 
-    short : length message ≤ send_max * UNITS_MAX
+    short : length message ≤ send_unit * UNITS_MAX
     short = (let least = a.short in let most = limit.1 in omega (arith, least, most))
 
     f : OutputLives w

@@ -7,7 +7,7 @@ use Rattle.std.proofs.lemmas.List.{length-drop}
 use Rattle.nr_wire.specs.declared.hello.Side.{Side}
 use Rattle.nr_link.specs.declared.end.End.{End}
 use Rattle.nr_wire.specs.Constants.{UNITS_MAX}
-use Rattle.nr_link.specs.Limits.{send_max}
+use Rattle.nr_link.specs.Limits.{send_unit}
 use Rattle.nr_link.specs.Output.{read_request}
 use Rattle.nr_link.specs.Ending.{final_output, rejection}
 use Rattle.nr_endpoint.specs.SendQueue.{SendQueue, ends_left, fpdus_written, next_number, send_output, with_end, with_fpdus, with_request, with_send, written}
@@ -51,7 +51,7 @@ pub more_calls : (q : SendQueue) (w c w2 c2 : ℕ) → request_max * w2 + reques
 more_calls q w c w2 c2 le fits n = (let h = fits n in omega (arith, le, h))
 
 -- a Send, and RDMA Writes before it
-pub sends_fit : (q : SendQueue) (writes message : List ℕ) (w c w2 c2 : ℕ) → length writes ≤ writes_max → length message ≤ send_max * UNITS_MAX → w2 ≤ w → c ≤ c2 + 1 → request_max * w2 ≤ requests_max * c2 → QueueFits q w c → QueueFits (with_send message (with_fpdus writes q)) w2 c2
+pub sends_fit : (q : SendQueue) (writes message : List ℕ) (w c w2 c2 : ℕ) → length writes ≤ writes_max → length message ≤ send_unit * UNITS_MAX → w2 ≤ w → c ≤ c2 + 1 → request_max * w2 ≤ requests_max * c2 → QueueFits q w c → QueueFits (with_send message (with_fpdus writes q)) w2 c2
 sends_fit q writes message w c w2 c2 small short fewer one waits fits n =
     let front : List ℕ = q.fpdus ++ writes in
     let out : List ℕ = send_output (with_fpdus writes q) message in
@@ -65,7 +65,7 @@ sends_fit q writes message w c w2 c2 small short fewer one waits fits n =
     ]
 
 -- a Send alone
-pub send_fits : (q : SendQueue) (message : List ℕ) (w c w2 c2 : ℕ) → length message ≤ send_max * UNITS_MAX → w2 ≤ w → c ≤ c2 + 1 → request_max * w2 ≤ requests_max * c2 → QueueFits q w c → QueueFits (with_send message q) w2 c2
+pub send_fits : (q : SendQueue) (message : List ℕ) (w c w2 c2 : ℕ) → length message ≤ send_unit * UNITS_MAX → w2 ≤ w → c ≤ c2 + 1 → request_max * w2 ≤ requests_max * c2 → QueueFits q w c → QueueFits (with_send message q) w2 c2
 send_fits q message w c w2 c2 short fewer one waits fits n =
     let out : List ℕ = send_output q message in
     let len = length-append q.fpdus out in

@@ -7,7 +7,7 @@ use Rattle.nr_wire.specs.Stream.{IsPartial}
 use Rattle.nr_link.specs.declared.end.End.{End}
 use Rattle.nr_link.specs.declared.end.End.TheVariants as ends
 use Rattle.nr_header.specs.Constants.{PAYLOAD_MAX}
-use Rattle.nr_link.specs.Limits.{open_reads_max, send_max}
+use Rattle.nr_link.specs.Limits.{open_reads_max, send_unit}
 use Rattle.nr_link.specs.Input.{InputState}
 use Rattle.nr_outside.specs.declared.moment.Moment.{Moment}
 use Rattle.nr_regions.specs.RegisteredMemory.{RegisteredMemory, bytes_held}
@@ -257,8 +257,8 @@ held_bound v result is b rooms receives lent =
     let waiting = count_fewer 0 v.side.link.state.send_queue.send_ends in
     let most = b.0.sinks.receives.len.1 in
     let n : ℕ = v.side.link.state.receive_queue.receive_length in
-    let of_kept = mul-le n (receives_kept v.side.link.state.receive_queue) (send_max * UNITS_MAX) (receives_kept v.side.link.state.receive_queue) most (omega arith) in
-    let of_lent = mul-le n (length v.side.calls + unsent v.side.link.state) (send_max * UNITS_MAX) (length v.side.calls + unsent v.side.link.state) most (omega arith) in
+    let of_kept = mul-le n (receives_kept v.side.link.state.receive_queue) (send_unit * UNITS_MAX) (receives_kept v.side.link.state.receive_queue) most (omega arith) in
+    let of_lent = mul-le n (length v.side.calls + unsent v.side.link.state) (send_unit * UNITS_MAX) (length v.side.calls + unsent v.side.link.state) most (omega arith) in
     let regions = regions_most v.side b.0.sinks in
     let count = b.0.sinks.receives.count in
     omega (arith, is, staging, of_kept, of_lent, regions, count, output, hello, waiting, rooms, receives, lent)

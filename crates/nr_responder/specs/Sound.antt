@@ -20,7 +20,7 @@ use Rattle.nr_endpoint.specs.Receives.{IsReceive}
 use Rattle.nr_endpoint.specs.LinkState.{LinkState, LinkSide}
 use Rattle.nr_wire.specs.Constants.{UNITS_MAX}
 use Rattle.nr_link.specs.Agreement.{IsSendLimit}
-use Rattle.nr_link.specs.Limits.{send_max}
+use Rattle.nr_link.specs.Limits.{send_unit}
 use Rattle.nr_responder.specs.declared.call.Pending.{Pending}
 use Rattle.nr_responder.specs.declared.server_end.ServerEnd.{ServerEnd}
 use Rattle.nr_responder.specs.Fetching.{Fetching, SinkRegion, is_sink}
@@ -66,7 +66,7 @@ with_staging r = record { side = state_of r; staging = r.endpoint.staging; rooms
 -- A pending call's message lies in its receive buffer, it has lists that are within the limits, and what its head asks for and its item are those of its
 -- stream.
 pub record InBuffer (c : Pending) : Type 0 where
-  pub buf : length c.buf ≤ send_max * UNITS_MAX
+  pub buf : length c.buf ≤ send_unit * UNITS_MAX
   pub len : c.len ≤ length c.buf
   pub at : c.stream_at ≤ c.len
   pub lists : HasLists (take c.len c.buf)

@@ -3,7 +3,7 @@
 ghost use Rattle.std.specs.Prelude.{◌≡◌, ◌≢◌, ℕ, ◌+◌, ◌*◌, ◌≤◌, List, length, sum_by, None, Some, All};
 ghost use Rattle.nr_link.specs.declared.end.End.TheVariants as ends;
 ghost use Rattle.nr_wire.specs.Constants.{UNITS_MAX};
-ghost use Rattle.nr_link.specs.Limits.{send_max};
+ghost use Rattle.nr_link.specs.Limits.{send_unit};
 ghost use Rattle.nr_link.specs.SegmentFaults.{is_begun};
 ghost use Rattle.nr_endpoint.specs.Receives.{IsReceive};
 ghost use Rattle.nr_reduce.specs.declared.mark.LinkParameters.{LinkParameters};
@@ -47,9 +47,9 @@ fn payload_len(payload: &Option<Payload>) -> usize
 
 /// How many bytes each receive has that is lent: of a call, or of a Send that hasn't left. 0 if none is.
 fn receive_len(calls: &[Pending], used: &VecDeque<Octets>) -> usize
-    requires bufs { (n : ℕ) × ((n ≤ send_max * UNITS_MAX) × (All (InReceive n) calls.now × All (IsReceive n) used.now.items)) }
+    requires bufs { (n : ℕ) × ((n ≤ send_unit * UNITS_MAX) × (All (InReceive n) calls.now × All (IsReceive n) used.now.items)) }
     ensures is { (n : ℕ) → All (InReceive n) calls.now → All (IsReceive n) used.now.items → result * (length calls.now + length used.now.items) ≡ n * (length calls.now + length used.now.items) }
-    ensures most { result ≤ send_max * UNITS_MAX }
+    ensures most { result ≤ send_unit * UNITS_MAX }
 {
     if !calls.is_empty() {
         return calls[0].buf.len();
@@ -62,9 +62,9 @@ fn receive_len(calls: &[Pending], used: &VecDeque<Octets>) -> usize
 
 /// The bytes of `count` receives of a length.
 fn receives_len(each: usize, count: usize) -> u128
-    requires each { each ≤ send_max * UNITS_MAX }
+    requires each { each ≤ send_unit * UNITS_MAX }
     ensures is { result ≡ each * count }
-    ensures most { result ≤ send_max * UNITS_MAX * count }
+    ensures most { result ≤ send_unit * UNITS_MAX * count }
 {
     each as u128 * count as u128
 }

@@ -3,7 +3,7 @@
 ghost use Rattle.std.specs.Prelude.{◌≡◌, ℕ, ◌+◌, ◌*◌, ◌^◌, ◌<◌, ◌≤◌, ◌==◌, ◌||◌, length, take, drop, is_some, true, Some, None, IfErr, IfSome, List, [], Option, option_map, slice_get, if◌then◌else◌};
 ghost use Rattle.nr_xdr.specs.Item.{IsBytes, pad_len};
 ghost use Rattle.nr_wire.specs.Constants.{UNITS_MAX};
-ghost use Rattle.nr_link.specs.Limits.{send_max};
+ghost use Rattle.nr_link.specs.Limits.{send_unit};
 ghost use Rattle.nr_rpc.specs.Reading.{call_of, target_of};
 ghost use Rattle.nr_endpoint.specs.Calls.{IsStopReason};
 ghost use Rattle.nr_reduce.specs.Chunks.{call_moved, call_stream, item_position, whole};
@@ -165,7 +165,7 @@ pub(crate) fn judge_payload(payload: Option<Payload>, xid: u32) -> Result<Payloa
 pub(crate) fn inline_stream(call: &Pending) -> &[u8]
     requires { InBuffer call.now }
     ensures stream { result.now ≡ call_stream (call_view call.now).inline (λ position. []) }
-    ensures small { length result.now ≤ send_max * UNITS_MAX }
+    ensures small { length result.now ≤ send_unit * UNITS_MAX }
 {
     if call.inline {
         return stream_of(&call.buf, call.len, call.stream_at);

@@ -3,7 +3,7 @@
 ghost use Rattle.std.specs.Prelude.{◌≡◌, ◌≢◌, ℕ, ◌+◌, ◌<◌, ◌≤◌, List, [], ◌∷◌, ◌++◌, take, drop, true, false, All, ◌==◌, not, length, map, get_or, None, IfSome, OnOk, OnErr};
 ghost use Rattle.std.specs.List.{filter};
 ghost use Rattle.nr_header.specs.Constants.{PAYLOAD_MAX};
-ghost use Rattle.nr_link.specs.Limits.{send_max};
+ghost use Rattle.nr_link.specs.Limits.{send_unit};
 ghost use Rattle.nr_reduce.specs.Holds.{chunk_error};
 ghost use Rattle.nr_reduce.specs.ServerState.{PendingRead};
 ghost use Rattle.nr_reduce.specs.ServerReads.{is_read};
@@ -49,7 +49,7 @@ fn stream_read<'a>(call: &'a Pending, endpoint: &'a Endpoint, sinks: &'a [OpenSi
     requires held { AreHeldFrom endpoint.now.link.state.memory 0 (claims_of sinks.now) }
     requires short { All (λ s. s.registration.len ≤ PAYLOAD_MAX) sinks.now }
     ensures stream { result.now ≡ call_stream (call_view call.now).inline (sink_bytes endpoint.now.link.state.memory (map sink_view sinks.now) call.now.number) }
-    ensures small { length result.now ≤ send_max + PAYLOAD_MAX }
+    ensures small { length result.now ≤ send_unit + PAYLOAD_MAX }
 {
     if call.inline {
         return inline_stream(call);

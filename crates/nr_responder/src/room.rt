@@ -5,7 +5,7 @@ ghost use Rattle.nr_rpc.specs.Reading.{call_of, target_of};
 ghost use Rattle.nr_responder.specs.Rooms.{payload_room};
 
 use nr_header::PAYLOAD_MAX;
-use nr_link::constants::SEND_MAX;
+use nr_link::constants::SEND_UNIT;
 use nr_reduce::PayloadBuffer;
 use nr_rpc::CallTarget;
 use nr_xdr::{Memory, Octets};
@@ -13,7 +13,7 @@ use std::alloc::Global;
 use std::marker::Model;
 
 /// The room of a payload: for a stream and a chunk, and for a pad.
-const PAYLOAD_ROOM: usize = SEND_MAX as usize + 2 * PAYLOAD_MAX + 3;
+const PAYLOAD_ROOM: usize = SEND_UNIT as usize + 2 * PAYLOAD_MAX + 3;
 
 /// The room in which the payload of a call is put together. Contracts see how many bytes it is for, at most `payload_room`.
 #[derive(Drop)]

@@ -3,7 +3,7 @@
 ghost use Rattle.std.specs.Prelude.{◌≡◌, ℕ, ◌+◌, ◌*◌, ◌^◌, ◌<◌, ◌≤◌, ◌++◌, ◌∷◌, [], length, take, None, All, IfOk, OnOk, OnErr, map, replicate, vec_capacity};
 ghost use Rattle.std.specs.FinMap.{get};
 ghost use Rattle.nr_wire.specs.Constants.{UNITS_MAX};
-ghost use Rattle.nr_link.specs.Limits.{send_max};
+ghost use Rattle.nr_link.specs.Limits.{send_unit};
 ghost use Rattle.nr_header.specs.Constants.{PAYLOAD_MAX};
 ghost use Rattle.nr_header.specs.WithinLimits.{read_total};
 ghost use Rattle.nr_responder.specs.Sound.{AreHeldFrom, HasOutside, claims_of};
@@ -179,7 +179,7 @@ pub(crate) fn begin_in_place(
     requires held { AreHeldFrom endpoint.old.link.state.memory 0 (claims_of sinks.old.items) }
     requires short { All (λ s. s.registration.len ≤ PAYLOAD_MAX) sinks.old.items }
     requires one { length chunks.now ≡ 1 }
-    requires window { (window.0 ≤ window.1) × (window.1 ≤ send_max * UNITS_MAX + 3) }
+    requires window { (window.0 ≤ window.1) × (window.1 ≤ send_unit * UNITS_MAX + 3) }
     requires stags { endpoint.old.link.state.memory.next + 1 ≤ 2 ^ 32 }
     requires total { read_total read.now ≤ PAYLOAD_MAX }
     ensures ok { OnOk result (BeginsReads number read.now chunks.now reads.old.items reads.new.items sinks.old.items sinks.new.items endpoint.old.link endpoint.new.link) }

@@ -6,7 +6,7 @@ ghost use Rattle.nr_wire.specs.Constants.{NUMBERED_TERMS_LEN, TERMS_LEN};
 ghost use Rattle.nr_wire.specs.Terms.{terms_key as key, number_encoding, number_in, terms_encoding, terms_flags, terms_in, units_byte, units_of_byte};
 
 use crate::constants::{NUMBERED_TERMS_LEN, TERMS_INVALIDATE, TERMS_LEN, TERMS_NUMBER, UNITS_MAX};
-use crate::words::{has_bit, hyper_at};
+use crate::words::{append, has_bit, hyper_at};
 use arrayvec::ArrayVec;
 
 /// What a side says in the private data of its hello.
@@ -73,19 +73,8 @@ pub fn read_terms(private: &[u8]) -> Option<Terms>
     })
 }
 
-/// Puts some bytes at the end. There is room for them.
-fn append(out: &mut ArrayVec<u8, NUMBERED_TERMS_LEN>, bytes: &[u8])
-    requires { array_vec_len out.old + length bytes.now ≤ NUMBERED_TERMS_LEN }
-    ensures bytes { out.new.items ≡ out.old.items ++ bytes.now }
-    ensures len { array_vec_len out.new ≡ array_vec_len out.old + length bytes.now }
-{
-    if out.try_extend_from_slice(bytes).is_err() {
-        unreachable!();
-    }
-}
-
-/// The private data of a side with these units, from 1 to 16, for Sends in both directions, and with this number of a client,
-/// or 0: 8 bytes, or 16 with a number. Takes no memory.
+/// The private data of a side with these units for Sends in both directions, of which 0 counts as 1 and more than 16 as 16, and
+/// with this number of a client, or 0 for none: 8 bytes, or 16 with a number. Takes no memory.
 #[tactic(auto, unfolding(crate::specs::Terms::terms_encoding, crate::specs::Terms::terms_key, nr_xdr::specs::Item::hyper))]
 pub fn write_terms(units: u8, number: u64, invalidates: bool) -> ArrayVec<u8, NUMBERED_TERMS_LEN>
     ensures bytes { result.items ≡ terms_encoding units number invalidates }

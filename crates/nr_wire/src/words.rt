@@ -1,7 +1,10 @@
-//! The numbers of two and of eight bytes at an offset, the highest byte first, and single bits.
+//! The numbers of two and of eight bytes at an offset, the highest byte first, single bits, and bytes at the end of a list.
 
-ghost use Rattle.std.specs.Prelude.{◌≡◌, ℕ, ◌+◌, ◌<◌, ◌≤◌, length};
+ghost use Rattle.std.specs.Prelude.{◌≡◌, ℕ, ◌+◌, ◌<◌, ◌≤◌, ◌++◌, length};
+ghost use Rattle.arrayvec.specs.ArrayVec.{array_vec_len};
 ghost use Rattle.nr_wire.specs.Fields.{half_word_at, hyper_at, has_bit};
+
+use arrayvec::ArrayVec;
 
 /// The two bytes at an offset as a number.
 #[tactic(auto, unfolding(crate::specs::Fields::half_word_of))]
@@ -31,4 +34,15 @@ pub fn has_bit(value: u8, byte: u8) -> bool
     ensures { result ≡ has_bit value byte }
 {
     byte / value % 2 == 1
+}
+
+/// Puts some bytes at the end. There is room for them.
+pub(crate) fn append<const N: usize>(out: &mut ArrayVec<u8, N>, bytes: &[u8])
+    requires { array_vec_len out.old + length bytes.now ≤ N }
+    ensures bytes { out.new.items ≡ out.old.items ++ bytes.now }
+    ensures len { array_vec_len out.new ≡ array_vec_len out.old + length bytes.now }
+{
+    if out.try_extend_from_slice(bytes).is_err() {
+        unreachable!();
+    }
 }

@@ -15,6 +15,7 @@ use crate::constants::{
 };
 use crate::hello::{Hello, key};
 use crate::segment::{Segment, fpdu_size, tail_len};
+use crate::words::append;
 use arrayvec::ArrayVec;
 use nr_xdr::{Memory, Octets};
 use std::alloc::Global;
@@ -40,17 +41,6 @@ pub fn write_hello(alloc: Global, hello: &Hello) -> Result<Octets, Memory>
     let mut bytes = Vec::with_capacity(alloc, HELLO_LEN + hello.private.len())?;
     push_hello(&mut bytes, hello)?;
     Ok(Octets::from_vec(bytes))
-}
-
-/// Puts some bytes at the end. There is room for them.
-fn append(out: &mut ArrayVec<u8, HEADER_MAX>, bytes: &[u8])
-    requires { array_vec_len out.old + length bytes.now ≤ HEADER_MAX }
-    ensures bytes { out.new.items ≡ out.old.items ++ bytes.now }
-    ensures len { array_vec_len out.new ≡ array_vec_len out.old + length bytes.now }
-{
-    if out.try_extend_from_slice(bytes).is_err() {
-        unreachable!();
-    }
 }
 
 /// The length field of an FPDU, and the two bytes that open its ULPDU.

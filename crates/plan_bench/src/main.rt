@@ -4,7 +4,7 @@
 #![tactic(auto)]
 
 use nr_header::{Chunk, ChunkLists, InlineVec, RdmaSegment};
-use nr_link::constants::SEND_MAX;
+use nr_link::constants::SEND_UNIT;
 use nr_reduce::{Form, PayloadFault, call_item, call_parts, holds, outline_of, plan};
 use std::alloc::{AllocError, Global};
 use std::env;
@@ -47,7 +47,7 @@ fn offer(alloc: Global) -> Result<ChunkLists, AllocError> {
 
 /// How many bytes the region of the payload's plan has.
 fn planned(alloc: Global, payload: &[u8]) -> Result<u64, PayloadFault> {
-    let plan = plan(alloc, payload, &Form::Auto, SEND_MAX, SEND_MAX)?;
+    let plan = plan(alloc, payload, &Form::Auto, SEND_UNIT, SEND_UNIT)?;
     Ok(plan.region.len() as u64)
 }
 
@@ -56,7 +56,7 @@ fn outlined(alloc: Global, payload: &[u8]) -> Result<u64, PayloadFault> {
     let Some(parts) = call_parts(payload) else {
         return Ok(0);
     };
-    let Ok(outline) = outline_of(parts, &Form::Auto, SEND_MAX, SEND_MAX) else {
+    let Ok(outline) = outline_of(parts, &Form::Auto, SEND_UNIT, SEND_UNIT) else {
         return Ok(0);
     };
     let region = outline.region(alloc, parts.head, parts.args)?;
@@ -98,7 +98,7 @@ fn items(payload: &[u8], rounds: u32) -> u64 {
 fn held(offer: &ChunkLists, reply: &[u8], rounds: u32) -> u64 {
     let mut total: u64 = 0;
     for _ in 0..rounds {
-        total = total.wrapping_add(u64::from(holds(offer, 100_003, 3, 6, reply, SEND_MAX)));
+        total = total.wrapping_add(u64::from(holds(offer, 100_003, 3, 6, reply, SEND_UNIT)));
     }
     total
 }

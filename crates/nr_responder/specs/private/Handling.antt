@@ -7,7 +7,7 @@ use Rattle.nr_header.specs.WithinLimits.{read_total}
 use Rattle.nr_xdr.specs.Fields.{word_at}
 use Rattle.nr_rpc.specs.declared.head.CallHead.{CallHead}
 use Rattle.nr_rpc.specs.Reading.{call_of}
-use Rattle.nr_link.specs.Limits.{send_max}
+use Rattle.nr_link.specs.Limits.{send_unit}
 use Rattle.nr_link.specs.Reasons.{REASON_HEAD, REASON_STAGS, REASON_XID}
 use Rattle.nr_reduce.specs.Limits.{numbers_end}
 use Rattle.nr_endpoint.specs.ReceiveQueue.DeliveredEvent.{MessageReceived, ReadDone}
@@ -133,7 +133,7 @@ pub data Makes (before : ResponderSide) (number : ℕ) (message : List ℕ) (aft
 -- It stops the link for the reason of the server, queues the server's error message, or has one call more, which is ready or is read.
 pub data Handled (k : ServerState) (message : List ℕ) (before after : ResponderSide) : Type 0 where
   Stopped : (reason : ℕ) → ((place : ℕ) → (by_message k place (Some message)).refusal ≡ Some reason) → 5 ≤ reason → after ≡ on_link before (after_call (after_call before.link NextEvent) (Stop reason)) → Handled k message before after
-  Refused : (answer : List ℕ) → ((place : ℕ) → by_message k place (Some message) ≡ refused_effect k answer) → length answer ≤ send_max → after ≡ on_link before (after_call (after_call before.link NextEvent) (Send answer)) → Handled k message before after
+  Refused : (answer : List ℕ) → ((place : ℕ) → by_message k place (Some message) ≡ refused_effect k answer) → length answer ≤ send_unit → after ≡ on_link before (after_call (after_call before.link NextEvent) (Send answer)) → Handled k message before after
   Ready : (xid : ℕ) (write : List (List RdmaSegment)) (reply : Option (List RdmaSegment)) (stream : List ℕ) (head : CallHead) → is_pending k xid ≡ false →
       verdict k message ≡ MakesPending (inline_call k xid write reply stream) → call_of stream ≡ Ok head → call_xid head ≡ xid →
       after ≡ with_ready before (after_call before.link NextEvent) (inline_call k xid write reply stream) → Handled k message before after
