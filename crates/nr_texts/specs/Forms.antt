@@ -1,12 +1,12 @@
 -- How a call line says in which form its call is sent, and of which program it is.
-use Rattle.std.specs.Prelude.{ℕ, ◌&&◌, if◌then◌else◌, List, [], ◌∷◌, ◌≡◌, Bool, codes, Option, None, Some, is_none, length, take, drop}
+use Rattle.std.specs.Prelude.{ℕ, ◌&&◌, if◌then◌else◌, ◌^◌, ◌<◌, List, [], ◌∷◌, ◌≡◌, Bool, codes, Option, None, Some, is_none, length, take, drop}
 use Rattle.std.specs.Str.{bytes_eq}
 use Rattle.nr_nfs_base.specs.Procedures.{nfs_program, nfs_version, mount_program, mount_version}
 use Rattle.nr_reduce.specs.declared.call.Form.{Form}
 use Rattle.nr_reduce.specs.declared.call.Form.TheVariants as forms
 use Rattle.nr_reduce.specs.declared.call.Offer.{Offer}
-use Rattle.nr_script.specs.declared.program.Program.{Program}
-use Rattle.nr_script.specs.Words.{◌>>=◌, parts, each_read, number_in}
+use Rattle.nr_texts.specs.declared.program.Program.{Program}
+use Rattle.nr_texts.specs.Words.{◌>>=◌, parts, each_read, number_in}
 
 -- ===== offers that are given
 
@@ -105,6 +105,14 @@ form_in word =
     else (if bytes_eq word (codes "chunk") then Some forms.Chunk
     else (if bytes_eq word (codes "long") then Some forms.Long
     else given_form word)))
+
+-- the position of an offer that is given is a word
+abbrev pub HasWordPosition : Form → Type 0
+HasWordPosition forms.Auto = Unit {0}
+HasWordPosition forms.Inline = Unit {0}
+HasWordPosition forms.Chunk = Unit {0}
+HasWordPosition forms.Long = Unit {0}
+HasWordPosition (forms.Given offer) = offer.read_at < 2 ^ 32
 
 -- ===== programs
 

@@ -8,10 +8,10 @@ use Rattle.std.proofs.lemmas.Str.{IsUtf8-from_ascii}
 use Rattle.std.proofs.lemmas.Str.Ascii.{IsAscii-nil, IsAscii-cons}
 use Rattle.std.proofs.Common.{◌≡◌, ℕ, ◌^◌, ◌<◌, Bool, true, false, cond, ltb, leb, not, eqb, List, [], ◌∷◌, length, Option, None, Some, Result, Ok, Err, refl, sym, ap, subst, ◌∙◌, arith, rules, ltb-true, lt-ltb, leb-true}
 use Rattle.std.proofs.lemmas.Str.Parse.{IsNumeralModel, numerals_by_value, parse_digits}
-use Rattle.nr_script.specs.Words.{is_digit, is_numeral, numeral_value}
+use Rattle.nr_texts.specs.Words.{is_digit, is_numeral, numeral_value}
 
-own : IsNumeralModel (λ ds. list_all is_digit ds ≡ true) (digits_value 10)
-own = numerals_by_value (λ ds. list_all is_digit ds ≡ true) (search rules)
+pub digits_model : IsNumeralModel (λ ds. list_all is_digit ds ≡ true) (digits_value 10)
+digits_model = numerals_by_value (λ ds. list_all is_digit ds ≡ true) (search rules)
 
 both : (a b : Bool) → a && b ≡ true → (a ≡ true) × (b ≡ true)
 both true b e = (refl, e)
@@ -44,7 +44,7 @@ pub parsed : {E : Type 0} (word text : List ℕ) (r : Result ℕ E) (o : Option 
 unfolding numeral_value
 parsed {E = E} word text r o same numeral p e =
     let digits = digits_of word numeral in
-    e ∙ by r (parse_digits own 64 word r (subst (λ (t : List ℕ). ParsesUnsigned 64 10 t r) same p) digits.0)
+    e ∙ by r (parse_digits digits_model 64 word r (subst (λ (t : List ℕ). ParsesUnsigned 64 10 t r) same p) digits.0)
     ∙ sym (ap (λ (b : Bool). cond (b && ltb v 18446744073709551616) (Some v) None) numeral)
   where
     v : ℕ

@@ -2,8 +2,8 @@
 
 ghost use Rattle.std.specs.Prelude.{◌≡◌, None, Some, IfOk, MatchOption, if◌then◌else◌, take, drop, length, true, false};
 ghost use Rattle.std.specs.Str.{bytes_eq};
-ghost use Rattle.nr_script.specs.Forms.{IsAdded, at_sign, dot, given, given_form, form_in, lengths_in, nothing_offered, numbered_program, offer_by, offer_in, part_in, position_by, program_in, read_part, reply_part, semicolon, write_lengths_in, write_part};
-ghost use Rattle.nr_script.specs.Words.{parts};
+ghost use Rattle.nr_texts.specs.Forms.{IsAdded, at_sign, dot, given, given_form, form_in, lengths_in, nothing_offered, numbered_program, offer_by, offer_in, part_in, position_by, program_in, read_part, reply_part, semicolon, write_lengths_in, write_part};
+ghost use Rattle.nr_texts.specs.Words.{parts};
 
 use crate::program::Program;
 use crate::words::{cut, is, number_in, two_parts};
@@ -183,9 +183,13 @@ fn given_form(alloc: Global, word: &[u8]) -> Result<Option<Form>, Memory>
     }
 }
 
-/// The form of a call line.
+/// The form of a call (RFC 8166 section 3.5) that a word names.
+///
+/// # Errors
+///
+/// [`Memory`] if memory ran out.
 #[tactic(auto, unfolding(crate::specs::Forms::form_in))]
-pub(crate) fn form_in(alloc: Global, word: &[u8]) -> Result<Option<Form>, Memory>
+pub fn form_in(alloc: Global, word: &[u8]) -> Result<Option<Form>, Memory>
     ensures { IfOk result (λ form. form ≡ form_in word.now) }
 {
     if is(word, b"auto") {
@@ -201,8 +205,8 @@ pub(crate) fn form_in(alloc: Global, word: &[u8]) -> Result<Option<Form>, Memory
     }
 }
 
-/// `PROG.VERS`.
-fn numbered_program(word: &[u8]) -> Option<Program>
+/// `PROG.VERS`: the number of a program and its version.
+pub fn numbered_program(word: &[u8]) -> Option<Program>
     ensures { result ≡ numbered_program (parts dot word.now) }
 {
     let (prog, vers) = two_parts(b'.', word)?;
@@ -211,9 +215,9 @@ fn numbered_program(word: &[u8]) -> Option<Program>
     Some(Program { prog, vers })
 }
 
-/// The program of a call line.
+/// The program of a call: `nfs`, `mnt` or `PROG.VERS`.
 #[tactic(auto, unfolding(crate::specs::Forms::program_in))]
-pub(crate) fn program_in(word: &[u8]) -> Option<Program>
+pub fn program_in(word: &[u8]) -> Option<Program>
     ensures { result ≡ program_in word.now }
 {
     if is(word, b"nfs") {

@@ -3,19 +3,19 @@
 ghost use Rattle.std.specs.Prelude.{◌≡◌, ℕ, ◌<◌, ◌≤◌, ◌∷◌, ◌^◌, [], length, true, None, Some, IfOk, MatchOption, IfSome, ◌==◌, if◌then◌else◌, ◌&&◌, nat_lt};
 ghost use Rattle.std.specs.List.{list_all, position};
 ghost use Rattle.std.specs.Str.{bytes_eq};
-ghost use Rattle.nr_script.specs.private.Pieces.{texts, parts_left, pair_of};
-ghost use Rattle.nr_script.specs.Limits.{number_max};
-ghost use Rattle.nr_script.specs.Words.{parts, is_digit, is_numeral, numeral_value, number_within, number_in, bytes_in, arguments_in};
+ghost use Rattle.nr_texts.specs.Pieces.{texts, parts_left, pair_of};
+ghost use Rattle.nr_texts.specs.Limits.{number_max};
+ghost use Rattle.nr_texts.specs.Words.{parts, is_digit, is_numeral, numeral_value, number_within, number_in, bytes_in, arguments_in, one_number, two_numbers};
 
 use hex::FromHexError;
 use nr_xdr::{Memory, Octets};
 use std::alloc::Global;
 
-/// The maximum of a number of a script, if it isn't said otherwise.
+/// The maximum of a number of a text, if it isn't said otherwise.
 pub const NUMBER_MAX: u32 = 4_294_967_295;
 
 /// Whether a word is this name.
-pub(crate) fn is(word: &[u8], name: &[u8]) -> bool
+pub fn is(word: &[u8], name: &[u8]) -> bool
     ensures { result ≡ bytes_eq word.now name.now }
 {
     word == name
@@ -29,7 +29,7 @@ fn place_of(character: u8, text: &[u8]) -> Option<usize>
 }
 
 /// The part of a text before a character, and the text after it, if there is one.
-pub(crate) fn cut(character: u8, text: &[u8]) -> (&[u8], Option<&[u8]>)
+pub fn cut(character: u8, text: &[u8]) -> (&[u8], Option<&[u8]>)
     ensures parts { parts character text.now ≡ result.0.now ∷ parts_left character result.1 }
     ensures shorter { IfSome result.1 (λ rest. length rest.now < length text.now) }
 {
@@ -41,8 +41,8 @@ pub(crate) fn cut(character: u8, text: &[u8]) -> (&[u8], Option<&[u8]>)
     (part, Some(rest))
 }
 
-/// The two parts of a text that has the character once.
-pub(crate) fn two_parts(character: u8, text: &[u8]) -> Option<(&[u8], &[u8])>
+/// The two parts of a text that has the character once; else there are none.
+pub fn two_parts(character: u8, text: &[u8]) -> Option<(&[u8], &[u8])>
     ensures { MatchOption result (pair_of (parts character text.now) ≡ None) (λ p. parts character text.now ≡ p.0.now ∷ p.1.now ∷ []) }
 {
     let (first, rest) = cut(character, text);
@@ -53,7 +53,12 @@ pub(crate) fn two_parts(character: u8, text: &[u8]) -> Option<(&[u8], &[u8])>
     }
 }
 
-pub(crate) fn words_of(alloc: Global, line: &[u8]) -> Result<Vec<&[u8]>, Memory>
+/// The words of a line, which are separated by one space each. A line without a space is one word.
+///
+/// # Errors
+///
+/// [`Memory`] if memory ran out.
+pub fn words_of(alloc: Global, line: &[u8]) -> Result<Vec<&[u8]>, Memory>
     ensures { IfOk result (λ words. texts words.items ≡ parts 32 line.now) }
 {
     let mut words = Vec::new(alloc);
@@ -111,8 +116,8 @@ pub fn number_within(low: u64, high: u64, word: &[u8]) -> Option<u64>
     }
 }
 
-/// A number of 32 bits.
-pub(crate) fn number_in(word: &[u8]) -> Option<u32>
+/// The number of 32 bits that a word spells as of [`number_within`].
+pub fn number_in(word: &[u8]) -> Option<u32>
     ensures { result ≡ number_in word.now }
 {
     match number_within(0, u64::from(NUMBER_MAX), word) {
@@ -121,9 +126,13 @@ pub(crate) fn number_in(word: &[u8]) -> Option<u32>
     }
 }
 
-/// One byte or more, in hexadecimal of either case.
+/// One byte or more, in hexadecimal digits of either case.
+///
+/// # Errors
+///
+/// [`Memory`] if memory ran out.
 #[tactic(auto, unfolding(crate::specs::Words::bytes_in))]
-pub(crate) fn bytes_in(alloc: Global, word: &[u8]) -> Result<Option<Octets>, Memory>
+pub fn bytes_in(alloc: Global, word: &[u8]) -> Result<Option<Octets>, Memory>
     ensures { IfOk result (λ bytes. bytes ≡ bytes_in word.now) }
 {
     if word.is_empty() {
@@ -137,13 +146,41 @@ pub(crate) fn bytes_in(alloc: Global, word: &[u8]) -> Result<Option<Octets>, Mem
 }
 
 /// The same, or `-` for no bytes.
+///
+/// # Errors
+///
+/// [`Memory`] if memory ran out.
 #[tactic(auto, unfolding(crate::specs::Words::arguments_in))]
-pub(crate) fn arguments_in(alloc: Global, word: &[u8]) -> Result<Option<Octets>, Memory>
+pub fn arguments_in(alloc: Global, word: &[u8]) -> Result<Option<Octets>, Memory>
     ensures { IfOk result (λ bytes. bytes ≡ arguments_in word.now) }
 {
     if is(word, b"-") {
         Ok(Some(Octets::new(alloc)))
     } else {
         bytes_in(alloc, word)
+    }
+}
+
+/// Two numbers of 32 bits, and nothing else.
+pub fn two_numbers(words: &[&[u8]]) -> Option<(u32, u32)>
+    ensures { result ≡ two_numbers (texts words.now) }
+{
+    match words {
+        [first, second] => {
+            let first = number_in(first)?;
+            let second = number_in(second)?;
+            Some((first, second))
+        }
+        _ => None,
+    }
+}
+
+/// One number of 32 bits, and nothing else.
+pub fn one_number(words: &[&[u8]]) -> Option<u32>
+    ensures { result ≡ one_number (texts words.now) }
+{
+    match words {
+        [word] => number_in(word),
+        _ => None,
     }
 }

@@ -4,13 +4,20 @@ use Rattle.std.specs.List.{list_all, slice_split}
 use Rattle.std.specs.Str.{bytes_eq}
 use Rattle.std.specs.Str.Parse.{digits_value}
 use Rattle.hex.specs.Hex.{decode_of}
-use Rattle.nr_script.specs.Limits.{number_max}
+use Rattle.nr_texts.specs.Limits.{number_max}
 
 -- what follows from a value, if one is read
 infixl 10 ◌>>=◌
 abbrev pub ◌>>=◌ : {A B : Type 0} → Option A → (A → Option B) → Option B
 (Some x) >>= f = f x
 None >>= f = None
+
+-- what ends a line, and what separates its words
+abbrev pub newline : ℕ
+newline = 10
+
+abbrev pub space : ℕ
+space = 32
 
 -- the parts of a text between the occurrences of a character
 abbrev pub parts : ℕ → List ℕ → List (List ℕ)
@@ -64,3 +71,12 @@ bytes_in (digit ∷ others) = decoded (decode_of (digit ∷ others))
 -- the same, or `-` for no bytes
 unfoldable pub arguments_in : List ℕ → Option (List ℕ)
 arguments_in word = if bytes_eq word (codes "-") then Some [] else bytes_in word
+
+-- one number alone, or two
+abbrev pub one_number : List (List ℕ) → Option ℕ
+one_number (word ∷ []) = number_in word
+one_number words = None
+
+abbrev pub two_numbers : List (List ℕ) → Option (ℕ × ℕ)
+two_numbers (first ∷ second ∷ []) = number_in first >>= λ n. number_in second >>= λ m. Some (n, m)
+two_numbers words = None
