@@ -65,7 +65,7 @@ written_at opened link run left ends.Memory other cause = absurd (other refl)
 
 -- parameters of a link whose server grants these credits and has these units
 abbrev pub with_credits : ℕ → ℕ → LinkParameters
-with_credits credits units = record { first_xid = 1; first_stag = 1; wished = 1; granted = credits; client = default_terms; server = sized_terms units }
+with_credits credits units = record { first_xid = 1; first_stag = 1; wished = 1; granted = credits; receives = credits; client = default_terms; server = sized_terms units }
 
 module _ (terms : Terms) (link : ℕ) (before now : Outside) (ahead : List ℕ) (more : List Moment) (run : List Mark) (r : Runs terms link before now ahead more run)
     (all : (opened : LinkParameters) → ServerOpened opened terms.credits (sized_terms terms.units) → HasWritten opened link Responder run) where
