@@ -185,16 +185,14 @@ appended_within for_send for_response others spare more left q bytes le fits n =
 one_more : (each n y : ℕ) (ends : List ℕ) → n < y → each * length (ends_left n (ends ++ y ∷ [])) ≡ each * length (ends_left n ends) + each
 one_more each n y ends lt = ap (λ (k : ℕ). each * k) (count_more n y ends lt) ∙ omega arith
 
--- RDMA Writes and a Send
-pub send_within : (for_send for_response others spare more left : ℕ) (q : SendQueue) (writes message : List ℕ) → length writes + length (send_output (with_fpdus writes q) message) + left + others ≤ for_send + spare + more → left ≤ more →
-    QueueWithin for_send for_response others spare q → QueueWithin for_send for_response more left (with_send message (with_fpdus writes q))
-send_within for_send for_response others spare more left q writes message le fewer fits n =
-    let front : List ℕ = q.fpdus ++ writes in
-    let out : List ℕ = send_output (with_fpdus writes q) message in
-    let all = length-append front out in
-    let first = length-append q.fpdus writes in
-    elim (cases_lt n (length (front ++ out))) [
-      | inl kept ↦ omega (arith, le, all, first, fits n, one_more for_send n (length (front ++ out)) q.send_ends kept)
+-- a Send
+pub send_within : (for_send for_response others spare more left : ℕ) (q : SendQueue) (message : List ℕ) → length (send_output q message) + left + others ≤ for_send + spare + more → left ≤ more → QueueWithin for_send for_response others spare q →
+    QueueWithin for_send for_response more left (with_send message q)
+send_within for_send for_response others spare more left q message le fewer fits n =
+    let out : List ℕ = send_output q message in
+    let all = length-append q.fpdus out in
+    elim (cases_lt n (length (q.fpdus ++ out))) [
+      | inl kept ↦ omega (arith, le, all, fits n, one_more for_send n (length (q.fpdus ++ out)) q.send_ends kept)
       | inr gone ↦ omega (arith, gone, fewer)
     ]
 

@@ -1,5 +1,5 @@
 use Rattle.std.proofs.Common.{ℕ, List, ap, length, arith}
-use Rattle.nr_endpoint.proofs.OutputPieces.{at_most, some_piece}
+use Rattle.nr_endpoint.proofs.OutputPieces.{at_most}
 use Rattle.nr_endpoint.proofs.output.Pieces.count.Goals as goal
 
 pub returns-clause-most : goal.returns-clause-most
