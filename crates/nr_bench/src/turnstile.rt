@@ -3,7 +3,10 @@
 
 use crate::jobs::{Kind, run};
 use crate::words::number;
+use std::alloc::Global;
 use std::env::Args;
+use std::sync::Wait;
+use std::thread::Threads;
 
 fn kind(words: &mut Args) -> Option<Kind> {
     match words.next()?.as_str() {
@@ -14,9 +17,13 @@ fn kind(words: &mut Args) -> Option<Kind> {
 }
 
 /// Takes the words, and gives how often was added.
-pub fn measure(rt: HostRuntime, words: &mut Args) -> Option<u64> {
+pub fn measure<R: Threads + Wait + Copy + Send + 'static>(
+    rt: R,
+    alloc: Global,
+    words: &mut Args,
+) -> Option<u64> {
     let kind = kind(words)?;
     let threads = number(words)?;
     let times = number(words)?;
-    run(rt, rt.alloc(), kind, threads, times)
+    run(rt, alloc, kind, threads, times)
 }

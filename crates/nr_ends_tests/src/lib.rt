@@ -4,8 +4,6 @@
 #![tactic(auto)]
 
 #[cfg(test)]
-mod accesses;
-#[cfg(test)]
 mod calls;
 #[cfg(test)]
 mod chunks;
@@ -13,8 +11,6 @@ mod chunks;
 mod compare;
 #[cfg(test)]
 mod given_up;
-#[cfg(test)]
-mod hellos;
 #[cfg(test)]
 mod link;
 #[cfg(test)]
