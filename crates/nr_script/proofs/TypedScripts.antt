@@ -12,10 +12,10 @@ use Rattle.nr_outside.specs.Whole.{input_max}
 use Rattle.nr_texts.specs.declared.opening.Opening.{Opening}
 use Rattle.nr_texts.specs.declared.program.Program.{Program}
 use Rattle.nr_texts.specs.Limits.{clients_max}
-use Rattle.nr_texts.specs.Words.{◌>>=◌, number_in, bytes_in, arguments_in, parts, one_number, two_numbers, space, newline}
+use Rattle.nr_texts.specs.Words.{◌>>=◌, IsWord, number_in, bytes_in, arguments_in, parts, one_number, two_numbers, space, newline}
 use Rattle.nr_texts.specs.Forms.{form_in, program_in, HasWordPosition}
 use Rattle.nr_texts.specs.Openings.{opening_in, sys_cred, IsOpening}
-use Rattle.nr_texts.proofs.TypedTexts.{If, then_if, if_if, IsSmall, IsAny, any_if, small_if, bytes_if, arguments_if, form_if, ProgramSmall, program_if, PairSmall, two_if, opening_if}
+use Rattle.nr_texts.proofs.TypedTexts.{If, then_if, if_if, all_more, IsAny, any_if, small_if, bytes_if, arguments_if, form_if, ProgramSmall, program_if, PairSmall, two_if, opening_if}
 use Rattle.nr_script.specs.declared.script.Line.{Line}
 use Rattle.nr_script.specs.declared.script.Line.TheVariants as lines
 use Rattle.nr_script.specs.Lines.{sys_line, cred_line_of, cred_line, target_in, call_with, call_line, client_line, number_line, side_in, raw_line, drain_line, later_line, plain_line, line_named, line_in}
@@ -29,7 +29,7 @@ use Rattle.nr_script.proofs.ByteLists.{decided}
 abbrev LineIsRight : Line → Type 0
 LineIsRight line = IsTypedLine line × HasWritableCred line
 
-sys_right : (client uid gid : ℕ) → IsSmall uid → IsSmall gid → LineIsRight (lines.Cred client (sys_cred uid gid))
+sys_right : (client uid gid : ℕ) → IsWord uid → IsWord gid → LineIsRight (lines.Cred client (sys_cred uid gid))
 sys_right client uid gid u g = ((decided (codes "drill") refl, (omega arith, (omega arith, (u, (g, (omega arith, tt)))))), (omega arith, omega arith))
 
 sys_if : (client : ℕ) (words : List (List ℕ)) → If LineIsRight (sys_line client words)
@@ -45,13 +45,13 @@ cred_if [] = tt
 cred_if (client ∷ others) = then_if IsAny LineIsRight (number_in client) (λ c. cred_line_of c others) (any_if (number_in client)) (λ c any. cred_of_if c others)
 
 abbrev TargetSmall : ℕ × Program × ℕ → Type 0
-TargetSmall t = IsSmall t.1.prog × IsSmall t.1.vers × IsSmall t.2
+TargetSmall t = IsWord t.1.prog × IsWord t.1.vers × IsWord t.2
 
 target_if : (client program proc : List ℕ) → If TargetSmall (target_in client program proc)
 target_if client program proc =
     then_if IsAny TargetSmall (number_in client) (λ c. program_in program >>= λ p. number_in proc >>= λ n. Some (c, p, n)) (any_if (number_in client))
     (λ c any. then_if ProgramSmall TargetSmall (program_in program) (λ p. number_in proc >>= λ n. Some (c, p, n)) (program_if program)
-    (λ p small. then_if IsSmall TargetSmall (number_in proc) (λ n. Some (c, p, n)) (small_if proc) (λ n fits. (small.0, small.1, fits))))
+    (λ p small. then_if IsWord TargetSmall (number_in proc) (λ n. Some (c, p, n)) (small_if proc) (λ n fits. (small.0, small.1, fits))))
 
 call_if : (words : List (List ℕ)) → If LineIsRight (call_line words)
 call_if [] = tt
@@ -117,10 +117,6 @@ follow_more : (opening : Opening) (before all : List Line) (line : Line) → may
 follow_more opening before [] line e h = (subst (λ (b : List Line). may_follow opening b line ≡ true) (append-nil before) e, tt)
 follow_more opening before (l ∷ all) line e h =
     (h.0, follow_more opening (before ++ l ∷ []) all line (subst (λ (b : List Line). may_follow opening b line ≡ true) (sym (append_assoc before (l ∷ []) all)) e) h.1)
-
-all_more : (P : Line → Type 0) (all : List Line) (line : Line) → AllByRecursion P all → P line → AllByRecursion P (all ++ line ∷ [])
-all_more P [] line h p = (p, tt)
-all_more P (l ∷ all) line h p = (h.0, all_more P all line h.1 p)
 
 -- a script that is being read, but for its number of lines
 record IsRead (script : ScriptLines) : Type 0 where

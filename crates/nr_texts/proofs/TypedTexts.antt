@@ -1,11 +1,13 @@
 -- What is read of words is of its types: a number is a word, bytes are bytes, and the numbers of a first line are in range.
-use Rattle.std.specs.Prelude.{◌&&◌, codes, is_none, length, take, drop}
+use Rattle.std.specs.Prelude.{◌&&◌, ◌==◌, codes, is_none, length, take, drop}
+use Rattle.std.specs.List.{AllByRecursion}
 use Rattle.std.specs.Str.{bytes_eq}
-use Rattle.std.proofs.Common.{◌≡◌, ℕ, ◌^◌, ◌≤◌, ◌<◌, Bool, true, false, cond, leb, leb-true, List, [], ◌∷◌, Option, None, Some, Result, Ok, Err, refl, arith}
+use Rattle.std.proofs.Common.{◌≡◌, ℕ, ◌^◌, ◌≤◌, ◌<◌, Bool, true, false, cond, leb, leb-true, List, [], ◌∷◌, ◌++◌, Option, None, Some, Result, Ok, Err, refl, arith}
 use Rattle.nr_xdr.specs.Item.{IsBytes}
 use Rattle.hex.specs.Hex.{decode_of}
 use Rattle.hex.proofs.HexLemmas.{decode_of-ok}
 use Rattle.nr_nfs_base.specs.Procedures.{nfs_program, nfs_version, mount_program, mount_version}
+use Rattle.nr_reduce.specs.declared.call.Form.{Form}
 use Rattle.nr_reduce.specs.declared.call.Form.TheVariants as forms
 use Rattle.nr_reduce.specs.declared.call.Offer.{Offer}
 use Rattle.nr_wire.specs.Constants.{UNITS_MAX}
@@ -13,9 +15,10 @@ use Rattle.nr_reduce.specs.Limits.{credits_max}
 use Rattle.nr_texts.specs.declared.opening.Opening.{Opening}
 use Rattle.nr_texts.specs.declared.program.Program.{Program}
 use Rattle.nr_texts.specs.Limits.{clients_max, number_max, default_capacity, capacity_max}
-use Rattle.nr_texts.specs.Words.{◌>>=◌, is_numeral, numeral_value, number_within, number_in, decoded, bytes_in, arguments_in, parts, two_numbers}
-use Rattle.nr_texts.specs.Forms.{OfferPart, semicolon, equals, at_sign, dot, lengths_in, write_lengths_in, position_by, read_part, write_part, reply_part, named_part, part_by, part_in, nothing_offered, with_part, offer_by, offer_in, given, given_form, form_in, numbered_program, program_in, HasWordPosition}
+use Rattle.nr_texts.specs.Words.{◌>>=◌, IsWord, is_numeral, numeral_value, number_within, number_in, each_read, decoded, bytes_in, arguments_in, parts, two_numbers}
+use Rattle.nr_texts.specs.Forms.{OfferPart, comma, semicolon, equals, at_sign, dot, lengths_in, write_lengths_in, position_by, read_part, write_part, reply_part, named_part, part_by, part_in, nothing_offered, with_part, offer_by, offer_in, given, given_form, form_in, numbered_program, program_in, HasWordPosition, IsPosition, IsWritableOffer, IsWritableForm}
 use Rattle.nr_texts.specs.Forms.OfferPart.{Read, Write, Reply}
+use Rattle.nr_texts.proofs.Pieces.{split}
 use Rattle.nr_texts.specs.Openings.{capacity_in, sizes_of, sizes_in, opening_of, opening_in, IsOpening}
 
 abbrev pub If : {A : Type 0} → (A → Type 0) → Option A → Type 0
@@ -35,6 +38,10 @@ pub if_if : {A : Type 0} (P : A → Type 0) (b : Bool) (x y : Option A) → If P
 if_if P true x y h g = h
 if_if P false x y h g = g
 
+pub all_more : {A : Type 0} (P : A → Type 0) (all : List A) (last : A) → AllByRecursion P all → P last → AllByRecursion P (all ++ last ∷ [])
+all_more P [] last h p = (p, tt)
+all_more P (x ∷ all) last h p = (h.0, all_more P all last h.1 p)
+
 -- ===== words
 
 within_if : (low high : ℕ) (word : List ℕ) → If (λ n. (low ≤ n) × (n ≤ high)) (number_within low high word)
@@ -50,24 +57,31 @@ within_if low high word = by (is_numeral word && (leb low v && leb v high)) refl
         (leb-true low v parts.0, leb-true v high parts.1)
     by false is = tt
 
-abbrev pub IsSmall : ℕ → Type 0
-IsSmall n = n < 2 ^ 32
-
-pub small_if : (word : List ℕ) → If IsSmall (number_in word)
+pub small_if : (word : List ℕ) → If IsWord (number_in word)
 small_if word = by (number_in word) (within_if 0 number_max word)
   where
-    by : (o : Option ℕ) → If (λ n. (0 ≤ n) × (n ≤ number_max)) o → If IsSmall o
+    by : (o : Option ℕ) → If (λ n. (0 ≤ n) × (n ≤ number_max)) o → If IsWord o
     by None h = tt
     by (Some n) h = (let le = h.1 in omega (arith, le))
 
-pub bytes_if : (word : List ℕ) → If IsBytes (bytes_in word)
+abbrev pub IsSomeBytes : List ℕ → Type 0
+IsSomeBytes bytes = (0 < length bytes) × IsBytes bytes
+
+pub some_bytes_if : (word : List ℕ) → If IsSomeBytes (bytes_in word)
 unfolding bytes_in
-bytes_if [] = tt
-bytes_if (digit ∷ others) = by (decode_of (digit ∷ others)) refl
+some_bytes_if [] = tt
+some_bytes_if (digit ∷ others) = by (decode_of (digit ∷ others)) refl
   where
-    by : (r : Result (List ℕ) _) → decode_of (digit ∷ others) ≡ r → If IsBytes (decoded r)
-    by (Ok bytes) is = (decode_of-ok (digit ∷ others) bytes is).3
+    by : (r : Result (List ℕ) _) → decode_of (digit ∷ others) ≡ r → If IsSomeBytes (decoded r)
+    by (Ok bytes) is = let ok = decode_of-ok (digit ∷ others) bytes is in (let len = ok.2 in omega (arith, len), ok.3)
     by (Err fault) is = tt
+
+pub bytes_if : (word : List ℕ) → If IsBytes (bytes_in word)
+bytes_if word = by (bytes_in word) (some_bytes_if word)
+  where
+    by : (o : Option (List ℕ)) → If IsSomeBytes o → If IsBytes o
+    by None h = tt
+    by (Some bytes) h = h.1
 
 pub arguments_if : (word : List ℕ) → If IsBytes (arguments_in word)
 unfolding arguments_in
@@ -75,10 +89,16 @@ arguments_if word = if_if IsBytes (bytes_eq word (codes "-")) (Some []) (bytes_i
 
 -- ===== forms
 
-abbrev PartSmall : OfferPart → Type 0
-PartSmall (Read at lengths) = IsSmall at
-PartSmall (Write lengths) = Unit {0}
-PartSmall (Reply lengths) = Unit {0}
+abbrev AreLengths : List ℕ → Type 0
+AreLengths lengths = AllByRecursion IsWord lengths
+
+abbrev AreSome : List ℕ → Type 0
+AreSome lengths = (0 < length lengths) × AreLengths lengths
+
+abbrev PartFits : OfferPart → Type 0
+PartFits (Read at lengths) = IsWord at × AreSome lengths
+PartFits (Write lengths) = AreLengths lengths
+PartFits (Reply lengths) = AreSome lengths
 
 abbrev pub IsAny : {A : Type 0} → A → Type 0
 IsAny x = Unit {0}
@@ -87,73 +107,115 @@ pub any_if : {A : Type 0} (o : Option A) → If IsAny o
 any_if None = tt
 any_if (Some x) = tt
 
-position_if : (words : List (List ℕ)) → If IsSmall (position_by words)
+each_if : (texts : List (List ℕ)) → If AreLengths (each_read number_in texts)
+each_if [] = tt
+each_if (text ∷ texts) =
+    then_if IsWord AreLengths (number_in text) (λ n. each_read number_in texts >>= λ ns. Some (n ∷ ns)) (small_if text)
+    (λ n h. then_if AreLengths AreLengths (each_read number_in texts) (λ ns. Some (n ∷ ns)) (each_if texts) (λ ns all. (h, all)))
+
+some_if : (text : List ℕ) (texts : List (List ℕ)) → If AreSome (each_read number_in (text ∷ texts))
+some_if text texts =
+    then_if IsWord AreSome (number_in text) (λ n. each_read number_in texts >>= λ ns. Some (n ∷ ns)) (small_if text)
+    (λ n h. then_if AreLengths AreSome (each_read number_in texts) (λ ns. Some (n ∷ ns)) (each_if texts) (λ ns all. (omega arith, (h, all))))
+
+lengths_if : (text : List ℕ) → If AreSome (lengths_in text)
+unfolding lengths_in
+lengths_if text = let s = split (λ c. c == comma) text in rw (s.is) (some_if s.first s.others)
+
+write_lengths_if : (text : List ℕ) → If AreLengths (write_lengths_in text)
+write_lengths_if [] = tt
+write_lengths_if (c ∷ others) = by (lengths_in (c ∷ others)) (lengths_if (c ∷ others))
+  where
+    by : (o : Option (List ℕ)) → If AreSome o → If AreLengths o
+    by None h = tt
+    by (Some lengths) h = h.1
+
+position_if : (words : List (List ℕ)) → If IsWord (position_by words)
 position_if [] = tt
 position_if (name ∷ []) = tt
-position_if (name ∷ position ∷ []) = if_if IsSmall (bytes_eq name (codes "read")) (number_in position) None (small_if position) tt
+position_if (name ∷ position ∷ []) = if_if IsWord (bytes_eq name (codes "read")) (number_in position) None (small_if position) tt
 position_if (name ∷ position ∷ more ∷ others) = tt
 
-read_if : (words : List (List ℕ)) (text : List ℕ) → If PartSmall (read_part words text)
+read_if : (words : List (List ℕ)) (text : List ℕ) → If PartFits (read_part words text)
 read_if words text =
-    then_if IsSmall PartSmall (position_by words) (λ at. lengths_in text >>= λ lengths. Some (Read at lengths)) (position_if words)
-    (λ at small. then_if IsAny PartSmall (lengths_in text) (λ lengths. Some (Read at lengths)) (any_if (lengths_in text)) (λ lengths any. small))
+    then_if IsWord PartFits (position_by words) (λ at. lengths_in text >>= λ lengths. Some (Read at lengths)) (position_if words)
+    (λ at small. then_if AreSome PartFits (lengths_in text) (λ lengths. Some (Read at lengths)) (lengths_if text) (λ lengths fit. (small, fit)))
 
-named_if : (name text : List ℕ) → If PartSmall (named_part name text)
+named_if : (name text : List ℕ) → If PartFits (named_part name text)
 named_if name text =
-    if_if PartSmall (bytes_eq name (codes "write")) (write_part text) _
-    (then_if IsAny PartSmall (write_lengths_in text) (λ lengths. Some (Write lengths)) (any_if (write_lengths_in text)) (λ lengths any. tt))
-    (if_if PartSmall (bytes_eq name (codes "reply")) (reply_part text) (read_part (parts at_sign name) text)
-    (then_if IsAny PartSmall (lengths_in text) (λ lengths. Some (Reply lengths)) (any_if (lengths_in text)) (λ lengths any. tt)) (read_if (parts at_sign name) text))
+    if_if PartFits (bytes_eq name (codes "write")) (write_part text) _
+    (then_if AreLengths PartFits (write_lengths_in text) (λ lengths. Some (Write lengths)) (write_lengths_if text) (λ lengths fit. fit))
+    (if_if PartFits (bytes_eq name (codes "reply")) (reply_part text) (read_part (parts at_sign name) text)
+    (then_if AreSome PartFits (lengths_in text) (λ lengths. Some (Reply lengths)) (lengths_if text) (λ lengths fit. fit)) (read_if (parts at_sign name) text))
 
-part_by_if : (words : List (List ℕ)) → If PartSmall (part_by words)
+part_by_if : (words : List (List ℕ)) → If PartFits (part_by words)
 part_by_if [] = tt
 part_by_if (name ∷ []) = tt
 part_by_if (name ∷ text ∷ []) = named_if name text
 part_by_if (name ∷ text ∷ more ∷ others) = tt
 
-part_if : (text : List ℕ) → If PartSmall (part_in text)
+part_if : (text : List ℕ) → If PartFits (part_in text)
 unfolding part_in
 part_if text = part_by_if (parts equals text)
 
-abbrev OfferSmall : Offer → Type 0
-OfferSmall offer = IsSmall offer.read_at
-
-with_if : (offer : Offer) (part : OfferPart) → OfferSmall offer → PartSmall part → If OfferSmall (with_part offer part)
+with_if : (offer : Offer) (part : OfferPart) → IsWritableOffer offer → PartFits part → If IsWritableOffer (with_part offer part)
 with_if offer (Read at lengths) h p =
-    if_if OfferSmall (is_none offer.read && (is_none offer.write && is_none offer.reply)) (Some (record offer { read_at = at; read = Some lengths })) None p tt
-with_if offer (Write lengths) h p = if_if OfferSmall (is_none offer.write && is_none offer.reply) (Some (record offer { write = Some lengths })) None h tt
-with_if offer (Reply lengths) h p = if_if OfferSmall (is_none offer.reply) (Some (record offer { reply = Some lengths })) None h tt
+    if_if IsWritableOffer (is_none offer.read && (is_none offer.write && is_none offer.reply)) (Some (record offer { read_at = at; read = Some lengths })) None
+    (record { position = p.0; read = p.1; write = h.write; reply = h.reply }) tt
+with_if offer (Write lengths) h p =
+    if_if IsWritableOffer (is_none offer.write && is_none offer.reply) (Some (record offer { write = Some lengths })) None
+    (record { position = h.position; read = h.read; write = p; reply = h.reply }) tt
+with_if offer (Reply lengths) h p =
+    if_if IsWritableOffer (is_none offer.reply) (Some (record offer { reply = Some lengths })) None (record { position = h.position; read = h.read; write = h.write; reply = p }) tt
 
-by_if : (offer : Offer) (texts : List (List ℕ)) → OfferSmall offer → If OfferSmall (offer_by offer texts)
+by_if : (offer : Offer) (texts : List (List ℕ)) → IsWritableOffer offer → If IsWritableOffer (offer_by offer texts)
 by_if offer [] h = h
 by_if offer (text ∷ others) h =
-    then_if PartSmall OfferSmall (part_in text) (λ part. with_part offer part >>= λ more. offer_by more others) (part_if text)
-    (λ part p. then_if OfferSmall OfferSmall (with_part offer part) (λ more. offer_by more others) (with_if offer part h p) (λ more m. by_if more others m))
+    then_if PartFits IsWritableOffer (part_in text) (λ part. with_part offer part >>= λ more. offer_by more others) (part_if text)
+    (λ part p. then_if IsWritableOffer IsWritableOffer (with_part offer part) (λ more. offer_by more others) (with_if offer part h p) (λ more m. by_if more others m))
 
-offer_if : (text : List ℕ) → If OfferSmall (offer_in text)
+nothing_right : IsWritableOffer nothing_offered
+nothing_right = record { position = refl; read = tt; write = tt; reply = tt }
+
+offer_if : (text : List ℕ) → If IsWritableOffer (offer_in text)
 unfolding offer_in
-offer_if [] = omega arith
-offer_if (c ∷ others) = by_if nothing_offered (parts semicolon (c ∷ others)) (omega arith)
+offer_if [] = nothing_right
+offer_if (c ∷ others) = by_if nothing_offered (parts semicolon (c ∷ others)) nothing_right
+
+pub writable_form_if : (word : List ℕ) → If IsWritableForm (form_in word)
+unfolding form_in
+writable_form_if word =
+    if_if IsWritableForm (bytes_eq word (codes "auto")) (Some forms.Auto) _ tt
+    (if_if IsWritableForm (bytes_eq word (codes "inline")) (Some forms.Inline) _ tt
+    (if_if IsWritableForm (bytes_eq word (codes "chunk")) (Some forms.Chunk) _ tt
+    (if_if IsWritableForm (bytes_eq word (codes "long")) (Some forms.Long) (given_form word) tt
+    (if_if IsWritableForm (bytes_eq (take (length given) word) given) (offer_in (drop (length given) word) >>= λ offer. Some (forms.Given offer)) None
+    (then_if IsWritableOffer IsWritableForm (offer_in (drop (length given) word)) (λ offer. Some (forms.Given offer)) (offer_if (drop (length given) word)) (λ offer h. h)) tt))))
+
+word_position : (offer : Offer) → (read : Option (List ℕ)) → IsPosition read offer.read_at → IsWord offer.read_at
+word_position offer None is = omega (arith, is)
+word_position offer (Some lengths) is = is
 
 pub form_if : (word : List ℕ) → If HasWordPosition (form_in word)
-unfolding form_in
-form_if word =
-    if_if HasWordPosition (bytes_eq word (codes "auto")) (Some forms.Auto) _ tt
-    (if_if HasWordPosition (bytes_eq word (codes "inline")) (Some forms.Inline) _ tt
-    (if_if HasWordPosition (bytes_eq word (codes "chunk")) (Some forms.Chunk) _ tt
-    (if_if HasWordPosition (bytes_eq word (codes "long")) (Some forms.Long) (given_form word) tt
-    (if_if HasWordPosition (bytes_eq (take (length given) word) given) (offer_in (drop (length given) word) >>= λ offer. Some (forms.Given offer)) None
-    (then_if OfferSmall HasWordPosition (offer_in (drop (length given) word)) (λ offer. Some (forms.Given offer)) (offer_if (drop (length given) word)) (λ offer h. h)) tt))))
+form_if word = by (form_in word) (writable_form_if word)
+  where
+    by : (o : Option Form) → If IsWritableForm o → If HasWordPosition o
+    by None h = tt
+    by (Some forms.Auto) h = tt
+    by (Some forms.Inline) h = tt
+    by (Some forms.Chunk) h = tt
+    by (Some forms.Long) h = tt
+    by (Some (forms.Given offer)) h = word_position offer offer.read h.position
 
 abbrev pub ProgramSmall : Program → Type 0
-ProgramSmall p = IsSmall p.prog × IsSmall p.vers
+ProgramSmall p = IsWord p.prog × IsWord p.vers
 
 pub numbered_if : (words : List (List ℕ)) → If ProgramSmall (numbered_program words)
 numbered_if [] = tt
 numbered_if (prog ∷ []) = tt
 numbered_if (prog ∷ vers ∷ []) =
-    then_if IsSmall ProgramSmall (number_in prog) (λ p. number_in vers >>= λ v. Some (record { prog = p; vers = v })) (small_if prog)
-    (λ p small. then_if IsSmall ProgramSmall (number_in vers) (λ v. Some (record { prog = p; vers = v })) (small_if vers) (λ v also. (small, also)))
+    then_if IsWord ProgramSmall (number_in prog) (λ p. number_in vers >>= λ v. Some (record { prog = p; vers = v })) (small_if prog)
+    (λ p small. then_if IsWord ProgramSmall (number_in vers) (λ v. Some (record { prog = p; vers = v })) (small_if vers) (λ v also. (small, also)))
 numbered_if (prog ∷ vers ∷ more ∷ others) = tt
 
 pub program_if : (word : List ℕ) → If ProgramSmall (program_in word)
@@ -163,14 +225,14 @@ program_if word =
     (if_if ProgramSmall (bytes_eq word (codes "mnt")) (Some (record { prog = mount_program; vers = mount_version })) (numbered_program (parts dot word)) (omega arith, omega arith) (numbered_if (parts dot word)))
 
 abbrev pub PairSmall : ℕ × ℕ → Type 0
-PairSmall p = IsSmall p.0 × IsSmall p.1
+PairSmall p = IsWord p.0 × IsWord p.1
 
 pub two_if : (words : List (List ℕ)) → If PairSmall (two_numbers words)
 two_if [] = tt
 two_if (first ∷ []) = tt
 two_if (first ∷ second ∷ []) =
-    then_if IsSmall PairSmall (number_in first) (λ n. number_in second >>= λ m. Some (n, m)) (small_if first)
-    (λ n h. then_if IsSmall PairSmall (number_in second) (λ m. Some (n, m)) (small_if second) (λ m k. (h, k)))
+    then_if IsWord PairSmall (number_in first) (λ n. number_in second >>= λ m. Some (n, m)) (small_if first)
+    (λ n h. then_if IsWord PairSmall (number_in second) (λ m. Some (n, m)) (small_if second) (λ m k. (h, k)))
 two_if (first ∷ second ∷ more ∷ others) = tt
 
 -- ===== the first line

@@ -1,12 +1,13 @@
 -- How a call line says in which form its call is sent, and of which program it is.
-use Rattle.std.specs.Prelude.{ℕ, ◌&&◌, if◌then◌else◌, ◌^◌, ◌<◌, List, [], ◌∷◌, ◌≡◌, Bool, codes, Option, None, Some, is_none, length, take, drop}
+use Rattle.std.specs.Prelude.{ℕ, ◌<◌, ◌&&◌, if◌then◌else◌, List, [], ◌∷◌, ◌≡◌, Bool, codes, Option, None, Some, is_none, length, take, drop}
+use Rattle.std.specs.List.{AllByRecursion}
 use Rattle.std.specs.Str.{bytes_eq}
 use Rattle.nr_nfs_base.specs.Procedures.{nfs_program, nfs_version, mount_program, mount_version}
 use Rattle.nr_reduce.specs.declared.call.Form.{Form}
 use Rattle.nr_reduce.specs.declared.call.Form.TheVariants as forms
 use Rattle.nr_reduce.specs.declared.call.Offer.{Offer}
 use Rattle.nr_texts.specs.declared.program.Program.{Program}
-use Rattle.nr_texts.specs.Words.{◌>>=◌, parts, each_read, number_in}
+use Rattle.nr_texts.specs.Words.{◌>>=◌, IsWord, parts, each_read, number_in}
 
 -- ===== offers that are given
 
@@ -112,7 +113,37 @@ HasWordPosition forms.Auto = Unit {0}
 HasWordPosition forms.Inline = Unit {0}
 HasWordPosition forms.Chunk = Unit {0}
 HasWordPosition forms.Long = Unit {0}
-HasWordPosition (forms.Given offer) = offer.read_at < 2 ^ 32
+HasWordPosition (forms.Given offer) = IsWord offer.read_at
+
+-- ===== forms that a word can say
+
+-- a list of an offer that has segments: one or more
+abbrev pub HasSegments : Option (List ℕ) → Type 0
+HasSegments None = Unit {0}
+HasSegments (Some lengths) = (0 < length lengths) × AllByRecursion IsWord lengths
+
+-- a write chunk may be without segments
+abbrev pub MayHaveSegments : Option (List ℕ) → Type 0
+MayHaveSegments None = Unit {0}
+MayHaveSegments (Some lengths) = AllByRecursion IsWord lengths
+
+-- the position of a read chunk, and 0 if none is offered
+abbrev pub IsPosition : Option (List ℕ) → ℕ → Type 0
+IsPosition None at = at ≡ 0
+IsPosition (Some lengths) at = IsWord at
+
+pub record IsWritableOffer (offer : Offer) : Type 0 where
+  pub position : IsPosition offer.read offer.read_at
+  pub read : HasSegments offer.read
+  pub write : MayHaveSegments offer.write
+  pub reply : HasSegments offer.reply
+
+abbrev pub IsWritableForm : Form → Type 0
+IsWritableForm forms.Auto = Unit {0}
+IsWritableForm forms.Inline = Unit {0}
+IsWritableForm forms.Chunk = Unit {0}
+IsWritableForm forms.Long = Unit {0}
+IsWritableForm (forms.Given offer) = IsWritableOffer offer
 
 -- ===== programs
 

@@ -1,5 +1,5 @@
 -- The words of a line, and the numbers and bytes that words spell.
-use Rattle.std.specs.Prelude.{ℕ, Bool, false, not, ◌==◌, ◌&&◌, nat_le, if◌then◌else◌, List, [], ◌∷◌, codes, Option, None, Some, Result, Ok, Err}
+use Rattle.std.specs.Prelude.{ℕ, ◌^◌, ◌<◌, Bool, false, not, ◌==◌, ◌&&◌, nat_le, if◌then◌else◌, List, [], ◌∷◌, codes, Option, None, Some, Result, Ok, Err}
 use Rattle.std.specs.List.{list_all, slice_split}
 use Rattle.std.specs.Str.{bytes_eq}
 use Rattle.std.specs.Str.Parse.{digits_value}
@@ -56,6 +56,9 @@ number_within low high word =
     if is_numeral word && (nat_le low (numeral_value word) && nat_le (numeral_value word) high) then Some (numeral_value word) else None
 
 -- a number of 32 bits
+abbrev pub IsWord : ℕ → Type 0
+IsWord n = n < 2 ^ 32
+
 abbrev pub number_in : List ℕ → Option ℕ
 number_in word = number_within 0 number_max word
 
