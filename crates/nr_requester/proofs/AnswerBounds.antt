@@ -22,9 +22,9 @@ use Rattle.nr_requester.specs.Buffers.{with_memory}
 use Rattle.nr_requester.specs.Judged.{SameCalls, outcome_by}
 use Rattle.nr_requester.specs.Fed.{CallsSound}
 use Rattle.nr_requester.specs.Views.{IsAnswered, stored_view}
-use Rattle.nr_requester.specs.HeldBytes.{NothingOutside, call_bytes, stored_bytes, outcome_bytes, buffer_len, buffers_len, LinkFits, RegionsHave, AreFrom, CountsFit, unsent, claims_len, claims_total, CallFits, AnswerFits, AreDistinct, RequesterBounds, IsBounded, reply_room}
+use Rattle.nr_requester.specs.HeldBytes.{NothingOutside, call_bytes, stored_bytes, outcome_bytes, buffer_len, buffers_len, LinkFits, IsCount, RegionsHave, AreFrom, CountsFit, unsent, in_bytes, claims_size, claims_len, claims_total, CallFits, AnswerFits, AreDistinct, RequesterBounds, IsBounded, reply_room, segments_offered}
 use Rattle.nr_requester.proofs.ChangedCalls.{nth_of, not_found}
-use Rattle.nr_requester.proofs.RegionBounds.{released_both}
+use Rattle.nr_requester.proofs.RegionBounds.{Both, bytes_count, released_both}
 use Rattle.nr_requester.proofs.AnswerSteps.{all_append}
 use Rattle.nr_requester.proofs.MessageBodies.{one_held}
 
@@ -36,11 +36,11 @@ same_from first [] (y ∷ ys) h a = absurd h
 same_from first (x ∷ xs) [] h a = absurd h
 same_from first (x ∷ xs) (y ∷ ys) h a = (let own : y.xid ≡ x.xid = ap (λ (c : OutstandingCall). c.xid) h.0.0 in let le = a.0 in (omega (arith, own, le), same_from first xs ys h.1 a.1))
 
-same_total : (xs ys : List OutstandingCall) → SameCalls xs ys → claims_total xs ≡ claims_total ys
-same_total [] [] h = refl
-same_total [] (y ∷ ys) h = absurd h
-same_total (x ∷ xs) [] h = absurd h
-same_total (x ∷ xs) (y ∷ ys) h = (let own = ap (λ (c : OutstandingCall). claims_len c.claims) h.0.0 in omega (arith, own, same_total xs ys h.1))
+same_total : (size : ℕ → ℕ) (xs ys : List OutstandingCall) → SameCalls xs ys → claims_total size xs ≡ claims_total size ys
+same_total size [] [] h = refl
+same_total size [] (y ∷ ys) h = absurd h
+same_total size (x ∷ xs) [] h = absurd h
+same_total size (x ∷ xs) (y ∷ ys) h = (let own = ap (λ (c : OutstandingCall). claims_size size c.claims) h.0.0 in omega (arith, own, same_total size xs ys h.1))
 
 same_fit : (len : ℕ) (xs ys : List OutstandingCall) → SameCalls xs ys → AllByRecursion (CallFits len) xs → AllByRecursion (CallFits len) ys
 same_fit len [] [] h a = tt
@@ -50,6 +50,7 @@ same_fit len (x ∷ xs) (y ∷ ys) h a = (
   record {
     call = (let own = ap (λ (c : OutstandingCall). stored_bytes c.call) h.0.0 in let le = a.0.call in omega (arith, own, le));
     offer = (let own = ap (λ (c : OutstandingCall). claims_len c.claims) h.0.0 in let le = a.0.offer in omega (arith, own, le));
+    segments = (let own = ap (λ (c : OutstandingCall). segments_offered c.offered) h.0.0 in let le = a.0.segments in omega (arith, own, le));
     written = h.0.1.1 a.0.written;
     room = h.0.1.0 ∙ (a.0.room ∙ ap (λ (c : OutstandingCall). reply_room len c.offered) (sym h.0.0));
     short = (let own = h.0.1.0 in let le = a.0.short in omega (arith, own, le));
@@ -78,7 +79,7 @@ rooms_bounded len sent first next e xs ys answers h b =
         from = same_from first xs ys h w.from;
         order = w.order;
         link = w.link;
-        regions = subst (λ (n : ℕ). RegionsHave e.link.state.memory n) (same_total xs ys h) w.regions;
+        regions = λ size is. subst (λ (n : ℕ). RegionsHave size e.link.state.memory n) (same_total size xs ys h) (w.regions size is);
         counts = record { waiting = (let le = w.counts.waiting in omega (arith, le, same_unsent first e.link.state.send_queue.sends_left xs ys h)); numbered = w.counts.numbered };
         each = same_fit len xs ys h w.each;
         kept = w.kept;
@@ -98,10 +99,13 @@ all_removed P n [] h = by n
 all_removed P zero (c ∷ cs) h = h.1
 all_removed P (suc n) (c ∷ cs) h = (h.0, all_removed P n cs h.1)
 
-total_removed : (n : ℕ) (cs : List OutstandingCall) (d : OutstandingCall) → n < length cs → claims_total (remove cs n) + claims_len (get_or cs n d).claims ≡ claims_total cs
-total_removed n [] d lt = absurd (omega (arith, lt))
-total_removed zero (c ∷ cs) d lt = omega arith
-total_removed (suc n) (c ∷ cs) d lt = (let rest = total_removed n cs d (omega (arith, lt)) in omega (arith, rest))
+total_sum : (size : ℕ → ℕ) (n : ℕ) (cs : List OutstandingCall) (d : OutstandingCall) → n < length cs → claims_total size (remove cs n) + claims_size size (get_or cs n d).claims ≡ claims_total size cs
+total_sum size n [] d lt = absurd (omega (arith, lt))
+total_sum size zero (c ∷ cs) d lt = omega arith
+total_sum size (suc n) (c ∷ cs) d lt = (let rest = total_sum size n cs d (omega (arith, lt)) in omega (arith, rest))
+
+total_removed : (size : ℕ → ℕ) (n : ℕ) (cs : List OutstandingCall) (d : OutstandingCall) → n < length cs → claims_total size cs - claims_size size (get_or cs n d).claims ≡ claims_total size (remove cs n)
+total_removed size n cs d lt = (let sum = total_sum size n cs d lt in omega (arith, sum))
 
 -- its Send has left
 unsent_removed : (first s n : ℕ) (cs : List OutstandingCall) (d : OutstandingCall) → n < length cs → (get_or cs n d).xid - first < s → length (unsent first s (remove cs n)) ≡ length (unsent first s cs)
@@ -183,8 +187,8 @@ completed_bounded len sent first next n room most number e e2 calls calls2 answe
     let memory : RegisteredMemory = released_all s.memory (stags_of c.claims) in
     let held = one_held s.memory calls n d lt sound.held in
     let state : e2.link.state ≡ record s { memory = memory } = ap (λ (l : LinkSide). l.state) link_is in
-    let both = released_both s.memory c.claims (claims_total calls) held (w.link.regions, w.regions) in
-    let sum : claims_total calls - claims_len c.claims ≡ claims_total left = omega (arith, total_removed n calls d lt) in
+    let both : (size : ℕ → ℕ) → IsCount size → Both size memory (claims_total size calls - claims_size size c.claims) =
+    λ size is. released_both size s.memory c.claims (claims_total size calls) held (w.link.regions, w.regions size is) in
     let le = b.1 in
     let waiting = w.counts.waiting in
     let all : RequesterBounds len e2 first next left more = record {
@@ -202,9 +206,9 @@ completed_bounded len sent first next n room most number e e2 calls calls2 answe
         hello = w.link.hello;
         queue = w.link.queue;
         responses = w.link.responses;
-        regions = both.0;
+        regions = (both in_bytes bytes_count).0;
       });
-      regions = subst (λ (x : LinkState). RegionsHave x.memory (claims_total left)) (sym state) (subst (λ (k : ℕ). RegionsHave memory k) sum both.1);
+      regions = λ size is. subst (λ (x : LinkState). RegionsHave size x.memory (claims_total size left)) (sym state) (subst (λ (k : ℕ). RegionsHave size memory k) (total_removed size n calls d lt) (both size is).1);
       counts = subst (λ (x : LinkState). CountsFit first next x.send_queue left) (sym state)
           (record { waiting = omega (arith, waiting, unsent_removed first s.send_queue.sends_left n calls d lt (omega (arith, gone, le))); numbered = w.counts.numbered });
       each = all_removed (CallFits len) n calls w.each;

@@ -8,7 +8,7 @@ use Rattle.nr_requester.specs.declared.outstanding.OutstandingCall.{OutstandingC
 use Rattle.nr_requester.specs.RequesterState.{StoredCall}
 use Rattle.nr_requester.specs.HeldClaims.{call_claims, all_claims}
 use Rattle.nr_requester.specs.Views.{AreRising, IsAnswered, stored_view}
-use Rattle.nr_requester.specs.HeldBytes.{AreFrom, unsent, claims_len, claims_total}
+use Rattle.nr_requester.specs.HeldBytes.{AreFrom, unsent, claims_size, claims_total}
 
 -- ---- The call of an xid
 
@@ -129,10 +129,10 @@ claims_changed (suc n) (c ∷ calls) y lt =
     ap (λ (cs : List Claim). call_claims c.claims ++ cs) (claims_changed n calls y (omega (arith, lt)))
     ∙ sym (append_assoc (call_claims c.claims) (all_claims (take n calls)) (call_claims y.claims ++ all_claims (drop (suc n) calls)))
 
-pub total_changed : (n : ℕ) (calls : List OutstandingCall) (y d : OutstandingCall) → n < length calls → claims_total (set calls n y) + claims_len (get_or calls n d).claims ≡ claims_total calls + claims_len y.claims
-total_changed n [] y d lt = absurd (omega (arith, lt))
-total_changed zero (c ∷ calls) y d lt = omega arith
-total_changed (suc n) (c ∷ calls) y d lt = (let rest = total_changed n calls y d (omega (arith, lt)) in omega (arith, rest))
+pub total_changed : (size : ℕ → ℕ) (n : ℕ) (calls : List OutstandingCall) (y d : OutstandingCall) → n < length calls → claims_total size (set calls n y) + claims_size size (get_or calls n d).claims ≡ claims_total size calls + claims_size size y.claims
+total_changed size n [] y d lt = absurd (omega (arith, lt))
+total_changed size zero (c ∷ calls) y d lt = omega arith
+total_changed size (suc n) (c ∷ calls) y d lt = (let rest = total_changed size n calls y d (omega (arith, lt)) in omega (arith, rest))
 
 -- ---- A call that was answered isn't outstanding, still
 

@@ -18,9 +18,9 @@ use Rattle.nr_requester.specs.OpenCalls.{open_call, call_with, buffers_with, buf
 use Rattle.nr_requester.specs.Standing.{RequesterRepresents, RequesterRunsOut, StandsOn, StaysOut, StopsRevoked}
 use Rattle.nr_requester.specs.Views.{HasRoom, RequesterInvariant, IsAnswered, AreRising, stored_view, given_up, forgot, requester_view, side_view}
 use Rattle.nr_requester.specs.CountedMarks.{one_mark_more}
-use Rattle.nr_requester.specs.HeldBytes.{NothingOutside, LinkFits, RegionsHave, CountsFit, claims_len, claims_total, CallFits, AnswerFits, RequesterBounds}
+use Rattle.nr_requester.specs.HeldBytes.{NothingOutside, LinkFits, IsCount, RegionsHave, CountsFit, in_bytes, claims_size, claims_total, CallFits, AnswerFits, RequesterBounds}
 use Rattle.nr_requester.proofs.Releases.{all_released, held_middle, stags_are_of}
-use Rattle.nr_requester.proofs.RegionBounds.{released_both}
+use Rattle.nr_requester.proofs.RegionBounds.{Both, bytes_count, released_both}
 use Rattle.nr_requester.proofs.ChangedCalls.{changed_by, LeavesOthers, found_at, none_found, one_changed, none_changed, count_stays, each_stays, nth_of, rising_stays, from_stays, waiting_stays, claims_around, claims_changed, total_changed, apart_stays, others_answered}
 use Rattle.nr_requester.proofs.FoundAnswers.{all_left, distinct_left, fewer_left, none_taken}
 use Rattle.nr_link.specs.declared.end.End.{End}
@@ -76,6 +76,9 @@ given_up_sound link link2 len next grant room n calls calls2 answers d s lt link
     } in
     subst (λ (l : LinkSide). RequesterInvariant len l next grant calls2 answers room) (sym link_is) (subst (λ (cs : List OutstandingCall). RequesterInvariant len after next grant cs answers room) (sym are) all)
 
+total_less : (size : ℕ → ℕ) (n : ℕ) (calls : List OutstandingCall) (d : OutstandingCall) → n < length calls → claims_total size calls - claims_size size (get_or calls n d).claims ≡ claims_total size (set calls n (given_up (get_or calls n d)))
+total_less size n calls d lt = (let sum = total_changed size n calls (given_up (get_or calls n d)) d lt in omega (arith, sum))
+
 pub given_up_within : (e e2 : EndpointState) (len first next n : ℕ) (calls calls2 : List OutstandingCall) (answers : List AnsweredCall) (d : OutstandingCall) → RequesterBounds len e first next calls answers → AreHeldFrom e.link.state.memory 0 (all_claims calls) → n < length calls →
     e2.staging ≡ e.staging → (NothingOutside e → NothingOutside e2) → e2.link ≡ with_memory (released_all e.link.state.memory (stags_of (get_or calls n d).claims)) e.link → calls2 ≡ set calls n (given_up (get_or calls n d)) → RequesterBounds len e2 first next calls2 answers
 given_up_within e e2 len first next n calls calls2 answers d w held lt same none link_is are =
@@ -85,8 +88,9 @@ given_up_within e e2 len first next n calls calls2 answers d w held lt same none
     let left : List OutstandingCall = set calls n y in
     let memory : RegisteredMemory = released_all s.memory (stags_of c.claims) in
     let state : e2.link.state ≡ record s { memory = memory } = ap (λ (l : LinkSide). l.state) link_is in
-    let both = released_both s.memory c.claims (claims_total calls) (own_held s.memory n calls d lt held) (w.link.regions, w.regions) in
-    let sum : claims_total calls - claims_len c.claims ≡ claims_total left = omega (arith, total_changed n calls y d lt) in
+    let both : (size : ℕ → ℕ) → IsCount size → Both size memory (claims_total size calls - claims_size size c.claims) =
+    λ size is. released_both size s.memory c.claims (claims_total size calls) (own_held s.memory n calls d lt held) (w.link.regions, w.regions size is) in
+    let sum : (size : ℕ → ℕ) → claims_total size calls - claims_size size c.claims ≡ claims_total size left = λ size. total_less size n calls d lt in
     let all : RequesterBounds len e2 first next left answers = record {
       staging = ap (λ (xs : List ℕ). length xs) same ∙ w.staging;
       outside = none w.outside;
@@ -102,12 +106,12 @@ given_up_within e e2 len first next n calls calls2 answers d w held lt same none
         hello = w.link.hello;
         queue = w.link.queue;
         responses = w.link.responses;
-        regions = both.0;
+        regions = (both in_bytes bytes_count).0;
       });
-      regions = subst (λ (x : LinkState). RegionsHave x.memory (claims_total left)) (sym state) (subst (λ (k : ℕ). RegionsHave memory k) sum both.1);
+      regions = λ size is. subst (λ (x : LinkState). RegionsHave size x.memory (claims_total size left)) (sym state) (subst (λ (k : ℕ). RegionsHave size memory k) (sum size) (both size is).1);
       counts = subst (λ (x : LinkState). CountsFit first next x.send_queue left) (sym state)
           (record { waiting = omega (arith, w.counts.waiting, waiting_stays first s.send_queue.sends_left n calls y d refl lt); numbered = w.counts.numbered });
-      each = each_stays (CallFits len) n calls y (record { call = omega arith; offer = omega arith; written = (nth_of (CallFits len) n calls d lt w.each).written; room = (nth_of (CallFits len) n calls d lt w.each).room; short = (nth_of (CallFits len) n calls d lt w.each).short }) w.each;
+      each = each_stays (CallFits len) n calls y (record { call = omega arith; offer = omega arith; segments = (nth_of (CallFits len) n calls d lt w.each).segments; written = (nth_of (CallFits len) n calls d lt w.each).written; room = (nth_of (CallFits len) n calls d lt w.each).room; short = (nth_of (CallFits len) n calls d lt w.each).short }) w.each;
       kept = w.kept;
       distinct = w.distinct;
     } in
@@ -140,6 +144,9 @@ forgot_sound link len next grant room n calls calls2 answers d s lt are =
     } in
     subst (λ (cs : List OutstandingCall). RequesterInvariant len link next grant cs answers room) (sym are) all
 
+total_same : (size : ℕ → ℕ) (n : ℕ) (calls : List OutstandingCall) (d : OutstandingCall) → n < length calls → claims_total size calls ≡ claims_total size (set calls n (forgot (get_or calls n d)))
+total_same size n calls d lt = (let sum = total_changed size n calls (forgot (get_or calls n d)) d lt in omega (arith, sum))
+
 pub forgot_within : (e : EndpointState) (len first next n : ℕ) (calls calls2 : List OutstandingCall) (answers : List AnsweredCall) (d : OutstandingCall) → RequesterBounds len e first next calls answers → n < length calls → calls2 ≡ set calls n (forgot (get_or calls n d)) →
     RequesterBounds len e first next calls2 answers
 forgot_within e len first next n calls calls2 answers d w lt are =
@@ -147,16 +154,16 @@ forgot_within e len first next n calls calls2 answers d w lt are =
     let y : OutstandingCall = forgot c in
     let left : List OutstandingCall = set calls n y in
     let fits : CallFits len c = nth_of (CallFits len) n calls d lt w.each in
-    let sum : claims_total calls ≡ claims_total left = omega (arith, total_changed n calls y d lt) in
+    let sum : (size : ℕ → ℕ) → claims_total size calls ≡ claims_total size left = λ size. total_same size n calls d lt in
     let all : RequesterBounds len e first next left answers = record {
       staging = w.staging;
       outside = w.outside;
       from = from_stays first n calls y d refl lt w.from;
       order = w.order;
       link = w.link;
-      regions = subst (λ (k : ℕ). RegionsHave e.link.state.memory k) sum w.regions;
+      regions = λ size is. subst (λ (k : ℕ). RegionsHave size e.link.state.memory k) (sum size) (w.regions size is);
       counts = record { waiting = omega (arith, w.counts.waiting, waiting_stays first e.link.state.send_queue.sends_left n calls y d refl lt); numbered = w.counts.numbered };
-      each = each_stays (CallFits len) n calls y (record { call = fits.call; offer = fits.offer; written = fits.written; room = fits.room; short = fits.short }) w.each;
+      each = each_stays (CallFits len) n calls y (record { call = fits.call; offer = fits.offer; segments = fits.segments; written = fits.written; room = fits.room; short = fits.short }) w.each;
       kept = w.kept;
       distinct = w.distinct;
     } in

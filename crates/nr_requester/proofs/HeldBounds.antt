@@ -11,9 +11,10 @@ use Rattle.nr_requester.specs.declared.outstanding.OutstandingCall.{OutstandingC
 use Rattle.nr_requester.specs.declared.answer.AnsweredCall.{AnsweredCall}
 use Rattle.nr_requester.specs.RequesterState.{StoredCall, RequesterState, RequesterSide}
 use Rattle.nr_requester.specs.Views.{stored_view, requester_view}
-use Rattle.nr_requester.specs.HeldBytes.{NothingOutside, stored_bytes, calls_bytes, rooms_bytes, bytes_held_by, held_unit, last_max, frame_max, send_frames_max, LinkFits, RegionsHave, claims_total, CallFits, answer_bytes, answers_bytes, AnswerFits, RequesterBounds, reply_room}
+use Rattle.nr_requester.specs.HeldBytes.{NothingOutside, stored_bytes, calls_bytes, rooms_bytes, bytes_held_by, held_unit, last_max, frame_max, send_frames_max, LinkFits, RegionsHave, in_bytes, claims_total, CallFits, answer_bytes, answers_bytes, AnswerFits, RequesterBounds, reply_room}
 use Rattle.nr_requester.proofs.OutputBounds.{count_fewer}
 use Rattle.nr_requester.proofs.ChangedCalls.{nth_of}
+use Rattle.nr_requester.proofs.RegionBounds.{bytes_count}
 use Rattle.nr_requester.proofs.Unsent.{few_wait}
 
 -- ---- The link
@@ -34,7 +35,7 @@ receives_small q len is few = by (receives_kept q) few
 abbrev pub link_max : ℕ
 link_max = 4 * held_unit
 
-all_bytes : (m : RegisteredMemory) (total : ℕ) → RegionsHave m total → total ≡ bytes_held m
+all_bytes : (m : RegisteredMemory) (total : ℕ) → RegionsHave in_bytes m total → total ≡ bytes_held m
 unfolding bytes_held
 all_bytes m total have = have.bytes_are
 
@@ -43,7 +44,7 @@ unfolding outside_held
 no_outside e s = sym s.bytes_are
 
 -- but for the frames of the Sends, each of which is that of a call
-pub link_bytes : (s : LinkState) (len total : ℕ) → LinkFits len s → RegionsHave s.memory total → receives_kept s.receive_queue ≤ 1 →
+pub link_bytes : (s : LinkState) (len total : ℕ) → LinkFits len s → RegionsHave in_bytes s.memory total → receives_kept s.receive_queue ≤ 1 →
     FPDU_MAX + bytes_of s ≤ link_max + total + send_frames_max * length s.send_queue.send_ends
 link_bytes s len total l have kept =
     let regions : total ≡ bytes_held s.memory = all_bytes s.memory total have in
@@ -54,7 +55,7 @@ link_bytes s len total l have kept =
 -- ---- The calls
 
 pub each_small : (len : ℕ) (calls : List OutstandingCall) → AllByRecursion (CallFits len) calls →
-    claims_total calls + calls_bytes (map stored_view calls) + rooms_bytes len (map stored_view calls) + send_frames_max * length calls ≤ held_unit * length calls
+    claims_total in_bytes calls + calls_bytes (map stored_view calls) + rooms_bytes len (map stored_view calls) + send_frames_max * length calls ≤ held_unit * length calls
 each_small len [] h = omega arith
 each_small len (c ∷ calls) h = (let one = h.0 in omega (arith, one.call, one.offer, one.room, one.short, each_small len calls h.1))
 
@@ -107,7 +108,7 @@ pub held_bound : (e : EndpointState) (len first next kept more rooms : ℕ) (cal
     kept ≡ bytes_kept e → more ≡ calls_bytes (map stored_view calls) → rooms ≡ rooms_bytes len (map stored_view calls) → kept + more + rooms ≤ held_unit * (length calls + 4)
 held_bound e len first next kept more rooms calls answers w receives kept_is more_is rooms_is =
     let s1 : LinkState = e.link.state in
-    let link = link_bytes s1 len (claims_total calls) w.link w.regions (omega (arith, receives, w.link.receives)) in
+    let link = link_bytes s1 len (claims_total in_bytes calls) w.link (w.regions in_bytes bytes_count) (omega (arith, receives, w.link.receives)) in
     let waiting : length s1.send_queue.send_ends ≤ length calls = omega (arith, w.counts.waiting, few_wait first s1.send_queue.sends_left calls) in
     omega (arith, link, waiting, w.staging, no_outside e w.outside, kept_is, more_is, rooms_is, each_small len calls w.each)
 

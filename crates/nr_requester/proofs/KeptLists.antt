@@ -16,8 +16,8 @@ use Rattle.nr_requester.specs.OpenCalls.{open_call}
 use Rattle.nr_requester.specs.AfterCalls.{without_answer}
 use Rattle.nr_requester.specs.HeldClaims.{IsWriteOf, IsOfferOf, OffersOwn}
 use Rattle.nr_requester.specs.Views.{RequesterInvariant, IsAnswered, stored_view, requester_view}
-use Rattle.nr_requester.specs.HeldBytes.{AreDistinct, RequesterBounds}
-use Rattle.nr_requester.specs.KeptLists.{ListsFit, OffersOneWrite, regions_kept}
+use Rattle.nr_requester.specs.HeldBytes.{AreDistinct, IsCount, RegionsHave, claim_size, claims_total, segments_offered, offered_segments_max, CallFits, RequesterBounds}
+use Rattle.nr_requester.specs.KeptLists.{ListsFit, in_number, OffersOneWrite, regions_kept}
 use Rattle.nr_requester.proofs.FoundAnswers.{distinct_left, none_taken}
 use Rattle.nr_requester.proofs.Tickets.{AreApart, are_apart, answered_open}
 use Rattle.nr_requester.proofs.Unsent.{few_wait}
@@ -35,6 +35,24 @@ three_stags c =
 few_regions : (calls : List StoredCall) → regions_kept calls ≤ 3 * length calls
 few_regions [] = omega arith
 few_regions (c ∷ calls) = omega (arith, three_stags c.claims, few_regions calls)
+
+-- the regions in number are those of the calls
+number_counts : IsCount in_number
+number_counts len = omega arith
+
+one_claim : (claim : Option Claim) → claim_size in_number claim ≡ length (stag_of claim)
+one_claim None = refl
+one_claim (Some claim) = refl
+
+all_regions : (calls : List OutstandingCall) → claims_total in_number calls ≡ regions_kept (map stored_view calls)
+all_regions [] = refl
+all_regions (o ∷ calls) =
+    let c : Claims = o.claims in
+    omega (arith, one_claim c.read, one_claim c.write, one_claim c.reply, length-append (stag_of c.read) (stag_of c.write ++ stag_of c.reply), length-append (stag_of c.write) (stag_of c.reply), all_regions calls)
+
+few_segments : (len : ℕ) (calls : List OutstandingCall) → AllByRecursion (CallFits len) calls → AllByRecursion (λ (c : StoredCall). segments_offered c.offered ≤ offered_segments_max) (map stored_view calls)
+few_segments len [] h = tt
+few_segments len (o ∷ calls) h = (h.0.segments, few_segments len calls h.1)
 
 one_write : (claim : Option Claim) (chunks : List (List RdmaSegment)) → IsWriteOf claim chunks → length chunks ≤ 1
 one_write claim [] is = omega arith
@@ -127,7 +145,9 @@ lists_fit e len sent wished first next grant calls answers room i w =
     record {
       outstanding = omega (arith, i.few, count);
       regions = few_regions (map stored_view calls);
+      memory = subst (λ (n : ℕ). RegionsHave in_number e.link.state.memory n) (all_regions calls) (w.regions in_number number_counts);
       writes = few_writes calls i.offers;
+      segments = few_segments len calls w.each;
       answers = few_answers next answers w.distinct (given next calls answers i.apart);
       distinct = w.distinct;
       tickets = all_open r answers (are_apart r next calls refl i.rising i.apart) (all_found answers w.distinct);

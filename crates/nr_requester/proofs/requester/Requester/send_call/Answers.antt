@@ -59,7 +59,7 @@ invariant_of-self-2 c =
           (c.push_reserved.ensures.items ∙ ap (λ (xs : List OutstandingCall). xs ++ o ∷ []) c.make_room.ensures.outstanding) c.make_room.ensures.answered refl c.in_default.ensures.answer,
       (
         sent_within c.self.inside.endpoint c.send_with_room.new.endpoint c.self.inside.receive_length c.self.inside.first_xid c.self.inside.next_xid c.self.inside.next_xid c.self.inside.wished c.self.inside.outstanding.items c.push_reserved.new.self.items c.self.inside.answered.items c.make_room.new.answered.items o plan c.self.invariant.1.0 c.self.invariant.0.rising
-            c.send_with_room.ensures.staging c.in-Ok.ensures.outside link_is planned lives stags claims_are c.requires.small c.in-Ok.ensures.empty offered (let len = room_is.0 in omega (arith, len)) refl
+            c.send_with_room.ensures.staging c.in-Ok.ensures.outside link_is planned lives stags claims_are lists_are c.requires.small c.in-Ok.ensures.empty offered (let len = room_is.0 in omega (arith, len)) refl
             (c.push_reserved.ensures.items ∙ ap (λ (xs : List OutstandingCall). xs ++ o ∷ []) c.make_room.ensures.outstanding) c.make_room.ensures.answered,
         subst (λ (l : LinkSide). c.self.inside.sent ≤ l.state.send_queue.sends_left) (sym link_is) c.self.invariant.1.1,
       ),
