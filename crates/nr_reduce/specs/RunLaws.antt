@@ -213,7 +213,7 @@ StagsAreNumbers = (opened : LinkParameters) (link : ℕ) (run : List Mark) → I
 -- A call that a client accepts keeps the law of its side, and fewer calls are outstanding than are granted.
 abbrev pub AcceptedKeepsLaw : Type 0
 AcceptedKeepsLaw = (opened : LinkParameters) (link : ℕ) (run : List Mark) (call : Call) (form : Form) (xid : ℕ) →
-    submit_answer opened (client opened link run) call form ≡ submissions.Accepted xid → IsOpened opened → AskedSoFar opened link run → CanWriteCred call.cred →
+    submit_answer (client opened link run) call form ≡ submissions.Accepted xid → IsOpened opened → AskedSoFar opened link run → CanWriteCred call.cred →
     IsAccepted opened link run call form xid × (calls_outstanding opened link run < credits_granted opened link run)
 
 -- The Send of an accepted call is due at its Submit, by its plan, once the server's hello was received. Before, nothing is due.
@@ -221,7 +221,7 @@ abbrev pub SubmitIsSent : Type 0
 SubmitIsSent = (opened : LinkParameters) (link : ℕ) (run : List Mark) (call : Call) (form : Form) (xid : ℕ) → (h : IsAccepted opened link run call form xid) →
     ((client opened link run).state.has_hello ≡ true →
     output_due opened link Initiator (run ++ marks.Submit link call form (submissions.Accepted xid) ∷ [])
-    ≡ output_due opened link Initiator run ++ send ((client opened link run).state.calls_accepted + 1) (call_message xid opened.wished (client opened link run).state.stag h.plan))
+    ≡ output_due opened link Initiator run ++ send ((client opened link run).state.sends + 1) (call_message xid opened.wished (client opened link run).state.stag h.plan))
     × ((client opened link run).state.has_hello ≡ false →
     output_due opened link Initiator (run ++ marks.Submit link call form (submissions.Accepted xid) ∷ []) ≡ output_due opened link Initiator run)
 
