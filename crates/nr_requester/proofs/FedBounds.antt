@@ -75,8 +75,8 @@ FitsFor len calls s = (size : ℕ → ℕ) → IsCount size → Fits size len (c
 
 -- ---- Calls of an endpoint that leave its regions
 
-module _ (len sent first next : ℕ) (calls : List OutstandingCall) (answers : List AnsweredCall) (e e2 : EndpointState) (staging : length e2.staging ≡ length e.staging) (outside : e2.outside ≡ e.outside) (b : IsBounded len sent first next e calls answers) where
-  moved : e2.link.state.memory.next ≡ e.link.state.memory.next → FitsFor len calls e2.link.state → SameSends e.link.state.send_queue e2.link.state.send_queue → IsBounded len sent first next e2 calls answers
+module _ (len sent sends next : ℕ) (calls : List OutstandingCall) (answers : List AnsweredCall) (e e2 : EndpointState) (staging : length e2.staging ≡ length e.staging) (outside : e2.outside ≡ e.outside) (b : IsBounded len sent sends next e calls answers) where
+  moved : e2.link.state.memory.next ≡ e.link.state.memory.next → FitsFor len calls e2.link.state → SameSends e.link.state.send_queue e2.link.state.send_queue → IsBounded len sent sends next e2 calls answers
   moved stags fits same =
       let w = b.0 in
       let count = ap (λ (xs : List ℕ). length xs) same.1 in
@@ -86,12 +86,12 @@ module _ (len sent first next : ℕ) (calls : List OutstandingCall) (answers : L
         record {
           staging = staging ∙ w.staging;
           outside = same_outside e e2 stags outside w.outside;
-          from = w.from;
+          numbers = w.numbers;
           order = w.order;
           link = (fits in_bytes bytes_count).0;
           regions = λ size is. (fits size is).1;
           counts = record {
-            waiting = subst (λ (n : ℕ). length e2.link.state.send_queue.send_ends ≤ length (unsent first n calls)) (sym left) (omega (arith, was, count));
+            waiting = subst (λ (n : ℕ). length e2.link.state.send_queue.send_ends ≤ length (unsent n calls)) (sym left) (omega (arith, was, count));
             numbered = omega (arith, number, left, count);
           };
           each = w.each;
@@ -104,29 +104,29 @@ module _ (len sent first next : ℕ) (calls : List OutstandingCall) (answers : L
   here : FitsFor len calls e.link.state
   here size is = (b.0.link, b.0.regions size is)
 
-  pub fed_bounded : (piece : List ℕ) → e.link.state.ended ≡ None → e.link.state.receive_queue.deliveries ≡ [] → e.link.state.reads ≡ [] → e2.link ≡ after_call e.link (FeedOne piece) → IsBounded len sent first next e2 calls answers
+  pub fed_bounded : (piece : List ℕ) → e.link.state.ended ≡ None → e.link.state.receive_queue.deliveries ≡ [] → e.link.state.reads ≡ [] → e2.link ≡ after_call e.link (FeedOne piece) → IsBounded len sent sends next e2 calls answers
   fed_bounded piece lives quiet none is =
       moved (ap (λ (l : LinkSide). l.state.memory.next) is ∙ (step_leaves e.link piece lives quiet none).leaves.next)
       (subst (λ (l : LinkSide). FitsFor len calls l.state) (sym is) (λ size counts. fed_one_fits size len (claims_total size calls) e.link piece (here size counts)))
       (subst (λ (l : LinkSide). SameSends e.link.state.send_queue l.state.send_queue) (sym is) (fed_sends e.link piece))
 
   -- another state of the link
-  to_state : (s : LinkState) → e2.link.state ≡ s → s.memory.next ≡ e.link.state.memory.next → FitsFor len calls s → SameSends e.link.state.send_queue s.send_queue → IsBounded len sent first next e2 calls answers
+  to_state : (s : LinkState) → e2.link.state ≡ s → s.memory.next ≡ e.link.state.memory.next → FitsFor len calls s → SameSends e.link.state.send_queue s.send_queue → IsBounded len sent sends next e2 calls answers
   to_state s is stags fits same =
       moved (ap (λ (x : LinkState). x.memory.next) is ∙ stags) (subst (λ (x : LinkState). FitsFor len calls x) (sym is) fits)
       (subst (λ (x : LinkState). SameSends e.link.state.send_queue x.send_queue) (sym is) same)
 
-  pub same_bounded : e2.link ≡ e.link → IsBounded len sent first next e2 calls answers
+  pub same_bounded : e2.link ≡ e.link → IsBounded len sent sends next e2 calls answers
   same_bounded is = to_state e.link.state (ap (λ (l : LinkSide). l.state) is) refl here (refl, refl)
 
-  pub next_bounded : e2.link ≡ after_call e.link NextEvent → IsBounded len sent first next e2 calls answers
+  pub next_bounded : e2.link ≡ after_call e.link NextEvent → IsBounded len sent sends next e2 calls answers
   unfolding after_call
   next_bounded is = to_state (after_call e.link NextEvent).state (ap (λ (l : LinkSide). l.state) is) refl (λ size counts. (
     record { side = b.0.link.side; receives = b.0.link.receives; receive_length = b.0.link.receive_length; receive = b.0.link.receive; up = b.0.link.up; down = b.0.link.down; hello = b.0.link.hello; queue = b.0.link.queue; responses = b.0.link.responses; regions = b.0.link.regions },
     b.0.regions size counts,
   )) (refl, refl)
 
-  pub post_bounded : e2.link ≡ after_call e.link Post → IsBounded len sent first next e2 calls answers
+  pub post_bounded : e2.link ≡ after_call e.link Post → IsBounded len sent sends next e2 calls answers
   unfolding after_call
   post_bounded is = to_state (after_call e.link Post).state (ap (λ (l : LinkSide). l.state) is) refl (λ size counts. (
     record { side = b.0.link.side; receives = b.0.link.receives; receive_length = b.0.link.receive_length; receive = b.0.link.receive; up = b.0.link.up; down = b.0.link.down; hello = b.0.link.hello; queue = b.0.link.queue; responses = b.0.link.responses; regions = b.0.link.regions },
@@ -136,7 +136,7 @@ module _ (len sent first next : ℕ) (calls : List OutstandingCall) (answers : L
   going : e.link.state.ended ≡ None → has_ended e.link.state ≡ false
   going lives = ap (λ (o : Option End). is_some o) lives
 
-  pub out_bounded : e.link.state.ended ≡ None → e2.link ≡ after_call e.link OutOfMemory → IsBounded len sent first next e2 calls answers
+  pub out_bounded : e.link.state.ended ≡ None → e2.link ≡ after_call e.link OutOfMemory → IsBounded len sent sends next e2 calls answers
   unfolding after_call
   out_bounded lives is =
       let s : LinkState = e.link.state in
@@ -157,7 +157,7 @@ module _ (len sent first next : ℕ) (calls : List OutstandingCall) (answers : L
         b.0.regions size counts,
       )) (refl, refl)
 
-  pub stop_bounded : (reason : ℕ) → e.link.state.ended ≡ None → (e2.link ≡ after_call e.link (Stop reason)) ⊎ (e2.link ≡ after_call e.link OutOfMemory) → IsBounded len sent first next e2 calls answers
+  pub stop_bounded : (reason : ℕ) → e.link.state.ended ≡ None → (e2.link ≡ after_call e.link (Stop reason)) ⊎ (e2.link ≡ after_call e.link OutOfMemory) → IsBounded len sent sends next e2 calls answers
   unfolding after_call
   stop_bounded reason lives (inl is) =
       let s : LinkState = e.link.state in

@@ -137,10 +137,10 @@ all_open r (a ∷ answers) apart found = (answered_open r a.xid a apart found.0,
 
 -- ---- All
 
-pub lists_fit : (e : EndpointState) (len sent wished first next grant : ℕ) (calls : List OutstandingCall) (answers : List AnsweredCall) (room : ℕ) →
-    RequesterInvariant len e.link next grant calls answers room → RequesterBounds len e first next calls answers → ListsFit (requester_view e.link sent wished first next grant calls answers).state
-lists_fit e len sent wished first next grant calls answers room i w =
-    let r : RequesterState = (requester_view e.link sent wished first next grant calls answers).state in
+pub lists_fit : (e : EndpointState) (len sent wished sends next grant : ℕ) (calls : List OutstandingCall) (answers : List AnsweredCall) (room : ℕ) →
+    RequesterInvariant len e.link next grant calls answers room → RequesterBounds len e sends next calls answers → ListsFit (requester_view e.link sent wished sends next grant calls answers).state
+lists_fit e len sent wished sends next grant calls answers room i w =
+    let r : RequesterState = (requester_view e.link sent wished sends next grant calls answers).state in
     let count : length (map stored_view calls) ≡ length calls = length-map calls stored_view in
     record {
       outstanding = omega (arith, i.few, count);
@@ -151,7 +151,7 @@ lists_fit e len sent wished first next grant calls answers room i w =
       answers = few_answers next answers w.distinct (given next calls answers i.apart);
       distinct = w.distinct;
       tickets = all_open r answers (are_apart r next calls refl i.rising i.apart) (all_found answers w.distinct);
-      sends = omega (arith, count, w.counts.waiting, few_wait first e.link.state.send_queue.sends_left calls);
+      sends = omega (arith, count, w.counts.waiting, few_wait e.link.state.send_queue.sends_left calls);
       responses = w.link.responses;
       receives = w.link.receives;
       events = i.none_waits;

@@ -178,18 +178,25 @@ RegionsHave size m total = IsTotal (region_size size) m.next total m.held
 abbrev pub NothingOutside : EndpointState → Type 0
 NothingOutside e = IsTotal outside_len e.link.state.memory.next 0 e.outside
 
--- the xids of these calls are at least the first one
-abbrev pub AreFrom : ℕ → List OutstandingCall → Type 0
-AreFrom first calls = AllByRecursion (λ (c : OutstandingCall). first ≤ c.xid) calls
+-- the calls come in the order of these numbers of theirs, all of which are below this
+abbrev pub AreRisingBy : (number : OutstandingCall → ℕ) → List OutstandingCall → ℕ → Type 0
+AreRisingBy number [] next = Unit {0}
+AreRisingBy number (c ∷ cs) next = (number c < next) × (AllByRecursion (λ (d : OutstandingCall). number c < number d) cs × AreRisingBy number cs next)
+
+abbrev pub xid_of : OutstandingCall → ℕ
+xid_of c = c.xid
+
+abbrev pub send_of : OutstandingCall → ℕ
+send_of c = c.send
 
 -- the calls whose Sends are not among the first `sent`
-abbrev pub unsent : (first sent : ℕ) → List OutstandingCall → List OutstandingCall
-unsent first sent calls = filter (λ c. not (nat_lt (c.xid - first) sent)) calls
+abbrev pub unsent : (sent : ℕ) → List OutstandingCall → List OutstandingCall
+unsent sent calls = filter (λ c. not (nat_lt c.send sent)) calls
 
--- a Send that waits is that of an outstanding call, and no later one was given a number
-pub record CountsFit (first next : ℕ) (q : SendQueue) (calls : List OutstandingCall) : Type 0 where
-  pub waiting : length q.send_ends ≤ length (unsent first q.sends_left calls)
-  pub numbered : q.sends_left + length q.send_ends ≤ next - first
+-- a Send that waits is that of an outstanding call, and has a number
+pub record CountsFit (sends : ℕ) (q : SendQueue) (calls : List OutstandingCall) : Type 0 where
+  pub waiting : length q.send_ends ≤ length (unsent q.sends_left calls)
+  pub numbered : q.sends_left + length q.send_ends ≤ sends
 
 -- what is counted of the regions of a call, and of all calls
 abbrev pub claim_size : (size : ℕ → ℕ) → Option Claim → ℕ
@@ -222,6 +229,11 @@ segments_offered lists = length lists.read + (sum_by (λ chunk. length chunk) li
 abbrev pub offered_segments_max : ℕ
 offered_segments_max = 1022
 
+-- the rooms of the replies of some calls
+abbrev pub rooms_total : List OutstandingCall → ℕ
+rooms_total [] = 0
+rooms_total (c ∷ calls) = c.room.len + rooms_total calls
+
 -- a call, its regions, its lists and the room of its reply are within these, and that room is as long as the receive and its offer say
 pub record CallFits (len : ℕ) (c : OutstandingCall) : Type 0 where
   pub call : stored_bytes c.call ≤ call_max
@@ -243,19 +255,20 @@ AreDistinct [] = Unit {0}
 AreDistinct (a ∷ answers) = AllByRecursion (λ (b : AnsweredCall). b.xid ≢ a.xid) answers × AreDistinct answers
 
 -- What holds of each requester beside `RequesterInvariant`: the size of its staging buffer, and the bounds of its side of the link, of its calls and
--- its answers; its regions are those of its calls, in bytes and in number; a Send that waits is that of an outstanding call.
-pub record RequesterBounds (len : ℕ) (e : EndpointState) (first next : ℕ) (calls : List OutstandingCall) (answers : List AnsweredCall) : Type 0 where
+-- its answers; its regions are those of its calls, in bytes and in number; a Send that waits is that of an outstanding call, and no more Sends have a number than
+-- xids were given.
+pub record RequesterBounds (len : ℕ) (e : EndpointState) (sends next : ℕ) (calls : List OutstandingCall) (answers : List AnsweredCall) : Type 0 where
   pub staging : length e.staging ≡ FPDU_MAX
   pub outside : NothingOutside e
-  pub from : AreFrom first calls
-  pub order : first ≤ next
+  pub numbers : AreRisingBy send_of calls sends
+  pub order : sends ≤ next
   pub link : LinkFits len e.link.state
   pub regions : (size : ℕ → ℕ) → IsCount size → RegionsHave size e.link.state.memory (claims_total size calls)
-  pub counts : CountsFit first next e.link.state.send_queue calls
+  pub counts : CountsFit sends e.link.state.send_queue calls
   pub each : AllByRecursion (CallFits len) calls
   pub kept : AllByRecursion AnswerFits answers
   pub distinct : AreDistinct answers
 
 -- Of the number of Sends that it knows to have left, each has.
-abbrev pub IsBounded : (len sent first next : ℕ) → EndpointState → List OutstandingCall → List AnsweredCall → Type 0
-IsBounded len sent first next e calls answers = RequesterBounds len e first next calls answers × (sent ≤ e.link.state.send_queue.sends_left)
+abbrev pub IsBounded : (len sent sends next : ℕ) → EndpointState → List OutstandingCall → List AnsweredCall → Type 0
+IsBounded len sent sends next e calls answers = RequesterBounds len e sends next calls answers × (sent ≤ e.link.state.send_queue.sends_left)
