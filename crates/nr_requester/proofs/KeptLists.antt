@@ -1,11 +1,13 @@
 -- How long the lists of a requester are.
 use Rattle.std.proofs.Common.{◌≡◌, ◌≢◌, ℕ, zero, suc, ◌+◌, ◌*◌, ◌<◌, ◌≤◌, Bool, true, false, not, cond, eqb, List, [], ◌∷◌, ◌++◌, length, map, Option, None, Some, refl, sym, ap, subst, ◌∙◌, inl, inr, arith, length-append}
 use Rattle.std.specs.Prelude.{is_some, IfSome}
-use Rattle.std.specs.List.{AllByRecursion, find}
+use Rattle.std.specs.List.{AllByRecursion, find, sum_by}
+use Rattle.std.specs.FinMap.{values}
 use Rattle.std.proofs.lemmas.Bool.{cases_lt, eqb-true, eq-eqb, ne_eqb}
 use Rattle.std.proofs.lemmas.List.{length-map}
+use Rattle.std.proofs.lemmas.List.Sums.{sum_by-cons}
 use Rattle.nr_header.specs.declared.header.RdmaSegment.{RdmaSegment}
-use Rattle.nr_regions.specs.RegisteredMemory.{Claim}
+use Rattle.nr_regions.specs.RegisteredMemory.{Claim, Region, RegisteredMemory}
 use Rattle.nr_reduce.specs.declared.call.Call.{Call}
 use Rattle.nr_endpoint.specs.EndpointState.{EndpointState}
 use Rattle.nr_endpoint.specs.declared.offering.Claims.{Claims}
@@ -16,8 +18,8 @@ use Rattle.nr_requester.specs.OpenCalls.{open_call}
 use Rattle.nr_requester.specs.AfterCalls.{without_answer}
 use Rattle.nr_requester.specs.HeldClaims.{IsWriteOf, IsOfferOf, OffersOwn}
 use Rattle.nr_requester.specs.Views.{RequesterInvariant, IsAnswered, stored_view, requester_view}
-use Rattle.nr_requester.specs.HeldBytes.{AreDistinct, IsCount, RegionsHave, claim_size, claims_total, segments_offered, offered_segments_max, CallFits, RequesterBounds}
-use Rattle.nr_requester.specs.KeptLists.{ListsFit, in_number, OffersOneWrite, regions_kept}
+use Rattle.nr_requester.specs.HeldBytes.{AreDistinct, IsCount, region_size, RegionsHave, claim_size, claims_total, segments_offered, offered_segments_max, CallFits, RequesterBounds}
+use Rattle.nr_requester.specs.KeptLists.{ListsFit, OffersOneWrite, regions_kept, regions_held}
 use Rattle.nr_requester.proofs.FoundAnswers.{distinct_left, none_taken}
 use Rattle.nr_requester.proofs.Tickets.{AreApart, are_apart, answered_open}
 use Rattle.nr_requester.proofs.Unsent.{few_wait}
@@ -37,6 +39,9 @@ few_regions [] = omega arith
 few_regions (c ∷ calls) = omega (arith, three_stags c.claims, few_regions calls)
 
 -- the regions in number are those of the calls
+abbrev in_number : ℕ → ℕ
+in_number len = 1
+
 number_counts : IsCount in_number
 number_counts len = omega arith
 
@@ -49,6 +54,13 @@ all_regions [] = refl
 all_regions (o ∷ calls) =
     let c : Claims = o.claims in
     omega (arith, one_claim c.read, one_claim c.write, one_claim c.reply, length-append (stag_of c.read) (stag_of c.write ++ stag_of c.reply), length-append (stag_of c.write) (stag_of c.reply), all_regions calls)
+
+each_one : (rs : List Region) → sum_by (region_size in_number) rs ≡ length rs
+each_one [] = refl
+each_one (r ∷ rs) = omega (arith, sum_by-cons (region_size in_number) r rs, each_one rs)
+
+regions_are : (m : RegisteredMemory) (calls : List OutstandingCall) → RegionsHave in_number m (claims_total in_number calls) → regions_held m ≡ regions_kept (map stored_view calls)
+regions_are m calls have = (let counted = have.bytes_are in omega (arith, counted, each_one (values m.held), all_regions calls))
 
 few_segments : (len : ℕ) (calls : List OutstandingCall) → AllByRecursion (CallFits len) calls → AllByRecursion (λ (c : StoredCall). segments_offered c.offered ≤ offered_segments_max) (map stored_view calls)
 few_segments len [] h = tt
@@ -145,7 +157,7 @@ lists_fit e len sent wished sends next grant calls answers room i w =
     record {
       outstanding = omega (arith, i.few, count);
       regions = few_regions (map stored_view calls);
-      memory = subst (λ (n : ℕ). RegionsHave in_number e.link.state.memory n) (all_regions calls) (w.regions in_number number_counts);
+      memory = regions_are e.link.state.memory calls (w.regions in_number number_counts);
       writes = few_writes calls i.offers;
       segments = few_segments len calls w.each;
       answers = few_answers next answers w.distinct (given next calls answers i.apart);

@@ -11,6 +11,7 @@ use Rattle.nr_reduce.specs.Credits.{WithinGrant}
 use Rattle.nr_reduce.specs.Standing.{ClientRepresents, ClientRunsOut}
 use Rattle.nr_reduce.proofs.Standing.{AtEachMark_more, client_queue_lem}
 use Rattle.nr_reduce.proofs.Submitting.{accepted_keeps}
+use Rattle.nr_reduce.proofs.Unconcerned.{none_asked, none_granted}
 use Rattle.nr_requester.specs.RequesterState.{queue_of, kept_client, input_kept}
 use Rattle.nr_requester.specs.Laws.{SubmitKeepsLaw, DrainKeepsLaw, DrainOutKeepsLaw, QueueIsAllDue, RefusedKeepsLaw, PieceKeepsLaw, DrainKeepsGrant, LawBegins, OthersKeepLaw}
 use Rattle.nr_requester.proofs.Accepting.{answers_as_client}

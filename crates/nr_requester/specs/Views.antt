@@ -1,5 +1,5 @@
 -- What the code keeps, as the definitions see it.
-use Rattle.std.specs.Prelude.{◌≡◌, ℕ, ◌+◌, ◌^◌, ◌<◌, ◌≤◌, ◌==◌, length, List, [], ◌∷◌, map, Option, None, Some, true}
+use Rattle.std.specs.Prelude.{◌≡◌, ℕ, ◌+◌, ◌^◌, ◌<◌, ◌≤◌, ◌==◌, length, List, [], map, Option, None, Some, true}
 use Rattle.std.specs.List.{AllByRecursion, find}
 use Rattle.nr_regions.specs.RegisteredMemory.{Claim}
 use Rattle.nr_endpoint.specs.LinkState.{LinkSide}

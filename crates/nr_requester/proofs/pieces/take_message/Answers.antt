@@ -1,4 +1,4 @@
-use Rattle.std.proofs.Common.{◌≡◌, ℕ, ◌-◌, ◌<◌, ◌≤◌, List, take, ◌++◌, refl, sym, ap, subst, ◌∙◌, length, arith}
+use Rattle.std.proofs.Common.{◌≡◌, ℕ, ◌<◌, ◌≤◌, List, take, ◌++◌, refl, sym, ap, subst, ◌∙◌, length, arith}
 use Rattle.std.specs.Prelude.{get_or, remove, vec_capacity}
 use Rattle.std.proofs.lemmas.List.{length-take}
 use Rattle.nr_regions.specs.RegisteredMemory.{RegisteredMemory}
