@@ -17,11 +17,10 @@ use Rattle.nr_reduce.specs.Events.{RunEvent}
 use Rattle.nr_reduce.specs.Events.RunEvent.{FrameReceived, CallSubmitted, MemoryRevoked, CallExecuted, QueueWritten}
 use Rattle.nr_reduce.specs.EndRules.{next_end_state_by, next_end_state_in}
 use Rattle.nr_reduce.specs.OfferedRegions.{region_grants}
-use Rattle.nr_reduce.specs.Plans.{TooLarge}
-use Rattle.nr_reduce.specs.ClientState.{ClientState, OutstandingCall, call_payload, plan_for, client_memory_at}
-use Rattle.nr_reduce.specs.Client.{client_rules, client_end, client_state_after, client_readiness, segment_request, outstanding_of, plan_or, with_message, with_request, with_segment, with_hello, due_with_response}
+use Rattle.nr_reduce.specs.ClientState.{ClientState, OutstandingCall, plan_for, client_memory_at}
+use Rattle.nr_reduce.specs.Client.{client_rules, client_end, client_state_after, client_readiness, segment_request, outstanding_of, with_message, with_request, with_segment, with_hello, due_with_response}
 use Rattle.nr_reduce.specs.RunLaws.{as_submitted}
-use Rattle.nr_reduce.proofs.Sizes.{message_size}
+use Rattle.nr_laws.proofs.PlannedSizes.{short_call}
 use Rattle.nr_laws.proofs.EventOutputs.{IsNext, place_after, outputs_by, outputs_in}
 use Rattle.nr_laws.proofs.Outputs.{Output, IsShort, CallsShort, message_of_call, message_outputs, call_sends, client_says, response_outputs, response_segments, final_outputs, terminate_segment, CallShort}
 use Rattle.nr_laws.proofs.Outputs.Output.{ASegment}
@@ -171,17 +170,10 @@ hello_step opened es place k outs f first at goes p =
 
 -- ---- A call
 
-pub short_call : (opened : LinkParameters) (k : ClientState) (a : AcceptedCall) (plan : Plan) → plan_for k a.xid a.call a.form ≡ Ok plan → ClientLimits k → IsShort (message_of_call opened (outstanding_of k a))
-unfolding plan_for
-short_call opened k a plan planned l =
-    let is_plan : (outstanding_of k a).plan ≡ plan = ap (λ (r : Result Plan TooLarge). plan_or (call_payload a.xid a.call) r) planned in
-    subst (λ (q : Plan). IsShort (Rattle.nr_reduce.specs.Plans.call_message a.xid opened.wished k.stag q)) (sym is_plan)
-    (let m = (message_size (call_payload a.xid a.call) a.form k.up_max k.down_max a.xid opened.wished k.stag plan planned).1 in let up = l.up.1 in omega (arith, m, up))
-
 call_step : (opened : LinkParameters) (es : List RunEvent) (place p : ℕ) (k : ClientState) (outs : List Output) (a : AcceptedCall) (plan : Plan) → k ≡ (client_after opened es).state → plan_for k a.xid a.call a.form ≡ Ok plan → ClientLimits k → ClientSays opened es place k None outs
     → ClientSays opened (es ++ CallSubmitted p a ∷ []) place (client_state_after opened k (CallSubmitted p a)) None
     (outs ++ cond k.has_hello (message_outputs (k.sends + 1) (message_of_call opened (outstanding_of k a))) [])
-unfolding client_state_after plan_for
+unfolding client_state_after
 call_step opened es place p k outs a plan at planned l h =
     let own : OutstandingCall = outstanding_of k a in
     let before : List AcceptedCall = accepted_in es in

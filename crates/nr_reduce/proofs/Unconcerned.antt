@@ -5,6 +5,9 @@ use Rattle.std.proofs.lemmas.Bool.{eq-eqb}
 use Rattle.nr_wire.specs.declared.hello.Side.{Side}
 use Rattle.nr_wire.specs.declared.hello.Side.TheVariants.{Initiator, Responder}
 use Rattle.nr_link.specs.Frames.{Frame, frames_completed}
+use Rattle.nr_reduce.specs.declared.call.Call.{Call}
+use Rattle.nr_reduce.specs.declared.call.Form.{Form}
+use Rattle.nr_reduce.specs.declared.call.Submission.{Submission}
 use Rattle.nr_reduce.specs.declared.call.Submission.TheVariants as submissions
 use Rattle.nr_reduce.specs.declared.mark.Mark.{Mark}
 use Rattle.nr_reduce.specs.declared.mark.Mark.TheVariants as marks
@@ -37,6 +40,19 @@ is_apart l link b ne = ap (λ (x : Bool). x && b) (by (eqb l link) refl)
 pub not_own : (l link : ℕ) → (eqb l link && true) ≡ false → l ≢ link
 not_own l link e same = absurd (let wrong : true ≡ false = sym (ap (λ (b : Bool). b && true) (eq-eqb l link same)) ∙ e in cc)
 
+-- nor does a mark of the other side concern this one
+pub fed_elsewhere : (b : Bool) → (b && false) ≡ false
+fed_elsewhere true = refl
+fed_elsewhere false = refl
+
+pub of_other_side : (b : Bool) → ((b && false) || false) ≡ false
+of_other_side b = ap (λ (x : Bool). x || false) (fed_elsewhere b)
+
+pub submit_elsewhere : (link l : ℕ) (call : Call) (form : Form) (answer : Submission) → concerns link Responder (marks.Submit l call form answer) ≡ false
+submit_elsewhere link l call form (submissions.Accepted xid) = of_other_side (eqb l link)
+submit_elsewhere link l call form (submissions.Refused why) = refl
+submit_elsewhere link l call form submissions.Dropped = refl
+
 neither : (a b : Bool) → (a || b) ≡ false → (a ≡ false) × (b ≡ false)
 neither true b e = absurd cc
 neither false b e = (refl, e)
@@ -49,7 +65,7 @@ not_fed link side mark e = (neither (is_judged link side mark) (is_fed link side
 
 -- ---- Events and bytes
 
-no_mark_events : (link : ℕ) (side : Side) (place : ℕ) (completed : List ℕ → List Frame) (mark : Mark) → is_judged link side mark ≡ false → is_fed link side mark ≡ false → mark_events link side place completed mark ≡ []
+pub no_mark_events : (link : ℕ) (side : Side) (place : ℕ) (completed : List ℕ → List Frame) (mark : Mark) → is_judged link side mark ≡ false → is_fed link side mark ≡ false → mark_events link side place completed mark ≡ []
 no_mark_events link side place completed (marks.Submit l call form (submissions.Accepted xid)) e fed = ap (λ (b : Bool). if_own b (CallSubmitted place (record { xid = xid; call = call; form = form }) ∷ [])) e
 no_mark_events link side place completed (marks.Submit l call form (submissions.Refused why)) e fed = refl
 no_mark_events link side place completed (marks.Submit l call form submissions.Dropped) e fed = refl
