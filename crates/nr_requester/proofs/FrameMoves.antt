@@ -288,6 +288,7 @@ completed_is r message xid outcome s ended memory agreed =
     λ i. record {
       ended = sym ended i;
       next_xid = r.next_xid;
+      sends = r.sends;
       grant = credits_of_word (word_at 8 message);
       outstanding = count i;
       calls = calls i;

@@ -180,7 +180,7 @@ submit_opens h call plan fresh = record {
     next = h.state.next_xid
 
     stored : StoredCall
-    stored = stored_call next call plan h.state.side.memory
+    stored = stored_call next h.state.sends call plan h.state.side.memory
 
 -- ---- The outcome of a call whose memory wasn't revoked
 
