@@ -172,11 +172,5 @@ pub fn verdict(
     ensures same { SameCalls calls.old.items calls.new.items }
 {
     let mut room = ListsRoom::new();
-    judged(
-        regions,
-        calls.as_mut_slice(),
-        sent,
-        &mut room,
-        message,
-    )
+    judged(regions, calls.as_mut_slice(), sent, &mut room, message)
 }
