@@ -1,5 +1,5 @@
 -- What a plan offers is short.
-use Rattle.std.proofs.Common.{◌≡◌, ℕ, ◌+◌, ◌-◌, ◌*◌, ◌≤◌, Bool, true, false, cond, not, ◌&&◌, eqb, leb, List, [], length, take, drop, replicate, sum, Option, None, Some, Result, Ok, refl, sym, ap, subst, arith, length-append}
+use Rattle.std.proofs.Common.{◌≡◌, ℕ, ◌+◌, ◌-◌, ◌*◌, ◌≤◌, Bool, true, false, cond, not, ◌&&◌, eqb, leb, List, [], ◌∷◌, length, take, drop, replicate, sum, Option, None, Some, Result, Ok, refl, sym, ap, subst, arith, length-append}
 use Rattle.std.specs.List.{sum_by}
 use Rattle.std.proofs.lemmas.List.{length-take, length-drop, length-replicate}
 use Rattle.std.proofs.lemmas.List.Sums.{sum_by-cons}
@@ -15,11 +15,11 @@ use Rattle.nr_reduce.specs.Limits.{given_max}
 use Rattle.nr_reduce.specs.declared.item.Item.{Item}
 use Rattle.nr_reduce.specs.declared.item.Of.TheVariants.{Call}
 use Rattle.nr_reduce.specs.Items.{reducible_item}
-use Rattle.nr_reduce.specs.Plans.{TooLarge, total, inline_plan, chunk_for, write_offer, offering, auto_offer, reduced_plan, reduced_plan_by, long_plan, given_region, given_read, given_total, given_within, plan_size, plan_in_form, within, plan_of, write_size, reply_size, segments_from, read_list, write_list, reply_chunk, write_stag, reply_stag, lists_of}
+use Rattle.nr_reduce.specs.Plans.{TooLarge, total, inline_plan, chunk_for, write_offer, offering, auto_offer, reduced_plan, reduced_plan_by, long_plan, given_region, given_read, given_total, given_within, plan_size, plan_in_form, within, plan_of, write_size, reply_size, segments_from, entries_from, read_list, write_list, reply_chunk, write_stag, reply_stag, lists_of}
 use Rattle.nr_reduce.proofs.PlanKinds.{Offering, offered, IsSmall, largest_small, write_offering, MessageKind, shape, IsPlan, is_plan, within_ok_lem}
 use Rattle.nr_reduce.proofs.PlanKinds.Offering.{Nothing, One}
 use Rattle.nr_reduce.proofs.PlanKinds.MessageKind.{Short, Chunked, Long}
-use Rattle.nr_reduce.proofs.Sizes.{entries_count, segments_count, is_formed}
+use Rattle.nr_reduce.proofs.Sizes.{segments_count, is_formed}
 use Rattle.nr_requester.specs.HeldBytes.{PlanFits, receive_max, reply_segments, segments_offered, offered_segments_max}
 
 small_total : (o : Offering) → IsSmall o → total (offered o) ≤ 40000
@@ -122,9 +122,13 @@ plan_bounds payload (forms.Given offer) up down p is =
 
 -- ---- The segments of its lists
 
+one_each : (position handle offset : ℕ) (lengths : List ℕ) → length (entries_from position handle offset lengths) ≤ length lengths
+one_each position handle offset [] = omega arith
+one_each position handle offset (n ∷ lengths) = omega (arith, one_each position handle (offset + n) lengths)
+
 few_entries : (stag : ℕ) (p : Plan) (at : Option ℕ) → length (read_list stag p at) ≤ length p.read
 few_entries stag p None = omega arith
-few_entries stag p (Some position) = omega (arith, entries_count position stag 0 p.read)
+few_entries stag p (Some position) = one_each position stag 0 p.read
 
 few_written : (stag : ℕ) (w : Option (List ℕ)) → 16 * sum_by (λ chunk. length chunk) (write_list stag w) ≤ write_size w
 few_written stag None = omega arith
