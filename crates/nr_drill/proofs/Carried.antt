@@ -31,7 +31,7 @@ use Rattle.nr_reduce.proofs.Standing.{AtEachMark_more, itself, sent_one, receive
 use Rattle.nr_laws.proofs.DistinctKeys.{any_append}
 use Rattle.nr_reduce.proofs.Unconcerned.{not_fed as is_unfed, none_fed}
 use Rattle.nr_drill.specs.Drill.{link_of, Setting, Drill, Pipes, empty_pipes, plain_of, now, unwritten, appended, after_output, after_all_output, settled, pipes_of, with_mark, with_pipes, after_feeding, after_feeding_up, after_feeding_down, after_up, after_down, after_handing, after_done, after_dones, after_outcomes, after_submit, if_standing, waiting_call, after_answer, after_execution, after_work, after_calls, after_all_up, after_all_work, after_all_down, after_moves, answer_of_line, open_xid, after_giving_up, after_forget, after_taking_back, after_revoke, after_drop, after_raw, after_round, after_opening, after_openings, SerialServer, start, links_of, cred_of, with_cred}
-use Rattle.nr_script.specs.declared.script.Opening.{Opening}
+use Rattle.nr_texts.specs.declared.opening.Opening.{Opening}
 use Rattle.nr_script.specs.Script.{ScriptLines, HasWritableCred, IsScript, FollowOn, may_follow, is_client, is_call_line}
 use Rattle.nr_drill.specs.Follows.{after_line, Drains, Makes, MakeAll, Follows, parameters_of, setting_of, opened_drill}
 use Rattle.nr_drill.specs.Headline.{KeepsLaws}

@@ -24,7 +24,7 @@ use Rattle.nr_reduce.specs.History.{AcceptedCall, accepted_at, accepted_calls, b
 use Rattle.nr_reduce.specs.Run.{client}
 use Rattle.nr_reduce.proofs.Placing.{next_xid_one, segment_next}
 use Rattle.nr_reduce.proofs.Steps.{client_one}
-use Rattle.nr_script.specs.declared.script.Opening.{Opening}
+use Rattle.nr_texts.specs.declared.opening.Opening.{Opening}
 use Rattle.nr_script.specs.declared.script.Line.{Line}
 use Rattle.nr_script.specs.declared.script.Line.TheVariants as lines
 use Rattle.nr_script.specs.Script.{ScriptLines, IsScript, FollowOn, may_follow, is_client, is_call_line}
