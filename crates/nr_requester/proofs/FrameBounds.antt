@@ -22,9 +22,8 @@ use Rattle.nr_link.specs.declared.end.End.TheVariants as ends
 use Rattle.nr_link.specs.Frames.{Frame}
 use Rattle.nr_link.specs.Limits.{open_reads_max}
 use Rattle.nr_link.specs.Output.{read_response}
-use Rattle.nr_link.specs.Reasons.{denied_word, NO_BUFFER_WORD}
 use Rattle.nr_link.specs.ReceiveState.{read_request_in}
-use Rattle.nr_link.specs.Ending.{final_output, rejection, is_hello_reason, kind_of}
+use Rattle.nr_link.specs.Ending.{rejection, kind_of}
 use Rattle.nr_endpoint.specs.SendQueue.{SendQueue, with_end}
 use Rattle.nr_endpoint.specs.ReceiveQueue.{with_segment, with_read_done}
 use Rattle.nr_link.specs.Agreement.{IsSendLimit}
@@ -37,26 +36,16 @@ use Rattle.nr_endpoint.specs.Calls.{after_call}
 use Rattle.nr_endpoint.specs.Calls.Call.{FeedOne}
 use Rattle.nr_endpoint.proofs.AlongFrames.{feed_one_keeps}
 use Rattle.nr_endpoint.proofs.Alive.{alive_tagged, alive_request}
-use Rattle.nr_requester.specs.HeldBytes.{region_max, frame_max, hello_max, QueueFits, RegionsFit, LinkFits, region_size, RegionsHave}
-use Rattle.nr_requester.proofs.OutputBounds.{response_fits, last_fits, last_len}
+use Rattle.nr_requester.specs.HeldBytes.{region_max, response_max, QueueFits, RegionsFit, LinkFits, region_size, RegionsHave}
+use Rattle.nr_endpoint.specs.OutputSizes.{send_frames_max, hello_max}
+use Rattle.nr_endpoint.proofs.OutputSizes.{end_within}
+use Rattle.nr_requester.proofs.OutputBounds.{response_fits}
 
 -- both: its vectors are within their bounds, and its regions have this number together
 abbrev pub Fits : (size : ℕ → ℕ) (len total : ℕ) → LinkState → Type 0
 Fits size len total s = LinkFits len s × RegionsHave size s.memory total
 
 -- ---- What it writes last
-
-last_bytes : (end : End) → length (final_output end) ≤ frame_max
-unfolding final_output
-last_bytes (ends.Bad at reason) = by (is_hello_reason reason)
-  where
-    by : (b : Bool) → length (cond b [] (Rattle.nr_link.specs.Output.terminate_message reason)) ≤ frame_max
-    by true = omega arith
-    by false = last_len reason
-last_bytes (ends.Denied stag offset why) = last_len (denied_word why)
-last_bytes (ends.NoBuffer msn) = last_len NO_BUFFER_WORD
-last_bytes (ends.Terminated reason) = omega arith
-last_bytes ends.Memory = omega arith
 
 no_rejection : (side : Side) (end : End) → side ≡ Initiator → length (rejection side end) ≡ 0
 no_rejection side end is = ap (λ (x : Side). length (rejection x end)) is
@@ -72,7 +61,7 @@ end_fits size s end len total live f = (
     up = f.0.up;
     down = f.0.down;
     hello = omega (arith, f.0.hello, length-append s.send_queue.hello (rejection s.side end), no_rejection s.side end f.0.side);
-    queue = last_fits s.send_queue (final_output end) (last_bytes end) (subst (λ (b : Bool). QueueFits b s.send_queue) live f.0.queue);
+    queue = end_within send_frames_max response_max 0 0 s.side end s.send_queue (subst (λ (b : Bool). QueueFits b s.send_queue) live f.0.queue);
     responses = f.0.responses;
     regions = f.0.regions;
   },

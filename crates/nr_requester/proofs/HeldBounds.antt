@@ -11,8 +11,9 @@ use Rattle.nr_requester.specs.declared.outstanding.OutstandingCall.{OutstandingC
 use Rattle.nr_requester.specs.declared.answer.AnsweredCall.{AnsweredCall}
 use Rattle.nr_requester.specs.RequesterState.{StoredCall, RequesterState, RequesterSide}
 use Rattle.nr_requester.specs.Views.{stored_view, requester_view}
-use Rattle.nr_requester.specs.HeldBytes.{NothingOutside, stored_bytes, calls_bytes, rooms_bytes, rooms_total, bytes_held_by, held_unit, last_max, frame_max, send_frames_max, LinkFits, RegionsHave, in_bytes, claims_total, CallFits, answer_bytes, answers_bytes, AnswerFits, RequesterBounds, reply_room}
-use Rattle.nr_requester.proofs.OutputBounds.{count_fewer}
+use Rattle.nr_requester.specs.HeldBytes.{NothingOutside, stored_bytes, calls_bytes, rooms_bytes, rooms_total, bytes_held_by, held_unit, last_max, LinkFits, RegionsHave, in_bytes, claims_total, CallFits, answer_bytes, answers_bytes, AnswerFits, RequesterBounds}
+use Rattle.nr_endpoint.specs.OutputSizes.{frame_max, send_frames_max}
+use Rattle.nr_endpoint.proofs.SendQueues.{ends_left_fewer}
 use Rattle.nr_requester.proofs.RegionBounds.{bytes_count}
 use Rattle.nr_requester.proofs.Unsent.{few_wait}
 
@@ -49,7 +50,7 @@ link_bytes s len total l have kept =
     let regions : total ≡ bytes_held s.memory = all_bytes s.memory total have in
     let receives = receives_small s.receive_queue len l.receive_length kept in
     let queue = l.queue 0 in
-    omega (arith, regions, receives, l.receive, queue, l.hello, l.responses, count_fewer 0 s.send_queue.send_ends, count_fewer 0 s.send_queue.response_ends, last_small (has_ended s))
+    omega (arith, regions, receives, l.receive, queue, l.hello, l.responses, ends_left_fewer 0 s.send_queue.send_ends, ends_left_fewer 0 s.send_queue.response_ends, last_small (has_ended s))
 
 -- ---- The calls
 

@@ -7,7 +7,7 @@ use Rattle.std.proofs.lemmas.List.{length-append}
 use Rattle.nr_endpoint.specs.SendQueue.{SendQueue, ends_left, ends_passed, written}
 use Rattle.nr_requester.specs.declared.outstanding.OutstandingCall.{OutstandingCall}
 use Rattle.nr_requester.specs.HeldBytes.{AreRisingBy, send_of, unsent, CountsFit}
-use Rattle.nr_requester.proofs.OutputBounds.{count_fewer}
+use Rattle.nr_endpoint.proofs.SendQueues.{ends_left_fewer}
 
 -- one call before others
 abbrev kept_if : Bool → OutstandingCall → List OutstandingCall → List OutstandingCall
@@ -88,7 +88,7 @@ counts_written n sends q cs rising h =
     let m : ℕ = n - length q.hello in
     let left : ℕ = length (ends_left m q.send_ends) in
     let passed : ℕ = ends_passed m q.send_ends in
-    let fewer = count_fewer m q.send_ends in
+    let fewer = ends_left_fewer m q.send_ends in
     let more = more_gone q.sends_left sends passed cs rising in
     let later = fewer_gone (min (q.sends_left + passed) (2 ^ 64 - 1)) (q.sends_left + passed) cs (omega arith) in
     record {

@@ -2,29 +2,25 @@
 use Rattle.std.proofs.Common.{◌≡◌, ℕ, ◌+◌, ◌-◌, ◌^◌, ◌<◌, ◌≤◌, max, Bool, true, false, List, [], ◌∷◌, ◌++◌, length, Option, None, Some, Ok, refl, sym, ap, subst, ◌∙◌, arith, length-append}
 use Rattle.std.specs.Prelude.{is_some}
 use Rattle.std.specs.List.{AllByRecursion}
-use Rattle.std.proofs.lemmas.List.{length-drop}
 use Rattle.std.proofs.Math.Nat.{min-le_right}
 use Rattle.std.specs.Ordering.{nat_cmp}
 use Rattle.std.specs.FinMap.{empty, get-empty}
 use Rattle.nr_header.specs.declared.header.ChunkLists.{ChunkLists}
 use Rattle.nr_rpc.specs.Constants.{MACHINE_MAX}
 use Rattle.nr_endpoint.specs.declared.offering.Claims.{Claims}
-use Rattle.nr_wire.specs.Fields.{half_word}
 use Rattle.nr_rpc.specs.declared.cred.Cred.{Cred}
 use Rattle.nr_rpc.specs.declared.cred.Cred.TheVariants as creds
 use Rattle.nr_rpc.specs.Credential.{CanWriteCred}
 use Rattle.nr_rpc.specs.declared.head.CallHead.TheVariants.{Version2}
 use Rattle.nr_rpc.specs.Call.{call_head}
-use Rattle.nr_wire.specs.Constants.{FPDU_MAX, NUMBERED_TERMS_LEN, UNITS_MAX}
+use Rattle.nr_wire.specs.Constants.{FPDU_MAX, UNITS_MAX}
 use Rattle.nr_wire.specs.declared.hello.Side.TheVariants.{Initiator}
-use Rattle.nr_wire.specs.Hello.{hello_encoding, key}
 use Rattle.nr_regions.specs.RegisteredMemory.{RegisteredMemory, initial_memory, held_region, Region}
 use Rattle.nr_regions.proofs.Totals.{sound_initial}
 use Rattle.nr_link.specs.declared.end.End.{End}
 use Rattle.nr_link.specs.Limits.{open_reads_max}
 use Rattle.nr_link.specs.declared.agreement.SideTerms.{SideTerms}
 use Rattle.nr_link.specs.Agreement.{initiator_private}
-use Rattle.nr_link.specs.Output.{hello_with}
 use Rattle.nr_endpoint.specs.Hellos.{receive_length_for}
 use Rattle.nr_endpoint.specs.EndpointState.{EndpointState}
 use Rattle.nr_endpoint.specs.SendQueue.{SendQueue, with_send, written}
@@ -44,8 +40,10 @@ use Rattle.nr_requester.specs.declared.answer.AnsweredCall.{AnsweredCall}
 use Rattle.nr_requester.specs.declared.outstanding.OutstandingCall.{OutstandingCall}
 use Rattle.nr_requester.specs.AfterCalls.{submitted, sent_unless}
 use Rattle.nr_requester.specs.Sending.{IsPlan, offered_of}
-use Rattle.nr_requester.specs.HeldBytes.{NothingOutside, cred_bytes, call_bytes, stored_bytes, receive_max, hello_max, call_max, QueueFits, LinkFits, region_size, IsCount, RegionsHave, send_of, CountsFit, in_bytes, claims_size, claims_len, claims_total, CallFits, PlanFits, RequesterBounds, reply_room, segments_offered, offered_segments_max}
-use Rattle.nr_requester.proofs.OutputBounds.{send_fits, written_fits, count_fewer}
+use Rattle.nr_requester.specs.HeldBytes.{NothingOutside, cred_bytes, call_bytes, stored_bytes, receive_max, call_max, QueueFits, LinkFits, region_size, IsCount, RegionsHave, send_of, CountsFit, in_bytes, claims_size, claims_len, claims_total, CallFits, PlanFits, RequesterBounds, reply_room, segments_offered, offered_segments_max}
+use Rattle.nr_endpoint.proofs.OutputSizes.{hello_len, written_hello}
+use Rattle.nr_endpoint.proofs.SendQueues.{ends_left_fewer}
+use Rattle.nr_requester.proofs.OutputBounds.{send_fits, written_fits}
 use Rattle.nr_requester.proofs.PlanBounds.{plan_bounds, plan_segments, payload_small}
 use Rattle.nr_requester.proofs.OutsideBounds.{opened_outside, same_outside}
 use Rattle.nr_requester.proofs.RegionBounds.{Both, bytes_count, offered_both, plan_short, plan_len}
@@ -71,10 +69,6 @@ first_regions size first_stag fits = (
   sound_initial (region_size size) first_stag fits,
 )
 
-hello_len : (private : List ℕ) → length private ≤ NUMBERED_TERMS_LEN → length (hello_with Initiator private) ≤ hello_max
-unfolding hello_with hello_encoding key half_word
-hello_len private short = omega (arith, short)
-
 -- units that count are at most UNITS_MAX
 receive_small : (terms : SideTerms) → receive_length_for terms ≤ receive_max
 receive_small terms = omega (arith, min-le_right (max terms.units 1) UNITS_MAX)
@@ -91,7 +85,7 @@ first_link size first_stag terms fits =
         receive = receive_small terms;
         up = (omega arith, omega arith);
         down = (omega arith, omega arith);
-        hello = hello_len (initiator_private terms) (initiator_short terms);
+        hello = hello_len Initiator (initiator_private terms) (initiator_short terms);
         queue = λ n. omega arith;
         responses = omega arith;
         regions = b.0;
@@ -210,13 +204,9 @@ call_small xid call form up down plan is can =
 
 -- ---- A drain
 
-written_hello : (n : ℕ) (q : SendQueue) → length q.hello ≤ hello_max → length (written n q).hello ≤ hello_max
-unfolding written
-written_hello n q h = omega (arith, h, length-drop n q.hello)
-
 written_responses : (n : ℕ) (q : SendQueue) → length q.response_ends ≤ open_reads_max → length (written n q).response_ends ≤ open_reads_max
 unfolding written
-written_responses n q h = omega (arith, h, count_fewer (n - length q.hello) q.response_ends)
+written_responses n q h = omega (arith, h, ends_left_fewer (n - length q.hello) q.response_ends)
 
 drained_link : (len : ℕ) (s : LinkState) (n : ℕ) → LinkFits len s → LinkFits len (record s { send_queue = written n s.send_queue })
 drained_link len s n l = record {
@@ -226,7 +216,7 @@ drained_link len s n l = record {
   receive = l.receive;
   up = l.up;
   down = l.down;
-  hello = written_hello n s.send_queue l.hello;
+  hello = omega (arith, l.hello, written_hello n s.send_queue);
   queue = written_fits (has_ended s) n s.send_queue l.queue;
   responses = written_responses n s.send_queue l.responses;
   regions = l.regions;

@@ -8,12 +8,13 @@ use Rattle.nr_rpc.specs.declared.cred.Cred.TheVariants as creds
 use Rattle.nr_regions.specs.RegisteredMemory.{Region, RegisteredMemory, Claim, held_region, outside_len}
 use Rattle.nr_endpoint.specs.declared.offering.Claims.{Claims}
 use Rattle.nr_regions.specs.Table.{IsTotal}
-use Rattle.nr_wire.specs.Constants.{FPDU_MAX, HELLO_LEN, NUMBERED_TERMS_LEN, UNITS_MAX}
+use Rattle.nr_wire.specs.Constants.{FPDU_MAX, UNITS_MAX}
 use Rattle.nr_wire.specs.declared.hello.Side.TheVariants.{Initiator}
 use Rattle.nr_link.specs.Limits.{send_unit, open_reads_max}
 use Rattle.nr_link.specs.Agreement.{IsSendLimit}
 use Rattle.nr_endpoint.specs.LinkState.{LinkState, has_ended}
-use Rattle.nr_endpoint.specs.SendQueue.{SendQueue, ends_left}
+use Rattle.nr_endpoint.specs.SendQueue.{SendQueue}
+use Rattle.nr_endpoint.specs.OutputSizes.{frame_max, frames_max, send_frames_max, hello_max, QueueWithin}
 use Rattle.nr_endpoint.specs.EndpointState.{EndpointState, bytes_of}
 use Rattle.nr_reduce.specs.declared.call.Call.{Call}
 use Rattle.nr_reduce.specs.declared.call.Outcome.{Outcome}
@@ -92,23 +93,13 @@ bytes_held_by r = FPDU_MAX + bytes_of r.side + calls_bytes r.outstanding + rooms
 abbrev pub held_unit : ℕ
 held_unit = 262144
 
--- the maximum of a region, which is that of an offer, and of the bytes of a segment's frame
+-- the maximum of a region, which is that of an offer
 abbrev pub region_max : ℕ
 region_max = given_max
 
-abbrev pub frame_max : ℕ
-frame_max = 4136
-
--- the maximum of a receive, and of what is agreed for a Send, in bytes; such a Send has at most four frames
+-- the maximum of a receive, and of what is agreed for a Send, in bytes
 abbrev pub receive_max : ℕ
 receive_max = send_unit * UNITS_MAX
-
-abbrev pub send_frames_max : ℕ
-send_frames_max = 4 * frame_max
-
--- the maximum of a hello
-abbrev pub hello_max : ℕ
-hello_max = HELLO_LEN + NUMBERED_TERMS_LEN
 
 -- the maximum of a call, and of what it offers, all its regions together
 abbrev pub call_max : ℕ
@@ -133,9 +124,9 @@ pub record PlanFits (p : Plan) : Type 0 where
   pub all : length p.region + total p.write + total p.reply ≤ offer_max
   pub back : total p.write + total p.reply ≤ back_max
 
--- a Read Response of a region has at most this many segments
+-- the maximum of the FPDUs of a Read Response
 abbrev pub response_max : ℕ
-response_max = 16 * frame_max
+response_max = frames_max region_max
 
 -- a side that has ended has one message more to write
 abbrev pub last_max : Bool → ℕ
@@ -144,7 +135,7 @@ last_max false = 0
 
 -- From any offset on, the queue has the frames of each Send, and of each Read Response, that ends after it.
 abbrev pub QueueFits : Bool → SendQueue → Type 0
-QueueFits ended q = (n : ℕ) → length q.fpdus - n ≤ send_frames_max * length (ends_left n q.send_ends) + response_max * length (ends_left n q.response_ends) + last_max ended
+QueueFits ended q = QueueWithin send_frames_max response_max (last_max ended) 0 q
 
 -- no region is longer than it may be
 abbrev pub RegionsFit : RegisteredMemory → Type 0
