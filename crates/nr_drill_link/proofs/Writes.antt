@@ -15,6 +15,7 @@ use Rattle.nr_requester.specs.Standing.{RequesterRepresents}
 use Rattle.nr_requester.proofs.AllMarks.{others_leave_it}
 use Rattle.nr_responder.specs.ResponderState.{ResponderSide, queue, may_write, end_of, after_drain as after_server_drain}
 use Rattle.nr_responder.specs.Standing.{RepresentsServer}
+use Rattle.nr_reduce.proofs.Unconcerned.{of_other_side}
 use Rattle.nr_reduce.specs.Concerns.{concerns}
 use Rattle.nr_responder.proofs.OwnLaw.{others_leave_it as others_leave_server, all_may_be_written}
 use Rattle.nr_drill.specs.Drill.{Setting, Drill, Pipes, pipes_of, with_pipes, with_mark, appended, unwritten, after_output, after_all_output, settled}
@@ -105,7 +106,7 @@ up_some v client (b ∷ bytes) pipes run run2 w some is more s link d at =
     let left : unwritten o link Initiator d.marks ≡ all = client_left s link d v h ∙ sym w.all in
     let e : EndsStand s link (d.marks ++ mark ∷ []) client v.server = record {
       client = w.stands o link d.marks h.client;
-      server = server_stays o link d.marks v.server mark tt h.server_memory h.server;
+      server = server_stays o link d.marks v.server mark (of_other_side (eqb link link)) h.server_memory h.server;
       client_memory = end_after v.client client all w h.client_memory;
       server_memory = h.server_memory;
     } in
