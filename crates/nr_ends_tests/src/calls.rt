@@ -4,7 +4,9 @@ ghost use Rattle.nr_requester.specs.OpenCalls.{KeepsTickets};
 
 use crate::compare::same;
 use crate::link::TestLink;
-use crate::words::{HELLO, HELLO_BACK, SENT, bytes, call, payload, put_reply, reply, stream};
+use crate::words::{
+    HELLO, HELLO_BACK, REPLY_FRONT, SENT, bytes, call, payload, put_reply, reply, stream,
+};
 use nr_outside::MemSink;
 use nr_reduce::{Form, Lengths, Offer, Outcome};
 use nr_requester::{Remains, Requester, Take};
@@ -274,10 +276,52 @@ fn staged(rt: &impl Abort, alloc: Global, link: &mut TestLink) {
     let front = first_bytes(rt, alloc, &SENT, 91);
     same(rt, 1, link.feed_up(rt, front.as_slice()), Ok(()));
     same(rt, 2, link.counts(), [0, 1, 0, 0, 91, 1]);
+    let nothing: &[u8] = &[];
+    same(
+        rt,
+        2,
+        link.staged() == [Some(nothing), Some(front.as_slice())],
+        true,
+    );
+    next_staged(rt, alloc, link);
+}
+
+/// Of the next frame ten bytes are staged.
+fn next_staged(rt: &impl Abort, alloc: Global, link: &mut TestLink) {
     // The last byte of the first FPDU, and ten bytes of a second one.
     let more = first_bytes(rt, alloc, &[0x0000_5641, 0x4300_0000, 0], 11);
     same(rt, 3, link.feed_up(rt, more.as_slice()), Ok(()));
     same(rt, 4, link.counts(), [0, 1, 1, 1, 10, 82]);
+}
+
+/// The same of the client: 27 bytes of a reply. It has made four marks: a call, a Wrote and two pieces.
+fn client_staged(rt: &impl Abort, alloc: Global) {
+    let mut link = TestLink::open(rt, alloc, 1);
+    submit_null(rt, alloc, &mut link);
+    let sent = stream(rt, alloc, &HELLO, &[]);
+    link.client_writes(rt, alloc, 5, sent.as_slice());
+    same(
+        rt,
+        6,
+        link.words_down(rt, alloc, &HELLO_BACK, 65536),
+        Ok(()),
+    );
+    reply_staged(rt, alloc, &mut link);
+    same(rt, 9, link.marks(), 4);
+    link.close();
+}
+
+/// Of the reply 27 bytes are staged.
+fn reply_staged(rt: &impl Abort, alloc: Global, link: &mut TestLink) {
+    let front = first_bytes(rt, alloc, &REPLY_FRONT, 27);
+    same(rt, 7, link.feed_down(rt, front.as_slice()), Ok(()));
+    let nothing: &[u8] = &[];
+    same(
+        rt,
+        8,
+        link.staged() == [Some(front.as_slice()), Some(nothing)],
+        true,
+    );
 }
 
 #[test]
@@ -285,6 +329,7 @@ fn bytes_are_staged(rt: HostRuntime) {
     let mut link = TestLink::open(&rt, rt.alloc(), 1);
     staged(&rt, rt.alloc(), &mut link);
     link.close();
+    client_staged(&rt, rt.alloc());
 }
 
 /// A NULL call is submitted, and its ticket is dropped.
@@ -295,7 +340,38 @@ fn submit_null(rt: &impl Abort, alloc: Global, link: &mut TestLink) {
 /// Which write of a sink fails, and how many bytes it took before: none, or the hello.
 static FAILING: [(usize, usize); 2] = [(0, 0), (1, 20)];
 
-/// What a sink did not take is written later: the server writes its hello and a reply. The receive of the call is in use until all of the reply has left.
+/// What a sink did not take is written later: what the client writes are its hello and a call.
+fn client_drained(rt: &impl Abort, alloc: Global, failing: usize, before: usize) {
+    let mut link = TestLink::open(rt, alloc, 16);
+    submit_null(rt, alloc, &mut link);
+    same(
+        rt,
+        0,
+        link.words_down(rt, alloc, &HELLO_BACK, 65536),
+        Ok(()),
+    );
+    let all = stream(rt, alloc, &HELLO, &SENT);
+    client_goes_on(rt, alloc, &mut link, (failing, before), all.as_slice());
+    link.close();
+}
+
+/// A sink fails at this write, before which it took so many bytes, and then takes all the rest.
+fn client_goes_on(
+    rt: &impl Abort,
+    alloc: Global,
+    link: &mut TestLink,
+    row: (usize, usize),
+    all: &[u8],
+) {
+    let (failing, before) = row;
+    let mut sink = MemSink::new(alloc, [failing].to_vec(alloc).expect(rt, "memory"));
+    same(rt, 1, link.write_up(&mut sink), false);
+    same(rt, 2, sink.bytes().len(), before);
+    same(rt, 3, link.write_up(&mut sink), true);
+    same(rt, 4, sink.bytes() == all, true);
+}
+
+/// The same of the server's hello and reply. The receive of the call is in use until all of the reply has left.
 fn server_drained(rt: &impl Abort, alloc: Global, failing: usize, before: usize) {
     let mut link = TestLink::open(rt, alloc, 16);
     null_answered(rt, alloc, &mut link);
@@ -314,7 +390,7 @@ fn null_answered(rt: &impl Abort, alloc: Global, link: &mut TestLink) {
     same(rt, 1, answered, (40, Sent::Inline));
 }
 
-/// A sink fails at this write, before which it took so many bytes, and then takes all the rest.
+/// The same of the server.
 fn server_goes_on(
     rt: &impl Abort,
     alloc: Global,
@@ -335,6 +411,7 @@ fn server_goes_on(
 #[test]
 fn a_drain_goes_on(rt: HostRuntime) {
     for (failing, before) in &FAILING {
+        client_drained(&rt, rt.alloc(), *failing, *before);
         server_drained(&rt, rt.alloc(), *failing, *before);
     }
 }

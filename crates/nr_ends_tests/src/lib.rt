@@ -5,6 +5,8 @@
 #![tactic(auto)]
 
 #[cfg(test)]
+mod accesses;
+#[cfg(test)]
 mod calls;
 #[cfg(test)]
 mod chunks;
@@ -14,6 +16,8 @@ mod compare;
 mod given;
 #[cfg(test)]
 mod given_up;
+#[cfg(test)]
+mod hellos;
 #[cfg(test)]
 mod items;
 #[cfg(test)]

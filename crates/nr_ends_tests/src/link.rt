@@ -142,6 +142,19 @@ impl TestLink {
         ]
     }
 
+    /// The bytes that each end staged, of the client and of the server.
+    pub fn staged(&self) -> [Option<&[u8]>; 2] {
+        [
+            self.client.staging().get(..self.client.staged()),
+            self.server.staging().get(..self.server.staged()),
+        ]
+    }
+
+    /// How many marks the client made.
+    pub fn marks(&self) -> u64 {
+        self.client.marks()
+    }
+
     /// How many bytes both ends keep.
     pub fn held(&self) -> [u128; 2] {
         [self.client.held(), self.server.held()]

@@ -21,7 +21,7 @@ pub static SENT: [u32; 23] = [
 ];
 
 /// The FPDU of the reply, before and after its credit word.
-static REPLY_FRONT: [u32; 7] = [0x00464143, 0, 0, 1, 0, 1, 1];
+pub static REPLY_FRONT: [u32; 7] = [0x00464143, 0, 0, 1, 0, 1, 1];
 
 static REPLY_REST: [u32; 11] = [0, 0, 0, 0, 1, 1, 0, 0, 0, 0, 0];
 
