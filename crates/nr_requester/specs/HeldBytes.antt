@@ -217,6 +217,7 @@ reply_segments (Some chunk) = length chunk
 abbrev pub segments_offered : ChunkLists → ℕ
 segments_offered lists = length lists.read + (sum_by (λ chunk. length chunk) lists.write + reply_segments lists.reply)
 
+-- The segments for which the header of a Send of UNITS_MAX units has room, 16 bytes each: (16,384 - 32) / 16.
 abbrev pub offered_segments_max : ℕ
 offered_segments_max = 1022
 
