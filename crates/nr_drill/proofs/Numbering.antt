@@ -193,9 +193,10 @@ module _ (o : LinkParameters) where
     own_call call form xid stays is =
         let a : AcceptedCall = record { xid = xid; call = call; form = form } in
         let at : accepted_at link (marks.Submit link call form (submissions.Accepted xid)) ≡ a ∷ [] = ap (λ (b : Bool). cond b (a ∷ []) []) (itself link) in
-        next_xid_one o link run call form xid stays ∙ ap (λ (n : ℕ). n + 1) is
-        ∙ sym (ap (λ (cs : List AcceptedCall). length cs) (accepted_one link run (marks.Submit link call form (submissions.Accepted xid)) ∙ ap (λ (cs : List AcceptedCall). accepted_calls link run ++ cs) at)
-        ∙ length-append (accepted_calls link run) (a ∷ []))
+        let more : length (accepted_calls link (run ++ marks.Submit link call form (submissions.Accepted xid) ∷ [])) ≡ length (accepted_calls link run) + 1 =
+        ap (λ (cs : List AcceptedCall). length cs) (accepted_one link run (marks.Submit link call form (submissions.Accepted xid)) ∙ ap (λ (cs : List AcceptedCall). accepted_calls link run ++ cs) at)
+        ∙ length-append (accepted_calls link run) (a ∷ []) in
+        omega (arith, next_xid_one o link run call form xid stays, is, more)
 
     counted_one : (mark : Mark) → AskedMark IsAll o link run mark → IsCounted link run → IsCounted link (run ++ mark ∷ [])
     counted_one (marks.Submit l call form (submissions.Accepted xid)) asked is = by (eqb l link) refl
@@ -245,7 +246,7 @@ module _ (o : LinkParameters) where
 
   first_count : (link : ℕ) → IsCounted link []
   unfolding client events accepted_calls
-  first_count link = refl
+  first_count link = (let same : o.first_xid ≡ o.first_xid + 0 = omega arith in same)
 
 pub drill_numbered : (server : SerialServer) (script : ScriptLines) (run : List Mark) → IsScript script → IsDrillRun server script run → AreNumbered script.opening.clients run
 drill_numbered server script run is drill =
