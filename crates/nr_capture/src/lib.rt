@@ -10,8 +10,10 @@ mod laws;
 mod marks;
 mod printing;
 mod reading;
+mod runs;
 
 pub use capture::{Capture, CaptureFault, CapturedMark};
 pub use laws::text_is_read_back;
 pub use printing::write_capture;
 pub use reading::read_capture;
+pub use runs::write_run;
