@@ -1,10 +1,11 @@
 //! Writing of captures.
 
-ghost use Rattle.std.specs.Prelude.{◌≡◌, ◌++◌, codes, IfOk, OnOk};
+ghost use Rattle.std.specs.Prelude.{◌≡◌, ◌++◌, codes, Ok, IfOk, OnOk};
 ghost use Rattle.std.specs.Fmt.{decimal};
 ghost use Rattle.std.specs.List.{flat_map};
 ghost use Rattle.std.specs.String.{string_bytes};
 ghost use Rattle.hex.specs.Hex.{encode_lower};
+ghost use Rattle.nr_capture.specs.Capture.{capture_of};
 ghost use Rattle.nr_capture.specs.Texts.{bytes_text, call_text, capacity_text, capture_text, cred_text, form_text, lengths_after, lengths_text, line_text, mark_text, offer_text, opening_text, outcome_text, part_text, read_text, semicolon_after, semicolon_if, side_text, sizes_text, two_numbers_text};
 ghost use Rattle.nr_rpc.specs.declared.cred.Cred.TheVariants as creds;
 ghost use Rattle.nr_reduce.specs.declared.call.Form.TheVariants as forms;
@@ -35,7 +36,12 @@ pub(crate) fn push_number(text: &mut String, words: &str, number: u64) -> Result
 }
 
 /// A text, and two numbers after it.
-pub(crate) fn push_two(text: &mut String, words: &str, first: u32, second: u32) -> Result<(), Memory>
+pub(crate) fn push_two(
+    text: &mut String,
+    words: &str,
+    first: u32,
+    second: u32,
+) -> Result<(), Memory>
     ensures { OnOk result (string_bytes text.new ≡ string_bytes text.old ++ (words.now ++ two_numbers_text first second)) }
 {
     text.push_str(words)?;
@@ -361,18 +367,26 @@ pub(crate) fn push_opening(text: &mut String, opening: Opening) -> Result<(), Me
     push_sizes(text, opening.client_units, opening.server_units)
 }
 
-/// The text of a capture: its first line, and a line for each mark.
+/// The text of a first line and of marks.
+#[tactic(auto, unfolding(crate::specs::Texts::capture_text))]
+fn written(alloc: Global, opening: Opening, marks: &[CapturedMark]) -> Result<Octets, Memory>
+    ensures { IfOk result (λ text. text ≡ capture_text (record { opening = opening; marks = marks.now })) }
+{
+    let mut text = String::new(alloc);
+    push_opening(&mut text, opening)?;
+    push_text(&mut text, "\n")?;
+    push_marks(alloc, &mut text, marks)?;
+    Ok(Octets::from_vec(text.into_bytes()))
+}
+
+/// The text of a capture: its first line, and a line for each mark. It is read back as the capture.
 ///
 /// # Errors
 ///
 /// [`Memory`] if memory ran out.
-#[tactic(auto, unfolding(crate::specs::Texts::capture_text))]
 pub fn write_capture(alloc: Global, capture: &Capture) -> Result<Octets, Memory>
-    ensures { IfOk result (λ text. text ≡ capture_text capture.now) }
+    ensures is { IfOk result (λ text. text ≡ capture_text capture.now) }
+    ensures read { IfOk result (λ text. capture_of text ≡ Ok capture.now) }
 {
-    let mut text = String::new(alloc);
-    push_opening(&mut text, capture.opening())?;
-    push_text(&mut text, "\n")?;
-    push_marks(alloc, &mut text, capture.marks())?;
-    Ok(Octets::from_vec(text.into_bytes()))
+    written(alloc, capture.opening(), capture.marks())
 }

@@ -11,8 +11,8 @@ ghost use Rattle.nr_capture.specs.Captured.{Captured, captured_mark, captured_pi
 ghost use Rattle.nr_capture.specs.Texts.{line_text, two_numbers_text};
 
 use crate::printing::{
-    push_bytes, push_done, push_exec, push_number, push_opening, push_piece, push_plain_submit, push_submit,
-    push_text, push_two,
+    push_bytes, push_done, push_exec, push_number, push_opening, push_piece, push_plain_submit,
+    push_submit, push_text, push_two,
 };
 use nr_marks::{MarkList, MarkView};
 use nr_reduce::{Call, Form, Mark, Outcome, Submission};
@@ -167,7 +167,10 @@ fn push_mark(alloc: Global, text: &mut String, mark: &Mark) -> Result<(), Memory
         }
         Mark::Fed { link, side, bytes } => push_fed(alloc, text, *link, *side, bytes.as_slice()),
         Mark::Execute {
-            link, xid, moment, ..
+            link,
+            xid,
+            moment,
+            ..
         } => push_executed(text, *link, *xid, moment.seconds),
         Mark::Done { link, xid, outcome } => push_outcome(alloc, text, *link, *xid, outcome),
         Mark::Lost { .. } => Ok(()),
@@ -193,7 +196,10 @@ fn push_seen(alloc: Global, text: &mut String, mark: MarkView<'_>) -> Result<(),
         MarkView::Wrote { link, side, bytes } => push_wrote(alloc, text, link, side, bytes),
         MarkView::Fed { link, side, bytes } => push_fed(alloc, text, link, side, bytes),
         MarkView::Execute {
-            link, xid, moment, ..
+            link,
+            xid,
+            moment,
+            ..
         } => push_executed(text, link, xid, moment.seconds),
         MarkView::Done { link, xid, reply } => push_reply(alloc, text, link, xid, reply),
         MarkView::Other(mark) => push_mark(alloc, text, mark),
