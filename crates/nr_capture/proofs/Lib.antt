@@ -1,4 +1,5 @@
 pub mod Steps
+pub mod RunLines
 pub mod WrittenWords
 pub mod WrittenForms
 pub mod WrittenMarks

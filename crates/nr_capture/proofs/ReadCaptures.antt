@@ -1,5 +1,4 @@
 -- What is read of a text can be written.
-use Rattle.std.specs.List.{AllByRecursion}
 use Rattle.std.proofs.Common.{◌≡◌, ℕ, ◌+◌, Bool, true, false, cond, List, [], ◌∷◌, ◌++◌, Option, None, Some, Result, Ok, Err, refl, subst}
 use Rattle.nr_texts.specs.declared.opening.Opening.{Opening}
 use Rattle.nr_texts.specs.Words.{space, newline, parts}
@@ -15,24 +14,38 @@ abbrev OkWritable : Result CaptureLines ℕ → Type 0
 OkWritable (Ok capture) = IsWritable capture
 OkWritable (Err line) = Unit {0}
 
+pub without_marks : (opening : Opening) → IsOpening opening → IsWritable (record { opening = opening; marks = [] })
+without_marks opening h = record { opening = h; links = tt; marks = tt }
+
 opened_if : (o : Option Opening) → If IsOpening o → If IsWritable (opened_by o)
 opened_if None h = tt
-opened_if (Some opening) h = record { opening = h; links = tt; marks = tt }
+opened_if (Some opening) h = without_marks opening h
 
 first_if : (line : List ℕ) → If IsWritable (with_first_line line)
 unfolding with_first_line
 first_if line = opened_if (opening_in (parts space line)) (opening_if (parts space line))
+
+-- one mark more
+pub with_one : (read : CaptureLines) (mark : CapturedMark) → IsWritable read → is_link read.opening (link_of mark) ≡ true → IsWritableMark mark → IsWritable (record read { marks = read.marks ++ mark ∷ [] })
+with_one read mark is e h = record {
+  opening = is.opening;
+  links = all_more (λ m. is_link read.opening (link_of m) ≡ true) read.marks mark is.links e;
+  marks = all_more IsWritableMark read.marks mark is.marks h;
+}
+
+-- what is read of the words of a line
+pub opening_writable : (words : List (List ℕ)) (opening : Opening) → opening_in words ≡ Some opening → IsOpening opening
+opening_writable words opening e = subst (λ (o : Option Opening). If IsOpening o) e (opening_if words)
+
+pub mark_writable : (words : List (List ℕ)) (mark : CapturedMark) → mark_in words ≡ Some mark → IsWritableMark mark
+mark_writable words mark e = subst (λ (o : Option CapturedMark). If IsWritableMark o) e (mark_if words)
 
 more_if : (read : CaptureLines) (mark : Option CapturedMark) → IsWritable read → If IsWritableMark mark → If IsWritable (with_mark read mark)
 more_if read None is h = tt
 more_if read (Some mark) is h = by (is_link read.opening (link_of mark)) refl
   where
     by : (b : Bool) → is_link read.opening (link_of mark) ≡ b → If IsWritable (cond b (Some (record read { marks = read.marks ++ mark ∷ [] })) None)
-    by true e = record {
-      opening = is.opening;
-      links = all_more (λ m. is_link read.opening (link_of m) ≡ true) read.marks mark is.links e;
-      marks = all_more IsWritableMark read.marks mark is.marks h;
-    }
+    by true e = with_one read mark is e h
     by false e = tt
 
 line_if : (read : CaptureLines) (line : List ℕ) → IsWritable read → If IsWritable (with_line read line)

@@ -2,17 +2,16 @@
 use Rattle.std.specs.Prelude.{codes, if◌then◌else◌}
 use Rattle.std.specs.List.{AllByRecursion, flat_map}
 use Rattle.std.specs.Fmt.{decimal}
-use Rattle.std.proofs.Common.{◌≡◌, ℕ, ◌+◌, ◌^◌, ◌<◌, ◌≤◌, Bool, true, false, cond, ◌&&◌, ◌==◌, leb, List, [], ◌∷◌, ◌++◌, Option, None, Some, Result, Ok, Err, refl, sym, ap, subst, ◌∙◌, arith, append-nil, append_assoc, eqb-true, leb-true}
+use Rattle.std.proofs.Common.{◌≡◌, ℕ, ◌+◌, ◌^◌, ◌<◌, ◌≤◌, Bool, true, false, cond, ◌&&◌, ◌==◌, leb, List, [], ◌∷◌, ◌++◌, Option, None, Some, Result, Ok, Err, IfOk, refl, sym, ap, ◌∙◌, arith, append-nil, append_assoc, eqb-true, leb-true}
 use Rattle.nr_wire.specs.Constants.{UNITS_MAX}
 use Rattle.nr_reduce.specs.Limits.{credits_max}
 use Rattle.nr_texts.specs.declared.opening.Opening.{Opening}
 use Rattle.nr_texts.specs.Limits.{clients_max, default_capacity, default_units, capacity_max}
 use Rattle.nr_texts.specs.Words.{◌>>=◌, space, newline, parts, number_within, IsWord}
-use Rattle.nr_texts.specs.Openings.{capacity_in, sizes_of, sizes_in, opening_of, opening_in, IsOpening}
+use Rattle.nr_texts.specs.Openings.{capacity_in, sizes_in, opening_of, opening_in, IsOpening}
 use Rattle.nr_texts.proofs.TypedTexts.{both_true_lem}
 use Rattle.nr_capture.specs.declared.capture.CapturedMark.{CapturedMark}
-use Rattle.nr_capture.specs.Capture.{CaptureLines, is_link, link_of, with_mark, with_line, opened_by, with_first_line, marks_from, capture_from, capture_of}
-use Rattle.nr_capture.specs.Marks.{mark_in}
+use Rattle.nr_capture.specs.Capture.{CaptureLines, is_link, link_of, with_mark, with_line, opened_by, with_first_line, marks_from, capture_of}
 use Rattle.nr_capture.specs.Texts.{two_numbers_text, capacity_text, sizes_text, opening_text, mark_text, line_text, capture_text}
 use Rattle.nr_capture.specs.Writable.{IsWritableMark, IsWritable}
 use Rattle.nr_capture.proofs.Steps.{more, first_more}
@@ -164,3 +163,9 @@ capture_back capture is =
     (joined newline (opening_text capture.opening) rest (opening_text capture.opening ∷ []) (parts newline rest)
     (one_part newline (opening_text capture.opening) (opening_lacks capture.opening is.opening)) refl) (first_back capture.opening is.opening)
     ∙ marks_back 2 capture.opening [] capture.marks is.opening.few_clients is.links is.marks
+
+-- the text of a capture's first line and marks is read back as it
+pub read_of : {E : Type 0} (capture : CaptureLines) (opening : Opening) (marks : List CapturedMark) (text : Result (List ℕ) E) → IsWritable capture → opening ≡ capture.opening → marks ≡ capture.marks →
+    IfOk text (λ t. t ≡ capture_text (read_so_far opening marks)) → IfOk text (λ t. capture_of t ≡ Ok capture)
+read_of capture opening marks (Ok text) is e f h = ap capture_of (h ∙ (λ i. capture_text (read_so_far (e i) (f i)))) ∙ capture_back capture is
+read_of capture opening marks (Err fault) is e f h = tt

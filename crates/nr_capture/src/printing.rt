@@ -1,11 +1,14 @@
 //! Writing of captures.
 
-ghost use Rattle.std.specs.Prelude.{◌≡◌, ◌++◌, codes, IfOk, OnOk};
+ghost use Rattle.std.specs.Prelude.{◌≡◌, ◌++◌, codes, Ok, IfOk, OnOk};
 ghost use Rattle.std.specs.Fmt.{decimal};
 ghost use Rattle.std.specs.List.{flat_map};
 ghost use Rattle.std.specs.String.{string_bytes};
 ghost use Rattle.hex.specs.Hex.{encode_lower};
+ghost use Rattle.nr_capture.specs.Capture.{capture_of};
 ghost use Rattle.nr_capture.specs.Texts.{bytes_text, call_text, capacity_text, capture_text, cred_text, form_text, lengths_after, lengths_text, line_text, mark_text, offer_text, opening_text, outcome_text, part_text, read_text, semicolon_after, semicolon_if, side_text, sizes_text, two_numbers_text};
+ghost use Rattle.nr_rpc.specs.declared.cred.Cred.TheVariants as creds;
+ghost use Rattle.nr_reduce.specs.declared.call.Form.TheVariants as forms;
 
 use crate::capture::{Capture, CapturedMark};
 use nr_reduce::{Call, Form, Lengths, Offer, Outcome};
@@ -16,7 +19,7 @@ use nr_xdr::{Memory, Octets};
 use std::alloc::Global;
 use std::fmt::Write;
 
-fn push_text(text: &mut String, words: &str) -> Result<(), Memory>
+pub(crate) fn push_text(text: &mut String, words: &str) -> Result<(), Memory>
     ensures { OnOk result (string_bytes text.new ≡ string_bytes text.old ++ words.now) }
 {
     text.push_str(words)?;
@@ -24,7 +27,7 @@ fn push_text(text: &mut String, words: &str) -> Result<(), Memory>
 }
 
 /// A text, and a number after it.
-fn push_number(text: &mut String, words: &str, number: u64) -> Result<(), Memory>
+pub(crate) fn push_number(text: &mut String, words: &str, number: u64) -> Result<(), Memory>
     ensures { OnOk result (string_bytes text.new ≡ string_bytes text.old ++ (words.now ++ decimal number)) }
 {
     text.push_str(words)?;
@@ -33,7 +36,12 @@ fn push_number(text: &mut String, words: &str, number: u64) -> Result<(), Memory
 }
 
 /// A text, and two numbers after it.
-fn push_two(text: &mut String, words: &str, first: u32, second: u32) -> Result<(), Memory>
+pub(crate) fn push_two(
+    text: &mut String,
+    words: &str,
+    first: u32,
+    second: u32,
+) -> Result<(), Memory>
     ensures { OnOk result (string_bytes text.new ≡ string_bytes text.old ++ (words.now ++ two_numbers_text first second)) }
 {
     text.push_str(words)?;
@@ -42,7 +50,7 @@ fn push_two(text: &mut String, words: &str, first: u32, second: u32) -> Result<(
 }
 
 /// Bytes as hexadecimal digits, or `-` for none.
-fn push_bytes(alloc: Global, text: &mut String, bytes: &[u8]) -> Result<(), Memory>
+pub(crate) fn push_bytes(alloc: Global, text: &mut String, bytes: &[u8]) -> Result<(), Memory>
     ensures { OnOk result (string_bytes text.new ≡ string_bytes text.old ++ bytes_text bytes.now) }
 {
     if bytes.is_empty() {
@@ -171,17 +179,25 @@ fn push_cred(text: &mut String, cred: &Cred) -> Result<(), Memory>
     }
 }
 
+/// The text of a call: of its program, version and procedure, its credential and its arguments.
 #[tactic(auto, unfolding(crate::specs::Texts::call_text))]
-fn push_call(alloc: Global, text: &mut String, call: &Call) -> Result<(), Memory>
-    ensures { OnOk result (string_bytes text.new ≡ string_bytes text.old ++ call_text call.now) }
+fn push_call(
+    alloc: Global,
+    text: &mut String,
+    procedure: (u32, u32, u32),
+    cred: &Cred,
+    args: &[u8],
+) -> Result<(), Memory>
+    ensures { OnOk result (string_bytes text.new ≡ string_bytes text.old ++ call_text (record { prog = procedure.0; vers = procedure.1; proc = procedure.2; cred = cred.now; args = args.now })) }
 {
-    push_number(text, "", u64::from(call.prog))?;
-    push_number(text, ".", u64::from(call.vers))?;
-    push_number(text, " ", u64::from(call.proc))?;
+    let (prog, vers, proc) = procedure;
+    push_number(text, "", u64::from(prog))?;
+    push_number(text, ".", u64::from(vers))?;
+    push_number(text, " ", u64::from(proc))?;
     push_text(text, " ")?;
-    push_cred(text, &call.cred)?;
+    push_cred(text, cred)?;
     push_text(text, " ")?;
-    push_bytes(alloc, text, call.args.as_slice())
+    push_bytes(alloc, text, args)
 }
 
 fn side_words(side: Side) -> &'static str
@@ -194,7 +210,7 @@ fn side_words(side: Side) -> &'static str
 }
 
 /// The link, the side and the bytes of a piece, after its name.
-fn push_piece(
+pub(crate) fn push_piece(
     alloc: Global,
     text: &mut String,
     name: &str,
@@ -222,7 +238,17 @@ fn push_outcome(alloc: Global, text: &mut String, outcome: &Outcome) -> Result<(
     }
 }
 
-fn push_submit(
+/// A call line before the call.
+fn push_form_line(text: &mut String, link: u32, xid: u32, form: &Form) -> Result<(), Memory>
+    ensures { OnOk result (string_bytes text.new ≡ string_bytes text.old ++ (codes "submit " ++ two_numbers_text link xid ++ codes " " ++ form_text form.now ++ codes " ")) }
+{
+    push_two(text, "submit ", link, xid)?;
+    push_text(text, " ")?;
+    push_form(text, form)?;
+    push_text(text, " ")
+}
+
+pub(crate) fn push_submit(
     alloc: Global,
     text: &mut String,
     link: u32,
@@ -232,21 +258,34 @@ fn push_submit(
 ) -> Result<(), Memory>
     ensures { OnOk result (string_bytes text.new ≡ string_bytes text.old ++ (codes "submit " ++ two_numbers_text link xid ++ codes " " ++ form_text form.now ++ codes " " ++ call_text call.now)) }
 {
-    push_two(text, "submit ", link, xid)?;
-    push_text(text, " ")?;
-    push_form(text, form)?;
-    push_text(text, " ")?;
-    push_call(alloc, text, call)
+    push_form_line(text, link, xid, form)?;
+    let procedure = (call.prog, call.vers, call.proc);
+    push_call(alloc, text, procedure, &call.cred, call.args.as_slice())
 }
 
-fn push_exec(text: &mut String, link: u32, xid: u32, seconds: u32) -> Result<(), Memory>
+/// A call without a credential, in the Auto form.
+pub(crate) fn push_plain_submit(
+    alloc: Global,
+    text: &mut String,
+    at: (u32, u32),
+    procedure: (u32, u32, u32),
+    args: &[u8],
+) -> Result<(), Memory>
+    ensures { OnOk result (string_bytes text.new ≡ string_bytes text.old ++ (codes "submit " ++ two_numbers_text at.0 at.1 ++ codes " " ++ form_text forms.Auto ++ codes " " ++ call_text (record { prog = procedure.0; vers = procedure.1; proc = procedure.2; cred = creds.None; args = args.now }))) }
+{
+    let (link, xid) = at;
+    push_form_line(text, link, xid, &Form::Auto)?;
+    push_call(alloc, text, procedure, &Cred::None, args)
+}
+
+pub(crate) fn push_exec(text: &mut String, link: u32, xid: u32, seconds: u32) -> Result<(), Memory>
     ensures { OnOk result (string_bytes text.new ≡ string_bytes text.old ++ (codes "exec " ++ two_numbers_text link xid ++ codes " " ++ decimal seconds)) }
 {
     push_two(text, "exec ", link, xid)?;
     push_number(text, " ", u64::from(seconds))
 }
 
-fn push_done(
+pub(crate) fn push_done(
     alloc: Global,
     text: &mut String,
     link: u32,
@@ -319,7 +358,7 @@ fn push_sizes(text: &mut String, client: u8, server: u8) -> Result<(), Memory>
 }
 
 #[tactic(auto, unfolding(crate::specs::Texts::opening_text))]
-fn push_opening(text: &mut String, opening: Opening) -> Result<(), Memory>
+pub(crate) fn push_opening(text: &mut String, opening: Opening) -> Result<(), Memory>
     ensures { OnOk result (string_bytes text.new ≡ string_bytes text.old ++ opening_text opening) }
 {
     push_number(text, "clients ", u64::from(opening.clients))?;
@@ -328,18 +367,26 @@ fn push_opening(text: &mut String, opening: Opening) -> Result<(), Memory>
     push_sizes(text, opening.client_units, opening.server_units)
 }
 
-/// The text of a capture: its first line, and a line for each mark.
+/// The text of a first line and of marks.
+#[tactic(auto, unfolding(crate::specs::Texts::capture_text))]
+fn written(alloc: Global, opening: Opening, marks: &[CapturedMark]) -> Result<Octets, Memory>
+    ensures { IfOk result (λ text. text ≡ capture_text (record { opening = opening; marks = marks.now })) }
+{
+    let mut text = String::new(alloc);
+    push_opening(&mut text, opening)?;
+    push_text(&mut text, "\n")?;
+    push_marks(alloc, &mut text, marks)?;
+    Ok(Octets::from_vec(text.into_bytes()))
+}
+
+/// The text of a capture: its first line, and a line for each mark. It is read back as the capture.
 ///
 /// # Errors
 ///
 /// [`Memory`] if memory ran out.
-#[tactic(auto, unfolding(crate::specs::Texts::capture_text))]
 pub fn write_capture(alloc: Global, capture: &Capture) -> Result<Octets, Memory>
-    ensures { IfOk result (λ text. text ≡ capture_text capture.now) }
+    ensures is { IfOk result (λ text. text ≡ capture_text capture.now) }
+    ensures read { IfOk result (λ text. capture_of text ≡ Ok capture.now) }
 {
-    let mut text = String::new(alloc);
-    push_opening(&mut text, capture.opening())?;
-    push_text(&mut text, "\n")?;
-    push_marks(alloc, &mut text, capture.marks())?;
-    Ok(Octets::from_vec(text.into_bytes()))
+    written(alloc, capture.opening(), capture.marks())
 }

@@ -1,8 +1,10 @@
-//! Captures that are read and written again, one that is made, and texts that are none.
+//! Captures that are read and written again, that of a run, and texts that are none.
 
 use crate::compare::same;
-use nr_capture::{Capture, CaptureFault, CapturedMark, read_capture, write_capture};
+use nr_capture::{CaptureFault, read_capture, write_capture, write_run};
+use nr_marks::MarkLog;
 use nr_outside::INPUT_MAX;
+use nr_reduce::Mark;
 use nr_texts::Opening;
 use nr_wire::Side;
 use nr_xdr::Octets;
@@ -12,9 +14,18 @@ use std::process::Abort;
 /// A text that is read and written again, and how many marks it has.
 static TEXTS: [(&[u8], usize); 4] = [
     (b"clients 1 credits 64\n", 0),
-    (b"clients 2 credits 4\nsubmit 1 1 auto 100003.3 0 none -\nout 1 client 4d5041\nin 2 server 00ff\n", 3),
-    (b"clients 1 credits 1 capacity 0 sizes 1 16\nsubmit 1 1 given:read@4=5,6;write=;reply=7 100003.3 6 1000.100 00\n", 1),
-    (b"clients 1 credits 1 sizes 2 1\nexec 1 1 4294967295\ndone 1 1 reply 0a\ndone 1 2 chunk\ndone 1 3 version 1 1\nforget 1 4\nrevoke 1 5\ndrop 1\n", 7),
+    (
+        b"clients 2 credits 4\nsubmit 1 1 auto 100003.3 0 none -\nout 1 client 4d5041\nin 2 server 00ff\n",
+        3,
+    ),
+    (
+        b"clients 1 credits 1 capacity 0 sizes 1 16\nsubmit 1 1 given:read@4=5,6;write=;reply=7 100003.3 6 1000.100 00\n",
+        1,
+    ),
+    (
+        b"clients 1 credits 1 sizes 2 1\nexec 1 1 4294967295\ndone 1 1 reply 0a\ndone 1 2 chunk\ndone 1 3 version 1 1\nforget 1 4\nrevoke 1 5\ndrop 1\n",
+        7,
+    ),
 ];
 
 /// How many marks a text has, and whether it is written as it was read.
@@ -26,7 +37,10 @@ fn read_and_written(rt: &impl Abort, alloc: Global, text: &[u8]) -> (usize, bool
         return (0, false);
     };
     let written = write_capture(alloc, &capture).expect(rt, "memory");
-    (capture.marks().len(), written.as_slice() == text)
+    (
+        capture.marks().len(),
+        written.as_slice() == text && capture.opening().clients > 0,
+    )
 }
 
 #[test]
@@ -72,30 +86,40 @@ fn invalid_lines(rt: HostRuntime) {
     }
 }
 
-/// The text of a capture of one mark, and its clients.
-fn made(rt: &impl Abort, alloc: Global) -> (Vec<u8>, u32) {
-    let opening = Opening {
-        clients: 3,
-        credits: 2,
-        capacity: 9,
-        client_units: 1,
-        server_units: 1,
-    };
-    let mut capture = Capture::new(alloc, opening);
-    let mark = CapturedMark::Out {
-        link: 3,
-        side: Side::Responder,
-        bytes: Octets::from_slice(alloc, b"\xAB").expect(rt, "memory"),
-    };
-    capture.push(mark).expect(rt, "memory");
-    let text = write_capture(alloc, &capture).expect(rt, "memory");
-    (text.into_vec(), capture.opening().clients)
+/// The text of the capture of a run of one mark, and of one that has no line.
+fn written(rt: &impl Abort, alloc: Global) -> Vec<u8> {
+    let mut marks = MarkLog::new(alloc);
+    for bytes in ONE_LINE.iter() {
+        let mark = Mark::Wrote {
+            link: 3,
+            side: Side::Responder,
+            bytes: Octets::from_slice(alloc, bytes).expect(rt, "memory"),
+        };
+        marks.push(mark).expect(rt, "memory");
+    }
+    let marks = marks.finish().expect(rt, "memory");
+    let text = write_run(alloc, OPENING, &marks).expect(rt, "memory");
+    text.into_vec()
 }
 
+/// A mark of one byte, and one of none.
+static ONE_LINE: [&[u8]; 2] = [b"\xAB", b""];
+
+const OPENING: Opening = Opening {
+    clients: 3,
+    credits: 2,
+    capacity: 9,
+    client_units: 1,
+    server_units: 1,
+};
+
 #[test]
-fn a_capture_is_made(rt: HostRuntime) {
+fn the_capture_of_a_run(rt: HostRuntime) {
     let want: &[u8] = b"clients 3 credits 2 capacity 9\nout 3 server ab\n";
-    let (text, clients) = made(&rt, rt.alloc());
-    same(&rt, 0, text, want.to_vec(rt.alloc()).expect(&rt, "memory"));
-    same(&rt, 1, clients, 3);
+    same(
+        &rt,
+        0,
+        written(&rt, rt.alloc()),
+        want.to_vec(rt.alloc()).expect(&rt, "memory"),
+    );
 }
