@@ -1,0 +1,108 @@
+-- Places of lists.
+use Rattle.std.proofs.Common.{◌≡◌, ℕ, zero, suc, ◌+◌, ◌<◌, ◌⊎◌, arith, Bool, true, false, ltb, if◌then◌else◌, List, [], ◌∷◌, ◌++◌, length, refl, sym, ap, subst, ⊎_elim, inl, inr, append-nil}
+use Rattle.std.specs.List.{AllByRecursion}
+use mathlib.Core.Option.{some, some-injective, some-ne-none}
+use lib.ListN.{get_elem?}
+use Rattle.atomic_table.proofs.Lists.{at_longer, at_last}
+use Rattle.nr_turnstile.specs.Rule.{Begins, IsIn, in_order, places_from, put_in}
+
+module _ {A : Type 0} where
+  -- an element of a list with one more: of the list, or the last one
+  pub at_end : (l : List A) (a b : A) (j : ℕ) → get_elem? (l ++ a ∷ []) j ≡ some b → (get_elem? l j ≡ some b) ⊎ ((j ≡ length l) × (a ≡ b))
+  at_end [] a b zero e = inr (refl, some-injective a b e)
+  at_end [] a b (suc j) e = absurd (some-ne-none b (sym e))
+  at_end (x ∷ xs) a b zero e = inl e
+  at_end (x ∷ xs) a b (suc j) e = ⊎_elim inl (λ t. inr (ap suc t.0, t.1)) (at_end xs a b j e)
+
+  pub at_below : (l : List A) (j : ℕ) (b : A) → get_elem? l j ≡ some b → j < length l
+  at_below [] j b e = absurd (some-ne-none b (sym e))
+  at_below (x ∷ xs) zero b e = omega arith
+  at_below (x ∷ xs) (suc j) b e = let h = at_below xs j b e in omega arith
+
+  pub begins_self : (xs : List A) → Begins xs xs
+  begins_self xs = ([], sym (append-nil xs))
+
+  pub in_more : (xs ys : List A) (y : A) → IsIn y xs → IsIn y (xs ++ ys)
+  in_more xs ys y i = (i.0, at_longer xs ys i.0 y i.1)
+
+  pub in_last : (xs : List A) (y : A) → IsIn y (xs ++ y ∷ [])
+  in_last xs y = (length xs, at_last xs y (length xs) refl)
+
+  -- an element of two lists is in one of them
+  pub in_either : (xs ys : List A) (a : A) → IsIn a (xs ++ ys) → IsIn a xs ⊎ IsIn a ys
+  in_either [] ys a i = inr i
+  in_either (x ∷ xs) ys a (zero, at) = inl (0, at)
+  in_either (x ∷ xs) ys a (suc n, at) = ⊎_elim (λ (i : IsIn a xs). inl (suc i.0, i.1)) inr (in_either xs ys a (n, at))
+
+  pub at_either : (xs ys : List A) (n : ℕ) (a : A) → get_elem? (xs ++ ys) n ≡ some a → (get_elem? xs n ≡ some a) ⊎ ((i : ℕ) × (get_elem? ys i ≡ some a))
+  at_either [] ys n a at = inr (n, at)
+  at_either (x ∷ xs) ys zero a at = inl at
+  at_either (x ∷ xs) ys (suc n) a at = at_either xs ys n a at
+
+  -- an element that follows stands in the longer list
+  pub at_after : (xs ys : List A) (i : ℕ) (a : A) → get_elem? ys i ≡ some a → (n : ℕ) × ((n ≡ length xs + i) × (get_elem? (xs ++ ys) n ≡ some a))
+  at_after [] ys i a at = (i, (omega arith, at))
+  at_after (x ∷ xs) ys i a at = let (n, (is, later)) = at_after xs ys i a at in (suc n, (omega (arith, is), later))
+
+  -- an element of the longer list at a place of its beginning
+  pub at_begin : (xs ys : List A) (n : ℕ) (a : A) → n < length xs → get_elem? (xs ++ ys) n ≡ some a → get_elem? xs n ≡ some a
+  at_begin [] ys n a lt at = absurd (omega (arith, lt))
+  at_begin (x ∷ xs) ys zero a lt at = at
+  at_begin (x ∷ xs) ys (suc n) a lt at = at_begin xs ys n a (omega (arith, lt)) at
+
+  -- what holds of all elements holds of each
+  pub all_in : (P : A → Type 0) (xs : List A) (a : A) → AllByRecursion P xs → IsIn a xs → P a
+  all_in P [] a all i = absurd (some-ne-none a (sym i.1))
+  all_in P (x ∷ xs) a all (zero, at) = subst P (some-injective x a at) all.0
+  all_in P (x ∷ xs) a all (suc n, at) = all_in P xs a all.1 (n, at)
+
+  pub all_map : (P Q : A → Type 0) (xs : List A) → ((a : A) → P a → Q a) → AllByRecursion P xs → AllByRecursion Q xs
+  all_map P Q [] f all = tt
+  all_map P Q (x ∷ xs) f all = (f x all.0, all_map P Q xs f all.1)
+
+-- ---- Rising lists of places
+
+in_put : (x : ℕ) (ys : List ℕ) (z : ℕ) → IsIn z (put_in x ys) → (z ≡ x) ⊎ IsIn z ys
+in_put x [] z (zero, at) = inl (sym (some-injective x z at))
+in_put x [] z (suc n, at) = absurd (some-ne-none z (sym at))
+in_put x (y ∷ ys) z i = by_less (ltb x y) i where
+  by_less : (b : Bool) → IsIn z (if b then x ∷ y ∷ ys else y ∷ put_in x ys) → (z ≡ x) ⊎ IsIn z (y ∷ ys)
+  by_less true (zero, at) = inl (sym (some-injective x z at))
+  by_less true (suc n, at) = inr (n, at)
+  by_less false (zero, at) = inr (0, at)
+  by_less false (suc n, at) = ⊎_elim inl (λ (j : IsIn z ys). inr (suc j.0, j.1)) (in_put x ys z (n, at))
+
+still_put : (x : ℕ) (ys : List ℕ) (z : ℕ) → IsIn z ys → IsIn z (put_in x ys)
+still_put x [] z i = absurd (some-ne-none z (sym i.1))
+still_put x (y ∷ ys) z i = by_less (ltb x y) i where
+  by_less : (b : Bool) → IsIn z (y ∷ ys) → IsIn z (if b then x ∷ y ∷ ys else y ∷ put_in x ys)
+  by_less true j = (suc j.0, j.1)
+  by_less false (zero, at) = (0, at)
+  by_less false (suc n, at) = let j = still_put x ys z (n, at) in (suc j.0, j.1)
+
+-- a place of two rising lists is one of the first or of the second
+pub in_ordered : (xs ys : List ℕ) (z : ℕ) → IsIn z (in_order xs ys) → IsIn z xs ⊎ IsIn z ys
+in_ordered [] ys z i = inr i
+in_ordered (x ∷ xs) ys z i = ⊎_elim
+    (λ (is : z ≡ x). inl (0, ap some (sym is)))
+    (λ (j : IsIn z (in_order xs ys)). ⊎_elim (λ (k : IsIn z xs). inl (suc k.0, k.1)) inr (in_ordered xs ys z j))
+    (in_put x (in_order xs ys) z i)
+
+pub still_ordered : (xs ys : List ℕ) (z : ℕ) → IsIn z ys → IsIn z (in_order xs ys)
+still_ordered [] ys z i = i
+still_ordered (x ∷ xs) ys z i = still_put x (in_order xs ys) z (still_ordered xs ys z i)
+
+pub places_in : (n k i : ℕ) → i < n → IsIn (k + i) (places_from k n)
+places_in zero k i lt = absurd (omega (arith, lt))
+places_in (suc n) k zero lt = let is : k ≡ k + 0 = omega arith in (0, ap some is)
+places_in (suc n) k (suc i) lt = let (j, at) = places_in n (suc k) i (omega (arith, lt)) in let is : suc k + i ≡ k + suc i = omega arith in
+    (suc j, subst (λ (m : ℕ). get_elem? (places_from (suc k) n) j ≡ some m) is at)
+
+pub in_places : (n k z : ℕ) → IsIn z (places_from k n) → z < k + n
+in_places zero k z i = absurd (some-ne-none z (sym i.1))
+in_places (suc n) k z (zero, at) = let is = some-injective k z at in omega (arith, is)
+in_places (suc n) k z (suc j, at) = let l = in_places n (suc k) z (j, at) in omega (arith, l)
+
+pub places_len : (n k : ℕ) → length (places_from k n) ≡ n
+places_len zero k = refl
+places_len (suc n) k = ap suc (places_len n (suc k))
