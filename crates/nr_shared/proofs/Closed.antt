@@ -60,7 +60,7 @@ module _ {I O : Type 0} (left given : I → Option (List ℕ)) (source_faults : 
   pub gives_back : (p : Pass I O) (j : TurnPass (Line O) Entry) (s : Feeder I O) (m : Line O) (b b' : Beside I O) (h : List Entry) → IsCaller p.main → seen_by p.source ≡ b ∷ [] → b' ≡ b → FeedsFor left given source_faults b' s
       → Joins closes_of p.main s.pass j → Stands taken sink_faults m h → Begins (seen_by j) h → ((n : ℕ) → IsIn n (mine_of j) → n < length h) → Owns closes_of h (mine_of j) → Earlier closes_of h
       → GivesBack left given source_faults taken sink_faults p m.requester s.source m.sink
-  gives_back p j s m b b' h c one same f (longer_is, (first, (second, (mine, (rising, (own, (lies_j, missed))))))) st whole inside owns earlier =
+  gives_back p j s m b b' h c one same f (longer_is, first, second, mine, rising, own, lies_j, missed) st whole inside owns earlier =
       let begins : Begins (seen_by p.main) h = begins_then (seen_by p.main) (seen_by j) h first whole in
       let fed : Begins (seen_by s.pass) h = begins_then (seen_by s.pass) (seen_by j) h second whole in
       let quiet = after_feeding p.main s.pass j h fed c f.feeding f.lies st.in_order first mine whole owns in

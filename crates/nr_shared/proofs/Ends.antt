@@ -11,6 +11,7 @@ use Rattle.nr_reduce.specs.declared.call.Refused.TheVariants as refusals
 use Rattle.nr_reduce.specs.declared.call.Submission.{Submission}
 use Rattle.nr_reduce.specs.declared.call.Submission.TheVariants as submissions
 use Rattle.nr_reduce.specs.declared.outline.Plan.{Plan}
+use Rattle.nr_reduce.specs.Credits.{calls_outstanding, credits_granted}
 use Rattle.nr_reduce.specs.Limits.{numbers_end}
 use Rattle.nr_reduce.specs.Plans.{TooLarge, regions_needed}
 use Rattle.nr_reduce.specs.SubmitAnswer.{unless_spent}
@@ -35,7 +36,7 @@ true_false e = absurd cc
 
 -- a link that fits the history was opened as its handing says
 fits_handing : (h : List Entry) (c : Handing) (opened : LinkParameters) → handed h ≡ Some c → FitsHistory h opened → FitsHanding c opened
-fits_handing h c opened is (d, (has, fits)) = subst (λ (x : Handing). FitsHanding x opened) (ap (λ (o : Option Handing). unwrap_or o c) (sym has ∙ is)) fits
+fits_handing h c opened is (d, has, fits) = subst (λ (x : Handing). FitsHanding x opened) (ap (λ (o : Option Handing). unwrap_or o c) (sym has ∙ is)) fits
 
 client_ended : (c : Handing) (r : RequesterSide) (h : List Entry) (end : End) → handed h ≡ Some c → FollowsIf false c r h → r.state.side.ended ≡ Some end → ClientEnded end h
 client_ended c r h end is follows ended opened link fits = let live = follows.1 opened link (fits_handing h c opened is fits) in sym live.stands.keeps.kept.keeps.ended ∙ ended
@@ -57,9 +58,9 @@ out_is (Some causes.Memory) is = refl
 
 -- a requester that ended for another cause hasn't run out of memory
 pub not_out : (o : Option Stop) (c : Handing) (r : RequesterSide) (h : List Entry) (P : Type 0) → (r.state.side.ended ≡ Some ends.Memory → ⊥) → Follows c r o h → (FollowsIf false c r h → P) → P
-not_out o c r h P other follows then = by_out (is_out o) follows where
+not_out o c r h P other follows next = by_out (is_out o) follows where
   by_out : (b : Bool) → FollowsIf b c r h → P
-  by_out false f = then f
+  by_out false f = next f
   by_out true f = absurd (other f.0)
 
 other_end : (r : RequesterSide) (end : End) → r.state.side.ended ≡ Some end → (IsMemory end → ⊥) → r.state.side.ended ≡ Some ends.Memory → ⊥
@@ -184,10 +185,10 @@ module _ {O : Type 0} (taken : O → Option (List ℕ)) (faults : O → ℕ) whe
   -- whether a credit is left
   pub says_credit : (m : Line O) (h : List Entry) → Stands taken faults m h → SaysCredit (nat_lt (length m.requester.state.outstanding) m.requester.state.grant) h
   says_credit m h st other opened link fits = by_out (is_out m.stopped) refl where
-    by_out : (b : Bool) → is_out m.stopped ≡ b → _
+    by_out : (b : Bool) → is_out m.stopped ≡ b → nat_lt (length m.requester.state.outstanding) m.requester.state.grant ≡ nat_lt (calls_outstanding opened link (run_of 0 link h)) (credits_granted opened link (run_of 0 link h))
     by_out true out = absurd (other (sym st.stopped ∙ out_is m.stopped out))
     by_out false out =
         let f = subst (λ b. FollowsIf b st.handing m.requester h) out st.follows in
         let l = f.1 opened link (fits_handing h st.handing opened st.is_handed fits) in
         let counts = counts_as_client opened link m.requester (run_of 0 link h) l.stands in
-        ap (λ (n : ℕ). nat_lt n m.requester.state.grant) counts.0 ∙ ap (λ (n : ℕ). nat_lt _ n) counts.1
+        ap (λ (n : ℕ). nat_lt n m.requester.state.grant) counts.0 ∙ ap (λ (n : ℕ). nat_lt (calls_outstanding opened link (run_of 0 link h)) n) counts.1

@@ -100,6 +100,6 @@ module _ {I O : Type 0} (left given : I → Option (List ℕ)) (faults : I → �
 
   -- the value of the source's turn
   pub feeds_value : (b : Beside I O) (s t : Feeder I O) (h : List (Beside I O)) → h ≡ b ∷ [] → Feeds left given faults s h → s ≡ t → FeedsFor left given faults b t
-  feeds_value b s t h one (d, (two, f)) same = subst (FeedsFor left given faults b) same (subst (λ (x : Beside I O). FeedsFor left given faults x s) (only d b (sym two ∙ one)) f) where
+  feeds_value b s t h one (d, two, f) same = subst (FeedsFor left given faults b) same (subst (λ (x : Beside I O). FeedsFor left given faults x s) (only d b (sym two ∙ one)) f) where
     only : (x y : Beside I O) → x ∷ [] ≡ y ∷ [] → x ≡ y
     only x y is = some-injective x y (ap (λ (l : List (Beside I O)). get_elem? l 0) is)

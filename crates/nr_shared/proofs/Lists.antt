@@ -65,20 +65,20 @@ module _ {A : Type 0} where
 in_put : (x : ℕ) (ys : List ℕ) (z : ℕ) → IsIn z (put_in x ys) → (z ≡ x) ⊎ IsIn z ys
 in_put x [] z (zero, at) = inl (sym (some-injective x z at))
 in_put x [] z (suc n, at) = absurd (some-ne-none z (sym at))
-in_put x (y ∷ ys) z i = by_less (ltb x y) i where
-  by_less : (b : Bool) → IsIn z (if b then x ∷ y ∷ ys else y ∷ put_in x ys) → (z ≡ x) ⊎ IsIn z (y ∷ ys)
-  by_less true (zero, at) = inl (sym (some-injective x z at))
-  by_less true (suc n, at) = inr (n, at)
-  by_less false (zero, at) = inr (0, at)
-  by_less false (suc n, at) = ⊎_elim inl (λ (j : IsIn z ys). inr (suc j.0, j.1)) (in_put x ys z (n, at))
+in_put x (y ∷ ys) z i = by_less (ltb x y) i (λ j. in_put x ys z j) where
+  by_less : (b : Bool) → IsIn z (if b then x ∷ y ∷ ys else y ∷ put_in x ys) → (IsIn z (put_in x ys) → (z ≡ x) ⊎ IsIn z ys) → (z ≡ x) ⊎ IsIn z (y ∷ ys)
+  by_less true (zero, at) later = inl (sym (some-injective x z at))
+  by_less true (suc n, at) later = inr (n, at)
+  by_less false (zero, at) later = inr (0, at)
+  by_less false (suc n, at) later = ⊎_elim inl (λ (j : IsIn z ys). inr (suc j.0, j.1)) (later (n, at))
 
 still_put : (x : ℕ) (ys : List ℕ) (z : ℕ) → IsIn z ys → IsIn z (put_in x ys)
 still_put x [] z i = absurd (some-ne-none z (sym i.1))
-still_put x (y ∷ ys) z i = by_less (ltb x y) i where
-  by_less : (b : Bool) → IsIn z (y ∷ ys) → IsIn z (if b then x ∷ y ∷ ys else y ∷ put_in x ys)
-  by_less true j = (suc j.0, j.1)
-  by_less false (zero, at) = (0, at)
-  by_less false (suc n, at) = let j = still_put x ys z (n, at) in (suc j.0, j.1)
+still_put x (y ∷ ys) z i = by_less (ltb x y) i (λ j. still_put x ys z j) where
+  by_less : (b : Bool) → IsIn z (y ∷ ys) → (IsIn z ys → IsIn z (put_in x ys)) → IsIn z (if b then x ∷ y ∷ ys else y ∷ put_in x ys)
+  by_less true j later = (suc j.0, j.1)
+  by_less false (zero, at) later = (0, at)
+  by_less false (suc n, at) later = let j = later (n, at) in (suc j.0, j.1)
 
 -- a place of two rising lists is one of the first or of the second
 pub in_ordered : (xs ys : List ℕ) (z : ℕ) → IsIn z (in_order xs ys) → IsIn z xs ⊎ IsIn z ys
@@ -92,11 +92,14 @@ pub still_ordered : (xs ys : List ℕ) (z : ℕ) → IsIn z ys → IsIn z (in_or
 still_ordered [] ys z i = i
 still_ordered (x ∷ xs) ys z i = still_put x (in_order xs ys) z (still_ordered xs ys z i)
 
-pub places_in : (n k i : ℕ) → i < n → IsIn (k + i) (places_from k n)
+places_in : (n k i : ℕ) → i < n → IsIn (k + i) (places_from k n)
 places_in zero k i lt = absurd (omega (arith, lt))
 places_in (suc n) k zero lt = let is : k ≡ k + 0 = omega arith in (0, ap some is)
 places_in (suc n) k (suc i) lt = let (j, at) = places_in n (suc k) i (omega (arith, lt)) in let is : suc k + i ≡ k + suc i = omega arith in
     (suc j, subst (λ (m : ℕ). get_elem? (places_from (suc k) n) j ≡ some m) is at)
+
+pub place_in : (n i : ℕ) → i < n → IsIn i (places_from 0 n)
+place_in n i lt = let is : 0 + i ≡ i = omega arith in subst (λ (z : ℕ). IsIn z (places_from 0 n)) is (places_in n 0 i lt)
 
 pub in_places : (n k z : ℕ) → IsIn z (places_from k n) → z < k + n
 in_places zero k z i = absurd (some-ne-none z (sym i.1))

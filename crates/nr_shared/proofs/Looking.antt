@@ -76,7 +76,8 @@ looks_after p q r s xid (looks.Ends end) a same b seen mine = gives_to p r s xid
 pub looks_from : {O : Type 0} (p q r : Pass (Line O) Entry) (xid : ℕ) (look : Look) → Adds p q [] → place_of xid (seen_by q) ≡ place_of xid (seen_by p) → LooksUp q r xid look → LooksUp p r xid look
 looks_from p q r xid look a same b = looks_after p q r r xid look a same b refl refl
 
-pub caller_looks : {O : Type 0} (p q : Pass (Line O) Entry) (xid : ℕ) (look : Look) → IsCaller p → LooksUp p q xid look → IsCaller q
-caller_looks p q xid (looks.Answered done) c (k, (at, (asked, adds))) = caller_on p q (entries.Done xid done.outcome k ∷ []) c adds (refl, tt)
-caller_looks p q xid (looks.NotYet ticket) c (is, (adds, rest)) = caller_on p q [] c adds tt
-caller_looks p q xid (looks.Ends end) c g = caller_on p q (entries.Forget xid g.at ∷ []) c g.adds (refl, tt)
+pub caller_takes : {O : Type 0} (p q : Pass (Line O) Entry) (xid : ℕ) (done : Done) → IsCaller p → TakesAnswer p q xid done → IsCaller q
+caller_takes p q xid done c (k, (at, (asked, adds))) = caller_on p q (entries.Done xid done.outcome k ∷ []) c adds (refl, tt)
+
+pub caller_gives : {O : Type 0} (p q : Pass (Line O) Entry) (xid : ℕ) (end : CallEnd) → IsCaller p → GivesUp p q xid end → IsCaller q
+caller_gives p q xid end c g = caller_on p q (entries.Forget xid g.at ∷ []) c g.adds (refl, tt)

@@ -32,7 +32,7 @@ use Rattle.nr_shared.specs.Standing.{Follows, FollowsIf, IsWithin, KeepsCalls, S
 use Rattle.nr_shared.proofs.Asking.{none_closed}
 use Rattle.nr_shared.proofs.Calls.{calls_kept}
 use Rattle.nr_shared.proofs.Chains.{chained_end, last_end, last_none, unchained}
-use Rattle.nr_shared.proofs.Lists.{all_map, at_below, at_end, in_places, places_in, places_len}
+use Rattle.nr_shared.proofs.Lists.{all_map, at_below, at_end, in_places, place_in, places_len}
 use Rattle.nr_shared.proofs.Moving.{follows_same}
 use Rattle.nr_shared.proofs.Steps.{false_true}
 
@@ -135,7 +135,7 @@ module _ {O : Type 0} (taken : O → Option (List ℕ)) (faults : O → ℕ) whe
         due = λ is. absurd (false_true (sym is ∙ due));
         within = record {
           asked = places m.requester.state.next_xid;
-          is_asked = λ xid there. places_in m.requester.state.next_xid 0 xid (below_next m.requester.state xid fresh there);
+          is_asked = λ xid there. place_in m.requester.state.next_xid xid (below_next m.requester.state xid fresh there);
           few = omega (arith, len, counted, few, n, is_due);
           xids = small;
           bytes = omega (arith, fed_len);
@@ -169,7 +169,7 @@ module _ {O : Type 0} (taken : O → Option (List ℕ)) (faults : O → ℕ) whe
         last = length es;
         is_last = ap (λ (l : List Entry). last_feeding l) is ∙ last_end is_feeding es e;
         is_open = (
-          subst (IsIn (length es)) (sym mine) (places_in (length history) 0 (length es) (omega (arith, len))),
+          subst (IsIn (length es)) (sym mine) (place_in (length history) (length es) (omega (arith, len))),
           λ q f at closes. (let l = earlier (length es) q f at closes in let b = at_below (seen_by p) q f at in omega (arith, l, b, len, seen_len)),
         );
       }

@@ -1,5 +1,5 @@
 -- A pass that rests on a shared requester, after a turn.
-use Rattle.std.proofs.Common.{◌≡◌, ℕ, ◌+◌, ◌<◌, ◌≤◌, arith, false, List, [], ◌∷◌, ◌++◌, length, length-append, append-nil, refl, sym, ap, subst, ◌∙◌, ◌⊎◌, ⊎_elim, zero, suc}
+use Rattle.std.proofs.Common.{◌≡◌, ℕ, ◌+◌, ◌<◌, ◌≤◌, arith, false, List, [], ◌∷◌, ◌++◌, length, length-append, append-nil, Option, refl, sym, ap, subst, ◌∙◌, ◌⊎◌, ⊎_elim, zero, suc}
 use Rattle.std.specs.List.{AllByRecursion}
 use mathlib.Core.Option.{some, some-injective, some-ne-none}
 use lib.ListN.{get_elem?}
@@ -66,8 +66,8 @@ module _ {O : Type 0} where
   own_old : (p q : TurnPass (Line O) Entry) (k : ℕ) (e : Entry) → IsCaller p → Begins (seen_by p) (seen_by q) → IsIn k (mine_of p) → get_elem? (seen_by q) k ≡ some e → is_feeding e ≡ false
   own_old p q k e c begins i at = c.feeds_none k e i (at_begin (seen_by p) begins.0 k e (c.lies k i) (subst (λ (l : List Entry). get_elem? l k ≡ some e) begins.1 at))
 
-  pub caller_joined : (closes : Entry → Rattle.core.specs.declared.option.Option.Option ℕ) (p o q : TurnPass (Line O) Entry) → IsCaller p → IsCaller o → Joins closes p o q → IsCaller q
-  caller_joined closes p o q c d (is, (first, (second, (mine, (rising, (owns, (lies, missed))))))) = record {
+  pub caller_joined : (closes : Entry → Option ℕ) (p o q : TurnPass (Line O) Entry) → IsCaller p → IsCaller o → Joins closes p o q → IsCaller q
+  caller_joined closes p o q c d (is, first, second, mine, rising, owns, lies, missed) = record {
     lies = lies;
     feeds_none = λ k e i at. ⊎_elim
         (λ (old : IsIn k (mine_of p)). own_old p q k e c first old at)

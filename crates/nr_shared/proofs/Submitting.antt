@@ -78,14 +78,11 @@ link_cause (calls.TooLarge need room) call form h is = absurd is
 link_cause calls.Memory call form h is = absurd is
 
 module _ {O : Type 0} where
-  abbrev P : Type 0
-  P = Pass (Line O) Entry
-
-  asked_writes : (p q : P) (xid : ℕ) → Writes p q → Lies (seen_by q) (mine_of q) → IsAsked p xid → place_of xid (seen_by q) ≡ place_of xid (seen_by p) → IsAsked q xid
+  asked_writes : (p q : Pass (Line O) Entry) (xid : ℕ) → Writes p q → Lies (seen_by q) (mine_of q) → IsAsked p xid → place_of xid (seen_by q) ≡ place_of xid (seen_by p) → IsAsked q xid
   asked_writes p q xid w lies a same = record { at = a.at; is_at = same ∙ a.is_at; stays = open_writes p q a.at w a.stays; lies = lies }
 
   -- A call is submitted in a turn: bytes are written, the Submit is added, and bytes are written.
-  pub sends : (p q r s : P) (call : Call) (form : Form) (xid : ℕ) → Writes p q → Adds q r (entries.Submit call form xid ∷ []) → seen_by r ≡ seen_by q ++ entries.Submit call form xid ∷ [] → IsAsked r xid → Writes r s
+  pub sends : (p q r s : Pass (Line O) Entry) (call : Call) (form : Form) (xid : ℕ) → Writes p q → Adds q r (entries.Submit call form xid ∷ []) → seen_by r ≡ seen_by q ++ entries.Submit call form xid ∷ [] → IsAsked r xid → Writes r s
       → Lies (seen_by s) (mine_of s) → asked_by xid (entries.Submit call form xid) ≡ true → Sends p s call form xid
   sends p q r s call form xid one adds seen asked two lies own =
       let e : Entry = entries.Submit call form xid in
@@ -106,14 +103,14 @@ module _ {O : Type 0} where
       }
 
   -- a turn in which the call is submitted: what keeps calls from being submitted is looked for between
-  pub attempt_sends : (p q r u s : P) (call : Call) (form : Form) (xid : ℕ) → Writes p q → seen_by r ≡ seen_by q → mine_of r ≡ mine_of q → Adds r u (entries.Submit call form xid ∷ []) → seen_by u ≡ seen_by r ++ entries.Submit call form xid ∷ [] → IsAsked u xid
+  pub attempt_sends : (p q r u s : Pass (Line O) Entry) (call : Call) (form : Form) (xid : ℕ) → Writes p q → seen_by r ≡ seen_by q → mine_of r ≡ mine_of q → Adds r u (entries.Submit call form xid ∷ []) → seen_by u ≡ seen_by r ++ entries.Submit call form xid ∷ [] → IsAsked u xid
       → Writes u s → Lies (seen_by s) (mine_of s) → Sends p s call form xid
   attempt_sends p q r u s call form xid w seen mine adds longer asked two lies =
       sends p r u s call form xid (record { es = w.es; are = w.are; seen = seen ∙ w.seen; adds = adds_same p q r w.es w.adds seen mine }) adds longer asked two lies
       (ap (λ b. is_some (if b then Some call else None)) (eq-eqb xid xid refl))
 
   -- the same told of the pass before, and after turns that added nothing
-  sends_from : (p q r : P) (call : Call) (form : Form) (xid : ℕ) (es : List Entry) → AreWrites es → Adds p q es → Sends q r call form xid → Sends p r call form xid
+  sends_from : (p q r : Pass (Line O) Entry) (call : Call) (form : Form) (xid : ℕ) (es : List Entry) → AreWrites es → Adds p q es → Sends q r call form xid → Sends p r call form xid
   sends_from p q r call form xid es are a s = record {
     waits = es ++ s.waits;
     are_waits = both_write es s.waits are s.are_waits;
@@ -126,7 +123,7 @@ module _ {O : Type 0} where
     asked = s.asked;
   }
 
-  sends_to : (p r s : P) (call : Call) (form : Form) (xid : ℕ) → Sends p r call form xid → seen_by s ≡ seen_by r → mine_of s ≡ mine_of r → Sends p s call form xid
+  sends_to : (p r s : Pass (Line O) Entry) (call : Call) (form : Form) (xid : ℕ) → Sends p r call form xid → seen_by s ≡ seen_by r → mine_of s ≡ mine_of r → Sends p s call form xid
   sends_to p r s call form xid t seen mine = record {
     waits = t.waits;
     are_waits = t.are_waits;
@@ -139,17 +136,17 @@ module _ {O : Type 0} where
     asked = asked_same r s xid seen mine t.asked;
   }
 
-  none_from : (p q r : P) (call : Call) (form : Form) (end : CallEnd) (es : List Entry) → AreWrites es → Adds p q es → SendsNone q r call form end → SendsNone p r call form end
+  none_from : (p q r : Pass (Line O) Entry) (call : Call) (form : Form) (end : CallEnd) (es : List Entry) → AreWrites es → Adds p q es → SendsNone q r call form end → SendsNone p r call form end
   none_from p q r call form end es are a s = record { waits = es ++ s.waits; are_waits = both_write es s.waits are s.are_waits; adds = adds_both p q r es s.waits a s.adds; cause = s.cause }
 
-  none_to : (p r s : P) (call : Call) (form : Form) (end : CallEnd) → SendsNone p r call form end → seen_by s ≡ seen_by r → mine_of s ≡ mine_of r → SendsNone p s call form end
+  none_to : (p r s : Pass (Line O) Entry) (call : Call) (form : Form) (end : CallEnd) → SendsNone p r call form end → seen_by s ≡ seen_by r → mine_of s ≡ mine_of r → SendsNone p s call form end
   none_to p r s call form end t seen mine = record { waits = t.waits; are_waits = t.are_waits; adds = adds_same p r s t.waits t.adds seen mine; cause = subst (λ (l : List Entry). IsCause end call form l) (sym seen) t.cause }
 
   -- a call that isn't submitted in a turn
-  pub sends_none : (p q r : P) (call : Call) (form : Form) (end : CallEnd) → Writes p q → seen_by r ≡ seen_by q → mine_of r ≡ mine_of q → IsCause end call form (seen_by q) → SendsNone p r call form end
+  pub sends_none : (p q r : Pass (Line O) Entry) (call : Call) (form : Form) (end : CallEnd) → Writes p q → seen_by r ≡ seen_by q → mine_of r ≡ mine_of q → IsCause end call form (seen_by q) → SendsNone p r call form end
   sends_none p q r call form end w seen mine cause = none_to p q r call form end (record { waits = w.es; are_waits = w.are; adds = w.adds; cause = cause }) seen mine
 
-  pub refused_none : (p q r u : P) (call : Call) (form : Form) (end : CallEnd) → Writes p q → seen_by r ≡ seen_by q → mine_of r ≡ mine_of q → Adds r u [] → seen_by u ≡ seen_by r → IsCause end call form (seen_by r) → SendsNone p u call form end
+  pub refused_none : (p q r u : Pass (Line O) Entry) (call : Call) (form : Form) (end : CallEnd) → Writes p q → seen_by r ≡ seen_by q → mine_of r ≡ mine_of q → Adds r u [] → seen_by u ≡ seen_by r → IsCause end call form (seen_by r) → SendsNone p u call form end
   refused_none p q r u call form end w seen mine adds kept cause = record {
     waits = w.es;
     are_waits = w.are;
@@ -157,54 +154,54 @@ module _ {O : Type 0} where
     cause = subst (λ (l : List Entry). IsCause end call form l) (sym kept) cause;
   }
 
-  pub lacks : (p q r : P) (call : Call) (form : Form) → Writes p q → seen_by r ≡ seen_by q → mine_of r ≡ mine_of q → LacksCredit p r call call form form
+  pub lacks : (p q r : Pass (Line O) Entry) (call : Call) (form : Form) → Writes p q → seen_by r ≡ seen_by q → mine_of r ≡ mine_of q → LacksCredit p r call call form form
   lacks p q r call form w seen mine = record { waits = w.es; are_waits = w.are; adds = adds_same p q r w.es w.adds seen mine; same_call = refl; same_form = refl }
 
-  lacks_from : (p q r : P) (call c : Call) (form f : Form) (es : List Entry) → AreWrites es → Adds p q es → LacksCredit q r call c form f → LacksCredit p r call c form f
+  lacks_from : (p q r : Pass (Line O) Entry) (call c : Call) (form f : Form) (es : List Entry) → AreWrites es → Adds p q es → LacksCredit q r call c form f → LacksCredit p r call c form f
   lacks_from p q r call c form f es are a s = record { waits = es ++ s.waits; are_waits = both_write es s.waits are s.are_waits; adds = adds_both p q r es s.waits a s.adds; same_call = s.same_call; same_form = s.same_form }
 
-  lacks_to : (p r s : P) (call c : Call) (form f : Form) → LacksCredit p r call c form f → seen_by s ≡ seen_by r → mine_of s ≡ mine_of r → LacksCredit p s call c form f
+  lacks_to : (p r s : Pass (Line O) Entry) (call c : Call) (form f : Form) → LacksCredit p r call c form f → seen_by s ≡ seen_by r → mine_of s ≡ mine_of r → LacksCredit p s call c form f
   lacks_to p r s call c form f t seen mine = record { waits = t.waits; are_waits = t.are_waits; adds = adds_same p r s t.waits t.adds seen mine; same_call = t.same_call; same_form = t.same_form }
 
-  pub attempts_after : (p q r s : P) (call : Call) (form : Form) (tried : Attempt) → Adds p q [] → Attempts q r call form tried → seen_by s ≡ seen_by r → mine_of s ≡ mine_of r → Attempts p s call form tried
+  pub attempts_after : (p q r s : Pass (Line O) Entry) (call : Call) (form : Form) (tried : Attempt) → Adds p q [] → Attempts q r call form tried → seen_by s ≡ seen_by r → mine_of s ≡ mine_of r → Attempts p s call form tried
   attempts_after p q r s call form (attempts.Sent xid) a t seen mine = sends_to p r s call form xid (sends_from p q r call form xid [] tt a t) seen mine
   attempts_after p q r s call form (attempts.Waits c f) a t seen mine = lacks_to p r s call c form f (lacks_from p q r call c form f [] tt a t) seen mine
   attempts_after p q r s call form (attempts.Ends end) a t seen mine = none_to p r s call form end (none_from p q r call form end [] tt a t) seen mine
 
   -- turns before that only wrote
-  pub sends_later : (p q r : P) (call c : Call) (form f : Form) (xid : ℕ) (es : List Entry) → AreWrites es → Adds p q es → c ≡ call → f ≡ form → Sends q r c f xid → Sends p r call form xid
+  pub sends_later : (p q r : Pass (Line O) Entry) (call c : Call) (form f : Form) (xid : ℕ) (es : List Entry) → AreWrites es → Adds p q es → c ≡ call → f ≡ form → Sends q r c f xid → Sends p r call form xid
   sends_later p q r call c form f xid es are a one two s = subst (λ (x : Call). Sends p r x form xid) one (subst (λ (x : Form). Sends p r c x xid) two (sends_from p q r c f xid es are a s))
 
-  pub none_later : (p q r : P) (call c : Call) (form f : Form) (end : CallEnd) (es : List Entry) → AreWrites es → Adds p q es → c ≡ call → f ≡ form → SendsNone q r c f end → SendsNone p r call form end
+  pub none_later : (p q r : Pass (Line O) Entry) (call c : Call) (form f : Form) (end : CallEnd) (es : List Entry) → AreWrites es → Adds p q es → c ≡ call → f ≡ form → SendsNone q r c f end → SendsNone p r call form end
   none_later p q r call c form f end es are a one two s = subst (λ (x : Call). SendsNone p r x form end) one (subst (λ (x : Form). SendsNone p r c x end) two (none_from p q r c f end es are a s))
 
-  pub lacks_later : (p q r : P) (call c d : Call) (form f g : Form) (es : List Entry) → AreWrites es → Adds p q es → c ≡ call → f ≡ form → LacksCredit q r c d f g → LacksCredit p r call d form g
+  pub lacks_later : (p q r : Pass (Line O) Entry) (call c d : Call) (form f g : Form) (es : List Entry) → AreWrites es → Adds p q es → c ≡ call → f ≡ form → LacksCredit q r c d f g → LacksCredit p r call d form g
   lacks_later p q r call c d form f g es are a one two s =
       let t = lacks_from p q r c d f g es are a s in
       record { waits = t.waits; are_waits = t.are_waits; adds = t.adds; same_call = t.same_call ∙ one; same_form = t.same_form ∙ two }
 
   -- ---- Callers
 
-  pub caller_sends : (p q : P) (call : Call) (form : Form) (xid : ℕ) → IsCaller p → Sends p q call form xid → IsCaller q
+  pub caller_sends : (p q : Pass (Line O) Entry) (call : Call) (form : Form) (xid : ℕ) → IsCaller p → Sends p q call form xid → IsCaller q
   caller_sends p q call form xid c s = caller_on p q (s.waits ++ entries.Submit call form xid ∷ s.moved) c s.adds
       (quiet_both s.waits (entries.Submit call form xid ∷ s.moved) (writes_quiet s.waits s.are_waits) (refl, writes_quiet s.moved s.are_moved))
 
-  pub caller_none : (p q : P) (call : Call) (form : Form) (end : CallEnd) → IsCaller p → SendsNone p q call form end → IsCaller q
+  pub caller_none : (p q : Pass (Line O) Entry) (call : Call) (form : Form) (end : CallEnd) → IsCaller p → SendsNone p q call form end → IsCaller q
   caller_none p q call form end c s = caller_on p q s.waits c s.adds (writes_quiet s.waits s.are_waits)
 
-  pub caller_lacks : (p q : P) (call d : Call) (form f : Form) → IsCaller p → LacksCredit p q call d form f → IsCaller q
+  pub caller_lacks : (p q : Pass (Line O) Entry) (call d : Call) (form f : Form) → IsCaller p → LacksCredit p q call d form f → IsCaller q
   caller_lacks p q call d form f c s = caller_on p q s.waits c s.adds (writes_quiet s.waits s.are_waits)
 
   -- ---- A call with all its turns
 
-  stands_on : (p q : P) (e : Entry) (k : ℕ) → Begins (seen_by p) (seen_by q) → get_elem? (seen_by p) k ≡ some e → get_elem? (seen_by q) k ≡ some e
+  stands_on : (p q : Pass (Line O) Entry) (e : Entry) (k : ℕ) → Begins (seen_by p) (seen_by q) → get_elem? (seen_by p) k ≡ some e → get_elem? (seen_by q) k ≡ some e
   stands_on p q e k begins at = subst (λ (l : List Entry). get_elem? l k ≡ some e) (sym begins.1) (at_longer (seen_by p) begins.0 k e at)
 
-  same_place : (q : P) (call : Call) (form : Form) (p : P) (xid k : ℕ) (s : Sends p q call form xid) → place_of xid (seen_by q) ≡ Some k → k ≡ s.at
+  same_place : (q : Pass (Line O) Entry) (call : Call) (form : Form) (p : Pass (Line O) Entry) (xid k : ℕ) (s : Sends p q call form xid) → place_of xid (seen_by q) ≡ Some k → k ≡ s.at
   same_place q call form p xid k s at = some_same k s.at (sym at ∙ s.is_at)
 
-  pub own_answer : (p q r : P) (call : Call) (form : Form) (xid : ℕ) (done : Done) → Sends p q call form xid → TakesAnswer q r xid done → OwnAnswer p r call form done
-  own_answer p q r call form xid done s (k, (at, ((e, (here, of)), adds))) =
+  pub own_answer : (p q r : Pass (Line O) Entry) (call : Call) (form : Form) (xid : ℕ) (done : Done) → Sends p q call form xid → TakesAnswer q r xid done → OwnAnswer p r call form done
+  own_answer p q r call form xid done s (k, (at, ((e, here, of), adds))) =
       let e0 : Entry = entries.Submit call form xid in
       let is : k ≡ s.at = same_place q call form p xid k s at in
       let there : get_elem? (seen_by q) k ≡ some e0 = subst (λ (n : ℕ). get_elem? (seen_by q) n ≡ some e0) (sym is) s.stands in
@@ -221,7 +218,7 @@ module _ {O : Type 0} where
         own = sym (asked_new (eqb xid xid) call done.call (ap (asked_of xid) (sym same) ∙ of)).1;
       }
 
-  pub no_answer : (p q r : P) (call : Call) (form : Form) (xid : ℕ) (end : CallEnd) → Sends p q call form xid → GivesUp q r xid end → NoAnswer p r call form end
+  pub no_answer : (p q r : Pass (Line O) Entry) (call : Call) (form : Form) (xid : ℕ) (end : CallEnd) → Sends p q call form xid → GivesUp q r xid end → NoAnswer p r call form end
   no_answer p q r call form xid end s g =
       let e0 : Entry = entries.Submit call form xid in
       let is : g.at ≡ s.at = same_place q call form p xid g.at s g.is_at in

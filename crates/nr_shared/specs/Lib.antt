@@ -10,4 +10,4 @@ pub mod Waiting
 pub mod Draining
 pub mod Ending
 pub mod Opening
-pub mod Finding
+pub mod private

@@ -7,7 +7,7 @@ ghost use Rattle.nr_turnstile.specs.Turns.{pass_of, Has, IsSameTurn};
 ghost use Rattle.nr_shared.specs.declared.line.Line.{Line};
 ghost use Rattle.nr_shared.specs.Callers.{IsAsked, IsReady};
 ghost use Rattle.nr_shared.specs.Ending.{LinkEnded};
-ghost use Rattle.nr_shared.specs.Finding.{Finds};
+ghost use Rattle.nr_shared.specs.private.Finding.{Finds};
 ghost use Rattle.nr_shared.specs.Histories.{stop_of};
 ghost use Rattle.nr_shared.specs.Sharing.{SaysCredit};
 ghost use Rattle.nr_shared.specs.Waiting.{Attempts, LooksUp};

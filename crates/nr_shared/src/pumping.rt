@@ -41,8 +41,8 @@ impl<I: Source, O: Sink> SharedRequester<I, O> {
 
     // No turn is held over the read but the source's.
     fn pump_by<R: Wait>(&self, rt: &R, feeder: &mut Feeder<I, O>, ticket: Option<&Ticket>)
-        requires feeds { (b : Beside I O) × (FeedsFor I.left I.given I.faults b feeder.old × (home_of b.pass.value ≡ id_of self.now.main)) }
-        ensures feeds { (b : Beside I O) → FeedsFor I.left I.given I.faults b feeder.old → home_of b.pass.value ≡ id_of self.now.main → FeedsFor I.left I.given I.faults b feeder.new }
+        requires { (b : Beside I O) × (FeedsFor I.left I.given I.faults b feeder.old × (home_of b.pass.value ≡ id_of self.now.main)) }
+        ensures { (b : Beside I O) → FeedsFor I.left I.given I.faults b feeder.old → home_of b.pass.value ≡ id_of self.now.main → FeedsFor I.left I.given I.faults b feeder.new }
     {
         if !self.wants(rt, &mut feeder.pass, ticket) {
             return;

@@ -8,7 +8,7 @@ ghost use Rattle.nr_turnstile.specs.Turns.{pass_of, Has, IsSameTurn};
 ghost use Rattle.nr_shared.specs.declared.line.Line.{Line};
 ghost use Rattle.nr_shared.specs.Histories.{IsAskedAt, place_of, bytes_fed, forget_by};
 ghost use Rattle.nr_shared.specs.Ending.{HasCredit, IsRefused};
-ghost use Rattle.nr_shared.specs.Finding.{LeavesCredit};
+ghost use Rattle.nr_shared.specs.private.Finding.{LeavesCredit};
 ghost use Rattle.nr_shared.specs.declared.entry.Entry.TheVariants as entries;
 ghost use Rattle.nr_shared.specs.Callers.{IsAsked, IsFeeding, IsReady};
 ghost use Rattle.nr_shared.specs.Adding.{Adds};

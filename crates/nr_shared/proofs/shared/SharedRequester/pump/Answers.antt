@@ -19,7 +19,7 @@ pub put_back-requires : goal.put_back-requires
 put_back-requires g c = let t = c.take_turn-turn.ensures.got.1 in let (b, (one, home)) = c.requires.beside in
     let same = seen_one (seen_by c.args.source.now) (seen_by (pass_of c.take_turn-turn.result)) b t.2.0 one t.2.1 t.3 in
     let f = feeds_value g.I.Source.left g.I.Source.given g.I.Source.faults b t.0 c.value-feeder.result.now (seen_by (pass_of c.take_turn-turn.result)) (same ∙ one) t.2 (same_value _ t.0 c.value-feeder.result.now t.1.1 c.value-feeder.ensures.value) in
-    (c.pump_by.new.feeder, ((t.1.0, written _ _ c.pump_by.new.feeder c.value-feeder.ensures.value, t.1.2), (b, (same ∙ one, c.pump_by.ensures b f home))))
+    (c.pump_by.new.feeder, (t.1.0, written _ _ c.pump_by.new.feeder c.value-feeder.ensures.value, t.1.2), (b, same ∙ one, c.pump_by.ensures b f home))
 
 pub returns-clause-seen : goal.returns-clause-seen
 returns-clause-seen g c = let t = c.take_turn-turn.ensures.got.1 in let (b, (one, home)) = c.requires.beside in

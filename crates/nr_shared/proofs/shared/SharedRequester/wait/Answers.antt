@@ -4,8 +4,8 @@ use Rattle.nr_shared.specs.Callers.{IsAsked}
 use Rattle.nr_shared.specs.Histories.{place_of}
 use Rattle.nr_shared.specs.Waiting.{GivesUp, TakesAnswer}
 use Rattle.nr_shared.proofs.Adding.{adds_both}
-use Rattle.nr_shared.proofs.Looking.{caller_looks, gives_from, takes_from}
-use Rattle.nr_shared.proofs.Resting.{rests_on}
+use Rattle.nr_shared.proofs.Looking.{caller_gives, caller_takes, gives_from, takes_from}
+use Rattle.nr_shared.proofs.Resting.{caller_on, rests_on}
 use Rattle.nr_shared.proofs.shared.SharedRequester.wait.Goals as goal
 
 pub pump-requires-clause-beside : goal.pump-requires-clause-beside
@@ -14,7 +14,7 @@ pump-requires-clause-beside g c = let r = c.loop.invariant.0 in (r.beside, (r.ha
 pub returns-in-Answered-clause-rests : goal.returns-in-Answered-clause-rests
 returns-in-Answered-clause-rests g c = let r = c.loop.invariant.0 in
     rests_on c.args.self.now c.loop.pass _ r c.in-Answered.ensures.rests r.source refl
-    (caller_looks c.loop.pass.main c.look.new.main c.loop.waiting c.look.result r.caller c.look.ensures.looked)
+    (caller_takes c.loop.pass.main c.look.new.main c.loop.waiting c.in-Answered.done r.caller c.in-Answered.ensures.looked)
 
 pub returns-in-Answered-clause-waited : goal.returns-in-Answered-clause-waited
 returns-in-Answered-clause-waited g c = let i = c.loop.invariant in
@@ -24,7 +24,7 @@ returns-in-Answered-clause-waited g c = let i = c.loop.invariant in
 pub returns-in-Ends-clause-rests : goal.returns-in-Ends-clause-rests
 returns-in-Ends-clause-rests g c = let r = c.loop.invariant.0 in
     rests_on c.args.self.now c.loop.pass _ r c.in-Ends.ensures.rests r.source refl
-    (caller_looks c.loop.pass.main c.look.new.main c.loop.waiting c.look.result r.caller c.look.ensures.looked)
+    (caller_gives c.loop.pass.main c.look.new.main c.loop.waiting c.in-Ends.end r.caller c.in-Ends.ensures.looked)
 
 pub returns-in-Ends-clause-waited : goal.returns-in-Ends-clause-waited
 returns-in-Ends-clause-waited g c = let i = c.loop.invariant in
@@ -34,7 +34,7 @@ returns-in-Ends-clause-waited g c = let i = c.loop.invariant in
 pub loop-preserved : goal.loop-preserved
 loop-preserved g c = let i = c.loop.invariant in let l = c.in-NotYet.ensures.looked in (
       rests_on c.args.self.now c.loop.pass (record { main = c.look.new.main; source = c.pump.new.source }) i.0 c.in-NotYet.ensures.rests c.pump.ensures.rests c.pump.ensures.seen
-          (caller_looks c.loop.pass.main c.look.new.main c.loop.waiting c.look.result i.0.caller c.look.ensures.looked),
+          (caller_on c.loop.pass.main c.look.new.main [] i.0.caller l.1.0 tt),
       (
         subst (λ (x : ℕ). IsAsked {O = g.row.O.Denot} c.look.new.main x) (sym l.0) l.1.1.0,
         (
