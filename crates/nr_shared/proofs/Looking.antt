@@ -12,7 +12,7 @@ use Rattle.nr_shared.specs.Adding.{Adds}
 use Rattle.nr_shared.specs.Histories.{closes_of, asked_of, IsAskedAt, place_of}
 use Rattle.nr_shared.specs.declared.call_end.CallEnd.{CallEnd}
 use Rattle.nr_shared.specs.Callers.{IsAsked, IsCaller}
-use Rattle.nr_shared.specs.Waiting.{GivesUp, LooksUp, TakesAnswer}
+use Rattle.nr_shared.specs.Waiting.{ForgetsCall, GivesUp, LooksUp, TakesAnswer}
 use Rattle.nr_shared.proofs.Asking.{call_at}
 use Rattle.nr_requester.specs.declared.taking.Done.{Done}
 use Rattle.nr_reduce.specs.declared.call.Call.{Call}
@@ -71,6 +71,13 @@ looks_after p q r s xid (looks.Answered done) a same b seen mine = takes_to p r 
 looks_after p q r s xid (looks.NotYet ticket) a same (is, (b, (asked, place))) seen mine =
     (is, (adds_same p r s [] (adds_both p q r [] [] a b) seen mine, (asked_same r s xid seen mine asked, ap (λ (l : List Entry). place_of xid l) seen ∙ (place ∙ same))))
 looks_after p q r s xid (looks.Ends end) a same b seen mine = gives_to p r s xid end (gives_from p q r xid end a same b) seen mine
+
+pub forgets_after : {O : Type 0} (p q r s : Pass (Line O) Entry) (xid : ℕ) → Adds p q [] → place_of xid (seen_by q) ≡ place_of xid (seen_by p) → ForgetsCall q r xid → seen_by s ≡ seen_by r → mine_of s ≡ mine_of r → ForgetsCall p s xid
+forgets_after p q r s xid a same (k, (at, b)) seen mine =
+    (k, (sym same ∙ at, adds_same p r s (entries.Forget xid k ∷ []) (adds_both p q r [] (entries.Forget xid k ∷ []) a b) seen mine))
+
+pub caller_forgets : {O : Type 0} (p q : Pass (Line O) Entry) (xid : ℕ) → IsCaller p → ForgetsCall p q xid → IsCaller q
+caller_forgets p q xid c (k, (at, adds)) = caller_on p q (entries.Forget xid k ∷ []) c adds (refl, tt)
 
 -- turns before that added nothing
 pub looks_from : {O : Type 0} (p q r : Pass (Line O) Entry) (xid : ℕ) (look : Look) → Adds p q [] → place_of xid (seen_by q) ≡ place_of xid (seen_by p) → LooksUp q r xid look → LooksUp p r xid look

@@ -1,5 +1,5 @@
 -- A call that is submitted, and bytes that are written before and after it.
-use Rattle.std.proofs.Common.{◌≡◌, ℕ, ◌+◌, ◌<◌, ◌⊎◌, inl, inr, Bool, true, false, eqb, is_some, if◌then◌else◌, List, [], ◌∷◌, ◌++◌, length, Option, Some, None, Result, Ok, Err, unwrap_or, refl, sym, ap, subst, ◌∙◌, append_assoc, append-nil}
+use Rattle.std.proofs.Common.{◌≡◌, ℕ, ◌+◌, ◌<◌, ◌⊎◌, inl, inr, Bool, true, false, eqb, is_some, if◌then◌else◌, List, [], ◌∷◌, ◌++◌, length, length-append, arith, ◌≤◌, Option, Some, None, Result, Ok, Err, unwrap_or, refl, sym, ap, subst, ◌∙◌, append_assoc, append-nil}
 use Rattle.std.specs.List.{AllByRecursion}
 use Rattle.std.proofs.lemmas.Bool.{eq-eqb}
 use mathlib.Core.Option.{some, some-injective}
@@ -9,7 +9,7 @@ use Rattle.nr_reduce.specs.declared.call.Call.{Call}
 use Rattle.nr_reduce.specs.declared.call.Form.{Form}
 use Rattle.nr_requester.specs.declared.taking.Done.{Done}
 use Rattle.nr_turnstile.specs.declared.turnstile.Pass.{Pass}
-use Rattle.nr_turnstile.specs.Rule.{Begins, Lies}
+use Rattle.nr_turnstile.specs.Rule.{Begins, IsIn, IsOpen, Lies}
 use Rattle.nr_turnstile.specs.Passes.{seen_by, mine_of}
 use Rattle.nr_shared.specs.declared.call_end.CallEnd.{CallEnd}
 use Rattle.nr_shared.specs.declared.call_end.CallEnd.TheVariants as calls
@@ -22,7 +22,7 @@ use Rattle.nr_shared.specs.Adding.{Adds}
 use Rattle.nr_shared.specs.Callers.{IsAsked, IsCaller, Writes}
 use Rattle.nr_shared.specs.Draining.{AreWrites}
 use Rattle.nr_shared.specs.Ending.{IsCause, LinkEnded}
-use Rattle.nr_shared.specs.Histories.{IsAskedAt, asked_by, asked_of, is_feeding, place_of}
+use Rattle.nr_shared.specs.Histories.{IsAskedAt, asked_by, asked_of, closes_of, is_feeding, place_of}
 use Rattle.nr_shared.specs.Waiting.{Attempts, Calls, GivesUp, LacksCredit, NoAnswer, OwnAnswer, Sends, SendsNone, Submits, TakesAnswer, Waits}
 use Rattle.nr_shared.proofs.Adding.{adds_both, adds_none, adds_same}
 use Rattle.nr_shared.proofs.Alone.{AreQuiet, open_writes, writes_quiet}
@@ -30,6 +30,7 @@ use Rattle.nr_shared.proofs.Asking.{some_same}
 use Rattle.nr_shared.proofs.Calls.{asked_new}
 use Rattle.nr_shared.proofs.Chains.{last_same}
 use Rattle.nr_shared.proofs.Histories.{place_new}
+use Rattle.nr_shared.proofs.Lists.{in_more}
 use Rattle.nr_shared.proofs.Looking.{asked_same}
 use Rattle.nr_shared.proofs.Resting.{caller_on}
 
@@ -90,6 +91,7 @@ module _ {O : Type 0} where
       let same : place_of xid (seen_by s) ≡ place_of xid (seen_by r) = ap (λ (l : List Entry). place_of xid l) two.seen ∙ last_same (asked_by xid) (seen_by r) two.es (writes_ask xid two.es two.are) in
       let placed : place_of xid (seen_by r) ≡ Some n = ap (λ (l : List Entry). place_of xid l) seen ∙ place_new xid (seen_by q) e own in
       let there : get_elem? (seen_by r) n ≡ some e = subst (λ (l : List Entry). get_elem? l n ≡ some e) (sym seen) (at_last (seen_by q) e n refl) in
+      let opened : IsOpen closes_of (seen_by s) (mine_of s) n = open_writes r s n two (subst (λ (k : ℕ). IsOpen closes_of (seen_by r) (mine_of r) k) (some_same asked.at n (sym asked.is_at ∙ placed)) asked.stays) in
       record {
         waits = one.es;
         are_waits = one.are;
@@ -99,6 +101,8 @@ module _ {O : Type 0} where
         at = n;
         is_at = same ∙ placed;
         stands = subst (λ (l : List Entry). get_elem? l n ≡ some e) (sym two.seen) (at_longer (seen_by r) two.es n e there);
+        new = (let l = ap length one.seen ∙ length-append (seen_by p) one.es in omega (arith, l));
+        opened = opened;
         asked = asked_writes r s xid two lies asked same;
       }
 
@@ -120,6 +124,8 @@ module _ {O : Type 0} where
     at = s.at;
     is_at = s.is_at;
     stands = s.stands;
+    new = (let l = ap length a.seen.1 ∙ length-append (seen_by p) a.seen.0 in let n = s.new in omega (arith, l, n));
+    opened = s.opened;
     asked = s.asked;
   }
 
@@ -133,6 +139,8 @@ module _ {O : Type 0} where
     at = t.at;
     is_at = ap (λ (l : List Entry). place_of xid l) seen ∙ t.is_at;
     stands = subst (λ (l : List Entry). get_elem? l t.at ≡ some (entries.Submit call form xid)) (sym seen) t.stands;
+    new = t.new;
+    opened = subst (λ (l : List Entry). IsOpen closes_of l (mine_of s) t.at) (sym seen) (subst (λ (m : List ℕ). IsOpen closes_of (seen_by r) m t.at) (sym mine) t.opened);
     asked = asked_same r s xid seen mine t.asked;
   }
 
@@ -197,6 +205,9 @@ module _ {O : Type 0} where
   stands_on : (p q : Pass (Line O) Entry) (e : Entry) (k : ℕ) → Begins (seen_by p) (seen_by q) → get_elem? (seen_by p) k ≡ some e → get_elem? (seen_by q) k ≡ some e
   stands_on p q e k begins at = subst (λ (l : List Entry). get_elem? l k ≡ some e) (sym begins.1) (at_longer (seen_by p) begins.0 k e at)
 
+  own_on : (q r : Pass (Line O) Entry) (k : ℕ) (es : List Entry) → Adds q r es → IsIn k (mine_of q) → IsIn k (mine_of r)
+  own_on q r k es a i = subst (IsIn k) (sym a.mine) (in_more (mine_of q) a.places k i)
+
   same_place : (q : Pass (Line O) Entry) (call : Call) (form : Form) (p : Pass (Line O) Entry) (xid k : ℕ) (s : Sends p q call form xid) → place_of xid (seen_by q) ≡ Some k → k ≡ s.at
   same_place q call form p xid k s at = some_same k s.at (sym at ∙ s.is_at)
 
@@ -215,7 +226,9 @@ module _ {O : Type 0} where
         at = k;
         stands = stands_on q r e0 k adds.seen there;
         adds = adds_both p q r (s.waits ++ e0 ∷ s.moved) (entries.Done xid done.outcome k ∷ []) s.adds adds;
-        own = sym (asked_new (eqb xid xid) call done.call (ap (asked_of xid) (sym same) ∙ of)).1;
+        new = (let n = s.new in omega (arith, n, is));
+        own = own_on q r k (entries.Done xid done.outcome k ∷ []) adds (subst (λ (n : ℕ). IsIn n (mine_of q)) (sym is) s.opened.0);
+        call = sym (asked_new (eqb xid xid) call done.call (ap (asked_of xid) (sym same) ∙ of)).1;
       }
 
   pub no_answer : (p q r : Pass (Line O) Entry) (call : Call) (form : Form) (xid : ℕ) (end : CallEnd) → Sends p q call form xid → GivesUp q r xid end → NoAnswer p r call form end
@@ -231,6 +244,8 @@ module _ {O : Type 0} where
         at = g.at;
         stands = stands_on q r e0 g.at g.adds.seen (subst (λ (n : ℕ). get_elem? (seen_by q) n ≡ some e0) (sym is) s.stands);
         adds = adds_both p q r (s.waits ++ e0 ∷ s.moved) (entries.Forget xid g.at ∷ []) s.adds g.adds;
+        new = (let n = s.new in omega (arith, n, is));
+        own = own_on q r g.at (entries.Forget xid g.at ∷ []) g.adds (subst (λ (n : ℕ). IsIn n (mine_of q)) (sym is) s.opened.0);
         before = g.before;
         seen = g.seen;
         ended = g.ended;

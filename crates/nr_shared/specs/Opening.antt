@@ -4,6 +4,7 @@ use Rattle.std.specs.Io.KnownBytes.{Appends}
 use Rattle.std.specs.List.{AllByRecursion}
 use Rattle.nr_outside.specs.Content.{HandsOut}
 use Rattle.nr_outside.specs.Faults.{Rises}
+use Rattle.nr_reduce.specs.declared.mark.LinkParameters.{LinkParameters}
 use Rattle.nr_requester.specs.RequesterState.{RequesterSide}
 use Rattle.nr_requester.specs.Fed.{fed_bytes}
 use Rattle.nr_turnstile.specs.Rule.{Begins, Earlier, Lies}
@@ -13,7 +14,7 @@ use Rattle.nr_shared.specs.declared.entry.Entry.TheVariants as entries
 use Rattle.nr_shared.specs.declared.entry.Handing.{Handing}
 use Rattle.nr_shared.specs.declared.feeder.Beside.{Beside}
 use Rattle.nr_shared.specs.declared.shared.Pass.{Pass}
-use Rattle.nr_shared.specs.Histories.{closes_of, handed, bytes_written, bytes_fed, has_cut, stop_of}
+use Rattle.nr_shared.specs.Histories.{FitsHanding, closes_of, handed, bytes_written, bytes_fed, has_cut, stop_of}
 use Rattle.nr_shared.specs.Standing.{Follows, FollowsIf, KeepsCalls, bytes_before, marks_before}
 use Rattle.nr_shared.specs.Feeding.{StopHolds}
 
@@ -32,6 +33,8 @@ IsEarlyMark e = ⊥
 pub record HandsIn {O : Type 0} (taken : O → Option (List ℕ)) (faults : O → ℕ) (r : RequesterSide) (sink : O) (history : List Entry) : Type 0 where
   pub early : List Entry
   pub handing : Handing
+  -- a link can be opened so
+  pub fits : (opened : LinkParameters) × FitsHanding handing opened
   pub history_is : history ≡ early ++ entries.Handed handing ∷ []
   pub are_early : AllByRecursion IsEarlyMark early
   pub earlier : Earlier closes_of early

@@ -1,13 +1,14 @@
 -- What a caller that waits for an answer finds and adds.
-use Rattle.std.specs.Prelude.{◌≡◌, ◌⊎◌, ℕ, List, [], ◌∷◌, ◌++◌, Some, Result, Ok, Err}
+use Rattle.std.specs.Prelude.{◌≡◌, ◌≤◌, ◌⊎◌, ℕ, List, [], ◌∷◌, ◌++◌, length, Some, Result, Ok, Err}
 use mathlib.Core.Option.{some}
 use lib.ListN.{get_elem?}
 use Rattle.nr_reduce.specs.declared.call.Call.{Call}
 use Rattle.nr_reduce.specs.declared.call.Form.{Form}
 use Rattle.nr_requester.specs.declared.taking.Done.{Done}
 use Rattle.nr_turnstile.specs.declared.turnstile.Pass.{Pass}
-use Rattle.nr_turnstile.specs.Passes.{seen_by}
-use Rattle.nr_shared.specs.Histories.{IsAskedAt, place_of}
+use Rattle.nr_turnstile.specs.Rule.{IsIn, IsOpen}
+use Rattle.nr_turnstile.specs.Passes.{mine_of, seen_by}
+use Rattle.nr_shared.specs.Histories.{IsAskedAt, closes_of, place_of}
 use Rattle.nr_shared.specs.declared.call_end.CallEnd.{CallEnd}
 use Rattle.nr_shared.specs.declared.finding.Look.{Look}
 use Rattle.nr_shared.specs.declared.finding.Look.TheVariants as looks
@@ -60,6 +61,8 @@ module _ {O : Type 0} where
     pub at : ℕ
     pub is_at : place_of xid (seen_by q) ≡ Some at
     pub stands : get_elem? (seen_by q) at ≡ some (entries.Submit call form xid)
+    pub new : length (seen_by p) ≤ at
+    pub opened : IsOpen closes_of (seen_by q) (mine_of q) at
     pub asked : IsAsked q xid
 
   -- the call is not submitted, since the history says so; bytes are written
@@ -87,16 +90,18 @@ module _ {O : Type 0} where
   Submits p q call form (Err end) = SendsNone p q call form end
 
   -- The call has its own answer: a Submit of it, and the Done that closes the Submit's place, with bytes that are written before and between.
-  pub record OwnAnswer (p q : Pass (Line O) Entry) (call : Call) (form : Form) (done : Done) : Type 0 where
+  pub record OwnAnswer (p q : Pass (Line O) Entry) (asked : Call) (form : Form) (done : Done) : Type 0 where
     pub waits : List Entry
     pub are_waits : AreWrites waits
     pub moved : List Entry
     pub are_moved : AreWrites moved
     pub xid : ℕ
     pub at : ℕ
-    pub stands : get_elem? (seen_by q) at ≡ some (entries.Submit call form xid)
-    pub adds : Adds p q ((waits ++ entries.Submit call form xid ∷ moved) ++ entries.Done xid done.outcome at ∷ [])
-    pub own : done.call ≡ call
+    pub stands : get_elem? (seen_by q) at ≡ some (entries.Submit asked form xid)
+    pub adds : Adds p q ((waits ++ entries.Submit asked form xid ∷ moved) ++ entries.Done xid done.outcome at ∷ [])
+    pub new : length (seen_by p) ≤ at
+    pub own : IsIn at (mine_of q)
+    pub call : done.call ≡ asked
 
   -- The call was submitted and forgotten, since the link had ended so by the history before.
   pub record NoAnswer (p q : Pass (Line O) Entry) (call : Call) (form : Form) (end : CallEnd) : Type 0 where
@@ -108,6 +113,8 @@ module _ {O : Type 0} where
     pub at : ℕ
     pub stands : get_elem? (seen_by q) at ≡ some (entries.Submit call form xid)
     pub adds : Adds p q ((waits ++ entries.Submit call form xid ∷ moved) ++ entries.Forget xid at ∷ [])
+    pub new : length (seen_by p) ≤ at
+    pub own : IsIn at (mine_of q)
     pub before : List Entry
     pub seen : seen_by q ≡ before ++ entries.Forget xid at ∷ []
     pub ended : LinkEnded end before

@@ -31,6 +31,7 @@ impl<I: Source, O: Sink> SharedRequester<I, O> {
         requires writable { CanWriteCred call.cred }
         requires rests { SharedRests self.now pass.old }
         ensures rests { SharedRests self.now pass.new }
+        ensures source { seen_by pass.new.source ≡ seen_by pass.old.source }
         ensures called { Calls pass.old.main pass.new.main call form result }
     {
         let ticket = match self.submit(rt, pass, call, form) {
@@ -43,7 +44,7 @@ impl<I: Source, O: Sink> SharedRequester<I, O> {
         }
     }
 
-    /// Submits a call once a credit is left. `wait`, `forget`, `try_take` or `try_revoke` takes its ticket.
+    /// Submits a call once a credit is left. `wait`, `forget` or `try_revoke` takes its ticket.
     pub fn submit<R: Wait>(
         &self,
         rt: &R,
@@ -54,6 +55,7 @@ impl<I: Source, O: Sink> SharedRequester<I, O> {
         requires writable { CanWriteCred call.cred }
         requires rests { SharedRests self.now pass.old }
         ensures rests { SharedRests self.now pass.new }
+        ensures source { seen_by pass.new.source ≡ seen_by pass.old.source }
         ensures submitted { Submits pass.old.main pass.new.main call form result }
     {
         let mut wanted = call;
@@ -82,6 +84,7 @@ impl<I: Source, O: Sink> SharedRequester<I, O> {
         requires rests { SharedRests self.now pass.old }
         requires asked { IsAsked pass.old.main ticket }
         ensures rests { SharedRests self.now pass.new }
+        ensures source { seen_by pass.new.source ≡ seen_by pass.old.source }
         ensures waited { Waits pass.old.main pass.new.main ticket result }
     {
         let mut waiting = ticket;
@@ -101,24 +104,21 @@ impl<I: Source, O: Sink> SharedRequester<I, O> {
         requires rests { SharedRests self.now pass.old }
         requires asked { IsAsked pass.old.main ticket }
         ensures rests { SharedRests self.now pass.new }
+        ensures source { seen_by pass.new.source ≡ seen_by pass.old.source }
         ensures forgotten { ForgetsCall pass.old.main pass.new.main ticket }
     {
-        let mut turn = self.main.take_turn(rt, &mut pass.main);
-        forget_at(&mut turn, ticket);
-        turn.put_back();
+        self.give_up(rt, &mut pass.main, ticket);
     }
 
     /// Whether a credit is left at this moment.
     pub fn has_credit<R: Wait>(&self, rt: &R, pass: &mut Pass<I, O>) -> bool
-        requires rests { SharedRests self.now pass.old }
+        requires { SharedRests self.now pass.old }
         ensures rests { SharedRests self.now pass.new }
+        ensures source { seen_by pass.new.source ≡ seen_by pass.old.source }
         ensures added { Adds pass.old.main pass.new.main [] }
         ensures credit { SaysCredit result (seen_by pass.new.main) }
     {
-        let mut turn = self.main.take_turn(rt, &mut pass.main);
-        let has = credit_at(&mut turn);
-        turn.put_back();
-        has
+        self.sees_credit(rt, &mut pass.main)
     }
 
     // One turn of a caller that submits.
@@ -138,6 +138,31 @@ impl<I: Source, O: Sink> SharedRequester<I, O> {
         let tried = attempt_at(&mut turn, call, form);
         turn.put_back();
         tried
+    }
+
+    // One turn of a caller that gives a call up.
+    fn give_up<R: Wait>(&self, rt: &R, main: &mut nr_turnstile::Pass<Line<O>>, ticket: Ticket)
+        requires rests { Rests self.now.main main.old }
+        requires asked { IsAsked main.old ticket }
+        ensures rests { Rests self.now.main main.new }
+        ensures forgotten { ForgetsCall main.old main.new ticket }
+    {
+        let mut turn = self.main.take_turn(rt, main);
+        forget_at(&mut turn, ticket);
+        turn.put_back();
+    }
+
+    // One turn of a caller that asks for a credit.
+    fn sees_credit<R: Wait>(&self, rt: &R, main: &mut nr_turnstile::Pass<Line<O>>) -> bool
+        requires { Rests self.now.main main.old }
+        ensures rests { Rests self.now.main main.new }
+        ensures added { Adds main.old main.new [] }
+        ensures credit { SaysCredit result (seen_by main.new) }
+    {
+        let mut turn = self.main.take_turn(rt, main);
+        let has = credit_at(&mut turn);
+        turn.put_back();
+        has
     }
 
     // One turn of a caller that waits.

@@ -56,7 +56,7 @@ impl<I: Source, O: Sink> SharedRequester<I, O> {
         }
     }
 
-    // Whether more of the stream is wanted, by the pass that feeds.
+    // Writes what is due. Whether more of the stream is wanted, by the pass that feeds.
     fn wants<R: Wait>(
         &self,
         rt: &R,
@@ -74,12 +74,13 @@ impl<I: Source, O: Sink> SharedRequester<I, O> {
         ensures wants { result ≡ true → stop_of (seen_by feeding.new) ≡ None }
     {
         let mut turn = self.main.take_turn(rt, feeding);
+        drain_at(&mut turn);
         let wants = wants_at(&mut turn, ticket);
         turn.put_back();
         wants
     }
 
-    // What is due is written, a piece is fed by the pass that feeds, and what is then due is written. Answers whether memory ran out for a frame of it.
+    // A piece is fed by the pass that feeds, and what is then due is written. Answers whether memory ran out for a frame of it.
     fn feed<R: Wait>(
         &self,
         rt: &R,
@@ -99,7 +100,6 @@ impl<I: Source, O: Sink> SharedRequester<I, O> {
         ensures stop { MatchBool result (stop_of (seen_by feeding.new) ≡ Some causes.Memory) (stop_of (seen_by feeding.new) ≡ None) }
     {
         let mut turn = self.main.take_turn(rt, feeding);
-        drain_at(&mut turn);
         let out = feed_at(&mut turn, piece);
         drain_at(&mut turn);
         turn.put_back();

@@ -9,10 +9,10 @@ use Rattle.nr_shared.proofs.Submitting.{caller_lacks, caller_none, caller_sends,
 use Rattle.nr_shared.proofs.shared.SharedRequester.submit.Goals as goal
 
 pub loop-initially : goal.loop-initially
-loop-initially g c = (c.requires.rests, record { waits = []; are_waits = tt; adds = adds_none c.args.pass.now.main c.args.pass.now.main (begins_self (seen_by c.args.pass.now.main)) refl; same_call = refl; same_form = refl })
+loop-initially g c = (c.requires.rests, (refl, record { waits = []; are_waits = tt; adds = adds_none c.args.pass.now.main c.args.pass.now.main (begins_self (seen_by c.args.pass.now.main)) refl; same_call = refl; same_form = refl }))
 
 pub attempt-requires-clause-writable : goal.attempt-requires-clause-writable
-attempt-requires-clause-writable g c = subst (λ (x : Call). CanWriteCred x.cred) (sym c.loop.invariant.1.same_call) c.requires.writable
+attempt-requires-clause-writable g c = subst (λ (x : Call). CanWriteCred x.cred) (sym c.loop.invariant.1.1.same_call) c.requires.writable
 
 pub pump-requires-clause-beside : goal.pump-requires-clause-beside
 pump-requires-clause-beside g c = let r = c.loop.invariant.0 in (r.beside, (r.has_seen, r.home))
@@ -23,7 +23,7 @@ returns-in-Sent-clause-rests g c = let r = c.loop.invariant.0 in
     (caller_sends c.loop.pass.main c.attempt.new.main c.loop.wanted c.loop.wished c.in-Sent.ticket r.caller c.in-Sent.ensures.attempted)
 
 pub returns-in-Sent-clause-submitted : goal.returns-in-Sent-clause-submitted
-returns-in-Sent-clause-submitted g c = let l = c.loop.invariant.1 in
+returns-in-Sent-clause-submitted g c = let l = c.loop.invariant.1.1 in
     sends_later c.args.pass.now.main c.loop.pass.main c.attempt.new.main c.args.call c.loop.wanted c.args.form c.loop.wished c.in-Sent.ticket l.waits l.are_waits l.adds l.same_call l.same_form c.in-Sent.ensures.attempted
 
 pub returns-in-Ends-clause-rests : goal.returns-in-Ends-clause-rests
@@ -32,12 +32,12 @@ returns-in-Ends-clause-rests g c = let r = c.loop.invariant.0 in
     (caller_none c.loop.pass.main c.attempt.new.main c.loop.wanted c.loop.wished c.in-Ends.end r.caller c.in-Ends.ensures.attempted)
 
 pub returns-in-Ends-clause-submitted : goal.returns-in-Ends-clause-submitted
-returns-in-Ends-clause-submitted g c = let l = c.loop.invariant.1 in
+returns-in-Ends-clause-submitted g c = let l = c.loop.invariant.1.1 in
     none_later c.args.pass.now.main c.loop.pass.main c.attempt.new.main c.args.call c.loop.wanted c.args.form c.loop.wished c.in-Ends.end l.waits l.are_waits l.adds l.same_call l.same_form c.in-Ends.ensures.attempted
 
 pub loop-preserved : goal.loop-preserved
 loop-preserved g c = let i = c.loop.invariant in let t = c.in-Waits.ensures.attempted in (
       rests_on c.args.self.now c.loop.pass (record { main = c.attempt.new.main; source = c.pump.new.source }) i.0 c.in-Waits.ensures.rests c.pump.ensures.rests c.pump.ensures.seen
           (caller_lacks c.loop.pass.main c.attempt.new.main c.loop.wanted c.in-Waits.call c.loop.wished c.in-Waits.form i.0.caller t),
-      lacks_later c.args.pass.now.main c.loop.pass.main c.attempt.new.main c.args.call c.loop.wanted c.in-Waits.call c.args.form c.loop.wished c.in-Waits.form i.1.waits i.1.are_waits i.1.adds i.1.same_call i.1.same_form t,
+      (c.pump.ensures.seen ∙ i.1.0, lacks_later c.args.pass.now.main c.loop.pass.main c.attempt.new.main c.args.call c.loop.wanted c.in-Waits.call c.args.form c.loop.wished c.in-Waits.form i.1.1.waits i.1.1.are_waits i.1.1.adds i.1.1.same_call i.1.1.same_form t),
     )

@@ -17,7 +17,7 @@ returns-in-Answered-clause-rests g c = let r = c.loop.invariant.0 in
     (caller_takes c.loop.pass.main c.look.new.main c.loop.waiting c.in-Answered.done r.caller c.in-Answered.ensures.looked)
 
 pub returns-in-Answered-clause-waited : goal.returns-in-Answered-clause-waited
-returns-in-Answered-clause-waited g c = let i = c.loop.invariant in
+returns-in-Answered-clause-waited g c = let i = c.loop.invariant.1 in
     subst (λ (x : ℕ). TakesAnswer {O = g.row.O.Denot} c.args.pass.now.main c.look.new.main x c.in-Answered.done) i.1.1.1.0
     (takes_from c.args.pass.now.main c.loop.pass.main c.look.new.main c.loop.waiting c.in-Answered.done i.1.1.0 i.1.1.1.1 c.in-Answered.ensures.looked)
 
@@ -27,15 +27,17 @@ returns-in-Ends-clause-rests g c = let r = c.loop.invariant.0 in
     (caller_gives c.loop.pass.main c.look.new.main c.loop.waiting c.in-Ends.end r.caller c.in-Ends.ensures.looked)
 
 pub returns-in-Ends-clause-waited : goal.returns-in-Ends-clause-waited
-returns-in-Ends-clause-waited g c = let i = c.loop.invariant in
+returns-in-Ends-clause-waited g c = let i = c.loop.invariant.1 in
     subst (λ (x : ℕ). GivesUp {O = g.row.O.Denot} c.args.pass.now.main c.look.new.main x c.in-Ends.end) i.1.1.1.0
     (gives_from c.args.pass.now.main c.loop.pass.main c.look.new.main c.loop.waiting c.in-Ends.end i.1.1.0 i.1.1.1.1 c.in-Ends.ensures.looked)
 
 pub loop-preserved : goal.loop-preserved
-loop-preserved g c = let i = c.loop.invariant in let l = c.in-NotYet.ensures.looked in (
-      rests_on c.args.self.now c.loop.pass (record { main = c.look.new.main; source = c.pump.new.source }) i.0 c.in-NotYet.ensures.rests c.pump.ensures.rests c.pump.ensures.seen
-          (caller_on c.loop.pass.main c.look.new.main [] i.0.caller l.1.0 tt),
+loop-preserved g c = let i = c.loop.invariant.1 in let l = c.in-NotYet.ensures.looked in let rest = c.loop.invariant.0 in (
+      rests_on c.args.self.now c.loop.pass (record { main = c.look.new.main; source = c.pump.new.source }) rest c.in-NotYet.ensures.rests c.pump.ensures.rests c.pump.ensures.seen
+          (caller_on c.loop.pass.main c.look.new.main [] rest.caller l.1.0 tt),
       (
+        c.pump.ensures.seen ∙ i.0,
+        (
         subst (λ (x : ℕ). IsAsked {O = g.row.O.Denot} c.look.new.main x) (sym l.0) l.1.1.0,
         (
           adds_both c.args.pass.now.main c.loop.pass.main c.look.new.main [] [] i.1.1.0 l.1.0,
@@ -44,5 +46,6 @@ loop-preserved g c = let i = c.loop.invariant in let l = c.in-NotYet.ensures.loo
             subst (λ (x : ℕ). place_of x (seen_by c.look.new.main) ≡ place_of x (seen_by c.args.pass.now.main)) (sym l.0) (l.1.1.1 ∙ i.1.1.1.1),
           ),
         ),
+      ),
       ),
     )
