@@ -1,9 +1,9 @@
 #!/bin/sh
 # Measures the time for each FPDU that an endpoint is fed: Sends of 92 bytes and Writes of 4096 payload bytes, in pieces of 64 KiB and
 # byte by byte, of 10,000 and of 1,000,000 FPDUs, beside copying 4096 bytes once. Run it by hand at the top of the repository, after
-# `(cd crates/endpoint_bench && rt run -- send 5 1 fed)` has built the program; or give the path of the program as $1. The same run without
+# `(cd crates/nr_bench && rt run -- endpoint send 5 1 fed)` has built the program; or give the path of the program as $1. The same run without
 # the calls of `feed` is taken off each.
-exec python3 - "${1:-crates/endpoint_bench/out/endpoint_bench}" <<'END'
+exec python3 - "${1:-crates/nr_bench/out/nr_bench}" <<'END'
 import resource, subprocess, sys
 
 PIECE = 65536
@@ -15,7 +15,7 @@ def seconds(*runs, times=15):
     for _ in range(times):
         for i, run in enumerate(runs):
             before = resource.getrusage(resource.RUSAGE_CHILDREN)
-            subprocess.run([sys.argv[1], *map(str, run)], stdout=subprocess.DEVNULL, check=True)
+            subprocess.run([sys.argv[1], "endpoint", *map(str, run)], stdout=subprocess.DEVNULL, check=True)
             after = resource.getrusage(resource.RUSAGE_CHILDREN)
             used = after.ru_utime + after.ru_stime - before.ru_utime - before.ru_stime
             best[i] = used if best[i] is None else min(best[i], used)

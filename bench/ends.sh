@@ -3,8 +3,8 @@
 # and a READ of 32 KiB in form Auto, in copies of 32 KiB of the same run (by processor time, and by cycles if perf is there), with 1 and with
 # 64 credits; and, if there is a C compiler, four copies of the data alone (bench/copies.c), and the bytes that the C library copies and
 # clears. Run by hand, at the top of the repository, once
-# `(cd crates/ends_bench && rt run -- write 2 16)` has built the program; or with the program's path as $1.
-exec python3 - "${1:-crates/ends_bench/out/ends_bench}" <<'END'
+# `(cd crates/nr_bench && rt run -- ends write 2 16)` has built the program; or with the program's path as $1.
+exec python3 - "${1:-crates/nr_bench/out/nr_bench}" <<'END'
 import os, resource, shutil, subprocess, sys, tempfile
 
 PROGRAM = sys.argv[1]
@@ -14,7 +14,7 @@ LARGE = ('copy', 'write', 'read')
 def seconds(what, rounds, credits):
     """The processor time of a run."""
     before = resource.getrusage(resource.RUSAGE_CHILDREN)
-    subprocess.run([PROGRAM, what, str(rounds), str(credits)], stdout=subprocess.DEVNULL, check=True)
+    subprocess.run([PROGRAM, 'ends', what, str(rounds), str(credits)], stdout=subprocess.DEVNULL, check=True)
     after = resource.getrusage(resource.RUSAGE_CHILDREN)
     return after.ru_utime + after.ru_stime - before.ru_utime - before.ru_stime
 
@@ -22,7 +22,7 @@ def cycles(what, rounds, credits):
     """The processor cycles of a run outside the kernel, by perf; nothing without it."""
     if shutil.which('perf') is None:
         return None
-    command = ['perf', 'stat', '-x,', '-e', 'cycles:u', PROGRAM, what, str(rounds), str(credits)]
+    command = ['perf', 'stat', '-x,', '-e', 'cycles:u', PROGRAM, 'ends', what, str(rounds), str(credits)]
     done = subprocess.run(command, capture_output=True, text=True)
     counts = [line.split(',')[0] for line in done.stderr.splitlines() if ',cycles' in line]
     return int(counts[0]) if done.returncode == 0 and counts and counts[0].isdigit() else None
@@ -79,7 +79,7 @@ def counts():
         open(source, 'w').write(COUNTER)
         subprocess.run([compiler, '-O1', '-fno-builtin', '-shared', '-fPIC', '-o', library, source], check=True)
         def run(what, rounds):
-            done = subprocess.run([PROGRAM, what, str(rounds), '16'], env={**os.environ, 'LD_PRELOAD': library}, capture_output=True, check=True)
+            done = subprocess.run([PROGRAM, 'ends', what, str(rounds), '16'], env={**os.environ, 'LD_PRELOAD': library}, capture_output=True, check=True)
             return [int(word) for word in done.stderr.split()]
         return {what: [(many - few) / 100 for few, many in zip(run(what, 10), run(what, 110))] for what in ('null', 'write', 'read')}
 

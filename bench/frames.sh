@@ -1,8 +1,8 @@
 #!/bin/sh
 # Measures the time for each FPDU that is read: in a short and in a long stream, with a short and with a long payload. Run it by hand
-# at the top of the repository, after `(cd crates/frames_bench && rt run -- 5 68 2 2)` has built the program; or give the path of the
+# at the top of the repository, after `(cd crates/nr_bench && rt run -- frames 5 68 2 2)` has built the program; or give the path of the
 # program as $1. The stream comes in pieces of at most 1000 FPDUs. Each piece is written into one buffer and read there.
-exec python3 - "${1:-crates/frames_bench/out/frames_bench}" <<'END'
+exec python3 - "${1:-crates/nr_bench/out/nr_bench}" <<'END'
 import resource, subprocess, sys
 
 PIECE = 1000
@@ -14,7 +14,7 @@ def seconds(*runs, times=40):
         for i, run in enumerate(runs):
             for _ in range(5 if run[0] <= 10_000 and run[3] == 1 else 1):
                 before = resource.getrusage(resource.RUSAGE_CHILDREN)
-                subprocess.run([sys.argv[1], *map(str, run)], stdout=subprocess.DEVNULL, check=True)
+                subprocess.run([sys.argv[1], "frames", *map(str, run)], stdout=subprocess.DEVNULL, check=True)
                 after = resource.getrusage(resource.RUSAGE_CHILDREN)
                 used = after.ru_utime + after.ru_stime - before.ru_utime - before.ru_stime
                 best[i] = used if best[i] is None else min(best[i], used)

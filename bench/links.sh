@@ -4,10 +4,10 @@
 # bytes of the latter; and `get` and `put` of 16 MiB, beside raw bytes one way; the server's processor time a GETATTR; the memory of a
 # server with a file of 16 MiB. Beside `get` and `put` it prints what has no part in the raw bytes: a new file's bytes written, and an input
 # read piece by piece and sent in the passes of WRITEs, one at a time, to a server that keeps it. Run by hand, at the top of the
-# repository, once `rt run` has built nfsrdma and links_bench; or with the paths of both programs. It needs a C compiler, for bench/echo.c.
+# repository, once `rt run` has built nfsrdma and nr_bench; or with the paths of both programs. It needs a C compiler, for bench/echo.c.
 # The least of several runs counts, of the two sides in turn; TIMES says of how many. PART=0.02 makes a fiftieth of the calls, to see that
 # all runs.
-exec python3 - "${1:-crates/nfsrdma/out/nfsrdma}" "${2:-crates/links_bench/out/links_bench}" <<'PYTHON'
+exec python3 - "${1:-crates/nfsrdma/out/nfsrdma}" "${2:-crates/nr_bench/out/nr_bench}" <<'PYTHON'
 import contextlib, os, re, socket, subprocess, sys, tempfile, time
 
 NFSRDMA, LINKS = map(os.path.abspath, sys.argv[1:3])
@@ -71,7 +71,7 @@ def pair(program, server, client, stdin=None, stdout=None):
 
 def calls(address, what, count, outstanding, size=SIZE, units=1):
     """The microseconds of these calls."""
-    done = subprocess.run([LINKS, address, what, *map(str, (count, outstanding, size, units))], check=True, capture_output=True, text=True).stdout
+    done = subprocess.run([LINKS, "links", address, what, *map(str, (count, outstanding, size, units))], check=True, capture_output=True, text=True).stdout
     total, micros = map(int, re.fullmatch(r"(\d+) (\d+)\n", done).groups())
     if total != count * (1 if what == "getattr" else size):
         sys.exit(f"{what}: {total} confirmed")

@@ -1,8 +1,8 @@
 #!/bin/sh
 # Planning of calls: the time for a plan of a WRITE in form Auto, and for its outline and region, by the length of its data, beside
 # copying that data once, and the time to find its item and to judge whether an offer holds a reply. Run by hand, at the top of the
-# repository, once `(cd crates/plan_bench && rt run -- 2 1024 plan)` has built the program; or with the program's path as $1.
-exec python3 - "${1:-crates/plan_bench/out/plan_bench}" <<'END'
+# repository, once `(cd crates/nr_bench && rt run -- plan 2 1024 plan)` has built the program; or with the program's path as $1.
+exec python3 - "${1:-crates/nr_bench/out/nr_bench}" <<'END'
 import resource, subprocess, sys, timeit
 
 def seconds(*args, times=15):
@@ -10,7 +10,7 @@ def seconds(*args, times=15):
     best = None
     for _ in range(times):
         before = resource.getrusage(resource.RUSAGE_CHILDREN)
-        subprocess.run([sys.argv[1], *map(str, args)], stdout=subprocess.DEVNULL, check=True)
+        subprocess.run([sys.argv[1], "plan", *map(str, args)], stdout=subprocess.DEVNULL, check=True)
         after = resource.getrusage(resource.RUSAGE_CHILDREN)
         used = after.ru_utime + after.ru_stime - before.ru_utime - before.ru_stime
         best = used if best is None else min(best, used)

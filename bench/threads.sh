@@ -1,10 +1,10 @@
 #!/bin/sh
 # Clients at once over loopback: GETATTRs a second of 1, 2, 4 and 8 clients of one `nfsrdma serve`, each a process with a connection of its own,
 # one call after another, beside raw round trips of the same bytes by as many pairs of processes in the same run. Run by hand on an idle machine,
-# at the top of the repository, once `rt run` has built nfsrdma and links_bench; or with the paths of both programs. With the path of a third
+# at the top of the repository, once `rt run` has built nfsrdma and nr_bench; or with the paths of both programs. With the path of a third
 # program, an earlier nfsrdma, one client alone calls that one too. It needs a C compiler, for bench/echo.c. The greatest rate of several runs
 # counts, of the sides in turn.
-exec python3 - "${1:-crates/nfsrdma/out/nfsrdma}" "${2:-crates/links_bench/out/links_bench}" ${3:+"$3"} <<'PYTHON'
+exec python3 - "${1:-crates/nfsrdma/out/nfsrdma}" "${2:-crates/nr_bench/out/nr_bench}" ${3:+"$3"} <<'PYTHON'
 import contextlib, os, re, socket, subprocess, sys, tempfile, time
 
 NFSRDMA, LINKS = map(os.path.abspath, sys.argv[1:3])
@@ -64,7 +64,7 @@ def raw(echo, count):
 
 def calls(program, folder, count):
     with server(program, folder, count) as address:
-        return rate([[LINKS, address, "getattr", str(TURNS), "1", "0", "1"]] * count)
+        return rate([[LINKS, "links", address, "getattr", str(TURNS), "1", "0", "1"]] * count)
 
 
 def main(folder):

@@ -1,20 +1,20 @@
 #!/bin/sh
 # Calls of the plain server alone, in microseconds: listings of the last 100 of a directory's files; changes of a directory of few and of
 # many entries; READs and WRITEs of 32 KiB at offsets of a file, and copies at the same offsets; and the memory of files. Run by hand, at
-# the top of the repository, after `(cd crates/tree_bench && rt run -- churn 200 100)` has built the program; or with the program's path as $1.
-exec python3 - "${1:-crates/tree_bench/out/tree_bench}" <<'END'
+# the top of the repository, after `(cd crates/nr_bench && rt run -- tree churn 200 100)` has built the program; or with the program's path as $1.
+exec python3 - "${1:-crates/nr_bench/out/nr_bench}" <<'END'
 import os, resource, subprocess, sys
 
 def seconds(what, size, rounds):
     """The processor time of a run."""
     before = resource.getrusage(resource.RUSAGE_CHILDREN)
-    subprocess.run([sys.argv[1], what, str(size), str(rounds)], stdout=subprocess.DEVNULL, check=True)
+    subprocess.run([sys.argv[1], "tree", what, str(size), str(rounds)], stdout=subprocess.DEVNULL, check=True)
     after = resource.getrusage(resource.RUSAGE_CHILDREN)
     return after.ru_utime + after.ru_stime - before.ru_utime - before.ru_stime
 
 def memory(what, size):
     """The most bytes of memory that a run has."""
-    child = subprocess.Popen([sys.argv[1], what, str(size), '0'], stdout=subprocess.DEVNULL)
+    child = subprocess.Popen([sys.argv[1], "tree", what, str(size), '0'], stdout=subprocess.DEVNULL)
     _, status, usage = os.wait4(child.pid, 0)
     assert status == 0
     return usage.ru_maxrss * 1024

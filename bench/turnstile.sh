@@ -1,8 +1,8 @@
 #!/bin/sh
 # Measures the time of a turn: one, two and four threads that add to one counter, in a turnstile and in the kit's Mutex. Run it by
-# hand at the top of the repository, after `(cd crates/turnstile_bench && rt run)` has built the program; or give the path of the program
-# as $1. The runs take turns. The time is that of the clock, without the same run that adds nothing.
-exec python3 - "${1:-crates/turnstile_bench/out/turnstile_bench}" <<'END'
+# hand at the top of the repository, after `(cd crates/nr_bench && rt run -- turnstile turnstile 2 1000)` has built the program; or give
+# the path of the program as $1. The runs take turns. The time is that of the clock, without the same run that adds nothing.
+exec python3 - "${1:-crates/nr_bench/out/nr_bench}" <<'END'
 import subprocess, sys, time
 
 def seconds(*runs, times=9):
@@ -11,7 +11,7 @@ def seconds(*runs, times=9):
     for _ in range(times):
         for i, run in enumerate(runs):
             before = time.perf_counter()
-            subprocess.run([sys.argv[1], *map(str, run)], stdout=subprocess.DEVNULL, check=True)
+            subprocess.run([sys.argv[1], "turnstile", *map(str, run)], stdout=subprocess.DEVNULL, check=True)
             used = time.perf_counter() - before
             best[i] = used if best[i] is None else min(best[i], used)
     return best

@@ -86,8 +86,8 @@ def build(names: list[str], jobs: int) -> int:
 
 
 def same_files(one: str, other: str) -> bool:
-    """Whether two folders of a crate have the same files, but for `out`."""
-    compared = filecmp.dircmp(one, other, ignore=["out"])
+    """Whether two folders of a crate have the same files, but for `out` and the edits of `must-fail`."""
+    compared = filecmp.dircmp(one, other, ignore=["out", "must-fail"])
     if compared.left_only or compared.right_only or compared.funny_files:
         return False
     if any(not filecmp.cmp(f"{one}/{it}", f"{other}/{it}", shallow=False) for it in compared.common_files):

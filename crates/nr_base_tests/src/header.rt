@@ -10,126 +10,114 @@ use nr_xdr::Octets;
 use std::alloc::Global;
 use std::process::Abort;
 
-/// What is read: a header, or a fault with its number.
-#[derive(Clone, Copy, Debug, PartialEq)]
-enum Read {
-    Header,
-    Short,
-    Version(u32),
-    Kind(u32),
-    BadChunks(usize),
-}
+/// What is read: a header, or a fault and its version, its kind or the offset of its first bad item.
+type Read = (u8, usize);
+
+const HEADER: Read = (0, 0);
+
+const SHORT: Read = (1, 0);
+
+const VERSION: u8 = 2;
+
+const KIND: u8 = 3;
+
+const BAD_CHUNKS: u8 = 4;
 
 fn read_as(bytes: &[u8]) -> Read {
     match read_header(bytes).err() {
-        None => Read::Header,
-        Some(HeaderFault::Short) => Read::Short,
-        Some(HeaderFault::Version { version }) => Read::Version(version),
-        Some(HeaderFault::Kind { kind }) => Read::Kind(kind),
-        Some(HeaderFault::BadChunks { at }) => Read::BadChunks(at),
+        None => HEADER,
+        Some(HeaderFault::Short) => SHORT,
+        Some(HeaderFault::Version { version }) => (VERSION, version as usize),
+        Some(HeaderFault::Kind { kind }) => (KIND, kind as usize),
+        Some(HeaderFault::BadChunks { at }) => (BAD_CHUNKS, at),
     }
 }
 
 const MOST: u32 = 0xffff_ffff;
 
 static MESSAGES: [(&[u32], Read); 46] = [
-    (&[], Read::Short),
-    (&[1, 1, 16], Read::Short),
-    (&[1, 1, 16, 0, 0, 0, 0], Read::Header),
+    (&[], SHORT),
+    (&[1, 1, 16], SHORT),
+    (&[1, 1, 16, 0, 0, 0, 0], HEADER),
     // Versions.
-    (&[1, 0, 16, 0, 0, 0, 0], Read::Version(0)),
-    (&[1, 2, 16, 0], Read::Version(2)),
-    (&[1, 2, 16, 0, 0, 0, 0], Read::Version(2)),
-    (&[1, MOST, 16, 3], Read::Version(MOST)),
+    (&[1, 0, 16, 0, 0, 0, 0], (VERSION, 0)),
+    (&[1, 2, 16, 0], (VERSION, 2)),
+    (&[1, 2, 16, 0, 0, 0, 0], (VERSION, 2)),
+    (&[1, MOST, 16, 3], (VERSION, MOST as usize)),
     // Complete error messages of any version, and others: another code, or other bytes than those of the code.
-    (&[1, 2, 16, 4, 1, 1, 3], Read::Header),
-    (&[1, 1, 16, 4, 2], Read::Header),
-    (&[1, 7, 16, 4, 2], Read::Header),
-    (&[1, 1, 16, 4], Read::Kind(4)),
-    (&[1, 1, 16, 4, 1], Read::Kind(4)),
-    (&[1, 1, 16, 4, 1, 1], Read::Kind(4)),
-    (&[1, 1, 16, 4, 1, 1, 1, 7], Read::Kind(4)),
-    (&[1, 2, 16, 4, 1, 1, 1, 7], Read::Version(2)),
-    (&[1, 1, 16, 4, 2, 0], Read::Kind(4)),
-    (&[1, 1, 16, 4, 2, 0, 0], Read::Kind(4)),
-    (&[1, 1, 16, 4, 3], Read::Kind(4)),
-    (&[1, 2, 16, 4, 3], Read::Version(2)),
+    (&[1, 2, 16, 4, 1, 1, 3], HEADER),
+    (&[1, 1, 16, 4, 2], HEADER),
+    (&[1, 7, 16, 4, 2], HEADER),
+    (&[1, 1, 16, 4], (KIND, 4)),
+    (&[1, 1, 16, 4, 1], (KIND, 4)),
+    (&[1, 1, 16, 4, 1, 1], (KIND, 4)),
+    (&[1, 1, 16, 4, 1, 1, 1, 7], (KIND, 4)),
+    (&[1, 2, 16, 4, 1, 1, 1, 7], (VERSION, 2)),
+    (&[1, 1, 16, 4, 2, 0], (KIND, 4)),
+    (&[1, 1, 16, 4, 2, 0, 0], (KIND, 4)),
+    (&[1, 1, 16, 4, 3], (KIND, 4)),
+    (&[1, 2, 16, 4, 3], (VERSION, 2)),
     // Other kinds.
-    (&[1, 1, 16, 2, 0, 0, 0], Read::Kind(2)),
-    (&[1, 1, 16, 3, 0, 0, 0], Read::Kind(3)),
-    (&[1, 1, 16, 5], Read::Kind(5)),
-    (&[1, 1, 16, MOST, 0, 0, 0], Read::Kind(MOST)),
+    (&[1, 1, 16, 2, 0, 0, 0], (KIND, 2)),
+    (&[1, 1, 16, 3, 0, 0, 0], (KIND, 3)),
+    (&[1, 1, 16, 5], (KIND, 5)),
+    (&[1, 1, 16, MOST, 0, 0, 0], (KIND, MOST as usize)),
     // Lists that run past the message, and a list word that is neither 0 nor 1.
-    (&[1, 1, 16, 0, 0, 0], Read::BadChunks(24)),
-    (&[1, 1, 16, 0, 1, 4, 1, 1, 0], Read::BadChunks(32)),
-    (&[1, 1, 16, 0, 2, 0, 0], Read::BadChunks(16)),
-    (&[1, 1, 16, 0, 0, 0, 2], Read::BadChunks(24)),
+    (&[1, 1, 16, 0, 0, 0], (BAD_CHUNKS, 24)),
+    (&[1, 1, 16, 0, 1, 4, 1, 1, 0], (BAD_CHUNKS, 32)),
+    (&[1, 1, 16, 0, 2, 0, 0], (BAD_CHUNKS, 16)),
+    (&[1, 1, 16, 0, 0, 0, 2], (BAD_CHUNKS, 24)),
     // Positions.
-    (
-        &[1, 1, 16, 0, 1, 0, 1, 1, 0, 0, 0, 0, 0],
-        Read::BadChunks(16),
-    ),
-    (&[1, 1, 16, 1, 1, 0, 1, 1, 0, 0, 0, 0, 0], Read::Header),
+    (&[1, 1, 16, 0, 1, 0, 1, 1, 0, 0, 0, 0, 0], (BAD_CHUNKS, 16)),
+    (&[1, 1, 16, 1, 1, 0, 1, 1, 0, 0, 0, 0, 0], HEADER),
     (
         &[1, 1, 16, 0, 1, 4, 1, 1, 0, 0, 1, 8, 1, 1, 0, 0, 0, 0, 0],
-        Read::BadChunks(40),
+        (BAD_CHUNKS, 40),
     ),
     (
         &[
             1, 1, 16, 1, 1, 4, 1, 1, 0, 0, 1, 0, 1, 1, 0, 0, 1, 8, 1, 1, 0, 0, 0, 0, 0,
         ],
-        Read::BadChunks(64),
+        (BAD_CHUNKS, 64),
     ),
     // Segments that end at 2^64, and past it.
-    (
-        &[1, 1, 16, 0, 1, 4, 1, 1, MOST, MOST, 0, 0, 0],
-        Read::Header,
-    ),
+    (&[1, 1, 16, 0, 1, 4, 1, 1, MOST, MOST, 0, 0, 0], HEADER),
     (
         &[1, 1, 16, 0, 1, 4, 1, 2, MOST, MOST, 0, 0, 0],
-        Read::BadChunks(16),
+        (BAD_CHUNKS, 16),
     ),
-    (
-        &[1, 1, 16, 0, 0, 1, 1, 9, 1, MOST, MOST, 0, 0],
-        Read::Header,
-    ),
+    (&[1, 1, 16, 0, 0, 1, 1, 9, 1, MOST, MOST, 0, 0], HEADER),
     (
         &[1, 1, 16, 0, 0, 1, 1, 9, 2, MOST, MOST, 0, 0],
-        Read::BadChunks(28),
+        (BAD_CHUNKS, 28),
     ),
     (
         &[1, 1, 16, 0, 0, 0, 1, 1, 9, 2, MOST, MOST],
-        Read::BadChunks(32),
+        (BAD_CHUNKS, 32),
     ),
     // Counts.
-    (&[1, 1, 16, 0, 0, 1, 17], Read::BadChunks(24)),
-    (&[1, 1, 16, 0, 0, 0, 1, 17], Read::BadChunks(28)),
-    (
-        &[1, 1, 16, 0, 0, 1, 0, 1, 0, 1, 0, 1, 0, 0, 0],
-        Read::Header,
-    ),
+    (&[1, 1, 16, 0, 0, 1, 17], (BAD_CHUNKS, 24)),
+    (&[1, 1, 16, 0, 0, 0, 1, 17], (BAD_CHUNKS, 28)),
+    (&[1, 1, 16, 0, 0, 1, 0, 1, 0, 1, 0, 1, 0, 0, 0], HEADER),
     (
         &[1, 1, 16, 0, 0, 1, 0, 1, 0, 1, 0, 1, 0, 1, 0, 0, 0],
-        Read::BadChunks(52),
+        (BAD_CHUNKS, 52),
     ),
     // Bytes after the lists, and the lengths of the read list.
-    (&[1, 1, 16, 1, 0, 0, 0, 7], Read::BadChunks(28)),
+    (&[1, 1, 16, 1, 0, 0, 0, 7], (BAD_CHUNKS, 28)),
     (
         &[1, 1, 16, 0, 1, 4, 1, 40957, 0, 0, 0, 0, 0, 7],
-        Read::BadChunks(52),
+        (BAD_CHUNKS, 52),
     ),
-    (
-        &[1, 1, 16, 0, 1, 4, 1, 40956, 0, 0, 0, 0, 0, 7],
-        Read::Header,
-    ),
+    (&[1, 1, 16, 0, 1, 4, 1, 40956, 0, 0, 0, 0, 0, 7], HEADER),
     (
         &[1, 1, 16, 1, 1, 0, 1, 40961, 0, 0, 0, 0, 0],
-        Read::BadChunks(52),
+        (BAD_CHUNKS, 52),
     ),
-    (&[1, 1, 16, 1, 1, 0, 1, 40960, 0, 0, 0, 0, 0], Read::Header),
+    (&[1, 1, 16, 1, 1, 0, 1, 40960, 0, 0, 0, 0, 0], HEADER),
     (
         &[1, 1, 16, 1, 1, 4, 1, MOST, 0, 0, 0, 0, 0],
-        Read::BadChunks(52),
+        (BAD_CHUNKS, 52),
     ),
 ];
 
@@ -142,7 +130,7 @@ fn messages(rt: HostRuntime) {
         let bytes = bytes_of(&rt, rt.alloc(), words);
         same(&rt, row, read_as(&bytes), *want);
     }
-    same(&rt, 46, read_as(&[0; 15]), Read::Short);
+    same(&rt, 46, read_as(&[0; 15]), SHORT);
 }
 
 fn put_times(rt: &impl Abort, bytes: &mut Vec<u8>, words: &[u32], times: u32) {
@@ -174,15 +162,15 @@ fn message(rt: &impl Abort, alloc: Global, counts: [u32; 5]) -> Vec<u8> {
 
 /// The counts of `message`.
 static LIMITS: [([u32; 5], Read); 9] = [
-    ([16, 0, 0, 16, 0], Read::Header),
-    ([17, 0, 0, 0, 0], Read::BadChunks(400)),
-    ([0, 0, 0, 17, 0], Read::BadChunks(44)),
-    ([0, 16, 0, 0, 0], Read::Header),
-    ([0, 17, 0, 0, 0], Read::BadChunks(24)),
-    ([0, 8, 8, 0, 0], Read::Header),
-    ([0, 8, 9, 0, 0], Read::BadChunks(320)),
-    ([0, 0, 0, 0, 10240], Read::Header),
-    ([0, 0, 0, 0, 10241], Read::BadChunks(48)),
+    ([16, 0, 0, 16, 0], HEADER),
+    ([17, 0, 0, 0, 0], (BAD_CHUNKS, 400)),
+    ([0, 0, 0, 17, 0], (BAD_CHUNKS, 44)),
+    ([0, 16, 0, 0, 0], HEADER),
+    ([0, 17, 0, 0, 0], (BAD_CHUNKS, 24)),
+    ([0, 8, 8, 0, 0], HEADER),
+    ([0, 8, 9, 0, 0], (BAD_CHUNKS, 320)),
+    ([0, 0, 0, 0, 10240], HEADER),
+    ([0, 0, 0, 0, 10241], (BAD_CHUNKS, 48)),
 ];
 
 #[test]
@@ -192,18 +180,6 @@ fn limits(rt: HostRuntime) {
         same(&rt, row, read_as(&bytes), *want);
     }
 }
-
-const FIRST: RdmaSegment = RdmaSegment {
-    handle: 21,
-    length: 22,
-    offset: 0x0000_0017_0000_0018,
-};
-
-const SECOND: RdmaSegment = RdmaSegment {
-    handle: 25,
-    length: 26,
-    offset: 0xffff_ffff_0000_001c,
-};
 
 fn entry(position: u32, handle: u32) -> ReadSegment {
     ReadSegment {
@@ -232,12 +208,29 @@ const NOMSG_WORDS: [&[u32]; 3] = [
     &WRITE_AND_REPLY,
 ];
 
-/// The kind; of ERR_VERS the version word, the lowest and the highest version, of ERR_CHUNK the version word; and the offset
-/// of the stream.
+/// The handle and the length of the second segment of the first write chunk, and the handle of the reply chunk's one.
+fn chunk_numbers(lists: &ChunkLists) -> [u32; 3] {
+    let ([first, _], Some(reply)) = (lists.write.as_slice(), &lists.reply) else {
+        return [0; 3];
+    };
+    match (first.as_slice(), reply.as_slice()) {
+        ([_, second], [only]) => [second.handle, second.length, only.handle],
+        _ => [0; 3],
+    }
+}
+
+/// The kind; of lists the numbers of their chunks, of ERR_VERS the version word, the lowest and the highest version, of
+/// ERR_CHUNK the version word; and the offset of the stream.
 fn body_numbers(body: &Body) -> ([u32; 4], usize) {
     match body {
-        Body::Msg { stream_at, .. } => ([0; 4], *stream_at),
-        Body::Nomsg { .. } => ([1, 0, 0, 0], 0),
+        Body::Msg { lists, stream_at } => {
+            let [handle, length, reply] = chunk_numbers(lists);
+            ([0, handle, length, reply], *stream_at)
+        }
+        Body::Nomsg { lists } => {
+            let [handle, length, reply] = chunk_numbers(lists);
+            ([1, handle, length, reply], 0)
+        }
         Body::ErrVers { version, low, high } => ([2, *version, *low, *high], 0),
         Body::ErrChunk { version } => ([3, *version, 0, 0], 0),
     }
@@ -297,8 +290,8 @@ fn header_again(rt: &impl Abort, alloc: Global, row: usize, bytes: &[u8], want: 
 }
 
 static HEADERS: [(&[&[u32]], ([u32; 4], usize)); 4] = [
-    (&MSG_WORDS, ([0; 4], 160)),
-    (&NOMSG_WORDS, ([1, 0, 0, 0], 0)),
+    (&MSG_WORDS, ([0, 25, 26, 21], 160)),
+    (&NOMSG_WORDS, ([1, 25, 26, 21], 0)),
     (&[&[0x0102_0304, 7, 32, 4, 1, 2, 5]], ([2, 7, 2, 5], 0)),
     (&[&[0x0102_0304, 3, 32, 4, 2]], ([3, 3, 0, 0], 0)),
 ];
@@ -308,59 +301,6 @@ fn headers_read(rt: HostRuntime) {
     for (row, (parts, want)) in HEADERS.iter().enumerate() {
         let bytes = joined(&rt, rt.alloc(), parts);
         header_again(&rt, rt.alloc(), row, &bytes, *want);
-    }
-}
-
-/// The write chunks of `MSG_WORDS` and of `NOMSG_WORDS`.
-fn same_write(rt: &impl Abort, write: &WriteList) {
-    let both: &[RdmaSegment] = &[FIRST, SECOND];
-    match write.as_slice() {
-        [first, second] => {
-            same(rt, 0, first.as_slice(), both);
-            same(rt, 1, second.as_slice(), &both[1..]);
-        }
-        _ => panic!(rt; "two write chunks"),
-    }
-}
-
-/// The lists of `MSG_WORDS` and of `NOMSG_WORDS`: entries at this position, two write chunks, a reply chunk.
-fn same_lists(rt: &impl Abort, lists: &ChunkLists, position: u32) {
-    let entries: &[ReadSegment] = &[entry(position, 11), entry(position, 31)];
-    same(rt, 2, lists.read.as_slice(), entries);
-    let counts = (lists.read.is_empty(), lists.write.len());
-    same(rt, 3, counts, (false, 2));
-    same_write(rt, &lists.write);
-    match &lists.reply {
-        Some(reply) => same(rt, 4, reply.as_slice(), [FIRST].as_slice()),
-        None => panic!(rt; "a reply chunk"),
-    }
-}
-
-/// The same of the lists of a body.
-fn same_body(rt: &impl Abort, body: &Body) {
-    match body {
-        Body::Msg { lists, .. } => same_lists(rt, lists, 8),
-        Body::Nomsg { lists } => same_lists(rt, lists, 0),
-        _ => panic!(rt; "no lists"),
-    }
-}
-
-/// The same of the header that is read.
-fn lists_in(rt: &impl Abort, read: &Result<Header, HeaderFault>) {
-    match read {
-        Ok(header) => same_body(rt, &header.body),
-        Err(_) => panic!(rt; "a header"),
-    }
-}
-
-#[test]
-fn lists_read(rt: HostRuntime) {
-    let messages: [&[&[u32]]; 2] = [&MSG_WORDS, &NOMSG_WORDS];
-    for parts in messages {
-        let bytes = joined(&rt, rt.alloc(), parts);
-        let read = read_header(&bytes);
-        lists_in(&rt, &read);
-        drop(read);
     }
 }
 
@@ -407,7 +347,7 @@ fn long_header_words(rt: &impl Abort, alloc: Global) -> Vec<u8> {
 #[test]
 fn written_above_the_limit(rt: HostRuntime) {
     let written = long_header_written(&rt, rt.alloc()).into_vec();
-    same(&rt, 0, read_as(&written), Read::BadChunks(400));
+    same(&rt, 0, read_as(&written), (BAD_CHUNKS, 400));
     same(&rt, 1, written, long_header_words(&rt, rt.alloc()));
 }
 

@@ -7,26 +7,6 @@ use std::io;
 use std::io::{ErrorKind, Read, Write};
 use std::process::Abort;
 
-/// A reader and a writer whose every call fails.
-#[derive(Drop)]
-struct Broken;
-
-impl Read for Broken {
-    fn read(&mut self, _buf: &mut [u8]) -> io::Result<usize> {
-        Err(io::Error::new(ErrorKind::Other, "broken"))
-    }
-}
-
-impl Write for Broken {
-    fn write(&mut self, _buf: &[u8]) -> io::Result<usize> {
-        Err(io::Error::new(ErrorKind::Other, "broken"))
-    }
-
-    fn flush(&mut self) -> io::Result<()> {
-        Ok(())
-    }
-}
-
 /// A reader and a writer whose first call is interrupted. Each later read gives "ok", and each later write takes one byte.
 #[derive(Drop)]
 struct FailsOnce {
@@ -122,25 +102,9 @@ fn mem_source(
 }
 
 #[test]
-fn memory_is_a_source(rt: HostRuntime) {
-    // Call number 1 is to fail.
-    let mut memory = mem_source(&rt, rt.alloc(), b"abcdefg", &[2, 1, 0], &[1]);
-    let wants = [
-        (Ok(2), *b"ab--"),
-        (Err(Failed), *b"----"),
-        (Ok(1), *b"c---"),
-        (Ok(4), *b"defg"),
-        (Ok(0), *b"----"),
-    ];
-    reads(&rt, 0, &mut memory, &wants);
-}
-
-#[test]
 fn readers_are_sources(rt: HostRuntime) {
     let slice = [(Ok(4), *b"abcd"), (Ok(1), *b"e---"), (Ok(0), *b"----")];
     reads(&rt, 1, &mut StdSource::new(b"abcde".as_slice()), &slice);
-    let broken = [(Err(Failed), *b"----"), (Err(Failed), *b"----")];
-    reads(&rt, 2, &mut StdSource::new(Broken), &broken);
 }
 
 /// The adapter answers the first error of any kind, and doesn't read or write again by itself.
@@ -171,22 +135,7 @@ fn mem_sink(rt: &impl Abort, alloc: Global) -> MemSink {
 }
 
 #[test]
-fn memory_is_a_sink(rt: HostRuntime) {
-    let mut memory = mem_sink(&rt, rt.alloc());
-    let wants: [(&[u8], Result<usize, Failed>); 4] = [
-        (b"ab", Ok(2)),
-        (b"cd", Err(Failed)),
-        (b"ef", Ok(2)),
-        (b"", Ok(0)),
-    ];
-    writes(&rt, 0, &mut memory, &wants);
-    same(&rt, 0, memory.bytes(), b"abef".as_slice());
-}
-
-#[test]
 fn writers_are_sinks(rt: HostRuntime) {
-    let broken: [(&[u8], Result<usize, Failed>); 2] = [(b"abc", Err(Failed)), (b"", Err(Failed))];
-    writes(&rt, 1, &mut StdSink::new(Broken), &broken);
     // To take nothing of a piece is a fault.
     let narrow: [(&[u8], Result<usize, Failed>); 5] = [
         (b"abc", Ok(2)),
@@ -198,29 +147,14 @@ fn writers_are_sinks(rt: HostRuntime) {
     writes(&rt, 3, &mut StdSink::new(Narrow { room: 5 }), &narrow);
 }
 
-/// Three bytes go in, and come out once.
-fn first_piece(rt: &impl Abort, pipe: &mut Pipe) {
-    same(rt, 0, pipe.write(b"abc"), Ok(3));
-    same(rt, 1, pipe.peek(2), b"ab".as_slice());
-    reads(rt, 2, pipe, &[(Ok(3), *b"abc-"), (Ok(0), *b"----")]);
-}
-
-/// Four more go in, and are skipped.
-fn second_piece(rt: &impl Abort, pipe: &mut Pipe) {
-    same(rt, 3, pipe.write(b"defg"), Ok(4));
-    pipe.skip(1);
-    let waiting = (pipe.waiting(), pipe.peek(9));
-    same(rt, 4, waiting, (3, b"efg".as_slice()));
-    pipe.skip(9);
-    same(rt, 5, pipe.waiting(), 0);
-}
-
 #[test]
 fn a_pipe_hands_out_each_byte_once_and_keeps_all(rt: HostRuntime) {
     let mut pipe = Pipe::new(rt.alloc());
-    first_piece(&rt, &mut pipe);
-    second_piece(&rt, &mut pipe);
-    same(&rt, 6, pipe.log(), b"abcdefg".as_slice());
+    same(&rt, 0, pipe.write(b"abcdefg"), Ok(7));
+    reads(&rt, 1, &mut pipe, &[(Ok(4), *b"abcd")]);
+    pipe.skip(1);
+    same(&rt, 2, pipe.peek(1), b"f".as_slice());
+    same(&rt, 3, (pipe.waiting(), pipe.log().len()), (2, 7));
 }
 
 /// What is read of "abcde", if the call of a number fails: how many bytes, or why none.
@@ -256,61 +190,20 @@ fn whole_inputs(rt: HostRuntime) {
     }
 }
 
-/// Writes each piece completely: what the call answers.
-fn whole_writes<K: Sink>(
-    rt: &impl Abort,
-    row: usize,
-    sink: &mut K,
-    wants: &[(&[u8], Result<(), Failed>)],
-) {
-    for (piece, want) in wants {
-        same(rt, row, write_whole(sink, piece), *want);
-    }
-}
-
-#[test]
-fn whole_outputs(rt: HostRuntime) {
-    let mut memory = mem_sink(&rt, rt.alloc());
-    let wants: [(&[u8], Result<(), Failed>); 4] = [
-        (b"abc", Ok(())),
-        (b"def", Err(Failed)),
-        (b"", Ok(())),
-        (b"ghi", Ok(())),
-    ];
-    whole_writes(&rt, 10, &mut memory, &wants);
-    same(&rt, 14, memory.bytes(), b"abcghi".as_slice());
-}
-
 #[test]
 fn whole_outputs_in_parts(rt: HostRuntime) {
     let mut narrow = StdSink::new(Narrow { room: 5 });
-    let wants: [(&[u8], Result<(), Failed>); 2] = [(b"abc", Ok(())), (b"defg", Err(Failed))];
-    whole_writes(&rt, 15, &mut narrow, &wants);
+    same(&rt, 15, write_whole(&mut narrow, b"abc"), Ok(()));
+    same(&rt, 16, write_whole(&mut narrow, b"defg"), Err(Failed));
     same(&rt, 17, narrow.into_inner().room, 0);
-}
-
-/// Writes each head and body completely: what the call answers.
-fn whole_pairs<K: Sink>(
-    rt: &impl Abort,
-    row: usize,
-    sink: &mut K,
-    wants: &[(&[u8], &[u8], Result<(), Failed>)],
-) {
-    for (head, body, want) in wants {
-        same(rt, row, write_whole_vectored(sink, head, body), *want);
-    }
 }
 
 #[test]
 fn whole_outputs_of_two_pieces(rt: HostRuntime) {
     // The body of the first pair is to fail.
     let mut memory = mem_sink(&rt, rt.alloc());
-    let wants: [(&[u8], &[u8], Result<(), Failed>); 4] = [
-        (b"ab", b"cd", Err(Failed)),
-        (b"ef", b"ghi", Ok(())),
-        (b"", b"j", Ok(())),
-        (b"", b"", Ok(())),
-    ];
-    whole_pairs(&rt, 18, &mut memory, &wants);
-    same(&rt, 18, memory.bytes(), b"abefghij".as_slice());
+    let first = write_whole_vectored(&mut memory, b"ab", b"cd");
+    let second = write_whole_vectored(&mut memory, b"ef", b"ghi");
+    same(&rt, 18, (first, second), (Err(Failed), Ok(())));
+    same(&rt, 19, memory.bytes(), b"abefghi".as_slice());
 }

@@ -53,30 +53,6 @@ fn three_regions(rt: &impl Abort, alloc: Global, regions: &mut Regions) -> Regis
     registration
 }
 
-/// What becomes of the four bytes "more", given to be written: the registration's STag and length, or why there is none.
-fn more_registered(
-    rt: &impl Abort,
-    alloc: Global,
-    regions: &mut Regions,
-) -> Result<(u32, u64), Why> {
-    let buf = Octets::from_slice(alloc, b"more").expect(rt, "memory");
-    match regions.register(buf, Right::Fill) {
-        Ok(registration) => Ok((registration.stag(), registration.len())),
-        Err((buf, why)) => {
-            same(rt, 0, buf.as_slice(), b"more".as_slice());
-            Err(why)
-        }
-    }
-}
-
-/// Without room made before, a registration takes its own memory.
-#[test]
-fn registered_without_room(rt: HostRuntime) {
-    let mut regions = Regions::new(rt.alloc(), 1);
-    let got = more_registered(&rt, rt.alloc(), &mut regions);
-    same(&rt, 0, got, Ok((1, 4)));
-}
-
 // The kind, the STag, the offset, and the answer to a segment of four bytes.
 static PLACES: [(Kind, u32, u64, Result<(), Denied>); 13] = [
     (Kind::Write, 2, 0xffff_ffff_ffff_fffe, Err(Denied::Bounds)),
@@ -128,30 +104,34 @@ fn placed_and_released(rt: HostRuntime) {
     released(&rt, regions, registration);
 }
 
-/// A region that is a part of its buffer: the peer reaches that part alone, and the buffer comes back complete.
-fn placed_in_window(rt: &impl Abort, alloc: Global) {
-    let mut regions = Regions::new(alloc, 1);
+/// Registers four bytes within a buffer of twelve, for Read Responses.
+fn window_registered(rt: &impl Abort, alloc: Global, regions: &mut Regions) -> Registration
+    ensures { IsHeld regions.new.memory result }
+{
     let buf = Octets::from_slice(alloc, b"head....tail").expect(rt, "memory");
     let Ok(registration) = regions.register_window(buf, 4, 4, Right::Sink) else {
         panic!(rt; "memory");
     };
-    same(rt, 0, regions.place(Kind::Response, 1, 1, b"ire"), Ok(()));
-    same(
-        rt,
-        1,
-        regions.place(Kind::Response, 1, 4, b"x"),
-        Err(Denied::Bounds),
-    );
-    same(rt, 2, regions.bytes(&registration), b".ire".as_slice());
-    let held = (regions.bytes_held(), regions.outside_held());
-    same(rt, 3, held, (4, 8));
-    let buf = regions.release_buffer(registration);
-    same(rt, 4, buf.as_slice(), b"head.iretail".as_slice());
+    registration
 }
 
+/// A region that is a part of its buffer: the peer reaches that part alone, and the buffer comes back complete.
 #[test]
 fn window(rt: HostRuntime) {
-    placed_in_window(&rt, rt.alloc());
+    let mut regions = Regions::new(rt.alloc(), 1);
+    let registration = window_registered(&rt, rt.alloc(), &mut regions);
+    let placed = regions.place(Kind::Response, 1, 1, b"ire");
+    let past = regions.place(Kind::Response, 1, 4, b"x");
+    same(&rt, 0, (placed, past), (Ok(()), Err(Denied::Bounds)));
+    same(&rt, 1, regions.bytes(&registration), b".ire".as_slice());
+    same(
+        &rt,
+        2,
+        (regions.bytes_held(), regions.outside_held()),
+        (4, 8),
+    );
+    let buf = regions.release_buffer(registration);
+    same(&rt, 3, buf.as_slice(), b"head.iretail".as_slice());
 }
 
 // The STag, the offset, the length, and the answer.
@@ -173,16 +153,6 @@ fn fetched(rt: HostRuntime) {
     for (row, (stag, to, len, want)) in FETCHES.iter().enumerate() {
         same(&rt, row, regions.fetch(*stag, *to, *len), *want);
     }
-}
-
-/// STag 2^32 - 1 was given, so none is left; the buffer comes back.
-#[test]
-fn spent(rt: HostRuntime) {
-    let mut regions = Regions::new(rt.alloc(), 0xffff_fffd);
-    three_regions(&rt, rt.alloc(), &mut regions);
-    same(&rt, 0, regions.stags_left(), 0);
-    let got = more_registered(&rt, rt.alloc(), &mut regions);
-    same(&rt, 1, got, Err(Why::Spent));
 }
 
 #[test]

@@ -56,14 +56,6 @@ fn call_answer(alloc: Global, bytes: &[u8]) -> Result<CallWords, usize> {
     }
 }
 
-/// The xid of a call, and whether it is of version 2.
-fn short_want(want: Result<CallWords, usize>) -> (Option<u32>, bool) {
-    match want {
-        Ok(words) => (Some(words.0[1]), words.0[0] == 2),
-        Err(_) => (None, false),
-    }
-}
-
 const NONE: ([u32; 7], usize) = ([0; 7], 0);
 
 static CALLS: [(&[u32], Result<CallWords, usize>); 26] = [
@@ -184,19 +176,6 @@ fn calls(rt: HostRuntime) {
     }
 }
 
-/// The xid of the call at the front, and whether it is of version 2.
-fn short_answer(bytes: &[u8]) -> (Option<u32>, bool) {
-    (call_xid(bytes), call_target(bytes).is_some())
-}
-
-#[test]
-fn calls_in_short(rt: HostRuntime) {
-    for (row, (words, want)) in CALLS.iter().enumerate() {
-        let bytes = bytes_of(&rt, rt.alloc(), words);
-        same(&rt, row, short_answer(&bytes), short_want(*want));
-    }
-}
-
 #[test]
 fn targets(rt: HostRuntime) {
     let words = &[7, 0, 2, 100_005, 3, 1, 5, 4, 9, 6, 0, 8];
@@ -208,7 +187,12 @@ fn targets(rt: HostRuntime) {
         proc: 1,
         args_at: 44,
     };
-    same(&rt, 0, call_target(&bytes), Some(target));
+    same(
+        &rt,
+        0,
+        (call_target(&bytes), call_xid(&bytes)),
+        (Some(target), Some(7)),
+    );
 }
 
 fn put_zeros(rt: &impl Abort, bytes: &mut Vec<u8>, count: u32) {

@@ -126,16 +126,6 @@ fn faults_at_the_front(rt: HostRuntime) {
     same(&rt, 4, reader.u64().is_ok(), true);
 }
 
-#[test]
-fn faults_at_the_end(rt: HostRuntime) {
-    let mut reader = Reader::new(&NAME_WITH_OTHER_PAD);
-    same(&rt, 0, reader.fixed(12).is_ok(), true);
-    let short = ItemFault::Short { at: 12 };
-    same(&rt, 1, reader.u32(), Err(short));
-    same(&rt, 2, reader.u64(), Err(short));
-    same(&rt, 3, reader.boolean(), Err(short));
-}
-
 /// The octets `hello`, with other bytes from the second on, and one more.
 fn six_bytes(rt: &impl Abort, alloc: Global) -> Octets {
     let mut octets = Octets::from_slice(alloc, b"hello").expect(rt, "memory");

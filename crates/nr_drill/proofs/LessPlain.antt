@@ -15,7 +15,7 @@ use Rattle.nr_reduce.proofs.Calls.{executed_head}
 use Rattle.nr_plain.specs.Setup.{Setup}
 use Rattle.nr_plain.specs.Replies.{Answer, answer_to, answer_by}
 use Rattle.nr_plain.specs.Journal.{state_of}
-use Rattle.nr_script.specs.declared.script.Opening.{Opening}
+use Rattle.nr_texts.specs.declared.opening.Opening.{Opening}
 use Rattle.nr_drill.specs.Drill.{plain_of, now}
 use Rattle.nr_drill.specs.Follows.{parameters_of, setting_of}
 use Rattle.nr_drill.specs.DrillSetup.{drill_setup, server_of}

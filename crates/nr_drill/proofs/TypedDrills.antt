@@ -31,7 +31,8 @@ use Rattle.nr_laws.specs.Typed.{IsTypedForm, TypedMark, IsTyped}
 use Rattle.nr_laws.proofs.Bytes.{bytes_both}
 use Rattle.nr_script.specs.declared.script.Line.{Line}
 use Rattle.nr_script.specs.declared.script.Line.TheVariants as lines
-use Rattle.nr_script.specs.Script.{ScriptLines, IsTypedCred, HasWordPosition, IsTypedLine, IsScript}
+use Rattle.nr_texts.specs.Forms.{HasWordPosition}
+use Rattle.nr_script.specs.Script.{ScriptLines, IsTypedCred, IsTypedLine, IsScript}
 use Rattle.nr_drill.specs.Drill.{SerialServer, Setting, Drill, Pipes, plain_of, now, unwritten, after_output, after_all_output, settled, pipes_of, with_pipes, with_mark, with_cred, appended, empty_pipes, cred_of, after_submit, after_feeding, after_feeding_up, after_up, waiting_call, after_answer, after_execution, after_work, after_calls, after_drop, after_raw, after_feeding_down, after_handing, after_done, after_dones, after_outcomes, after_down, answer_of_line, open_xid, after_giving_up, after_forget, after_taking_back, after_revoke, after_all_up, after_all_work, after_moves, after_round, after_opening, after_openings, start, links_of}
 use Rattle.nr_drill.specs.Follows.{after_line, Drains, Makes, MakeAll, Follows, setting_of, opened_drill}
 use Rattle.nr_drill.specs.InBytes.{RepliedMark, RepliedInBytes, ExecutedMark}

@@ -5,7 +5,7 @@ use Rattle.nr_tree.specs.Drill.{IsDrill}
 use Rattle.nr_plain.specs.Setup.{Setup}
 use Rattle.nr_plain.specs.Replies.{plain_reply}
 use Rattle.nr_plain.specs.Added.{entries_of_call}
-use Rattle.nr_script.specs.declared.script.Opening.{Opening}
+use Rattle.nr_texts.specs.declared.opening.Opening.{Opening}
 use Rattle.nr_drill.specs.declared.report.Report.{Report}
 use Rattle.nr_script.specs.Script.{ScriptLines}
 use Rattle.nr_drill.specs.Drill.{SerialServer}

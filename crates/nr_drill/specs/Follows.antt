@@ -5,7 +5,7 @@ use Rattle.nr_link.specs.Agreement.{sized_terms}
 use Rattle.nr_reduce.specs.declared.mark.LinkParameters.{LinkParameters}
 use Rattle.nr_reduce.specs.declared.mark.Mark.{Mark}
 use Rattle.nr_reduce.specs.History.{is_dropped}
-use Rattle.nr_script.specs.declared.script.Opening.{Opening}
+use Rattle.nr_texts.specs.declared.opening.Opening.{Opening}
 use Rattle.nr_script.specs.declared.script.Line.{Line}
 use Rattle.nr_script.specs.declared.script.Line.TheVariants as lines
 use Rattle.nr_script.specs.Script.{ScriptLines}
@@ -55,6 +55,7 @@ parameters_of opening link = record {
   first_stag = 1;
   wished = opening.credits;
   granted = opening.credits;
+  receives = opening.credits;
   client = sized_terms opening.client_units;
   server = sized_terms opening.server_units;
 }

@@ -3,7 +3,7 @@
 ghost use Rattle.std.specs.Prelude.{◌≡◌, ℕ, ◌+◌, ◌-◌, ◌≤◌, ◌++◌, [], length, map, IfOk, OnOk, slice_get};
 ghost use Rattle.nr_reduce.specs.declared.mark.Mark.TheVariants as marks;
 ghost use Rattle.nr_marks.specs.Views.{mark_seen};
-ghost use Rattle.nr_script.specs.Limits.{clients_max};
+ghost use Rattle.nr_texts.specs.Limits.{clients_max};
 ghost use Rattle.nr_drill.specs.Headline.{log_of};
 ghost use Rattle.nr_drill.specs.LinkEnds.{ReportsRuns};
 ghost use Rattle.nr_drill.specs.Reports.{side_report};

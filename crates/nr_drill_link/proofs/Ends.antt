@@ -67,7 +67,6 @@ requester_quiet o link run h n none before after =
     let k = after.keeps in
     record {
       keeps = record {
-        first = k.first;
         wished = k.wished;
         kept = record {
           keeps = subst (λ (e : EndState ClientState). ClientKeeps o (kept_client (after_drain n h).state) e (length (bytes_received link Initiator run))) same

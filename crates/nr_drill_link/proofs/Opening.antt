@@ -6,7 +6,7 @@ use Rattle.nr_link.specs.declared.end.End.TheVariants as ends
 use Rattle.nr_reduce.specs.declared.mark.LinkParameters.{LinkParameters}
 use Rattle.nr_reduce.specs.declared.mark.Mark.{Mark}
 use Rattle.nr_responder.specs.ResponderState.{end_of}
-use Rattle.nr_script.specs.declared.script.Opening.{Opening}
+use Rattle.nr_texts.specs.declared.opening.Opening.{Opening}
 use Rattle.nr_drill.specs.Drill.{Setting, Drill, Pipes, pipes_of, settled, after_up, after_down, after_all_up, after_all_down, after_opening}
 use Rattle.nr_drill_link.specs.DrillLinkState.{DrillLinkState}
 use Rattle.nr_drill_link.specs.LinkStands.{awaited_lines, LinkStands}
@@ -35,7 +35,7 @@ fresh_stands s link opening d v f opened before =
       pipes = f.pipes ∙ sym before.pipes;
       dropped = f.stands;
       client = f.client o link (ap (λ (p : LinkParameters). p.first_xid) opened) (ap (λ (p : LinkParameters). p.first_stag) opened) (ap (λ (p : LinkParameters). p.wished) opened, ap (λ (p : LinkParameters). p.client) opened);
-      server = represents_of o link [] v.server (not_memory (end_of v.server) f.server_live) (f.server o link (ap (λ (p : LinkParameters). p.granted) opened, ap (λ (p : LinkParameters). p.server) opened));
+      server = represents_of o link [] v.server (not_memory (end_of v.server) f.server_live) (f.server o link (ap (λ (p : LinkParameters). p.granted) opened, ap (λ (p : LinkParameters). p.receives) opened, ap (λ (p : LinkParameters). p.server) opened));
       client_memory = not_memory v.client.state.side.ended f.client_live;
       server_memory = not_memory (end_of v.server) f.server_live;
       lines = f.lines;

@@ -27,7 +27,7 @@ use Rattle.nr_drill_link.specs.declared.awaited.AwaitedCall.{AwaitedCall}
 use Rattle.nr_drill_link.specs.Transits.{TransitState}
 use Rattle.nr_drill_link.specs.OpenTickets.{AreOpen}
 use Rattle.nr_drill_link.specs.Steps.{Goes, ClientWrites, ServerWrites, IsFresh}
-use Rattle.nr_script.specs.declared.script.Opening.{Opening}
+use Rattle.nr_texts.specs.declared.opening.Opening.{Opening}
 use Rattle.nr_drill_link.specs.Views.{line_view, link_view}
 use Rattle.nr_drill_link.proofs.OpenTickets.{none_open, kept_open}
 use Rattle.nr_drill_link.proofs.Standing.{with_ends, from_view}

@@ -15,7 +15,7 @@ use Rattle.nr_responder.specs.ResponderState.{ResponderSide, end_of, may_write, 
 use Rattle.nr_responder.specs.Standing.{ResponderRepresents}
 use Rattle.nr_plain.specs.Setup.{Setup}
 use Rattle.nr_plain.specs.Stands.{PlainServerState, RepresentsJournal}
-use Rattle.nr_script.specs.declared.script.Opening.{Opening}
+use Rattle.nr_texts.specs.declared.opening.Opening.{Opening}
 use Rattle.nr_drill.specs.Drill.{link_of, Setting, Drill, plain_of, pipes_of, empty_pipes, settled, after_work, after_opening}
 use Rattle.nr_drill.specs.DrillSetup.{server_of}
 use Rattle.nr_drill.specs.Follows.{parameters_of}

@@ -18,7 +18,7 @@ use nr_marks::MarkLog;
 use nr_reduce::Mark;
 use nr_requester::Requester;
 use nr_responder::Responder;
-use nr_script::Opening;
+use nr_texts::Opening;
 use nr_wire::Side;
 use nr_xdr::Memory;
 use std::alloc::Global;

@@ -1,9 +1,11 @@
 //! Tests of what no run of the program shows of drills: a script that is made from a seed (`nr_script`), whose numbers were worked out
-//! by hand, and what crossed a link (`nr_drill`, `nr_marks`). What is printed of a drill is in `nr_cases`.
+//! by hand, what crossed a link (`nr_drill`, `nr_marks`), and captures (`nr_capture`). What is printed of a drill is in `nr_cases`.
 //!
 //! They stand in a crate of their own, above the crates that they test, since a crate with tests is proved twice.
 #![tactic(auto)]
 
+#[cfg(test)]
+mod captures;
 #[cfg(test)]
 mod compare;
 #[cfg(test)]

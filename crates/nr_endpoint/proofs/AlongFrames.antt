@@ -14,10 +14,10 @@ use Rattle.nr_endpoint.specs.Calls.Call.{Feed, FeedOne}
 abbrev pub KeptByFrames : (Awaited → LinkState → Type 0) → Type 0
 KeptByFrames P = (a : Awaited) (s : LinkState) (frame : List ℕ) → has_ended s ≡ false → P a s → P Fpdu (with_frame s a frame)
 
-abbrev Holds : (Awaited → LinkState → Type 0) → LinkSide → Type 0
+abbrev pub Holds : (Awaited → LinkState → Type 0) → LinkSide → Type 0
 Holds P link = P link.awaited link.state
 
-frames_keep : (P : Awaited → LinkState → Type 0) → KeptByFrames P → (frames : List (List ℕ)) (rest : List ℕ) (a : Awaited) (s : LinkState) (b : Bool) → has_ended s ≡ b → P a s →
+pub frames_keep : (P : Awaited → LinkState → Type 0) → KeptByFrames P → (frames : List (List ℕ)) (rest : List ℕ) (a : Awaited) (s : LinkState) (b : Bool) → has_ended s ≡ b → P a s →
     Holds P (feeding_after_frames has_ended with_frame frames rest a s)
 frames_keep P keeps [] rest a s b is holds = holds
 frames_keep P keeps (frame ∷ frames) rest a s true is holds =
@@ -33,7 +33,7 @@ unfolding after_call feeding_after
 feed_keeps P keeps link piece holds =
     frames_keep P keeps (split link.awaited (link.rest ++ piece)).frames (split link.awaited (link.rest ++ piece)).rest link.awaited link.state (has_ended link.state) refl holds
 
-step_by_lem : (P : Awaited → LinkState → Type 0) → KeptByFrames P → (link : LinkSide) (piece : List ℕ) (gone whole : Bool) → has_ended link.state ≡ gone → is_whole link.awaited (link.rest ++ piece) ≡ whole →
+pub step_by_lem : (P : Awaited → LinkState → Type 0) → KeptByFrames P → (link : LinkSide) (piece : List ℕ) (gone whole : Bool) → has_ended link.state ≡ gone → is_whole link.awaited (link.rest ++ piece) ≡ whole →
     P link.awaited link.state → Holds P (feeding_after_step has_ended with_frame link piece)
 step_by_lem P keeps link piece true whole is w holds = subst (Holds P) (sym (feeding_after_step-ended has_ended with_frame link piece is)) holds
 step_by_lem P keeps link piece false false is w holds = subst (Holds P) (sym (feeding_after_step-partial has_ended with_frame link piece is w)) holds

@@ -4,8 +4,9 @@ pub mod ReceiveQueueBuffers
 pub mod ReceiveQueueBytes
 pub mod ReceiveQueueSteps
 mod Cuts
-mod SendQueues
+pub mod SendQueues
 mod WrittenOut
+mod OutputPieces
 pub mod Alive
 pub mod WholeFrames
 pub mod Queued
@@ -32,6 +33,7 @@ pub mod WholeCalls
 pub mod Requested
 pub mod ItemEnds
 pub mod OutputItems
+pub mod OutputSizes
 pub mod QueuedItems
 pub mod Bounds
 pub mod KeptLists

@@ -1,11 +1,11 @@
 -- Pieces of output, and what a sink took of them.
-use Rattle.std.proofs.Common.{◌≡◌, ℕ, ◌+◌, ◌≤◌, true, false, List, [], ◌∷◌, ◌++◌, length, take, drop, Option, Result, Ok, Err, sym, ap, subst, ◌∙◌, arith, append_assoc, length-append}
+use Rattle.std.proofs.Common.{◌≡◌, ℕ, ◌+◌, ◌≤◌, true, false, List, [], ◌∷◌, ◌++◌, length, take, drop, Option, Result, Ok, Err, sym, ap, subst, ◌∙◌, arith, append_assoc}
 use Rattle.std.specs.Prelude.{MatchResult, OnOk, is_err}
 use Rattle.std.specs.List.{concat}
 use Rattle.std.specs.Io.KnownBytes.{Appends}
 use Rattle.std.proofs.KnownBytes.{Appends-trans}
 use Rattle.std.proofs.Math.Seq.{take-append-add, drop-append-add}
-use Rattle.std.proofs.lemmas.List.{append-nil, take_all, drop_all, drop_at, take-append-le, drop-append-le}
+use Rattle.std.proofs.lemmas.List.{append-nil, take_all, drop_all, take-append-le, drop-append-le}
 use Rattle.std.proofs.lemmas.List.Folds.{concat-append}
 
 -- one piece more
@@ -27,19 +27,6 @@ when_ok (Err _) A B e h = absurd (let wrong : true ≡ false = e in cc)
 pub on_ok_then : {T E : Type 0} (r : Result T E) (A : Type 0) → is_err r ≡ false → OnOk r A → A
 on_ok_then (Ok _) A e h = h
 on_ok_then (Err _) A e h = absurd (let wrong : true ≡ false = e in cc)
-
--- the first of some pieces was written in part, or completely
-pub first_left : (queue : List (List ℕ)) (first : List ℕ) (rest : List (List ℕ)) (n : ℕ) → queue ≡ first ∷ rest → n ≤ length first → drop n first ++ concat rest ≡ drop n (concat queue)
-first_left queue first rest n is le = sym (ap (λ (q : List (List ℕ)). drop n (concat q)) is ∙ drop-append-le n first (concat rest) le)
-
-pub first_gone : (queue : List (List ℕ)) (first : List ℕ) (rest : List (List ℕ)) (n : ℕ) → queue ≡ first ∷ rest → n ≡ length first → concat rest ≡ drop n (concat queue)
-first_gone queue first rest n is e = sym (ap (λ (q : List (List ℕ)). drop n (concat q)) is ∙ drop_at first (concat rest) n (sym e))
-
-pub first_taken : (queue : List (List ℕ)) (first : List ℕ) (rest : List (List ℕ)) (n : ℕ) → queue ≡ first ∷ rest → n ≤ length first → take n first ≡ take n (concat queue)
-first_taken queue first rest n is le = sym (ap (λ (q : List (List ℕ)). take n (concat q)) is ∙ take-append-le n first (concat rest) le)
-
-pub first_within : (queue : List (List ℕ)) (first : List ℕ) (rest : List (List ℕ)) (n : ℕ) → queue ≡ first ∷ rest → n ≤ length first → n ≤ length (concat queue)
-first_within queue first rest n is le = omega (arith, ap (λ (q : List (List ℕ)). length (concat q)) is, length-append first (concat rest), le)
 
 -- the complete pieces, and then some bytes of the run, were written
 pub both_left : (pieces run pieces_left run_left : List ℕ) (first n : ℕ) → first ≡ length pieces → pieces_left ≡ drop first pieces → run_left ≡ drop n run

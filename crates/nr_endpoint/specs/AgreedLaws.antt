@@ -1,30 +1,40 @@
 -- What is agreed on a side, after any calls.
-use Rattle.std.specs.Prelude.{◌≡◌, ℕ, ◌≤◌, Bool, true, false, List}
+use Rattle.std.specs.Prelude.{◌≡◌, ℕ, ◌≤◌, Bool, true, false, List, take, Ok}
 use Rattle.nr_wire.specs.declared.hello.Side.{Side}
+use Rattle.nr_wire.specs.declared.stream.Awaited.TheVariants.{Hello as HelloFrom}
+use Rattle.nr_wire.specs.Stream.{is_whole, frame_len}
+use Rattle.nr_wire.specs.Hello.{Hello, hello_of}
 use Rattle.nr_link.specs.declared.agreement.SideTerms.{SideTerms}
 use Rattle.nr_link.specs.declared.agreement.Agreement.{Agreement}
 use Rattle.nr_link.specs.Agreement.{default_agreement, IsSendLimit}
 use Rattle.nr_endpoint.specs.Hellos.{own_private, side_agreement, received_max, receive_length_for}
-use Rattle.nr_endpoint.specs.LinkState.{initial_link}
+use Rattle.nr_endpoint.specs.LinkState.{initial_link, peer}
 use Rattle.nr_endpoint.specs.Calls.{Call, after_calls}
+use Rattle.nr_endpoint.specs.Laws.{bytes_fed}
 
--- a side with these terms has this private data, and has agreed on this, by some private data of its peer
-abbrev pub HasAgreed : SideTerms → Side → (private : List ℕ) → Agreement → Type 0
-HasAgreed terms side private agreed =
-    (peer_private : List ℕ) × (private ≡ own_private terms side peer_private) × (agreed ≡ side_agreement side private peer_private)
+-- the bytes begin with this complete hello of a side, which is accepted (RFC 5044 section 7.1)
+abbrev pub BeginsWith : Side → List ℕ → Hello → Type 0
+BeginsWith side bytes hello = (is_whole (HelloFrom side) bytes ≡ true) × (hello_of side (take (frame_len (HelloFrom side) bytes) bytes) ≡ Ok hello)
 
--- Until the peer's hello was accepted one unit is agreed in each direction; afterwards what the own hello and some private data of the peer say.
--- The limit of a message of the peer is what is agreed for its direction, and fits each receive. In each direction it is from one unit to
--- UNITS_MAX of them.
-pub record IsAgreed (terms : SideTerms) (side : Side) (has_hello : Bool) (private : List ℕ) (agreed : Agreement) (message_max : ℕ) : Type 0 where
+-- by the hello with which the bytes of its peer begin, a side with these terms has this private data, and has agreed on this
+abbrev pub HasAgreed : SideTerms → Side → (fed private : List ℕ) → Agreement → Type 0
+HasAgreed terms side fed private agreed =
+    (hello : Hello) × BeginsWith (peer side) fed hello × (private ≡ own_private terms side hello.private) × (agreed ≡ side_agreement side private hello.private)
+
+-- Until the peer's hello was accepted one unit is agreed in each direction; afterwards what the own hello and the peer's say, with which the
+-- bytes that were fed begin. The limit of a message of the peer is what is agreed for its direction, and fits each receive. In each direction
+-- it is from one unit to UNITS_MAX of them.
+pub record IsAgreed (terms : SideTerms) (side : Side) (fed : List ℕ) (has_hello : Bool) (private : List ℕ) (agreed : Agreement) (message_max : ℕ) : Type 0 where
   pub before : has_hello ≡ false → agreed ≡ default_agreement
-  pub after : has_hello ≡ true → HasAgreed terms side private agreed
+  pub after : has_hello ≡ true → HasAgreed terms side fed private agreed
   pub received : message_max ≡ received_max side agreed
   pub fits : message_max ≤ receive_length_for terms
   pub up : IsSendLimit agreed.up
   pub down : IsSendLimit agreed.down
 
+-- So it is on a side that was opened with these terms, and fed with the bytes of these calls.
 abbrev pub AgreesByHellos : Type 0
 AgreesByHellos = (side : Side) (receives first_stag : ℕ) (terms : SideTerms) (calls : List Call) →
-    let s = (after_calls (initial_link side receives first_stag terms) calls).state in
-    IsAgreed s.terms s.side s.has_hello s.private s.agreed s.message_max
+    let start = initial_link side receives first_stag terms in
+    let s = (after_calls start calls).state in
+    IsAgreed terms side (bytes_fed start calls) s.has_hello s.private s.agreed s.message_max

@@ -8,7 +8,9 @@ ghost use Rattle.std.specs.FinMap.{get, insert, remove};
 ghost use Rattle.nr_regions.specs.RegisteredMemory.{Claim, IsHeld, buffer_around, bytes_in, bytes_held, claim_of, held_region, nothing_outside, outside_held, outside_window, window_bytes};
 ghost use Rattle.nr_link.specs.declared.end.End.{End};
 ghost use Rattle.nr_link.specs.declared.end.End.TheVariants as ends;
+ghost use Rattle.nr_link.specs.Agreement.{IsSendLimit};
 ghost use Rattle.nr_link.specs.Limits.{open_reads_max};
+ghost use Rattle.nr_endpoint.specs.Hellos.{receive_length_for};
 ghost use Rattle.nr_endpoint.specs.declared.fault.ReadRefused.TheVariants as refusals;
 ghost use Rattle.nr_endpoint.specs.declared.fault.DrainFault.TheVariants as drains;
 ghost use Rattle.nr_endpoint.specs.SendQueue.{writable, output_len};
@@ -318,6 +320,17 @@ impl Endpoint {
         self.link.has_hello
     }
 
+    /// The length of each receive in bytes: of the units of the side's terms. It is fixed when the side is opened, and a message of the peer
+    /// has at most this length.
+    pub fn receive_length(&self) -> usize
+        ensures is { result ≡ self.now.link.state.receive_queue.receive_length }
+        ensures terms { result ≡ receive_length_for self.now.link.state.terms }
+        ensures limit { IsSendLimit result }
+        ensures fits { self.now.link.state.message_max ≤ result }
+    {
+        self.link.receive_length()
+    }
+
     /// How many receives are free.
     pub fn receives_free(&self) -> usize
         ensures { result ≡ self.now.link.state.receive_queue.free }
@@ -351,6 +364,14 @@ impl Endpoint {
         ensures { result ≡ output_len self.now.link.state.send_queue }
     {
         self.link.send_queue.len()
+    }
+
+    /// In how many pieces the output is kept: at least one if there is some, and at most one for each byte.
+    pub fn output_pieces(&self) -> usize
+        ensures most { result ≤ output_len self.now.link.state.send_queue }
+        ensures some { 0 < output_len self.now.link.state.send_queue → 0 < result }
+    {
+        self.link.send_queue.pieces()
     }
 
     /// Why the side takes no more input, once it has ended.

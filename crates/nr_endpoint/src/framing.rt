@@ -40,21 +40,32 @@ pub struct RemoteWrite<'a> {
     pub bytes: &'a [u8],
 }
 
+/// The opcode of a Send, and the word that its header has before the queue, as a plain Send has them (RFC 5040 section 4.6).
+fn send_opening() -> (u8, u32)
+    ensures opcode { result.0 ≡ OPCODE_SEND }
+    ensures word { result.1 ≡ 0 }
+{
+    (OPCODE_SEND, 0)
+}
+
 /// The segment with these bytes, which lie at `offset` of all.
 pub fn segment(operation: Operation, last: bool, offset: usize, payload: &[u8]) -> Segment<'_>
     requires { FitsAt operation offset }
     ensures { plain result ≡ operation_segment operation last offset payload.now }
 {
     match operation {
-        Operation::Send { msn } => Segment::Untagged {
-            last,
-            opcode: OPCODE_SEND,
-            word: 0,
-            queue: QUEUE_SEND,
-            msn,
-            offset: offset as u32,
-            payload,
-        },
+        Operation::Send { msn } => {
+            let (opcode, word) = send_opening();
+            Segment::Untagged {
+                last,
+                opcode,
+                word,
+                queue: QUEUE_SEND,
+                msn,
+                offset: offset as u32,
+                payload,
+            }
+        }
         Operation::Write { stag, to } => Segment::Tagged {
             last,
             opcode: OPCODE_WRITE,
@@ -154,7 +165,8 @@ fn append_send(out: &mut Output, msn: u32, front: &[u8], stream: &[u8])
     ensures { out.new.items ≡ out.old.items ++ cut (operation_segment (Operation.Send msn)) (front.now ++ stream.now) }
 {
     let len = front.len() + stream.len();
-    let header = untagged_header(true, OPCODE_SEND, (0, QUEUE_SEND), (msn, 0), len);
+    let (opcode, word) = send_opening();
+    let header = untagged_header(true, opcode, (word, QUEUE_SEND), (msn, 0), len);
     out.append(header.as_slice());
     out.append(front);
     out.append(stream);

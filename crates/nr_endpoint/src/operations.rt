@@ -6,7 +6,9 @@ ghost use Rattle.std.specs.Io.KnownBytes.{Appends};
 ghost use Rattle.nr_outside.specs.Faults.{Rises};
 ghost use Rattle.std.specs.FinMap.{get, insert, remove};
 ghost use Rattle.nr_regions.specs.RegisteredMemory.{IsHeld, after_register, after_release, buffer_around, bytes_held, bytes_in, claim_of, held_region, nothing_outside, outside_held, outside_window, window_bytes};
+ghost use Rattle.nr_link.specs.Agreement.{IsSendLimit};
 ghost use Rattle.nr_link.specs.Limits.{open_reads_max};
+ghost use Rattle.nr_endpoint.specs.Hellos.{receive_length_for};
 ghost use Rattle.nr_link.specs.declared.end.End.TheVariants as ends;
 ghost use Rattle.nr_endpoint.specs.declared.fault.ReadRefused.TheVariants as refusals;
 ghost use Rattle.nr_endpoint.specs.SendQueue.{with_send, with_write, with_request, writable, written};
@@ -269,6 +271,17 @@ impl LinkSide {
         ensures outside { self.new.outside ≡ remove self.old.outside registration.stag }
     {
         self.regions.release_buffer(registration)
+    }
+
+    /// The length of each receive in bytes, which was fixed as the side was opened.
+    pub fn receive_length(&self) -> usize
+        ensures is { result ≡ self.now.state.receive_queue.receive_length }
+        ensures terms { result ≡ receive_length_for self.now.state.terms }
+        ensures limit { IsSendLimit result }
+        ensures fits { self.now.state.message_max ≤ result }
+    {
+        let _ = &self.message_max;
+        self.receive_queue.receive_length()
     }
 
     /// How many bytes the receives have that are not lent.

@@ -15,7 +15,7 @@ use std::marker::Model;
 /// The most bytes that all pieces have in sum.
 const PIECES_MAX: usize = 1 << 62;
 
-/// Pieces of bytes, in order.
+/// Pieces of bytes, in order. Each has at least a byte, so they are at most as many as their bytes.
 #[derive(Drop)]
 struct Pieces {
     queue: VecDeque<Bytes>,
@@ -23,14 +23,15 @@ struct Pieces {
 }
 
 impl Model for Pieces {
-    ghost use Rattle.std.specs.Prelude.{◌≡◌, ◌^◌, ◌≤◌, ℕ, List, length};
+    ghost use Rattle.std.specs.Prelude.{ℕ, List};
     ghost use Rattle.std.specs.List.{concat};
+    ghost use Rattle.nr_endpoint.specs.private.OutputPieces.{ArePieces};
 
     ghost Value = { List ℕ };
 
     ghost view = { λ p. concat p.queue.items };
 
-    ghost invariant = { λ p. (p.len ≡ length (concat p.queue.items)) × (p.len ≤ 2 ^ 62) };
+    ghost invariant = { λ p. ArePieces p.queue.items p.len };
 }
 
 /// Writes a piece to a sink, and drops from its front what the sink took; answers how many bytes those were.
@@ -39,6 +40,7 @@ fn write_piece<K: Sink>(piece: &mut Bytes, sink: &mut K) -> (usize, Result<(), F
     ensures left { piece.new ≡ drop result.0 piece.old }
     ensures took { Appends (K.taken sink.old) (K.taken sink.new) (take result.0 piece.old) }
     ensures all { OnOk result.1 (result.0 ≡ length piece.old) }
+    ensures more { OnErr result.1 (result.0 < length piece.old) }
     ensures counted { MatchResult result.1
         (λ _. K.faults sink.new ≡ K.faults sink.old) (λ _. Rises (K.faults sink.old) (K.faults sink.new)) }
     ensures never_falls { K.faults sink.old ≤ K.faults sink.new }
@@ -55,49 +57,6 @@ fn write_piece<K: Sink>(piece: &mut Bytes, sink: &mut K) -> (usize, Result<(), F
         }
     }
     (count, Ok(()))
-}
-
-/// Writes the first piece to a sink, as [`write_piece`] does; it goes once it is written.
-fn write_first<K: Sink>(queue: &mut VecDeque<Bytes>, sink: &mut K) -> (usize, Result<(), Failed>)
-    ensures count { result.0 ≤ length (concat queue.old.items) }
-    ensures left { concat queue.new.items ≡ drop result.0 (concat queue.old.items) }
-    ensures took { Appends (K.taken sink.old) (K.taken sink.new) (take result.0 (concat queue.old.items)) }
-    ensures one { OnOk result.1 (queue.new.items ≡ drop 1 queue.old.items) }
-    ensures counted { MatchResult result.1
-        (λ _. K.faults sink.new ≡ K.faults sink.old) (λ _. Rises (K.faults sink.old) (K.faults sink.new)) }
-    ensures never_falls { K.faults sink.old ≤ K.faults sink.new }
-{
-    let Some(mut first) = queue.pop_front() else {
-        return (0, Ok(()));
-    };
-    let (count, done) = write_piece(&mut first, sink);
-    if done.is_err() {
-        queue.push_front_reserved(first);
-        return (count, done);
-    }
-    (count, done)
-}
-
-/// Writes pieces to a sink, and drops from their front what the sink took; answers how many bytes those were.
-fn write_pieces<K: Sink>(queue: &mut VecDeque<Bytes>, sink: &mut K) -> (usize, Result<(), Failed>)
-    requires { length (concat queue.old.items) ≤ 2 ^ 62 }
-    ensures count { result.0 ≤ length (concat queue.old.items) }
-    ensures left { concat queue.new.items ≡ drop result.0 (concat queue.old.items) }
-    ensures took { Appends (K.taken sink.old) (K.taken sink.new) (take result.0 (concat queue.old.items)) }
-    ensures all { OnOk result.1 (result.0 ≡ length (concat queue.old.items)) }
-    ensures counted { MatchResult result.1
-        (λ _. K.faults sink.new ≡ K.faults sink.old) (λ _. Rises (K.faults sink.old) (K.faults sink.new)) }
-    ensures never_falls { K.faults sink.old ≤ K.faults sink.new }
-{
-    let mut total = 0;
-    for _i in 0..queue.len() {
-        let (count, done) = write_first(queue, sink);
-        total += count;
-        if done.is_err() {
-            return (total, done);
-        }
-    }
-    (total, Ok(()))
 }
 
 impl Pieces {
@@ -118,13 +77,25 @@ impl Pieces {
         self.len
     }
 
-    /// Puts a piece at the end. An `Err` changes nothing.
+    /// How many pieces they are.
+    fn count(&self) -> usize
+        ensures most { result ≤ length self.now }
+        ensures some { 0 < length self.now → 0 < result }
+        ensures bound { result ≤ 2 ^ 62 }
+    {
+        self.queue.len()
+    }
+
+    /// Puts a piece at the end, if it has a byte. An `Err` changes nothing.
     #[tactic(auto, using(crate::proofs::WrittenOut::concat_more))]
     fn push(&mut self, piece: Bytes) -> Result<(), Memory>
         ensures ok { OnOk result (self.new ≡ self.old ++ piece) }
         ensures err { OnErr result (self.new ≡ self.old) }
     {
         let len = piece.len();
+        if len == 0 {
+            return Ok(());
+        }
         if len > PIECES_MAX - self.len {
             return Err(Memory);
         }
@@ -171,6 +142,28 @@ impl Pieces {
         Ok(())
     }
 
+    /// Writes the first piece to a sink, as [`write_piece`] does; it goes once it is written.
+    fn write_first<K: Sink>(&mut self, sink: &mut K) -> (usize, Result<(), Failed>)
+        ensures count { result.0 ≤ length self.old }
+        ensures left { self.new ≡ drop result.0 self.old }
+        ensures took { Appends (K.taken sink.old) (K.taken sink.new) (take result.0 self.old) }
+        ensures some { OnOk result.1 (0 < length self.old → 0 < result.0) }
+        ensures counted { MatchResult result.1
+            (λ _. K.faults sink.new ≡ K.faults sink.old) (λ _. Rises (K.faults sink.old) (K.faults sink.new)) }
+        ensures never_falls { K.faults sink.old ≤ K.faults sink.new }
+    {
+        let Some(mut first) = self.queue.pop_front() else {
+            return (0, Ok(()));
+        };
+        let (count, done) = write_piece(&mut first, sink);
+        self.len -= count;
+        if done.is_err() {
+            self.queue.push_front_reserved(first);
+            return (count, done);
+        }
+        (count, done)
+    }
+
     /// Writes them to a sink, and drops from the front what it took; answers how many bytes those were.
     fn write_out<K: Sink>(&mut self, sink: &mut K) -> (usize, Result<(), Failed>)
         ensures count { result.0 ≤ length self.old }
@@ -182,9 +175,16 @@ impl Pieces {
             (λ _. K.faults sink.new ≡ K.faults sink.old) (λ _. Rises (K.faults sink.old) (K.faults sink.new)) }
         ensures never_falls { K.faults sink.old ≤ K.faults sink.new }
     {
-        let (count, done) = write_pieces(&mut self.queue, sink);
-        self.len -= count;
-        (count, done)
+        let len = self.len();
+        let mut total = 0;
+        while total < len {
+            let (count, done) = self.write_first(sink);
+            total += count;
+            if done.is_err() {
+                return (total, done);
+            }
+        }
+        (total, Ok(()))
     }
 }
 
@@ -247,6 +247,20 @@ impl Output {
         ensures { result ≡ length self.now.items }
     {
         self.pieces.len() + self.run.len()
+    }
+
+    /// In how many pieces they are kept, the run of bytes among them.
+    pub fn pieces(&self) -> usize
+        ensures most { result ≤ length self.now.items }
+        ensures some { 0 < length self.now.items → 0 < result }
+        ensures bound { result ≤ 2 ^ 62 + 1 }
+    {
+        let count = self.pieces.count();
+        if self.run.is_empty() {
+            count
+        } else {
+            count + 1
+        }
     }
 
     /// Makes room for some bytes.

@@ -450,6 +450,19 @@ impl SendQueue {
         self.hello.len() as u128 + self.fpdus.len() as u128
     }
 
+    /// In how many pieces the bytes of the queue are kept.
+    pub fn pieces(&self) -> usize
+        ensures most { result ≤ output_len self.now }
+        ensures some { 0 < output_len self.now → 0 < result }
+    {
+        let count = self.fpdus.pieces();
+        if self.hello.is_empty() {
+            count
+        } else {
+            count + 1
+        }
+    }
+
     /// Drops the ends of Sends and Read Responses that the first `n` bytes of the FPDUs reach, which were written. The Sends are
     /// counted.
     fn retire_written(&mut self, n: usize)

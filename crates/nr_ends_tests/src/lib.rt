@@ -1,4 +1,5 @@
-//! Tests of both ends of a link (`nr_requester`, `nr_responder`), over one another and over bytes from the RFCs.
+//! Tests of both ends of a link (`nr_requester`, `nr_responder`), over one another and over bytes from the RFCs, and of what is made of calls
+//! and replies (`nr_reduce`).
 //!
 //! They stand in a crate of their own, above the crates that they test, since a crate with tests is proved twice.
 #![tactic(auto)]
@@ -12,15 +13,25 @@ mod chunks;
 #[cfg(test)]
 mod compare;
 #[cfg(test)]
+mod given;
+#[cfg(test)]
 mod given_up;
 #[cfg(test)]
 mod hellos;
 #[cfg(test)]
+mod items;
+#[cfg(test)]
 mod link;
+#[cfg(test)]
+mod lists;
+#[cfg(test)]
+mod plans;
 #[cfg(test)]
 mod random;
 #[cfg(test)]
 mod refused;
+#[cfg(test)]
+mod replies;
 #[cfg(test)]
 mod sizes;
 #[cfg(test)]

@@ -33,7 +33,6 @@ use Rattle.nr_reduce.specs.Standing.{input_events}
 use Rattle.nr_reduce.specs.StandingLaws.{GoesOn, kept_answer_by_plan, kept_answer_if}
 use Rattle.nr_reduce.proofs.Standing.{client_stands}
 use Rattle.nr_reduce.proofs.Submits.{kept_submits}
-use Rattle.nr_reduce.proofs.OutcomesStay.{first_xid_stays}
 use Rattle.nr_reduce.proofs.Keeping.{kept_answers, kept_counts}
 use Rattle.nr_requester.specs.RequesterState.{RequesterState, RequesterSide, kept_call, queue_of, kept_client, input_kept}
 use Rattle.nr_requester.specs.Standing.{LinkKeeps, KeepsClient}
@@ -83,18 +82,12 @@ module _ (opened : LinkParameters) (link : ℕ) (h : RequesterSide) (run : List 
   stag : h.state.side.memory.next ≡ k.stag
   stag = (s.kept.keeps.memory stays).next
 
-  -- no more Sends have left than calls were accepted
-  sent_few : h.state.sent ≤ h.state.next_xid - h.state.first_xid
+  -- no more Sends have left than have a number
+  sent_few : h.state.sent ≤ h.state.sends
   sent_few = (let n = numbers opened link h run s in let sent = s.sent none in let left = keeps.left in omega (arith, n, sent, left))
 
-  left_few : reduce.ends_written k.written k.send_ends ≤ h.state.next_xid - k.first_xid
-  left_few =
-      (let n = numbers opened link h run s in
-      let sent = sent_is opened h.state.side k keeps (omega (arith, due)) in
-      let left = keeps.left in
-      let own = s.first in
-      let first = first_xid_stays opened link run in
-      omega (arith, n, sent, left, own, first))
+  left_few : reduce.ends_written k.written k.send_ends ≤ k.sends
+  left_few = (let sent = sent_is opened h.state.side k keeps (omega (arith, due)) in let left = keeps.left in omega (arith, sent, left))
 
   kept_next : ClientKeeps opened (kept_client (after_submit h call plan).state) (next_end_state (client_rules opened) (client opened link run) event) count
   kept_next =
@@ -139,7 +132,6 @@ module _ (opened : LinkParameters) (link : ℕ) (h : RequesterSide) (run : List 
 
   pub submit_keeps : KeepsClient opened link (after_submit h call plan) (run ++ mark ∷ [])
   submit_keeps = record {
-    first = s.first;
     wished = s.wished;
     kept = client_stands opened link (kept_client h.state) (kept_client (after_submit h call plan).state) (input_kept h) (input_kept (after_submit h call plan)) (queue_of h.state) (queue_of (after_submit h call plan).state) run mark s.kept goes_on
         (λ lives_on. same_input link run (input_kept h) (s.kept.received stays));
@@ -151,7 +143,7 @@ module _ (opened : LinkParameters) (link : ℕ) (h : RequesterSide) (run : List 
 
 answer_same : (r : RequesterState) (p : Result Plan TooLarge) → answer_by_plan r p ≡ kept_answer_by_plan (kept_client r) p
 answer_same r (Err large) = refl
-answer_same r (Ok plan) = ap (λ (n : ℕ). cond (leb r.grant n) (submissions.Refused (refusals.NoCredit n r.grant)) (accepting plan)) (sym (length-map r.outstanding (kept_call r.first_xid r.sent)))
+answer_same r (Ok plan) = ap (λ (n : ℕ). cond (leb r.grant n) (submissions.Refused (refusals.NoCredit n r.grant)) (accepting plan)) (sym (length-map r.outstanding (kept_call r.sent)))
   where
     accepting : Plan → Submission
     accepting plan =

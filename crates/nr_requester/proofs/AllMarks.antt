@@ -18,7 +18,6 @@ use Rattle.nr_reduce.specs.EndRules.{EndState, next_end_state, end_state_after, 
 use Rattle.nr_reduce.specs.ClientState.{ClientState}
 use Rattle.nr_reduce.specs.Client.{client_rules, client_end, client_state_after, initial_client}
 use Rattle.nr_reduce.specs.Run.{client, output_due}
-use Rattle.nr_reduce.specs.SubmitAnswer.{next_xid}
 use Rattle.nr_reduce.specs.KeptClient.{KeptClient, ClientKeeps}
 use Rattle.nr_reduce.specs.Standing.{ClientRepresents, ClientRunsOut}
 use Rattle.nr_reduce.proofs.Steps.{client_one, end_state_after_append}
@@ -65,17 +64,17 @@ submit_answers opened link h run call form plan s k =
     let es : List RunEvent = events link Initiator run in
     let event : RunEvent = CallSubmitted (length (bytes_received link Initiator run)) a in
     let asked : List AcceptedCall = accepted_calls link run in
-    let c : StoredCall = stored_call h.state.next_xid call plan h.state.side.memory in
+    let c : StoredCall = stored_call h.state.next_xid h.state.sends call plan h.state.side.memory in
     let due2 : ℕ → Bool = is_due link (run ++ mark ∷ []) in
     let same : (xid : ℕ) → due2 xid ≡ is_due link run xid = due_same link run mark (λ x. refl) in
     let outs = quiet_outcomes opened es (event ∷ []) (tt, tt) in
     let e : EndState ClientState = client_by opened es in
-    let xid_is : h.state.next_xid ≡ next_xid opened e.state = s.kept.keeps.xid in
+    let xid_is : h.state.next_xid ≡ e.state.next_xid = s.kept.keeps.xid in
     let regions : Offers opened (next_end_state (client_rules opened) e event).state = submit_offers opened e.state e.ended (length (bytes_received link Initiator run)) a xid_is k.regions in
     let next : KeepsAnswers opened (es ++ event ∷ []) due2 (asked ++ a ∷ []) (after_submit h call plan).state = record {
       outcomes = k.outcomes ∙ (λ i. Rattle.std.specs.List.filter (λ (x : Rattle.nr_reduce.specs.History.CompletedCall). sym (same x.xid) i) (sym outs i));
       hands_back = all_as h.state.answered (back_more opened es (event ∷ [])) k.hands_back;
-      holds = all_as h.state.answered (λ (x : AnsweredCall) g. subst (λ (d : EndState ClientState). StillHolds (next_xid opened d.state) d.state x) (sym (end_state_after_append (client_rules opened) (initial_client opened) es (event ∷ [])))
+      holds = all_as h.state.answered (λ (x : AnsweredCall) g. subst (λ (d : EndState ClientState). StillHolds d.state.next_xid d.state x) (sym (end_state_after_append (client_rules opened) (initial_client opened) es (event ∷ [])))
           (submit_still opened e.state e.ended (length (bytes_received link Initiator run)) a x xid_is g)) k.holds;
       calls = all_as h.state.answered (λ (x : AnsweredCall) g. asked_more asked (a ∷ []) x.xid x.call g) k.calls;
       awaited = all_append _ h.state.outstanding (c ∷ []) (all_as h.state.outstanding (λ (x : StoredCall) g. g ∙ sym (same x.xid)) k.awaited) (sym (same h.state.next_xid ∙ k.to_come h.state.next_xid (omega arith)), tt);
@@ -248,11 +247,11 @@ forget_given : (h : RequesterSide) (xid : ℕ) → given_state forgotten_if xid 
 unfolding after_forget
 forget_given h xid = (refl, (refl, refl))
 
-kept_forgotten : (first sent xid : ℕ) (cs : List StoredCall) → map (kept_call first sent) (map (forgotten_call xid) cs) ≡ map (kept_call first sent) cs
-kept_forgotten first sent xid [] = refl
-kept_forgotten first sent xid (c ∷ cs) = λ i. one (eqb c.xid xid) i ∷ kept_forgotten first sent xid cs i
+kept_forgotten : (sent xid : ℕ) (cs : List StoredCall) → map (kept_call sent) (map (forgotten_call xid) cs) ≡ map (kept_call sent) cs
+kept_forgotten sent xid [] = refl
+kept_forgotten sent xid (c ∷ cs) = λ i. one (eqb c.xid xid) i ∷ kept_forgotten sent xid cs i
   where
-    one : (b : Bool) → kept_call first sent (forgotten_if b c) ≡ kept_call first sent c
+    one : (b : Bool) → kept_call sent (forgotten_if b c) ≡ kept_call sent c
     one true = refl
     one false = refl
 
@@ -264,11 +263,10 @@ kept_after_forget : (h : RequesterSide) (xid : ℕ) → kept_client h.state ≡ 
 unfolding after_forget
 kept_after_forget h xid = λ i. record (kept_client h.state) {
   outstanding = sym (count_forgotten xid h.state.outstanding) i;
-  calls = sym (kept_forgotten h.state.first_xid h.state.sent xid h.state.outstanding) i;
+  calls = sym (kept_forgotten h.state.sent xid h.state.outstanding) i;
 }
 
 record ForgetLeaves (h : RequesterSide) (xid : ℕ) : Type 0 where
-  pub first : (after_forget h xid).state.first_xid ≡ h.state.first_xid
   pub wished : (after_forget h xid).state.wished ≡ h.state.wished
   pub sent : (after_forget h xid).state.sent ≡ h.state.sent
   pub side : (after_forget h xid).state.side ≡ h.state.side
@@ -276,13 +274,12 @@ record ForgetLeaves (h : RequesterSide) (xid : ℕ) : Type 0 where
 
 forget_leaves : (h : RequesterSide) (xid : ℕ) → ForgetLeaves h xid
 unfolding after_forget
-forget_leaves h xid = record { first = refl; wished = refl; sent = refl; side = refl; input = refl }
+forget_leaves h xid = record { wished = refl; sent = refl; side = refl; input = refl }
 
 -- of its client nothing changes
 forget_client : (opened : LinkParameters) (link : ℕ) (h : RequesterSide) (run : List Mark) (xid : ℕ) → KeepsClient opened link h run → KeepsClient opened link (after_forget h xid) run
 unfolding after_forget
 forget_client opened link h run xid s = record {
-  first = s.first;
   wished = s.wished;
   kept = subst (λ (x : KeptClient). ClientRepresents opened link x (input_kept h) (queue_of h.state) run) (kept_after_forget h xid) s.kept;
   sent = s.sent;

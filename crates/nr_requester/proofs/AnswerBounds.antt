@@ -22,25 +22,20 @@ use Rattle.nr_requester.specs.Buffers.{with_memory}
 use Rattle.nr_requester.specs.Judged.{SameCalls, outcome_by}
 use Rattle.nr_requester.specs.Fed.{CallsSound}
 use Rattle.nr_requester.specs.Views.{IsAnswered, stored_view}
-use Rattle.nr_requester.specs.HeldBytes.{NothingOutside, call_bytes, stored_bytes, outcome_bytes, buffer_len, buffers_len, LinkFits, RegionsHave, AreFrom, CountsFit, unsent, claims_len, claims_total, CallFits, AnswerFits, AreDistinct, RequesterBounds, IsBounded, reply_room}
+use Rattle.nr_requester.specs.HeldBytes.{NothingOutside, call_bytes, stored_bytes, outcome_bytes, buffer_len, buffers_len, LinkFits, IsCount, RegionsHave, AreRisingBy, send_of, CountsFit, unsent, in_bytes, claims_size, claims_len, claims_total, CallFits, AnswerFits, AreDistinct, RequesterBounds, IsBounded, reply_room, segments_offered}
 use Rattle.nr_requester.proofs.ChangedCalls.{nth_of, not_found}
-use Rattle.nr_requester.proofs.RegionBounds.{released_both}
+use Rattle.nr_requester.proofs.Taken.{same_rising}
+use Rattle.nr_requester.proofs.RegionBounds.{Both, bytes_count, released_both}
 use Rattle.nr_requester.proofs.AnswerSteps.{all_append}
 use Rattle.nr_requester.proofs.MessageBodies.{one_held}
 
 -- ---- The bytes in rooms change
 
-same_from : (first : ℕ) (xs ys : List OutstandingCall) → SameCalls xs ys → AreFrom first xs → AreFrom first ys
-same_from first [] [] h a = tt
-same_from first [] (y ∷ ys) h a = absurd h
-same_from first (x ∷ xs) [] h a = absurd h
-same_from first (x ∷ xs) (y ∷ ys) h a = (let own : y.xid ≡ x.xid = ap (λ (c : OutstandingCall). c.xid) h.0.0 in let le = a.0 in (omega (arith, own, le), same_from first xs ys h.1 a.1))
-
-same_total : (xs ys : List OutstandingCall) → SameCalls xs ys → claims_total xs ≡ claims_total ys
-same_total [] [] h = refl
-same_total [] (y ∷ ys) h = absurd h
-same_total (x ∷ xs) [] h = absurd h
-same_total (x ∷ xs) (y ∷ ys) h = (let own = ap (λ (c : OutstandingCall). claims_len c.claims) h.0.0 in omega (arith, own, same_total xs ys h.1))
+same_total : (size : ℕ → ℕ) (xs ys : List OutstandingCall) → SameCalls xs ys → claims_total size xs ≡ claims_total size ys
+same_total size [] [] h = refl
+same_total size [] (y ∷ ys) h = absurd h
+same_total size (x ∷ xs) [] h = absurd h
+same_total size (x ∷ xs) (y ∷ ys) h = (let own = ap (λ (c : OutstandingCall). claims_size size c.claims) h.0.0 in omega (arith, own, same_total size xs ys h.1))
 
 same_fit : (len : ℕ) (xs ys : List OutstandingCall) → SameCalls xs ys → AllByRecursion (CallFits len) xs → AllByRecursion (CallFits len) ys
 same_fit len [] [] h a = tt
@@ -50,6 +45,7 @@ same_fit len (x ∷ xs) (y ∷ ys) h a = (
   record {
     call = (let own = ap (λ (c : OutstandingCall). stored_bytes c.call) h.0.0 in let le = a.0.call in omega (arith, own, le));
     offer = (let own = ap (λ (c : OutstandingCall). claims_len c.claims) h.0.0 in let le = a.0.offer in omega (arith, own, le));
+    segments = (let own = ap (λ (c : OutstandingCall). segments_offered c.offered) h.0.0 in let le = a.0.segments in omega (arith, own, le));
     written = h.0.1.1 a.0.written;
     room = h.0.1.0 ∙ (a.0.room ∙ ap (λ (c : OutstandingCall). reply_room len c.offered) (sym h.0.0));
     short = (let own = h.0.1.0 in let le = a.0.short in omega (arith, own, le));
@@ -57,29 +53,29 @@ same_fit len (x ∷ xs) (y ∷ ys) h a = (
   same_fit len xs ys h.1 a.1,
 )
 
-same_unsent : (first s : ℕ) (xs ys : List OutstandingCall) → SameCalls xs ys → length (unsent first s ys) ≡ length (unsent first s xs)
-same_unsent first s [] [] h = refl
-same_unsent first s [] (y ∷ ys) h = absurd h
-same_unsent first s (x ∷ xs) [] h = absurd h
-same_unsent first s (x ∷ xs) (y ∷ ys) h =
-    ap (λ (n : ℕ). length (cond (not (nat_lt (n - first) s)) (y ∷ unsent first s ys) (unsent first s ys))) (ap (λ (c : OutstandingCall). c.xid) h.0.0)
-    ∙ by (not (nat_lt (x.xid - first) s)) (same_unsent first s xs ys h.1)
+same_unsent : (s : ℕ) (xs ys : List OutstandingCall) → SameCalls xs ys → length (unsent s ys) ≡ length (unsent s xs)
+same_unsent s [] [] h = refl
+same_unsent s [] (y ∷ ys) h = absurd h
+same_unsent s (x ∷ xs) [] h = absurd h
+same_unsent s (x ∷ xs) (y ∷ ys) h =
+    ap (λ (n : ℕ). length (cond (not (nat_lt n s)) (y ∷ unsent s ys) (unsent s ys))) (ap (λ (c : OutstandingCall). c.send) h.0.0)
+    ∙ by (not (nat_lt (x.send) s)) (same_unsent s xs ys h.1)
   where
-    by : (b : Bool) → length (unsent first s ys) ≡ length (unsent first s xs) → length (cond b (y ∷ unsent first s ys) (unsent first s ys)) ≡ length (cond b (x ∷ unsent first s xs) (unsent first s xs))
+    by : (b : Bool) → length (unsent s ys) ≡ length (unsent s xs) → length (cond b (y ∷ unsent s ys) (unsent s ys)) ≡ length (cond b (x ∷ unsent s xs) (unsent s xs))
     by true rest = ap (λ (n : ℕ). suc n) rest
     by false rest = rest
 
-pub rooms_bounded : (len sent first next : ℕ) (e : EndpointState) (xs ys : List OutstandingCall) (answers : List AnsweredCall) → SameCalls xs ys → IsBounded len sent first next e xs answers → IsBounded len sent first next e ys answers
-rooms_bounded len sent first next e xs ys answers h b =
+pub rooms_bounded : (len sent sends next : ℕ) (e : EndpointState) (xs ys : List OutstandingCall) (answers : List AnsweredCall) → SameCalls xs ys → IsBounded len sent sends next e xs answers → IsBounded len sent sends next e ys answers
+rooms_bounded len sent sends next e xs ys answers h b =
     let w = b.0 in (
       record {
         staging = w.staging;
         outside = w.outside;
-        from = same_from first xs ys h w.from;
+        numbers = same_rising send_of (λ x y same. ap (λ (c : OutstandingCall). c.send) same.0) sends xs ys h w.numbers;
         order = w.order;
         link = w.link;
-        regions = subst (λ (n : ℕ). RegionsHave e.link.state.memory n) (same_total xs ys h) w.regions;
-        counts = record { waiting = (let le = w.counts.waiting in omega (arith, le, same_unsent first e.link.state.send_queue.sends_left xs ys h)); numbered = w.counts.numbered };
+        regions = λ size is. subst (λ (n : ℕ). RegionsHave size e.link.state.memory n) (same_total size xs ys h) (w.regions size is);
+        counts = record { waiting = (let le = w.counts.waiting in omega (arith, le, same_unsent e.link.state.send_queue.sends_left xs ys h)); numbered = w.counts.numbered };
         each = same_fit len xs ys h w.each;
         kept = w.kept;
         distinct = w.distinct;
@@ -98,18 +94,30 @@ all_removed P n [] h = by n
 all_removed P zero (c ∷ cs) h = h.1
 all_removed P (suc n) (c ∷ cs) h = (h.0, all_removed P n cs h.1)
 
-total_removed : (n : ℕ) (cs : List OutstandingCall) (d : OutstandingCall) → n < length cs → claims_total (remove cs n) + claims_len (get_or cs n d).claims ≡ claims_total cs
-total_removed n [] d lt = absurd (omega (arith, lt))
-total_removed zero (c ∷ cs) d lt = omega arith
-total_removed (suc n) (c ∷ cs) d lt = (let rest = total_removed n cs d (omega (arith, lt)) in omega (arith, rest))
+rising_removed : (number : OutstandingCall → ℕ) (next n : ℕ) (cs : List OutstandingCall) → AreRisingBy number cs next → AreRisingBy number (remove cs n) next
+rising_removed number next n [] h = by n
+  where
+    by : (k : ℕ) → AreRisingBy number (remove [] k) next
+    by zero = tt
+    by (suc k) = tt
+rising_removed number next zero (c ∷ cs) h = h.1.1
+rising_removed number next (suc n) (c ∷ cs) h = (h.0, (all_removed (λ (d : OutstandingCall). number c < number d) n cs h.1.0, rising_removed number next n cs h.1.1))
+
+total_sum : (size : ℕ → ℕ) (n : ℕ) (cs : List OutstandingCall) (d : OutstandingCall) → n < length cs → claims_total size (remove cs n) + claims_size size (get_or cs n d).claims ≡ claims_total size cs
+total_sum size n [] d lt = absurd (omega (arith, lt))
+total_sum size zero (c ∷ cs) d lt = omega arith
+total_sum size (suc n) (c ∷ cs) d lt = (let rest = total_sum size n cs d (omega (arith, lt)) in omega (arith, rest))
+
+total_removed : (size : ℕ → ℕ) (n : ℕ) (cs : List OutstandingCall) (d : OutstandingCall) → n < length cs → claims_total size cs - claims_size size (get_or cs n d).claims ≡ claims_total size (remove cs n)
+total_removed size n cs d lt = (let sum = total_sum size n cs d lt in omega (arith, sum))
 
 -- its Send has left
-unsent_removed : (first s n : ℕ) (cs : List OutstandingCall) (d : OutstandingCall) → n < length cs → (get_or cs n d).xid - first < s → length (unsent first s (remove cs n)) ≡ length (unsent first s cs)
-unsent_removed first s n [] d lt gone = absurd (omega (arith, lt))
-unsent_removed first s zero (c ∷ cs) d lt gone = sym (ap (λ (b : Bool). length (cond (not b) (c ∷ unsent first s cs) (unsent first s cs))) (lt-ltb (c.xid - first) s gone))
-unsent_removed first s (suc n) (c ∷ cs) d lt gone = by (not (nat_lt (c.xid - first) s)) (unsent_removed first s n cs d (omega (arith, lt)) gone)
+unsent_removed : (s n : ℕ) (cs : List OutstandingCall) (d : OutstandingCall) → n < length cs → (get_or cs n d).send < s → length (unsent s (remove cs n)) ≡ length (unsent s cs)
+unsent_removed s n [] d lt gone = absurd (omega (arith, lt))
+unsent_removed s zero (c ∷ cs) d lt gone = sym (ap (λ (b : Bool). length (cond (not b) (c ∷ unsent s cs) (unsent s cs))) (lt-ltb (c.send) s gone))
+unsent_removed s (suc n) (c ∷ cs) d lt gone = by (not (nat_lt (c.send) s)) (unsent_removed s n cs d (omega (arith, lt)) gone)
   where
-    by : (b : Bool) → length (unsent first s (remove cs n)) ≡ length (unsent first s cs) → length (cond b (c ∷ unsent first s (remove cs n)) (unsent first s (remove cs n))) ≡ length (cond b (c ∷ unsent first s cs) (unsent first s cs))
+    by : (b : Bool) → length (unsent s (remove cs n)) ≡ length (unsent s cs) → length (cond b (c ∷ unsent s (remove cs n)) (unsent s (remove cs n))) ≡ length (cond b (c ∷ unsent s cs) (unsent s cs))
     by true rest = ap (λ (k : ℕ). suc k) rest
     by false rest = rest
 
@@ -171,10 +179,10 @@ distinct_answer next n calls d answers m (Some call) (Some o) lt apart h = disti
 
 -- ---- Both
 
-pub completed_bounded : (len sent first next n room : ℕ) (most number : ℕ) (e e2 : EndpointState) (calls calls2 : List OutstandingCall) (answers answers2 : List AnsweredCall) (d : OutstandingCall) (f : Found) → n < length calls → (get_or calls n d).xid - first < sent →
+pub completed_bounded : (len sent sends next n room : ℕ) (most number : ℕ) (e e2 : EndpointState) (calls calls2 : List OutstandingCall) (answers answers2 : List AnsweredCall) (d : OutstandingCall) (f : Found) → n < length calls → (get_or calls n d).send < sent →
     CallsSound most e.link.state.memory number calls answers room → e2.staging ≡ e.staging → (NothingOutside e → NothingOutside e2) → e2.link ≡ with_memory (released_all e.link.state.memory (stags_of (get_or calls n d).claims)) e.link → calls2 ≡ remove calls n →
-    answers2 ≡ answers ++ answered_as e.link.state.memory (stored_view (get_or calls n d)) (awaited_call (stored_view (get_or calls n d))) (outcome_by f (get_or calls n d).room.bytes) → IsBounded len sent first next e calls answers → IsBounded len sent first next e2 calls2 answers2
-completed_bounded len sent first next n room most number e e2 calls calls2 answers answers2 d f lt gone sound same none link_is calls_are answers_are b =
+    answers2 ≡ answers ++ answered_as e.link.state.memory (stored_view (get_or calls n d)) (awaited_call (stored_view (get_or calls n d))) (outcome_by f (get_or calls n d).room.bytes) → IsBounded len sent sends next e calls answers → IsBounded len sent sends next e2 calls2 answers2
+completed_bounded len sent sends next n room most number e e2 calls calls2 answers answers2 d f lt gone sound same none link_is calls_are answers_are b =
     let w = b.0 in
     let s : LinkState = e.link.state in
     let c : OutstandingCall = get_or calls n d in
@@ -183,14 +191,14 @@ completed_bounded len sent first next n room most number e e2 calls calls2 answe
     let memory : RegisteredMemory = released_all s.memory (stags_of c.claims) in
     let held = one_held s.memory calls n d lt sound.held in
     let state : e2.link.state ≡ record s { memory = memory } = ap (λ (l : LinkSide). l.state) link_is in
-    let both = released_both s.memory c.claims (claims_total calls) held (w.link.regions, w.regions) in
-    let sum : claims_total calls - claims_len c.claims ≡ claims_total left = omega (arith, total_removed n calls d lt) in
+    let both : (size : ℕ → ℕ) → IsCount size → Both size memory (claims_total size calls - claims_size size c.claims) =
+    λ size is. released_both size s.memory c.claims (claims_total size calls) held (w.link.regions, w.regions size is) in
     let le = b.1 in
     let waiting = w.counts.waiting in
-    let all : RequesterBounds len e2 first next left more = record {
+    let all : RequesterBounds len e2 sends next left more = record {
       staging = ap (λ (xs : List ℕ). length xs) same ∙ w.staging;
       outside = none w.outside;
-      from = all_removed (λ (x : OutstandingCall). first ≤ x.xid) n calls w.from;
+      numbers = rising_removed send_of sends n calls w.numbers;
       order = w.order;
       link = subst (λ (x : LinkState). LinkFits len x) (sym state) (record {
         side = w.link.side;
@@ -202,16 +210,16 @@ completed_bounded len sent first next n room most number e e2 calls calls2 answe
         hello = w.link.hello;
         queue = w.link.queue;
         responses = w.link.responses;
-        regions = both.0;
+        regions = (both in_bytes bytes_count).0;
       });
-      regions = subst (λ (x : LinkState). RegionsHave x.memory (claims_total left)) (sym state) (subst (λ (k : ℕ). RegionsHave memory k) sum both.1);
-      counts = subst (λ (x : LinkState). CountsFit first next x.send_queue left) (sym state)
-          (record { waiting = omega (arith, waiting, unsent_removed first s.send_queue.sends_left n calls d lt (omega (arith, gone, le))); numbered = w.counts.numbered });
+      regions = λ size is. subst (λ (x : LinkState). RegionsHave size x.memory (claims_total size left)) (sym state) (subst (λ (k : ℕ). RegionsHave size memory k) (total_removed size n calls d lt) (both size is).1);
+      counts = subst (λ (x : LinkState). CountsFit sends x.send_queue left) (sym state)
+          (record { waiting = omega (arith, waiting, unsent_removed s.send_queue.sends_left n calls d lt (omega (arith, gone, le))); numbered = w.counts.numbered });
       each = all_removed (CallFits len) n calls w.each;
       kept = all_append AnswerFits answers (answered_as s.memory (stored_view c) (awaited_call (stored_view c)) (outcome_by f c.room.bytes)) w.kept
           (answer_fits len s.memory c f (awaited_call (stored_view c)) (outcome_by f c.room.bytes) refl refl (nth_of (CallFits len) n calls d lt w.each) held);
       distinct = distinct_answer number n calls d answers s.memory (awaited_call (stored_view c)) (outcome_by f c.room.bytes) lt sound.apart w.distinct;
     } in (
-      subst (λ (cs : List OutstandingCall). RequesterBounds len e2 first next cs answers2) (sym calls_are) (subst (λ (ys : List AnsweredCall). RequesterBounds len e2 first next left ys) (sym answers_are) all),
+      subst (λ (cs : List OutstandingCall). RequesterBounds len e2 sends next cs answers2) (sym calls_are) (subst (λ (ys : List AnsweredCall). RequesterBounds len e2 sends next left ys) (sym answers_are) all),
       subst (λ (x : LinkState). sent ≤ x.send_queue.sends_left) (sym state) le,
     )

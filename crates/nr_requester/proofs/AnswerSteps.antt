@@ -24,7 +24,6 @@ use Rattle.nr_reduce.proofs.Steps.{end_state_after_append, events_one}
 use Rattle.nr_reduce.proofs.Standing.{itself, one_more}
 use Rattle.nr_requester.specs.declared.answer.AnsweredCall.{AnsweredCall}
 use Rattle.nr_requester.specs.RequesterState.{RequesterState, RequesterSide, StoredCall, awaited_call}
-use Rattle.nr_reduce.specs.SubmitAnswer.{next_xid}
 use Rattle.nr_requester.specs.KeptAnswers.{is_due, client_by, completed_of, HandsBack, StillHolds, IsAsked, KeepsAnswers}
 use Rattle.nr_requester.specs.Standing.{AnswersAfter}
 use Rattle.nr_requester.specs.AfterCalls.{without_answer, revoked_if, forgotten_if}
@@ -186,7 +185,7 @@ none_all P xs none = subst (λ ys. AllByRecursion P ys) (sym none) tt
 
 -- the regions of an answered call hold still, after these events, what its buffers have
 abbrev pub Still : LinkParameters → List RunEvent → AnsweredCall → Type 0
-Still opened es a = StillHolds (next_xid opened (client_by opened es).state) (client_by opened es).state a
+Still opened es a = StillHolds (client_by opened es).state.next_xid (client_by opened es).state a
 
 -- What a requester keeps of the answers after events that give no outcome.
 pub quiet_more : (opened : LinkParameters) (es more : List RunEvent) (due due2 : ℕ → Bool) (asked added : List AcceptedCall) (r r2 : RequesterState) → KeepsAnswers opened es due asked r →
@@ -244,7 +243,7 @@ are_silent (event ∷ es) frames submits = (by event frames.0 submits.0, are_sil
 
 quiet_still : (opened : LinkParameters) (es more : List RunEvent) → AreNoFrames more → SubmitNothing more → (a : AnsweredCall) → Still opened es a → Still opened (es ++ more) a
 quiet_still opened es more frames submits a h =
-    subst (λ (e : EndState ClientState). StillHolds (next_xid opened e.state) e.state a) (sym (end_state_after_append (client_rules opened) (initial_client opened) es more))
+    subst (λ (e : EndState ClientState). StillHolds e.state.next_xid e.state a) (sym (end_state_after_append (client_rules opened) (initial_client opened) es more))
     (silent_still opened (client_by opened es) more a (are_silent more frames submits) h)
 
 none_else : (b : Bool) → ◌≡◌ {A = List AcceptedCall} (cond b [] []) []

@@ -23,9 +23,8 @@ use Rattle.nr_reduce.specs.EndRules.{EndState, live, next_end_state, next_end_st
 use Rattle.nr_reduce.specs.ClientState.{ClientState, client_memory_at}
 use Rattle.nr_reduce.specs.Client.{client_rules, client_end, client_state_after, outstanding_of, region_of, with_message, with_request, with_segment, with_hello, due_with_response}
 use Rattle.nr_reduce.specs.StandingLaws.{StagsFrom}
-use Rattle.nr_reduce.specs.SubmitAnswer.{next_xid}
 use Rattle.nr_reduce.proofs.OfferedMemory.{found, grants_from, none_found_lem, contents_same}
-use Rattle.nr_reduce.proofs.Placing.{segment_accepted}
+use Rattle.nr_reduce.proofs.Placing.{segment_next}
 use Rattle.nr_requester.specs.declared.answer.AnsweredCall.{AnsweredCall}
 use Rattle.nr_requester.specs.KeptAnswers.{buffers_in, regions_of, region_contents, closed_contents, StillHolds}
 
@@ -254,29 +253,29 @@ module _ (opened : LinkParameters) (k : ClientState) (count : ℕ) (f : Frame) (
   over : (xid : ℕ) → AllByRecursion IsClosed (regions_of xid k) → AllByRecursion (IsOver f.end) (regions_of xid k)
   over xid closed = all_both IsClosed (λ (r : Region). IfSome r.until (λ until. until < f.end)) (regions_of xid k) closed (all_picked _ (λ (r : Region). eqb r.call xid) k.regions (over_later count f.end k.regions lt offered))
 
-  segment_still : (s : Result Segment ℕ) (a : AnsweredCall) → StillHolds (next_xid opened k) k a → StillHolds (next_xid opened (with_segment k f s)) (with_segment k f s) a
+  segment_still : (s : Result Segment ℕ) (a : AnsweredCall) → StillHolds k.next_xid k a → StillHolds (with_segment k f s).next_xid (with_segment k f s) a
   segment_still (Err reason) a h = h
   segment_still (Ok segment) a h =
       let m : ClientState = with_message k f.end (message_completed k.received segment) in
-      let accepted = segment_accepted k f (Ok segment) in
-      still_by (next_xid opened k) (next_xid opened (with_segment k f (Ok segment))) k (with_segment k f (Ok segment)) a (omega (arith, accepted))
+      let next = segment_next k f (Ok segment) in
+      still_by k.next_xid (with_segment k f (Ok segment)).next_xid k (with_segment k f (Ok segment)) a (omega (arith, next))
       (ap (λ (rs : List Region). filter (λ (r : Region). eqb r.call a.xid) rs) (request_regions m (due_with_response k f segment) (read_request_of segment)) ∙ message_regions k f.end a.xid (message_completed k.received segment) h.closed)
       (tagged_same k.accesses_received f segment (regions_of a.xid k) (over a.xid h.closed)) h
 
-  state_still : (a : AnsweredCall) → StillHolds (next_xid opened k) k a → StillHolds (next_xid opened (client_state_after opened k (FrameReceived f))) (client_state_after opened k (FrameReceived f)) a
+  state_still : (a : AnsweredCall) → StillHolds k.next_xid k a → StillHolds (client_state_after opened k (FrameReceived f)).next_xid (client_state_after opened k (FrameReceived f)) a
   unfolding client_state_after
   state_still a h = by (is_hello f)
     where
-      by : (b : Bool) → StillHolds (next_xid opened (cond b (with_hello opened k f) (with_segment k f (frame_segment f)))) (cond b (with_hello opened k f) (with_segment k f (frame_segment f))) a
-      by true = still_by (next_xid opened k) (next_xid opened (with_hello opened k f)) k (with_hello opened k f) a (omega arith) refl refl h
+      by : (b : Bool) → StillHolds (cond b (with_hello opened k f) (with_segment k f (frame_segment f))).next_xid (cond b (with_hello opened k f) (with_segment k f (frame_segment f))) a
+      by true = still_by k.next_xid (with_hello opened k f).next_xid k (with_hello opened k f) a (omega arith) refl refl h
       by false = segment_still (frame_segment f) a h
 
   -- after a frame, also one that ends the client
-  pub frame_still : (a : AnsweredCall) → StillHolds (next_xid opened k) k a →
-      StillHolds (next_xid opened (next_end_state (client_rules opened) (live k) (FrameReceived f)).state) (next_end_state (client_rules opened) (live k) (FrameReceived f)).state a
+  pub frame_still : (a : AnsweredCall) → StillHolds k.next_xid k a →
+      StillHolds (next_end_state (client_rules opened) (live k) (FrameReceived f)).state.next_xid (next_end_state (client_rules opened) (live k) (FrameReceived f)).state a
   frame_still a h = by (client_end k (FrameReceived f))
     where
-      by : (why : Option End) → StillHolds (next_xid opened (next_end_state_by (client_rules opened) k (FrameReceived f) why).state) (next_end_state_by (client_rules opened) k (FrameReceived f) why).state a
+      by : (why : Option End) → StillHolds (next_end_state_by (client_rules opened) k (FrameReceived f) why).state.next_xid (next_end_state_by (client_rules opened) k (FrameReceived f) why).state a
       by None = state_still a h
       by (Some end) = h
 
@@ -288,24 +287,24 @@ IsSilent (MemoryRevoked place xid) = Unit {0}
 IsSilent (CallExecuted call) = Unit {0}
 IsSilent (QueueWritten taken) = Unit {0}
 
-silent_state : (opened : LinkParameters) (k : ClientState) (event : RunEvent) (a : AnsweredCall) → IsSilent event → StillHolds (next_xid opened k) k a → StillHolds (next_xid opened (client_state_after opened k event)) (client_state_after opened k event) a
+silent_state : (opened : LinkParameters) (k : ClientState) (event : RunEvent) (a : AnsweredCall) → IsSilent event → StillHolds k.next_xid k a → StillHolds (client_state_after opened k event).next_xid (client_state_after opened k event) a
 unfolding client_state_after
 silent_state opened k (FrameReceived f) a none h = absurd none
 silent_state opened k (CallSubmitted place c) a none h = absurd none
 silent_state opened k (MemoryRevoked place xid) a none h =
-    still_by (next_xid opened k) (next_xid opened k) k (client_state_after opened k (MemoryRevoked place xid)) a (omega arith) (stay_closed (λ r. eqb r.call xid) place a.xid k.regions h.closed) refl h
+    still_by k.next_xid k.next_xid k (client_state_after opened k (MemoryRevoked place xid)) a (omega arith) (stay_closed (λ r. eqb r.call xid) place a.xid k.regions h.closed) refl h
 silent_state opened k (CallExecuted call) a none h = h
-silent_state opened k (QueueWritten taken) a none h = still_by (next_xid opened k) (next_xid opened k) k (client_state_after opened k (QueueWritten taken)) a (omega arith) refl refl h
+silent_state opened k (QueueWritten taken) a none h = still_by k.next_xid k.next_xid k (client_state_after opened k (QueueWritten taken)) a (omega arith) refl refl h
 
-silent_next : (opened : LinkParameters) (e : EndState ClientState) (event : RunEvent) (a : AnsweredCall) → IsSilent event → StillHolds (next_xid opened e.state) e.state a →
-    StillHolds (next_xid opened (next_end_state (client_rules opened) e event).state) (next_end_state (client_rules opened) e event).state a
+silent_next : (opened : LinkParameters) (e : EndState ClientState) (event : RunEvent) (a : AnsweredCall) → IsSilent event → StillHolds e.state.next_xid e.state a →
+    StillHolds (next_end_state (client_rules opened) e event).state.next_xid (next_end_state (client_rules opened) e event).state a
 silent_next opened e event a none h = by_end e.state e.ended h
   where
-    by_why : (k : ClientState) (why : Option End) → StillHolds (next_xid opened k) k a → StillHolds (next_xid opened (next_end_state_by (client_rules opened) k event why).state) (next_end_state_by (client_rules opened) k event why).state a
+    by_why : (k : ClientState) (why : Option End) → StillHolds k.next_xid k a → StillHolds (next_end_state_by (client_rules opened) k event why).state.next_xid (next_end_state_by (client_rules opened) k event why).state a
     by_why k None g = silent_state opened k event a none g
     by_why k (Some end) g = g
 
-    by_end : (k : ClientState) (ended : Option End) → StillHolds (next_xid opened k) k a → StillHolds (next_xid opened (next_end_state_in (client_rules opened) k event ended).state) (next_end_state_in (client_rules opened) k event ended).state a
+    by_end : (k : ClientState) (ended : Option End) → StillHolds k.next_xid k a → StillHolds (next_end_state_in (client_rules opened) k event ended).state.next_xid (next_end_state_in (client_rules opened) k event ended).state a
     by_end k None g = by_why k (client_end k event) g
     by_end k (Some end) g = g
 
@@ -313,18 +312,18 @@ abbrev pub AreSilent : List RunEvent → Type 0
 AreSilent [] = Unit {0}
 AreSilent (event ∷ es) = IsSilent event × AreSilent es
 
-pub silent_still : (opened : LinkParameters) (e : EndState ClientState) (es : List RunEvent) (a : AnsweredCall) → AreSilent es → StillHolds (next_xid opened e.state) e.state a →
-    StillHolds (next_xid opened (end_state_after (client_rules opened) e es).state) (end_state_after (client_rules opened) e es).state a
+pub silent_still : (opened : LinkParameters) (e : EndState ClientState) (es : List RunEvent) (a : AnsweredCall) → AreSilent es → StillHolds e.state.next_xid e.state a →
+    StillHolds (end_state_after (client_rules opened) e es).state.next_xid (end_state_after (client_rules opened) e es).state a
 silent_still opened e [] a none h = h
 silent_still opened e (event ∷ es) a none h = silent_still opened (next_end_state (client_rules opened) e event) es a none.1 (silent_next opened e event a none.0 h)
 
 -- a call that is accepted under the next xid
-pub submit_still : (opened : LinkParameters) (k : ClientState) (ended : Option End) (place : ℕ) (c : AcceptedCall) (a : AnsweredCall) → c.xid ≡ next_xid opened k → StillHolds (next_xid opened k) k a →
-    StillHolds (next_xid opened (next_end_state_in (client_rules opened) k (CallSubmitted place c) ended).state) (next_end_state_in (client_rules opened) k (CallSubmitted place c) ended).state a
+pub submit_still : (opened : LinkParameters) (k : ClientState) (ended : Option End) (place : ℕ) (c : AcceptedCall) (a : AnsweredCall) → c.xid ≡ k.next_xid → StillHolds k.next_xid k a →
+    StillHolds (next_end_state_in (client_rules opened) k (CallSubmitted place c) ended).state.next_xid (next_end_state_in (client_rules opened) k (CallSubmitted place c) ended).state a
 unfolding client_state_after client_end
 submit_still opened k None place c a own h =
     let lt = h.before in
-    still_by (next_xid opened k) (next_xid opened (client_state_after opened k (CallSubmitted place c))) k (client_state_after opened k (CallSubmitted place c)) a (omega arith)
+    still_by k.next_xid (client_state_after opened k (CallSubmitted place c)).next_xid k (client_state_after opened k (CallSubmitted place c)) a (omega arith)
     (picked_more (λ (r : Region). eqb r.call a.xid) k.regions (map (region_of c.xid place) (buffers k.stag (outstanding_of k c).plan)) (other_regions a.xid place c.xid (buffers k.stag (outstanding_of k c).plan) (λ same. (omega (arith, own, lt, same))))) refl h
 submit_still opened k (Some end) place c a own h = h
 
@@ -365,14 +364,14 @@ no_access : (k : ClientState) (f : Frame) (segment : Segment) (message : List �
 no_access k f (Tagged last opcode stag to payload) message e = absurd cc
 no_access k f (Untagged last opcode w queue msn offset payload) message e = refl
 
-pub completed_still : (opened : LinkParameters) (k : ClientState) (count : ℕ) (f : Frame) (segment : Segment) (message : List ℕ) (a : AnsweredCall) → AreOffered count k.regions → AreReceived count k.accesses_received → a.xid < next_xid opened k → a.xid ≡ word_at 0 message →
+pub completed_still : (opened : LinkParameters) (k : ClientState) (count : ℕ) (f : Frame) (segment : Segment) (message : List ℕ) (a : AnsweredCall) → AreOffered count k.regions → AreReceived count k.accesses_received → a.xid < k.next_xid → a.xid ≡ word_at 0 message →
     client_end k (FrameReceived f) ≡ None → is_hello f ≡ false → frame_segment f ≡ Ok segment → message_completed k.received segment ≡ Some message → buffers_in a.buffers ≡ region_contents k f.end a.xid →
-    StillHolds (next_xid opened (next_end_state (client_rules opened) (live k) (FrameReceived f)).state) (next_end_state (client_rules opened) (live k) (FrameReceived f)).state a
+    StillHolds (next_end_state (client_rules opened) (live k) (FrameReceived f)).state.next_xid (next_end_state (client_rules opened) (live k) (FrameReceived f)).state a
 unfolding client_state_after
 completed_still opened k count f segment message a offered received lt own goes hello is completes held =
-    subst (λ (why : Option End). StillHolds (next_xid opened (next_end_state_by (client_rules opened) k (FrameReceived f) why).state) (next_end_state_by (client_rules opened) k (FrameReceived f) why).state a) (sym goes)
-    (subst (λ (b : Bool). StillHolds (next_xid opened (cond b (with_hello opened k f) (with_segment k f (frame_segment f)))) (cond b (with_hello opened k f) (with_segment k f (frame_segment f))) a) (sym hello)
-    (subst (λ (s : Result Segment ℕ). StillHolds (next_xid opened (with_segment k f s)) (with_segment k f s) a) (sym is) here))
+    subst (λ (why : Option End). StillHolds (next_end_state_by (client_rules opened) k (FrameReceived f) why).state.next_xid (next_end_state_by (client_rules opened) k (FrameReceived f) why).state a) (sym goes)
+    (subst (λ (b : Bool). StillHolds (cond b (with_hello opened k f) (with_segment k f (frame_segment f))).next_xid (cond b (with_hello opened k f) (with_segment k f (frame_segment f))) a) (sym hello)
+    (subst (λ (s : Result Segment ℕ). StillHolds (with_segment k f s).next_xid (with_segment k f s) a) (sym is) here))
   where
     after : ClientState
     after = with_segment k f (Ok segment)
@@ -393,9 +392,9 @@ completed_still opened k count f segment message a offered received lt own goes 
     accesses_are : after.accesses_received ≡ k.accesses_received
     accesses_are = ap (λ (xs : List TaggedSegment). k.accesses_received ++ xs) (no_access k f segment message completes) ∙ append-nil k.accesses_received
 
-    here : StillHolds (next_xid opened after) after a
+    here : StillHolds after.next_xid after a
     here = record {
-      before = (let accepted = segment_accepted k f (Ok segment) in omega (arith, lt, accepted));
+      before = (let next = segment_next k f (Ok segment) in omega (arith, lt, next));
       closed = subst (λ (xs : List Region). AllByRecursion IsClosed xs) (sym regions_are) (all_closed f.end rs);
       held = held ∙ closing_contents k f.end count rs unique received (found_own (λ (r : Region). eqb r.call a.xid) k.regions unique)
           ∙ (λ i. map (closed_contents (sym accesses_are i)) (sym regions_are i));

@@ -24,9 +24,8 @@ use Rattle.nr_reduce.specs.EndRules.{EndState, next_end_state, next_end_state_by
 use Rattle.nr_reduce.specs.ClientState.{ClientState, OutstandingCall}
 use Rattle.nr_reduce.specs.Client.{client_rules, client_end, client_state_after, outstanding_of, region_of, revoked_call, with_message, with_request, with_segment, with_hello, due_with_response}
 use Rattle.nr_reduce.specs.Run.{client}
-use Rattle.nr_reduce.specs.SubmitAnswer.{next_xid}
 use Rattle.nr_reduce.specs.Asked.{AskedSoFar, AskedMark}
-use Rattle.nr_reduce.proofs.Placing.{segment_accepted}
+use Rattle.nr_reduce.proofs.Placing.{segment_next}
 use Rattle.nr_reduce.proofs.Standing.{itself}
 use Rattle.nr_reduce.proofs.Steps.{client_one}
 use Rattle.nr_requester.specs.CallRegions.{call_stags, AreOfBefore, OffersPlan, CallsOffer}
@@ -192,21 +191,21 @@ SubmitNothing (event ∷ es) = SubmitsNothing event × SubmitNothing es
 
 -- what holds after some events
 abbrev pub Offers : LinkParameters → ClientState → Type 0
-Offers opened k = CallsOffer (next_xid opened k) k
+Offers opened k = CallsOffer k.next_xid k
 
-frame_accepted : (opened : LinkParameters) (k : ClientState) (f : Frame) (b : Bool) → (cond b (with_hello opened k f) (with_segment k f (frame_segment f))).calls_accepted ≡ k.calls_accepted
-frame_accepted opened k f true = refl
-frame_accepted opened k f false = segment_accepted k f (frame_segment f)
+frame_next : (opened : LinkParameters) (k : ClientState) (f : Frame) (b : Bool) → (cond b (with_hello opened k f) (with_segment k f (frame_segment f))).next_xid ≡ k.next_xid
+frame_next opened k f true = refl
+frame_next opened k f false = segment_next k f (frame_segment f)
 
 pub event_offers : (opened : LinkParameters) (k : ClientState) (event : RunEvent) → SubmitsNothing event → Offers opened k → Offers opened (client_state_after opened k event)
 unfolding client_state_after
 event_offers opened k (FrameReceived f) none h =
     let after : ClientState = cond (is_hello f) (with_hello opened k f) (with_segment k f (frame_segment f)) in
-    subst (λ (n : ℕ). CallsOffer (opened.first_xid + n) after) (sym (frame_accepted opened k f (is_hello f))) (frame_offers opened (next_xid opened k) k f (is_hello f) h)
+    subst (λ (n : ℕ). CallsOffer n after) (sym (frame_next opened k f (is_hello f))) (frame_offers opened k.next_xid k f (is_hello f) h)
 event_offers opened k (CallSubmitted place a) none h = absurd none
 event_offers opened k (MemoryRevoked place xid) none h = record {
-  before = before_closed (λ r. eqb r.call xid) place (next_xid opened k) k.regions h.before;
-  calls = calls_closed (λ r. eqb r.call xid) place (next_xid opened k) k.regions (map (revoked_call xid) k.outstanding) (calls_revoked xid (next_xid opened k) k.regions k.outstanding h.calls);
+  before = before_closed (λ r. eqb r.call xid) place k.next_xid k.regions h.before;
+  calls = calls_closed (λ r. eqb r.call xid) place k.next_xid k.regions (map (revoked_call xid) k.outstanding) (calls_revoked xid k.next_xid k.regions k.outstanding h.calls);
 }
 event_offers opened k (CallExecuted call) none h = h
 event_offers opened k (QueueWritten taken) none h = record { before = h.before; calls = h.calls }
@@ -234,20 +233,18 @@ pub none_in_frames : (fs : List Frame) → SubmitNothing (map FrameReceived fs)
 none_in_frames [] = tt
 none_in_frames (f ∷ fs) = (tt, none_in_frames fs)
 
-pub submit_offers : (opened : LinkParameters) (k : ClientState) (ended : Option End) (place : ℕ) (a : AcceptedCall) → a.xid ≡ next_xid opened k → Offers opened k → Offers opened (next_end_state_in (client_rules opened) k (CallSubmitted place a) ended).state
+pub submit_offers : (opened : LinkParameters) (k : ClientState) (ended : Option End) (place : ℕ) (a : AcceptedCall) → a.xid ≡ k.next_xid → Offers opened k → Offers opened (next_end_state_in (client_rules opened) k (CallSubmitted place a) ended).state
 unfolding client_state_after client_end
 submit_offers opened k None place a own h =
-    let n : ℕ = next_xid opened k in
+    let n : ℕ = k.next_xid in
     let bs : List Buffer = buffers k.stag (outstanding_of k a).plan in
     let more : CallsOffer (n + 1) (record k { regions = k.regions ++ map (region_of n place) bs; outstanding = k.outstanding ++ outstanding_of k a ∷ [] }) = record {
       before = before_more n k.regions (map (region_of n place) bs) h.before (before_own n place bs);
       calls = calls_more n place k.regions bs k.outstanding (outstanding_of k a) h.before own refl h.calls;
     } in
-    let next : n + 1 ≡ opened.first_xid + (k.calls_accepted + 1) = omega arith in
     record {
-      before = subst (λ (x : ℕ). AreOfBefore x (k.regions ++ map (region_of a.xid place) bs)) next (subst (λ (x : ℕ). AreOfBefore (n + 1) (k.regions ++ map (region_of x place) bs)) (sym own) more.before);
-      calls = subst (λ (x : ℕ). AllByRecursion (OffersPlan x (k.regions ++ map (region_of a.xid place) bs)) (k.outstanding ++ outstanding_of k a ∷ [])) next
-          (subst (λ (x : ℕ). AllByRecursion (OffersPlan (n + 1) (k.regions ++ map (region_of x place) bs)) (k.outstanding ++ outstanding_of k a ∷ [])) (sym own) more.calls);
+      before = subst (λ (x : ℕ). AreOfBefore (n + 1) (k.regions ++ map (region_of x place) bs)) (sym own) more.before;
+      calls = subst (λ (x : ℕ). AllByRecursion (OffersPlan (n + 1) (k.regions ++ map (region_of x place) bs)) (k.outstanding ++ outstanding_of k a ∷ [])) (sym own) more.calls;
     }
 submit_offers opened k (Some end) place a own h = h
 

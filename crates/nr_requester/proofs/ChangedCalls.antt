@@ -1,5 +1,5 @@
 -- One of the outstanding calls changes, and keeps its xid.
-use Rattle.std.proofs.Common.{◌≡◌, ◌≢◌, ℕ, zero, suc, ◌+◌, ◌-◌, ◌<◌, ◌≤◌, Bool, true, false, not, cond, eqb, ltb, List, [], ◌∷◌, ◌++◌, length, map, take, drop, get_or, set, None, Some, refl, sym, ap, subst, ◌∙◌, arith, append_assoc}
+use Rattle.std.proofs.Common.{◌≡◌, ◌≢◌, ℕ, zero, suc, ◌+◌, ◌<◌, Bool, true, false, not, cond, eqb, ltb, List, [], ◌∷◌, ◌++◌, length, map, take, drop, get_or, set, None, Some, refl, sym, ap, subst, ◌∙◌, arith, append_assoc}
 use Rattle.std.specs.List.{AllByRecursion, find}
 use Rattle.std.proofs.lemmas.Bool.{eq-eqb, ne_eqb}
 use Rattle.nr_regions.specs.RegisteredMemory.{Claim}
@@ -8,7 +8,7 @@ use Rattle.nr_requester.specs.declared.outstanding.OutstandingCall.{OutstandingC
 use Rattle.nr_requester.specs.RequesterState.{StoredCall}
 use Rattle.nr_requester.specs.HeldClaims.{call_claims, all_claims}
 use Rattle.nr_requester.specs.Views.{AreRising, IsAnswered, stored_view}
-use Rattle.nr_requester.specs.HeldBytes.{AreFrom, unsent, claims_len, claims_total}
+use Rattle.nr_requester.specs.HeldBytes.{AreRisingBy, unsent, claims_size, claims_total}
 
 -- ---- The call of an xid
 
@@ -92,26 +92,24 @@ nth_of P n [] d lt h = absurd (omega (arith, lt))
 nth_of P zero (c ∷ calls) d lt h = h.0
 nth_of P (suc n) (c ∷ calls) d lt h = nth_of P n calls d (omega (arith, lt)) h.1
 
-pub rising_stays : (next n : ℕ) (calls : List OutstandingCall) (y d : OutstandingCall) → y.xid ≡ (get_or calls n d).xid → n < length calls → AreRising calls next → AreRising (set calls n y) next
-rising_stays next n [] y d own lt h = absurd (omega (arith, lt))
-rising_stays next zero (c ∷ calls) y d own lt h = ((let at = h.0 in omega (arith, at, own)), (subst (λ (x : ℕ). AreAbove x calls) (sym own) h.1.0, h.1.1))
-rising_stays next (suc n) (c ∷ calls) y d own lt h =
-    (h.0, (each_stays (λ (x : OutstandingCall). c.xid < x.xid) n calls y (let more = nth_above c.xid n calls d h.1.0 (omega (arith, lt)) in omega (arith, more, own)) h.1.0, rising_stays next n calls y d own (omega (arith, lt)) h.1.1))
-
-pub from_stays : (first n : ℕ) (calls : List OutstandingCall) (y d : OutstandingCall) → y.xid ≡ (get_or calls n d).xid → n < length calls → AreFrom first calls → AreFrom first (set calls n y)
-from_stays first n calls y d own lt h = each_stays (λ (c : OutstandingCall). first ≤ c.xid) n calls y (let at = nth_of (λ (c : OutstandingCall). first ≤ c.xid) n calls d lt h in omega (arith, at, own)) h
+pub rising_stays : (number : OutstandingCall → ℕ) (next n : ℕ) (calls : List OutstandingCall) (y d : OutstandingCall) → number y ≡ number (get_or calls n d) → n < length calls → AreRisingBy number calls next → AreRisingBy number (set calls n y) next
+rising_stays number next n [] y d own lt h = absurd (omega (arith, lt))
+rising_stays number next zero (c ∷ calls) y d own lt h = ((let at = h.0 in omega (arith, at, own)), (subst (λ (x : ℕ). AllByRecursion (λ (e : OutstandingCall). x < number e) calls) (sym own) h.1.0, h.1.1))
+rising_stays number next (suc n) (c ∷ calls) y d own lt h =
+    let more = nth_of (λ (e : OutstandingCall). number c < number e) n calls d (omega (arith, lt)) h.1.0 in
+    (h.0, (each_stays (λ (e : OutstandingCall). number c < number e) n calls y (omega (arith, more, own)) h.1.0, rising_stays number next n calls y d own (omega (arith, lt)) h.1.1))
 
 head_kept : (b : Bool) (x y : OutstandingCall) (xs ys : List OutstandingCall) → length xs ≡ length ys → length (cond b (x ∷ xs) xs) ≡ length (cond b (y ∷ ys) ys)
 head_kept true x y xs ys e = ap (λ (n : ℕ). suc n) e
 head_kept false x y xs ys e = e
 
-pub waiting_stays : (first sent n : ℕ) (calls : List OutstandingCall) (y d : OutstandingCall) → y.xid ≡ (get_or calls n d).xid → n < length calls → length (unsent first sent calls) ≡ length (unsent first sent (set calls n y))
-waiting_stays first sent n [] y d own lt = absurd (omega (arith, lt))
-waiting_stays first sent zero (c ∷ calls) y d own lt =
-    head_kept (not (ltb (c.xid - first) sent)) c y (unsent first sent calls) (unsent first sent calls) refl
-    ∙ ap (λ (x : ℕ). length (cond (not (ltb (x - first) sent)) (y ∷ unsent first sent calls) (unsent first sent calls))) (sym own)
-waiting_stays first sent (suc n) (c ∷ calls) y d own lt =
-    head_kept (not (ltb (c.xid - first) sent)) c c (unsent first sent calls) (unsent first sent (set calls n y)) (waiting_stays first sent n calls y d own (omega (arith, lt)))
+pub waiting_stays : (sent n : ℕ) (calls : List OutstandingCall) (y d : OutstandingCall) → y.send ≡ (get_or calls n d).send → n < length calls → length (unsent sent calls) ≡ length (unsent sent (set calls n y))
+waiting_stays sent n [] y d own lt = absurd (omega (arith, lt))
+waiting_stays sent zero (c ∷ calls) y d own lt =
+    head_kept (not (ltb (c.send) sent)) c y (unsent sent calls) (unsent sent calls) refl
+    ∙ ap (λ (x : ℕ). length (cond (not (ltb x sent)) (y ∷ unsent sent calls) (unsent sent calls))) (sym own)
+waiting_stays sent (suc n) (c ∷ calls) y d own lt =
+    head_kept (not (ltb (c.send) sent)) c c (unsent sent calls) (unsent sent (set calls n y)) (waiting_stays sent n calls y d own (omega (arith, lt)))
 
 -- ---- The claims of the calls before and after it
 
@@ -129,10 +127,10 @@ claims_changed (suc n) (c ∷ calls) y lt =
     ap (λ (cs : List Claim). call_claims c.claims ++ cs) (claims_changed n calls y (omega (arith, lt)))
     ∙ sym (append_assoc (call_claims c.claims) (all_claims (take n calls)) (call_claims y.claims ++ all_claims (drop (suc n) calls)))
 
-pub total_changed : (n : ℕ) (calls : List OutstandingCall) (y d : OutstandingCall) → n < length calls → claims_total (set calls n y) + claims_len (get_or calls n d).claims ≡ claims_total calls + claims_len y.claims
-total_changed n [] y d lt = absurd (omega (arith, lt))
-total_changed zero (c ∷ calls) y d lt = omega arith
-total_changed (suc n) (c ∷ calls) y d lt = (let rest = total_changed n calls y d (omega (arith, lt)) in omega (arith, rest))
+pub total_changed : (size : ℕ → ℕ) (n : ℕ) (calls : List OutstandingCall) (y d : OutstandingCall) → n < length calls → claims_total size (set calls n y) + claims_size size (get_or calls n d).claims ≡ claims_total size calls + claims_size size y.claims
+total_changed size n [] y d lt = absurd (omega (arith, lt))
+total_changed size zero (c ∷ calls) y d lt = omega arith
+total_changed size (suc n) (c ∷ calls) y d lt = (let rest = total_changed size n calls y d (omega (arith, lt)) in omega (arith, rest))
 
 -- ---- A call that was answered isn't outstanding, still
 

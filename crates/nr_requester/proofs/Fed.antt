@@ -129,7 +129,6 @@ module _ (opened : LinkParameters) (link : ℕ) (h : RequesterSide) (run : List 
         client = subst (λ (e : EndState ClientState). ClientKeeps opened (kept_client h.state) e count) e_is s.kept.keeps;
         side = s.side side_live;
         sent = s.sent side_live;
-        first = s.first;
         wished = s.wished;
         due = due_is opened link h run s none;
       } in
@@ -171,7 +170,6 @@ module _ (opened : LinkParameters) (link : ℕ) (h : RequesterSide) (run : List 
       let later : length stream ≤ length stream + length (fed_at link Initiator mark) = omega arith in
       let here : KeptEnd opened h.state (record { state = k; ended = Some end }) (length stream) = record {
         client = subst (λ (e : EndState ClientState). ClientKeeps opened (kept_client h.state) e (length stream)) e_is s.kept.keeps;
-        first = s.first;
         wished = s.wished;
         live_one = λ none. absurd (let wrong : Some end ≡ None = none in cc);
       } in
@@ -205,7 +203,6 @@ module _ (opened : LinkParameters) (link : ℕ) (h : RequesterSide) (run : List 
       let next : after.state.side.ended ≡ None → KeepsLiveClient opened after.state (end_state_after (client_rules opened) (client opened link run) (input_events link Initiator input mark)).state (length stream + length (fed_at link Initiator mark)) =
       λ lives. g.keeps.live_one (sym g.keeps.client.ended ∙ lives) in
       record {
-        first = g.keeps.first;
         wished = g.keeps.wished;
         kept = client_stands_on;
         sent = λ lives. (next lives).sent;

@@ -21,10 +21,11 @@ use Rattle.nr_endpoint.specs.Calls.Call.{FeedOne, NextEvent, Post, Stop, OutOfMe
 use Rattle.nr_endpoint.proofs.AlongFrames.{feed_one_keeps}
 use Rattle.nr_requester.specs.declared.answer.AnsweredCall.{AnsweredCall}
 use Rattle.nr_requester.specs.declared.outstanding.OutstandingCall.{OutstandingCall}
-use Rattle.nr_requester.specs.HeldBytes.{QueueFits, claims_total, unsent, IsBounded}
+use Rattle.nr_requester.specs.HeldBytes.{QueueFits, IsCount, in_bytes, claims_total, unsent, IsBounded}
 use Rattle.nr_requester.proofs.OutputBounds.{ended_fits}
 use Rattle.nr_requester.proofs.OutsideBounds.{same_outside}
 use Rattle.nr_requester.proofs.FrameBounds.{Fits, end_fits, fed_one_fits}
+use Rattle.nr_requester.proofs.RegionBounds.{bytes_count}
 use Rattle.nr_requester.proofs.StepLeaves.{step_leaves}
 
 -- the same Sends wait, and the same have left
@@ -68,10 +69,14 @@ frame_sends q Fpdu s frame live h = fpdu_sends q s (next_frame s frame) (segment
 fed_sends : (link : LinkSide) (piece : List ℕ) → SameSends link.state.send_queue (after_call link (FeedOne piece)).state.send_queue
 fed_sends link piece = feed_one_keeps (λ a s. SameSends link.state.send_queue s.send_queue) (frame_sends link.state.send_queue) link piece (refl, refl)
 
+-- its regions have what is counted of those of these calls
+abbrev FitsFor : ℕ → List OutstandingCall → LinkState → Type 0
+FitsFor len calls s = (size : ℕ → ℕ) → IsCount size → Fits size len (claims_total size calls) s
+
 -- ---- Calls of an endpoint that leave its regions
 
-module _ (len sent first next : ℕ) (calls : List OutstandingCall) (answers : List AnsweredCall) (e e2 : EndpointState) (staging : length e2.staging ≡ length e.staging) (outside : e2.outside ≡ e.outside) (b : IsBounded len sent first next e calls answers) where
-  moved : e2.link.state.memory.next ≡ e.link.state.memory.next → Fits len (claims_total calls) e2.link.state → SameSends e.link.state.send_queue e2.link.state.send_queue → IsBounded len sent first next e2 calls answers
+module _ (len sent sends next : ℕ) (calls : List OutstandingCall) (answers : List AnsweredCall) (e e2 : EndpointState) (staging : length e2.staging ≡ length e.staging) (outside : e2.outside ≡ e.outside) (b : IsBounded len sent sends next e calls answers) where
+  moved : e2.link.state.memory.next ≡ e.link.state.memory.next → FitsFor len calls e2.link.state → SameSends e.link.state.send_queue e2.link.state.send_queue → IsBounded len sent sends next e2 calls answers
   moved stags fits same =
       let w = b.0 in
       let count = ap (λ (xs : List ℕ). length xs) same.1 in
@@ -81,12 +86,12 @@ module _ (len sent first next : ℕ) (calls : List OutstandingCall) (answers : L
         record {
           staging = staging ∙ w.staging;
           outside = same_outside e e2 stags outside w.outside;
-          from = w.from;
+          numbers = w.numbers;
           order = w.order;
-          link = fits.0;
-          regions = fits.1;
+          link = (fits in_bytes bytes_count).0;
+          regions = λ size is. (fits size is).1;
           counts = record {
-            waiting = subst (λ (n : ℕ). length e2.link.state.send_queue.send_ends ≤ length (unsent first n calls)) (sym left) (omega (arith, was, count));
+            waiting = subst (λ (n : ℕ). length e2.link.state.send_queue.send_ends ≤ length (unsent n calls)) (sym left) (omega (arith, was, count));
             numbered = omega (arith, number, left, count);
           };
           each = w.each;
@@ -96,47 +101,47 @@ module _ (len sent first next : ℕ) (calls : List OutstandingCall) (answers : L
         (let le = b.1 in omega (arith, le, left)),
       )
 
-  here : Fits len (claims_total calls) e.link.state
-  here = (b.0.link, b.0.regions)
+  here : FitsFor len calls e.link.state
+  here size is = (b.0.link, b.0.regions size is)
 
-  pub fed_bounded : (piece : List ℕ) → e.link.state.ended ≡ None → e.link.state.receive_queue.deliveries ≡ [] → e.link.state.reads ≡ [] → e2.link ≡ after_call e.link (FeedOne piece) → IsBounded len sent first next e2 calls answers
+  pub fed_bounded : (piece : List ℕ) → e.link.state.ended ≡ None → e.link.state.receive_queue.deliveries ≡ [] → e.link.state.reads ≡ [] → e2.link ≡ after_call e.link (FeedOne piece) → IsBounded len sent sends next e2 calls answers
   fed_bounded piece lives quiet none is =
       moved (ap (λ (l : LinkSide). l.state.memory.next) is ∙ (step_leaves e.link piece lives quiet none).leaves.next)
-      (subst (λ (l : LinkSide). Fits len (claims_total calls) l.state) (sym is) (fed_one_fits len (claims_total calls) e.link piece here))
+      (subst (λ (l : LinkSide). FitsFor len calls l.state) (sym is) (λ size counts. fed_one_fits size len (claims_total size calls) e.link piece (here size counts)))
       (subst (λ (l : LinkSide). SameSends e.link.state.send_queue l.state.send_queue) (sym is) (fed_sends e.link piece))
 
   -- another state of the link
-  to_state : (s : LinkState) → e2.link.state ≡ s → s.memory.next ≡ e.link.state.memory.next → Fits len (claims_total calls) s → SameSends e.link.state.send_queue s.send_queue → IsBounded len sent first next e2 calls answers
+  to_state : (s : LinkState) → e2.link.state ≡ s → s.memory.next ≡ e.link.state.memory.next → FitsFor len calls s → SameSends e.link.state.send_queue s.send_queue → IsBounded len sent sends next e2 calls answers
   to_state s is stags fits same =
-      moved (ap (λ (x : LinkState). x.memory.next) is ∙ stags) (subst (λ (x : LinkState). Fits len (claims_total calls) x) (sym is) fits)
+      moved (ap (λ (x : LinkState). x.memory.next) is ∙ stags) (subst (λ (x : LinkState). FitsFor len calls x) (sym is) fits)
       (subst (λ (x : LinkState). SameSends e.link.state.send_queue x.send_queue) (sym is) same)
 
-  pub same_bounded : e2.link ≡ e.link → IsBounded len sent first next e2 calls answers
+  pub same_bounded : e2.link ≡ e.link → IsBounded len sent sends next e2 calls answers
   same_bounded is = to_state e.link.state (ap (λ (l : LinkSide). l.state) is) refl here (refl, refl)
 
-  pub next_bounded : e2.link ≡ after_call e.link NextEvent → IsBounded len sent first next e2 calls answers
+  pub next_bounded : e2.link ≡ after_call e.link NextEvent → IsBounded len sent sends next e2 calls answers
   unfolding after_call
-  next_bounded is = to_state (after_call e.link NextEvent).state (ap (λ (l : LinkSide). l.state) is) refl (
+  next_bounded is = to_state (after_call e.link NextEvent).state (ap (λ (l : LinkSide). l.state) is) refl (λ size counts. (
     record { side = b.0.link.side; receives = b.0.link.receives; receive_length = b.0.link.receive_length; receive = b.0.link.receive; up = b.0.link.up; down = b.0.link.down; hello = b.0.link.hello; queue = b.0.link.queue; responses = b.0.link.responses; regions = b.0.link.regions },
-    b.0.regions,
-  ) (refl, refl)
+    b.0.regions size counts,
+  )) (refl, refl)
 
-  pub post_bounded : e2.link ≡ after_call e.link Post → IsBounded len sent first next e2 calls answers
+  pub post_bounded : e2.link ≡ after_call e.link Post → IsBounded len sent sends next e2 calls answers
   unfolding after_call
-  post_bounded is = to_state (after_call e.link Post).state (ap (λ (l : LinkSide). l.state) is) refl (
+  post_bounded is = to_state (after_call e.link Post).state (ap (λ (l : LinkSide). l.state) is) refl (λ size counts. (
     record { side = b.0.link.side; receives = b.0.link.receives; receive_length = b.0.link.receive_length; receive = b.0.link.receive; up = b.0.link.up; down = b.0.link.down; hello = b.0.link.hello; queue = b.0.link.queue; responses = b.0.link.responses; regions = b.0.link.regions },
-    b.0.regions,
-  ) (refl, refl)
+    b.0.regions size counts,
+  )) (refl, refl)
 
   going : e.link.state.ended ≡ None → has_ended e.link.state ≡ false
   going lives = ap (λ (o : Option End). is_some o) lives
 
-  pub out_bounded : e.link.state.ended ≡ None → e2.link ≡ after_call e.link OutOfMemory → IsBounded len sent first next e2 calls answers
+  pub out_bounded : e.link.state.ended ≡ None → e2.link ≡ after_call e.link OutOfMemory → IsBounded len sent sends next e2 calls answers
   unfolding after_call
   out_bounded lives is =
       let s : LinkState = e.link.state in
       let after : LinkState = record s { ended = Some ends.Memory } in
-      to_state after (ap (λ (l : LinkSide). l.state) is ∙ ap (λ (o : Option End). cond (is_some o) s after) lives) refl (
+      to_state after (ap (λ (l : LinkSide). l.state) is ∙ ap (λ (o : Option End). cond (is_some o) s after) lives) refl (λ size counts. (
         record {
           side = b.0.link.side;
           receives = b.0.link.receives;
@@ -149,14 +154,14 @@ module _ (len sent first next : ℕ) (calls : List OutstandingCall) (answers : L
           responses = b.0.link.responses;
           regions = b.0.link.regions;
         },
-        b.0.regions,
-      ) (refl, refl)
+        b.0.regions size counts,
+      )) (refl, refl)
 
-  pub stop_bounded : (reason : ℕ) → e.link.state.ended ≡ None → (e2.link ≡ after_call e.link (Stop reason)) ⊎ (e2.link ≡ after_call e.link OutOfMemory) → IsBounded len sent first next e2 calls answers
+  pub stop_bounded : (reason : ℕ) → e.link.state.ended ≡ None → (e2.link ≡ after_call e.link (Stop reason)) ⊎ (e2.link ≡ after_call e.link OutOfMemory) → IsBounded len sent sends next e2 calls answers
   unfolding after_call
   stop_bounded reason lives (inl is) =
       let s : LinkState = e.link.state in
       let after : LinkState = with_end_of (ends.Bad s.last reason) s in
       to_state after (ap (λ (l : LinkSide). l.state) is ∙ ap (λ (o : Option End). cond (is_some o) s after) lives) refl
-      (end_fits s (ends.Bad s.last reason) len (claims_total calls) (going lives) here) (end_sends s.send_queue s (ends.Bad s.last reason) (refl, refl))
+      (λ size counts. end_fits size s (ends.Bad s.last reason) len (claims_total size calls) (going lives) (here size counts)) (end_sends s.send_queue s (ends.Bad s.last reason) (refl, refl))
   stop_bounded reason lives (inr is) = out_bounded lives is

@@ -35,13 +35,11 @@ use Rattle.nr_requester.proofs.FrameAnswers.{frame_answers, ended_answers, one_m
 pub keeps_later : (opened : LinkParameters) (r : RequesterState) (e : EndState ClientState) (count later : ℕ) → count ≤ later → KeptEnd opened r e count → KeptEnd opened r e later
 keeps_later opened r e count later le keeps = record {
   client = kept_stays opened (kept_client r) e count later keeps.client le;
-  first = keeps.first;
   wished = keeps.wished;
   live_one = λ none. (let k : KeepsLiveClient opened r e.state count = keeps.live_one none in record {
     client = kept_stays opened (kept_client r) (live e.state) count later k.client le;
     side = k.side;
     sent = k.sent;
-    first = k.first;
     wished = k.wished;
     due = k.due;
   });
@@ -49,7 +47,7 @@ keeps_later opened r e count later le keeps = record {
 
 -- a live one, as an end
 pub kept_live : (opened : LinkParameters) (r : RequesterState) (k : ClientState) (count : ℕ) → KeepsLiveClient opened r k count → KeptEnd opened r (live k) count
-kept_live opened r k count keeps = record { client = keeps.client; first = keeps.first; wished = keeps.wished; live_one = λ none. keeps }
+kept_live opened r k count keeps = record { client = keeps.client; wished = keeps.wished; live_one = λ none. keeps }
 
 -- ---- A frame
 

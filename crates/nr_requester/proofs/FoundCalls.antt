@@ -56,13 +56,13 @@ not_revoked None e = absurd cc
 not_revoked (Some call) e = refl
 
 -- the STags that are kept of a call
-pub stags_in_state : (k : ClientState) (next first sent xid : ℕ) (c : StoredCall) (cs : List StoredCall) (os : List OutstandingCall) → AllByRecursion (OffersPlan next k.regions) os → AreKept k (map (kept_call first sent) cs) os →
+pub stags_in_state : (k : ClientState) (next sent xid : ℕ) (c : StoredCall) (cs : List StoredCall) (os : List OutstandingCall) → AllByRecursion (OffersPlan next k.regions) os → AreKept k (map (kept_call sent) cs) os →
     find (λ d. eqb d.xid xid) cs ≡ Some c → is_some c.call ≡ true → stags_of c.claims ≡ call_stags xid k.regions
-stags_in_state k next first sent xid c [] os offers kept there has = absurd (let wrong : None ≡ Some c = there in cc)
-stags_in_state k next first sent xid c (d ∷ cs) [] offers kept there has = absurd kept
-stags_in_state k next first sent xid c (d ∷ cs) (o ∷ os) offers kept there has = by (eqb d.xid xid) refl (λ e. stags_in_state k next first sent xid c cs os offers.1 kept.1 e has) there
+stags_in_state k next sent xid c [] os offers kept there has = absurd (let wrong : None ≡ Some c = there in cc)
+stags_in_state k next sent xid c (d ∷ cs) [] offers kept there has = absurd kept
+stags_in_state k next sent xid c (d ∷ cs) (o ∷ os) offers kept there has = by (eqb d.xid xid) refl (λ e. stags_in_state k next sent xid c cs os offers.1 kept.1 e has) there
   where
-    is : IsKeptCall k (kept_call first sent d) o
+    is : IsKeptCall k (kept_call sent d) o
     is = kept.0
 
     by : (b : Bool) → eqb d.xid xid ≡ b → (find (λ d. eqb d.xid xid) cs ≡ Some c → stags_of c.claims ≡ call_stags xid k.regions) → cond b (Some d) (find (λ d. eqb d.xid xid) cs) ≡ Some c → stags_of c.claims ≡ call_stags xid k.regions
@@ -107,14 +107,14 @@ abbrev or_kept : KeptCall → Option KeptCall → KeptCall
 or_kept c None = c
 or_kept c (Some d) = d
 
-finds_call : (first sent : ℕ) (calls : List StoredCall) (xid : ℕ) (c : KeptCall) → kept_by (map (kept_call first sent) calls) xid ≡ Some c → FindsCall calls xid c
-finds_call first sent [] xid c e = absurd (let wrong : None ≡ Some c = e in cc)
-finds_call first sent (d ∷ calls) xid c e = by (eqb d.xid xid) refl (kept_call first sent d).is_sent (λ g. finds_call first sent calls xid c g) e
+finds_call : (sent : ℕ) (calls : List StoredCall) (xid : ℕ) (c : KeptCall) → kept_by (map (kept_call sent) calls) xid ≡ Some c → FindsCall calls xid c
+finds_call sent [] xid c e = absurd (let wrong : None ≡ Some c = e in cc)
+finds_call sent (d ∷ calls) xid c e = by (eqb d.xid xid) refl (kept_call sent d).is_sent (λ g. finds_call sent calls xid c g) e
   where
-    by : (b : Bool) → eqb d.xid xid ≡ b → (sent_one : Bool) → (kept_by (map (kept_call first sent) calls) xid ≡ Some c → FindsCall calls xid c) →
-        cond (b && sent_one) (Some (kept_call first sent d)) (kept_by (map (kept_call first sent) calls) xid) ≡ Some c → FindsCall (d ∷ calls) xid c
+    by : (b : Bool) → eqb d.xid xid ≡ b → (sent_one : Bool) → (kept_by (map (kept_call sent) calls) xid ≡ Some c → FindsCall calls xid c) →
+        cond (b && sent_one) (Some (kept_call sent d)) (kept_by (map (kept_call sent) calls) xid) ≡ Some c → FindsCall (d ∷ calls) xid c
     by true is true rest g =
-        let same : kept_call first sent d ≡ c = ap (λ (o : Option KeptCall). or_kept (kept_call first sent d) o) g in
+        let same : kept_call sent d ≡ c = ap (λ (o : Option KeptCall). or_kept (kept_call sent d) o) g in
         record { call = d; own = ap (λ (x : KeptCall). x.xid) (sym same) ∙ eqb-true d.xid xid is; found = ap (λ (x : Bool). cond x (Some d) (call_of xid calls)) is }
     by true is false rest g = (let f = rest g in record { call = d; own = f.own; found = ap (λ (x : Bool). cond x (Some d) (call_of xid calls)) is })
     by false is s rest g = (let f = rest g in record { call = f.call; own = f.own; found = ap (λ (x : Bool). cond x (Some d) (call_of xid calls)) is ∙ f.found })
@@ -158,23 +158,23 @@ body_gives c memory message (Nomsg lists) = lists_give c None lists memory (answ
 body_gives c memory message (ErrVers version low high) = gives_itself c.xid (Some (outcomes.Version low high))
 body_gives c memory message (ErrChunk version) = gives_itself c.xid (Some outcomes.Chunk)
 
-pub verdict_call : (first sent : ℕ) (calls : List StoredCall) (memory : Bytes) (message : List ℕ) (xid : ℕ) (outcome : Option Outcome) → kept_verdict (map (kept_call first sent) calls) memory message ≡ GivesOutcome xid outcome → IsOfCall calls message xid
+pub verdict_call : (sent : ℕ) (calls : List StoredCall) (memory : Bytes) (message : List ℕ) (xid : ℕ) (outcome : Option Outcome) → kept_verdict (map (kept_call sent) calls) memory message ≡ GivesOutcome xid outcome → IsOfCall calls message xid
 unfolding kept_verdict
-verdict_call first sent calls memory message xid outcome e = by (header_of message) refl e
+verdict_call sent calls memory message xid outcome e = by (header_of message) refl e
   where
-    by_found : (h : Header) → header_of message ≡ Ok h → (o : Option KeptCall) → kept_by (map (kept_call first sent) calls) h.xid ≡ o → by_kept_call memory message h.body o ≡ GivesOutcome xid outcome → IsOfCall calls message xid
+    by_found : (h : Header) → header_of message ≡ Ok h → (o : Option KeptCall) → kept_by (map (kept_call sent) calls) h.xid ≡ o → by_kept_call memory message h.body o ≡ GivesOutcome xid outcome → IsOfCall calls message xid
     by_found h is None f e = absurd cc
     by_found h is (Some c) f e =
         let own : h.xid ≡ word_at 0 message = header_xid message h is in
-        let g : FindsCall calls h.xid c = finds_call first sent calls h.xid c f in
+        let g : FindsCall calls h.xid c = finds_call sent calls h.xid c f in
         record {
           call = g.call;
           own = body_gives c memory message h.body xid outcome e ∙ g.own ∙ own;
           found = ap (λ (x : ℕ). call_of x calls) (sym own) ∙ g.found;
         }
 
-    by : (r : Result Header HeaderFault) → header_of message ≡ r → kept_header (map (kept_call first sent) calls) memory message r ≡ GivesOutcome xid outcome → IsOfCall calls message xid
-    by (Ok h) is e = by_found h is (kept_by (map (kept_call first sent) calls) h.xid) refl e
+    by : (r : Result Header HeaderFault) → header_of message ≡ r → kept_header (map (kept_call sent) calls) memory message r ≡ GivesOutcome xid outcome → IsOfCall calls message xid
+    by (Ok h) is e = by_found h is (kept_by (map (kept_call sent) calls) h.xid) refl e
     by (Err faults.Short) is e = absurd cc
     by (Err (faults.Version version)) is e = absurd cc
     by (Err (faults.Kind kind)) is e = absurd cc

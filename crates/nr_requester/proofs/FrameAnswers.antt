@@ -21,7 +21,6 @@ use Rattle.nr_reduce.specs.ClientState.{ClientState, client_memory_at}
 use Rattle.nr_reduce.specs.ClientMessages.{reply_verdict}
 use Rattle.nr_reduce.specs.ClientMessages.ReplyVerdict.{GivesOutcome}
 use Rattle.nr_reduce.specs.Client.{client_rules, initial_client, outcomes_of}
-use Rattle.nr_reduce.specs.SubmitAnswer.{next_xid}
 use Rattle.nr_reduce.specs.KeptClient.{ClientKeeps, bytes_under, HoldsFor, AreRising}
 use Rattle.nr_reduce.specs.OfferedMemory.{AreOffered}
 use Rattle.nr_reduce.proofs.Releasing.{kept_stays}
@@ -71,27 +70,27 @@ by_regions : (f : ℕ → List ℕ) (rs : List Region) → map f (map (λ (r : R
 by_regions f [] = refl
 by_regions f (r ∷ rs) = ap (λ (xs : List (List ℕ)). f r.stag ∷ xs) (by_regions f rs)
 
-held_for : (m : RegisteredMemory) (k : ClientState) (count first sent : ℕ) (cs : List StoredCall) → AllByRecursion (HoldsFor m k count) (map (kept_call first sent) cs) →
+held_for : (m : RegisteredMemory) (k : ClientState) (count sent : ℕ) (cs : List StoredCall) → AllByRecursion (HoldsFor m k count) (map (kept_call sent) cs) →
     AllByRecursion (λ (c : StoredCall). AllByRecursion (λ stag. bytes_under m stag ≡ client_memory_at k count stag) (stags_of c.claims)) cs
-held_for m k count first sent [] h = tt
-held_for m k count first sent (c ∷ cs) h = (h.0, held_for m k count first sent cs h.1)
+held_for m k count sent [] h = tt
+held_for m k count sent (c ∷ cs) h = (h.0, held_for m k count sent cs h.1)
 
 -- the buffers of the call that a message completes
 pub buffers_held : (opened : LinkParameters) (r : RequesterState) (k : ClientState) (next count place xid : ℕ) (d : StoredCall) → ClientKeeps opened (kept_client r) (live k) count → count ≤ place → AllByRecursion (OffersPlan next k.regions) k.outstanding →
     call_of xid r.outstanding ≡ Some d → is_some d.call ≡ true → buffers_in (buffers_under r.side.memory d.claims) ≡ region_contents k place xid
 buffers_held opened r k next count place xid d keeps le offers found has =
     let later : ClientKeeps opened (kept_client r) (live k) place = kept_stays opened (kept_client r) (live k) count place keeps le in
-    let holds = held_for r.side.memory k place r.first_xid r.sent r.outstanding later.holds in
+    let holds = held_for r.side.memory k place r.sent r.outstanding later.holds in
     let own = found_one (λ (c : StoredCall). AllByRecursion (λ stag. bytes_under r.side.memory stag ≡ client_memory_at k place stag) (stags_of c.claims)) xid d r.outstanding holds found in
     buffers_by_stags r.side.memory d.claims
     ∙ same_under (λ s. bytes_under r.side.memory s) (λ s. client_memory_at k place s) (stags_of d.claims) own
-    ∙ ap (λ (ss : List ℕ). map (λ s. client_memory_at k place s) ss) (stags_in_state k next r.first_xid r.sent xid d r.outstanding k.outstanding offers (keeps.calls refl).kept found has)
+    ∙ ap (λ (ss : List ℕ). map (λ s. client_memory_at k place s) ss) (stags_in_state k next r.sent xid d r.outstanding k.outstanding offers (keeps.calls refl).kept found has)
     ∙ by_regions (λ s. client_memory_at k place s) (filter (λ (g : Region). eqb g.call xid) k.regions)
 
 -- each call has an xid below the next one
-below_next : (next first sent : ℕ) (cs : List StoredCall) → AreRising (map (kept_call first sent) cs) next → AllByRecursion (λ (c : StoredCall). c.xid < next) cs
-below_next next first sent [] h = tt
-below_next next first sent (c ∷ cs) h = (h.0, below_next next first sent cs h.1.1)
+below_next : (next sent : ℕ) (cs : List StoredCall) → AreRising (map (kept_call sent) cs) next → AllByRecursion (λ (c : StoredCall). c.xid < next) cs
+below_next next sent [] h = tt
+below_next next sent (c ∷ cs) h = (h.0, below_next next sent cs h.1.1)
 
 -- ---- A message that completes its call
 
@@ -120,8 +119,8 @@ module _ (opened : LinkParameters) (r after : RequesterState) (k : ClientState) 
 
   still : (a : AnsweredCall) → Still opened past a → Still opened es a
   still a g =
-      subst (λ (e : EndState ClientState). StillHolds (next_xid opened e.state) e.state a) next_is
-      (frame_still opened k count f offered lt a (subst (λ (x : ClientState). StillHolds (next_xid opened x) x a) (sym state_is) g))
+      subst (λ (e : EndState ClientState). StillHolds e.state.next_xid e.state a) next_is
+      (frame_still opened k count f offered lt a (subst (λ (x : ClientState). StillHolds x.next_xid x a) (sym state_is) g))
 
   regions_next : Offers opened (client_by opened es).state
   regions_next = regions_more opened past (FrameReceived f ∷ []) (tt, tt) h.regions
@@ -148,7 +147,7 @@ module _ (opened : LinkParameters) (r after : RequesterState) (k : ClientState) 
     tickets = all_as asked (λ (a : AcceptedCall) t e. (
         (λ i. is_some (call_with (find (λ (x : StoredCall). eqb x.xid a.xid) (c.outstanding i)) (find (λ (b : AnsweredCall). eqb b.xid a.xid) (answered i))))
         ∙ moved_open r.side.memory xid a.xid d r.outstanding r.answered c.outcome of.found
-        (λ same awaited. gives_some r.first_xid r.sent r.outstanding (bytes_under r.side.memory) c.message c.xid c.outcome c.verdict (due_calls due xid r.outstanding (ap due (sym same) ∙ e) h.awaited))
+        (λ same awaited. gives_some r.sent r.outstanding (bytes_under r.side.memory) c.message c.xid c.outcome c.verdict (due_calls due xid r.outstanding (ap due (sym same) ∙ e) h.awaited))
         (t e)
         )) h.tickets;
     to_come = λ x at. h.to_come x (omega (arith, at, next));
@@ -159,7 +158,7 @@ module _ (opened : LinkParameters) (r after : RequesterState) (k : ClientState) 
       xid = word_at 0 c.message
 
       of : IsOfCall r.outstanding c.message c.xid
-      of = verdict_call r.first_xid r.sent r.outstanding (bytes_under r.side.memory) c.message c.xid c.outcome c.verdict
+      of = verdict_call r.sent r.outstanding (bytes_under r.side.memory) c.message c.xid c.outcome c.verdict
 
       d : StoredCall
       d = of.call
@@ -197,18 +196,18 @@ module _ (opened : LinkParameters) (r after : RequesterState) (k : ClientState) 
 
       held_now : is_some d.call ≡ true → buffers_in (buffers_under r.side.memory d.claims) ≡ region_contents k f.end d.xid
       held_now has =
-          buffers_held opened r k (next_xid opened (client_by opened past).state) count f.end xid d keeps.client le (subst (λ (x : ClientState). AllByRecursion (OffersPlan (next_xid opened (client_by opened past).state) x.regions) x.outstanding) (sym state_is) h.regions.calls) of.found has
+          buffers_held opened r k (client_by opened past).state.next_xid count f.end xid d keeps.client le (subst (λ (x : ClientState). AllByRecursion (OffersPlan (client_by opened past).state.next_xid x.regions) x.outstanding) (sym state_is) h.regions.calls) of.found has
           ∙ (λ i. region_contents k f.end (sym (found_xid xid d r.outstanding of.found) i))
 
-      below : d.xid < next_xid opened k
-      below = (let lower = found_one (λ (x : StoredCall). x.xid < r.next_xid) xid d r.outstanding (below_next r.next_xid r.first_xid r.sent r.outstanding keeps.client.rising) of.found in let own = keeps.client.xid in omega (arith, lower, own))
+      below : d.xid < k.next_xid
+      below = (let lower = found_one (λ (x : StoredCall). x.xid < r.next_xid) xid d r.outstanding (below_next r.next_xid r.sent r.outstanding keeps.client.rising) of.found in let own = keeps.client.xid in omega (arith, lower, own))
 
       holds_now : (p : Option Call) → o ≡ p → (outcome : Option Outcome) → AllByRecursion (Still opened es) (answered_as r.side.memory d p outcome)
       holds_now None e outcome = tt
       holds_now (Some call) e None = tt
       holds_now (Some call) e (Some outcome) =
           let a : AnsweredCall = record { xid = d.xid; call = call; buffers = buffers_under r.side.memory d.claims; outcome = outcome } in (
-            subst (λ (x : EndState ClientState). StillHolds (next_xid opened x.state) x.state a) next_is
+            subst (λ (x : EndState ClientState). StillHolds x.state.next_xid x.state a) next_is
                 (completed_still opened k count f c.segment c.message a offered keeps.client.accesses below (found_xid xid d r.outstanding of.found) c.stays c.after_hello c.is_segment c.completes
                 (held_now (ap (λ (x : Option Call). is_some x) (some_call d.is_forgotten call d.call e)))),
             tt,
@@ -251,4 +250,4 @@ ended_answers opened r k end past more due asked none is h =
     let same : client_by opened (past ++ more) ≡ client_by opened past =
     end_state_after_append (client_rules opened) (initial_client opened) past more ∙ ap (λ (e : EndState ClientState). end_state_after (client_rules opened) e more) (sym is) ∙ (ended_stays (client_rules opened) k end more).0 ∙ is in
     same_asked opened (past ++ more) due asked r
-    (quiet_more opened past more due due asked [] r r h (λ a g. subst (λ (e : EndState ClientState). StillHolds (next_xid opened e.state) e.state a) (sym same) g) (ap (λ (e : EndState ClientState). e.state.outcomes) same) (regions_more opened past more none h.regions) (λ x. refl) refl refl (omega arith) refl)
+    (quiet_more opened past more due due asked [] r r h (λ a g. subst (λ (e : EndState ClientState). StillHolds e.state.next_xid e.state a) (sym same) g) (ap (λ (e : EndState ClientState). e.state.outcomes) same) (regions_more opened past more none h.regions) (λ x. refl) refl refl (omega arith) refl)

@@ -9,7 +9,6 @@ use Rattle.nr_regions.specs.declared.right.Kind.{Kind}
 use Rattle.nr_regions.specs.RegisteredMemory.{Region, RegisteredMemory, Access, held_region, live_region, region_offer, denial_in, denial, bytes_in, bytes_at, bytes_after_write, after_place, after_place_in, right_for}
 use Rattle.nr_regions.proofs.Holding.{live_held, within, get_insert_here, get_insert_other, length_bytes_after_write}
 use Rattle.nr_regions.proofs.Totals.{sound_change}
-use Rattle.nr_regions.specs.Table.{region_len}
 use Rattle.nr_wire.specs.Constants.{OPCODE_READ_RESPONSE, OPCODE_READ_REQUEST}
 use Rattle.nr_wire.specs.declared.hello.Side.{Side}
 use Rattle.nr_wire.specs.declared.hello.Side.TheVariants.{Initiator, Responder}
@@ -23,9 +22,8 @@ use Rattle.nr_link.specs.declared.end.End.TheVariants as ends
 use Rattle.nr_link.specs.Frames.{Frame}
 use Rattle.nr_link.specs.Limits.{open_reads_max}
 use Rattle.nr_link.specs.Output.{read_response}
-use Rattle.nr_link.specs.Reasons.{denied_word, NO_BUFFER_WORD}
 use Rattle.nr_link.specs.ReceiveState.{read_request_in}
-use Rattle.nr_link.specs.Ending.{final_output, rejection, is_hello_reason, kind_of}
+use Rattle.nr_link.specs.Ending.{rejection, kind_of}
 use Rattle.nr_endpoint.specs.SendQueue.{SendQueue, with_end}
 use Rattle.nr_endpoint.specs.ReceiveQueue.{with_segment, with_read_done}
 use Rattle.nr_link.specs.Agreement.{IsSendLimit}
@@ -38,33 +36,23 @@ use Rattle.nr_endpoint.specs.Calls.{after_call}
 use Rattle.nr_endpoint.specs.Calls.Call.{FeedOne}
 use Rattle.nr_endpoint.proofs.AlongFrames.{feed_one_keeps}
 use Rattle.nr_endpoint.proofs.Alive.{alive_tagged, alive_request}
-use Rattle.nr_requester.specs.HeldBytes.{region_max, frame_max, hello_max, QueueFits, RegionsFit, LinkFits, RegionsHave}
-use Rattle.nr_requester.proofs.OutputBounds.{response_fits, last_fits, last_len}
+use Rattle.nr_requester.specs.HeldBytes.{region_max, response_max, QueueFits, RegionsFit, LinkFits, region_size, RegionsHave}
+use Rattle.nr_endpoint.specs.OutputSizes.{send_frames_max, hello_max}
+use Rattle.nr_endpoint.proofs.OutputSizes.{end_within}
+use Rattle.nr_requester.proofs.OutputBounds.{response_fits}
 
--- both: its vectors are within their bounds, and its regions have this number of bytes
-abbrev pub Fits : (len total : ℕ) → LinkState → Type 0
-Fits len total s = LinkFits len s × RegionsHave s.memory total
+-- both: its vectors are within their bounds, and its regions have this number together
+abbrev pub Fits : (size : ℕ → ℕ) (len total : ℕ) → LinkState → Type 0
+Fits size len total s = LinkFits len s × RegionsHave size s.memory total
 
 -- ---- What it writes last
-
-last_bytes : (end : End) → length (final_output end) ≤ frame_max
-unfolding final_output
-last_bytes (ends.Bad at reason) = by (is_hello_reason reason)
-  where
-    by : (b : Bool) → length (cond b [] (Rattle.nr_link.specs.Output.terminate_message reason)) ≤ frame_max
-    by true = omega arith
-    by false = last_len reason
-last_bytes (ends.Denied stag offset why) = last_len (denied_word why)
-last_bytes (ends.NoBuffer msn) = last_len NO_BUFFER_WORD
-last_bytes (ends.Terminated reason) = omega arith
-last_bytes ends.Memory = omega arith
 
 no_rejection : (side : Side) (end : End) → side ≡ Initiator → length (rejection side end) ≡ 0
 no_rejection side end is = ap (λ (x : Side). length (rejection x end)) is
 
-pub end_fits : (s : LinkState) (end : End) (len total : ℕ) → has_ended s ≡ false → Fits len total s → Fits len total (with_end_of end s)
+pub end_fits : (size : ℕ → ℕ) (s : LinkState) (end : End) (len total : ℕ) → has_ended s ≡ false → Fits size len total s → Fits size len total (with_end_of end s)
 unfolding with_end
-end_fits s end len total live f = (
+end_fits size s end len total live f = (
   record {
     side = f.0.side;
     receives = f.0.receives;
@@ -73,7 +61,7 @@ end_fits s end len total live f = (
     up = f.0.up;
     down = f.0.down;
     hello = omega (arith, f.0.hello, length-append s.send_queue.hello (rejection s.side end), no_rejection s.side end f.0.side);
-    queue = last_fits s.send_queue (final_output end) (last_bytes end) (subst (λ (b : Bool). QueueFits b s.send_queue) live f.0.queue);
+    queue = end_within send_frames_max response_max 0 0 s.side end s.send_queue (subst (λ (b : Bool). QueueFits b s.send_queue) live f.0.queue);
     responses = f.0.responses;
     regions = f.0.regions;
   },
@@ -93,12 +81,12 @@ same_region : (x y : Region) → Some x ≡ Some y → x ≡ y
 same_region x y e = ap (or_region x) e
 
 -- an access that is allowed leaves the lengths of the regions
-placed_by : (m : RegisteredMemory) (stag to : ℕ) (kind : Kind) (payload : List ℕ) (total : ℕ) (o : Option Region) → held_region m stag ≡ o →
-    denial_in (region_offer o) (record { right = right_for kind; stag = stag; to = to; len = length payload }) ≡ None → RegionsFit m → RegionsHave m total →
-    RegionsFit (after_place_in o m stag to payload) × RegionsHave (after_place_in o m stag to payload) total
+placed_by : (size : ℕ → ℕ) (m : RegisteredMemory) (stag to : ℕ) (kind : Kind) (payload : List ℕ) (total : ℕ) (o : Option Region) → held_region m stag ≡ o →
+    denial_in (region_offer o) (record { right = right_for kind; stag = stag; to = to; len = length payload }) ≡ None → RegionsFit m → RegionsHave size m total →
+    RegionsFit (after_place_in o m stag to payload) × RegionsHave size (after_place_in o m stag to payload) total
 unfolding held_region
-placed_by m stag to kind payload total None there allowed fit have = absurd (let wrong : denied NoStag ≡ None = allowed in cc)
-placed_by m stag to kind payload total (Some region) there allowed fit have =
+placed_by size m stag to kind payload total None there allowed fit have = absurd (let wrong : denied NoStag ≡ None = allowed in cc)
+placed_by size m stag to kind payload total (Some region) there allowed fit have =
     let after : Region = record { right = region.right; buf = bytes_after_write region.buf to payload } in
     let len : length after.buf ≡ length region.buf = length_bytes_after_write region.buf to payload (within region.right region.buf (record { kind = kind; stag = stag; to = to; payload = payload; end = 0 }) allowed) in (
       λ q r e. elim (cases_eq q stag) [
@@ -106,13 +94,13 @@ placed_by m stag to kind payload total (Some region) there allowed fit have =
             omega (arith, len, fit stag region there, ap (λ (x : Region). length x.buf) is))
         | inr other ↦ fit q r (sym (get_insert_other m.held stag after q other) ∙ e)
       ],
-      sound_change region_len m.next total m.held stag region after have there len,
+      sound_change (region_size size) m.next total m.held stag region after have there (ap size len),
     )
 
-placed_fits : (m : RegisteredMemory) (stag to : ℕ) (kind : Kind) (payload : List ℕ) (total : ℕ) → denial m (record { right = right_for kind; stag = stag; to = to; len = length payload }) ≡ None → RegionsFit m → RegionsHave m total →
-    RegionsFit (after_place m stag to payload) × RegionsHave (after_place m stag to payload) total
+placed_fits : (size : ℕ → ℕ) (m : RegisteredMemory) (stag to : ℕ) (kind : Kind) (payload : List ℕ) (total : ℕ) → denial m (record { right = right_for kind; stag = stag; to = to; len = length payload }) ≡ None → RegionsFit m → RegionsHave size m total →
+    RegionsFit (after_place m stag to payload) × RegionsHave size (after_place m stag to payload) total
 unfolding denial after_place
-placed_fits m stag to kind payload total allowed fit have = placed_by m stag to kind payload total (live_region m stag) (sym (live_held m stag)) allowed fit have
+placed_fits size m stag to kind payload total allowed fit have = placed_by size m stag to kind payload total (live_region m stag) (sym (live_held m stag)) allowed fit have
 
 -- ---- A segment that doesn't end the side
 
@@ -125,8 +113,8 @@ allowed_lem : (s : LinkState) (last : Bool) (opcode stag to : ℕ) (payload : Li
 unfolding tagged_end
 allowed_lem s last opcode stag to payload e = tagged_allowed stag to _ _ e
 
-read_fits : (s : LinkState) (last : Bool) (n : ℕ) (b : Bool) (len total : ℕ) → Fits len total s → Fits len total (cond b (with_read_response last n s) s)
-read_fits s last n true len total f = (
+read_fits : (size : ℕ → ℕ) (s : LinkState) (last : Bool) (n : ℕ) (b : Bool) (len total : ℕ) → Fits size len total s → Fits size len total (cond b (with_read_response last n s) s)
+read_fits size s last n true len total f = (
   record {
     side = f.0.side;
     receives = by last f.0.receives;
@@ -149,7 +137,7 @@ read_fits s last n true len total f = (
     by_length : (l : Bool) → s.receive_queue.receive_length ≡ len → (cond l (with_read_done s.receive_queue) s.receive_queue).receive_length ≡ len
     by_length true e = e
     by_length false e = e
-read_fits s last n false len total f = f
+read_fits size s last n false len total f = f
 
 reached_short : (m : RegisteredMemory) (access : Access) → RegionsFit m → length (bytes_at m access) ≤ region_max
 reached_short m access fit = by (live_region m access.stag) (sym (live_held m access.stag))
@@ -181,18 +169,18 @@ answered_fits s f last opcode w queue msn offset payload true is at lives fit le
 
 -- ---- A frame
 
-segment_fits : (s : LinkState) (f : Frame) (segment : Segment) (e : Option End) (len total : ℕ) → has_ended s ≡ false → f.at ≡ s.place → segment_end s f segment ≡ e → Fits len total s → Fits len total (with_segment_by f segment e s)
+segment_fits : (size : ℕ → ℕ) (s : LinkState) (f : Frame) (segment : Segment) (e : Option End) (len total : ℕ) → has_ended s ≡ false → f.at ≡ s.place → segment_end s f segment ≡ e → Fits size len total s → Fits size len total (with_segment_by f segment e s)
 unfolding with_effect with_segment
-segment_fits s f segment (Some end) len total live at lives h = end_fits s end len total live h
-segment_fits s f (Tagged last opcode stag to payload) None len total live at lives h =
-    let m = placed_fits s.memory stag to (kind_of opcode) payload total (allowed_lem s last opcode stag to payload (alive_tagged s f last opcode stag to payload at lives)) h.0.regions h.1 in
+segment_fits size s f segment (Some end) len total live at lives h = end_fits size s end len total live h
+segment_fits size s f (Tagged last opcode stag to payload) None len total live at lives h =
+    let m = placed_fits size s.memory stag to (kind_of opcode) payload total (allowed_lem s last opcode stag to payload (alive_tagged s f last opcode stag to payload at lives)) h.0.regions h.1 in
     let placed : LinkState = record s { memory = after_place s.memory stag to payload } in
-    let after = read_fits placed last (length payload) (eqb opcode OPCODE_READ_RESPONSE) len total (
+    let after = read_fits size placed last (length payload) (eqb opcode OPCODE_READ_RESPONSE) len total (
       record { side = h.0.side; receives = h.0.receives; receive_length = h.0.receive_length; receive = h.0.receive; up = h.0.up; down = h.0.down; hello = h.0.hello; queue = h.0.queue; responses = h.0.responses; regions = m.0 },
       m.1,
     ) in
     (record { side = after.0.side; receives = after.0.receives; receive_length = after.0.receive_length; receive = after.0.receive; up = after.0.up; down = after.0.down; hello = after.0.hello; queue = after.0.queue; responses = after.0.responses; regions = after.0.regions }, after.1)
-segment_fits s f (Untagged last opcode w queue msn offset payload) None len total live at lives h =
+segment_fits size s f (Untagged last opcode w queue msn offset payload) None len total live at lives h =
     let left = answered_fits s f last opcode w queue msn offset payload (eqb opcode OPCODE_READ_REQUEST) refl at lives h.0.regions
     (record { hello = h.0.hello; queue = subst (λ (b : Bool). QueueFits b s.send_queue) live h.0.queue; responses = h.0.responses }) in (
       record {
@@ -210,10 +198,10 @@ segment_fits s f (Untagged last opcode w queue msn offset payload) None len tota
       h.1,
     )
 
-fpdu_fits : (s : LinkState) (f : Frame) (r : Result Segment ℕ) (len total : ℕ) → has_ended s ≡ false → f.at ≡ s.place → Fits len total s → Fits len total (with_fpdu f r s)
+fpdu_fits : (size : ℕ → ℕ) (s : LinkState) (f : Frame) (r : Result Segment ℕ) (len total : ℕ) → has_ended s ≡ false → f.at ≡ s.place → Fits size len total s → Fits size len total (with_fpdu f r s)
 unfolding with_fpdu
-fpdu_fits s f (Ok segment) len total live at h = segment_fits s f segment (segment_end s f segment) len total live at refl h
-fpdu_fits s f (Err reason) len total live at h = end_fits s (ends.Bad f.at reason) len total live h
+fpdu_fits size s f (Ok segment) len total live at h = segment_fits size s f segment (segment_end s f segment) len total live at refl h
+fpdu_fits size s f (Err reason) len total live at h = end_fits size s (ends.Bad f.at reason) len total live h
 
 no_reply : (side : Side) (private : List ℕ) → side ≡ Initiator → length (reply_hello side private) ≡ 0
 no_reply side private is = ap (λ (x : Side). length (reply_hello x private)) is
@@ -222,9 +210,9 @@ agreed_limits : (side : Side) (own peer_private : List ℕ) → IsSendLimit (sid
 agreed_limits Initiator own peer_private = agreements_bounded own peer_private
 agreed_limits Responder own peer_private = agreements_bounded peer_private own
 
-hello_fits : (s : LinkState) (f : Frame) (r : Result Hello ℕ) (len total : ℕ) → has_ended s ≡ false → Fits len total s → Fits len total (with_peer_hello f r s)
+hello_fits : (size : ℕ → ℕ) (s : LinkState) (f : Frame) (r : Result Hello ℕ) (len total : ℕ) → has_ended s ≡ false → Fits size len total s → Fits size len total (with_peer_hello f r s)
 unfolding with_peer_hello
-hello_fits s f (Ok hello) len total live h = (
+hello_fits size s f (Ok hello) len total live h = (
   record {
     side = h.0.side;
     receives = h.0.receives;
@@ -241,12 +229,12 @@ hello_fits s f (Ok hello) len total live h = (
   },
   h.1,
 )
-hello_fits s f (Err reason) len total live h = end_fits s (ends.Bad f.at reason) len total live h
+hello_fits size s f (Err reason) len total live h = end_fits size s (ends.Bad f.at reason) len total live h
 
-frame_fits : (len total : ℕ) (a : Awaited) (s : LinkState) (frame : List ℕ) → has_ended s ≡ false → Fits len total s → Fits len total (with_frame s a frame)
-frame_fits len total (HelloFrom side) s frame live h = hello_fits s (next_frame s frame) (hello_of side frame) len total live h
-frame_fits len total Fpdu s frame live h = fpdu_fits s (next_frame s frame) (segment_of frame) len total live refl h
+frame_fits : (size : ℕ → ℕ) (len total : ℕ) (a : Awaited) (s : LinkState) (frame : List ℕ) → has_ended s ≡ false → Fits size len total s → Fits size len total (with_frame s a frame)
+frame_fits size len total (HelloFrom side) s frame live h = hello_fits size s (next_frame s frame) (hello_of side frame) len total live h
+frame_fits size len total Fpdu s frame live h = fpdu_fits size s (next_frame s frame) (segment_of frame) len total live refl h
 
 -- one step on a piece
-pub fed_one_fits : (len total : ℕ) (link : LinkSide) (piece : List ℕ) → Fits len total link.state → Fits len total (after_call link (FeedOne piece)).state
-fed_one_fits len total link piece h = feed_one_keeps (λ a s. Fits len total s) (frame_fits len total) link piece h
+pub fed_one_fits : (size : ℕ → ℕ) (len total : ℕ) (link : LinkSide) (piece : List ℕ) → Fits size len total link.state → Fits size len total (after_call link (FeedOne piece)).state
+fed_one_fits size len total link piece h = feed_one_keeps (λ a s. Fits size len total s) (frame_fits size len total) link piece h

@@ -46,14 +46,12 @@ pub record KeepsLiveClient (opened : LinkParameters) (r : RequesterState) (k : C
   pub client : ClientKeeps opened (kept_client r) (live k) count
   pub side : LinkKeeps opened r.side k
   pub sent : r.sent ≡ r.side.send_queue.sends_left
-  pub first : r.first_xid ≡ opened.first_xid
   pub wished : r.wished ≡ opened.wished
   pub due : k.due ≡ k.written + length (queue_of r)
 
 -- it keeps an end of a client
 pub record KeptEnd (opened : LinkParameters) (r : RequesterState) (e : EndState ClientState) (count : ℕ) : Type 0 where
   pub client : ClientKeeps opened (kept_client r) e count
-  pub first : r.first_xid ≡ opened.first_xid
   pub wished : r.wished ≡ opened.wished
   pub live_one : e.ended ≡ None → KeepsLiveClient opened r e.state count
 
@@ -92,9 +90,9 @@ pub record FrameTaken (opened : LinkParameters) (r : RequesterState) (k : Client
 -- ---- A frame that ends the client, and one that doesn't
 
 pub taken_ended : (opened : LinkParameters) (r : RequesterState) (k : ClientState) (count : ℕ) (f : Frame) (after : RequesterState) (end : End) → KeepsLiveClient opened r k count → client_end k (FrameReceived f) ≡ Some end →
-    kept_client after ≡ record (kept_client r) { ended = Some end } → after.first_xid ≡ r.first_xid → after.wished ≡ r.wished → count ≤ f.end → queue_of after ≡ queue_of r ++ final_output end →
+    kept_client after ≡ record (kept_client r) { ended = Some end } → after.wished ≡ r.wished → count ≤ f.end → queue_of after ≡ queue_of r ++ final_output end →
     after.next_xid ≡ r.next_xid → after.answered ≡ r.answered → after.outstanding ≡ r.outstanding → FrameTaken opened r k f after
-taken_ended opened r k count f after end keeps is kept first wished le queue next answered outstanding =
+taken_ended opened r k count f after end keeps is kept wished le queue next answered outstanding =
     let e : EndState ClientState = next_end_state (client_rules opened) (live k) (FrameReceived f) in
     let ended : e.ended ≡ Some end = ap (λ (x : Option End). (next_end_state_by (client_rules opened) k (FrameReceived f) x).ended) is in
     let side_ended : after.side.ended ≡ Some end = ap (λ (x : KeptClient). x.ended) kept in
@@ -102,7 +100,6 @@ taken_ended opened r k count f after end keeps is kept first wished le queue nex
       keeps = record {
         client = subst (λ (x : KeptClient). ClientKeeps opened x e f.end) (sym kept)
             (kept_stays opened (record (kept_client r) { ended = Some end }) e count f.end (kept_ends opened (kept_client r) k end count (FrameReceived f) keeps.client is) le);
-        first = first ∙ keeps.first;
         wished = wished ∙ keeps.wished;
         live_one = λ none. absurd (let wrong : Some end ≡ None = sym ended ∙ none in cc);
       };
@@ -133,9 +130,9 @@ written_still opened k f = by (is_hello f)
 
 pub taken_live : (opened : LinkParameters) (r : RequesterState) (k : ClientState) (count : ℕ) (f : Frame) (after : RequesterState) → KeepsLiveClient opened r k count → client_end k (FrameReceived f) ≡ None →
     ClientKeeps opened (kept_client after) (next_end_state (client_rules opened) (live k) (FrameReceived f)) f.end → LinkKeeps opened after.side (client_state_after opened k (FrameReceived f)) → after.sent ≡ r.sent → after.side.send_queue.sends_left ≡ r.side.send_queue.sends_left →
-    after.first_xid ≡ r.first_xid → after.wished ≡ r.wished →
+    after.wished ≡ r.wished →
     queue_of after ≡ queue_of r ++ client_output opened k (FrameReceived f) → after.side.place ≡ f.end → after.next_xid ≡ r.next_xid → Moves opened r after k (client_state_after opened k (FrameReceived f)) f → FrameTaken opened r k f after
-taken_live opened r k count f after keeps is client side sent left first wished queue place next_xid moves =
+taken_live opened r k count f after keeps is client side sent left wished queue place next_xid moves =
     let e : EndState ClientState = next_end_state (client_rules opened) (live k) (FrameReceived f) in
     let e_is : e ≡ live (client_state_after opened k (FrameReceived f)) = ap (λ (x : Option End). next_end_state_by (client_rules opened) k (FrameReceived f) x) is in
     let due = client_due opened k (FrameReceived f) in
@@ -146,14 +143,12 @@ taken_live opened r k count f after keeps is client side sent left first wished 
       client = subst (λ (x : EndState ClientState). ClientKeeps opened (kept_client after) x f.end) e_is client;
       side = side;
       sent = sent ∙ keeps.sent ∙ sym left;
-      first = first ∙ keeps.first;
       wished = wished ∙ keeps.wished;
       due = omega (arith, due, still, was, long);
     } in
     record {
       keeps = record {
         client = client;
-        first = first ∙ keeps.first;
         wished = wished ∙ keeps.wished;
         live_one = λ none. subst (λ (x : ClientState). KeepsLiveClient opened after x f.end) (sym (ap (λ (x : EndState ClientState). x.state) e_is)) next;
       };
@@ -274,25 +269,26 @@ not_long k f last opcode w queue msn offset payload message is none whole =
 
 -- ---- What is kept once a message completed its call
 
-pub without_alike : (first sent xid : ℕ) (cs : List StoredCall) → without xid (map (kept_call first sent) cs) ≡ map (kept_call first sent) (without_call xid cs)
-without_alike first sent xid [] = refl
-without_alike first sent xid (c ∷ cs) = by (eqb c.xid xid) (without_alike first sent xid cs)
+pub without_alike : (sent xid : ℕ) (cs : List StoredCall) → without xid (map (kept_call sent) cs) ≡ map (kept_call sent) (without_call xid cs)
+without_alike sent xid [] = refl
+without_alike sent xid (c ∷ cs) = by (eqb c.xid xid) (without_alike sent xid cs)
   where
-    by : (b : Bool) → without xid (map (kept_call first sent) cs) ≡ map (kept_call first sent) (without_call xid cs) →
-        cond (not b) (kept_call first sent c ∷ without xid (map (kept_call first sent) cs)) (without xid (map (kept_call first sent) cs)) ≡ map (kept_call first sent) (cond (not b) (c ∷ without_call xid cs) (without_call xid cs))
+    by : (b : Bool) → without xid (map (kept_call sent) cs) ≡ map (kept_call sent) (without_call xid cs) →
+        cond (not b) (kept_call sent c ∷ without xid (map (kept_call sent) cs)) (without xid (map (kept_call sent) cs)) ≡ map (kept_call sent) (cond (not b) (c ∷ without_call xid cs) (without_call xid cs))
     by true rest = rest
-    by false rest = ap (λ (xs : List KeptCall). kept_call first sent c ∷ xs) rest
+    by false rest = ap (λ (xs : List KeptCall). kept_call sent c ∷ xs) rest
 
 pub completed_is : (r : RequesterState) (message : List ℕ) (xid : ℕ) (outcome : Option Outcome) (s : LinkState) → s.ended ≡ r.side.ended → s.memory ≡ r.side.memory → s.agreed ≡ r.side.agreed → kept_completed (kept_client r) message ≡ kept_client (judged r s message (GivesOutcome xid outcome))
 unfolding kept_completed
 completed_is r message xid outcome s ended memory agreed =
     let x : ℕ = word_at 0 message in
-    let calls = without_alike r.first_xid r.sent x r.outstanding in
-    let count : length (without x (kept_calls r)) ≡ length (without_call x r.outstanding) = ap (λ (xs : List KeptCall). length xs) calls ∙ length-map (without_call x r.outstanding) (kept_call r.first_xid r.sent) in
-    let stags : released_all r.side.memory (kept_stags x (kept_calls r)) ≡ released_all s.memory (stags_for x r.outstanding) = (λ i. released_all (sym memory i) (stags_alike r.first_xid r.sent x r.outstanding i)) in
+    let calls = without_alike r.sent x r.outstanding in
+    let count : length (without x (kept_calls r)) ≡ length (without_call x r.outstanding) = ap (λ (xs : List KeptCall). length xs) calls ∙ length-map (without_call x r.outstanding) (kept_call r.sent) in
+    let stags : released_all r.side.memory (kept_stags x (kept_calls r)) ≡ released_all s.memory (stags_for x r.outstanding) = (λ i. released_all (sym memory i) (stags_alike r.sent x r.outstanding i)) in
     λ i. record {
       ended = sym ended i;
       next_xid = r.next_xid;
+      sends = r.sends;
       grant = credits_of_word (word_at 8 message);
       outstanding = count i;
       calls = calls i;

@@ -101,12 +101,12 @@ record SameButResponses (k k2 : ClientState) : Type 0 where
   pub has_hello : k2.has_hello ≡ k.has_hello
   pub written : k2.written ≡ k.written
   pub send_ends : k2.send_ends ≡ k.send_ends
-  pub calls_accepted : k2.calls_accepted ≡ k.calls_accepted
+  pub sends : k2.sends ≡ k.sends
   pub down_max : k2.down_max ≡ k.down_max
 
 same_request_lem : (k : ClientState) (due : ℕ) (req : Option ReadRequest) → SameButResponses k (with_request k due req)
-same_request_lem k due None = record { has_hello = refl; written = refl; send_ends = refl; calls_accepted = refl; down_max = refl }
-same_request_lem k due (Some r) = record { has_hello = refl; written = refl; send_ends = refl; calls_accepted = refl; down_max = refl }
+same_request_lem k due None = record { has_hello = refl; written = refl; send_ends = refl; sends = refl; down_max = refl }
+same_request_lem k due (Some r) = record { has_hello = refl; written = refl; send_ends = refl; sends = refl; down_max = refl }
 
 -- what the queue has more for it is what is due, by what the memory holds
 pub record RequestFine (s : LinkState) (k : ClientState) (end : ℕ) (req : Option ReadRequest) : Type 0 where
@@ -152,14 +152,14 @@ link_untagged opened s k f last opcode w queue msn offset payload keeps later so
       none_lent = keeps.none_lent;
       none_waits = ap (λ (r : ReceiveState). s.receive_queue.deliveries ++ message_deliveries (s.receive_queue.received.sends + 1) (message_completed r segment)) keeps.received ∙ none_told (receive_length_for opened.client) k.received (s.receive_queue.received.sends + 1) s.receive_queue.deliveries segment keeps.none_waits none;
       no_reads = keeps.no_reads;
-      number = left.last_send ∙ keeps.number ∙ ap msn_word (sym same.calls_accepted);
+      number = left.last_send ∙ keeps.number ∙ ap msn_word (sym same.sends);
       waiting = λ e. not_greeted k greeted (sym same.has_hello ∙ e);
       none_due = λ e. not_greeted k greeted (sym same.has_hello ∙ e);
       sends = sends_are;
       responses = subst (λ (n : ℕ). HasEnds n (length (with_read_request req s.memory s.send_queue).hello) (with_request k more req).response_ends (with_read_request req s.memory s.send_queue).response_ends) (sym same.written)
           (request_ends s k f.end req keeps.responses (due ∙ queue_len) fine);
-      left = (λ i. left.sends_left i + length (left.send_ends i)) ∙ keeps.left ∙ sym same.calls_accepted;
-      numbered = ap (λ (xs : List ℕ). length xs) sends_same ∙ keeps.numbered ∙ sym same.calls_accepted;
+      left = (λ i. left.sends_left i + length (left.send_ends i)) ∙ keeps.left ∙ sym same.sends;
+      numbered = ap (λ (xs : List ℕ). length xs) sends_same ∙ keeps.numbered ∙ sym same.sends;
       greeted = same.has_hello ∙ later_place opened s k f.end keeps later some;
     })
   where

@@ -75,7 +75,7 @@ module _ (opened : LinkParameters) (r : RequesterState) (k : ClientState) (count
       ap (λ (m : RegisteredMemory). record (kept_client r) { memory = m }) arrives ∙ sym (ap (λ (s : LinkState). kept_client (record r { side = after_frame f s })) effect) in
       taken_live opened r k count f after keeps said.end (client_next segment after said said.end kept)
       (subst (λ (x : ClientState). LinkKeeps opened after.side x) (sym said.state) (link_tagged opened r.side k f last opcode stag to payload keeps.side fine later (omega (arith, lt))))
-      refl (ap (λ (s : LinkState). s.send_queue.sends_left) effect) refl refl
+      refl (ap (λ (s : LinkState). s.send_queue.sends_left) effect) refl
       (ap (λ (s : LinkState). writable s.has_hello s.send_queue) effect ∙ sym (append-nil (queue_of r)) ∙ ap (λ (xs : List ℕ). queue_of r ++ xs) (sym said.output)) refl
       refl (inl (record { answered = refl; outstanding = refl; outcomes = ap (λ (x : ClientState). x.outcomes) said.state ∙ quiet_segment k f segment refl }))
 
@@ -97,7 +97,7 @@ module _ (opened : LinkParameters) (r : RequesterState) (k : ClientState) (count
       let kept : kept_received (kept_client r) k.received f segment ≡ kept_client after = ap (λ (m : Option (List ℕ)). kept_by_message (kept_client r) m) whole in
       taken_live opened r k count f after keeps stays (client_next segment after said stays kept)
       (subst (λ (x : ClientState). LinkKeeps opened after.side x) (sym said.state) (link_untagged opened r.side k f last opcode w queue msn offset payload keeps.side later (omega (arith, lt)) whole keeps.due fine))
-      refl (same_left req) refl refl
+      refl (same_left req) refl
       (ap (λ (h : Bool). writable h (with_read_request req r.side.memory r.side.send_queue)) hello
       ∙ queue_request r.side k f.end req fine
       ∙ (λ i. writable (sym hello i) r.side.send_queue ++ sym said.output i)) refl
@@ -139,7 +139,7 @@ module _ (opened : LinkParameters) (r : RequesterState) (k : ClientState) (count
 
       by : (v : ReplyVerdict) → kept_verdict (kept_calls r) (bytes_under r.side.memory) message ≡ v → FrameTaken opened r k f (judged r s1 message v)
       by (EndsLink reason) is =
-          taken_ended opened r k count f (judged r s1 message (EndsLink reason)) (ends.Bad f.at reason) keeps (end_is ∙ ap (end_of_verdict f) is) refl refl refl (omega (arith, lt))
+          taken_ended opened r k count f (judged r s1 message (EndsLink reason)) (ends.Bad f.at reason) keeps (end_is ∙ ap (end_of_verdict f) is) refl refl (omega (arith, lt))
           (queue_ended r.side.has_hello r.side.side (ends.Bad f.at reason) (with_read_request (read_request_of segment) r.side.memory r.side.send_queue) hello keeps.side.side
           ∙ ap (λ (q : SendQueue). writable r.side.has_hello q ++ final_output (ends.Bad f.at reason)) (same_queue (read_request_of segment) at.no_request))
           refl refl refl
@@ -151,7 +151,7 @@ module _ (opened : LinkParameters) (r : RequesterState) (k : ClientState) (count
           taken_live opened r k count f after keeps stays (client_next segment after said stays kept)
           (subst (λ (x : ClientState). LinkKeeps opened after.side x) (sym said.state)
           (link_message opened r.side k f last opcode w queue msn offset payload message (released_all r.side.memory (stags_for (word_at 0 message) r.outstanding)) keeps.side later (omega (arith, lt)) whole at))
-          refl (ap (λ (q : SendQueue). q.sends_left) (same_queue (read_request_of segment) at.no_request)) refl refl
+          refl (ap (λ (q : SendQueue). q.sends_left) (same_queue (read_request_of segment) at.no_request)) refl
           (ap (λ (q : SendQueue). writable r.side.has_hello q) (same_queue (read_request_of segment) at.no_request)
           ∙ sym (append-nil (queue_of r)) ∙ ap (λ (xs : List ℕ). queue_of r ++ xs) (sym no_response)) refl
           refl
@@ -238,7 +238,7 @@ fpdu_taken opened r k count frame keeps lt later = by (with_frame r.side Fpdu fr
         let shape : with_frame r.side Fpdu frame ≡ with_end_of end r.side = ended_shape r.side f (segment_of frame) end keeps.client.ended is in
         subst (λ (x : Option End). FrameTaken opened r k f (unless_ended r (with_frame r.side Fpdu frame) x)) (sym is)
         (subst (λ (x : LinkState). FrameTaken opened r k f (record r { side = x })) (sym shape)
-        (taken_ended opened r k count f (record r { side = with_end_of end r.side }) end keeps (end_of_link end (sym alike ∙ is)) refl refl refl (omega (arith, lt))
+        (taken_ended opened r k count f (record r { side = with_end_of end r.side }) end keeps (end_of_link end (sym alike ∙ is)) refl refl (omega (arith, lt))
         (queue_ended r.side.has_hello r.side.side end r.side.send_queue (keeps.side.has_hello ∙ has_greeted opened r.side k keeps.side later) keeps.side.side)
         refl refl refl))
     by None is =

@@ -18,10 +18,10 @@ use Rattle.nr_requester.specs.OpenCalls.{open_call, call_with, buffers_with, buf
 use Rattle.nr_requester.specs.Standing.{RequesterRepresents, RequesterRunsOut, StandsOn, StaysOut, StopsRevoked}
 use Rattle.nr_requester.specs.Views.{HasRoom, RequesterInvariant, IsAnswered, AreRising, stored_view, given_up, forgot, requester_view, side_view}
 use Rattle.nr_requester.specs.CountedMarks.{one_mark_more}
-use Rattle.nr_requester.specs.HeldBytes.{NothingOutside, LinkFits, RegionsHave, CountsFit, claims_len, claims_total, CallFits, AnswerFits, RequesterBounds}
+use Rattle.nr_requester.specs.HeldBytes.{NothingOutside, LinkFits, IsCount, RegionsHave, xid_of, send_of, CountsFit, in_bytes, claims_size, claims_total, CallFits, AnswerFits, RequesterBounds}
 use Rattle.nr_requester.proofs.Releases.{all_released, held_middle, stags_are_of}
-use Rattle.nr_requester.proofs.RegionBounds.{released_both}
-use Rattle.nr_requester.proofs.ChangedCalls.{changed_by, LeavesOthers, found_at, none_found, one_changed, none_changed, count_stays, each_stays, nth_of, rising_stays, from_stays, waiting_stays, claims_around, claims_changed, total_changed, apart_stays, others_answered}
+use Rattle.nr_requester.proofs.RegionBounds.{Both, bytes_count, released_both}
+use Rattle.nr_requester.proofs.ChangedCalls.{changed_by, LeavesOthers, found_at, none_found, one_changed, none_changed, count_stays, each_stays, nth_of, rising_stays, waiting_stays, claims_around, claims_changed, total_changed, apart_stays, others_answered}
 use Rattle.nr_requester.proofs.FoundAnswers.{all_left, distinct_left, fewer_left, none_taken}
 use Rattle.nr_link.specs.declared.end.End.{End}
 use Rattle.nr_reduce.specs.declared.call.Outcome.{Outcome}
@@ -36,7 +36,7 @@ forget_leaves c = refl
 
 -- any call: these have one
 pub given : (calls : List OutstandingCall) (at : ℕ) → OutstandingCall
-given calls at = get_or calls at (record { xid = 0; call = None; is_forgotten = false; offered = record { read = []; write = []; reply = None }; claims = no_claims; room = record { bytes = []; len = 0 } })
+given calls at = get_or calls at (record { xid = 0; send = 0; call = None; is_forgotten = false; offered = record { read = []; write = []; reply = None }; claims = no_claims; room = record { bytes = []; len = 0 } })
 
 -- ---- The regions of a call are released
 
@@ -70,27 +70,31 @@ given_up_sound link link2 len next grant room n calls calls2 answers d s lt link
       offers = each_stays OffersOwn n calls y tt s.offers;
       rooms = each_stays (HasRoom len) n calls y (let had = nth_of (HasRoom len) n calls d lt s.rooms in (let has = had.0 in omega (arith, has), had.1)) s.rooms;
       no_reads = s.no_reads;
-      rising = rising_stays next n calls y d refl lt s.rising;
+      rising = rising_stays xid_of next n calls y d refl lt s.rising;
       apart = apart_stays next n calls y d answers refl lt s.apart;
       has_room = (let has = s.has_room in omega (arith, has, count));
     } in
     subst (λ (l : LinkSide). RequesterInvariant len l next grant calls2 answers room) (sym link_is) (subst (λ (cs : List OutstandingCall). RequesterInvariant len after next grant cs answers room) (sym are) all)
 
-pub given_up_within : (e e2 : EndpointState) (len first next n : ℕ) (calls calls2 : List OutstandingCall) (answers : List AnsweredCall) (d : OutstandingCall) → RequesterBounds len e first next calls answers → AreHeldFrom e.link.state.memory 0 (all_claims calls) → n < length calls →
-    e2.staging ≡ e.staging → (NothingOutside e → NothingOutside e2) → e2.link ≡ with_memory (released_all e.link.state.memory (stags_of (get_or calls n d).claims)) e.link → calls2 ≡ set calls n (given_up (get_or calls n d)) → RequesterBounds len e2 first next calls2 answers
-given_up_within e e2 len first next n calls calls2 answers d w held lt same none link_is are =
+total_less : (size : ℕ → ℕ) (n : ℕ) (calls : List OutstandingCall) (d : OutstandingCall) → n < length calls → claims_total size calls - claims_size size (get_or calls n d).claims ≡ claims_total size (set calls n (given_up (get_or calls n d)))
+total_less size n calls d lt = (let sum = total_changed size n calls (given_up (get_or calls n d)) d lt in omega (arith, sum))
+
+pub given_up_within : (e e2 : EndpointState) (len sends next n : ℕ) (calls calls2 : List OutstandingCall) (answers : List AnsweredCall) (d : OutstandingCall) → RequesterBounds len e sends next calls answers → AreHeldFrom e.link.state.memory 0 (all_claims calls) → n < length calls →
+    e2.staging ≡ e.staging → (NothingOutside e → NothingOutside e2) → e2.link ≡ with_memory (released_all e.link.state.memory (stags_of (get_or calls n d).claims)) e.link → calls2 ≡ set calls n (given_up (get_or calls n d)) → RequesterBounds len e2 sends next calls2 answers
+given_up_within e e2 len sends next n calls calls2 answers d w held lt same none link_is are =
     let s : LinkState = e.link.state in
     let c : OutstandingCall = get_or calls n d in
     let y : OutstandingCall = given_up c in
     let left : List OutstandingCall = set calls n y in
     let memory : RegisteredMemory = released_all s.memory (stags_of c.claims) in
     let state : e2.link.state ≡ record s { memory = memory } = ap (λ (l : LinkSide). l.state) link_is in
-    let both = released_both s.memory c.claims (claims_total calls) (own_held s.memory n calls d lt held) (w.link.regions, w.regions) in
-    let sum : claims_total calls - claims_len c.claims ≡ claims_total left = omega (arith, total_changed n calls y d lt) in
-    let all : RequesterBounds len e2 first next left answers = record {
+    let both : (size : ℕ → ℕ) → IsCount size → Both size memory (claims_total size calls - claims_size size c.claims) =
+    λ size is. released_both size s.memory c.claims (claims_total size calls) (own_held s.memory n calls d lt held) (w.link.regions, w.regions size is) in
+    let sum : (size : ℕ → ℕ) → claims_total size calls - claims_size size c.claims ≡ claims_total size left = λ size. total_less size n calls d lt in
+    let all : RequesterBounds len e2 sends next left answers = record {
       staging = ap (λ (xs : List ℕ). length xs) same ∙ w.staging;
       outside = none w.outside;
-      from = from_stays first n calls y d refl lt w.from;
+      numbers = rising_stays send_of sends n calls y d refl lt w.numbers;
       order = w.order;
       link = subst (λ (x : LinkState). LinkFits len x) (sym state) (record {
         side = w.link.side;
@@ -102,16 +106,16 @@ given_up_within e e2 len first next n calls calls2 answers d w held lt same none
         hello = w.link.hello;
         queue = w.link.queue;
         responses = w.link.responses;
-        regions = both.0;
+        regions = (both in_bytes bytes_count).0;
       });
-      regions = subst (λ (x : LinkState). RegionsHave x.memory (claims_total left)) (sym state) (subst (λ (k : ℕ). RegionsHave memory k) sum both.1);
-      counts = subst (λ (x : LinkState). CountsFit first next x.send_queue left) (sym state)
-          (record { waiting = omega (arith, w.counts.waiting, waiting_stays first s.send_queue.sends_left n calls y d refl lt); numbered = w.counts.numbered });
-      each = each_stays (CallFits len) n calls y (record { call = omega arith; offer = omega arith; written = (nth_of (CallFits len) n calls d lt w.each).written; room = (nth_of (CallFits len) n calls d lt w.each).room; short = (nth_of (CallFits len) n calls d lt w.each).short }) w.each;
+      regions = λ size is. subst (λ (x : LinkState). RegionsHave size x.memory (claims_total size left)) (sym state) (subst (λ (k : ℕ). RegionsHave size memory k) (sum size) (both size is).1);
+      counts = subst (λ (x : LinkState). CountsFit sends x.send_queue left) (sym state)
+          (record { waiting = omega (arith, w.counts.waiting, waiting_stays s.send_queue.sends_left n calls y d refl lt); numbered = w.counts.numbered });
+      each = each_stays (CallFits len) n calls y (record { call = omega arith; offer = omega arith; segments = (nth_of (CallFits len) n calls d lt w.each).segments; written = (nth_of (CallFits len) n calls d lt w.each).written; room = (nth_of (CallFits len) n calls d lt w.each).room; short = (nth_of (CallFits len) n calls d lt w.each).short }) w.each;
       kept = w.kept;
       distinct = w.distinct;
     } in
-    subst (λ (cs : List OutstandingCall). RequesterBounds len e2 first next cs answers) (sym are) all
+    subst (λ (cs : List OutstandingCall). RequesterBounds len e2 sends next cs answers) (sym are) all
 
 -- ---- A call is forgotten
 
@@ -134,33 +138,36 @@ forgot_sound link len next grant room n calls calls2 answers d s lt are =
       offers = each_stays OffersOwn n calls y (nth_of OffersOwn n calls d lt s.offers) s.offers;
       rooms = each_stays (HasRoom len) n calls y (nth_of (HasRoom len) n calls d lt s.rooms) s.rooms;
       no_reads = s.no_reads;
-      rising = rising_stays next n calls y d refl lt s.rising;
+      rising = rising_stays xid_of next n calls y d refl lt s.rising;
       apart = apart_stays next n calls y d answers refl lt s.apart;
       has_room = (let has = s.has_room in omega (arith, has, count));
     } in
     subst (λ (cs : List OutstandingCall). RequesterInvariant len link next grant cs answers room) (sym are) all
 
-pub forgot_within : (e : EndpointState) (len first next n : ℕ) (calls calls2 : List OutstandingCall) (answers : List AnsweredCall) (d : OutstandingCall) → RequesterBounds len e first next calls answers → n < length calls → calls2 ≡ set calls n (forgot (get_or calls n d)) →
-    RequesterBounds len e first next calls2 answers
-forgot_within e len first next n calls calls2 answers d w lt are =
+total_same : (size : ℕ → ℕ) (n : ℕ) (calls : List OutstandingCall) (d : OutstandingCall) → n < length calls → claims_total size calls ≡ claims_total size (set calls n (forgot (get_or calls n d)))
+total_same size n calls d lt = (let sum = total_changed size n calls (forgot (get_or calls n d)) d lt in omega (arith, sum))
+
+pub forgot_within : (e : EndpointState) (len sends next n : ℕ) (calls calls2 : List OutstandingCall) (answers : List AnsweredCall) (d : OutstandingCall) → RequesterBounds len e sends next calls answers → n < length calls → calls2 ≡ set calls n (forgot (get_or calls n d)) →
+    RequesterBounds len e sends next calls2 answers
+forgot_within e len sends next n calls calls2 answers d w lt are =
     let c : OutstandingCall = get_or calls n d in
     let y : OutstandingCall = forgot c in
     let left : List OutstandingCall = set calls n y in
     let fits : CallFits len c = nth_of (CallFits len) n calls d lt w.each in
-    let sum : claims_total calls ≡ claims_total left = omega (arith, total_changed n calls y d lt) in
-    let all : RequesterBounds len e first next left answers = record {
+    let sum : (size : ℕ → ℕ) → claims_total size calls ≡ claims_total size left = λ size. total_same size n calls d lt in
+    let all : RequesterBounds len e sends next left answers = record {
       staging = w.staging;
       outside = w.outside;
-      from = from_stays first n calls y d refl lt w.from;
+      numbers = rising_stays send_of sends n calls y d refl lt w.numbers;
       order = w.order;
       link = w.link;
-      regions = subst (λ (k : ℕ). RegionsHave e.link.state.memory k) sum w.regions;
-      counts = record { waiting = omega (arith, w.counts.waiting, waiting_stays first e.link.state.send_queue.sends_left n calls y d refl lt); numbered = w.counts.numbered };
-      each = each_stays (CallFits len) n calls y (record { call = fits.call; offer = fits.offer; written = fits.written; room = fits.room; short = fits.short }) w.each;
+      regions = λ size is. subst (λ (k : ℕ). RegionsHave size e.link.state.memory k) (sum size) (w.regions size is);
+      counts = record { waiting = omega (arith, w.counts.waiting, waiting_stays e.link.state.send_queue.sends_left n calls y d refl lt); numbered = w.counts.numbered };
+      each = each_stays (CallFits len) n calls y (record { call = fits.call; offer = fits.offer; segments = fits.segments; written = fits.written; room = fits.room; short = fits.short }) w.each;
       kept = w.kept;
       distinct = w.distinct;
     } in
-    subst (λ (cs : List OutstandingCall). RequesterBounds len e first next cs answers) (sym are) all
+    subst (λ (cs : List OutstandingCall). RequesterBounds len e sends next cs answers) (sym are) all
 
 -- ---- An answer is taken
 
@@ -184,12 +191,12 @@ taken_sound link len next grant room room2 xid calls answers answers2 s are same
     } in
     subst (λ (ys : List AnsweredCall). RequesterInvariant len link next grant calls ys room2) (sym are) all
 
-pub taken_within : (e : EndpointState) (len first next xid : ℕ) (calls : List OutstandingCall) (answers answers2 : List AnsweredCall) → RequesterBounds len e first next calls answers → answers2 ≡ without_answer xid answers → RequesterBounds len e first next calls answers2
-taken_within e len first next xid calls answers answers2 w are =
-    let all : RequesterBounds len e first next calls (without_answer xid answers) = record {
+pub taken_within : (e : EndpointState) (len sends next xid : ℕ) (calls : List OutstandingCall) (answers answers2 : List AnsweredCall) → RequesterBounds len e sends next calls answers → answers2 ≡ without_answer xid answers → RequesterBounds len e sends next calls answers2
+taken_within e len sends next xid calls answers answers2 w are =
+    let all : RequesterBounds len e sends next calls (without_answer xid answers) = record {
       staging = w.staging;
       outside = w.outside;
-      from = w.from;
+      numbers = w.numbers;
       order = w.order;
       link = w.link;
       regions = w.regions;
@@ -198,25 +205,25 @@ taken_within e len first next xid calls answers answers2 w are =
       kept = all_left AnswerFits xid answers w.kept;
       distinct = distinct_left xid answers w.distinct;
     } in
-    subst (λ (ys : List AnsweredCall). RequesterBounds len e first next calls ys) (sym are) all
+    subst (λ (ys : List AnsweredCall). RequesterBounds len e sends next calls ys) (sym are) all
 
 -- ---- As contracts see it
 
 -- an outstanding call is revoked,
-pub given_up_view : (link link2 : LinkSide) (sent wished first next grant xid n : ℕ) (calls calls2 : List OutstandingCall) (answers : List AnsweredCall) (d : OutstandingCall) (staging staging2 : List ℕ) (marks marks2 : ℕ) → AreRising calls next → AllByRecursion (IsAnswered next calls) answers → n < length calls → (get_or calls n d).xid ≡ xid →
+pub given_up_view : (link link2 : LinkSide) (sent wished sends next grant xid n : ℕ) (calls calls2 : List OutstandingCall) (answers : List AnsweredCall) (d : OutstandingCall) (staging staging2 : List ℕ) (marks marks2 : ℕ) → AreRising calls next → AllByRecursion (IsAnswered next calls) answers → n < length calls → (get_or calls n d).xid ≡ xid →
     link2 ≡ with_memory (released_all link.state.memory (stags_of (get_or calls n d).claims)) link → calls2 ≡ set calls n (given_up (get_or calls n d)) → staging2 ≡ staging → marks2 ≡ one_mark_more marks →
-    side_view staging2 marks2 (requester_view link2 sent wished first next grant calls2 answers) ≡ after_revoke (side_view staging marks (requester_view link sent wished first next grant calls answers)) xid
+    side_view staging2 marks2 (requester_view link2 sent wished sends next grant calls2 answers) ≡ after_revoke (side_view staging marks (requester_view link sent wished sends next grant calls answers)) xid
 unfolding after_revoke
-given_up_view link link2 sent wished first next grant xid n calls calls2 answers d staging staging2 marks marks2 rise apart lt own link_is are stages counts =
+given_up_view link link2 sent wished sends next grant xid n calls calls2 answers d staging staging2 marks marks2 rise apart lt own link_is are stages counts =
     let c : OutstandingCall = get_or calls n d in
     let found = found_at next xid n calls d rise lt own in
     let none : answers ≡ without_answer xid answers = sym (none_taken xid answers (subst (λ (x : ℕ). AllByRecursion (λ (a : AnsweredCall). a.xid ≢ x) answers) own (others_answered next n calls d answers lt apart))) in
     let out : map stored_view calls2 ≡ map (changed_by revoked_if xid) (map stored_view calls) = ap (map stored_view) are ∙ one_changed revoked_if revoke_leaves next xid n calls (given_up c) d refl rise lt own in
-    (λ i. side_view (stages i) (counts i) (record (requester_view (link_is i) sent wished first next grant calls answers) {
-      state = record (requester_view (link_is i) sent wished first next grant calls answers).state { outstanding = out i; answered = none i };
+    (λ i. side_view (stages i) (counts i) (record (requester_view (link_is i) sent wished sends next grant calls answers) {
+      state = record (requester_view (link_is i) sent wished sends next grant calls answers).state { outstanding = out i; answered = none i };
     }))
-    ∙ (λ i. side_view staging (one_mark_more marks) (record (requester_view link sent wished first next grant calls answers) {
-      state = record (requester_view link sent wished first next grant calls answers).state {
+    ∙ (λ i. side_view staging (one_mark_more marks) (record (requester_view link sent wished sends next grant calls answers) {
+      state = record (requester_view link sent wished sends next grant calls answers).state {
         side = record link.state { memory = released_all link.state.memory (stags_in (sym found i)) };
         outstanding = map (changed_by revoked_if xid) (map stored_view calls);
         answered = without_answer xid answers;
@@ -224,14 +231,14 @@ given_up_view link link2 sent wished first next grant xid n calls calls2 answers
     }))
 
 -- and one that was answered;
-pub revoked_view : (link : LinkSide) (sent wished first next grant xid : ℕ) (calls : List OutstandingCall) (answers answers2 : List AnsweredCall) (staging : List ℕ) (marks marks2 : ℕ) → ((k : ℕ) (d : OutstandingCall) → k < length calls → (get_or calls k d).xid ≢ xid) → answers2 ≡ without_answer xid answers → marks2 ≡ one_mark_more marks →
-    side_view staging marks2 (requester_view link sent wished first next grant calls answers2) ≡ after_revoke (side_view staging marks (requester_view link sent wished first next grant calls answers)) xid
+pub revoked_view : (link : LinkSide) (sent wished sends next grant xid : ℕ) (calls : List OutstandingCall) (answers answers2 : List AnsweredCall) (staging : List ℕ) (marks marks2 : ℕ) → ((k : ℕ) (d : OutstandingCall) → k < length calls → (get_or calls k d).xid ≢ xid) → answers2 ≡ without_answer xid answers → marks2 ≡ one_mark_more marks →
+    side_view staging marks2 (requester_view link sent wished sends next grant calls answers2) ≡ after_revoke (side_view staging marks (requester_view link sent wished sends next grant calls answers)) xid
 unfolding after_revoke
-revoked_view link sent wished first next grant xid calls answers answers2 staging marks marks2 none are counts =
+revoked_view link sent wished sends next grant xid calls answers answers2 staging marks marks2 none are counts =
     let no_stags = ap stags_in (none_found xid calls none) in
     let out : map stored_view calls ≡ map (changed_by revoked_if xid) (map stored_view calls) = sym (none_changed revoked_if revoke_leaves xid calls none) in
-    λ i. side_view staging (counts i) (record (requester_view link sent wished first next grant calls answers) {
-      state = record (requester_view link sent wished first next grant calls answers).state {
+    λ i. side_view staging (counts i) (record (requester_view link sent wished sends next grant calls answers) {
+      state = record (requester_view link sent wished sends next grant calls answers).state {
         side = record link.state { memory = released_all link.state.memory (sym no_stags i) };
         outstanding = out i;
         answered = are i;
@@ -239,46 +246,46 @@ revoked_view link sent wished first next grant xid calls answers answers2 stagin
     })
 
 -- an outstanding call is forgotten,
-pub forgot_view : (link : LinkSide) (sent wished first next grant xid n : ℕ) (calls calls2 : List OutstandingCall) (answers : List AnsweredCall) (d : OutstandingCall) (staging : List ℕ) (marks marks2 : ℕ) → AreRising calls next → AllByRecursion (IsAnswered next calls) answers → n < length calls → (get_or calls n d).xid ≡ xid →
+pub forgot_view : (link : LinkSide) (sent wished sends next grant xid n : ℕ) (calls calls2 : List OutstandingCall) (answers : List AnsweredCall) (d : OutstandingCall) (staging : List ℕ) (marks marks2 : ℕ) → AreRising calls next → AllByRecursion (IsAnswered next calls) answers → n < length calls → (get_or calls n d).xid ≡ xid →
     calls2 ≡ set calls n (forgot (get_or calls n d)) → marks2 ≡ one_mark_more marks →
-    side_view staging marks2 (requester_view link sent wished first next grant calls2 answers) ≡ after_forget (side_view staging marks (requester_view link sent wished first next grant calls answers)) xid
+    side_view staging marks2 (requester_view link sent wished sends next grant calls2 answers) ≡ after_forget (side_view staging marks (requester_view link sent wished sends next grant calls answers)) xid
 unfolding after_forget
-forgot_view link sent wished first next grant xid n calls calls2 answers d staging marks marks2 rise apart lt own are counts =
+forgot_view link sent wished sends next grant xid n calls calls2 answers d staging marks marks2 rise apart lt own are counts =
     let c : OutstandingCall = get_or calls n d in
     let none : answers ≡ without_answer xid answers = sym (none_taken xid answers (subst (λ (x : ℕ). AllByRecursion (λ (a : AnsweredCall). a.xid ≢ x) answers) own (others_answered next n calls d answers lt apart))) in
     let out : map stored_view calls2 ≡ map (changed_by forgotten_if xid) (map stored_view calls) = ap (map stored_view) are ∙ one_changed forgotten_if forget_leaves next xid n calls (forgot c) d refl rise lt own in
-    λ i. side_view staging (counts i) (record (requester_view link sent wished first next grant calls answers) {
-      state = record (requester_view link sent wished first next grant calls answers).state { outstanding = out i; answered = none i };
+    λ i. side_view staging (counts i) (record (requester_view link sent wished sends next grant calls answers) {
+      state = record (requester_view link sent wished sends next grant calls answers).state { outstanding = out i; answered = none i };
     })
 
 -- and an answer is taken
-pub taken_view : (link : LinkSide) (sent wished first next grant xid : ℕ) (calls : List OutstandingCall) (answers answers2 : List AnsweredCall) (staging : List ℕ) (marks marks2 : ℕ) → ((k : ℕ) (d : OutstandingCall) → k < length calls → (get_or calls k d).xid ≢ xid) → answers2 ≡ without_answer xid answers → marks2 ≡ one_mark_more marks →
-    side_view staging marks2 (requester_view link sent wished first next grant calls answers2) ≡ after_forget (side_view staging marks (requester_view link sent wished first next grant calls answers)) xid
+pub taken_view : (link : LinkSide) (sent wished sends next grant xid : ℕ) (calls : List OutstandingCall) (answers answers2 : List AnsweredCall) (staging : List ℕ) (marks marks2 : ℕ) → ((k : ℕ) (d : OutstandingCall) → k < length calls → (get_or calls k d).xid ≢ xid) → answers2 ≡ without_answer xid answers → marks2 ≡ one_mark_more marks →
+    side_view staging marks2 (requester_view link sent wished sends next grant calls answers2) ≡ after_forget (side_view staging marks (requester_view link sent wished sends next grant calls answers)) xid
 unfolding after_forget
-taken_view link sent wished first next grant xid calls answers answers2 staging marks marks2 none are counts =
+taken_view link sent wished sends next grant xid calls answers answers2 staging marks marks2 none are counts =
     let out : map stored_view calls ≡ map (changed_by forgotten_if xid) (map stored_view calls) = sym (none_changed forgotten_if forget_leaves xid calls none) in
-    λ i. side_view staging (counts i) (record (requester_view link sent wished first next grant calls answers) {
-      state = record (requester_view link sent wished first next grant calls answers).state { outstanding = out i; answered = are i };
+    λ i. side_view staging (counts i) (record (requester_view link sent wished sends next grant calls answers) {
+      state = record (requester_view link sent wished sends next grant calls answers).state { outstanding = out i; answered = are i };
     })
 
 -- ---- What is handed back
 
-pub call_is : (link : LinkSide) (sent wished first next grant xid n : ℕ) (calls : List OutstandingCall) (answers : List AnsweredCall) (d : OutstandingCall) → AreRising calls next → n < length calls → (get_or calls n d).xid ≡ xid →
-    open_call xid (requester_view link sent wished first next grant calls answers).state ≡ awaited_call (stored_view (get_or calls n d))
-call_is link sent wished first next grant xid n calls answers d rise lt own = ap (λ (x : Option StoredCall). call_with x (find (λ (a : AnsweredCall). eqb a.xid xid) answers)) (found_at next xid n calls d rise lt own)
+pub call_is : (link : LinkSide) (sent wished sends next grant xid n : ℕ) (calls : List OutstandingCall) (answers : List AnsweredCall) (d : OutstandingCall) → AreRising calls next → n < length calls → (get_or calls n d).xid ≡ xid →
+    open_call xid (requester_view link sent wished sends next grant calls answers).state ≡ awaited_call (stored_view (get_or calls n d))
+call_is link sent wished sends next grant xid n calls answers d rise lt own = ap (λ (x : Option StoredCall). call_with x (find (λ (a : AnsweredCall). eqb a.xid xid) answers)) (found_at next xid n calls d rise lt own)
 
-pub buffers_of_one : (link : LinkSide) (sent wished first next grant xid n : ℕ) (calls : List OutstandingCall) (answers : List AnsweredCall) (d : OutstandingCall) → AreRising calls next → n < length calls → (get_or calls n d).xid ≡ xid →
-    buffers_of xid (requester_view link sent wished first next grant calls answers).state ≡ buffers_under link.state.memory (get_or calls n d).claims
-buffers_of_one link sent wished first next grant xid n calls answers d rise lt own = ap (λ (x : Option StoredCall). buffers_with link.state.memory x (find (λ (a : AnsweredCall). eqb a.xid xid) answers)) (found_at next xid n calls d rise lt own)
+pub buffers_of_one : (link : LinkSide) (sent wished sends next grant xid n : ℕ) (calls : List OutstandingCall) (answers : List AnsweredCall) (d : OutstandingCall) → AreRising calls next → n < length calls → (get_or calls n d).xid ≡ xid →
+    buffers_of xid (requester_view link sent wished sends next grant calls answers).state ≡ buffers_under link.state.memory (get_or calls n d).claims
+buffers_of_one link sent wished sends next grant xid n calls answers d rise lt own = ap (λ (x : Option StoredCall). buffers_with link.state.memory x (find (λ (a : AnsweredCall). eqb a.xid xid) answers)) (found_at next xid n calls d rise lt own)
 
 -- if it isn't outstanding
-pub call_answered : (link : LinkSide) (sent wished first next grant xid : ℕ) (calls : List OutstandingCall) (answers : List AnsweredCall) (answer : Option AnsweredCall) → ((k : ℕ) (d : OutstandingCall) → k < length calls → (get_or calls k d).xid ≢ xid) →
-    find (λ (a : AnsweredCall). eqb a.xid xid) answers ≡ answer → open_call xid (requester_view link sent wished first next grant calls answers).state ≡ call_with None answer
-call_answered link sent wished first next grant xid calls answers answer none is = λ i. call_with (none_found xid calls none i) (is i)
+pub call_answered : (link : LinkSide) (sent wished sends next grant xid : ℕ) (calls : List OutstandingCall) (answers : List AnsweredCall) (answer : Option AnsweredCall) → ((k : ℕ) (d : OutstandingCall) → k < length calls → (get_or calls k d).xid ≢ xid) →
+    find (λ (a : AnsweredCall). eqb a.xid xid) answers ≡ answer → open_call xid (requester_view link sent wished sends next grant calls answers).state ≡ call_with None answer
+call_answered link sent wished sends next grant xid calls answers answer none is = λ i. call_with (none_found xid calls none i) (is i)
 
-pub buffers_answered : (link : LinkSide) (sent wished first next grant xid : ℕ) (calls : List OutstandingCall) (answers : List AnsweredCall) (answer : Option AnsweredCall) → ((k : ℕ) (d : OutstandingCall) → k < length calls → (get_or calls k d).xid ≢ xid) →
-    find (λ (a : AnsweredCall). eqb a.xid xid) answers ≡ answer → buffers_of xid (requester_view link sent wished first next grant calls answers).state ≡ buffers_with link.state.memory None answer
-buffers_answered link sent wished first next grant xid calls answers answer none is = λ i. buffers_with link.state.memory (none_found xid calls none i) (is i)
+pub buffers_answered : (link : LinkSide) (sent wished sends next grant xid : ℕ) (calls : List OutstandingCall) (answers : List AnsweredCall) (answer : Option AnsweredCall) → ((k : ℕ) (d : OutstandingCall) → k < length calls → (get_or calls k d).xid ≢ xid) →
+    find (λ (a : AnsweredCall). eqb a.xid xid) answers ≡ answer → buffers_of xid (requester_view link sent wished sends next grant calls answers).state ≡ buffers_with link.state.memory None answer
+buffers_answered link sent wished sends next grant xid calls answers answer none is = λ i. buffers_with link.state.memory (none_found xid calls none i) (is i)
 
 -- ---- A mark more
 

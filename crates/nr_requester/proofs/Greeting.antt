@@ -150,14 +150,14 @@ hello_taken opened r k count frame keeps lt first = by (hello_of Responder frame
         (subst (λ (x : ClientState). LinkKeeps opened after.side x) (sym state_is)
         (subst (λ (bytes : List ℕ). LinkKeeps opened (after_frame f (record r.side { has_hello = true; send_queue = queue_hello bytes r.side.send_queue; private = own; agreed = agreed; message_max = most })) (with_hello opened k f)) (sym none)
         (link_greeted opened r.side k f own agreed most most_is most_fits link (omega (arith, lt)) no_hello)))
-        refl refl refl refl
+        refl refl refl
         ((λ i. (r.side.send_queue.hello ++ none i) ++ link.waiting no_hello i)
         ∙ (λ i. writable (sym (link.has_hello ∙ no_hello) i) r.side.send_queue ++ sym output_is i)) refl
         refl (inl (record { answered = refl; outstanding = refl; outcomes = ap (λ (x : ClientState). x.outcomes) state_is }))
     by (Err reason) e =
         let end : End = ends.Bad 0 reason in
         taken_ended opened r k count f (record r { side = with_end_of (ends.Bad f.at reason) r.side }) end keeps (end_is (Err reason) e)
-        (ap (λ (n : ℕ). record (kept_client r) { ended = Some (ends.Bad n reason) }) first) refl refl (omega (arith, lt))
+        (ap (λ (n : ℕ). record (kept_client r) { ended = Some (ends.Bad n reason) }) first) refl (omega (arith, lt))
         (no_last r.side.has_hello (link.has_hello ∙ no_hello)
         ∙ sym (append-nil (queue_of r)) ∙ ap (λ (xs : List ℕ). queue_of r ++ xs) (sym (no_output reason 0 (hello_reason r.side frame reason keeps.client.ended e))))
         refl refl refl

@@ -1,5 +1,5 @@
 -- What a requester keeps is bounded.
-use Rattle.std.proofs.Common.{◌≡◌, ℕ, zero, suc, ◌+◌, ◌*◌, ◌<◌, ◌≤◌, max, Bool, true, false, List, [], ◌∷◌, length, map, drop, get_or, sym, ap, subst, ◌∙◌, arith}
+use Rattle.std.proofs.Common.{◌≡◌, ℕ, zero, suc, ◌+◌, ◌*◌, ◌<◌, ◌≤◌, max, Bool, true, false, List, [], ◌∷◌, length, map, drop, get_or, refl, sym, ap, subst, ◌∙◌, arith}
 use Rattle.std.specs.List.{AllByRecursion}
 use Rattle.std.proofs.lemmas.List.{length-map, drop_more}
 use Rattle.nr_wire.specs.Constants.{FPDU_MAX}
@@ -11,9 +11,10 @@ use Rattle.nr_requester.specs.declared.outstanding.OutstandingCall.{OutstandingC
 use Rattle.nr_requester.specs.declared.answer.AnsweredCall.{AnsweredCall}
 use Rattle.nr_requester.specs.RequesterState.{StoredCall, RequesterState, RequesterSide}
 use Rattle.nr_requester.specs.Views.{stored_view, requester_view}
-use Rattle.nr_requester.specs.HeldBytes.{NothingOutside, stored_bytes, calls_bytes, rooms_bytes, bytes_held_by, held_unit, last_max, frame_max, send_frames_max, LinkFits, RegionsHave, claims_total, CallFits, answer_bytes, answers_bytes, AnswerFits, RequesterBounds, reply_room}
-use Rattle.nr_requester.proofs.OutputBounds.{count_fewer}
-use Rattle.nr_requester.proofs.ChangedCalls.{nth_of}
+use Rattle.nr_requester.specs.HeldBytes.{NothingOutside, stored_bytes, calls_bytes, rooms_bytes, rooms_total, bytes_held_by, held_unit, last_max, LinkFits, RegionsHave, in_bytes, claims_total, CallFits, answer_bytes, answers_bytes, AnswerFits, RequesterBounds}
+use Rattle.nr_endpoint.specs.OutputSizes.{frame_max, send_frames_max}
+use Rattle.nr_endpoint.proofs.SendQueues.{ends_left_fewer}
+use Rattle.nr_requester.proofs.RegionBounds.{bytes_count}
 use Rattle.nr_requester.proofs.Unsent.{few_wait}
 
 -- ---- The link
@@ -34,7 +35,7 @@ receives_small q len is few = by (receives_kept q) few
 abbrev pub link_max : ℕ
 link_max = 4 * held_unit
 
-all_bytes : (m : RegisteredMemory) (total : ℕ) → RegionsHave m total → total ≡ bytes_held m
+all_bytes : (m : RegisteredMemory) (total : ℕ) → RegionsHave in_bytes m total → total ≡ bytes_held m
 unfolding bytes_held
 all_bytes m total have = have.bytes_are
 
@@ -43,18 +44,18 @@ unfolding outside_held
 no_outside e s = sym s.bytes_are
 
 -- but for the frames of the Sends, each of which is that of a call
-pub link_bytes : (s : LinkState) (len total : ℕ) → LinkFits len s → RegionsHave s.memory total → receives_kept s.receive_queue ≤ 1 →
+pub link_bytes : (s : LinkState) (len total : ℕ) → LinkFits len s → RegionsHave in_bytes s.memory total → receives_kept s.receive_queue ≤ 1 →
     FPDU_MAX + bytes_of s ≤ link_max + total + send_frames_max * length s.send_queue.send_ends
 link_bytes s len total l have kept =
     let regions : total ≡ bytes_held s.memory = all_bytes s.memory total have in
     let receives = receives_small s.receive_queue len l.receive_length kept in
     let queue = l.queue 0 in
-    omega (arith, regions, receives, l.receive, queue, l.hello, l.responses, count_fewer 0 s.send_queue.send_ends, count_fewer 0 s.send_queue.response_ends, last_small (has_ended s))
+    omega (arith, regions, receives, l.receive, queue, l.hello, l.responses, ends_left_fewer 0 s.send_queue.send_ends, ends_left_fewer 0 s.send_queue.response_ends, last_small (has_ended s))
 
 -- ---- The calls
 
 pub each_small : (len : ℕ) (calls : List OutstandingCall) → AllByRecursion (CallFits len) calls →
-    claims_total calls + calls_bytes (map stored_view calls) + rooms_bytes len (map stored_view calls) + send_frames_max * length calls ≤ held_unit * length calls
+    claims_total in_bytes calls + calls_bytes (map stored_view calls) + rooms_bytes len (map stored_view calls) + send_frames_max * length calls ≤ held_unit * length calls
 each_small len [] h = omega arith
 each_small len (c ∷ calls) h = (let one = h.0 in omega (arith, one.call, one.offer, one.room, one.short, each_small len calls h.1))
 
@@ -66,13 +67,16 @@ one_counted calls i sum n all c lt is of so_far =
     let step : calls_bytes (map stored_view (drop i calls)) ≡ stored_bytes c.call + calls_bytes (map stored_view (drop (i + 1) calls)) = ap (λ (cs : List OutstandingCall). calls_bytes (map stored_view cs)) first in
     omega (arith, of, so_far, step)
 
-pub one_room : (len : ℕ) (calls : List OutstandingCall) (i sum n all : ℕ) (c : OutstandingCall) → i < length calls → c ≡ get_or calls i c → n ≡ c.room.len → AllByRecursion (CallFits len) calls →
-    sum + rooms_bytes len (map stored_view (drop i calls)) ≡ all → sum + n + rooms_bytes len (map stored_view (drop (i + 1) calls)) ≡ all
-one_room len calls i sum n all c lt is of fit so_far =
+pub one_room : (calls : List OutstandingCall) (i sum n all : ℕ) (c : OutstandingCall) → i < length calls → c ≡ get_or calls i c → n ≡ c.room.len → sum + rooms_total (drop i calls) ≡ all → sum + n + rooms_total (drop (i + 1) calls) ≡ all
+one_room calls i sum n all c lt is of so_far =
     let first : drop i calls ≡ c ∷ drop (i + 1) calls = drop_more calls i c lt ∙ ap (λ (x : OutstandingCall). x ∷ drop (i + 1) calls) (sym is) in
-    let step : rooms_bytes len (map stored_view (drop i calls)) ≡ reply_room len c.offered + rooms_bytes len (map stored_view (drop (i + 1) calls)) = ap (λ (cs : List OutstandingCall). rooms_bytes len (map stored_view cs)) first in
-    let own : c.room.len ≡ reply_room len c.offered = (subst (λ (x : OutstandingCall). CallFits len x) (sym is) (nth_of (CallFits len) i calls c lt fit)).room in
-    omega (arith, of, so_far, step, own)
+    let step : rooms_total (drop i calls) ≡ c.room.len + rooms_total (drop (i + 1) calls) = ap (λ (cs : List OutstandingCall). rooms_total cs) first in
+    omega (arith, of, so_far, step)
+
+-- the rooms are as long as a receive and the offers of the calls say
+pub rooms_are : (len : ℕ) (calls : List OutstandingCall) → AllByRecursion (CallFits len) calls → rooms_total calls ≡ rooms_bytes len (map stored_view calls)
+rooms_are len [] h = refl
+rooms_are len (c ∷ calls) h = (let own = h.0.room in omega (arith, own, rooms_are len calls h.1))
 
 -- ---- The answers
 
@@ -95,20 +99,20 @@ one_answer answers i sum n all a lt is of so_far =
 
 -- ---- Both
 
-pub held_is : (e : EndpointState) (len first next sent wished first_xid next_xid grant kept more rooms : ℕ) (calls : List OutstandingCall) (answers : List AnsweredCall) (rest : ℕ) (r : RequesterState) → (requester_view e.link sent wished first_xid next_xid grant calls answers).state ≡ r → RequesterBounds len e first next calls answers →
+pub held_is : (e : EndpointState) (len sends next sent wished grant kept more rooms : ℕ) (calls : List OutstandingCall) (answers : List AnsweredCall) (rest : ℕ) (r : RequesterState) → (requester_view e.link sent wished sends next grant calls answers).state ≡ r → RequesterBounds len e sends next calls answers →
     kept ≡ bytes_kept e → more ≡ calls_bytes (map stored_view calls) → rooms ≡ rooms_bytes len (map stored_view calls) → rest ≡ answers_bytes answers → kept + more + rooms + rest ≡ bytes_held_by r
 unfolding bytes_held_by
-held_is e len first next sent wished first_xid next_xid grant kept more rooms calls answers rest r is w kept_is more_is rooms_is rest_is =
+held_is e len sends next sent wished grant kept more rooms calls answers rest r is w kept_is more_is rooms_is rest_is =
     let here : FPDU_MAX + bytes_of e.link.state + calls_bytes (map stored_view calls) + rooms_bytes e.link.state.receive_queue.receive_length (map stored_view calls) + answers_bytes answers ≡ bytes_held_by r = ap bytes_held_by is in
     let same : rooms_bytes e.link.state.receive_queue.receive_length (map stored_view calls) ≡ rooms_bytes len (map stored_view calls) = ap (λ (n : ℕ). rooms_bytes n (map stored_view calls)) w.link.receive_length in
     omega (arith, here, same, w.staging, no_outside e w.outside, kept_is, more_is, rooms_is, rest_is)
 
-pub held_bound : (e : EndpointState) (len first next kept more rooms : ℕ) (calls : List OutstandingCall) (answers : List AnsweredCall) → RequesterBounds len e first next calls answers → receives_kept e.link.state.receive_queue + e.link.state.receive_queue.lent ≡ e.link.state.receive_queue.receives →
+pub held_bound : (e : EndpointState) (len sends next kept more rooms : ℕ) (calls : List OutstandingCall) (answers : List AnsweredCall) → RequesterBounds len e sends next calls answers → receives_kept e.link.state.receive_queue + e.link.state.receive_queue.lent ≡ e.link.state.receive_queue.receives →
     kept ≡ bytes_kept e → more ≡ calls_bytes (map stored_view calls) → rooms ≡ rooms_bytes len (map stored_view calls) → kept + more + rooms ≤ held_unit * (length calls + 4)
-held_bound e len first next kept more rooms calls answers w receives kept_is more_is rooms_is =
+held_bound e len sends next kept more rooms calls answers w receives kept_is more_is rooms_is =
     let s1 : LinkState = e.link.state in
-    let link = link_bytes s1 len (claims_total calls) w.link w.regions (omega (arith, receives, w.link.receives)) in
-    let waiting : length s1.send_queue.send_ends ≤ length calls = omega (arith, w.counts.waiting, few_wait first s1.send_queue.sends_left calls) in
+    let link = link_bytes s1 len (claims_total in_bytes calls) w.link (w.regions in_bytes bytes_count) (omega (arith, receives, w.link.receives)) in
+    let waiting : length s1.send_queue.send_ends ≤ length calls = omega (arith, w.counts.waiting, few_wait s1.send_queue.sends_left calls) in
     omega (arith, link, waiting, w.staging, no_outside e w.outside, kept_is, more_is, rooms_is, each_small len calls w.each)
 
 pub held_most : (wished kept rest : ℕ) (calls : List OutstandingCall) (answers : List AnsweredCall) (h : RequesterSide) → h.state.wished ≡ wished → h.state.outstanding ≡ map stored_view calls → h.state.answered ≡ answers → kept ≤ held_unit * (length calls + 4) → rest ≤ held_unit * length answers →

@@ -19,6 +19,7 @@ use Rattle.nr_requester.specs.declared.outstanding.OutstandingCall.{OutstandingC
 use Rattle.nr_requester.specs.HeldClaims.{claim_list, call_claims, all_claims, AreHeldFrom, SentHeld, OffersOwn}
 use Rattle.nr_requester.specs.declared.answer.AnsweredCall.{AnsweredCall}
 use Rattle.nr_requester.proofs.Releases.{from_lower}
+use Rattle.nr_requester.specs.HeldBytes.{xid_of, AreRisingBy}
 use Rattle.nr_requester.specs.Views.{claim_len, HasRoom, AreRising, IsAnswered, RequesterInvariant}
 use Rattle.std.proofs.lemmas.List.{length-replicate}
 use Rattle.nr_link.specs.declared.agreement.SideTerms.{SideTerms}
@@ -105,11 +106,11 @@ own_room len m p o is has =
     within n true count = (let len = length-replicate {A = ℕ} count 0 in omega (arith, len))
     within n false count = omega arith
 
-rising_append : (xs : List OutstandingCall) (o : OutstandingCall) (next : ℕ) → AreRising xs next → o.xid ≡ next → AreRising (xs ++ o ∷ []) (next + 1)
-rising_append [] o next h own = (omega (arith, own), (tt, tt))
-rising_append (x ∷ xs) o next h own = ((let lt = h.0 in omega (arith, lt)), (above xs h.1.0, rising_append xs o next h.1.1 own))
+pub rising_append : (number : OutstandingCall → ℕ) (xs : List OutstandingCall) (o : OutstandingCall) (next : ℕ) → AreRisingBy number xs next → number o ≡ next → AreRisingBy number (xs ++ o ∷ []) (next + 1)
+rising_append number [] o next h own = (omega (arith, own), (tt, tt))
+rising_append number (x ∷ xs) o next h own = ((let lt = h.0 in omega (arith, lt)), (above xs h.1.0, rising_append number xs o next h.1.1 own))
   where
-    above : (cs : List OutstandingCall) → AllByRecursion (λ (d : OutstandingCall). x.xid < d.xid) cs → AllByRecursion (λ (d : OutstandingCall). x.xid < d.xid) (cs ++ o ∷ [])
+    above : (cs : List OutstandingCall) → AllByRecursion (λ (d : OutstandingCall). number x < number d) cs → AllByRecursion (λ (d : OutstandingCall). number x < number d) (cs ++ o ∷ [])
     above [] g = ((let lt = h.0 in omega (arith, lt, own)), tt)
     above (c ∷ cs) g = (g.0, above cs g.1)
 
@@ -151,7 +152,7 @@ sent_sound link link2 size xid grant room room2 items items2 answers answers2 o 
       offers = subst (λ (xs : List OutstandingCall). AllByRecursion OffersOwn xs) (sym more) (offers_append items o s.offers own);
       rooms = subst (λ (xs : List OutstandingCall). AllByRecursion (HasRoom size) xs) (sym more) (rooms_append size items o s.rooms has);
       no_reads = reads ∙ s.no_reads;
-      rising = subst (λ (xs : List OutstandingCall). AreRising xs (xid + 1)) (sym more) (rising_append items o xid s.rising number);
+      rising = subst (λ (xs : List OutstandingCall). AreRising xs (xid + 1)) (sym more) (rising_append xid_of items o xid s.rising number);
       apart = subst (λ (ys : List AnsweredCall). AllByRecursion (IsAnswered (xid + 1) items2) ys) (sym same)
           (subst (λ (xs : List OutstandingCall). AllByRecursion (IsAnswered (xid + 1) xs) answers) (sym more) (apart_append xid items o answers number s.apart));
       has_room = omega (arith, len, count, more_room);

@@ -1,11 +1,13 @@
 -- How long the lists of a requester are.
 use Rattle.std.proofs.Common.{◌≡◌, ◌≢◌, ℕ, zero, suc, ◌+◌, ◌*◌, ◌<◌, ◌≤◌, Bool, true, false, not, cond, eqb, List, [], ◌∷◌, ◌++◌, length, map, Option, None, Some, refl, sym, ap, subst, ◌∙◌, inl, inr, arith, length-append}
 use Rattle.std.specs.Prelude.{is_some, IfSome}
-use Rattle.std.specs.List.{AllByRecursion, find}
+use Rattle.std.specs.List.{AllByRecursion, find, sum_by}
+use Rattle.std.specs.FinMap.{values}
 use Rattle.std.proofs.lemmas.Bool.{cases_lt, eqb-true, eq-eqb, ne_eqb}
 use Rattle.std.proofs.lemmas.List.{length-map}
+use Rattle.std.proofs.lemmas.List.Sums.{sum_by-cons}
 use Rattle.nr_header.specs.declared.header.RdmaSegment.{RdmaSegment}
-use Rattle.nr_regions.specs.RegisteredMemory.{Claim}
+use Rattle.nr_regions.specs.RegisteredMemory.{Claim, Region, RegisteredMemory}
 use Rattle.nr_reduce.specs.declared.call.Call.{Call}
 use Rattle.nr_endpoint.specs.EndpointState.{EndpointState}
 use Rattle.nr_endpoint.specs.declared.offering.Claims.{Claims}
@@ -16,8 +18,8 @@ use Rattle.nr_requester.specs.OpenCalls.{open_call}
 use Rattle.nr_requester.specs.AfterCalls.{without_answer}
 use Rattle.nr_requester.specs.HeldClaims.{IsWriteOf, IsOfferOf, OffersOwn}
 use Rattle.nr_requester.specs.Views.{RequesterInvariant, IsAnswered, stored_view, requester_view}
-use Rattle.nr_requester.specs.HeldBytes.{AreDistinct, RequesterBounds}
-use Rattle.nr_requester.specs.KeptLists.{ListsFit, OffersOneWrite, regions_kept}
+use Rattle.nr_requester.specs.HeldBytes.{AreDistinct, IsCount, region_size, RegionsHave, claim_size, claims_total, segments_offered, offered_segments_max, CallFits, RequesterBounds}
+use Rattle.nr_requester.specs.KeptLists.{ListsFit, OffersOneWrite, regions_kept, regions_held}
 use Rattle.nr_requester.proofs.FoundAnswers.{distinct_left, none_taken}
 use Rattle.nr_requester.proofs.Tickets.{AreApart, are_apart, answered_open}
 use Rattle.nr_requester.proofs.Unsent.{few_wait}
@@ -35,6 +37,34 @@ three_stags c =
 few_regions : (calls : List StoredCall) → regions_kept calls ≤ 3 * length calls
 few_regions [] = omega arith
 few_regions (c ∷ calls) = omega (arith, three_stags c.claims, few_regions calls)
+
+-- the regions in number are those of the calls
+abbrev in_number : ℕ → ℕ
+in_number len = 1
+
+number_counts : IsCount in_number
+number_counts len = omega arith
+
+one_claim : (claim : Option Claim) → claim_size in_number claim ≡ length (stag_of claim)
+one_claim None = refl
+one_claim (Some claim) = refl
+
+all_regions : (calls : List OutstandingCall) → claims_total in_number calls ≡ regions_kept (map stored_view calls)
+all_regions [] = refl
+all_regions (o ∷ calls) =
+    let c : Claims = o.claims in
+    omega (arith, one_claim c.read, one_claim c.write, one_claim c.reply, length-append (stag_of c.read) (stag_of c.write ++ stag_of c.reply), length-append (stag_of c.write) (stag_of c.reply), all_regions calls)
+
+each_one : (rs : List Region) → sum_by (region_size in_number) rs ≡ length rs
+each_one [] = refl
+each_one (r ∷ rs) = omega (arith, sum_by-cons (region_size in_number) r rs, each_one rs)
+
+regions_are : (m : RegisteredMemory) (calls : List OutstandingCall) → RegionsHave in_number m (claims_total in_number calls) → regions_held m ≡ regions_kept (map stored_view calls)
+regions_are m calls have = (let counted = have.bytes_are in omega (arith, counted, each_one (values m.held), all_regions calls))
+
+few_segments : (len : ℕ) (calls : List OutstandingCall) → AllByRecursion (CallFits len) calls → AllByRecursion (λ (c : StoredCall). segments_offered c.offered ≤ offered_segments_max) (map stored_view calls)
+few_segments len [] h = tt
+few_segments len (o ∷ calls) h = (h.0.segments, few_segments len calls h.1)
 
 one_write : (claim : Option Claim) (chunks : List (List RdmaSegment)) → IsWriteOf claim chunks → length chunks ≤ 1
 one_write claim [] is = omega arith
@@ -119,19 +149,21 @@ all_open r (a ∷ answers) apart found = (answered_open r a.xid a apart found.0,
 
 -- ---- All
 
-pub lists_fit : (e : EndpointState) (len sent wished first next grant : ℕ) (calls : List OutstandingCall) (answers : List AnsweredCall) (room : ℕ) →
-    RequesterInvariant len e.link next grant calls answers room → RequesterBounds len e first next calls answers → ListsFit (requester_view e.link sent wished first next grant calls answers).state
-lists_fit e len sent wished first next grant calls answers room i w =
-    let r : RequesterState = (requester_view e.link sent wished first next grant calls answers).state in
+pub lists_fit : (e : EndpointState) (len sent wished sends next grant : ℕ) (calls : List OutstandingCall) (answers : List AnsweredCall) (room : ℕ) →
+    RequesterInvariant len e.link next grant calls answers room → RequesterBounds len e sends next calls answers → ListsFit (requester_view e.link sent wished sends next grant calls answers).state
+lists_fit e len sent wished sends next grant calls answers room i w =
+    let r : RequesterState = (requester_view e.link sent wished sends next grant calls answers).state in
     let count : length (map stored_view calls) ≡ length calls = length-map calls stored_view in
     record {
       outstanding = omega (arith, i.few, count);
       regions = few_regions (map stored_view calls);
+      memory = regions_are e.link.state.memory calls (w.regions in_number number_counts);
       writes = few_writes calls i.offers;
+      segments = few_segments len calls w.each;
       answers = few_answers next answers w.distinct (given next calls answers i.apart);
       distinct = w.distinct;
       tickets = all_open r answers (are_apart r next calls refl i.rising i.apart) (all_found answers w.distinct);
-      sends = omega (arith, count, w.counts.waiting, few_wait first e.link.state.send_queue.sends_left calls);
+      sends = omega (arith, count, w.counts.waiting, few_wait e.link.state.send_queue.sends_left calls);
       responses = w.link.responses;
       receives = w.link.receives;
       events = i.none_waits;

@@ -26,13 +26,13 @@ sent_is opened s k keeps le = by k.has_hello refl
   where
     by : (b : Bool) → k.has_hello ≡ b → s.send_queue.sends_left ≡ reduce.ends_written k.written k.send_ends
     by true is =
-        let many : length k.send_ends ≡ k.calls_accepted = ap (λ (b : Bool). length (sends_ends b opened k)) (sym is) ∙ keeps.numbered in
+        let many : length k.send_ends ≡ k.sends = ap (λ (b : Bool). length (sends_ends b opened k)) (sym is) ∙ keeps.numbered in
         let waits : length s.send_queue.send_ends ≡ reduce.ends_waiting k.written k.send_ends = keeps.sends.count ∙ ap (λ (b : Bool). reduce.ends_waiting k.written (sends_ends b opened k)) is in
         let left = keeps.left in
         omega (arith, many, waits, left, left_or_waiting k.written k.send_ends)
     by false is =
         let none : reduce.ends_written k.written k.send_ends ≡ 0 = ap (reduce.ends_written k.written) (keeps.none_due is) in
-        let many : length (call_ends opened k.due 1 k.outstanding) ≡ k.calls_accepted = ap (λ (b : Bool). length (sends_ends b opened k)) (sym is) ∙ keeps.numbered in
+        let many : length (call_ends opened k.due 1 k.outstanding) ≡ k.sends = ap (λ (b : Bool). length (sends_ends b opened k)) (sym is) ∙ keeps.numbered in
         let waits : length s.send_queue.send_ends ≡ reduce.ends_waiting k.written (call_ends opened k.due 1 k.outstanding) = keeps.sends.count ∙ ap (λ (b : Bool). reduce.ends_waiting k.written (sends_ends b opened k)) is in
         let all = all_wait k.written (call_ends opened k.due 1 k.outstanding) (calls_later opened k.written k.due 1 k.outstanding le) in
         let left = keeps.left in
@@ -58,7 +58,7 @@ waits_on false n q e le =
     let none : n - length q.hello ≡ 0 = omega (arith, le, all) in
     ap (λ (m : ℕ). drop m q.fpdus) none)
 
-pub link_drained : (opened : LinkParameters) (s : LinkState) (k : ClientState) (n : ℕ) → n ≤ length (writable s.has_hello s.send_queue) → k.calls_accepted ≤ 2 ^ 32 → LinkKeeps opened s k → LinkKeeps opened (drained n s) (record k { written = k.written + n })
+pub link_drained : (opened : LinkParameters) (s : LinkState) (k : ClientState) (n : ℕ) → n ≤ length (writable s.has_hello s.send_queue) → k.sends ≤ 2 ^ 32 → LinkKeeps opened s k → LinkKeeps opened (drained n s) (record k { written = k.written + n })
 unfolding written
 link_drained opened s k n le few keeps =
     let hello : List ℕ = s.send_queue.hello in
@@ -94,14 +94,14 @@ pub planned : (k : ClientState) (a : AcceptedCall) (plan : Plan) → plan_for k 
 planned k a plan is = ap (λ (r : Result Plan TooLarge). plan_or (call_payload a.xid a.call) r) is
 
 -- the Send of the call, as it is queued
-sent_by : (opened : LinkParameters) (s : LinkState) (k : ClientState) (o : OutstandingCall) → s.send_queue.last_send ≡ msn_word k.calls_accepted →
-    send (next_number s.send_queue.last_send) (call_message o.xid opened.wished o.stag o.plan) ≡ call_output opened (k.calls_accepted + 1) o
+sent_by : (opened : LinkParameters) (s : LinkState) (k : ClientState) (o : OutstandingCall) → s.send_queue.last_send ≡ msn_word k.sends →
+    send (next_number s.send_queue.last_send) (call_message o.xid opened.wished o.stag o.plan) ≡ call_output opened (k.sends + 1) o
 sent_by opened s k o number =
-    send_word (next_number s.send_queue.last_send) (k.calls_accepted + 1) (call_message o.xid opened.wished o.stag o.plan)
-    (ap (λ (n : ℕ). msn_word (msn_word (n + 1))) number ∙ ap msn_word (next_word k.calls_accepted) ∙ word_word (k.calls_accepted + 1))
+    send_word (next_number s.send_queue.last_send) (k.sends + 1) (call_message o.xid opened.wished o.stag o.plan)
+    (ap (λ (n : ℕ). msn_word (msn_word (n + 1))) number ∙ ap msn_word (next_word k.sends) ∙ word_word (k.sends + 1))
 
-message_sent : (opened : LinkParameters) (s : LinkState) (k : ClientState) (a : AcceptedCall) (plan : Plan) → s.send_queue.last_send ≡ msn_word k.calls_accepted → plan_for k a.xid a.call a.form ≡ Ok plan →
-    send_output s.send_queue (call_message a.xid opened.wished k.stag plan) ≡ call_output opened (k.calls_accepted + 1) (outstanding_of k a)
+message_sent : (opened : LinkParameters) (s : LinkState) (k : ClientState) (a : AcceptedCall) (plan : Plan) → s.send_queue.last_send ≡ msn_word k.sends → plan_for k a.xid a.call a.form ≡ Ok plan →
+    send_output s.send_queue (call_message a.xid opened.wished k.stag plan) ≡ call_output opened (k.sends + 1) (outstanding_of k a)
 message_sent opened s k a plan number is =
     ap (λ (p : Plan). send (next_number s.send_queue.last_send) (call_message a.xid opened.wished k.stag p)) (sym (planned k a plan is)) ∙ sent_by opened s k (outstanding_of k a) number
 
@@ -121,7 +121,7 @@ module _ (opened : LinkParameters) (s : LinkState) (k : ClientState) (count : �
   o = outstanding_of k a
 
   abbrev pub out : List ℕ
-  out = call_output opened (k.calls_accepted + 1) o
+  out = call_output opened (k.sends + 1) o
 
   abbrev pub message : List ℕ
   message = call_message a.xid opened.wished k.stag plan
@@ -150,7 +150,7 @@ module _ (opened : LinkParameters) (s : LinkState) (k : ClientState) (count : �
       (let due = due_by false e in
       let none : length (s.send_queue.hello ++ []) ≡ length s.send_queue.hello = ap (λ (xs : List ℕ). length xs) (append-nil s.send_queue.hello) in
       let zero_more : k.due + 0 ≡ k.due = omega arith in
-      let many : 1 + length k.outstanding ≡ k.calls_accepted + 1 = (let n : length (call_ends opened k.due 1 k.outstanding) ≡ k.calls_accepted = ap (λ (b : Bool). length (sends_ends b opened k)) (sym e) ∙ keeps.numbered in omega (arith, n, ends_many opened k.due 1 k.outstanding)) in
+      let many : 1 + length k.outstanding ≡ k.sends + 1 = (let n : length (call_ends opened k.due 1 k.outstanding) ≡ k.sends = ap (λ (b : Bool). length (sends_ends b opened k)) (sym e) ∙ keeps.numbered in omega (arith, n, ends_many opened k.due 1 k.outstanding)) in
       let queue : length s.send_queue.fpdus ≡ length (calls_output opened 1 k.outstanding) = ap (λ (xs : List ℕ). length xs) (keeps.waiting e) in
       let at : k.due + length (calls_output opened 1 k.outstanding) + length (call_output opened (1 + length k.outstanding) o) ≡ k.written + length s.send_queue.hello + length s.send_queue.fpdus + length out =
       ap (λ (n : ℕ). k.due + length (calls_output opened 1 k.outstanding) + length (call_output opened n o)) many ∙ omega (arith, due, none, queue) in
@@ -163,7 +163,7 @@ module _ (opened : LinkParameters) (s : LinkState) (k : ClientState) (count : �
   link_submitted =
       let ends_are : sends_ends k.has_hello opened k2 ≡ all_ends k.has_hello ++ (k.written + length s.send_queue.hello + length s.send_queue.fpdus + length out) ∷ [] = same k.has_hello ∙ sends_by k.has_hello refl in
       let more : HasEnds k.written (length s.send_queue.hello) (all_ends k.has_hello ++ (k.written + length s.send_queue.hello + length s.send_queue.fpdus + length out) ∷ []) (s.send_queue.send_ends ++ length (s.send_queue.fpdus ++ out) ∷ []) =
-      ends_more k.written (length s.send_queue.hello) (k.written + length s.send_queue.hello + length s.send_queue.fpdus) s.send_queue.fpdus out (all_ends k.has_hello) s.send_queue.send_ends keeps.sends refl (output_some opened (k.calls_accepted + 1) o) in
+      ends_more k.written (length s.send_queue.hello) (k.written + length s.send_queue.hello + length s.send_queue.fpdus) s.send_queue.fpdus out (all_ends k.has_hello) s.send_queue.send_ends keeps.sends refl (output_some opened (k.sends + 1) o) in
       record {
         side = keeps.side;
         has_hello = keeps.has_hello;
@@ -176,10 +176,10 @@ module _ (opened : LinkParameters) (s : LinkState) (k : ClientState) (count : �
         none_lent = keeps.none_lent;
         none_waits = keeps.none_waits;
         no_reads = keeps.no_reads;
-        number = ap (λ (n : ℕ). msn_word (n + 1)) keeps.number ∙ next_word k.calls_accepted;
+        number = ap (λ (n : ℕ). msn_word (n + 1)) keeps.number ∙ next_word k.sends;
         waiting = λ none.
             (λ i. keeps.waiting none i ++ queued i)
-            ∙ ap (λ (n : ℕ). calls_output opened 1 k.outstanding ++ call_output opened n o) (let many : length (call_ends opened k.due 1 k.outstanding) ≡ k.calls_accepted = ap (λ (b : Bool). length (sends_ends b opened k)) (sym none) ∙ keeps.numbered in omega (arith, many, ends_many opened k.due 1 k.outstanding))
+            ∙ ap (λ (n : ℕ). calls_output opened 1 k.outstanding ++ call_output opened n o) (let many : length (call_ends opened k.due 1 k.outstanding) ≡ k.sends = ap (λ (b : Bool). length (sends_ends b opened k)) (sym none) ∙ keeps.numbered in omega (arith, many, ends_many opened k.due 1 k.outstanding))
             ∙ sym (output_append opened 1 k.outstanding o);
         none_due = λ none. (λ i. k.send_ends ++ cond (none i) ((k.due + length (cond (none i) out [])) ∷ []) []) ∙ append-nil k.send_ends ∙ keeps.none_due none;
         sends = subst (λ (xs : List ℕ). HasEnds k.written (length s.send_queue.hello) xs (s.send_queue.send_ends ++ length (s.send_queue.fpdus ++ send_output s.send_queue message) ∷ [])) (sym ends_are)

@@ -46,7 +46,6 @@ lost_client opened link h run xid end is s =
     let keeps : ClientKeeps opened (kept_revoked (kept_client h.state) xid) e count =
     subst (λ (x : EndState ClientState). ClientKeeps opened (kept_revoked (kept_client h.state) xid) x count) same (kept_revokes opened (kept_client h.state) e count xid s.kept.keeps) in
     record {
-      first = s.first;
       wished = s.wished;
       kept = subst (λ (x : KeptClient). ClientRepresents opened link x (input_kept h) (queue_of h.state) run) (kept_after_revoke h xid)
           (record { keeps = keeps; received = s.kept.received; output = s.kept.output });

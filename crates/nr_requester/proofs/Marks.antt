@@ -29,6 +29,7 @@ use Rattle.nr_reduce.specs.Standing.{ClientRepresents, ClientRunsOut}
 use Rattle.nr_reduce.proofs.Steps.{client_one}
 use Rattle.nr_reduce.proofs.Standing.{itself, client_stays_out_lem, client_begins_lem}
 use Rattle.nr_reduce.proofs.KeptMarks.{revoke_stands_lem, revoke_stays_out, wrote_stands, other_stands}
+use Rattle.nr_reduce.proofs.XidsFollow.{next_xid_follows}
 use Rattle.nr_reduce.proofs.CountedBytes.{client_bytes_written, client_bytes_due}
 use Rattle.nr_requester.specs.RequesterState.{RequesterSide, queue_of, kept_client, input_kept}
 use Rattle.nr_requester.specs.Standing.{LinkKeeps, KeepsClient}
@@ -60,9 +61,9 @@ due_is opened link h run s none =
     let all : length (bytes_sent link Initiator run ++ queue_of h.state) ≡ length (output_due opened link Initiator run) = ap (λ (xs : List ℕ). length xs) s.kept.output in
     omega (arith, due, wrote, all, length-append (bytes_sent link Initiator run) (queue_of h.state))
 
--- its next xid counts the calls that it accepted
-pub numbers : (opened : LinkParameters) (link : ℕ) (h : RequesterSide) (run : List Mark) → KeepsClient opened link h run → h.state.next_xid ≡ h.state.first_xid + (state_of opened link run).calls_accepted
-numbers opened link h run s = (let xid = s.kept.keeps.xid in let first = s.first in omega (arith, xid, first))
+-- it counts the Sends that have a number
+pub numbers : (opened : LinkParameters) (link : ℕ) (h : RequesterSide) (run : List Mark) → KeepsClient opened link h run → h.state.sends ≡ (state_of opened link run).sends
+numbers opened link h run s = s.kept.keeps.sends
 
 pub own_events : (link : ℕ) (es : List RunEvent) → if_own (eqb link link && true) es ≡ es
 own_events link es = ap (λ (b : Bool). if_own (b && true) es) (itself link)
@@ -97,9 +98,9 @@ drain_input : (h : RequesterSide) (n : ℕ) → input_kept (after_drain n h) ≡
 unfolding after_drain
 drain_input h n = refl
 
-drain_first : (h : RequesterSide) (n : ℕ) → ((after_drain n h).state.first_xid ≡ h.state.first_xid) × ((after_drain n h).state.wished ≡ h.state.wished)
+drain_wished : (h : RequesterSide) (n : ℕ) → (after_drain n h).state.wished ≡ h.state.wished
 unfolding after_drain
-drain_first h n = (refl, refl)
+drain_wished h n = refl
 
 drain_queue : (h : RequesterSide) (n : ℕ) → queue_of (after_drain n h).state ≡ drop n (queue_of h.state)
 unfolding after_drain
@@ -118,11 +119,10 @@ taken_len n xs le = omega (arith, length-take n xs, le)
 pub drain_stands : (h : RequesterSide) (n : ℕ) → n ≤ length (queue_of h.state) → h.state.next_xid ≤ 2 ^ 32 → (opened : LinkParameters) (link : ℕ) (run : List Mark) → KeepsClient opened link h run →
     KeepsClient opened link (after_drain n h) (run ++ marks.Wrote link Initiator (take n (queue_of h.state)) ∷ [])
 drain_stands h n le fits opened link run s = record {
-  first = (drain_first h n).0 ∙ s.first;
-  wished = (drain_first h n).1 ∙ s.wished;
-  kept = subst (λ (k : KeptClient). ClientRepresents opened link k (input_kept (after_drain n h)) (queue_of (after_drain n h).state) (run ++ mark ∷ [])) (kept_drained h n opened.first_xid s.first)
-      (subst (λ (i : InputState). ClientRepresents opened link (kept_sent opened.first_xid (sent_after n h) (kept_client h.state)) i (queue_of (after_drain n h).state) (run ++ mark ∷ [])) (sym (drain_input h n))
-      (subst (λ (q : List ℕ). ClientRepresents opened link (kept_sent opened.first_xid (sent_after n h) (kept_client h.state)) (input_kept h) q (run ++ mark ∷ [])) (sym (drain_queue h n))
+  wished = drain_wished h n ∙ s.wished;
+  kept = subst (λ (k : KeptClient). ClientRepresents opened link k (input_kept (after_drain n h)) (queue_of (after_drain n h).state) (run ++ mark ∷ [])) (kept_drained h n)
+      (subst (λ (i : InputState). ClientRepresents opened link (kept_sent (sent_after n h) (kept_client h.state)) i (queue_of (after_drain n h).state) (run ++ mark ∷ [])) (sym (drain_input h n))
+      (subst (λ (q : List ℕ). ClientRepresents opened link (kept_sent (sent_after n h) (kept_client h.state)) (input_kept h) q (run ++ mark ∷ [])) (sym (drain_queue h n))
       (wrote_stands opened link (kept_client h.state) (input_kept h) (take n queue) (drop n queue) run (sent_after n h) parts many)));
   sent = λ none. live_sent h n (sym (drain_ended h n) ∙ none) ∙ sym (ap (λ (x : LinkState). x.send_queue.sends_left) (drain_side h n));
   side = λ none. kept (sym (drain_ended h n) ∙ none);
@@ -140,8 +140,8 @@ drain_stands h n le fits opened link run s = record {
     parts : ClientRepresents opened link (kept_client h.state) (input_kept h) (take n queue ++ drop n queue) run
     parts = subst (λ (q : List ℕ). ClientRepresents opened link (kept_client h.state) (input_kept h) q run) (sym (take-append-drop n queue)) s.kept
 
-    few : k.calls_accepted ≤ 2 ^ 32
-    few = (let n = numbers opened link h run s in omega (arith, n, fits))
+    few : k.sends ≤ 2 ^ 32
+    few = (let number = s.kept.keeps.xid in let follows = next_xid_follows opened link run in omega (arith, number, follows, fits))
 
     next : h.state.side.ended ≡ None → LinkKeeps opened (drained n h.state.side) (record k { written = k.written + n })
     next none = link_drained opened h.state.side k n le few (s.side none)
@@ -183,7 +183,6 @@ revoke_side h xid = refl
 
 -- what it leaves
 record RevokeLeaves (h : RequesterSide) (xid : ℕ) : Type 0 where
-  pub first : (after_revoke h xid).state.first_xid ≡ h.state.first_xid
   pub wished : (after_revoke h xid).state.wished ≡ h.state.wished
   pub sent : (after_revoke h xid).state.sent ≡ h.state.sent
   pub ended : (after_revoke h xid).state.side.ended ≡ h.state.side.ended
@@ -193,7 +192,7 @@ record RevokeLeaves (h : RequesterSide) (xid : ℕ) : Type 0 where
 
 revoke_leaves : (h : RequesterSide) (xid : ℕ) → RevokeLeaves h xid
 unfolding after_revoke
-revoke_leaves h xid = record { first = refl; wished = refl; sent = refl; ended = refl; sends_left = refl; queue = refl; input = refl }
+revoke_leaves h xid = record { wished = refl; sent = refl; ended = refl; sends_left = refl; queue = refl; input = refl }
 
 pub revoke_state : (opened : LinkParameters) (link : ℕ) (run : List Mark) (xid : ℕ) (bytes : List ℕ) → (client opened link run).ended ≡ None →
     state_of opened link (run ++ marks.Revoke link xid bytes ∷ []) ≡ client_state_after opened (state_of opened link run) (MemoryRevoked (length (bytes_received link Initiator run)) xid)
@@ -206,7 +205,6 @@ revoke_stands opened link h run xid bytes s =
     let l : RevokeLeaves h xid = revoke_leaves h xid in
     let mark : Mark = marks.Revoke link xid bytes in
     record {
-      first = l.first ∙ s.first;
       wished = l.wished ∙ s.wished;
       kept = subst (λ (k : KeptClient). ClientRepresents opened link k (input_kept (after_revoke h xid)) (queue_of (after_revoke h xid).state) (run ++ mark ∷ [])) (kept_after_revoke h xid)
           (subst (λ (i : InputState). ClientRepresents opened link (kept_revoked (kept_client h.state) xid) i (queue_of (after_revoke h xid).state) (run ++ mark ∷ [])) (sym l.input)
@@ -236,7 +234,6 @@ others_leave_client opened link h run mark s no_events no_write no_feed =
     let same : state_of opened link (run ++ mark ∷ []) ≡ state_of opened link run =
     ap (λ (e : EndState ClientState). e.state) (client_one opened link run mark ∙ ap (λ (es : List RunEvent). end_state_after (client_rules opened) (client opened link run) es) no_events) in
     record {
-      first = s.first;
       wished = s.wished;
       kept = other_stands opened link (kept_client h.state) (input_kept h) (queue_of h.state) run mark s.kept no_events no_write no_feed;
       sent = s.sent;
@@ -284,7 +281,6 @@ queue_opened opened staging = sym (append-nil (hello_with Initiator (initiator_p
 pub begins_client : (opened : LinkParameters) (link : ℕ) (staging : List ℕ) → KeepsClient opened link (opened_as opened.first_xid opened.first_stag opened.wished opened.client staging) []
 unfolding opened_as
 begins_client opened link staging = record {
-  first = refl;
   wished = refl;
   kept = subst (λ (k : KeptClient). ClientRepresents opened link k (initial_input Responder) (queue_of (opened_as opened.first_xid opened.first_stag opened.wished opened.client staging).state) []) (kept_opened opened staging)
       (subst (λ (q : List ℕ). ClientRepresents opened link (opened_client opened) (initial_input Responder) q []) (queue_opened opened staging) (client_begins_lem opened link));

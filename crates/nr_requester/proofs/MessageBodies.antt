@@ -1,5 +1,5 @@
 -- What the parts of a message say of the verdict on it, for the code.
-use Rattle.std.proofs.Common.{◌≡◌, ◌≢◌, ℕ, zero, suc, ◌-◌, ◌<◌, ◌≤◌, inl, inr, Bool, true, false, cond, ◌&&◌, eqb, List, [], ◌∷◌, ◌++◌, length, take, drop, Option, None, Some, Result, Ok, Err, refl, sym, ap, subst, ◌∙◌, arith, append-nil, append_assoc}
+use Rattle.std.proofs.Common.{◌≡◌, ◌≢◌, ℕ, zero, suc, ◌<◌, ◌≤◌, inl, inr, Bool, true, false, cond, ◌&&◌, eqb, List, [], ◌∷◌, ◌++◌, length, take, drop, Option, None, Some, Result, Ok, Err, refl, sym, ap, subst, ◌∙◌, arith, append-nil, append_assoc}
 use Rattle.std.specs.Prelude.{IfSome, get_or, slice_set}
 use Rattle.std.specs.List.{AllByRecursion}
 use Rattle.std.proofs.lemmas.Bool.{le-ltb, ltb-true}
@@ -88,29 +88,29 @@ reply_back m c call back held own has e =
 
 -- ---- Bodies
 
-pub refused_msg : (first sent : ℕ) (c : OutstandingCall) (memory : Bytes) (message : List ℕ) (lists : ChunkLists) (at : ℕ) → answers_offer false c.offered lists ≡ false → Ends (kept_body (kept_view first sent c) memory message (Msg lists at)) REASON_CHUNKS
-refused_msg first sent c memory message lists at e = (ap (kept_lists (kept_view first sent c) (Some (drop at message)) lists memory) e, inr (inr (inr (inr (inl refl)))))
+pub refused_msg : (sent : ℕ) (c : OutstandingCall) (memory : Bytes) (message : List ℕ) (lists : ChunkLists) (at : ℕ) → answers_offer false c.offered lists ≡ false → Ends (kept_body (kept_view sent c) memory message (Msg lists at)) REASON_CHUNKS
+refused_msg sent c memory message lists at e = (ap (kept_lists (kept_view sent c) (Some (drop at message)) lists memory) e, inr (inr (inr (inr (inl refl)))))
 
-pub refused_nomsg : (first sent : ℕ) (c : OutstandingCall) (memory : Bytes) (message : List ℕ) (lists : ChunkLists) → answers_offer true c.offered lists ≡ false → Ends (kept_body (kept_view first sent c) memory message (Nomsg lists)) REASON_CHUNKS
-refused_nomsg first sent c memory message lists e = (ap (kept_lists (kept_view first sent c) None lists memory) e, inr (inr (inr (inr (inl refl)))))
+pub refused_nomsg : (sent : ℕ) (c : OutstandingCall) (memory : Bytes) (message : List ℕ) (lists : ChunkLists) → answers_offer true c.offered lists ≡ false → Ends (kept_body (kept_view sent c) memory message (Nomsg lists)) REASON_CHUNKS
+refused_nomsg sent c memory message lists e = (ap (kept_lists (kept_view sent c) None lists memory) e, inr (inr (inr (inr (inl refl)))))
 
-pub revoked_msg : (first sent : ℕ) (c : OutstandingCall) (memory : Bytes) (message : List ℕ) (lists : ChunkLists) (at : ℕ) → answers_offer false c.offered lists ≡ true → c.call ≡ None → kept_body (kept_view first sent c) memory message (Msg lists at) ≡ GivesOutcome c.xid None
-revoked_msg first sent c memory message lists at e none = ap (kept_lists (kept_view first sent c) (Some (drop at message)) lists memory) e ∙ ap (λ (o : Option Call). kept_payload c.xid o (Some (drop at message)) lists memory) none
+pub revoked_msg : (sent : ℕ) (c : OutstandingCall) (memory : Bytes) (message : List ℕ) (lists : ChunkLists) (at : ℕ) → answers_offer false c.offered lists ≡ true → c.call ≡ None → kept_body (kept_view sent c) memory message (Msg lists at) ≡ GivesOutcome c.xid None
+revoked_msg sent c memory message lists at e none = ap (kept_lists (kept_view sent c) (Some (drop at message)) lists memory) e ∙ ap (λ (o : Option Call). kept_payload c.xid o (Some (drop at message)) lists memory) none
 
-pub revoked_nomsg : (first sent : ℕ) (c : OutstandingCall) (memory : Bytes) (message : List ℕ) (lists : ChunkLists) → answers_offer true c.offered lists ≡ true → c.call ≡ None → kept_body (kept_view first sent c) memory message (Nomsg lists) ≡ GivesOutcome c.xid None
-revoked_nomsg first sent c memory message lists e none = ap (kept_lists (kept_view first sent c) None lists memory) e ∙ ap (λ (o : Option Call). kept_payload c.xid o None lists memory) none
+pub revoked_nomsg : (sent : ℕ) (c : OutstandingCall) (memory : Bytes) (message : List ℕ) (lists : ChunkLists) → answers_offer true c.offered lists ≡ true → c.call ≡ None → kept_body (kept_view sent c) memory message (Nomsg lists) ≡ GivesOutcome c.xid None
+revoked_nomsg sent c memory message lists e none = ap (kept_lists (kept_view sent c) None lists memory) e ∙ ap (λ (o : Option Call). kept_payload c.xid o None lists memory) none
 
-pub body_msg : (first sent : ℕ) (c : OutstandingCall) (call : Call) (memory : Bytes) (message stream : List ℕ) (lists : ChunkLists) (at : ℕ) → answers_offer false c.offered lists ≡ true → c.call ≡ Some call → stream ≡ drop at message →
-    kept_body (kept_view first sent c) memory message (Msg lists at) ≡ by_stream c.xid call stream (reply_moved memory lists.write)
+pub body_msg : (sent : ℕ) (c : OutstandingCall) (call : Call) (memory : Bytes) (message stream : List ℕ) (lists : ChunkLists) (at : ℕ) → answers_offer false c.offered lists ≡ true → c.call ≡ Some call → stream ≡ drop at message →
+    kept_body (kept_view sent c) memory message (Msg lists at) ≡ by_stream c.xid call stream (reply_moved memory lists.write)
 unfolding reply_conveyed
-body_msg first sent c call memory message stream lists at e has is =
-    ap (kept_lists (kept_view first sent c) (Some (drop at message)) lists memory) e ∙ ap (λ (o : Option Call). kept_payload c.xid o (Some (drop at message)) lists memory) has ∙ ap (λ (xs : List ℕ). by_stream c.xid call xs (reply_moved memory lists.write)) (sym is)
+body_msg sent c call memory message stream lists at e has is =
+    ap (kept_lists (kept_view sent c) (Some (drop at message)) lists memory) e ∙ ap (λ (o : Option Call). kept_payload c.xid o (Some (drop at message)) lists memory) has ∙ ap (λ (xs : List ℕ). by_stream c.xid call xs (reply_moved memory lists.write)) (sym is)
 
-pub body_nomsg : (first sent : ℕ) (c : OutstandingCall) (call : Call) (memory : Bytes) (message stream : List ℕ) (lists : ChunkLists) → answers_offer true c.offered lists ≡ true → c.call ≡ Some call → stream ≡ reply_stream memory None lists.reply →
-    kept_body (kept_view first sent c) memory message (Nomsg lists) ≡ by_stream c.xid call stream (reply_moved memory lists.write)
+pub body_nomsg : (sent : ℕ) (c : OutstandingCall) (call : Call) (memory : Bytes) (message stream : List ℕ) (lists : ChunkLists) → answers_offer true c.offered lists ≡ true → c.call ≡ Some call → stream ≡ reply_stream memory None lists.reply →
+    kept_body (kept_view sent c) memory message (Nomsg lists) ≡ by_stream c.xid call stream (reply_moved memory lists.write)
 unfolding reply_conveyed
-body_nomsg first sent c call memory message stream lists e has is =
-    ap (kept_lists (kept_view first sent c) None lists memory) e ∙ ap (λ (o : Option Call). kept_payload c.xid o None lists memory) has ∙ ap (λ (xs : List ℕ). by_stream c.xid call xs (reply_moved memory lists.write)) (sym is)
+body_nomsg sent c call memory message stream lists e has is =
+    ap (kept_lists (kept_view sent c) None lists memory) e ∙ ap (λ (o : Option Call). kept_payload c.xid o None lists memory) has ∙ ap (λ (xs : List ℕ). by_stream c.xid call xs (reply_moved memory lists.write)) (sym is)
 
 -- ---- Headers
 
@@ -229,14 +229,14 @@ found_sent (c ∷ cs) xid y is = by (eqb c.xid xid && c.is_sent) refl (λ e. fou
     by false here rest e = rest e
 
 -- a call was judged by the body of its message
-pub brings_lem : (first sent : ℕ) (cs : List OutstandingCall) (memory : Bytes) (message : List ℕ) (h : Header) (at : ℕ) (x d0 : OutstandingCall) (f : Found) → at < length cs → header_of message ≡ Ok h → kept_by (kept_views first sent cs) h.xid ≡ Some (kept_view first sent (get_or cs at d0)) →
-    kept_body (kept_view first sent (get_or cs at d0)) memory message h.body ≡ GivesOutcome (get_or cs at d0).xid (outcome_by f x.room.bytes) → LiesWithin f x.room.bytes → Brings first sent cs (slice_set cs at x) memory message at f
-brings_lem first sent cs memory message h at x d0 f lt is one body fits = record {
+pub brings_lem : (sent : ℕ) (cs : List OutstandingCall) (memory : Bytes) (message : List ℕ) (h : Header) (at : ℕ) (x d0 : OutstandingCall) (f : Found) → at < length cs → header_of message ≡ Ok h → kept_by (kept_views sent cs) h.xid ≡ Some (kept_view sent (get_or cs at d0)) →
+    kept_body (kept_view sent (get_or cs at d0)) memory message h.body ≡ GivesOutcome (get_or cs at d0).xid (outcome_by f x.room.bytes) → LiesWithin f x.room.bytes → Brings sent cs (slice_set cs at x) memory message at f
+brings_lem sent cs memory message h at x d0 f lt is one body fits = record {
   within = (let len = set_length cs at x in omega (arith, len, lt));
-  verdict = λ d. by_call (kept_views first sent cs) memory message h (kept_view first sent (get_or cs at d0)) is one ∙ body
+  verdict = λ d. by_call (kept_views sent cs) memory message h (kept_view sent (get_or cs at d0)) is one ∙ body
       ∙ (λ i. GivesOutcome (same_get cs at d0 d lt i).xid (outcome_by f (sym (set_here cs at x d lt) i).room.bytes));
   fits = λ d. subst (λ (y : OutstandingCall). LiesWithin f y.room.bytes) (sym (set_here cs at x d lt)) fits;
-  sent = λ d. subst (λ (y : OutstandingCall). y.xid - first < sent) (same_get cs at d0 d lt) (ltb-true ((get_or cs at d0).xid - first) sent (found_sent (kept_views first sent cs) h.xid (kept_view first sent (get_or cs at d0)) one));
+  sent = λ d. subst (λ (y : OutstandingCall). y.send < sent) (same_get cs at d0 d lt) (ltb-true (get_or cs at d0).send sent (found_sent (kept_views sent cs) h.xid (kept_view sent (get_or cs at d0)) one));
 }
 
 -- the calls as they are written back

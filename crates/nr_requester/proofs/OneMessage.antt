@@ -124,12 +124,12 @@ pub first_of : (cs : List OutstandingCall) (at : ℕ) → at < length cs → Out
 first_of [] at lt = absurd (omega (arith, lt))
 first_of (c ∷ cs) at lt = c
 
-pub same_xid : (xs ys : List OutstandingCall) (at : ℕ) (d : OutstandingCall) → SameCalls xs ys → (get_or xs at d).xid ≡ (get_or ys at d).xid
-same_xid [] [] at d h = refl
-same_xid [] (y ∷ ys) at d h = absurd h
-same_xid (x ∷ xs) [] at d h = absurd h
-same_xid (x ∷ xs) (y ∷ ys) zero d h = ap (λ (c : OutstandingCall). c.xid) (sym h.0.0)
-same_xid (x ∷ xs) (y ∷ ys) (suc n) d h = same_xid xs ys n d h.1
+pub same_send : (xs ys : List OutstandingCall) (at : ℕ) (d : OutstandingCall) → SameCalls xs ys → (get_or xs at d).send ≡ (get_or ys at d).send
+same_send [] [] at d h = refl
+same_send [] (y ∷ ys) at d h = absurd h
+same_send (x ∷ xs) [] at d h = absurd h
+same_send (x ∷ xs) (y ∷ ys) zero d h = ap (λ (c : OutstandingCall). c.send) (sym h.0.0)
+same_send (x ∷ xs) (y ∷ ys) (suc n) d h = same_send xs ys n d h.1
 
 pub sound_as : (len : ℕ) (m m2 : RegisteredMemory) (next room room2 : ℕ) (calls calls2 : List OutstandingCall) (answers answers2 : List AnsweredCall) → m2 ≡ m → calls2 ≡ calls → answers2 ≡ answers → room2 ≡ room → CallsSound len m next calls answers room → CallsSound len m2 next calls2 answers2 room2
 sound_as len m m2 next room room2 calls calls2 answers answers2 em ec ea er s =

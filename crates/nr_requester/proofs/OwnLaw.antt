@@ -1,8 +1,7 @@
 -- A requester keeps the law of its side, so far.
 use Rattle.std.proofs.Common.{ℕ, List, [], ◌++◌, take, drop, refl, sym, subst, ◌∙◌, append-nil, take-append-drop}
-use Rattle.nr_wire.specs.declared.hello.Side.TheVariants.{Initiator, Responder}
+use Rattle.nr_wire.specs.declared.hello.Side.TheVariants.{Initiator}
 use Rattle.nr_reduce.specs.declared.call.Submission.TheVariants as submissions
-use Rattle.nr_reduce.specs.declared.mark.LinkParameters.{LinkParameters}
 use Rattle.nr_reduce.specs.declared.mark.Mark.{Mark}
 use Rattle.nr_reduce.specs.declared.mark.Mark.TheVariants as marks
 use Rattle.nr_reduce.specs.Asked.{AskedMark}
@@ -11,8 +10,9 @@ use Rattle.nr_reduce.specs.Credits.{WithinGrant}
 use Rattle.nr_reduce.specs.Standing.{ClientRepresents, ClientRunsOut}
 use Rattle.nr_reduce.proofs.Standing.{AtEachMark_more, client_queue_lem}
 use Rattle.nr_reduce.proofs.Submitting.{accepted_keeps}
+use Rattle.nr_reduce.proofs.Unconcerned.{none_asked, none_granted}
 use Rattle.nr_requester.specs.RequesterState.{queue_of, kept_client, input_kept}
-use Rattle.nr_requester.specs.Laws.{SubmitKeepsLaw, DrainKeepsLaw, DrainOutKeepsLaw, QueueIsAllDue, RefusedKeepsLaw, PieceKeepsLaw, DrainKeepsGrant, LawBegins, AsksNothing, OthersKeepLaw}
+use Rattle.nr_requester.specs.Laws.{SubmitKeepsLaw, DrainKeepsLaw, DrainOutKeepsLaw, QueueIsAllDue, RefusedKeepsLaw, PieceKeepsLaw, DrainKeepsGrant, LawBegins, OthersKeepLaw}
 use Rattle.nr_requester.proofs.Accepting.{answers_as_client}
 
 pub submit_keeps_law : SubmitKeepsLaw
@@ -64,22 +64,6 @@ drain_keeps_grant opened link run bytes grant = AtEachMark_more (WithinGrant ope
 pub law_begins : LawBegins
 law_begins opened link = (tt, tt)
 
--- nothing is asked of such a mark
-asks_none : (opened : LinkParameters) (link : ℕ) (run : List Mark) (mark : Mark) → AsksNothing link mark → AskedMark IsPrefixOf opened link run mark × WithinGrant opened link run mark
-asks_none opened link run (marks.Submit l call form (submissions.Accepted xid)) h = (λ same. absurd (h same), λ same. absurd (h same))
-asks_none opened link run (marks.Submit l call form (submissions.Refused why)) h = (tt, tt)
-asks_none opened link run (marks.Submit l call form submissions.Dropped) h = (tt, tt)
-asks_none opened link run (marks.Wrote l Initiator bytes) h = (λ same. absurd (h same), tt)
-asks_none opened link run (marks.Wrote l Responder bytes) h = (tt, tt)
-asks_none opened link run (marks.Fed l side bytes) h = (tt, tt)
-asks_none opened link run (marks.Execute l xid moment payload place reply) h = (tt, tt)
-asks_none opened link run (marks.Done l xid outcome) h = (λ same. absurd (h same), tt)
-asks_none opened link run (marks.Lost l xid) h = (λ same. absurd (h same), tt)
-asks_none opened link run (marks.Forget l xid) h = (λ same. absurd (h same), tt)
-asks_none opened link run (marks.Revoke l xid bytes) h = (λ same. absurd (h same), tt)
-asks_none opened link run (marks.Drop l) h = (tt, tt)
-
 pub others_keep_law : OthersKeepLaw
 others_keep_law opened link run mark none asked grant =
-    let h = asks_none opened link run mark none in
-    (AtEachMark_more (AskedMark IsPrefixOf opened link) [] run mark asked h.0, AtEachMark_more (WithinGrant opened link) [] run mark grant h.1)
+    (AtEachMark_more (AskedMark IsPrefixOf opened link) [] run mark asked (none_asked IsPrefixOf opened link run mark none), AtEachMark_more (WithinGrant opened link) [] run mark grant (none_granted opened link run mark none))

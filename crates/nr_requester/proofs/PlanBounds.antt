@@ -1,6 +1,9 @@
 -- What a plan offers is short.
-use Rattle.std.proofs.Common.{◌≡◌, ℕ, ◌+◌, ◌-◌, ◌≤◌, Bool, true, false, cond, not, ◌&&◌, eqb, leb, List, [], length, take, drop, replicate, sum, Option, None, Some, Result, Ok, refl, sym, ap, subst, arith, length-append}
+use Rattle.std.proofs.Common.{◌≡◌, ℕ, ◌+◌, ◌-◌, ◌*◌, ◌≤◌, Bool, true, false, cond, not, ◌&&◌, eqb, leb, List, [], ◌∷◌, length, take, drop, replicate, sum, Option, None, Some, Result, Ok, refl, sym, ap, subst, arith, length-append}
+use Rattle.std.specs.List.{sum_by}
 use Rattle.std.proofs.lemmas.List.{length-take, length-drop, length-replicate}
+use Rattle.std.proofs.lemmas.List.Sums.{sum_by-cons}
+use Rattle.nr_header.specs.declared.header.RdmaSegment.{RdmaSegment}
 use Rattle.nr_header.specs.Constants.{HEADER_LEN_MIN, PAYLOAD_MAX}
 use Rattle.nr_reduce.specs.declared.call.Form.{Form}
 use Rattle.nr_reduce.specs.declared.call.Form.TheVariants as forms
@@ -12,12 +15,12 @@ use Rattle.nr_reduce.specs.Limits.{given_max}
 use Rattle.nr_reduce.specs.declared.item.Item.{Item}
 use Rattle.nr_reduce.specs.declared.item.Of.TheVariants.{Call}
 use Rattle.nr_reduce.specs.Items.{reducible_item}
-use Rattle.nr_reduce.specs.Plans.{TooLarge, total, inline_plan, chunk_for, write_offer, offering, auto_offer, reduced_plan, reduced_plan_by, long_plan, given_region, given_read, given_total, given_within, plan_size, plan_in_form, within, plan_of}
+use Rattle.nr_reduce.specs.Plans.{TooLarge, total, inline_plan, chunk_for, write_offer, offering, auto_offer, reduced_plan, reduced_plan_by, long_plan, given_region, given_read, given_total, given_within, plan_size, plan_in_form, within, plan_of, write_size, reply_size, segments_from, entries_from, read_list, write_list, reply_chunk, write_stag, reply_stag, lists_of}
 use Rattle.nr_reduce.proofs.PlanKinds.{Offering, offered, IsSmall, largest_small, write_offering, MessageKind, shape, IsPlan, is_plan, within_ok_lem}
 use Rattle.nr_reduce.proofs.PlanKinds.Offering.{Nothing, One}
 use Rattle.nr_reduce.proofs.PlanKinds.MessageKind.{Short, Chunked, Long}
-use Rattle.nr_reduce.proofs.Sizes.{is_formed}
-use Rattle.nr_requester.specs.HeldBytes.{PlanFits}
+use Rattle.nr_reduce.proofs.Sizes.{segments_count, is_formed}
+use Rattle.nr_requester.specs.HeldBytes.{PlanFits, receive_max, reply_segments, segments_offered, offered_segments_max}
 
 small_total : (o : Offering) → IsSmall o → total (offered o) ≤ 40000
 small_total Nothing h = omega arith
@@ -116,6 +119,30 @@ plan_bounds payload forms.Chunk up down p is = own_fits payload forms.Chunk up d
 plan_bounds payload forms.Long up down p is = own_fits payload forms.Long up down p tt is
 plan_bounds payload (forms.Given offer) up down p is =
     subst PlanFits (is_formed payload (forms.Given offer) up down p is).is (read_fits payload offer.read_at offer.read offer.write offer.reply (given_small payload offer up down p is))
+
+-- ---- The segments of its lists
+
+one_each : (position handle offset : ℕ) (lengths : List ℕ) → length (entries_from position handle offset lengths) ≤ length lengths
+one_each position handle offset [] = omega arith
+one_each position handle offset (n ∷ lengths) = omega (arith, one_each position handle (offset + n) lengths)
+
+few_entries : (stag : ℕ) (p : Plan) (at : Option ℕ) → length (read_list stag p at) ≤ length p.read
+few_entries stag p None = omega arith
+few_entries stag p (Some position) = one_each position stag 0 p.read
+
+few_written : (stag : ℕ) (w : Option (List ℕ)) → 16 * sum_by (λ chunk. length chunk) (write_list stag w) ≤ write_size w
+few_written stag None = omega arith
+few_written stag (Some lengths) = omega (arith, sum_by-cons (λ (chunk : List RdmaSegment). length chunk) (segments_from stag 0 lengths) [], segments_count stag 0 lengths)
+
+few_replied : (stag : ℕ) (r : Option (List ℕ)) → 16 * reply_segments (reply_chunk stag r) ≤ reply_size r
+few_replied stag None = omega arith
+few_replied stag (Some lengths) = omega (arith, segments_count stag 0 lengths)
+
+pub plan_segments : (payload : List ℕ) (form : Form) (up down stag : ℕ) (p : Plan) → up ≤ receive_max → plan_of payload form up down ≡ Ok p → segments_offered (lists_of stag p) ≤ offered_segments_max
+unfolding plan_size lists_of
+plan_segments payload form up down stag p short is =
+    let fits = (is_formed payload form up down p is).fits in
+    omega (arith, short, fits, few_entries stag p p.read_at, few_written (write_stag stag p) p.write, few_replied (reply_stag stag p) p.reply)
 
 -- a payload that has a plan
 pub payload_small : (payload : List ℕ) (form : Form) (up down : ℕ) (p : Plan) → plan_of payload form up down ≡ Ok p → length payload ≤ PAYLOAD_MAX

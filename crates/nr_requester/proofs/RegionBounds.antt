@@ -1,4 +1,4 @@
--- The bytes of the regions, as they are registered and released.
+-- What is counted of the regions, as they are registered and released.
 use Rattle.std.proofs.Common.{◌≡◌, ℕ, ◌+◌, ◌-◌, ◌^◌, ◌<◌, ◌≤◌, List, [], ◌∷◌, ◌++◌, length, map, replicate, Option, None, Some, inl, inr, refl, sym, ap, subst, ◌∙◌, arith}
 use Rattle.std.specs.Prelude.{IfSome, Bool, true, false}
 use Rattle.std.proofs.lemmas.Bool.{cases_eq}
@@ -8,7 +8,6 @@ use Rattle.nr_regions.specs.declared.right.Right.TheVariants.{Fetch, Fill}
 use Rattle.nr_regions.specs.RegisteredMemory.{Region, RegisteredMemory, Claim, IsHeld, held_region, after_register, after_release}
 use Rattle.nr_regions.proofs.Holding.{register_here, register_other, release_here, release_other}
 use Rattle.nr_regions.proofs.Totals.{sound_register, sound_release}
-use Rattle.nr_regions.specs.Table.{region_len}
 use Rattle.nr_endpoint.specs.declared.offering.Offered.{Offered}
 use Rattle.nr_endpoint.specs.declared.offering.Claims.{Claims}
 use Rattle.nr_endpoint.specs.Offering.{one_of, offered_count, with_buffer, with_read, with_write_buffer, with_offered, claim_if, claims_of}
@@ -18,7 +17,7 @@ use Rattle.nr_reduce.specs.KeptClient.{released_all}
 use Rattle.nr_requester.specs.RequesterState.{stags_of}
 use Rattle.nr_requester.specs.Sending.{some_if, offered_of}
 use Rattle.nr_requester.specs.HeldClaims.{claim_list, call_claims, AreHeldFrom}
-use Rattle.nr_requester.specs.HeldBytes.{region_max, offer_max, PlanFits, RegionsFit, RegionsHave, claim_len, claims_len}
+use Rattle.nr_requester.specs.HeldBytes.{region_max, offer_max, PlanFits, RegionsFit, region_size, IsCount, RegionsHave, in_bytes, claim_size, claims_size, claims_len}
 use Rattle.nr_requester.proofs.Releases.{one_released, stags_are_of}
 
 abbrev or_region : Region → Option Region → Region
@@ -31,9 +30,13 @@ same_region x y e = ap (or_region x) e
 abbrev region : Option Region → Option Region
 region o = o
 
--- both: no region is too long, and they have this number of bytes
-abbrev pub Both : RegisteredMemory → ℕ → Type 0
-Both m total = RegionsFit m × RegionsHave m total
+-- the bytes of a region count it
+pub bytes_count : IsCount in_bytes
+bytes_count len = omega arith
+
+-- both: no region is too long, and they have this number together
+abbrev pub Both : (size : ℕ → ℕ) → RegisteredMemory → ℕ → Type 0
+Both size m total = RegionsFit m × RegionsHave size m total
 
 -- ---- A buffer is registered
 
@@ -45,13 +48,13 @@ registered_fits m right buf small fit stag r there =
       | inr other ↦ fit stag r (sym (register_other m right buf stag other) ∙ there)
     ]
 
-registered_have : (m : RegisteredMemory) (right : Right) (buf : List ℕ) (total : ℕ) → length buf ≤ region_max → m.next < 2 ^ 32 → RegionsHave m total → RegionsHave (after_register m right buf) (total + length buf)
+registered_have : (size : ℕ → ℕ) → IsCount size → (m : RegisteredMemory) (right : Right) (buf : List ℕ) (total : ℕ) → length buf ≤ region_max → m.next < 2 ^ 32 → RegionsHave size m total → RegionsHave size (after_register m right buf) (total + size (length buf))
 unfolding after_register
-registered_have m right buf total small fits have = sound_register region_len m.next total m.held (record { right = right; buf = buf }) have fits (omega (arith, small))
+registered_have size is m right buf total small fits have = sound_register (region_size size) m.next total m.held (record { right = right; buf = buf }) have fits (let little = is (length buf) in omega (arith, small, little))
 
-one_buffer : (m : RegisteredMemory) (right : Right) (buf : Option (List ℕ)) (total : ℕ) → IfSome buf (λ bytes. length bytes ≤ region_max) → m.next + one_of buf ≤ 2 ^ 32 → Both m total → Both (with_buffer m right buf) (total + claim_len (claim_if m buf))
-one_buffer m right None total small fits b = (b.0, subst (λ (n : ℕ). RegionsHave m n) (omega arith) b.1)
-one_buffer m right (Some buf) total small fits b = (registered_fits m right buf small b.0, registered_have m right buf total small (omega (arith, fits)) b.1)
+one_buffer : (size : ℕ → ℕ) → IsCount size → (m : RegisteredMemory) (right : Right) (buf : Option (List ℕ)) (total : ℕ) → IfSome buf (λ bytes. length bytes ≤ region_max) → m.next + one_of buf ≤ 2 ^ 32 → Both size m total → Both size (with_buffer m right buf) (total + claim_size size (claim_if m buf))
+one_buffer size is m right None total small fits b = (b.0, subst (λ (n : ℕ). RegionsHave size m n) (omega arith) b.1)
+one_buffer size is m right (Some buf) total small fits b = (registered_fits m right buf small b.0, registered_have size is m right buf total small (omega (arith, fits)) b.1)
 
 next_one : (m : RegisteredMemory) (right : Right) (buf : Option (List ℕ)) → (with_buffer m right buf).next ≡ m.next + one_of buf
 unfolding after_register
@@ -64,16 +67,16 @@ pub record AreShort (o : Offered) : Type 0 where
   pub write : IfSome o.write (λ bytes. length bytes ≤ region_max)
   pub reply : IfSome o.reply (λ bytes. length bytes ≤ region_max)
 
-pub offered_both : (m : RegisteredMemory) (o : Offered) (total : ℕ) → AreShort o → m.next + offered_count o ≤ 2 ^ 32 → Both m total → Both (with_offered m o) (total + claims_len (claims_of m o))
-offered_both m o total short fits b =
-    let first = one_buffer m Fetch o.read total short.read (omega (arith, fits)) b in
-    let a : ℕ = total + claim_len (claim_if m o.read) in
+pub offered_both : (size : ℕ → ℕ) → IsCount size → (m : RegisteredMemory) (o : Offered) (total : ℕ) → AreShort o → m.next + offered_count o ≤ 2 ^ 32 → Both size m total → Both size (with_offered m o) (total + claims_size size (claims_of m o))
+offered_both size is m o total short fits b =
+    let first = one_buffer size is m Fetch o.read total short.read (omega (arith, fits)) b in
+    let a : ℕ = total + claim_size size (claim_if m o.read) in
     let n1 = next_one m Fetch o.read in
-    let second = one_buffer (with_read m o) Fill o.write a short.write (omega (arith, fits, n1)) first in
+    let second = one_buffer size is (with_read m o) Fill o.write a short.write (omega (arith, fits, n1)) first in
     let n2 = next_one (with_read m o) Fill o.write in
-    let c : ℕ = a + claim_len (claim_if (with_read m o) o.write) in
-    let third = one_buffer (with_write_buffer m o) Fill o.reply c short.reply (omega (arith, fits, n1, n2)) second in
-    (third.0, subst (λ (n : ℕ). RegionsHave (with_offered m o) n) (omega arith) third.1)
+    let c : ℕ = a + claim_size size (claim_if (with_read m o) o.write) in
+    let third = one_buffer size is (with_write_buffer m o) Fill o.reply c short.reply (omega (arith, fits, n1, n2)) second in
+    (third.0, subst (λ (n : ℕ). RegionsHave size (with_offered m o) n) (omega arith) third.1)
 
 -- those of a plan
 short_if : (b : Bool) (bytes : List ℕ) → length bytes ≤ region_max → IfSome (some_if b bytes) (λ bytes. length bytes ≤ region_max)
@@ -90,7 +93,7 @@ plan_short p f = record {
   reply = short_if (has_segment p.reply) (replicate (total p.reply) 0) (zeros_short (total p.reply) f.reply);
 }
 
-len_if : (m : RegisteredMemory) (b : Bool) (bytes : List ℕ) → claim_len (claim_if m (some_if b bytes)) ≤ length bytes
+len_if : (m : RegisteredMemory) (b : Bool) (bytes : List ℕ) → claim_size in_bytes (claim_if m (some_if b bytes)) ≤ length bytes
 len_if m true bytes = omega arith
 len_if m false bytes = omega arith
 
@@ -113,25 +116,25 @@ released_fits m stag fit q r there =
       | inr other ↦ fit q r (sym (release_other m stag q other) ∙ there)
     ]
 
-released_have : (m : RegisteredMemory) (claim : Claim) (total : ℕ) → IsHeld m claim → RegionsHave m total → RegionsHave (after_release m claim.stag) (total - claim.len)
+released_have : (size : ℕ → ℕ) (m : RegisteredMemory) (claim : Claim) (total : ℕ) → IsHeld m claim → RegionsHave size m total → RegionsHave size (after_release m claim.stag) (total - size claim.len)
 unfolding after_release held_region
-released_have m claim total h have = subst (λ (n : ℕ). RegionsHave (after_release m claim.stag) (total - n)) h.len (sound_release region_len m.next total m.held claim.stag h.region have h.there)
+released_have size m claim total h have = subst (λ (n : ℕ). RegionsHave size (after_release m claim.stag) (total - size n)) h.len (sound_release (region_size size) m.next total m.held claim.stag h.region have h.there)
 
-abbrev pub sum_len : List Claim → ℕ
-sum_len [] = 0
-sum_len (c ∷ cs) = c.len + sum_len cs
+abbrev sum_size : (size : ℕ → ℕ) → List Claim → ℕ
+sum_size size [] = 0
+sum_size size (c ∷ cs) = size c.len + sum_size size cs
 
-several_released : (m : RegisteredMemory) (low : ℕ) (cs : List Claim) (total : ℕ) → AreHeldFrom m low cs → Both m total → Both (released_all m (map (λ (c : Claim). c.stag) cs)) (total - sum_len cs)
-several_released m low [] sum h b = (b.0, subst (λ (n : ℕ). RegionsHave m n) (omega arith) b.1)
-several_released m low (c ∷ cs) sum h b =
-    let one : Both (after_release m c.stag) (sum - c.len) = (released_fits m c.stag b.0, released_have m c sum h.1.0 b.1) in
-    let rest = several_released (after_release m c.stag) low cs (sum - c.len) (one_released m low [] c cs h) one in
-    (rest.0, subst (λ (n : ℕ). RegionsHave (released_all (after_release m c.stag) (map (λ (c : Claim). c.stag) cs)) n) (omega arith) rest.1)
+several_released : (size : ℕ → ℕ) (m : RegisteredMemory) (low : ℕ) (cs : List Claim) (total : ℕ) → AreHeldFrom m low cs → Both size m total → Both size (released_all m (map (λ (c : Claim). c.stag) cs)) (total - sum_size size cs)
+several_released size m low [] sum h b = (b.0, subst (λ (n : ℕ). RegionsHave size m n) (omega arith) b.1)
+several_released size m low (c ∷ cs) sum h b =
+    let one : Both size (after_release m c.stag) (sum - size c.len) = (released_fits m c.stag b.0, released_have size m c sum h.1.0 b.1) in
+    let rest = several_released size (after_release m c.stag) low cs (sum - size c.len) (one_released m low [] c cs h) one in
+    (rest.0, subst (λ (n : ℕ). RegionsHave size (released_all (after_release m c.stag) (map (λ (c : Claim). c.stag) cs)) n) (omega arith) rest.1)
 
-sum_claims : (c : Claims) → sum_len (call_claims c) ≡ claims_len c
-sum_claims c = by c.read c.write c.reply
+sum_claims : (size : ℕ → ℕ) (c : Claims) → sum_size size (call_claims c) ≡ claims_size size c
+sum_claims size c = by c.read c.write c.reply
   where
-    by : (r w p : Option Claim) → sum_len (claim_list r ++ (claim_list w ++ claim_list p)) ≡ claim_len r + (claim_len w + claim_len p)
+    by : (r w p : Option Claim) → sum_size size (claim_list r ++ (claim_list w ++ claim_list p)) ≡ claim_size size r + (claim_size size w + claim_size size p)
     by None None None = refl
     by None None (Some p) = omega arith
     by None (Some w) None = omega arith
@@ -141,7 +144,7 @@ sum_claims c = by c.read c.write c.reply
     by (Some r) (Some w) None = omega arith
     by (Some r) (Some w) (Some p) = omega arith
 
-pub released_both : (m : RegisteredMemory) (claims : Claims) (total : ℕ) → AreHeldFrom m 0 (call_claims claims) → Both m total → Both (released_all m (stags_of claims)) (total - claims_len claims)
-released_both m claims total h b =
-    subst (λ (ss : List ℕ). Both (released_all m ss) (total - claims_len claims)) (stags_are_of claims)
-    (subst (λ (n : ℕ). Both (released_all m (map (λ (c : Claim). c.stag) (call_claims claims))) (total - n)) (sum_claims claims) (several_released m 0 (call_claims claims) total h b))
+pub released_both : (size : ℕ → ℕ) (m : RegisteredMemory) (claims : Claims) (total : ℕ) → AreHeldFrom m 0 (call_claims claims) → Both size m total → Both size (released_all m (stags_of claims)) (total - claims_size size claims)
+released_both size m claims total h b =
+    subst (λ (ss : List ℕ). Both size (released_all m ss) (total - claims_size size claims)) (stags_are_of claims)
+    (subst (λ (n : ℕ). Both size (released_all m (map (λ (c : Claim). c.stag) (call_claims claims))) (total - n)) (sum_claims size claims) (several_released size m 0 (call_claims claims) total h b))

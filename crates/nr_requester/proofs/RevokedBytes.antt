@@ -11,7 +11,6 @@ use Rattle.nr_reduce.specs.OfferedRegions.{Region, region_bytes, region_grants}
 use Rattle.nr_reduce.specs.ClientState.{ClientState, OutstandingCall, client_memory_at}
 use Rattle.nr_reduce.specs.Run.{client, placed_bytes, grants_of}
 use Rattle.nr_reduce.specs.EndRules.{EndState}
-use Rattle.nr_reduce.specs.SubmitAnswer.{next_xid}
 use Rattle.nr_requester.specs.Standing.{AnswersAfter, RequesterRepresents, RequesterRunsOut}
 use Rattle.nr_reduce.specs.Matched.{IsPrefixOf}
 use Rattle.nr_reduce.specs.Asked.{AskedMark, IsRevoked, revoked_bytes}
@@ -79,17 +78,17 @@ stags_of_one k next d offers waits has = by (find (λ (o : OutstandingCall). eqb
         ∙ sym own.1.1
         ∙ ap (λ (x : ℕ). call_stags x k.regions) own.0
 
-stags_by_waits : (k : ClientState) (next first sent xid : ℕ) (c : StoredCall) (cs : List StoredCall) → AllByRecursion (OffersPlan next k.regions) k.outstanding → AllByRecursion (IsWaiting k.outstanding) (map (kept_call first sent) cs) →
+stags_by_waits : (k : ClientState) (next sent xid : ℕ) (c : StoredCall) (cs : List StoredCall) → AllByRecursion (OffersPlan next k.regions) k.outstanding → AllByRecursion (IsWaiting k.outstanding) (map (kept_call sent) cs) →
     find (λ d. eqb d.xid xid) cs ≡ Some c → is_some c.call ≡ true → stags_of c.claims ≡ call_stags xid k.regions
-stags_by_waits k next first sent xid c [] offers waits there has = absurd (let wrong : None ≡ Some c = there in cc)
-stags_by_waits k next first sent xid c (d ∷ cs) offers waits there has = by (eqb d.xid xid) refl (λ e. stags_by_waits k next first sent xid c cs offers waits.1 e has) there
+stags_by_waits k next sent xid c [] offers waits there has = absurd (let wrong : None ≡ Some c = there in cc)
+stags_by_waits k next sent xid c (d ∷ cs) offers waits there has = by (eqb d.xid xid) refl (λ e. stags_by_waits k next sent xid c cs offers waits.1 e has) there
   where
     by : (b : Bool) → eqb d.xid xid ≡ b → (find (λ d. eqb d.xid xid) cs ≡ Some c → stags_of c.claims ≡ call_stags xid k.regions) → cond b (Some d) (find (λ d. eqb d.xid xid) cs) ≡ Some c → stags_of c.claims ≡ call_stags xid k.regions
     by false e rest found = rest found
     by true e rest found =
         let same : d ≡ c = some_same d c found in
         ap (λ (x : StoredCall). stags_of x.claims) (sym same)
-        ∙ stags_of_one k next (kept_call first sent d) offers waits.0 (ap (λ (x : StoredCall). is_some x.call) same ∙ has)
+        ∙ stags_of_one k next (kept_call sent d) offers waits.0 (ap (λ (x : StoredCall). is_some x.call) same ∙ has)
         ∙ ap (λ (x : ℕ). call_stags x k.regions) (eqb-true d.xid xid e)
 
 under_all : (f g : ℕ → List ℕ) (stags : List ℕ) → AllByRecursion (λ s. f s ≡ g s) stags → flat_map f stags ≡ flat_map g stags
@@ -101,24 +100,24 @@ by_regions f [] = refl
 by_regions f (r ∷ rs) = ap (λ (xs : List ℕ). f r.stag ++ xs) (by_regions f rs)
 
 -- the regions of the client of some marks
-offers_after : (opened : LinkParameters) (link : ℕ) (h : RequesterSide) (run : List Mark) → AnswersAfter opened link h run → CallsOffer (next_xid opened (client opened link run).state) (client opened link run).state
+offers_after : (opened : LinkParameters) (link : ℕ) (h : RequesterSide) (run : List Mark) → AnswersAfter opened link h run → CallsOffer (client opened link run).state.next_xid (client opened link run).state
 unfolding client
 offers_after opened link h run k = k.regions
 
-bytes_are_lem : (opened : LinkParameters) (link : ℕ) (h : RequesterSide) (run : List Mark) (xid : ℕ) (c : StoredCall) → HoldsPlaced opened link h run → CallsOffer (next_xid opened (client opened link run).state) (client opened link run).state →
-    AllByRecursion (IsWaiting (client opened link run).state.outstanding) (map (kept_call h.state.first_xid h.state.sent) h.state.outstanding) →
+bytes_are_lem : (opened : LinkParameters) (link : ℕ) (h : RequesterSide) (run : List Mark) (xid : ℕ) (c : StoredCall) → HoldsPlaced opened link h run → CallsOffer (client opened link run).state.next_xid (client opened link run).state →
+    AllByRecursion (IsWaiting (client opened link run).state.outstanding) (map (kept_call h.state.sent) h.state.outstanding) →
     find (λ d. eqb d.xid xid) h.state.outstanding ≡ Some c → is_some c.call ≡ true → flat_map (λ s. bytes_under h.state.side.memory s) (stags_of c.claims) ≡ revoked_bytes opened link run xid
 bytes_are_lem opened link h run xid c holds offers waits there has =
     let k : ClientState = (client opened link run).state in
     let placed : ℕ → List ℕ = λ s. placed_bytes opened link Initiator run s in
     under_all (λ s. bytes_under h.state.side.memory s) placed (stags_of c.claims)
     (found_one (λ c. AllByRecursion (λ stag. bytes_under h.state.side.memory stag ≡ placed_bytes opened link Initiator run stag) (stags_of c.claims)) xid c h.state.outstanding holds there)
-    ∙ ap (λ (ss : List ℕ). flat_map placed ss) (stags_by_waits k _ h.state.first_xid h.state.sent xid c h.state.outstanding offers.calls waits there has)
+    ∙ ap (λ (ss : List ℕ). flat_map placed ss) (stags_by_waits k _ h.state.sent xid c h.state.outstanding offers.calls waits there has)
     ∙ by_regions placed (filter (λ r. eqb r.call xid) k.regions)
 
 -- the buffers of a call that is outstanding have these bytes
-buffers_are : (opened : LinkParameters) (link : ℕ) (h : RequesterSide) (run : List Mark) (xid : ℕ) → HoldsPlaced opened link h run → CallsOffer (next_xid opened (client opened link run).state) (client opened link run).state →
-    AllByRecursion (IsWaiting (client opened link run).state.outstanding) (map (kept_call h.state.first_xid h.state.sent) h.state.outstanding) →
+buffers_are : (opened : LinkParameters) (link : ℕ) (h : RequesterSide) (run : List Mark) (xid : ℕ) → HoldsPlaced opened link h run → CallsOffer (client opened link run).state.next_xid (client opened link run).state →
+    AllByRecursion (IsWaiting (client opened link run).state.outstanding) (map (kept_call h.state.sent) h.state.outstanding) →
     IsOutstanding xid h.state → bytes_of_buffers (buffers_of xid h.state) ≡ revoked_bytes opened link run xid
 buffers_are opened link h run xid holds offers waits is =
     ap (λ (x : Option StoredCall). bytes_of_buffers (buffers_with h.state.side.memory x (find (λ (a : AnsweredCall). eqb a.xid xid) h.state.answered))) is.there
@@ -192,7 +191,7 @@ revoked_same opened link h stopped run xid out = λ i.
 outstanding_out : (opened : LinkParameters) (link : ℕ) (h : RequesterSide) (stopped run : List Mark) (xid : ℕ) → RequesterRunsOut opened link h stopped run → IsOutstanding xid h.state → bytes_of_buffers (buffers_of xid h.state) ≡ revoked_bytes opened link run xid
 outstanding_out opened link h stopped run xid out there =
     let now : CallsOffer _ (client opened link run).state = offers_after opened link h run out.answers in
-    let then : CallsOffer _ (record (client opened link stopped).state { written = out.written }) = subst (λ (e : EndState ClientState). CallsOffer (next_xid opened e.state) e.state) out.same now in
+    let then : CallsOffer _ (record (client opened link stopped).state { written = out.written }) = subst (λ (e : EndState ClientState). CallsOffer e.state.next_xid e.state) out.same now in
     buffers_are opened link h stopped xid (memory_out_lem opened link h stopped run out) (record { before = then.before; calls = then.calls }) out.out.keeps.waits there
     ∙ revoked_same opened link h stopped run xid out
 

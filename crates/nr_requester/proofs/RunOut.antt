@@ -29,21 +29,21 @@ use Rattle.nr_requester.proofs.AllMarks.{others_stay_out}
 -- ---- What its memory holds
 
 -- what is held for the calls as they are kept is held for them as they are stored
-stored_hold : (opened : LinkParameters) (link : ℕ) (run : List Mark) (m : RegisteredMemory) (count first sent : ℕ) (cs : List StoredCall) → count ≡ length (bytes_received link Initiator run) →
-    AllByRecursion (HoldsFor m (client opened link run).state count) (map (kept_call first sent) cs) →
+stored_hold : (opened : LinkParameters) (link : ℕ) (run : List Mark) (m : RegisteredMemory) (count sent : ℕ) (cs : List StoredCall) → count ≡ length (bytes_received link Initiator run) →
+    AllByRecursion (HoldsFor m (client opened link run).state count) (map (kept_call sent) cs) →
     AllByRecursion (λ c. AllByRecursion (λ stag. bytes_under m stag ≡ placed_bytes opened link Initiator run stag) (stags_of c.claims)) cs
 unfolding placed_bytes grants_of
-stored_hold opened link run m count first sent [] is h = tt
-stored_hold opened link run m count first sent (c ∷ cs) is h = (
+stored_hold opened link run m count sent [] is h = tt
+stored_hold opened link run m count sent (c ∷ cs) is h = (
   subst (λ (n : ℕ). AllByRecursion (λ stag. bytes_under m stag ≡ client_memory_at (client opened link run).state n stag) (stags_of c.claims)) is h.0,
-  stored_hold opened link run m count first sent cs is h.1,
+  stored_hold opened link run m count sent cs is h.1,
 )
 
 pub memory_as_client : MemoryAsClient
-memory_as_client opened link h run s = stored_hold opened link run h.state.side.memory _ h.state.first_xid h.state.sent h.state.outstanding refl s.keeps.kept.keeps.holds
+memory_as_client opened link h run s = stored_hold opened link run h.state.side.memory _ h.state.sent h.state.outstanding refl s.keeps.kept.keeps.holds
 
 pub memory_out_lem : MemoryOut
-memory_out_lem opened link h stopped run out = stored_hold opened link stopped h.state.side.memory _ h.state.first_xid h.state.sent h.state.outstanding refl out.out.keeps.holds
+memory_out_lem opened link h stopped run out = stored_hold opened link stopped h.state.side.memory _ h.state.sent h.state.outstanding refl out.out.keeps.holds
 
 -- ---- Of one that ran out of memory
 

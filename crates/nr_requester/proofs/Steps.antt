@@ -59,32 +59,32 @@ module _ (link0 : LinkSide) (lives : link0.state.ended ≡ None) where
   unfolding after_call
   next_memory = refl
 
-pub message_told : (link0 link1 link2 : LinkSide) (sent wished first next grant grant2 number : ℕ) (items items2 : List OutstandingCall) (answers answers2 : List AnsweredCall) (message : List ℕ) → link0.state.ended ≡ None →
+pub message_told : (link0 link1 link2 : LinkSide) (sent wished sends next grant grant2 number : ℕ) (items items2 : List OutstandingCall) (answers answers2 : List AnsweredCall) (message : List ℕ) → link0.state.ended ≡ None →
     link0.state.receive_queue.deliveries ≡ MessageReceived number None message ∷ [] → link0.rest ≡ [] → link1 ≡ after_call link0 NextEvent →
-    JudgesTo (kept_verdict (kept_views first sent items) (bytes_under link1.state.memory) message) message link1 link2 items items2 answers answers2 grant grant2 →
-    TakesDeliveries (requester_view link0 sent wished first next grant items answers) (requester_view link2 sent wished first next grant2 items2 answers2)
-message_told link0 link1 link2 sent wished first next grant grant2 number items items2 answers answers2 message lives is rest event judges =
-    by (kept_verdict (kept_views first sent items) (bytes_under link0.state.memory) message) refl
-    (subst (λ (m : RegisteredMemory). JudgesTo (kept_verdict (kept_views first sent items) (bytes_under m) message) message (after_call link0 NextEvent) link2 items items2 answers answers2 grant grant2) (next_memory link0 lives)
-    (subst (λ (l : LinkSide). JudgesTo (kept_verdict (kept_views first sent items) (bytes_under l.state.memory) message) message l link2 items items2 answers answers2 grant grant2) event judges))
+    JudgesTo (kept_verdict (kept_views sent items) (bytes_under link1.state.memory) message) message link1 link2 items items2 answers answers2 grant grant2 →
+    TakesDeliveries (requester_view link0 sent wished sends next grant items answers) (requester_view link2 sent wished sends next grant2 items2 answers2)
+message_told link0 link1 link2 sent wished sends next grant grant2 number items items2 answers answers2 message lives is rest event judges =
+    by (kept_verdict (kept_views sent items) (bytes_under link0.state.memory) message) refl
+    (subst (λ (m : RegisteredMemory). JudgesTo (kept_verdict (kept_views sent items) (bytes_under m) message) message (after_call link0 NextEvent) link2 items items2 answers answers2 grant grant2) (next_memory link0 lives)
+    (subst (λ (l : LinkSide). JudgesTo (kept_verdict (kept_views sent items) (bytes_under l.state.memory) message) message l link2 items items2 answers answers2 grant grant2) event judges))
   where
     before : RequesterFeeding
-    before = requester_view link0 sent wished first next grant items answers
+    before = requester_view link0 sent wished sends next grant items answers
 
     s : LinkState
     s = link0.state
 
     -- what is made of it, by the verdict
-    made : (v : ReplyVerdict) → kept_verdict (kept_views first sent items) (bytes_under s.memory) message ≡ v → with_deliveries_side before ≡ record { awaited = link0.awaited; rest = link0.rest; state = judged before.state s message v }
+    made : (v : ReplyVerdict) → kept_verdict (kept_views sent items) (bytes_under s.memory) message ≡ v → with_deliveries_side before ≡ record { awaited = link0.awaited; rest = link0.rest; state = judged before.state s message v }
     made v e = (λ i. record { awaited = link0.awaited; rest = link0.rest; state = with_deliveries before.state s (is i) }) ∙ ap (λ (x : ReplyVerdict). record { awaited = link0.awaited; rest = link0.rest; state = judged before.state s message x }) e
 
-    by : (v : ReplyVerdict) → kept_verdict (kept_views first sent items) (bytes_under s.memory) message ≡ v → JudgesTo v message (after_call link0 NextEvent) link2 items items2 answers answers2 grant grant2 → TakesDeliveries before (requester_view link2 sent wished first next grant2 items2 answers2)
+    by : (v : ReplyVerdict) → kept_verdict (kept_views sent items) (bytes_under s.memory) message ≡ v → JudgesTo v message (after_call link0 NextEvent) link2 items items2 answers answers2 grant grant2 → TakesDeliveries before (requester_view link2 sent wished sends next grant2 items2 answers2)
     by (EndsLink reason) e j = ended j.0
       where
-        same_calls : requester_view link2 sent wished first next grant2 items2 answers2 ≡ record { awaited = link2.awaited; rest = link2.rest; state = record before.state { side = link2.state } }
-        same_calls = λ i. record { awaited = link2.awaited; rest = link2.rest; state = record { side = link2.state; sent = sent; wished = wished; first_xid = first; next_xid = next; grant = j.1.1.1.0 i; outstanding = j.1.0 i; answered = j.1.1.0 i } }
+        same_calls : requester_view link2 sent wished sends next grant2 items2 answers2 ≡ record { awaited = link2.awaited; rest = link2.rest; state = record before.state { side = link2.state } }
+        same_calls = λ i. record { awaited = link2.awaited; rest = link2.rest; state = record { side = link2.state; sent = sent; wished = wished; sends = sends; next_xid = next; grant = j.1.1.1.0 i; outstanding = j.1.0 i; answered = j.1.1.0 i } }
 
-        ended : (link2 ≡ after_call (after_call (after_call link0 NextEvent) Post) (Stop reason)) ⊎ (link2 ≡ after_call (after_call (after_call link0 NextEvent) Post) OutOfMemory) → TakesDeliveries before (requester_view link2 sent wished first next grant2 items2 answers2)
+        ended : (link2 ≡ after_call (after_call (after_call link0 NextEvent) Post) (Stop reason)) ⊎ (link2 ≡ after_call (after_call (after_call link0 NextEvent) Post) OutOfMemory) → TakesDeliveries before (requester_view link2 sent wished sends next grant2 items2 answers2)
         ended (inl stop) = inl (
             same_calls
             ∙ ap (λ (l : LinkSide). record { awaited = l.awaited; rest = l.rest; state = record before.state { side = l.state } }) (stop ∙ stop_is link0 lives reason)
@@ -112,7 +112,7 @@ message_told link0 link1 link2 sent wished first next grant grant2 number items 
         j.0 ∙ ap (λ (m : RegisteredMemory). Rattle.nr_requester.specs.Buffers.with_memory (released_all m (Rattle.nr_requester.specs.AfterCalls.stags_for (word_at 0 message) (map stored_view items))) (after_call (after_call link0 NextEvent) Post)) (next_memory link0 lives)
         ∙ posted_is link0 lives (released_all s.memory (Rattle.nr_requester.specs.AfterCalls.stags_for (word_at 0 message) (map stored_view items))) in
         inl (
-        (λ i. record { awaited = (l i).awaited; rest = (l i).rest; state = record { side = (l i).state; sent = sent; wished = wished; first_xid = first; next_xid = next; grant = j.1.1.1 i; outstanding = j.1.0 i; answered = j.1.1.0 i } })
+        (λ i. record { awaited = (l i).awaited; rest = (l i).rest; state = record { side = (l i).state; sent = sent; wished = wished; sends = sends; next_xid = next; grant = j.1.1.1 i; outstanding = j.1.0 i; answered = j.1.1.0 i } })
         ∙ ap (λ (m : RegisteredMemory). record {
           awaited = link0.awaited;
           rest = link0.rest;
@@ -127,10 +127,10 @@ message_told link0 link1 link2 sent wished first next grant grant2 number items 
         )
 
 -- no event
-pub none_told : (link0 link2 : LinkSide) (sent wished first next grant : ℕ) (items : List OutstandingCall) (answers : List AnsweredCall) → link0.state.receive_queue.deliveries ≡ [] → link2 ≡ link0 → TakesDeliveries (requester_view link0 sent wished first next grant items answers) (requester_view link2 sent wished first next grant items answers)
-none_told link0 link2 sent wished first next grant items answers none same = inl (
-    ap (λ (l : LinkSide). requester_view l sent wished first next grant items answers) same
-    ∙ ap (λ (ns : List DeliveredEvent). record { awaited = link0.awaited; rest = link0.rest; state = with_deliveries (requester_view link0 sent wished first next grant items answers).state link0.state ns }) (sym none)
+pub none_told : (link0 link2 : LinkSide) (sent wished sends next grant : ℕ) (items : List OutstandingCall) (answers : List AnsweredCall) → link0.state.receive_queue.deliveries ≡ [] → link2 ≡ link0 → TakesDeliveries (requester_view link0 sent wished sends next grant items answers) (requester_view link2 sent wished sends next grant items answers)
+none_told link0 link2 sent wished sends next grant items answers none same = inl (
+    ap (λ (l : LinkSide). requester_view l sent wished sends next grant items answers) same
+    ∙ ap (λ (ns : List DeliveredEvent). record { awaited = link0.awaited; rest = link0.rest; state = with_deliveries (requester_view link0 sent wished sends next grant items answers).state link0.state ns }) (sym none)
     )
 
 -- ---- A step

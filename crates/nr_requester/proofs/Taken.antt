@@ -23,8 +23,9 @@ use Rattle.nr_requester.specs.HeldClaims.{AreHeldFrom, all_claims, OffersOwn}
 use Rattle.nr_requester.specs.AfterCalls.{stags_in}
 use Rattle.nr_requester.specs.AfterPiece.{answered_as, answer_to, call_of, without_call}
 use Rattle.nr_requester.specs.Buffers.{with_memory}
-use Rattle.nr_requester.specs.Judged.{SameCalls, kept_views}
+use Rattle.nr_requester.specs.Judged.{SameCall, SameCalls, kept_views}
 use Rattle.nr_requester.specs.Fed.{CallsSound, JudgesTo}
+use Rattle.nr_requester.specs.HeldBytes.{xid_of, AreRisingBy}
 use Rattle.nr_requester.specs.Views.{HasRoom, AreRising, IsAnswered, stored_view}
 use Rattle.nr_requester.proofs.FoundCalls.{IsOfCall, verdict_call}
 use Rattle.nr_requester.proofs.AnswerSteps.{all_append}
@@ -59,21 +60,25 @@ same_rooms len (x ∷ xs) (y ∷ ys) h o = (
   same_rooms len xs ys h.1 o.1,
 )
 
-same_above : (n : ℕ) (xs ys : List OutstandingCall) → SameCalls xs ys → AllByRecursion (λ (d : OutstandingCall). n < d.xid) xs → AllByRecursion (λ (d : OutstandingCall). n < d.xid) ys
-same_above n [] [] h o = tt
-same_above n [] (y ∷ ys) h o = absurd h
-same_above n (x ∷ xs) [] h o = absurd h
-same_above n (x ∷ xs) (y ∷ ys) h o = (subst (λ (d : OutstandingCall). n < d.xid) (sym h.0.0) o.0, same_above n xs ys h.1 o.1)
+abbrev SameNumber : (OutstandingCall → ℕ) → Type 0
+SameNumber number = (before after : OutstandingCall) → SameCall before after → number after ≡ number before
 
-same_rising : (next : ℕ) (xs ys : List OutstandingCall) → SameCalls xs ys → AreRising xs next → AreRising ys next
-same_rising next [] [] h o = tt
-same_rising next [] (y ∷ ys) h o = absurd h
-same_rising next (x ∷ xs) [] h o = absurd h
-same_rising next (x ∷ xs) (y ∷ ys) h o = (
-  subst (λ (d : OutstandingCall). d.xid < next) (sym h.0.0) o.0,
+same_above : (number : OutstandingCall → ℕ) → SameNumber number → (n : ℕ) (xs ys : List OutstandingCall) → SameCalls xs ys → AllByRecursion (λ (d : OutstandingCall). n < number d) xs → AllByRecursion (λ (d : OutstandingCall). n < number d) ys
+same_above number same n [] [] h o = tt
+same_above number same n [] (y ∷ ys) h o = absurd h
+same_above number same n (x ∷ xs) [] h o = absurd h
+same_above number same n (x ∷ xs) (y ∷ ys) h o = (subst (λ (k : ℕ). n < k) (sym (same x y h.0)) o.0, same_above number same n xs ys h.1 o.1)
+
+-- the calls are in the order of numbers that stay
+pub same_rising : (number : OutstandingCall → ℕ) → SameNumber number → (next : ℕ) (xs ys : List OutstandingCall) → SameCalls xs ys → AreRisingBy number xs next → AreRisingBy number ys next
+same_rising number same next [] [] h o = tt
+same_rising number same next [] (y ∷ ys) h o = absurd h
+same_rising number same next (x ∷ xs) [] h o = absurd h
+same_rising number same next (x ∷ xs) (y ∷ ys) h o = (
+  subst (λ (k : ℕ). k < next) (sym (same x y h.0)) o.0,
   (
-    subst (λ (d : OutstandingCall). AllByRecursion (λ (e : OutstandingCall). d.xid < e.xid) ys) (sym h.0.0) (same_above x.xid xs ys h.1 o.1.0),
-    same_rising next xs ys h.1 o.1.1,
+    subst (λ (k : ℕ). AllByRecursion (λ (e : OutstandingCall). k < number e) ys) (sym (same x y h.0)) (same_above number same (number x) xs ys h.1 o.1.0),
+    same_rising number same next xs ys h.1 o.1.1,
   ),
 )
 
@@ -100,7 +105,7 @@ same_sound len m next room xs ys answers h s = record {
   held = subst (λ (cs : List Rattle.nr_regions.specs.RegisteredMemory.Claim). AreHeldFrom m 0 cs) (sym (same_claims xs ys h)) s.held;
   offers = same_offers xs ys h s.offers;
   rooms = same_rooms len xs ys h s.rooms;
-  rising = same_rising next xs ys h s.rising;
+  rising = same_rising xid_of (λ x y same. ap (λ (c : OutstandingCall). c.xid) same.0) next xs ys h s.rising;
   apart = same_apart next xs ys answers h s.apart;
   has_room = (let le = s.has_room in omega (arith, le, same_length xs ys h));
 }
@@ -141,11 +146,11 @@ completed_sound len m next room at items answers d p o lt s =
     }
 
 -- what the verdict makes
-pub judged_gives : (len first sent next room at : ℕ) (link link2 : LinkSide) (items mid : List OutstandingCall) (answers answers2 : List AnsweredCall) (grant grant2 : ℕ) (message : List ℕ) (d : OutstandingCall) (outcome : Option Outcome) (memory : Bytes) →
-    kept_verdict (kept_views first sent items) memory message ≡ GivesOutcome (get_or items at d).xid outcome → at < length mid → SameCalls items mid → CallsSound len link.state.memory next items answers room → (get_or items at d).xid ≡ (get_or mid at d).xid →
+pub judged_gives : (len sent next room at : ℕ) (link link2 : LinkSide) (items mid : List OutstandingCall) (answers answers2 : List AnsweredCall) (grant grant2 : ℕ) (message : List ℕ) (d : OutstandingCall) (outcome : Option Outcome) (memory : Bytes) →
+    kept_verdict (kept_views sent items) memory message ≡ GivesOutcome (get_or items at d).xid outcome → at < length mid → SameCalls items mid → CallsSound len link.state.memory next items answers room → (get_or items at d).xid ≡ (get_or mid at d).xid →
     link2 ≡ with_memory (released_all link.state.memory (stags_of (get_or mid at d).claims)) (after_call link Post) → answers2 ≡ answers ++ answered_as link.state.memory (stored_view (get_or mid at d)) (awaited_call (stored_view (get_or mid at d))) outcome → grant2 ≡ credits_of_word (word_at 8 message) →
-    JudgesTo (kept_verdict (kept_views first sent items) memory message) message link link2 items (remove mid at) answers answers2 grant grant2
-judged_gives len first sent next room at link link2 items mid answers answers2 grant grant2 message d outcome memory verdict lt same sound xid link_is answers_are grant_is =
+    JudgesTo (kept_verdict (kept_views sent items) memory message) message link link2 items (remove mid at) answers answers2 grant grant2
+judged_gives len sent next room at link link2 items mid answers answers2 grant grant2 message d outcome memory verdict lt same sound xid link_is answers_are grant_is =
     let xs : List OutstandingCall = take at mid in
     let c : OutstandingCall = get_or mid at d in
     let zs : List OutstandingCall = drop (suc at) mid in
@@ -153,7 +158,7 @@ judged_gives len first sent next room at link link2 items mid answers answers2 g
     let s : CallsSound len link.state.memory next mid answers room = same_sound len link.state.memory next room items mid answers same sound in
     let rising : AreRising (xs ++ c ∷ zs) next = subst (λ (ys : List OutstandingCall). AreRising ys next) whole s.rising in
     let views : map stored_view items ≡ map stored_view (xs ++ c ∷ zs) = sym (same_views items mid same) ∙ ap (λ (ys : List OutstandingCall). map stored_view ys) whole in
-    let of : IsOfCall (map stored_view items) message (get_or items at d).xid = verdict_call first sent (map stored_view items) memory message (get_or items at d).xid outcome verdict in
+    let of : IsOfCall (map stored_view items) message (get_or items at d).xid = verdict_call sent (map stored_view items) memory message (get_or items at d).xid outcome verdict in
     let own : c.xid ≡ word_at 0 message = sym xid ∙ of.own in
     let found : call_of (word_at 0 message) (map stored_view items) ≡ Some (stored_view c) = (λ i. call_of (sym own i) (views i)) ∙ found_here xs c zs next rising in
     let without : map stored_view (xs ++ zs) ≡ without_call (word_at 0 message) (map stored_view items) = sym (without_here xs c zs next rising) ∙ (λ i. without_call (own i) (sym views i)) in

@@ -180,7 +180,7 @@ submit_opens h call plan fresh = record {
     next = h.state.next_xid
 
     stored : StoredCall
-    stored = stored_call next call plan h.state.side.memory
+    stored = stored_call next h.state.sends call plan h.state.side.memory
 
 -- ---- The outcome of a call whose memory wasn't revoked
 
@@ -231,30 +231,30 @@ abbrev or_kept : KeptCall → Option KeptCall → KeptCall
 or_kept c None = c
 or_kept c (Some d) = d
 
-kept_has : (first sent : ℕ) (calls : List StoredCall) (w : ℕ) (k : KeptCall) → HasCalls w calls → kept_by (map (kept_call first sent) calls) w ≡ Some k → is_some k.call ≡ true
-kept_has first sent [] w k h e = absurd (let wrong : None ≡ Some k = e in cc)
-kept_has first sent (d ∷ calls) w k h e = by (eqb d.xid w) refl (kept_call first sent d).is_sent (λ g. kept_has first sent calls w k h.1 g) e
+kept_has : (sent : ℕ) (calls : List StoredCall) (w : ℕ) (k : KeptCall) → HasCalls w calls → kept_by (map (kept_call sent) calls) w ≡ Some k → is_some k.call ≡ true
+kept_has sent [] w k h e = absurd (let wrong : None ≡ Some k = e in cc)
+kept_has sent (d ∷ calls) w k h e = by (eqb d.xid w) refl (kept_call sent d).is_sent (λ g. kept_has sent calls w k h.1 g) e
   where
-    by : (b : Bool) → eqb d.xid w ≡ b → (sent_one : Bool) → (kept_by (map (kept_call first sent) calls) w ≡ Some k → is_some k.call ≡ true) →
-        cond (b && sent_one) (Some (kept_call first sent d)) (kept_by (map (kept_call first sent) calls) w) ≡ Some k → is_some k.call ≡ true
+    by : (b : Bool) → eqb d.xid w ≡ b → (sent_one : Bool) → (kept_by (map (kept_call sent) calls) w ≡ Some k → is_some k.call ≡ true) →
+        cond (b && sent_one) (Some (kept_call sent d)) (kept_by (map (kept_call sent) calls) w) ≡ Some k → is_some k.call ≡ true
     by true is true rest g =
-        let same : kept_call first sent d ≡ k = ap (λ (o : Option KeptCall). or_kept (kept_call first sent d) o) g in
+        let same : kept_call sent d ≡ k = ap (λ (o : Option KeptCall). or_kept (kept_call sent d) o) g in
         ap (λ (x : KeptCall). is_some x.call) (sym same) ∙ h.0 (eqb-true d.xid w is)
     by true is false rest g = rest g
     by false is s rest g = rest g
 
-pub gives_some : (first sent : ℕ) (calls : List StoredCall) (memory : Bytes) (message : List ℕ) (xid : ℕ) (outcome : Option Outcome) → kept_verdict (map (kept_call first sent) calls) memory message ≡ GivesOutcome xid outcome → HasCalls (word_at 0 message) calls →
+pub gives_some : (sent : ℕ) (calls : List StoredCall) (memory : Bytes) (message : List ℕ) (xid : ℕ) (outcome : Option Outcome) → kept_verdict (map (kept_call sent) calls) memory message ≡ GivesOutcome xid outcome → HasCalls (word_at 0 message) calls →
     is_some outcome ≡ true
 unfolding kept_verdict
-gives_some first sent calls memory message xid outcome e has = by (header_of message) refl e
+gives_some sent calls memory message xid outcome e has = by (header_of message) refl e
   where
-    by_found : (h : Header) → header_of message ≡ Ok h → (o : Option KeptCall) → kept_by (map (kept_call first sent) calls) h.xid ≡ o → by_kept_call memory message h.body o ≡ GivesOutcome xid outcome → is_some outcome ≡ true
+    by_found : (h : Header) → header_of message ≡ Ok h → (o : Option KeptCall) → kept_by (map (kept_call sent) calls) h.xid ≡ o → by_kept_call memory message h.body o ≡ GivesOutcome xid outcome → is_some outcome ≡ true
     by_found h is None f e = absurd cc
     by_found h is (Some c) f e =
-        body_some c memory message h.body (kept_has first sent calls h.xid c (subst (λ (n : ℕ). HasCalls n calls) (sym (header_xid message h is)) has) f) xid outcome e
+        body_some c memory message h.body (kept_has sent calls h.xid c (subst (λ (n : ℕ). HasCalls n calls) (sym (header_xid message h is)) has) f) xid outcome e
 
-    by : (r : Result Header HeaderFault) → header_of message ≡ r → kept_header (map (kept_call first sent) calls) memory message r ≡ GivesOutcome xid outcome → is_some outcome ≡ true
-    by (Ok h) is e = by_found h is (kept_by (map (kept_call first sent) calls) h.xid) refl e
+    by : (r : Result Header HeaderFault) → header_of message ≡ r → kept_header (map (kept_call sent) calls) memory message r ≡ GivesOutcome xid outcome → is_some outcome ≡ true
+    by (Ok h) is e = by_found h is (kept_by (map (kept_call sent) calls) h.xid) refl e
     by (Err faults.Short) is e = absurd cc
     by (Err (faults.Version version)) is e = absurd cc
     by (Err (faults.Kind kind)) is e = absurd cc
@@ -384,11 +384,11 @@ with_deliveries_keeps r s (MessageReceived number invalidated message ∷ ns) k 
     by : (x : ℕ) (v : ReplyVerdict) → kept_verdict (kept_calls r) (bytes_under s.memory) message ≡ v → open_call x (judged r s message v) ≡ open_call x r
     by x (EndsLink reason) e = refl
     by x (GivesOutcome xid outcome) e =
-        let of : IsOfCall r.outstanding message xid = verdict_call r.first_xid r.sent r.outstanding (bytes_under s.memory) message xid outcome e in
+        let of : IsOfCall r.outstanding message xid = verdict_call r.sent r.outstanding (bytes_under s.memory) message xid outcome e in
         let w : ℕ = word_at 0 message in
         ap (λ (o : Option StoredCall). call_with (find (λ (c : StoredCall). eqb c.xid x) (without_call w r.outstanding)) (find (λ (a : AnsweredCall). eqb a.xid x) (r.answered ++ answer_to s.memory o outcome))) of.found
         ∙ moved_keeps s.memory w x of.call r.outstanding r.answered outcome of.found (k.answers w of.call of.found)
-        (λ has. gives_some r.first_xid r.sent r.outstanding (bytes_under s.memory) message xid outcome e (k.calls w of.call of.found (awaited_has of.call.is_forgotten of.call.call has)))
+        (λ has. gives_some r.sent r.outstanding (bytes_under s.memory) message xid outcome e (k.calls w of.call of.found (awaited_has of.call.is_forgotten of.call.call has)))
 with_deliveries_keeps r s (ReadDone ∷ ns) k = λ x. refl
 
 told_keeps : (r : RequesterState) (s : LinkState) (e : Option End) → AreApart r → KeepsTickets r (unless_ended r s e)

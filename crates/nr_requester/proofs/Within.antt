@@ -2,29 +2,25 @@
 use Rattle.std.proofs.Common.{◌≡◌, ℕ, ◌+◌, ◌-◌, ◌^◌, ◌<◌, ◌≤◌, max, Bool, true, false, List, [], ◌∷◌, ◌++◌, length, Option, None, Some, Ok, refl, sym, ap, subst, ◌∙◌, arith, length-append}
 use Rattle.std.specs.Prelude.{is_some}
 use Rattle.std.specs.List.{AllByRecursion}
-use Rattle.std.proofs.lemmas.List.{length-drop}
 use Rattle.std.proofs.Math.Nat.{min-le_right}
 use Rattle.std.specs.Ordering.{nat_cmp}
 use Rattle.std.specs.FinMap.{empty, get-empty}
+use Rattle.nr_header.specs.declared.header.ChunkLists.{ChunkLists}
 use Rattle.nr_rpc.specs.Constants.{MACHINE_MAX}
 use Rattle.nr_endpoint.specs.declared.offering.Claims.{Claims}
-use Rattle.nr_wire.specs.Fields.{half_word}
 use Rattle.nr_rpc.specs.declared.cred.Cred.{Cred}
 use Rattle.nr_rpc.specs.declared.cred.Cred.TheVariants as creds
 use Rattle.nr_rpc.specs.Credential.{CanWriteCred}
 use Rattle.nr_rpc.specs.declared.head.CallHead.TheVariants.{Version2}
 use Rattle.nr_rpc.specs.Call.{call_head}
-use Rattle.nr_wire.specs.Constants.{FPDU_MAX, NUMBERED_TERMS_LEN, UNITS_MAX}
+use Rattle.nr_wire.specs.Constants.{FPDU_MAX, UNITS_MAX}
 use Rattle.nr_wire.specs.declared.hello.Side.TheVariants.{Initiator}
-use Rattle.nr_wire.specs.Hello.{hello_encoding, key}
 use Rattle.nr_regions.specs.RegisteredMemory.{RegisteredMemory, initial_memory, held_region, Region}
 use Rattle.nr_regions.proofs.Totals.{sound_initial}
-use Rattle.nr_regions.specs.Table.{region_len}
 use Rattle.nr_link.specs.declared.end.End.{End}
 use Rattle.nr_link.specs.Limits.{open_reads_max}
 use Rattle.nr_link.specs.declared.agreement.SideTerms.{SideTerms}
 use Rattle.nr_link.specs.Agreement.{initiator_private}
-use Rattle.nr_link.specs.Output.{hello_with}
 use Rattle.nr_endpoint.specs.Hellos.{receive_length_for}
 use Rattle.nr_endpoint.specs.EndpointState.{EndpointState}
 use Rattle.nr_endpoint.specs.SendQueue.{SendQueue, with_send, written}
@@ -36,7 +32,7 @@ use Rattle.nr_reduce.specs.declared.call.Call.{Call}
 use Rattle.nr_reduce.specs.declared.call.Form.{Form}
 use Rattle.nr_reduce.specs.declared.outline.Plan.{Plan}
 use Rattle.nr_reduce.specs.ClientState.{call_payload}
-use Rattle.nr_reduce.specs.Plans.{total, plan_of, buffers, call_message, regions_needed}
+use Rattle.nr_reduce.specs.Plans.{total, plan_of, buffers, call_message, lists_of, regions_needed}
 use Rattle.nr_reduce.specs.KeptClient.{registered_all}
 use Rattle.nr_reduce.proofs.PrivateData.{initiator_short}
 use Rattle.nr_reduce.proofs.Sizes.{message_size}
@@ -44,13 +40,15 @@ use Rattle.nr_requester.specs.declared.answer.AnsweredCall.{AnsweredCall}
 use Rattle.nr_requester.specs.declared.outstanding.OutstandingCall.{OutstandingCall}
 use Rattle.nr_requester.specs.AfterCalls.{submitted, sent_unless}
 use Rattle.nr_requester.specs.Sending.{IsPlan, offered_of}
-use Rattle.nr_requester.specs.Views.{AreRising}
-use Rattle.nr_requester.specs.HeldBytes.{NothingOutside, cred_bytes, call_bytes, stored_bytes, receive_max, hello_max, call_max, QueueFits, LinkFits, RegionsHave, CountsFit, claims_len, claims_total, CallFits, PlanFits, RequesterBounds, reply_room}
-use Rattle.nr_requester.proofs.OutputBounds.{send_fits, written_fits, count_fewer}
-use Rattle.nr_requester.proofs.PlanBounds.{plan_bounds, payload_small}
+use Rattle.nr_requester.specs.HeldBytes.{NothingOutside, cred_bytes, call_bytes, stored_bytes, receive_max, call_max, QueueFits, LinkFits, region_size, IsCount, RegionsHave, send_of, CountsFit, in_bytes, claims_size, claims_len, claims_total, CallFits, PlanFits, RequesterBounds, reply_room, segments_offered, offered_segments_max}
+use Rattle.nr_endpoint.proofs.OutputSizes.{hello_len, written_hello}
+use Rattle.nr_endpoint.proofs.SendQueues.{ends_left_fewer}
+use Rattle.nr_requester.proofs.OutputBounds.{send_fits, written_fits}
+use Rattle.nr_requester.proofs.PlanBounds.{plan_bounds, plan_segments, payload_small}
 use Rattle.nr_requester.proofs.OutsideBounds.{opened_outside, same_outside}
-use Rattle.nr_requester.proofs.RegionBounds.{Both, offered_both, plan_short, plan_len}
+use Rattle.nr_requester.proofs.RegionBounds.{Both, bytes_count, offered_both, plan_short, plan_len}
 use Rattle.nr_requester.proofs.Sent.{count_offered, registered_offered}
+use Rattle.nr_requester.proofs.HeldRegions.{rising_append}
 use Rattle.nr_requester.proofs.Unsent.{counts_written, counts_sent}
 
 -- ---- As it is opened
@@ -64,26 +62,22 @@ some_region r = Some r
 none_there : {X : Type 0} (r : Region) → no_region ≡ some_region r → X
 none_there r e = absurd cc
 
-first_regions : (first_stag : ℕ) → first_stag ≤ 2 ^ 32 → Both (initial_memory first_stag) 0
+first_regions : (size : ℕ → ℕ) (first_stag : ℕ) → first_stag ≤ 2 ^ 32 → Both size (initial_memory first_stag) 0
 unfolding initial_memory held_region
-first_regions first_stag fits = (
+first_regions size first_stag fits = (
   λ stag r there. none_there r (sym (get-empty nat_cmp stag) ∙ there),
-  sound_initial region_len first_stag fits,
+  sound_initial (region_size size) first_stag fits,
 )
-
-hello_len : (private : List ℕ) → length private ≤ NUMBERED_TERMS_LEN → length (hello_with Initiator private) ≤ hello_max
-unfolding hello_with hello_encoding key half_word
-hello_len private short = omega (arith, short)
 
 -- units that count are at most UNITS_MAX
 receive_small : (terms : SideTerms) → receive_length_for terms ≤ receive_max
 receive_small terms = omega (arith, min-le_right (max terms.units 1) UNITS_MAX)
 
-first_link : (first_stag : ℕ) (terms : SideTerms) → first_stag ≤ 2 ^ 32 →
-    LinkFits (receive_length_for terms) (initial_link Initiator 1 first_stag terms).state × RegionsHave (initial_link Initiator 1 first_stag terms).state.memory 0
+first_link : (size : ℕ → ℕ) (first_stag : ℕ) (terms : SideTerms) → first_stag ≤ 2 ^ 32 →
+    LinkFits (receive_length_for terms) (initial_link Initiator 1 first_stag terms).state × RegionsHave size (initial_link Initiator 1 first_stag terms).state.memory 0
 unfolding initial_link
-first_link first_stag terms fits =
-    let b = first_regions first_stag fits in (
+first_link size first_stag terms fits =
+    let b = first_regions size first_stag fits in (
       record {
         side = refl;
         receives = refl;
@@ -91,7 +85,7 @@ first_link first_stag terms fits =
         receive = receive_small terms;
         up = (omega arith, omega arith);
         down = (omega arith, omega arith);
-        hello = hello_len (initiator_private terms) (initiator_short terms);
+        hello = hello_len Initiator (initiator_private terms) (initiator_short terms);
         queue = λ n. omega arith;
         responses = omega arith;
         regions = b.0;
@@ -99,30 +93,29 @@ first_link first_stag terms fits =
       b.1,
     )
 
-first_counts : (first first_stag : ℕ) (terms : SideTerms) → CountsFit first first (initial_link Initiator 1 first_stag terms).state.send_queue []
+first_counts : (first_stag : ℕ) (terms : SideTerms) → CountsFit 0 (initial_link Initiator 1 first_stag terms).state.send_queue []
 unfolding initial_link
-first_counts first first_stag terms = record { waiting = omega arith; numbered = omega arith }
+first_counts first_stag terms = record { waiting = omega arith; numbered = omega arith }
 
-pub opened_within : (e : EndpointState) (len first first_stag next : ℕ) (terms : SideTerms) (calls : List OutstandingCall) (answers : List AnsweredCall) → length e.staging ≡ FPDU_MAX → e.outside ≡ empty → e.link ≡ initial_link Initiator 1 first_stag terms → len ≡ receive_length_for terms →
-    first_stag < 2 ^ 32 → next ≡ first → calls ≡ [] → answers ≡ [] → RequesterBounds len e first next calls answers
-opened_within e len first first_stag next terms calls answers staging nothing is receives fits same none empty =
-    let l = first_link first_stag terms (omega (arith, fits)) in
-    let all : RequesterBounds (receive_length_for terms) e first first [] [] = record {
+pub opened_within : (e : EndpointState) (len first_stag next : ℕ) (terms : SideTerms) (calls : List OutstandingCall) (answers : List AnsweredCall) → length e.staging ≡ FPDU_MAX → e.outside ≡ empty → e.link ≡ initial_link Initiator 1 first_stag terms → len ≡ receive_length_for terms →
+    first_stag < 2 ^ 32 → calls ≡ [] → answers ≡ [] → RequesterBounds len e 0 next calls answers
+opened_within e len first_stag next terms calls answers staging nothing is receives fits none empty =
+    let le : first_stag ≤ 2 ^ 32 = omega (arith, fits) in
+    let all : RequesterBounds (receive_length_for terms) e 0 next [] [] = record {
       staging = staging;
       outside = opened_outside e first_stag terms is nothing (omega (arith, fits));
-      from = tt;
+      numbers = tt;
       order = omega arith;
-      link = subst (λ (x : LinkSide). LinkFits (receive_length_for terms) x.state) (sym is) l.0;
-      regions = subst (λ (x : LinkSide). RegionsHave x.state.memory 0) (sym is) l.1;
-      counts = subst (λ (x : LinkSide). CountsFit first first x.state.send_queue []) (sym is) (first_counts first first_stag terms);
+      link = subst (λ (x : LinkSide). LinkFits (receive_length_for terms) x.state) (sym is) (first_link in_bytes first_stag terms le).0;
+      regions = λ size counts. subst (λ (x : LinkSide). RegionsHave size x.state.memory 0) (sym is) (first_link size first_stag terms le).1;
+      counts = subst (λ (x : LinkSide). CountsFit 0 x.state.send_queue []) (sym is) (first_counts first_stag terms);
       each = tt;
       kept = tt;
       distinct = tt;
     } in
-    subst (λ (n : ℕ). RequesterBounds n e first next calls answers) (sym receives)
-    (subst (λ (n : ℕ). RequesterBounds (receive_length_for terms) e first n calls answers) (sym same)
-    (subst (λ (cs : List OutstandingCall). RequesterBounds (receive_length_for terms) e first first cs answers) (sym none)
-    (subst (λ (ys : List AnsweredCall). RequesterBounds (receive_length_for terms) e first first [] ys) (sym empty) all)))
+    subst (λ (n : ℕ). RequesterBounds n e 0 next calls answers) (sym receives)
+    (subst (λ (cs : List OutstandingCall). RequesterBounds (receive_length_for terms) e 0 next cs answers) (sym none)
+    (subst (λ (ys : List AnsweredCall). RequesterBounds (receive_length_for terms) e 0 next [] ys) (sym empty) all))
 
 -- ---- A call more
 
@@ -130,24 +123,24 @@ all_append : (P : OutstandingCall → Type 0) (xs : List OutstandingCall) (o : O
 all_append P [] o h one = (one, tt)
 all_append P (x ∷ xs) o h one = (h.0, all_append P xs o h.1 one)
 
-total_append : (xs : List OutstandingCall) (o : OutstandingCall) → claims_total (xs ++ o ∷ []) ≡ claims_total xs + claims_len o.claims
-total_append [] o = omega arith
-total_append (x ∷ xs) o = (let rest = total_append xs o in omega (arith, rest))
+total_append : (size : ℕ → ℕ) (xs : List OutstandingCall) (o : OutstandingCall) → claims_total size (xs ++ o ∷ []) ≡ claims_total size xs + claims_size size o.claims
+total_append size [] o = omega arith
+total_append size (x ∷ xs) o = (let rest = total_append size xs o in omega (arith, rest))
 
 -- the message of a plan is queued and its regions are registered
-sent_state : (s : LinkState) (plan : Plan) (len xid credit total : ℕ) → IsPlan plan → s.ended ≡ None → s.memory.next + regions_needed plan ≤ 2 ^ 32 → LinkFits len s → RegionsHave s.memory total →
+sent_state : (size : ℕ → ℕ) → IsCount size → (s : LinkState) (plan : Plan) (len xid credit total : ℕ) → IsPlan plan → s.ended ≡ None → s.memory.next + regions_needed plan ≤ 2 ^ 32 → LinkFits len s → RegionsHave size s.memory total →
     LinkFits len (submitted s (call_message xid credit s.memory.next plan) (buffers s.memory.next plan))
-    × RegionsHave (submitted s (call_message xid credit s.memory.next plan) (buffers s.memory.next plan)).memory (total + claims_len (claims_of s.memory (offered_of plan)))
-sent_state s plan len xid credit total i lives stags l have =
+    × RegionsHave size (submitted s (call_message xid credit s.memory.next plan) (buffers s.memory.next plan)).memory (total + claims_size size (claims_of s.memory (offered_of plan)))
+sent_state size counts s plan len xid credit total i lives stags l have =
     let live : has_ended s ≡ false = ap (λ (x : Option End). is_some x) lives in
     let fits : PlanFits plan = plan_bounds i.payload i.form i.up i.down plan i.is in
     let message : List ℕ = call_message xid credit s.memory.next plan in
-    let size = (message_size i.payload i.form i.up i.down xid credit s.memory.next plan i.is).1 in
-    let small : length message ≤ receive_max = omega (arith, size, i.short) in
-    let both = offered_both s.memory (offered_of plan) total (plan_short plan fits) (omega (arith, stags, count_offered plan)) (l.regions, have) in
+    let sent = (message_size i.payload i.form i.up i.down xid credit s.memory.next plan i.is).1 in
+    let small : length message ≤ receive_max = omega (arith, sent, i.short) in
+    let both = offered_both size counts s.memory (offered_of plan) total (plan_short plan fits) (omega (arith, stags, count_offered plan)) (l.regions, have) in
     let here : registered_all s.memory (buffers s.memory.next plan) ≡ with_offered s.memory (offered_of plan) = registered_offered s.memory s.memory.next plan in
-    let after : Both (registered_all s.memory (buffers s.memory.next plan)) (total + claims_len (claims_of s.memory (offered_of plan))) =
-    subst (λ (m : RegisteredMemory). Both m (total + claims_len (claims_of s.memory (offered_of plan)))) (sym here) both in (
+    let after : Both size (registered_all s.memory (buffers s.memory.next plan)) (total + claims_size size (claims_of s.memory (offered_of plan))) =
+    subst (λ (m : RegisteredMemory). Both size m (total + claims_size size (claims_of s.memory (offered_of plan)))) (sym here) both in (
       record {
         side = l.side;
         receives = l.receives;
@@ -163,32 +156,36 @@ sent_state s plan len xid credit total i lives stags l have =
       after.1,
     )
 
-pub sent_within : (e e2 : EndpointState) (len first next xid credit : ℕ) (calls calls2 : List OutstandingCall) (answers answers2 : List AnsweredCall) (o : OutstandingCall) (plan : Plan) → RequesterBounds len e first next calls answers → AreRising calls next → e2.staging ≡ e.staging → (NothingOutside e → NothingOutside e2) →
+sum_sent : (size : ℕ → ℕ) (calls : List OutstandingCall) (o : OutstandingCall) (claims : Claims) → o.claims ≡ claims → claims_total size calls + claims_size size claims ≡ claims_total size (calls ++ o ∷ [])
+sum_sent size calls o claims is = omega (arith, ap (λ (c : Claims). claims_size size c) is, total_append size calls o)
+
+pub sent_within : (e e2 : EndpointState) (len sends next xid credit : ℕ) (calls calls2 : List OutstandingCall) (answers answers2 : List AnsweredCall) (o : OutstandingCall) (plan : Plan) → RequesterBounds len e sends next calls answers → e2.staging ≡ e.staging → (NothingOutside e → NothingOutside e2) →
     e2.link ≡ with_state (submitted e.link.state (call_message xid credit e.link.state.memory.next plan) (buffers e.link.state.memory.next plan)) e.link → IsPlan plan → e.link.state.ended ≡ None →
-    e.link.state.memory.next + regions_needed plan ≤ 2 ^ 32 → o.claims ≡ claims_of e.link.state.memory (offered_of plan) → stored_bytes o.call ≤ call_max → o.room.bytes ≡ [] → o.room.len ≡ reply_room len o.offered → o.room.len ≤ len + (total plan.write + (total plan.reply + 3)) → o.xid ≡ next → calls2 ≡ calls ++ o ∷ [] → answers2 ≡ answers → RequesterBounds len e2 first (next + 1) calls2 answers2
-sent_within e e2 len first next xid credit calls calls2 answers answers2 o plan w rising same none link_is i lives stags claims small empty offered room number more kept =
+    e.link.state.memory.next + regions_needed plan ≤ 2 ^ 32 → o.claims ≡ claims_of e.link.state.memory (offered_of plan) → o.offered ≡ lists_of e.link.state.memory.next plan → stored_bytes o.call ≤ call_max → o.room.bytes ≡ [] → o.room.len ≡ reply_room len o.offered → o.room.len ≤ len + (total plan.write + (total plan.reply + 3)) → o.send ≡ sends → calls2 ≡ calls ++ o ∷ [] → answers2 ≡ answers → RequesterBounds len e2 (sends + 1) (next + 1) calls2 answers2
+sent_within e e2 len sends next xid credit calls calls2 answers answers2 o plan w same none link_is i lives stags claims lists small empty offered room number more kept =
     let s : LinkState = e.link.state in
     let after : LinkState = submitted s (call_message xid credit s.memory.next plan) (buffers s.memory.next plan) in
     let state : e2.link.state ≡ after = ap (λ (l : LinkSide). l.state) link_is in
-    let l = sent_state s plan len xid credit (claims_total calls) i lives stags w.link w.regions in
+    let sent : (size : ℕ → ℕ) → IsCount size → LinkFits len after × RegionsHave size after.memory (claims_total size calls + claims_size size (claims_of s.memory (offered_of plan))) =
+    λ size is. sent_state size is s plan len xid credit (claims_total size calls) i lives stags w.link (w.regions size is) in
     let own : claims_len o.claims ≡ claims_len (claims_of s.memory (offered_of plan)) = ap (λ (c : Claims). claims_len c) claims in
-    let sum : claims_total calls + claims_len (claims_of s.memory (offered_of plan)) ≡ claims_total (calls ++ o ∷ []) = omega (arith, own, total_append calls o) in
+    let sum : (size : ℕ → ℕ) → claims_total size calls + claims_size size (claims_of s.memory (offered_of plan)) ≡ claims_total size (calls ++ o ∷ []) = λ size. sum_sent size calls o _ claims in
     let fits : PlanFits plan = plan_bounds i.payload i.form i.up i.down plan i.is in
     let short = plan_len s.memory plan fits in
-    let all : RequesterBounds len e2 first (next + 1) (calls ++ o ∷ []) answers = record {
+    let all : RequesterBounds len e2 (sends + 1) (next + 1) (calls ++ o ∷ []) answers = record {
       staging = ap (λ (xs : List ℕ). length xs) same ∙ w.staging;
       outside = none w.outside;
-      from = all_append (λ (c : OutstandingCall). first ≤ c.xid) calls o w.from (omega (arith, number, w.order));
+      numbers = rising_append send_of calls o sends w.numbers number;
       order = omega (arith, w.order);
-      link = subst (λ (x : LinkState). LinkFits len x) (sym state) l.0;
-      regions = subst (λ (x : LinkState). RegionsHave x.memory (claims_total (calls ++ o ∷ []))) (sym state) (subst (λ (n : ℕ). RegionsHave after.memory n) sum l.1);
-      counts = subst (λ (x : LinkState). CountsFit first (next + 1) x.send_queue (calls ++ o ∷ [])) (sym state)
-          (counts_sent first next _ s.send_queue after.send_queue calls o refl refl number w.order w.counts);
-      each = all_append (CallFits len) calls o w.each (record { call = small; offer = omega (arith, own, short); written = (let none : length o.room.bytes ≡ 0 = ap (λ (xs : List ℕ). length xs) empty in omega (arith, none)); room = offered; short = (let back = fits.back in omega (arith, room, back, w.link.receive)) });
+      link = subst (λ (x : LinkState). LinkFits len x) (sym state) (sent in_bytes bytes_count).0;
+      regions = λ size is. subst (λ (x : LinkState). RegionsHave size x.memory (claims_total size (calls ++ o ∷ []))) (sym state) (subst (λ (n : ℕ). RegionsHave size after.memory n) (sum size) (sent size is).1);
+      counts = subst (λ (x : LinkState). CountsFit (sends + 1) x.send_queue (calls ++ o ∷ [])) (sym state)
+          (counts_sent sends _ s.send_queue after.send_queue calls o refl refl number w.counts);
+      each = all_append (CallFits len) calls o w.each (record { call = small; offer = omega (arith, own, short); segments = subst (λ (l : ChunkLists). segments_offered l ≤ offered_segments_max) (sym lists) (plan_segments i.payload i.form i.up i.down s.memory.next plan i.short i.is); written = (let none : length o.room.bytes ≡ 0 = ap (λ (xs : List ℕ). length xs) empty in omega (arith, none)); room = offered; short = (let back = fits.back in omega (arith, room, back, w.link.receive)) });
       kept = w.kept;
       distinct = w.distinct;
     } in
-    subst (λ (cs : List OutstandingCall). RequesterBounds len e2 first (next + 1) cs answers2) (sym more) (subst (λ (ys : List AnsweredCall). RequesterBounds len e2 first (next + 1) (calls ++ o ∷ []) ys) (sym kept) all)
+    subst (λ (cs : List OutstandingCall). RequesterBounds len e2 (sends + 1) (next + 1) cs answers2) (sym more) (subst (λ (ys : List AnsweredCall). RequesterBounds len e2 (sends + 1) (next + 1) (calls ++ o ∷ []) ys) (sym kept) all)
 
 -- a call that has a plan is short
 cred_small : (cred : Cred) → CanWriteCred cred → cred_bytes cred ≤ MACHINE_MAX
@@ -207,13 +204,9 @@ call_small xid call form up down plan is can =
 
 -- ---- A drain
 
-written_hello : (n : ℕ) (q : SendQueue) → length q.hello ≤ hello_max → length (written n q).hello ≤ hello_max
-unfolding written
-written_hello n q h = omega (arith, h, length-drop n q.hello)
-
 written_responses : (n : ℕ) (q : SendQueue) → length q.response_ends ≤ open_reads_max → length (written n q).response_ends ≤ open_reads_max
 unfolding written
-written_responses n q h = omega (arith, h, count_fewer (n - length q.hello) q.response_ends)
+written_responses n q h = omega (arith, h, ends_left_fewer (n - length q.hello) q.response_ends)
 
 drained_link : (len : ℕ) (s : LinkState) (n : ℕ) → LinkFits len s → LinkFits len (record s { send_queue = written n s.send_queue })
 drained_link len s n l = record {
@@ -223,7 +216,7 @@ drained_link len s n l = record {
   receive = l.receive;
   up = l.up;
   down = l.down;
-  hello = written_hello n s.send_queue l.hello;
+  hello = omega (arith, l.hello, written_hello n s.send_queue);
   queue = written_fits (has_ended s) n s.send_queue l.queue;
   responses = written_responses n s.send_queue l.responses;
   regions = l.regions;
@@ -233,27 +226,27 @@ drain_is : (link : LinkSide) (n : ℕ) → (after_call link (Drain n)).state ≡
 unfolding after_call
 drain_is link n = refl
 
-pub drained_within : (e e2 : EndpointState) (len first next n : ℕ) (calls : List OutstandingCall) (answers : List AnsweredCall) → RequesterBounds len e first next calls answers → AreRising calls next → e2.staging ≡ e.staging → e2.outside ≡ e.outside → e2.link ≡ after_call e.link (Drain n) →
-    RequesterBounds len e2 first next calls answers
-drained_within e e2 len first next n calls answers w rising same out is =
+pub drained_within : (e e2 : EndpointState) (len sends next n : ℕ) (calls : List OutstandingCall) (answers : List AnsweredCall) → RequesterBounds len e sends next calls answers → e2.staging ≡ e.staging → e2.outside ≡ e.outside → e2.link ≡ after_call e.link (Drain n) →
+    RequesterBounds len e2 sends next calls answers
+drained_within e e2 len sends next n calls answers w same out is =
     let s : LinkState = e.link.state in
     let state : e2.link.state ≡ record s { send_queue = written n s.send_queue } = ap (λ (l : LinkSide). l.state) is ∙ drain_is e.link n in
     record {
       staging = ap (λ (xs : List ℕ). length xs) same ∙ w.staging;
       outside = same_outside e e2 (ap (λ (x : LinkState). x.memory.next) state) out w.outside;
-      from = w.from;
+      numbers = w.numbers;
       order = w.order;
       link = subst (λ (x : LinkState). LinkFits len x) (sym state) (drained_link len s n w.link);
-      regions = subst (λ (x : LinkState). RegionsHave x.memory (claims_total calls)) (sym state) w.regions;
-      counts = subst (λ (x : LinkState). CountsFit first next x.send_queue calls) (sym state) (counts_written n first next s.send_queue calls rising w.from w.counts);
+      regions = λ size is. subst (λ (x : LinkState). RegionsHave size x.memory (claims_total size calls)) (sym state) (w.regions size is);
+      counts = subst (λ (x : LinkState). CountsFit sends x.send_queue calls) (sym state) (counts_written n sends s.send_queue calls w.numbers w.counts);
       each = w.each;
       kept = w.kept;
       distinct = w.distinct;
     }
 
 -- the number of Sends that it knows to have left
-pub few_left : (l : LinkSide) (first next : ℕ) (calls : List OutstandingCall) → CountsFit first next l.state.send_queue calls → next ≤ 2 ^ 32 → l.state.send_queue.sends_left ≤ 2 ^ 32
-few_left l first next calls counts le = (let number = counts.numbered in omega (arith, number, le))
+pub few_left : (l : LinkSide) (sends next : ℕ) (calls : List OutstandingCall) → sends ≤ next → CountsFit sends l.state.send_queue calls → next ≤ 2 ^ 32 → l.state.send_queue.sends_left ≤ 2 ^ 32
+few_left l sends next calls order counts le = (let number = counts.numbered in omega (arith, order, number, le))
 
 written_left : (n : ℕ) (q : SendQueue) → q.sends_left ≤ 2 ^ 32 → q.sends_left ≤ (written n q).sends_left
 unfolding written

@@ -22,7 +22,7 @@ unfoldable pub opened_as : (first_xid first_stag wished : ℕ) → SideTerms →
 opened_as first_xid first_stag wished terms staging = record {
   awaited = HelloFrom Responder;
   rest = [];
-  state = record { side = initial_state Initiator 1 first_stag terms; sent = 0; wished = wished; first_xid = first_xid; next_xid = first_xid; grant = 1; outstanding = []; answered = [] };
+  state = record { side = initial_state Initiator 1 first_stag terms; sent = 0; wished = wished; sends = 0; next_xid = first_xid; grant = 1; outstanding = []; answered = [] };
   staging = staging;
   marks = 0;
 }
@@ -31,17 +31,18 @@ opened_as first_xid first_stag wished terms staging = record {
 abbrev pub submitted : LinkState → (message : List ℕ) → List Buffer → LinkState
 submitted s message bs = record s { memory = registered_all s.memory bs; send_queue = with_send message s.send_queue }
 
--- what is stored of a call that is accepted under an xid, by a plan whose regions are registered in this memory
-abbrev pub stored_call : ℕ → Call → Plan → RegisteredMemory → StoredCall
-stored_call xid call plan m = record { xid = xid; call = Some call; is_forgotten = false; offered = lists_of m.next plan; claims = claims_of m (offered_of plan) }
+-- what is stored of a call that is accepted under an xid, whose Send has this number, by a plan whose regions are registered in this memory
+abbrev pub stored_call : (xid send : ℕ) → Call → Plan → RegisteredMemory → StoredCall
+stored_call xid send call plan m = record { xid = xid; send = send; call = Some call; is_forgotten = false; offered = lists_of m.next plan; claims = claims_of m (offered_of plan) }
 
 -- after a call was accepted, by this plan
 abbrev pub after_submit : RequesterSide → Call → Plan → RequesterSide
 after_submit h call plan = record h {
   state = record h.state {
     side = submitted h.state.side (call_message h.state.next_xid h.state.wished h.state.side.memory.next plan) (buffers h.state.side.memory.next plan);
+    sends = h.state.sends + 1;
     next_xid = h.state.next_xid + 1;
-    outstanding = h.state.outstanding ++ stored_call h.state.next_xid call plan h.state.side.memory ∷ [];
+    outstanding = h.state.outstanding ++ stored_call h.state.next_xid h.state.sends call plan h.state.side.memory ∷ [];
   };
   marks = one_mark_more h.marks;
 }
@@ -72,7 +73,7 @@ no_claims = record { read = None; write = None; reply = None }
 
 -- the memory of a call is revoked: its regions are released, and the call is handed back
 abbrev pub revoked_if : Bool → StoredCall → StoredCall
-revoked_if true c = record { xid = c.xid; call = None; is_forgotten = c.is_forgotten; offered = c.offered; claims = no_claims }
+revoked_if true c = record { xid = c.xid; send = c.send; call = None; is_forgotten = c.is_forgotten; offered = c.offered; claims = no_claims }
 revoked_if false c = c
 
 abbrev pub revoked_call : ℕ → StoredCall → StoredCall
@@ -98,7 +99,7 @@ after_revoke h xid = record h {
 
 -- the outcome of a call is handed over, or given up: then the call's regions stay until its message comes
 abbrev pub forgotten_if : Bool → StoredCall → StoredCall
-forgotten_if true c = record { xid = c.xid; call = c.call; is_forgotten = true; offered = c.offered; claims = c.claims }
+forgotten_if true c = record { xid = c.xid; send = c.send; call = c.call; is_forgotten = true; offered = c.offered; claims = c.claims }
 forgotten_if false c = c
 
 abbrev pub forgotten_call : ℕ → StoredCall → StoredCall

@@ -1,19 +1,20 @@
 -- The bytes of the vectors that a requester keeps, and their bounds. The bounds are own.
-use Rattle.std.specs.Prelude.{◌≡◌, ◌≢◌, ℕ, ◌+◌, ◌-◌, ◌*◌, ◌≤◌, nat_lt, Bool, true, false, not, List, [], ◌∷◌, length, Option, None, Some}
-use Rattle.std.specs.List.{AllByRecursion, filter}
+use Rattle.std.specs.Prelude.{◌≡◌, ◌≢◌, ℕ, ◌+◌, ◌*◌, ◌<◌, ◌≤◌, nat_lt, Bool, true, false, not, List, [], ◌∷◌, length, Option, None, Some}
+use Rattle.std.specs.List.{AllByRecursion, filter, sum_by}
 use Rattle.nr_header.specs.declared.header.ChunkLists.{ChunkLists}
 use Rattle.nr_header.specs.declared.header.RdmaSegment.{RdmaSegment}
 use Rattle.nr_rpc.specs.declared.cred.Cred.{Cred}
 use Rattle.nr_rpc.specs.declared.cred.Cred.TheVariants as creds
 use Rattle.nr_regions.specs.RegisteredMemory.{Region, RegisteredMemory, Claim, held_region, outside_len}
 use Rattle.nr_endpoint.specs.declared.offering.Claims.{Claims}
-use Rattle.nr_regions.specs.Table.{IsTotal, region_len}
-use Rattle.nr_wire.specs.Constants.{FPDU_MAX, HELLO_LEN, NUMBERED_TERMS_LEN, UNITS_MAX}
+use Rattle.nr_regions.specs.Table.{IsTotal}
+use Rattle.nr_wire.specs.Constants.{FPDU_MAX, UNITS_MAX}
 use Rattle.nr_wire.specs.declared.hello.Side.TheVariants.{Initiator}
 use Rattle.nr_link.specs.Limits.{send_unit, open_reads_max}
 use Rattle.nr_link.specs.Agreement.{IsSendLimit}
 use Rattle.nr_endpoint.specs.LinkState.{LinkState, has_ended}
-use Rattle.nr_endpoint.specs.SendQueue.{SendQueue, ends_left}
+use Rattle.nr_endpoint.specs.SendQueue.{SendQueue}
+use Rattle.nr_endpoint.specs.OutputSizes.{frame_max, frames_max, send_frames_max, hello_max, QueueWithin}
 use Rattle.nr_endpoint.specs.EndpointState.{EndpointState, bytes_of}
 use Rattle.nr_reduce.specs.declared.call.Call.{Call}
 use Rattle.nr_reduce.specs.declared.call.Outcome.{Outcome}
@@ -92,23 +93,13 @@ bytes_held_by r = FPDU_MAX + bytes_of r.side + calls_bytes r.outstanding + rooms
 abbrev pub held_unit : ℕ
 held_unit = 262144
 
--- the maximum of a region, which is that of an offer, and of the bytes of a segment's frame
+-- the maximum of a region, which is that of an offer
 abbrev pub region_max : ℕ
 region_max = given_max
 
-abbrev pub frame_max : ℕ
-frame_max = 4136
-
--- the maximum of a receive, and of what is agreed for a Send, in bytes; such a Send has at most four frames
+-- the maximum of a receive, and of what is agreed for a Send, in bytes
 abbrev pub receive_max : ℕ
 receive_max = send_unit * UNITS_MAX
-
-abbrev pub send_frames_max : ℕ
-send_frames_max = 4 * frame_max
-
--- the maximum of a hello
-abbrev pub hello_max : ℕ
-hello_max = HELLO_LEN + NUMBERED_TERMS_LEN
 
 -- the maximum of a call, and of what it offers, all its regions together
 abbrev pub call_max : ℕ
@@ -133,9 +124,9 @@ pub record PlanFits (p : Plan) : Type 0 where
   pub all : length p.region + total p.write + total p.reply ≤ offer_max
   pub back : total p.write + total p.reply ≤ back_max
 
--- a Read Response of a region has at most this many segments
+-- the maximum of the FPDUs of a Read Response
 abbrev pub response_max : ℕ
-response_max = 16 * frame_max
+response_max = frames_max region_max
 
 -- a side that has ended has one message more to write
 abbrev pub last_max : Bool → ℕ
@@ -144,7 +135,7 @@ last_max false = 0
 
 -- From any offset on, the queue has the frames of each Send, and of each Read Response, that ends after it.
 abbrev pub QueueFits : Bool → SendQueue → Type 0
-QueueFits ended q = (n : ℕ) → length q.fpdus - n ≤ send_frames_max * length (ends_left n q.send_ends) + response_max * length (ends_left n q.response_ends) + last_max ended
+QueueFits ended q = QueueWithin send_frames_max response_max (last_max ended) 0 q
 
 -- no region is longer than it may be
 abbrev pub RegionsFit : RegisteredMemory → Type 0
@@ -163,43 +154,82 @@ pub record LinkFits (len : ℕ) (s : LinkState) : Type 0 where
   pub responses : length s.send_queue.response_ends ≤ open_reads_max
   pub regions : RegionsFit s.memory
 
--- its regions have this number of bytes together
-abbrev pub RegionsHave : RegisteredMemory → ℕ → Type 0
-RegionsHave m total = IsTotal region_len m.next total m.held
+-- What is counted of a region goes by its length: its bytes, or one for each region.
+abbrev pub region_size : (size : ℕ → ℕ) → Region → ℕ
+region_size size region = size (length region.buf)
+
+abbrev pub IsCount : (ℕ → ℕ) → Type 0
+IsCount size = (len : ℕ) → size len ≤ len + 1
+
+-- its regions have this number together
+abbrev pub RegionsHave : (size : ℕ → ℕ) → RegisteredMemory → ℕ → Type 0
+RegionsHave size m total = IsTotal (region_size size) m.next total m.held
 
 -- no buffer has bytes outside its region
 abbrev pub NothingOutside : EndpointState → Type 0
 NothingOutside e = IsTotal outside_len e.link.state.memory.next 0 e.outside
 
--- the xids of these calls are at least the first one
-abbrev pub AreFrom : ℕ → List OutstandingCall → Type 0
-AreFrom first calls = AllByRecursion (λ (c : OutstandingCall). first ≤ c.xid) calls
+-- the calls come in the order of these numbers of theirs, all of which are below this
+abbrev pub AreRisingBy : (number : OutstandingCall → ℕ) → List OutstandingCall → ℕ → Type 0
+AreRisingBy number [] next = Unit {0}
+AreRisingBy number (c ∷ cs) next = (number c < next) × (AllByRecursion (λ (d : OutstandingCall). number c < number d) cs × AreRisingBy number cs next)
+
+abbrev pub xid_of : OutstandingCall → ℕ
+xid_of c = c.xid
+
+abbrev pub send_of : OutstandingCall → ℕ
+send_of c = c.send
 
 -- the calls whose Sends are not among the first `sent`
-abbrev pub unsent : (first sent : ℕ) → List OutstandingCall → List OutstandingCall
-unsent first sent calls = filter (λ c. not (nat_lt (c.xid - first) sent)) calls
+abbrev pub unsent : (sent : ℕ) → List OutstandingCall → List OutstandingCall
+unsent sent calls = filter (λ c. not (nat_lt c.send sent)) calls
 
--- a Send that waits is that of an outstanding call, and no later one was given a number
-pub record CountsFit (first next : ℕ) (q : SendQueue) (calls : List OutstandingCall) : Type 0 where
-  pub waiting : length q.send_ends ≤ length (unsent first q.sends_left calls)
-  pub numbered : q.sends_left + length q.send_ends ≤ next - first
+-- a Send that waits is that of an outstanding call, and has a number
+pub record CountsFit (sends : ℕ) (q : SendQueue) (calls : List OutstandingCall) : Type 0 where
+  pub waiting : length q.send_ends ≤ length (unsent q.sends_left calls)
+  pub numbered : q.sends_left + length q.send_ends ≤ sends
 
--- The bytes of the regions of a call, and of all calls.
-abbrev pub claim_len : Option Claim → ℕ
-claim_len None = 0
-claim_len (Some claim) = claim.len
+-- what is counted of the regions of a call, and of all calls
+abbrev pub claim_size : (size : ℕ → ℕ) → Option Claim → ℕ
+claim_size size None = 0
+claim_size size (Some claim) = size claim.len
+
+abbrev pub claims_size : (size : ℕ → ℕ) → Claims → ℕ
+claims_size size c = claim_size size c.read + (claim_size size c.write + claim_size size c.reply)
+
+abbrev pub claims_total : (size : ℕ → ℕ) → List OutstandingCall → ℕ
+claims_total size [] = 0
+claims_total size (c ∷ calls) = claims_size size c.claims + claims_total size calls
+
+-- their bytes
+abbrev pub in_bytes : ℕ → ℕ
+in_bytes len = len
 
 abbrev pub claims_len : Claims → ℕ
-claims_len c = claim_len c.read + (claim_len c.write + claim_len c.reply)
+claims_len c = claims_size in_bytes c
 
-abbrev pub claims_total : List OutstandingCall → ℕ
-claims_total [] = 0
-claims_total (c ∷ calls) = claims_len c.claims + claims_total calls
+-- How many segments the chunk lists of a call have together, and the maximum: a header of HEADER_LEN_MIN bytes with 16 or more for each segment
+-- (RFC 8166 section 4.3) has at most receive_max bytes.
+abbrev pub reply_segments : Option (List RdmaSegment) → ℕ
+reply_segments None = 0
+reply_segments (Some chunk) = length chunk
 
--- a call, its regions and the room of its reply are within these, and that room is as long as the receive and its offer say
+abbrev pub segments_offered : ChunkLists → ℕ
+segments_offered lists = length lists.read + (sum_by (λ chunk. length chunk) lists.write + reply_segments lists.reply)
+
+abbrev pub offered_segments_max : ℕ
+offered_segments_max = 1022
+
+-- the rooms of the replies of some calls
+abbrev pub rooms_total : List OutstandingCall → ℕ
+rooms_total [] = 0
+rooms_total (c ∷ calls) = c.room.len + rooms_total calls
+
+-- a call, its regions, its lists and the room of its reply are within these, and that room is as long as the receive and its offer say
 pub record CallFits (len : ℕ) (c : OutstandingCall) : Type 0 where
   pub call : stored_bytes c.call ≤ call_max
   pub offer : claims_len c.claims ≤ offer_max
+  pub segments : segments_offered c.offered ≤ offered_segments_max
   pub written : length c.room.bytes ≤ c.room.len
   pub room : c.room.len ≡ reply_room len c.offered
   pub short : c.room.len ≤ held_reply_max
@@ -215,20 +245,21 @@ abbrev pub AreDistinct : List AnsweredCall → Type 0
 AreDistinct [] = Unit {0}
 AreDistinct (a ∷ answers) = AllByRecursion (λ (b : AnsweredCall). b.xid ≢ a.xid) answers × AreDistinct answers
 
--- What holds of each requester beside `RequesterInvariant`: the size of its staging buffer, and the bounds of its side of the link, of its regions, its
--- calls and its answers; a Send that waits is that of an outstanding call.
-pub record RequesterBounds (len : ℕ) (e : EndpointState) (first next : ℕ) (calls : List OutstandingCall) (answers : List AnsweredCall) : Type 0 where
+-- What holds of each requester beside `RequesterInvariant`: the size of its staging buffer, and the bounds of its side of the link, of its calls and
+-- its answers; its regions are those of its calls, in bytes and in number; a Send that waits is that of an outstanding call, and no more Sends have a number than
+-- xids were given.
+pub record RequesterBounds (len : ℕ) (e : EndpointState) (sends next : ℕ) (calls : List OutstandingCall) (answers : List AnsweredCall) : Type 0 where
   pub staging : length e.staging ≡ FPDU_MAX
   pub outside : NothingOutside e
-  pub from : AreFrom first calls
-  pub order : first ≤ next
+  pub numbers : AreRisingBy send_of calls sends
+  pub order : sends ≤ next
   pub link : LinkFits len e.link.state
-  pub regions : RegionsHave e.link.state.memory (claims_total calls)
-  pub counts : CountsFit first next e.link.state.send_queue calls
+  pub regions : (size : ℕ → ℕ) → IsCount size → RegionsHave size e.link.state.memory (claims_total size calls)
+  pub counts : CountsFit sends e.link.state.send_queue calls
   pub each : AllByRecursion (CallFits len) calls
   pub kept : AllByRecursion AnswerFits answers
   pub distinct : AreDistinct answers
 
 -- Of the number of Sends that it knows to have left, each has.
-abbrev pub IsBounded : (len sent first next : ℕ) → EndpointState → List OutstandingCall → List AnsweredCall → Type 0
-IsBounded len sent first next e calls answers = RequesterBounds len e first next calls answers × (sent ≤ e.link.state.send_queue.sends_left)
+abbrev pub IsBounded : (len sent sends next : ℕ) → EndpointState → List OutstandingCall → List AnsweredCall → Type 0
+IsBounded len sent sends next e calls answers = RequesterBounds len e sends next calls answers × (sent ≤ e.link.state.send_queue.sends_left)

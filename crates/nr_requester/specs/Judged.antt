@@ -1,5 +1,5 @@
 -- What a message makes of its call, for the code: what came in its chunks, and what it brings.
-use Rattle.std.specs.Prelude.{◌≡◌, ℕ, ◌-◌, ◌<◌, ◌≤◌, true, List, [], ◌∷◌, length, take, map, get_or, sum, Option, None, Some}
+use Rattle.std.specs.Prelude.{◌≡◌, ℕ, ◌<◌, ◌≤◌, true, List, [], ◌∷◌, length, take, map, get_or, sum, Option, None, Some}
 use Rattle.nr_header.specs.declared.fault.HeaderFault.{HeaderFault}
 use Rattle.nr_header.specs.declared.fault.HeaderFault.TheVariants as faults
 use Rattle.nr_header.specs.declared.header.RdmaSegment.{RdmaSegment}
@@ -63,18 +63,18 @@ abbrev pub by_stream : ℕ → Call → List ℕ → Option (List ℕ) → Reply
 by_stream xid call stream moved = reply_by_payload xid (whole (OfReply call.prog call.vers call.proc) stream moved)
 
 abbrev pub with_room : OutstandingCall → PayloadRoom → OutstandingCall
-with_room c room = record { xid = c.xid; call = c.call; is_forgotten = c.is_forgotten; offered = c.offered; claims = c.claims; room = room }
+with_room c room = record { xid = c.xid; send = c.send; call = c.call; is_forgotten = c.is_forgotten; offered = c.offered; claims = c.claims; room = room }
 
 -- only the bytes in its room change
 abbrev pub SameCall : (before after : OutstandingCall) → Type 0
 SameCall before after = (after ≡ with_room before after.room) × ((after.room.len ≡ before.room.len) × (length before.room.bytes ≤ before.room.len → length after.room.bytes ≤ after.room.len))
 
 -- a call as a client keeps it
-abbrev pub kept_view : (first sent : ℕ) → OutstandingCall → KeptCall
-kept_view first sent c = kept_call first sent (stored_view c)
+abbrev pub kept_view : (sent : ℕ) → OutstandingCall → KeptCall
+kept_view sent c = kept_call sent (stored_view c)
 
-abbrev pub kept_views : (first sent : ℕ) → List OutstandingCall → List KeptCall
-kept_views first sent calls = map (kept_call first sent) (map stored_view calls)
+abbrev pub kept_views : (sent : ℕ) → List OutstandingCall → List KeptCall
+kept_views sent calls = map (kept_call sent) (map stored_view calls)
 
 abbrev pub Ends : ReplyVerdict → ℕ → Type 0
 Ends verdict reason = (verdict ≡ EndsLink reason) × IsStopReason reason
@@ -87,8 +87,8 @@ SameCalls (b ∷ before) [] = ⊥
 SameCalls (b ∷ before) (a ∷ after) = SameCall b a × SameCalls before after
 
 -- A message answers the call at this place, and brings this for it.
-pub record Brings (first many : ℕ) (before after : List OutstandingCall) (memory : ℕ → List ℕ) (message : List ℕ) (at : ℕ) (f : Found) : Type 0 where
+pub record Brings (many : ℕ) (before after : List OutstandingCall) (memory : ℕ → List ℕ) (message : List ℕ) (at : ℕ) (f : Found) : Type 0 where
   pub within : at < length after
-  pub verdict : (d : OutstandingCall) → kept_verdict (kept_views first many before) memory message ≡ GivesOutcome (get_or before at d).xid (outcome_by f (get_or after at d).room.bytes)
+  pub verdict : (d : OutstandingCall) → kept_verdict (kept_views many before) memory message ≡ GivesOutcome (get_or before at d).xid (outcome_by f (get_or after at d).room.bytes)
   pub fits : (d : OutstandingCall) → LiesWithin f (get_or after at d).room.bytes
-  pub sent : (d : OutstandingCall) → (get_or before at d).xid - first < many
+  pub sent : (d : OutstandingCall) → (get_or before at d).send < many

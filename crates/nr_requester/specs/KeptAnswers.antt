@@ -20,7 +20,6 @@ use Rattle.nr_reduce.specs.ClientMessages.{reply_verdict}
 use Rattle.nr_reduce.specs.ClientMessages.ReplyVerdict.{GivesOutcome}
 use Rattle.nr_reduce.specs.Client.{client_rules, initial_client}
 use Rattle.nr_reduce.specs.OutcomesDue.{is_completed}
-use Rattle.nr_reduce.specs.SubmitAnswer.{next_xid}
 use Rattle.nr_requester.specs.declared.answer.AnsweredCall.{AnsweredCall}
 use Rattle.nr_requester.specs.declared.answer.Buffers.{Buffers}
 use Rattle.nr_requester.specs.RequesterState.{RequesterState, awaited_call}
@@ -89,10 +88,10 @@ IsAsked asked xid call = (form : Form) × Contains asked (record { xid = xid; ca
 pub record KeepsAnswers (opened : LinkParameters) (es : List RunEvent) (due : ℕ → Bool) (asked : List AcceptedCall) (r : RequesterState) : Type 0 where
   pub outcomes : map completed_of r.answered ≡ filter (λ c. due c.xid) (client_by opened es).state.outcomes
   pub hands_back : AllByRecursion (HandsBack opened es) r.answered
-  pub holds : AllByRecursion (StillHolds (next_xid opened (client_by opened es).state) (client_by opened es).state) r.answered
+  pub holds : AllByRecursion (StillHolds (client_by opened es).state.next_xid (client_by opened es).state) r.answered
   pub calls : AllByRecursion (λ a. IsAsked asked a.xid a.call) r.answered
   pub awaited : AllByRecursion (λ c. is_some (awaited_call c) ≡ due c.xid) r.outstanding
   pub submitted : AllByRecursion (λ c. IfSome c.call (IsAsked asked c.xid)) r.outstanding
   pub tickets : AllByRecursion (λ (a : AcceptedCall). due a.xid ≡ true → is_some (open_call a.xid r) ≡ true) asked
   pub to_come : (xid : ℕ) → r.next_xid ≤ xid → due xid ≡ true
-  pub regions : CallsOffer (next_xid opened (client_by opened es).state) (client_by opened es).state
+  pub regions : CallsOffer (client_by opened es).state.next_xid (client_by opened es).state

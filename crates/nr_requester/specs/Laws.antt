@@ -1,7 +1,7 @@
 -- A requester stands for the marks of its link: each call of its owner is one mark more.
-use Rattle.std.specs.Prelude.{true, ◌≡◌, ◌≢◌, ℕ, ◌^◌, ◌<◌, ◌≤◌, ◌||◌, Bool, List, [], ◌∷◌, ◌++◌, false, length, map, take, None, Ok, ◌==◌, is_some, Some}
+use Rattle.std.specs.Prelude.{true, ◌≡◌, ℕ, ◌^◌, ◌<◌, ◌≤◌, ◌||◌, Bool, List, [], ◌∷◌, ◌++◌, false, length, map, take, None, Ok, ◌==◌, is_some, Some}
 use Rattle.std.specs.List.{AllByRecursion, Contains, list_any}
-use Rattle.nr_wire.specs.declared.hello.Side.TheVariants.{Initiator, Responder}
+use Rattle.nr_wire.specs.declared.hello.Side.TheVariants.{Initiator}
 use Rattle.nr_link.specs.declared.end.End.{End}
 use Rattle.nr_link.specs.declared.end.End.TheVariants as ends
 use Rattle.nr_requester.specs.declared.answer.AnsweredCall.{AnsweredCall}
@@ -15,6 +15,7 @@ use Rattle.nr_reduce.specs.declared.mark.LinkParameters.{LinkParameters}
 use Rattle.nr_reduce.specs.declared.mark.Mark.{Mark}
 use Rattle.nr_reduce.specs.declared.mark.Mark.TheVariants as marks
 use Rattle.nr_reduce.specs.declared.outline.Plan.{Plan}
+use Rattle.nr_reduce.specs.Concerns.{is_judged}
 use Rattle.nr_reduce.specs.Events.{events_at}
 use Rattle.nr_rpc.specs.Credential.{CanWriteCred}
 use Rattle.nr_reduce.specs.History.{AcceptedCall, CompletedCall, accepted_calls, bytes_sent, written_at, fed_at, completed_at, abandons}
@@ -41,7 +42,7 @@ Begins = (opened : LinkParameters) (link : ℕ) (staging : List ℕ) → Request
 -- It answers a call as its client does.
 abbrev pub AnswersAsClient : Type 0
 AnswersAsClient = (opened : LinkParameters) (link : ℕ) (h : RequesterSide) (run : List Mark) (call : Call) (form : Form) → RequesterRepresents opened link h run →
-    answer_of h.state call form ≡ submit_answer opened (client opened link run) call form
+    answer_of h.state call form ≡ submit_answer (client opened link run) call form
 
 -- It knows how many calls are outstanding, and the credits that are granted, also after an End.
 abbrev pub CountsAsClient : Type 0
@@ -182,18 +183,7 @@ LawBegins = (opened : LinkParameters) (link : ℕ) → AskedSoFar opened link []
 
 -- A mark of which the law of a link's client asks nothing: of another link, of the server's side, a refused call, a piece, or a drop.
 abbrev pub AsksNothing : ℕ → Mark → Type 0
-AsksNothing link (marks.Submit l call form (submissions.Accepted xid)) = l ≢ link
-AsksNothing link (marks.Submit l call form (submissions.Refused why)) = Unit {0}
-AsksNothing link (marks.Submit l call form submissions.Dropped) = Unit {0}
-AsksNothing link (marks.Wrote l Initiator bytes) = l ≢ link
-AsksNothing link (marks.Wrote l Responder bytes) = Unit {0}
-AsksNothing link (marks.Fed l side bytes) = Unit {0}
-AsksNothing link (marks.Execute l xid moment payload place reply) = Unit {0}
-AsksNothing link (marks.Done l xid outcome) = l ≢ link
-AsksNothing link (marks.Lost l xid) = l ≢ link
-AsksNothing link (marks.Forget l xid) = l ≢ link
-AsksNothing link (marks.Revoke l xid bytes) = l ≢ link
-AsksNothing link (marks.Drop l) = Unit {0}
+AsksNothing link mark = is_judged link Initiator mark ≡ false
 
 -- and such a mark keeps it, and the last grant.
 abbrev pub OthersKeepLaw : Type 0

@@ -1,5 +1,5 @@
 -- What a requester is: its side of the link, and what it keeps of its calls.
-use Rattle.std.specs.Prelude.{◌≡◌, ℕ, ◌-◌, nat_lt, max, drop, Bool, if◌then◌else◌, List, [], ◌∷◌, ◌++◌, length, map, Option, None, Some}
+use Rattle.std.specs.Prelude.{◌≡◌, ℕ, nat_lt, max, drop, Bool, if◌then◌else◌, List, [], ◌∷◌, ◌++◌, length, map, Option, None, Some}
 use Rattle.nr_wire.specs.Feeding.{Feeding}
 use Rattle.nr_wire.specs.declared.stream.Awaited.{Awaited}
 use Rattle.nr_header.specs.declared.header.ChunkLists.{ChunkLists}
@@ -22,10 +22,11 @@ stag_of (Some claim) = claim.stag ∷ []
 abbrev pub stags_of : Claims → List ℕ
 stags_of c = stag_of c.read ++ (stag_of c.write ++ stag_of c.reply)
 
--- A call that is outstanding: the call, until its memory is revoked; whether its owner gave up the answer; the lists that its reply has to
--- repeat; its regions, and none once they are released.
+-- A call that is outstanding: the number of its Send on the link, from 0 on in the order in which Sends are queued; the call, until its memory is
+-- revoked; whether its owner gave up the answer; the lists that its reply has to repeat; its regions, and none once they are released.
 pub record StoredCall : Type 0 where
   pub xid : ℕ
+  pub send : ℕ
   pub call : Option Call
   pub is_forgotten : Bool
   pub offered : ChunkLists
@@ -36,13 +37,13 @@ abbrev pub awaited_call : StoredCall → Option Call
 awaited_call c = if c.is_forgotten then None else c.call
 
 -- The side of the link, without the input that isn't a complete frame; how many Sends have left completely, until the side has ended; the
--- credits that it wishes for; its first xid and the one that it gives next; the credits that are granted; the outstanding calls, in the
+-- credits that it wishes for; how many Sends have a number; the xid that it gives next; the credits that are granted; the outstanding calls, in the
 -- order of their Submits; the calls whose outcome came and wasn't handed over, in the order in which they were answered.
 pub record RequesterState : Type 0 where
   pub side : LinkState
   pub sent : ℕ
   pub wished : ℕ
-  pub first_xid : ℕ
+  pub sends : ℕ
   pub next_xid : ℕ
   pub grant : ℕ
   pub outstanding : List StoredCall
@@ -75,18 +76,19 @@ pub record KeepsStaging (before after : RequesterSide) (piece : List ℕ) : Type
 abbrev pub queue_of : RequesterState → List ℕ
 queue_of r = writable r.side.has_hello r.side.send_queue
 
--- A call as a client keeps it. Xids and the Sends of calls both go by the order of Submits, so a Send has left if `sent` counts it.
-abbrev pub kept_call : (first sent : ℕ) → StoredCall → KeptCall
-kept_call first sent c = record { xid = c.xid; is_sent = nat_lt (c.xid - first) sent; call = c.call; offered = c.offered; stags = stags_of c.claims }
+-- A call as a client keeps it, if the first `sent` Sends have completely left.
+abbrev pub kept_call : (sent : ℕ) → StoredCall → KeptCall
+kept_call sent c = record { xid = c.xid; send = c.send; is_sent = nat_lt c.send sent; call = c.call; offered = c.offered; stags = stags_of c.claims }
 
 abbrev pub kept_calls : RequesterState → List KeptCall
-kept_calls r = map (kept_call r.first_xid r.sent) r.outstanding
+kept_calls r = map (kept_call r.sent) r.outstanding
 
 -- what it keeps of the client of a run
 abbrev pub kept_client : RequesterState → KeptClient
 kept_client r = record {
   ended = r.side.ended;
   next_xid = r.next_xid;
+  sends = r.sends;
   grant = r.grant;
   outstanding = length r.outstanding;
   calls = kept_calls r;

@@ -48,19 +48,18 @@ pub record LinkKeeps (opened : LinkParameters) (s : LinkState) (k : ClientState)
   pub none_lent : s.receive_queue.lent ≡ 0
   pub none_waits : s.receive_queue.deliveries ≡ []
   pub no_reads : s.reads ≡ []
-  pub number : s.send_queue.last_send ≡ msn_word k.calls_accepted
+  pub number : s.send_queue.last_send ≡ msn_word k.sends
   pub waiting : k.has_hello ≡ false → s.send_queue.fpdus ≡ calls_output opened 1 k.outstanding
   pub none_due : k.has_hello ≡ false → (k.send_ends ≡ [])
   pub sends : HasEnds k.written (length s.send_queue.hello) (sends_ends k.has_hello opened k) s.send_queue.send_ends
   pub responses : HasEnds k.written (length s.send_queue.hello) k.response_ends s.send_queue.response_ends
-  pub left : s.send_queue.sends_left + length s.send_queue.send_ends ≡ k.calls_accepted
-  pub numbered : length (sends_ends k.has_hello opened k) ≡ k.calls_accepted
+  pub left : s.send_queue.sends_left + length s.send_queue.send_ends ≡ k.sends
+  pub numbered : length (sends_ends k.has_hello opened k) ≡ k.sends
   pub greeted : k.has_hello ≡ not (s.place == 0)
 
 -- A requester that hasn't run out of memory keeps the client of these marks: what that client asks for; its input is what they fed to it,
 -- until it has ended; and its queue is the output that is due by them and isn't written.
 pub record KeepsClient (opened : LinkParameters) (link : ℕ) (h : RequesterSide) (run : List Mark) : Type 0 where
-  pub first : h.state.first_xid ≡ opened.first_xid
   pub wished : h.state.wished ≡ opened.wished
   pub kept : ClientRepresents opened link (kept_client h.state) (input_kept h) (queue_of h.state) run
   pub sent : h.state.side.ended ≡ None → h.state.sent ≡ h.state.side.send_queue.sends_left

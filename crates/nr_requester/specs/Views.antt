@@ -1,5 +1,5 @@
 -- What the code keeps, as the definitions see it.
-use Rattle.std.specs.Prelude.{◌≡◌, ℕ, ◌+◌, ◌^◌, ◌<◌, ◌≤◌, ◌==◌, length, List, [], ◌∷◌, map, Option, None, Some, true}
+use Rattle.std.specs.Prelude.{◌≡◌, ℕ, ◌+◌, ◌^◌, ◌<◌, ◌≤◌, ◌==◌, length, List, [], map, Option, None, Some, true}
 use Rattle.std.specs.List.{AllByRecursion, find}
 use Rattle.nr_regions.specs.RegisteredMemory.{Claim}
 use Rattle.nr_endpoint.specs.LinkState.{LinkSide}
@@ -8,10 +8,11 @@ use Rattle.nr_requester.specs.declared.outstanding.OutstandingCall.{OutstandingC
 use Rattle.nr_requester.specs.declared.answer.AnsweredCall.{AnsweredCall}
 use Rattle.nr_requester.specs.RequesterState.{StoredCall, RequesterFeeding, RequesterSide}
 use Rattle.nr_requester.specs.AfterCalls.{no_claims}
+use Rattle.nr_requester.specs.HeldBytes.{xid_of, AreRisingBy}
 use Rattle.nr_requester.specs.HeldClaims.{AreHeldFrom, all_claims, OffersOwn}
 
 abbrev pub stored_view : OutstandingCall → StoredCall
-stored_view c = record { xid = c.xid; call = c.call; is_forgotten = c.is_forgotten; offered = c.offered; claims = c.claims }
+stored_view c = record { xid = c.xid; send = c.send; call = c.call; is_forgotten = c.is_forgotten; offered = c.offered; claims = c.claims }
 
 abbrev pub claim_len : Option Claim → ℕ
 claim_len None = 0
@@ -23,8 +24,7 @@ HasRoom len c = (len + (claim_len c.claims.write + (claim_len c.claims.reply + 3
 
 -- the calls come in the order of their xids, all of which are below this
 abbrev pub AreRising : List OutstandingCall → ℕ → Type 0
-AreRising [] next = Unit {0}
-AreRising (c ∷ cs) next = (c.xid < next) × (AllByRecursion (λ (d : OutstandingCall). c.xid < d.xid) cs × AreRising cs next)
+AreRising calls next = AreRisingBy xid_of calls next
 
 -- a call that was answered isn't outstanding
 abbrev pub IsAnswered : (next_xid : ℕ) → List OutstandingCall → AnsweredCall → Type 0
@@ -32,11 +32,11 @@ IsAnswered next_xid outstanding a = (a.xid < next_xid) × (find (λ (c : Outstan
 
 -- a call that is given up: it is handed back, and its regions are released
 abbrev pub given_up : OutstandingCall → OutstandingCall
-given_up c = record { xid = c.xid; call = None; is_forgotten = c.is_forgotten; offered = c.offered; claims = no_claims; room = c.room }
+given_up c = record { xid = c.xid; send = c.send; call = None; is_forgotten = c.is_forgotten; offered = c.offered; claims = no_claims; room = c.room }
 
 -- a call whose owner gave up the answer
 abbrev pub forgot : OutstandingCall → OutstandingCall
-forgot c = record { xid = c.xid; call = c.call; is_forgotten = true; offered = c.offered; claims = c.claims; room = c.room }
+forgot c = record { xid = c.xid; send = c.send; call = c.call; is_forgotten = true; offered = c.offered; claims = c.claims; room = c.room }
 
 -- What holds of each requester: its numbers are in range, a credit is granted, and no more calls are outstanding than can be; no event waits
 -- and no receive is lent; the regions of its calls are held, and are those that the calls offer; xids rise; it reads nothing of
@@ -56,11 +56,11 @@ pub record RequesterInvariant (len : ℕ) (link : LinkSide) (next_xid grant : �
   pub apart : AllByRecursion (IsAnswered next_xid outstanding) answered
   pub has_room : length answered + length outstanding ≤ room
 
-abbrev pub requester_view : LinkSide → (sent wished first_xid next_xid grant : ℕ) → List OutstandingCall → List AnsweredCall → RequesterFeeding
-requester_view link sent wished first_xid next_xid grant outstanding answered = record {
+abbrev pub requester_view : LinkSide → (sent wished sends next_xid grant : ℕ) → List OutstandingCall → List AnsweredCall → RequesterFeeding
+requester_view link sent wished sends next_xid grant outstanding answered = record {
   awaited = link.awaited;
   rest = link.rest;
-  state = record { side = link.state; sent = sent; wished = wished; first_xid = first_xid; next_xid = next_xid; grant = grant; outstanding = map stored_view outstanding; answered = answered };
+  state = record { side = link.state; sent = sent; wished = wished; sends = sends; next_xid = next_xid; grant = grant; outstanding = map stored_view outstanding; answered = answered };
 }
 
 -- with its staging buffer, and how many marks it made

@@ -3,7 +3,7 @@
 ghost use Rattle.std.specs.Prelude.{◌≡◌, ℕ, ◌+◌, ◌*◌, ◌^◌, ◌≤◌, length, map, max};
 ghost use Rattle.std.specs.List.{AllByRecursion};
 ghost use Rattle.nr_reduce.specs.Limits.{credits_max};
-ghost use Rattle.nr_requester.specs.HeldBytes.{cred_bytes, call_bytes, stored_bytes, calls_bytes, rooms_bytes, outcome_bytes, buffer_len, answer_bytes, answers_bytes, AnswerFits, CallFits, bytes_held_by, held_unit};
+ghost use Rattle.nr_requester.specs.HeldBytes.{cred_bytes, call_bytes, stored_bytes, calls_bytes, rooms_total, outcome_bytes, buffer_len, answer_bytes, answers_bytes, AnswerFits, bytes_held_by, held_unit};
 ghost use Rattle.nr_requester.specs.Views.{stored_view};
 
 use crate::answer::AnsweredCall;
@@ -51,13 +51,11 @@ fn calls_bytes(calls: &[OutstandingCall]) -> u128
     sum
 }
 
-/// The bytes of the rooms, each as long as a receive of this length and what its call offers say.
-fn rooms_bytes(calls: &[OutstandingCall], receive_length: u32) -> u128
-    requires few { length calls.now ≤ credits_max }
-    requires fit { AllByRecursion (CallFits receive_length) calls.now }
-    ensures { result ≡ rooms_bytes receive_length (map stored_view calls.now) }
+/// The bytes of the rooms.
+fn rooms_bytes(calls: &[OutstandingCall]) -> u128
+    requires { length calls.now ≤ credits_max }
+    ensures { result ≡ rooms_total calls.now }
 {
-    let _ = receive_length;
     let mut sum: u128 = 0;
     for call in calls {
         sum += call.room.len() as u128;
@@ -117,7 +115,7 @@ impl Requester {
         self.endpoint.facts();
         self.endpoint.held()
             + calls_bytes(self.outstanding.as_slice())
-            + rooms_bytes(self.outstanding.as_slice(), self.receive_length)
+            + rooms_bytes(self.outstanding.as_slice())
             + answers_bytes(self.answered.as_slice())
     }
 }

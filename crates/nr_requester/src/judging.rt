@@ -1,6 +1,6 @@
 //! What a requester makes of a message (RFC 8166 sections 4.2 to 4.5).
 
-ghost use Rattle.std.specs.Prelude.{◌≡◌, ℕ, ◌+◌, ◌<◌, ◌≤◌, ◌-◌, nat_lt, List, length, map, get_or, None, Some, Ok, MatchOption, IfOk, IfErr};
+ghost use Rattle.std.specs.Prelude.{◌≡◌, ℕ, ◌+◌, ◌<◌, ◌≤◌, List, length, map, get_or, None, Some, Ok, MatchOption, IfOk, IfErr};
 ghost use Rattle.std.specs.List.{AllByRecursion};
 ghost use Rattle.nr_xdr.specs.Fields.{word_at};
 ghost use Rattle.nr_header.specs.WithinLimits.{StreamWithin};
@@ -36,24 +36,14 @@ fn reason_of(fault: &HeaderFault) -> u32
     }
 }
 
-/// Whether the Send of a call has left, if `sent` Sends have.
-fn is_sent(xid: u32, first_xid: u32, sent: u64) -> bool
-    ensures { result ≡ nat_lt (xid - first_xid) sent }
-{
-    if xid < first_xid {
-        return 0 < sent;
-    }
-    u64::from(xid - first_xid) < sent
-}
-
 /// The call that a message with this xid answers: the first with it whose Send has left.
-fn call_at(calls: &[OutstandingCall], first_xid: u32, sent: u64, xid: u32) -> Option<usize>
-    ensures { MatchOption result (kept_by (kept_views first_xid sent calls.now) xid ≡ None) (λ at. (at < length calls.now)
-        × ((d : OutstandingCall) → kept_by (kept_views first_xid sent calls.now) xid ≡ Some (kept_view first_xid sent (get_or calls.now at d)))) }
+fn call_at(calls: &[OutstandingCall], sent: u64, xid: u32) -> Option<usize>
+    ensures { MatchOption result (kept_by (kept_views sent calls.now) xid ≡ None) (λ at. (at < length calls.now)
+        × ((d : OutstandingCall) → kept_by (kept_views sent calls.now) xid ≡ Some (kept_view sent (get_or calls.now at d)))) }
 {
     let mut at = 0;
     while at < calls.len() {
-        if calls[at].xid == xid && is_sent(calls[at].xid, first_xid, sent) {
+        if calls[at].xid == xid && calls[at].send < sent {
             return Some(at);
         }
         at += 1;
@@ -84,9 +74,9 @@ fn found(
     requires offers { OffersOwn call.old }
     requires room { HasRoom (length message.now) call.old }
     requires stream { StreamWithin (body_with kind lists.now) (length message.now) }
-    ensures ok { IfOk result (λ f. (first sent : ℕ) → kept_body (kept_view first sent call.old) (bytes_under regions.now.memory) message.now (body_with kind lists.now) ≡ GivesOutcome call.old.xid (outcome_by f call.new.room.bytes)) }
+    ensures ok { IfOk result (λ f. (sent : ℕ) → kept_body (kept_view sent call.old) (bytes_under regions.now.memory) message.now (body_with kind lists.now) ≡ GivesOutcome call.old.xid (outcome_by f call.new.room.bytes)) }
     ensures within { IfOk result (λ f. LiesWithin f call.new.room.bytes) }
-    ensures err { IfErr result (λ reason. (first sent : ℕ) → Ends (kept_body (kept_view first sent call.old) (bytes_under regions.now.memory) message.now (body_with kind lists.now)) reason) }
+    ensures err { IfErr result (λ reason. (sent : ℕ) → Ends (kept_body (kept_view sent call.old) (bytes_under regions.now.memory) message.now (body_with kind lists.now)) reason) }
     ensures same { SameCall call.old call.new }
 {
     match kind {
@@ -120,7 +110,6 @@ fn found(
 fn by_header(
     regions: &Regions,
     calls: &mut [OutstandingCall],
-    first_xid: u32,
     sent: u64,
     header: HeaderFields,
     lists: &ListsRoom,
@@ -131,11 +120,11 @@ fn by_header(
     requires offers { AllByRecursion OffersOwn calls.old }
     requires rooms { AllByRecursion (HasRoom (length message.now)) calls.old }
     requires stream { StreamWithin (body_with header.kind lists.now) (length message.now) }
-    ensures ok { IfOk result (λ f. Brings first_xid sent calls.old calls.new (bytes_under regions.now.memory) message.now f.0 f.1) }
-    ensures err { IfErr result (λ reason. Ends (kept_verdict (kept_views first_xid sent calls.old) (bytes_under regions.now.memory) message.now) reason) }
+    ensures ok { IfOk result (λ f. Brings sent calls.old calls.new (bytes_under regions.now.memory) message.now f.0 f.1) }
+    ensures err { IfErr result (λ reason. Ends (kept_verdict (kept_views sent calls.old) (bytes_under regions.now.memory) message.now) reason) }
     ensures same { SameCalls calls.old calls.new }
 {
-    let Some(at) = call_at(calls, first_xid, sent, header.xid) else {
+    let Some(at) = call_at(calls, sent, header.xid) else {
         return Err(REASON_CALL);
     };
     match found(regions, &mut calls[at], header.kind, lists, message) {
@@ -148,7 +137,6 @@ fn by_header(
 fn judged(
     regions: &Regions,
     calls: &mut [OutstandingCall],
-    first_xid: u32,
     sent: u64,
     room: &mut ListsRoom,
     message: &[u8],
@@ -158,12 +146,12 @@ fn judged(
     requires offers { AllByRecursion OffersOwn calls.old }
     requires rooms { AllByRecursion (HasRoom (length message.now)) calls.old }
     requires message { 16 ≤ length message.now }
-    ensures ok { IfOk result (λ f. Brings first_xid sent calls.old calls.new (bytes_under regions.now.memory) message.now f.0 f.1) }
-    ensures err { IfErr result (λ reason. Ends (kept_verdict (kept_views first_xid sent calls.old) (bytes_under regions.now.memory) message.now) reason) }
+    ensures ok { IfOk result (λ f. Brings sent calls.old calls.new (bytes_under regions.now.memory) message.now f.0 f.1) }
+    ensures err { IfErr result (λ reason. Ends (kept_verdict (kept_views sent calls.old) (bytes_under regions.now.memory) message.now) reason) }
     ensures same { SameCalls calls.old calls.new }
 {
     match read_header_into(message, room) {
-        Ok(header) => by_header(regions, calls, first_xid, sent, header, room, message),
+        Ok(header) => by_header(regions, calls, sent, header, room, message),
         Err(fault) => Err(reason_of(&fault)),
     }
 }
@@ -172,7 +160,6 @@ fn judged(
 pub fn verdict(
     regions: &Regions,
     calls: &mut Vec<OutstandingCall>,
-    first_xid: u32,
     sent: u64,
     message: &[u8],
 ) -> Result<(usize, Found), u32>
@@ -180,17 +167,10 @@ pub fn verdict(
     requires offers { AllByRecursion OffersOwn calls.old.items }
     requires rooms { AllByRecursion (HasRoom (length message.now)) calls.old.items }
     requires message { 16 ≤ length message.now }
-    ensures ok { IfOk result (λ f. Brings first_xid sent calls.old.items calls.new.items (bytes_under regions.now.memory) message.now f.0 f.1) }
-    ensures err { IfErr result (λ reason. Ends (kept_verdict (kept_views first_xid sent calls.old.items) (bytes_under regions.now.memory) message.now) reason) }
+    ensures ok { IfOk result (λ f. Brings sent calls.old.items calls.new.items (bytes_under regions.now.memory) message.now f.0 f.1) }
+    ensures err { IfErr result (λ reason. Ends (kept_verdict (kept_views sent calls.old.items) (bytes_under regions.now.memory) message.now) reason) }
     ensures same { SameCalls calls.old.items calls.new.items }
 {
     let mut room = ListsRoom::new();
-    judged(
-        regions,
-        calls.as_mut_slice(),
-        first_xid,
-        sent,
-        &mut room,
-        message,
-    )
+    judged(regions, calls.as_mut_slice(), sent, &mut room, message)
 }

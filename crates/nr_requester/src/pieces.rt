@@ -130,6 +130,7 @@ fn complete(
         offered,
         claims,
         room,
+        ..
     } = outstanding.remove(at);
     drop(offered);
     let buffers = release_claims(endpoint, claims);
@@ -158,7 +159,6 @@ fn take_message(
     outstanding: &mut Vec<OutstandingCall>,
     answered: &mut Vec<AnsweredCall>,
     grant: &mut u32,
-    first_xid: u32,
     sent: u64,
     buf: Octets,
     len: usize,
@@ -169,18 +169,18 @@ fn take_message(
     requires buf { length buf ≡ endpoint.old.link.state.receive_queue.receive_length }
     requires len { (16 ≤ len) × (len ≤ length buf) }
     requires calls { (next : ℕ) × CallsSound endpoint.old.link.state.receive_queue.receive_length endpoint.old.link.state.memory next outstanding.old.items answered.old.items (vec_capacity answered.old) }
-    ensures judged { JudgesTo (kept_verdict (kept_views first_xid sent outstanding.old.items) (bytes_under endpoint.old.link.state.memory) (take len buf)) (take len buf) endpoint.old.link endpoint.new.link
+    ensures judged { JudgesTo (kept_verdict (kept_views sent outstanding.old.items) (bytes_under endpoint.old.link.state.memory) (take len buf)) (take len buf) endpoint.old.link endpoint.new.link
         outstanding.old.items outstanding.new.items answered.old.items answered.new.items grant.old grant.new }
     ensures sound { (most next : ℕ) → CallsSound most endpoint.old.link.state.memory next outstanding.old.items answered.old.items (vec_capacity answered.old) →
         CallsSound most endpoint.new.link.state.memory next outstanding.new.items answered.new.items (vec_capacity answered.new) }
     ensures granted { (1 ≤ grant.old) × (grant.old ≤ credits_max) → (1 ≤ grant.new) × (grant.new ≤ credits_max) }
     ensures fewer { length outstanding.new.items ≤ length outstanding.old.items }
-    ensures bounded { (most next : ℕ) → IsBounded most sent first_xid next endpoint.old outstanding.old.items answered.old.items → IsBounded most sent first_xid next endpoint.new outstanding.new.items answered.new.items }
+    ensures bounded { (most sends next : ℕ) → IsBounded most sent sends next endpoint.old outstanding.old.items answered.old.items → IsBounded most sent sends next endpoint.new outstanding.new.items answered.new.items }
     ensures staging { endpoint.new.staging ≡ endpoint.old.staging }
 {
     let (message, _) = buf.as_slice().split_at(len);
     let credits = credits_of(credit_of(message));
-    let found = verdict(endpoint.regions(), outstanding, first_xid, sent, message);
+    let found = verdict(endpoint.regions(), outstanding, sent, message);
     endpoint.post(buf);
     match found {
         Ok((at, found)) => {
@@ -197,16 +197,15 @@ fn take_event(
     outstanding: &mut Vec<OutstandingCall>,
     answered: &mut Vec<AnsweredCall>,
     grant: &mut u32,
-    first_xid: u32,
     sent: u64,
 )
     requires ready { IsReady endpoint.old.link outstanding.old.items answered.old.items (vec_capacity answered.old) }
-    ensures deliveries { (wished next : ℕ) → TakesDeliveries (requester_view endpoint.old.link sent wished first_xid next grant.old outstanding.old.items answered.old.items) (requester_view endpoint.new.link sent wished first_xid next grant.new outstanding.new.items answered.new.items) }
+    ensures deliveries { (wished sends next : ℕ) → TakesDeliveries (requester_view endpoint.old.link sent wished sends next grant.old outstanding.old.items answered.old.items) (requester_view endpoint.new.link sent wished sends next grant.new outstanding.new.items answered.new.items) }
     ensures sound { (most next : ℕ) → CallsSound most endpoint.old.link.state.memory next outstanding.old.items answered.old.items (vec_capacity answered.old) →
         CallsSound most endpoint.new.link.state.memory next outstanding.new.items answered.new.items (vec_capacity answered.new) }
     ensures granted { (1 ≤ grant.old) × (grant.old ≤ credits_max) → (1 ≤ grant.new) × (grant.new ≤ credits_max) }
     ensures fewer { length outstanding.new.items ≤ length outstanding.old.items }
-    ensures bounded { (most next : ℕ) → IsBounded most sent first_xid next endpoint.old outstanding.old.items answered.old.items → IsBounded most sent first_xid next endpoint.new outstanding.new.items answered.new.items }
+    ensures bounded { (most sends next : ℕ) → IsBounded most sent sends next endpoint.old outstanding.old.items answered.old.items → IsBounded most sent sends next endpoint.new outstanding.new.items answered.new.items }
     ensures quiet { (endpoint.new.link.state.receive_queue.deliveries ≡ []) × ((endpoint.new.link.state.receive_queue.lent ≡ 0) × (endpoint.new.link.state.reads ≡ [])) }
     ensures staging { endpoint.new.staging ≡ endpoint.old.staging }
 {
@@ -218,7 +217,6 @@ fn take_event(
             outstanding,
             answered,
             grant,
-            first_xid,
             sent,
             buf,
             len,
@@ -262,7 +260,6 @@ impl Requester {
             &mut self.outstanding,
             &mut self.answered,
             &mut self.grant,
-            self.first_xid,
             self.sent,
         );
         self.endpoint.facts();

@@ -46,7 +46,8 @@ pub struct Requester {
     // The number of Sends that had completely left when the link ended, or have by now.
     pub(crate) sent: u64,
     pub(crate) wished: u32,
-    pub(crate) first_xid: u32,
+    // How many Sends have a number: those that were queued.
+    pub(crate) sends: u64,
     pub(crate) next_xid: u64,
     pub(crate) grant: u32,
     pub(crate) outstanding: Vec<OutstandingCall>,
@@ -65,13 +66,13 @@ impl Model for Requester {
 
     ghost coded = { Prim.hlevel (codes, state_code) };
 
-    ghost view = { λ r. side_view r.endpoint.staging r.marks (requester_view r.endpoint.link r.sent r.wished r.first_xid r.next_xid r.grant r.outstanding.items r.answered.items) };
+    ghost view = { λ r. side_view r.endpoint.staging r.marks (requester_view r.endpoint.link r.sent r.wished r.sends r.next_xid r.grant r.outstanding.items r.answered.items) };
 
     ghost use Rattle.nr_requester.specs.Views.{RequesterInvariant};
     ghost use Rattle.nr_requester.specs.HeldBytes.{IsBounded};
     ghost use Rattle.std.specs.Prelude.{vec_capacity};
 
-    ghost invariant = { λ r. RequesterInvariant r.receive_length r.endpoint.link r.next_xid r.grant r.outstanding.items r.answered.items (vec_capacity r.answered) × IsBounded r.receive_length r.sent r.first_xid r.next_xid r.endpoint r.outstanding.items r.answered.items };
+    ghost invariant = { λ r. RequesterInvariant r.receive_length r.endpoint.link r.next_xid r.grant r.outstanding.items r.answered.items (vec_capacity r.answered) × IsBounded r.receive_length r.sent r.sends r.next_xid r.endpoint r.outstanding.items r.answered.items };
 }
 
 impl Requester {
@@ -134,7 +135,7 @@ impl Requester {
             receive_length: receive_length(units),
             sent: 0,
             wished: credits,
-            first_xid,
+            sends: 0,
             next_xid: u64::from(first_xid),
             grant: 1,
             outstanding: Vec::new(alloc),

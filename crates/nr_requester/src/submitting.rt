@@ -226,10 +226,13 @@ impl Requester {
             Ok(sent) => sent,
             Err(_) => return Err(call),
         };
+        let send = self.sends;
+        self.sends += 1;
         self.next_xid += 1;
         self.marks = marks_if(true, self.marks);
         self.outstanding.push_reserved(OutstandingCall {
             xid,
+            send,
             call: Some(call),
             is_forgotten: false,
             offered: lists,

@@ -43,6 +43,7 @@ pub mod ReadsGoOn
 pub mod ReadsHandled
 pub mod ReadsRefused
 pub mod ReadsTaken
+pub mod RefusedReads
 pub mod RegisteredSinks
 pub mod Removed
 pub mod Responses

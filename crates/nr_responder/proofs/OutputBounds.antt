@@ -27,7 +27,8 @@ use Rattle.nr_reduce.specs.ServerReads.{read_of, reads_from}
 use Rattle.nr_reduce.specs.declared.mark.LinkParameters.{LinkParameters}
 use Rattle.nr_header.specs.declared.header.ReadSegment.{ReadSegment}
 use Rattle.nr_reduce.specs.OfferedRegions.{Region}
-use Rattle.nr_responder.specs.HeldBytes.{sizes, reads_share, requests_max, request_max, IsOfPending, OutputFits, OutputLives, QueueFits, QueueMost, SharesFit}
+use Rattle.nr_endpoint.specs.OutputSizes.{request_max}
+use Rattle.nr_responder.specs.HeldBytes.{sizes, reads_share, requests_max, IsOfPending, OutputFits, OutputLives, QueueFits, QueueMost, SharesFit}
 use Rattle.nr_responder.specs.Keeping.{Begins, Keeps, OwnNumbers}
 use Rattle.nr_responder.specs.Keeping.Begins.{BeforeHello, AfterHello}
 use Rattle.nr_responder.specs.ResponderState.{ResponderSide, after_drain, end_of, opened_side}
@@ -43,11 +44,11 @@ use Rattle.nr_responder.proofs.Frames.{ended_frame}
 use Rattle.nr_endpoint.proofs.Pieces.{frame_place}
 use Rattle.nr_responder.proofs.Handled.{chunk_short, told_of}
 use Rattle.nr_responder.proofs.Out.{lives_same}
-use Rattle.nr_responder.proofs.OutputLengths.{own_hello_len, rejection_len}
+use Rattle.nr_endpoint.proofs.OutputSizes.{end_hello, hello_len, rejection_len, written_hello}
 use Rattle.nr_responder.proofs.OwnedSinks.{call_among}
 use Rattle.nr_responder.proofs.PendingReads.{AreOf, reads_own}
 use Rattle.nr_responder.proofs.Posted.{sent_link, told_link_lem}
-use Rattle.nr_responder.proofs.QueueBounds.{end_hello, end_most, more_calls, most_of_fits, requests_fit, requests_hello, send_fits, written_fits, written_hello, written_most}
+use Rattle.nr_responder.proofs.QueueBounds.{end_most, more_calls, most_of_fits, requests_fit, requests_hello, send_fits, written_fits, written_most}
 use Rattle.nr_responder.proofs.Responses.{frame_is}
 use Rattle.nr_responder.proofs.Shares.{IsOwned, most_of, owned_total, share_append, share_filtered}
 use Rattle.nr_responder.proofs.SinkBounds.{kept_waiting, without_pending}
@@ -173,7 +174,7 @@ greeted_lives v m f (Ok hello) side place some is lives h = record {
       let len : length m.state.send_queue.hello ≡ length (v.link.state.send_queue.hello ++ reply) = ap (λ (t : LinkState). length t.send_queue.hello) is in
       let private : List ℕ = own_private v.link.state.terms Responder hello.private in
       let own : length reply ≡ length (hello_with Responder private) = ap (λ (x : Side). length (reply_hello x (own_private v.link.state.terms x hello.private))) side in
-      let short = own_hello_len private (responder_short v.link.state.terms hello.private) in
+      let short = hello_len Responder private (responder_short v.link.state.terms hello.private) in
       omega (arith, none, len, own, short, length-append v.link.state.send_queue.hello reply));
   none = λ e. absurd (let at : m.state.place ≡ f.end = ap (λ (t : LinkState). t.place) is in omega (arith, at, e, some));
 }
@@ -194,7 +195,7 @@ fed_lives opened k so_far v piece m h (WholeFrame frame w frame_is_taken long li
     by (AfterHello place awaited hello) =
         let now : m.state ≡ with_frame s Fpdu frame = state ∙ ap (λ (a : Awaited). with_frame s a frame) awaited in
         let lives_on : (with_frame s Fpdu frame).ended ≡ None = sym (ap (λ (t : LinkState). t.ended) now) ∙ lives in
-        let queue = ap (λ (t : LinkState). t.send_queue) now ∙ lives_same s frame (frame_is opened k s frame h.link h.server lives_on) lives_on in
+        let queue = ap (λ (t : LinkState). t.send_queue) now ∙ (lives_same s frame (frame_is opened k s frame h.link h.server lives_on) lives_on).queue in
         let at = ap (λ (t : LinkState). t.place) now ∙ frame_place s Fpdu frame lives_on in
         same_lives v m queue (λ e. absurd (omega (arith, at, e, long))) f
 

@@ -41,7 +41,7 @@ use Rattle.nr_responder.proofs.ServerSteps.{new_is_read}
 use Rattle.nr_responder.proofs.Handled.{Goes, RanOutOf, makes_handled, step_counts, told_of, told_server_of}
 use Rattle.nr_responder.proofs.Marks.{represents}
 use Rattle.nr_responder.proofs.OutputSteps.{answered_out}
-use Rattle.nr_responder.proofs.QueueBounds.{count_fewer}
+use Rattle.nr_endpoint.proofs.SendQueues.{ends_left_fewer}
 use Rattle.nr_responder.proofs.Posted.{memory_as, told_link_lem}
 use Rattle.nr_responder.proofs.SinkBounds.{LivesOn, handled_fits, live_fits, on_link_fits, read_fits, read_out_fits, receives_fit_on, receives_same, told_receives}
 use Rattle.nr_responder.proofs.SinkTotals.{claim_of_sink, fed_one_have, opened_have}
@@ -254,7 +254,7 @@ held_bound v result is b rooms receives lent =
     let staging = b.1 in
     let output = b.0.output.most 0 in
     let hello = b.0.output.hello in
-    let waiting = count_fewer 0 v.side.link.state.send_queue.send_ends in
+    let waiting = ends_left_fewer 0 v.side.link.state.send_queue.send_ends in
     let most = b.0.sinks.receives.len.1 in
     let n : ℕ = v.side.link.state.receive_queue.receive_length in
     let of_kept = mul-le n (receives_kept v.side.link.state.receive_queue) (send_unit * UNITS_MAX) (receives_kept v.side.link.state.receive_queue) most (omega arith) in

@@ -1,14 +1,15 @@
 -- Bounds of what a responder keeps. They are own.
-use Rattle.std.specs.Prelude.{◌≡◌, ℕ, ◌+◌, ◌-◌, ◌*◌, ◌≤◌, ◌==◌, true, if◌then◌else◌, List, [], ◌∷◌, length, drop, None}
+use Rattle.std.specs.Prelude.{◌≡◌, ℕ, ◌+◌, ◌*◌, ◌≤◌, ◌==◌, true, if◌then◌else◌, List, [], ◌∷◌, length, drop, None}
 use Rattle.std.specs.List.{AllByRecursion, list_any}
 use Rattle.nr_regions.specs.RegisteredMemory.{RegisteredMemory}
 use Rattle.nr_regions.specs.Table.{IsTotal, region_len}
 use Rattle.nr_header.specs.Constants.{PAYLOAD_MAX, READ_SEGMENTS_MAX}
-use Rattle.nr_wire.specs.Constants.{FPDU_MAX, HELLO_LEN, NUMBERED_TERMS_LEN}
+use Rattle.nr_wire.specs.Constants.{FPDU_MAX, HELLO_LEN}
 use Rattle.nr_link.specs.Agreement.{IsSendLimit}
 use Rattle.nr_link.specs.Limits.{open_reads_max}
 use Rattle.nr_endpoint.specs.ReceiveQueue.{ReceiveQueue}
-use Rattle.nr_endpoint.specs.SendQueue.{SendQueue, ends_left}
+use Rattle.nr_endpoint.specs.SendQueue.{SendQueue}
+use Rattle.nr_endpoint.specs.OutputSizes.{frame_max, send_frames_max, request_max, hello_max, QueueWithin}
 use Rattle.nr_reduce.specs.ServerState.{PendingCall, PendingRead}
 use Rattle.nr_responder.specs.Fetching.{SinkRegion}
 use Rattle.nr_responder.specs.ResponderState.{ResponderSide, ResponderState, end_of, unsent}
@@ -73,18 +74,9 @@ pub record SinksFit (v : ResponderSide) : Type 0 where
 
 -- ---- Output
 
--- the maximum of a reply, of the frame of a segment, of the frames of a Send, and of the frame of a Read Request, in bytes
+-- the maximum of a reply in bytes
 abbrev pub sent_reply_max : ℕ
 sent_reply_max = 65536
-
-abbrev pub frame_max : ℕ
-frame_max = 4136
-
-abbrev pub send_frames_max : ℕ
-send_frames_max = 4 * frame_max
-
-abbrev pub request_max : ℕ
-request_max = 68
 
 -- the maximum of the Read Requests of a call, of the RDMA Writes of an answer, and of both with its Send
 abbrev pub requests_max : ℕ
@@ -99,19 +91,15 @@ answer_max = writes_max + send_frames_max + requests_max
 -- From any offset on, the queue has an answer for each Send that ends after it, and the Read Requests of the pending calls but those that
 -- wait.
 abbrev pub QueueFits : SendQueue → (waiting calls : ℕ) → Type 0
-QueueFits q waiting calls = (n : ℕ) → length q.fpdus - n + request_max * waiting ≤ answer_max * length (ends_left n q.send_ends) + requests_max * calls
+QueueFits q waiting calls = QueueWithin answer_max 0 (requests_max * calls) (request_max * waiting) q
 
 -- how many of some reads are of the call whose Send has a number
 abbrev pub reads_share : ℕ → List PendingRead → ℕ
 reads_share n reads = share (λ r. r.number) (λ r. 1) n reads
 
--- the maximum of a hello, which may have private data, in bytes
-abbrev pub hello_max : ℕ
-hello_max = HELLO_LEN + NUMBERED_TERMS_LEN
-
 -- once the side has ended, with one message more
 abbrev pub QueueMost : SendQueue → ℕ → Type 0
-QueueMost q calls = (n : ℕ) → length q.fpdus - n ≤ answer_max * length (ends_left n q.send_ends) + requests_max * calls + frame_max
+QueueMost q calls = QueueWithin answer_max 0 (requests_max * calls + frame_max) 0 q
 
 -- While a side lives. It has no hello to write before the client's.
 pub record OutputLives (v : ResponderSide) : Type 0 where

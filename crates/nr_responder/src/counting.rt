@@ -3,9 +3,9 @@
 ghost use Rattle.std.specs.Prelude.{◌≡◌, ◌≢◌, ℕ, ◌+◌, ◌*◌, ◌≤◌, List, length, sum_by, None, Some, All};
 ghost use Rattle.nr_link.specs.declared.end.End.TheVariants as ends;
 ghost use Rattle.nr_wire.specs.Constants.{UNITS_MAX};
+ghost use Rattle.nr_link.specs.Agreement.{IsSendLimit};
 ghost use Rattle.nr_link.specs.Limits.{send_unit};
 ghost use Rattle.nr_link.specs.SegmentFaults.{is_begun};
-ghost use Rattle.nr_endpoint.specs.Receives.{IsReceive};
 ghost use Rattle.nr_reduce.specs.declared.mark.LinkParameters.{LinkParameters};
 ghost use Rattle.nr_reduce.specs.declared.mark.Mark.{Mark};
 ghost use Rattle.nr_reduce.specs.Plans.{one_if};
@@ -14,13 +14,12 @@ ghost use Rattle.nr_reduce.specs.ServerState.{receives_in_use};
 ghost use Rattle.nr_responder.specs.HeldBytes.{held_unit, IsBounded, ListsFit};
 ghost use Rattle.nr_responder.specs.ResponderState.{bytes_held_by, end_of, unsent};
 ghost use Rattle.nr_responder.specs.Rooms.{payload_room};
-ghost use Rattle.nr_responder.specs.Sound.{payload_len, room_len, state_of, with_staging, InReceive, ServerEndInvariant};
-ghost use Rattle.nr_responder.specs.Standing.{ResponderRepresents};
+ghost use Rattle.nr_responder.specs.Sound.{payload_len, room_len, state_of, with_staging, ServerEndInvariant};
+ghost use Rattle.nr_responder.specs.Standing.{RepresentsSome, ResponderRepresents};
 
 use crate::call::{Pending, Ready};
 use crate::room::{Payload, Room};
 use crate::server_end::ServerEnd;
-use nr_xdr::Octets;
 use std::collections::VecDeque;
 
 /// The bytes of a room, if there is one.
@@ -41,21 +40,6 @@ fn payload_len(payload: &Option<Payload>) -> usize
 {
     match payload {
         Some(payload) => payload.len(),
-        None => 0,
-    }
-}
-
-/// How many bytes each receive has that is lent: of a call, or of a Send that hasn't left. 0 if none is.
-fn receive_len(calls: &[Pending], used: &VecDeque<Octets>) -> usize
-    requires bufs { (n : ℕ) × ((n ≤ send_unit * UNITS_MAX) × (All (InReceive n) calls.now × All (IsReceive n) used.now.items)) }
-    ensures is { (n : ℕ) → All (InReceive n) calls.now → All (IsReceive n) used.now.items → result * (length calls.now + length used.now.items) ≡ n * (length calls.now + length used.now.items) }
-    ensures most { result ≤ send_unit * UNITS_MAX }
-{
-    if !calls.is_empty() {
-        return calls[0].buf.len();
-    }
-    match used.front() {
-        Some(buf) => buf.len(),
         None => 0,
     }
 }
@@ -147,7 +131,8 @@ impl ServerEnd {
     pub fn agreed(&self) -> (u32, u32)
         ensures up { result.0 ≡ self.now.endpoint.link.state.agreed.up }
         ensures down { result.1 ≡ self.now.endpoint.link.state.agreed.down }
-        ensures of_run { end_of (state_of self.now) ≡ None → (opened : LinkParameters) (link : ℕ) (run : List Mark) → ResponderRepresents opened link run (state_of self.now) →
+        ensures limits { RepresentsSome (state_of self.now) → IsSendLimit result.0 × IsSendLimit result.1 }
+        ensures of_run { end_of (state_of self.now) ≢ Some ends.Memory → (opened : LinkParameters) (link : ℕ) (run : List Mark) → ResponderRepresents opened link run (state_of self.now) →
             (result.0 ≡ (server opened link run).state.up_max) × (result.1 ≡ (server opened link run).state.down_max) }
     {
         self.endpoint.agreed()
@@ -165,7 +150,7 @@ impl ServerEnd {
         self.endpoint.facts();
         let lent = self.calls.len() + self.used.len();
         let rooms = rooms_len(self.calls.as_slice()) + payloads_len(&self.ready);
-        let each = receive_len(self.calls.as_slice(), &self.used);
+        let each = self.endpoint.receive_length();
         self.endpoint.held() + receives_len(each, lent) + rooms
     }
 }

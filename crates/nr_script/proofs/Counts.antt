@@ -6,7 +6,7 @@ use Rattle.std.proofs.lemmas.List.{get_or-set_same, get_or-set_other, get_or_pas
 use Rattle.std.proofs.lemmas.List.Sums.{sum_by-append, count_by-le-length}
 use Rattle.nr_script.specs.declared.script.Line.{Line}
 use Rattle.nr_script.specs.declared.script.Line.TheVariants as lines
-use Rattle.nr_script.specs.Limits.{clients_max}
+use Rattle.nr_texts.specs.Limits.{clients_max}
 use Rattle.nr_script.specs.private.Counts.{caller, CountsAre, counted}
 use Rattle.nr_script.specs.Script.{is_call_of, calls_of, seconds_in, seconds_after}
 

@@ -8,9 +8,10 @@ use Rattle.std.proofs.lemmas.Nat.{mod_below}
 use Rattle.nr_xdr.specs.Item.{IsBytes, hyper}
 use Rattle.nr_xdr.specs.Item.Item.{Unsigned, Hyper, Opaque}
 use Rattle.nr_xdr.specs.Items.{encodings}
-use Rattle.nr_script.specs.declared.script.Opening.{Opening}
+use Rattle.nr_texts.specs.declared.opening.Opening.{Opening}
 use Rattle.nr_script.specs.declared.script.Line.{Line}
-use Rattle.nr_script.specs.Limits.{clients_max, calls_max, default_capacity, default_units}
+use Rattle.nr_texts.specs.Limits.{clients_max, default_capacity, default_units}
+use Rattle.nr_script.specs.Limits.{calls_max}
 use Rattle.nr_script.specs.Script.{may_follow, is_client, FollowOn, HasWritableCred, IsTypedLine, IsScript}
 use Rattle.nr_script.specs.Generator.{next, drawn, below, file_args, read_args, written_bytes, file_sync, write_head, write_args, readdir_args, proc_drawn, args_drawn, after_args, move_lines, call_line, turn_lines, drawn_turn, after_drawn_turn, drawn_lines, drawn_credits, made_script, offsets_end, read_counts_end, write_counts_end, listing_count}
 use Rattle.nr_script.proofs.ByteLists.{no_bytes_lem, bytes_more, bytes_both, hyper_bytes, items_bytes}

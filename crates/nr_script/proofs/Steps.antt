@@ -1,11 +1,11 @@
 -- Steps of reading a script.
 use Rattle.std.specs.Prelude.{◌==◌}
 use Rattle.std.proofs.Common.{◌≡◌, ℕ, ◌+◌, ◌<◌, List, [], ◌∷◌, length, Option, None, Some, Ok, Err, refl, ap, ◌∙◌, arith}
-use Rattle.nr_script.specs.Words.{parts}
-use Rattle.nr_script.specs.declared.script.Opening.{Opening}
+use Rattle.nr_texts.specs.Words.{parts, newline}
+use Rattle.nr_texts.specs.declared.opening.Opening.{Opening}
 use Rattle.nr_script.specs.private.Steps.{opened, with_opening}
-use Rattle.nr_script.proofs.Pieces.{split}
-use Rattle.nr_script.specs.Script.{ScriptLines, newline, with_text, read_on, script_from}
+use Rattle.nr_texts.proofs.Pieces.{split}
+use Rattle.nr_script.specs.Script.{ScriptLines, with_text, read_on, script_from}
 
 step : (number : ℕ) (read : Option ScriptLines) (line next : List ℕ) →
     script_from number read (line ∷ parts newline next) ≡ read_on number (with_text read line) (λ more. script_from (number + 1) more (parts newline next))

@@ -8,7 +8,7 @@ use Rattle.nr_nfs_base.specs.Procedures.{nfs_program, nfs_version}
 use Rattle.nr_reduce.specs.declared.call.Form.TheVariants.{Auto}
 use Rattle.nr_script.specs.declared.script.Line.{Line}
 use Rattle.nr_script.specs.declared.script.Line.TheVariants as lines
-use Rattle.nr_script.specs.Limits.{default_capacity, default_units}
+use Rattle.nr_texts.specs.Limits.{default_capacity, default_units}
 use Rattle.nr_script.specs.Script.{ScriptLines}
 
 -- ===== draws

@@ -1,67 +1,19 @@
--- The lines of a script, word by word.
-use Rattle.std.specs.Prelude.{ℕ, ◌&&◌, if◌then◌else◌, List, [], ◌∷◌, codes, Option, None, Some}
+-- The lines of a script after its first, word by word.
+use Rattle.std.specs.Prelude.{ℕ, if◌then◌else◌, List, [], ◌∷◌, codes, Option, None, Some}
 use Rattle.std.specs.Str.{bytes_eq}
 use Rattle.nr_rpc.specs.declared.cred.Cred.{Cred}
 use Rattle.nr_rpc.specs.declared.cred.Cred.TheVariants as creds
 use Rattle.nr_wire.specs.declared.hello.Side.{Side}
 use Rattle.nr_wire.specs.declared.hello.Side.TheVariants.{Initiator, Responder}
-use Rattle.nr_wire.specs.Constants.{UNITS_MAX}
-use Rattle.nr_reduce.specs.Limits.{credits_max}
-use Rattle.nr_script.specs.declared.script.Opening.{Opening}
 use Rattle.nr_script.specs.declared.script.Line.{Line}
 use Rattle.nr_script.specs.declared.script.Line.TheVariants as lines
 use Rattle.nr_reduce.specs.declared.call.Form.{Form}
-use Rattle.nr_script.specs.declared.program.Program.{Program}
-use Rattle.nr_script.specs.Limits.{clients_max, default_capacity, default_units, capacity_max}
-use Rattle.nr_script.specs.Words.{◌>>=◌, number_within, number_in, bytes_in, arguments_in}
-use Rattle.nr_script.specs.Forms.{form_in, program_in}
+use Rattle.nr_texts.specs.declared.program.Program.{Program}
+use Rattle.nr_texts.specs.Words.{◌>>=◌, number_in, bytes_in, arguments_in, one_number, two_numbers}
+use Rattle.nr_texts.specs.Forms.{form_in, program_in}
+use Rattle.nr_texts.specs.Openings.{sys_cred}
 
--- ===== the first line
-
--- `clients N credits G`, then ` capacity B` if it is given, and then ` sizes A B` if it is given
-
--- the number of bytes of `capacity B`, or the default if the words begin with another, and the words that are left
-abbrev pub capacity_in : List (List ℕ) → Option (ℕ × List (List ℕ))
-capacity_in (name ∷ bytes ∷ others) =
-    if bytes_eq name (codes "capacity") then (number_within 0 capacity_max bytes >>= λ b. Some (b, others)) else Some (default_capacity, name ∷ bytes ∷ others)
-capacity_in words = Some (default_capacity, words)
-
--- the units of each client and of each server, of `sizes A B` or the default, if no words are left
-abbrev pub sizes_of : List ℕ → List ℕ → Option (ℕ × ℕ)
-sizes_of client server = number_within 1 UNITS_MAX client >>= λ a. number_within 1 UNITS_MAX server >>= λ b. Some (a, b)
-
-abbrev pub sizes_in : List (List ℕ) → Option (ℕ × ℕ)
-sizes_in [] = Some (default_units, default_units)
-sizes_in (name ∷ client ∷ server ∷ []) = if bytes_eq name (codes "sizes") then sizes_of client server else None
-sizes_in words = None
-
-abbrev pub opening_of : List ℕ → List ℕ → List (List ℕ) → Option Opening
-opening_of clients credits others = do
-  n ← number_within 1 clients_max clients
-  g ← number_within 1 credits_max credits
-  capacity ← capacity_in others
-  sizes ← sizes_in capacity.1
-  Some (record { clients = n; credits = g; capacity = capacity.0; client_units = sizes.0; server_units = sizes.1 })
-
-unfoldable pub opening_in : List (List ℕ) → Option Opening
-opening_in (first ∷ clients ∷ second ∷ credits ∷ others) =
-    if bytes_eq first (codes "clients") && bytes_eq second (codes "credits") then opening_of clients credits others else None
-opening_in words = None
-
--- ===== the other lines, by what follows their first word
-
--- one number alone, or two
-abbrev pub one_number : List (List ℕ) → Option ℕ
-one_number (word ∷ []) = number_in word
-one_number words = None
-
-abbrev pub two_numbers : List (List ℕ) → Option (ℕ × ℕ)
-two_numbers (first ∷ second ∷ []) = number_in first >>= λ n. number_in second >>= λ m. Some (n, m)
-two_numbers words = None
-
--- AUTH_SYS of a script (RFC 5531 appendix A): stamp 0, machine `drill`, no further groups
-abbrev pub sys_cred : ℕ → ℕ → Cred
-sys_cred uid gid = creds.Sys 0 (codes "drill") uid gid []
+-- ===== by what follows their first word
 
 abbrev pub sys_line : ℕ → List (List ℕ) → Option Line
 sys_line client words = two_numbers words >>= λ p. Some (lines.Cred client (sys_cred p.0 p.1))

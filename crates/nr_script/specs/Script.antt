@@ -6,18 +6,19 @@ use Rattle.nr_xdr.specs.Item.{IsBytes}
 use Rattle.nr_rpc.specs.declared.cred.Cred.{Cred}
 use Rattle.nr_rpc.specs.declared.cred.Cred.TheVariants as creds
 use Rattle.nr_rpc.specs.Credential.{CanWriteCred, CredFits}
-use Rattle.nr_reduce.specs.declared.call.Form.{Form}
-use Rattle.nr_reduce.specs.declared.call.Form.TheVariants as forms
-use Rattle.nr_script.specs.declared.script.Opening.{Opening}
+use Rattle.nr_texts.specs.declared.opening.Opening.{Opening}
 use Rattle.nr_script.specs.declared.script.Line.{Line}
 use Rattle.nr_script.specs.declared.script.Line.TheVariants as lines
 use Rattle.nr_script.specs.declared.script.ScriptFault.{ScriptFault}
 use Rattle.nr_script.specs.declared.script.ScriptFault.TheVariants as faults
 use Rattle.nr_wire.specs.Constants.{UNITS_MAX}
 use Rattle.nr_reduce.specs.Limits.{credits_max}
-use Rattle.nr_script.specs.Limits.{clients_max, capacity_max, number_max, lines_max}
-use Rattle.nr_script.specs.Words.{parts}
-use Rattle.nr_script.specs.Lines.{opening_in, line_in}
+use Rattle.nr_texts.specs.Limits.{clients_max, capacity_max, number_max}
+use Rattle.nr_script.specs.Limits.{lines_max}
+use Rattle.nr_texts.specs.Words.{parts, newline, space}
+use Rattle.nr_texts.specs.Openings.{opening_in}
+use Rattle.nr_texts.specs.Forms.{HasWordPosition}
+use Rattle.nr_script.specs.Lines.{line_in}
 
 -- a script: its first line, and the others in order
 pub record ScriptLines : Type 0 where
@@ -64,12 +65,6 @@ may_follow opening before (lines.Raw client side bytes) = is_client opening clie
 may_follow opening before lines.Drain = true
 
 -- ===== a text
-
-abbrev pub newline : ℕ
-newline = 10
-
-abbrev pub space : ℕ
-space = 32
 
 abbrev pub hash : ℕ
 hash = 35
@@ -146,14 +141,6 @@ abbrev pub IsTypedCred : Cred → Type 0
 IsTypedCred creds.None = Unit {0}
 IsTypedCred (creds.Sys stamp machine uid gid gids) = IsBytes machine × CredFits (creds.Sys stamp machine uid gid gids)
 IsTypedCred (creds.Other flavor) = flavor < 2 ^ 32
-
--- the position of an offer that is given is a word
-abbrev pub HasWordPosition : Form → Type 0
-HasWordPosition forms.Auto = Unit {0}
-HasWordPosition forms.Inline = Unit {0}
-HasWordPosition forms.Chunk = Unit {0}
-HasWordPosition forms.Long = Unit {0}
-HasWordPosition (forms.Given offer) = offer.read_at < 2 ^ 32
 
 abbrev pub IsTypedLine : Line → Type 0
 IsTypedLine (lines.Cred client cred) = IsTypedCred cred

@@ -1,4 +1,3 @@
 -- Definitions that only private code cites.
-pub mod Pieces
 pub mod Counts
 pub mod Steps

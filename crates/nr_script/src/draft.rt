@@ -1,13 +1,12 @@
 //! A script that is being read.
 
 ghost use Rattle.std.specs.Prelude.{ℕ, ◌≡◌, ◌≤◌, ◌<◌, ◌+◌, ◌^◌, ◌&&◌, ◌∷◌, ◌++◌, [], nat_le, true, length, slice_index, OnOk};
-ghost use Rattle.nr_script.specs.Limits.{clients_max, number_max};
+ghost use Rattle.nr_texts.specs.Limits.{clients_max, number_max};
 ghost use Rattle.nr_script.specs.private.Counts.{caller, CountsAre, counted};
 ghost use Rattle.nr_script.specs.Script.{IsScript, is_call_line, is_client, may_follow, seconds_after, seconds_in};
 
-use crate::lines::CLIENTS_MAX;
-use crate::script::{Line, Opening, Script};
-use crate::words::NUMBER_MAX;
+use crate::script::{Line, Script};
+use nr_texts::{CLIENTS_MAX, NUMBER_MAX, Opening};
 use nr_xdr::Memory;
 use std::alloc::Global;
 use std::marker::Model;
@@ -23,7 +22,7 @@ pub(crate) struct Draft {
 
 impl Model for Draft {
     ghost use Rattle.std.specs.Prelude.{◌≡◌, ◌≤◌};
-    ghost use Rattle.nr_script.specs.Limits.{clients_max};
+    ghost use Rattle.nr_texts.specs.Limits.{clients_max};
     ghost use Rattle.nr_script.specs.private.Counts.{CountsAre};
     ghost use Rattle.nr_script.specs.Script.{ScriptLines, seconds_after};
 

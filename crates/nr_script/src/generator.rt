@@ -3,13 +3,14 @@
 ghost use Rattle.std.specs.Prelude.{ℕ, ◌≡◌, ◌<◌, ◌≤◌, ◌^◌, ◌∷◌, ◌++◌, [], IfOk, OnOk};
 ghost use Rattle.nr_xdr.specs.Item.Item.{Opaque};
 ghost use Rattle.nr_xdr.specs.Item.{encoding, hyper};
-ghost use Rattle.nr_script.specs.Limits.{calls_max, clients_max};
+ghost use Rattle.nr_texts.specs.Limits.{clients_max};
+ghost use Rattle.nr_script.specs.Limits.{calls_max};
 ghost use Rattle.nr_script.specs.Generator.{after_args, after_drawn_turn, after_move, after_turn, args_drawn, below, drawn_turn, file_args, drawn_lines, made_script, move_lines, next, proc_drawn, read_args, readdir_args, turn_lines, write_args, write_head, written_bytes};
 
-use crate::lines::{DEFAULT_CAPACITY, DEFAULT_UNITS};
-use crate::script::{Line, Opening, Script};
+use crate::script::{Line, Script};
 use nr_nfs_base::NFS_PROGRAM;
 use nr_reduce::Form;
+use nr_texts::{DEFAULT_CAPACITY, DEFAULT_UNITS, Opening};
 use nr_xdr::{Memory, Octets, Writer};
 use std::alloc::Global;
 
@@ -248,7 +249,7 @@ fn push_all(
 
 /// The script of a seed: `calls` calls of up to `clients` clients, each call followed by a move that is drawn too, and a drain
 /// in the end. The same numbers always give the same script. `clients` is from 1 to
-/// [`CLIENTS_MAX`](crate::CLIENTS_MAX), and `calls` is at most [`CALLS_MAX`](crate::CALLS_MAX).
+/// [`CLIENTS_MAX`](nr_texts::CLIENTS_MAX), and `calls` is at most [`CALLS_MAX`](crate::CALLS_MAX).
 ///
 /// # Errors
 ///

@@ -2,16 +2,16 @@
 
 ghost use Rattle.std.specs.Prelude.{◌≡◌, ℕ, ◌+◌, ◌<◌, ◌≤◌, ◌^◌, ◌==◌, [], ◌∷◌, length, true, None, Some, Ok, Err, IfOk, MatchResult, if◌then◌else◌};
 ghost use Rattle.nr_outside.specs.Whole.{input_max};
-ghost use Rattle.nr_script.specs.private.Pieces.{texts};
-ghost use Rattle.nr_script.specs.Script.{GivesScript, followed_by, is_ascii, is_skipped, newline, script_from, script_of, with_text};
+ghost use Rattle.nr_texts.specs.Pieces.{texts};
+ghost use Rattle.nr_script.specs.Script.{GivesScript, followed_by, is_ascii, is_skipped, script_from, script_of, with_text};
 ghost use Rattle.nr_script.specs.private.Steps.{GivesOpening, GivesLines, with_opening};
 ghost use Rattle.nr_script.specs.Lines.{line_in};
-ghost use Rattle.nr_script.specs.Words.{parts};
+ghost use Rattle.nr_texts.specs.Words.{newline, parts};
 
 use crate::draft::Draft;
-use crate::lines::{line_in, opening_in};
-use crate::script::{Opening, Script, ScriptFault};
-use crate::words::{cut, words_of};
+use crate::lines::line_in;
+use crate::script::{Script, ScriptFault};
+use nr_texts::{Opening, cut, opening_in, words_of};
 use nr_xdr::Memory;
 use std::alloc::Global;
 

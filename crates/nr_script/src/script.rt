@@ -1,29 +1,15 @@
 //! Scripts: what a drill has to do, as plain data.
 
 ghost use Rattle.std.specs.Prelude.{◌≡◌, ◌≤◌, List};
-ghost use Rattle.nr_script.specs.Limits.{clients_max};
+ghost use Rattle.nr_texts.specs.Limits.{clients_max};
 ghost use Rattle.nr_script.specs.Script.{ScriptLines, IsScript};
 
 use nr_reduce::Form;
 use nr_rpc::Cred;
+use nr_texts::Opening;
 use nr_wire::Side;
 use nr_xdr::{Memory, Octets};
 use std::marker::Model;
-
-/// The first line of a script. Each client has a link of its own.
-#[derive(Clone, Copy)]
-pub struct Opening {
-    /// How many clients there are: 1 to 16.
-    pub clients: u32,
-    /// The credits with which both ends of each link are opened (RFC 8166 section 3.3): 1 to 64.
-    pub credits: u32,
-    /// How many bytes the journal may cost: at most 2^63 - 1.
-    pub capacity: u64,
-    /// The units of the Sends of each client, of 1,024 bytes each: 1 to 16.
-    pub client_units: u8,
-    /// The units of the Sends of each server: 1 to 16.
-    pub server_units: u8,
-}
 
 /// Any other line of a script. A client is named by its number, from 1, and so is its link.
 #[derive(Drop)]

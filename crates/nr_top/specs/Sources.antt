@@ -1,7 +1,8 @@
 -- Where the script of a drill comes from, and which status is due for it.
 use Rattle.std.specs.Prelude.{ℕ, ◌<◌, ◌≤◌, if◌then◌else◌, List, length, nat_lt, Result, Ok, Err}
 use Rattle.nr_outside.specs.Whole.{input_max}
-use Rattle.nr_script.specs.Limits.{clients_max, calls_max}
+use Rattle.nr_texts.specs.Limits.{clients_max}
+use Rattle.nr_script.specs.Limits.{calls_max}
 use Rattle.nr_script.specs.Script.{ScriptLines, script_of}
 use Rattle.nr_top.specs.declared.drill.ScriptSource.{ScriptSource}
 use Rattle.nr_top.specs.declared.drill.ScriptSource.TheVariants as sources

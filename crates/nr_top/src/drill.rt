@@ -3,7 +3,8 @@
 ghost use Rattle.std.specs.Prelude.{◌≡◌, ◌<◌, ◌≤◌, IfOk, MatchResult};
 ghost use Rattle.nr_outside.specs.Streams.{source_at, sink_at};
 ghost use Rattle.nr_script.specs.Generator.{made_script};
-ghost use Rattle.nr_script.specs.Limits.{clients_max, calls_max};
+ghost use Rattle.nr_texts.specs.Limits.{clients_max};
+ghost use Rattle.nr_script.specs.Limits.{calls_max};
 ghost use Rattle.nr_top.specs.declared.drill.ScriptSource.TheVariants as sources;
 ghost use Rattle.nr_top.specs.Sources.{HasRanges};
 ghost use Rattle.nr_top.specs.Causes.{cause_of};

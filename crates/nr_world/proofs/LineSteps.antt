@@ -10,10 +10,10 @@ use Rattle.nr_rpc.specs.Credential.{CanWriteCred}
 use Rattle.nr_rpc.specs.declared.cred.Cred.{Cred}
 use Rattle.nr_rpc.specs.declared.cred.Cred.TheVariants as creds
 use Rattle.nr_tree.specs.Tree.{Tree}
-use Rattle.nr_script.specs.declared.script.Opening.{Opening}
+use Rattle.nr_texts.specs.declared.opening.Opening.{Opening}
 use Rattle.nr_script.specs.declared.script.Line.{Line}
 use Rattle.nr_script.specs.declared.script.Line.TheVariants as lines
-use Rattle.nr_script.specs.Limits.{number_max}
+use Rattle.nr_texts.specs.Limits.{number_max}
 use Rattle.nr_script.specs.Script.{seconds_in}
 use Rattle.nr_drill.specs.Drill.{Setting, Drill, cred_of, with_cred, links_of, after_moves, after_round}
 use Rattle.nr_drill.specs.DrillSetup.{drill_setup}

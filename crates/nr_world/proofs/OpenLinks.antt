@@ -15,7 +15,7 @@ use Rattle.nr_reduce.specs.PlainJournal.{PlainServer, journal}
 use Rattle.nr_tree.specs.Steps.{IsBelow}
 use Rattle.nr_tree.specs.Tree.{Tree}
 use Rattle.nr_plain.specs.Stands.{PlainServerState, RepresentsJournal}
-use Rattle.nr_script.specs.declared.script.Opening.{Opening}
+use Rattle.nr_texts.specs.declared.opening.Opening.{Opening}
 use Rattle.nr_drill.specs.Drill.{link_of, Setting, Drill, plain_of, empty_pipes, start, links_of, after_opening, after_openings}
 use Rattle.nr_drill.specs.DrillSetup.{drill_setup, server_of}
 use Rattle.nr_drill.specs.Follows.{opened_drill}

@@ -3,10 +3,10 @@ use Rattle.std.specs.List.{AllByRecursion}
 use Rattle.std.proofs.Common.{◌≡◌, ℕ, ◌+◌, ◌≤◌, arith, true, leb, leb-true, List, [], ◌∷◌, ◌++◌, length, refl, sym, ap, subst, ◌∙◌}
 use Rattle.std.proofs.lemmas.List.Sums.{sum_by-append}
 use Rattle.nr_tree.specs.Tree.{Tree}
-use Rattle.nr_script.specs.declared.script.Opening.{Opening}
+use Rattle.nr_texts.specs.declared.opening.Opening.{Opening}
 use Rattle.nr_script.specs.declared.script.Line.{Line}
 use Rattle.nr_script.specs.declared.script.Line.TheVariants as lines
-use Rattle.nr_script.specs.Limits.{number_max, clients_max}
+use Rattle.nr_texts.specs.Limits.{number_max, clients_max}
 use Rattle.nr_script.specs.Script.{ScriptLines, IsScript, FollowOn, HasWritableCred, is_client, is_call_line, may_follow, seconds_in, seconds_after}
 use Rattle.nr_drill.specs.declared.report.Report.{Report}
 use Rattle.nr_drill.specs.Drill.{start, links_of}

@@ -12,7 +12,7 @@ use Rattle.nr_rpc.specs.declared.cred.Cred.{Cred}
 use Rattle.nr_rpc.specs.declared.cred.Cred.TheVariants as creds
 use Rattle.nr_tree.specs.Tree.{Tree}
 use Rattle.nr_plain.specs.Stands.{PlainServerState, RepresentsJournal}
-use Rattle.nr_script.specs.declared.script.Opening.{Opening}
+use Rattle.nr_texts.specs.declared.opening.Opening.{Opening}
 use Rattle.nr_drill.specs.Drill.{Setting, Drill, after_submit}
 use Rattle.nr_drill.specs.DrillSetup.{drill_setup}
 use Rattle.nr_drill.specs.Follows.{parameters_of}

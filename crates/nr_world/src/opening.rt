@@ -2,7 +2,7 @@
 
 ghost use Rattle.std.specs.Prelude.{◌≡◌, ◌≤◌, [], replicate, IfOk, OnOk};
 ghost use Rattle.nr_rpc.specs.declared.cred.Cred.TheVariants as credentials;
-ghost use Rattle.nr_script.specs.Limits.{capacity_max};
+ghost use Rattle.nr_texts.specs.Limits.{capacity_max};
 ghost use Rattle.nr_world.specs.private.Opened.{IsDrillServer, HasOpenLinks, IsStarted, OpensAll};
 
 use crate::world::World;
@@ -11,7 +11,7 @@ use nr_marks::MarkLog;
 use nr_nfs_base::Verifier;
 use nr_plain::Server;
 use nr_rpc::Cred;
-use nr_script::Opening;
+use nr_texts::Opening;
 use nr_tree::Tree;
 use nr_xdr::{Memory, Octets};
 use std::alloc::Global;

@@ -1,7 +1,7 @@
 //! A script is run.
 
 ghost use Rattle.std.specs.Prelude.{◌≡◌, ◌≤◌, ◌+◌, [], IfOk, OnOk, length};
-ghost use Rattle.nr_script.specs.Limits.{clients_max};
+ghost use Rattle.nr_texts.specs.Limits.{clients_max};
 ghost use Rattle.nr_drill.specs.DrillSetup.{GivesReport};
 ghost use Rattle.nr_world.specs.private.Results.{AreEndsOf, ReportsWorld};
 

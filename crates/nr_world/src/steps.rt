@@ -6,7 +6,7 @@ ghost use Rattle.std.specs.List.{list_all};
 ghost use Rattle.nr_rpc.specs.Credential.{CanWriteCred};
 ghost use Rattle.nr_rpc.specs.declared.cred.Cred.TheVariants as creds;
 ghost use Rattle.nr_tree.specs.Tree.{Tree};
-ghost use Rattle.nr_script.specs.declared.script.Opening.{Opening};
+ghost use Rattle.nr_texts.specs.declared.opening.Opening.{Opening};
 ghost use Rattle.nr_reduce.specs.History.{is_dropped};
 ghost use Rattle.nr_drill.specs.Drill.{Drill, links_of, after_submit, after_up, after_down, after_work, after_forget, after_revoke, after_drop, after_raw, after_moves, after_round};
 ghost use Rattle.nr_drill.specs.Follows.{is_still as is_still_in};

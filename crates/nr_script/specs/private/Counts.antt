@@ -2,7 +2,7 @@
 use Rattle.std.specs.Prelude.{◌≡◌, ℕ, ◌+◌, ◌-◌, ◌<◌, ◌&&◌, nat_le, if◌then◌else◌, List, length, slice_index, slice_set}
 use Rattle.nr_script.specs.declared.script.Line.{Line}
 use Rattle.nr_script.specs.declared.script.Line.TheVariants as lines
-use Rattle.nr_script.specs.Limits.{clients_max}
+use Rattle.nr_texts.specs.Limits.{clients_max}
 use Rattle.nr_script.specs.Script.{calls_of}
 
 -- the client of a call line, and 0 of any other line

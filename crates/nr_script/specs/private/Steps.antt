@@ -1,12 +1,12 @@
 -- What each step of reading a script gives.
 use Rattle.std.specs.Prelude.{◌≡◌, ℕ, ◌+◌, ◌≤◌, List, [], length, Option, None, Some, Result, Ok, Err}
 use Rattle.std.specs.Borrow.{Bor}
-use Rattle.nr_script.specs.declared.script.Opening.{Opening}
+use Rattle.nr_texts.specs.declared.opening.Opening.{Opening}
 use Rattle.nr_script.specs.declared.script.ScriptFault.{ScriptFault}
 use Rattle.nr_script.specs.declared.script.ScriptFault.TheVariants as faults
-use Rattle.nr_script.specs.Limits.{clients_max}
-use Rattle.nr_script.specs.Words.{parts}
-use Rattle.nr_script.specs.Script.{ScriptLines, newline, script_from, script_of}
+use Rattle.nr_texts.specs.Limits.{clients_max}
+use Rattle.nr_texts.specs.Words.{parts, newline}
+use Rattle.nr_script.specs.Script.{ScriptLines, script_from, script_of}
 
 -- a script after its first line
 abbrev pub opened : Opening → ScriptLines

@@ -4,7 +4,7 @@ use Rattle.nr_tree.specs.Tree.{Tree}
 use Rattle.nr_tree.specs.Drill.{IsDrill}
 use Rattle.nr_tree.specs.Sane.{IsSane}
 use Rattle.nr_plain.specs.Stands.{PlainServerState, RepresentsJournal}
-use Rattle.nr_script.specs.declared.script.Opening.{Opening}
+use Rattle.nr_texts.specs.declared.opening.Opening.{Opening}
 use Rattle.nr_drill.specs.Drill.{start}
 use Rattle.nr_drill.specs.DrillSetup.{drill_setup, server_of}
 use Rattle.nr_drill.specs.Follows.{opened_drill}

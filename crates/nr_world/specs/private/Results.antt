@@ -1,7 +1,7 @@
 -- What a world reports.
 use Rattle.std.specs.Prelude.{List}
 use Rattle.nr_tree.specs.Tree.{Tree}
-use Rattle.nr_script.specs.declared.script.Opening.{Opening}
+use Rattle.nr_texts.specs.declared.opening.Opening.{Opening}
 use Rattle.nr_script.specs.Script.{ScriptLines, IsScript}
 use Rattle.nr_drill.specs.declared.report.LinkEnds.{LinkEnds}
 use Rattle.nr_drill.specs.declared.report.Report.{Report}

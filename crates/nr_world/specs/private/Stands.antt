@@ -3,7 +3,7 @@ use Rattle.std.specs.Prelude.{◌≡◌, ℕ, ◌-◌, ◌≤◌, List, length, 
 use Rattle.std.specs.List.{AllByRecursion}
 use Rattle.nr_rpc.specs.Credential.{CanWriteCred}
 use Rattle.nr_tree.specs.Tree.{Tree}
-use Rattle.nr_script.specs.declared.script.Opening.{Opening}
+use Rattle.nr_texts.specs.declared.opening.Opening.{Opening}
 use Rattle.nr_script.specs.declared.script.Line.{Line}
 use Rattle.nr_drill.specs.Drill.{Setting, Drill}
 use Rattle.nr_drill.specs.DrillSetup.{drill_setup, server_of}

@@ -2,10 +2,10 @@
 use Rattle.std.specs.Prelude.{ℕ, ◌+◌, ◌≤◌, List, [], ◌∷◌}
 use Rattle.nr_rpc.specs.Credential.{CanWriteCred}
 use Rattle.nr_tree.specs.Tree.{Tree}
-use Rattle.nr_script.specs.declared.script.Opening.{Opening}
+use Rattle.nr_texts.specs.declared.opening.Opening.{Opening}
 use Rattle.nr_script.specs.declared.script.Line.{Line}
 use Rattle.nr_script.specs.declared.script.Line.TheVariants as lines
-use Rattle.nr_script.specs.Limits.{number_max}
+use Rattle.nr_texts.specs.Limits.{number_max}
 use Rattle.nr_script.specs.Script.{seconds_in}
 use Rattle.nr_drill.specs.Drill.{Drill}
 use Rattle.nr_world.specs.declared.world.World.{World}

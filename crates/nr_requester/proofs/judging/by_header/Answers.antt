@@ -6,7 +6,7 @@ use Rattle.std.specs.Prelude.{get_or}
 use Rattle.nr_requester.proofs.judging.by_header.Goals as goal
 
 pub returns-in_default-clause-err : goal.returns-in_default-clause-err
-returns-in_default-clause-err c = no_call (kept_views c.args.first_xid c.args.sent c.args.calls.now) (bytes_under c.args.regions.now.memory) c.args.message.now (header_with c.args.header c.args.lists.now) (sym c.requires.header) c.in_default.ensures
+returns-in_default-clause-err c = no_call (kept_views c.args.sent c.args.calls.now) (bytes_under c.args.regions.now.memory) c.args.message.now (header_with c.args.header c.args.lists.now) (sym c.requires.header) c.in_default.ensures
 
 pub returns-in_default-clause-same : goal.returns-in_default-clause-same
 returns-in_default-clause-same c = same_all c.args.calls.now
@@ -22,16 +22,16 @@ found-requires-clause-room c = one_room (length c.args.message.now) c.args.calls
 
 pub returns-in-Ok-clause-ok : goal.returns-in-Ok-clause-ok
 returns-in-Ok-clause-ok c =
-    brings_lem c.args.first_xid c.args.sent c.args.calls.now (bytes_under c.args.regions.now.memory) c.args.message.now (header_with c.args.header c.args.lists.now) c.in-Some.at c.found.new.call c.index-calls-at.result c.in-Ok.found c.in-Some.ensures.0 (sym c.requires.header) (c.in-Some.ensures.1 c.index-calls-at.result)
-    (c.in-Ok.ensures.ok c.args.first_xid c.args.sent) c.in-Ok.ensures.within
+    brings_lem c.args.sent c.args.calls.now (bytes_under c.args.regions.now.memory) c.args.message.now (header_with c.args.header c.args.lists.now) c.in-Some.at c.found.new.call c.index-calls-at.result c.in-Ok.found c.in-Some.ensures.0 (sym c.requires.header) (c.in-Some.ensures.1 c.index-calls-at.result)
+    (c.in-Ok.ensures.ok c.args.sent) c.in-Ok.ensures.within
 
 pub returns-in-Ok-clause-same : goal.returns-in-Ok-clause-same
 returns-in-Ok-clause-same c = same_set c.args.calls.now c.in-Some.at c.found.new.call c.index-calls-at.result c.in-Some.ensures.0 c.in-Ok.ensures.same
 
 pub returns-in-Err-clause-err : goal.returns-in-Err-clause-err
 returns-in-Err-clause-err c =
-    let e = c.in-Err.ensures.err c.args.first_xid c.args.sent in
-    (by_call (kept_views c.args.first_xid c.args.sent c.args.calls.now) (bytes_under c.args.regions.now.memory) c.args.message.now (header_with c.args.header c.args.lists.now) (kept_view c.args.first_xid c.args.sent (get_or c.args.calls.now c.in-Some.at c.index-calls-at.result)) (sym c.requires.header) (c.in-Some.ensures.1 c.index-calls-at.result) ∙ e.0, e.1)
+    let e = c.in-Err.ensures.err c.args.sent in
+    (by_call (kept_views c.args.sent c.args.calls.now) (bytes_under c.args.regions.now.memory) c.args.message.now (header_with c.args.header c.args.lists.now) (kept_view c.args.sent (get_or c.args.calls.now c.in-Some.at c.index-calls-at.result)) (sym c.requires.header) (c.in-Some.ensures.1 c.index-calls-at.result) ∙ e.0, e.1)
 
 pub returns-in-Err-clause-same : goal.returns-in-Err-clause-same
 returns-in-Err-clause-same c = same_set c.args.calls.now c.in-Some.at c.found.new.call c.index-calls-at.result c.in-Some.ensures.0 c.in-Err.ensures.same

@@ -6,7 +6,7 @@ use Rattle.nr_requester.proofs.judging.call_at.Given as goal
 abbrev pub invariant-loop-at : goal.invariant-loop-at
 invariant-loop-at l = record {
   within : l.at ≤ length l.calls;
-  left : kept_by (kept_views l.first_xid l.sent (drop l.at l.calls)) l.xid ≡ kept_by (kept_views l.first_xid l.sent l.calls) l.xid;
+  left : kept_by (kept_views l.sent (drop l.at l.calls)) l.xid ≡ kept_by (kept_views l.sent l.calls) l.xid;
 }
 
 abbrev pub decreases-loop-at : goal.decreases-loop-at

@@ -5,7 +5,7 @@ use Rattle.nr_requester.proofs.MessageBodies.{bad_header, same_all}
 use Rattle.nr_requester.proofs.judging.judged.Goals as goal
 
 pub returns-in-Err-clause-err : goal.returns-in-Err-clause-err
-returns-in-Err-clause-err c = bad_header (kept_views c.args.first_xid c.args.sent c.args.calls.now) (bytes_under c.args.regions.now.memory) c.args.message.now c.in-Err.fault c.reason_of.result c.requires.message (sym c.in-Err.ensures.exact) c.reason_of.ensures
+returns-in-Err-clause-err c = bad_header (kept_views c.args.sent c.args.calls.now) (bytes_under c.args.regions.now.memory) c.args.message.now c.in-Err.fault c.reason_of.result c.requires.message (sym c.in-Err.ensures.exact) c.reason_of.ensures
 
 pub returns-in-Err-clause-same : goal.returns-in-Err-clause-same
 returns-in-Err-clause-same c = same_all c.args.calls.now

@@ -36,9 +36,9 @@ take_message-requires-clause-calls c =
     )
 
 pub returns-in-Some-Message-clause-deliveries : goal.returns-in-Some-Message-clause-deliveries
-returns-in-Some-Message-clause-deliveries c = λ wished next.
+returns-in-Some-Message-clause-deliveries c = λ wished sends next.
     let w = message_waits c.args.endpoint.now.link c.in-Some-Message.field-0-0 c.in-Some-Message.field-0-1 (take c.in-Some-Message.len c.in-Some-Message.buf) c.next_event.new.self.link.state.receive_queue.deliveries c.requires.ready.waits (c.in-Some-Message.ensures.event ∙ ap (λ (e : Event). delivery e ∷ c.next_event.new.self.link.state.receive_queue.deliveries) c.in-Some-Message.field-0-is) in
-    message_told c.args.endpoint.now.link c.next_event.new.self.link c.take_message.new.endpoint.link c.args.sent wished c.args.first_xid next c.args.grant.now c.take_message.new.grant w.number c.args.outstanding.now.items c.take_message.new.outstanding.items c.args.answered.now.items c.take_message.new.answered.items (take c.in-Some-Message.len c.in-Some-Message.buf)
+    message_told c.args.endpoint.now.link c.next_event.new.self.link c.take_message.new.endpoint.link c.args.sent wished sends next c.args.grant.now c.take_message.new.grant w.number c.args.outstanding.now.items c.take_message.new.outstanding.items c.args.answered.now.items c.take_message.new.answered.items (take c.in-Some-Message.len c.in-Some-Message.buf)
     c.requires.ready.live w.is w.rest c.in-Some-Message.ensures.state c.take_message.ensures.judged
 
 pub returns-in-Some-Message-clause-sound : goal.returns-in-Some-Message-clause-sound
@@ -50,18 +50,18 @@ pub returns-in-Some-Message-clause-quiet : goal.returns-in-Some-Message-clause-q
 returns-in-Some-Message-clause-quiet c =
     let w = message_waits c.args.endpoint.now.link c.in-Some-Message.field-0-0 c.in-Some-Message.field-0-1 (take c.in-Some-Message.len c.in-Some-Message.buf) c.next_event.new.self.link.state.receive_queue.deliveries c.requires.ready.waits (c.in-Some-Message.ensures.event ∙ ap (λ (e : Event). delivery e ∷ c.next_event.new.self.link.state.receive_queue.deliveries) c.in-Some-Message.field-0-is) in
     judged_quiet c.args.endpoint.now.link c.requires.ready.live w.number (take c.in-Some-Message.len c.in-Some-Message.buf) w.is c.requires.ready.none_lent c.requires.ready.no_reads
-    (kept_verdict (kept_views c.args.first_xid c.args.sent c.args.outstanding.now.items) (bytes_under c.next_event.new.self.link.state.memory) (take c.in-Some-Message.len c.in-Some-Message.buf))
+    (kept_verdict (kept_views c.args.sent c.args.outstanding.now.items) (bytes_under c.next_event.new.self.link.state.memory) (take c.in-Some-Message.len c.in-Some-Message.buf))
     c.next_event.new.self.link c.take_message.new.endpoint.link c.args.outstanding.now.items c.take_message.new.outstanding.items c.args.answered.now.items c.take_message.new.answered.items c.args.grant.now c.take_message.new.grant c.in-Some-Message.ensures.state c.take_message.ensures.judged
 
 pub returns-in-Some-Message-clause-bounded : goal.returns-in-Some-Message-clause-bounded
-returns-in-Some-Message-clause-bounded c = λ most next bounded.
-    c.take_message.ensures.bounded most next
-    (next_bounded most c.args.sent c.args.first_xid next c.args.outstanding.now.items c.args.answered.now.items c.args.endpoint.now c.next_event.new.self (ap (λ (xs : List ℕ). length xs) c.next_event.ensures.staging) c.next_event.ensures.outside bounded c.in-Some-Message.ensures.state)
+returns-in-Some-Message-clause-bounded c = λ most sends next bounded.
+    c.take_message.ensures.bounded most sends next
+    (next_bounded most c.args.sent sends next c.args.outstanding.now.items c.args.answered.now.items c.args.endpoint.now c.next_event.new.self (ap (λ (xs : List ℕ). length xs) c.next_event.ensures.staging) c.next_event.ensures.outside bounded c.in-Some-Message.ensures.state)
 
 pub returns-in-Some-ReadDone-clause-bounded : goal.returns-in-Some-ReadDone-clause-bounded
-returns-in-Some-ReadDone-clause-bounded c = λ most next bounded.
-    next_bounded most c.args.sent c.args.first_xid next c.args.outstanding.now.items c.args.answered.now.items c.args.endpoint.now c.next_event.new.self (ap (λ (xs : List ℕ). length xs) c.next_event.ensures.staging) c.next_event.ensures.outside bounded c.in-Some-ReadDone.ensures.state
+returns-in-Some-ReadDone-clause-bounded c = λ most sends next bounded.
+    next_bounded most c.args.sent sends next c.args.outstanding.now.items c.args.answered.now.items c.args.endpoint.now c.next_event.new.self (ap (λ (xs : List ℕ). length xs) c.next_event.ensures.staging) c.next_event.ensures.outside bounded c.in-Some-ReadDone.ensures.state
 
 pub returns-in-None-clause-bounded : goal.returns-in-None-clause-bounded
-returns-in-None-clause-bounded c = λ most next bounded.
-    same_bounded most c.args.sent c.args.first_xid next c.args.outstanding.now.items c.args.answered.now.items c.args.endpoint.now c.next_event.new.self (ap (λ (xs : List ℕ). length xs) c.next_event.ensures.staging) c.next_event.ensures.outside bounded c.in-None.ensures.state
+returns-in-None-clause-bounded c = λ most sends next bounded.
+    same_bounded most c.args.sent sends next c.args.outstanding.now.items c.args.answered.now.items c.args.endpoint.now c.next_event.new.self (ap (λ (xs : List ℕ). length xs) c.next_event.ensures.staging) c.next_event.ensures.outside bounded c.in-None.ensures.state

@@ -1,4 +1,4 @@
-use Rattle.std.proofs.Common.{◌≡◌, ℕ, ◌-◌, ◌<◌, ◌≤◌, List, take, ◌++◌, refl, sym, ap, subst, ◌∙◌, length, arith}
+use Rattle.std.proofs.Common.{◌≡◌, ℕ, ◌<◌, ◌≤◌, List, take, ◌++◌, refl, sym, ap, subst, ◌∙◌, length, arith}
 use Rattle.std.specs.Prelude.{get_or, remove, vec_capacity}
 use Rattle.std.proofs.lemmas.List.{length-take}
 use Rattle.nr_regions.specs.RegisteredMemory.{RegisteredMemory}
@@ -19,7 +19,7 @@ use Rattle.nr_requester.specs.Judged.{kept_views, outcome_by}
 use Rattle.nr_requester.specs.Fed.{CallsSound, JudgesTo}
 use Rattle.nr_requester.specs.Views.{stored_view}
 use Rattle.nr_requester.proofs.MessageBodies.{one_held, shorter_rooms}
-use Rattle.nr_requester.proofs.OneMessage.{post_memory, post_ended, post_place, stop_memory, stop_on, first_of, same_xid, sound_as}
+use Rattle.nr_requester.proofs.OneMessage.{post_memory, post_ended, post_place, stop_memory, stop_on, first_of, same_send, sound_as}
 use Rattle.nr_requester.proofs.StepSides.{remove_fewer}
 use Rattle.nr_requester.proofs.Taken.{same_views, same_length, same_sound, completed_sound, judged_gives}
 use Rattle.nr_requester.proofs.FedBounds.{post_bounded, stop_bounded}
@@ -52,10 +52,10 @@ returns-in-Ok-clause-judged c =
     let d : OutstandingCall = first_of c.verdict-found.new.calls.items c.in-Ok.at b.within in
     let front : c.split_at.result.0.now ≡ take c.args.len c.args.buf = c.split_at.ensures.front ∙ ap (λ (xs : List ℕ). take c.args.len xs) c.as_slice.ensures in
     let memory : c.post.new.self.link.state.memory ≡ c.args.endpoint.now.link.state.memory = ap (λ (l : LinkSide). l.state.memory) c.post.ensures.state ∙ post_memory c.args.endpoint.now.link in
-    subst (λ (cs : List OutstandingCall). JudgesTo (kept_verdict (kept_views c.args.first_xid c.args.sent c.args.outstanding.now.items) (bytes_under c.args.endpoint.now.link.state.memory) (take c.args.len c.args.buf)) (take c.args.len c.args.buf) c.args.endpoint.now.link c.complete.new.endpoint.link c.args.outstanding.now.items cs c.args.answered.now.items c.complete.new.answered.items c.args.grant.now c.credits_of-credits.result) (sym c.complete.ensures.outstanding)
-    (judged_gives c.args.endpoint.now.link.state.receive_queue.receive_length c.args.first_xid c.args.sent c.requires.calls.0 (vec_capacity c.args.answered.now) c.in-Ok.at c.args.endpoint.now.link c.complete.new.endpoint.link c.args.outstanding.now.items c.verdict-found.new.calls.items
+    subst (λ (cs : List OutstandingCall). JudgesTo (kept_verdict (kept_views c.args.sent c.args.outstanding.now.items) (bytes_under c.args.endpoint.now.link.state.memory) (take c.args.len c.args.buf)) (take c.args.len c.args.buf) c.args.endpoint.now.link c.complete.new.endpoint.link c.args.outstanding.now.items cs c.args.answered.now.items c.complete.new.answered.items c.args.grant.now c.credits_of-credits.result) (sym c.complete.ensures.outstanding)
+    (judged_gives c.args.endpoint.now.link.state.receive_queue.receive_length c.args.sent c.requires.calls.0 (vec_capacity c.args.answered.now) c.in-Ok.at c.args.endpoint.now.link c.complete.new.endpoint.link c.args.outstanding.now.items c.verdict-found.new.calls.items
     c.args.answered.now.items c.complete.new.answered.items c.args.grant.now c.credits_of-credits.result (take c.args.len c.args.buf) d (outcome_by c.in-Ok.found (get_or c.verdict-found.new.calls.items c.in-Ok.at d).room.bytes) (bytes_under c.args.endpoint.now.link.state.memory)
-    ((λ i. kept_verdict (kept_views c.args.first_xid c.args.sent c.args.outstanding.now.items) (bytes_under (sym c.regions.ensures i)) (sym front i)) ∙ b.verdict d)
+    ((λ i. kept_verdict (kept_views c.args.sent c.args.outstanding.now.items) (bytes_under (sym c.regions.ensures i)) (sym front i)) ∙ b.verdict d)
     b.within same c.requires.calls.1 (same_xid c.args.outstanding.now.items c.verdict-found.new.calls.items c.in-Ok.at d same)
     (c.complete.ensures.link d ∙ (λ i. with_memory (released_all (memory i) (stags_of (get_or c.verdict-found.new.calls.items c.in-Ok.at d).claims)) (c.post.ensures.state i)))
     (c.complete.ensures.answered d ∙ ap (λ (m : RegisteredMemory). c.args.answered.now.items ++ answered_as m (stored_view (get_or c.verdict-found.new.calls.items c.in-Ok.at d)) (awaited_call (stored_view (get_or c.verdict-found.new.calls.items c.in-Ok.at d))) (outcome_by c.in-Ok.found (get_or c.verdict-found.new.calls.items c.in-Ok.at d).room.bytes)) memory)
@@ -77,7 +77,7 @@ returns-in-Ok-clause-sound c = λ most next s.
 pub returns-in-Err-clause-judged : goal.returns-in-Err-clause-judged
 returns-in-Err-clause-judged c =
     let front : c.split_at.result.0.now ≡ take c.args.len c.args.buf = c.split_at.ensures.front ∙ ap (λ (xs : List ℕ). take c.args.len xs) c.as_slice.ensures in
-    let verdict = (λ i. kept_verdict (kept_views c.args.first_xid c.args.sent c.args.outstanding.now.items) (bytes_under (sym c.regions.ensures i)) (sym front i)) ∙ c.in-Err.ensures.err.0 in
+    let verdict = (λ i. kept_verdict (kept_views c.args.sent c.args.outstanding.now.items) (bytes_under (sym c.regions.ensures i)) (sym front i)) ∙ c.in-Err.ensures.err.0 in
     subst (λ (v : ReplyVerdict). JudgesTo v (take c.args.len c.args.buf) c.args.endpoint.now.link c.stop.new.endpoint.link c.args.outstanding.now.items c.verdict-found.new.calls.items c.args.answered.now.items c.args.answered.now.items c.args.grant.now c.args.grant.now) (sym verdict)
     (stop_on (after_call c.args.endpoint.now.link Post) c.post.new.self.link c.stop.new.endpoint.link c.in-Err.reason c.post.ensures.state c.stop.ensures.link, (same_views c.args.outstanding.now.items c.verdict-found.new.calls.items c.verdict-found.ensures.same, (refl, (refl, c.in-Err.ensures.err.1))))
 
@@ -99,23 +99,23 @@ pub returns-in-Err-clause-fewer : goal.returns-in-Err-clause-fewer
 returns-in-Err-clause-fewer c = (let same = same_length c.args.outstanding.now.items c.verdict-found.new.calls.items c.verdict-found.ensures.same in omega (arith, same))
 
 pub returns-in-Ok-clause-bounded : goal.returns-in-Ok-clause-bounded
-returns-in-Ok-clause-bounded c = λ most next bounded.
+returns-in-Ok-clause-bounded c = λ most sends next bounded.
     let b = c.in-Ok.ensures.ok in
     let same = c.verdict-found.ensures.same in
     let d : OutstandingCall = first_of c.verdict-found.new.calls.items c.in-Ok.at b.within in
     let memory : c.post.new.self.link.state.memory ≡ c.args.endpoint.now.link.state.memory = ap (λ (l : LinkSide). l.state.memory) c.post.ensures.state ∙ post_memory c.args.endpoint.now.link in
     let sound = subst (λ (m : RegisteredMemory). CallsSound c.args.endpoint.now.link.state.receive_queue.receive_length m c.requires.calls.0 c.verdict-found.new.calls.items c.args.answered.now.items (vec_capacity c.args.answered.now)) (sym memory)
     (same_sound c.args.endpoint.now.link.state.receive_queue.receive_length c.args.endpoint.now.link.state.memory c.requires.calls.0 (vec_capacity c.args.answered.now) c.args.outstanding.now.items c.verdict-found.new.calls.items c.args.answered.now.items same c.requires.calls.1) in
-    let posted = post_bounded most c.args.sent c.args.first_xid next c.args.outstanding.now.items c.args.answered.now.items c.args.endpoint.now c.post.new.self (ap (λ (xs : List ℕ). length xs) c.post.ensures.staging) c.post.ensures.outside bounded c.post.ensures.state in
-    let gone = subst (λ (n : ℕ). n - c.args.first_xid < c.args.sent) (same_xid c.args.outstanding.now.items c.verdict-found.new.calls.items c.in-Ok.at d same) (b.sent d) in
-    completed_bounded most c.args.sent c.args.first_xid next c.in-Ok.at (vec_capacity c.args.answered.now) c.args.endpoint.now.link.state.receive_queue.receive_length c.requires.calls.0 c.post.new.self c.complete.new.endpoint c.verdict-found.new.calls.items c.complete.new.outstanding.items c.args.answered.now.items c.complete.new.answered.items d c.in-Ok.found
+    let posted = post_bounded most c.args.sent sends next c.args.outstanding.now.items c.args.answered.now.items c.args.endpoint.now c.post.new.self (ap (λ (xs : List ℕ). length xs) c.post.ensures.staging) c.post.ensures.outside bounded c.post.ensures.state in
+    let gone = subst (λ (n : ℕ). n < c.args.sent) (same_send c.args.outstanding.now.items c.verdict-found.new.calls.items c.in-Ok.at d same) (b.sent d) in
+    completed_bounded most c.args.sent sends next c.in-Ok.at (vec_capacity c.args.answered.now) c.args.endpoint.now.link.state.receive_queue.receive_length c.requires.calls.0 c.post.new.self c.complete.new.endpoint c.verdict-found.new.calls.items c.complete.new.outstanding.items c.args.answered.now.items c.complete.new.answered.items d c.in-Ok.found
     b.within gone sound c.complete.ensures.staging c.complete.ensures.outside (c.complete.ensures.link d) c.complete.ensures.outstanding (c.complete.ensures.answered d)
-    (rooms_bounded most c.args.sent c.args.first_xid next c.post.new.self c.args.outstanding.now.items c.verdict-found.new.calls.items c.args.answered.now.items same posted)
+    (rooms_bounded most c.args.sent sends next c.post.new.self c.args.outstanding.now.items c.verdict-found.new.calls.items c.args.answered.now.items same posted)
 
 pub returns-in-Err-clause-bounded : goal.returns-in-Err-clause-bounded
-returns-in-Err-clause-bounded c = λ most next bounded.
+returns-in-Err-clause-bounded c = λ most sends next bounded.
     let same = c.verdict-found.ensures.same in
     let lives = ap (λ (l : LinkSide). l.state.ended) c.post.ensures.state ∙ (post_ended c.args.endpoint.now.link ∙ c.requires.live) in
-    let posted = post_bounded most c.args.sent c.args.first_xid next c.args.outstanding.now.items c.args.answered.now.items c.args.endpoint.now c.post.new.self (ap (λ (xs : List ℕ). length xs) c.post.ensures.staging) c.post.ensures.outside bounded c.post.ensures.state in
-    rooms_bounded most c.args.sent c.args.first_xid next c.stop.new.endpoint c.args.outstanding.now.items c.verdict-found.new.calls.items c.args.answered.now.items same
-    (stop_bounded most c.args.sent c.args.first_xid next c.args.outstanding.now.items c.args.answered.now.items c.post.new.self c.stop.new.endpoint (ap (λ (xs : List ℕ). length xs) c.stop.ensures.staging) c.stop.ensures.outside posted c.in-Err.reason lives c.stop.ensures.link)
+    let posted = post_bounded most c.args.sent sends next c.args.outstanding.now.items c.args.answered.now.items c.args.endpoint.now c.post.new.self (ap (λ (xs : List ℕ). length xs) c.post.ensures.staging) c.post.ensures.outside bounded c.post.ensures.state in
+    rooms_bounded most c.args.sent sends next c.stop.new.endpoint c.args.outstanding.now.items c.verdict-found.new.calls.items c.args.answered.now.items same
+    (stop_bounded most c.args.sent sends next c.args.outstanding.now.items c.args.answered.now.items c.post.new.self c.stop.new.endpoint (ap (λ (xs : List ℕ). length xs) c.stop.ensures.staging) c.stop.ensures.outside posted c.in-Err.reason lives c.stop.ensures.link)

@@ -1,7 +1,6 @@
 use Rattle.std.proofs.Common.{◌≡◌, ◌∷◌, ◌<◌, ◌∙◌, length, true, false, cond, Some, None, ap, rules, arith}
-use Rattle.nr_script.specs.Words.{parts}
-use Rattle.nr_script.specs.Script.{newline}
-use Rattle.nr_script.proofs.Pieces.{cut_some, shorter_some}
+use Rattle.nr_texts.specs.Words.{parts, newline}
+use Rattle.nr_texts.proofs.Pieces.{cut_some, shorter_some}
 use Rattle.nr_script.proofs.Steps.{bad, more}
 use Rattle.nr_script.proofs.reading.add_lines.Goals as goal
 

@@ -1,6 +1,6 @@
 use Rattle.std.proofs.Common.{◌≡◌, ◌≤◌, ◌+◌, length, Some}
-use Rattle.nr_script.specs.Script.{newline, script_from}
-use Rattle.nr_script.specs.Words.{parts}
+use Rattle.nr_texts.specs.Words.{newline, parts}
+use Rattle.nr_script.specs.Script.{script_from}
 use Rattle.nr_script.proofs.reading.add_lines.Given as goal
 
 abbrev pub invariant-loop-next : goal.invariant-loop-next

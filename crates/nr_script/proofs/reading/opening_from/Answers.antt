@@ -1,8 +1,8 @@
 use Rattle.std.proofs.Common.{◌≡◌, ◌∷◌, ◌<◌, ◌∙◌, length, Some, None, refl, rules, arith}
-use Rattle.nr_script.specs.Words.{parts}
-use Rattle.nr_script.specs.Script.{newline, with_text, script_of}
+use Rattle.nr_texts.specs.Words.{parts, newline}
+use Rattle.nr_script.specs.Script.{with_text, script_of}
 use Rattle.nr_script.specs.private.Steps.{opened}
-use Rattle.nr_script.proofs.Pieces.{cut_some, shorter_some}
+use Rattle.nr_texts.proofs.Pieces.{cut_some, shorter_some}
 use Rattle.nr_script.proofs.Steps.{more, opens, skips}
 use Rattle.nr_script.proofs.TypedScripts.{opened_clients}
 use Rattle.nr_script.proofs.reading.opening_from.Goals as goal

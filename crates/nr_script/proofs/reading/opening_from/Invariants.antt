@@ -1,6 +1,6 @@
 use Rattle.std.proofs.Common.{◌≡◌, ◌≤◌, ◌+◌, length, None}
-use Rattle.nr_script.specs.Script.{newline, script_from, script_of}
-use Rattle.nr_script.specs.Words.{parts}
+use Rattle.nr_texts.specs.Words.{newline, parts}
+use Rattle.nr_script.specs.Script.{script_from, script_of}
 use Rattle.nr_script.proofs.reading.opening_from.Given as goal
 
 abbrev pub invariant-loop-next : goal.invariant-loop-next

@@ -1,6 +1,6 @@
 use Rattle.std.proofs.Common.{◌∙◌, Some, sym, ap}
-use Rattle.nr_script.specs.Words.{parts}
-use Rattle.nr_script.specs.Script.{ScriptLines, newline, script_from}
+use Rattle.nr_texts.specs.Words.{parts, newline}
+use Rattle.nr_script.specs.Script.{ScriptLines, script_from}
 use Rattle.nr_script.proofs.TypedScripts.{script_is}
 use Rattle.nr_script.proofs.reading.read_script.Goals as goal
 

@@ -1,6 +1,6 @@
 use Rattle.std.proofs.Common.{◌≤◌, sym, subst}
-use Rattle.nr_script.specs.declared.script.Opening.{Opening}
-use Rattle.nr_script.specs.Limits.{capacity_max}
+use Rattle.nr_texts.specs.declared.opening.Opening.{Opening}
+use Rattle.nr_texts.specs.Limits.{capacity_max}
 use Rattle.nr_world.proofs.Scripts.{lines_fit_as, runs_script_as, few_links_as}
 use Rattle.nr_world.proofs.Stands.{if_ok}
 use Rattle.nr_world.proofs.running.run_world.Goals as goal

@@ -3,15 +3,15 @@ use Rattle.nr_requester.specs.declared.answer.AnsweredCall.{AnsweredCall}
 use Rattle.nr_requester.specs.declared.outstanding.OutstandingCall.{OutstandingCall}
 use Rattle.nr_requester.specs.RequesterState.{RequesterSide}
 use Rattle.nr_requester.specs.Views.{stored_view}
-use Rattle.nr_requester.specs.HeldBytes.{calls_bytes, rooms_bytes, answers_bytes, held_unit}
-use Rattle.nr_requester.proofs.HeldBounds.{held_is, held_bound, held_most}
+use Rattle.nr_requester.specs.HeldBytes.{calls_bytes, rooms_bytes, rooms_total, answers_bytes, held_unit}
+use Rattle.nr_requester.proofs.HeldBounds.{rooms_are, held_is, held_bound, held_most}
 use Rattle.nr_requester.proofs.requester.Requester.held.Goals as goal
 
 pub overflow_add-result : goal.overflow_add-result
 overflow_add-result c =
     let i = c.self.inside in
     let more : c.calls_bytes.result ≡ calls_bytes (map stored_view i.outstanding.items) = c.calls_bytes.ensures ∙ ap (λ (cs : List OutstandingCall). calls_bytes (map stored_view cs)) c.as_slice.ensures.value in
-    let bound = held_bound i.endpoint i.receive_length i.first_xid i.next_xid c.held.result c.calls_bytes.result (rooms_bytes i.receive_length (map stored_view i.outstanding.items)) i.outstanding.items i.answered.items c.self.invariant.1.0 c.facts.ensures.receives c.held.ensures.is more refl in
+    let bound = held_bound i.endpoint i.receive_length i.sends i.next_xid c.held.result c.calls_bytes.result (rooms_bytes i.receive_length (map stored_view i.outstanding.items)) i.outstanding.items i.answered.items c.self.invariant.1.0 c.facts.ensures.receives c.held.ensures.is more refl in
     let few = c.self.invariant.0.few in
     omega (arith, bound, few)
 
@@ -19,8 +19,8 @@ pub overflow_add-result-2 : goal.overflow_add-result-2
 overflow_add-result-2 c =
     let i = c.self.inside in
     let more : c.calls_bytes.result ≡ calls_bytes (map stored_view i.outstanding.items) = c.calls_bytes.ensures ∙ ap (λ (cs : List OutstandingCall). calls_bytes (map stored_view cs)) c.as_slice.ensures.value in
-    let rooms : c.rooms_bytes.result ≡ rooms_bytes i.receive_length (map stored_view i.outstanding.items) = c.rooms_bytes.ensures ∙ ap (λ (cs : List OutstandingCall). rooms_bytes i.receive_length (map stored_view cs)) c.as_slice-2.ensures.value in
-    let bound = held_bound i.endpoint i.receive_length i.first_xid i.next_xid c.held.result c.calls_bytes.result c.rooms_bytes.result i.outstanding.items i.answered.items c.self.invariant.1.0 c.facts.ensures.receives c.held.ensures.is more rooms in
+    let rooms : c.rooms_bytes.result ≡ rooms_bytes i.receive_length (map stored_view i.outstanding.items) = c.rooms_bytes.ensures ∙ ap (λ (cs : List OutstandingCall). rooms_total cs) c.as_slice-2.ensures.value ∙ rooms_are i.receive_length i.outstanding.items c.self.invariant.1.0.each in
+    let bound = held_bound i.endpoint i.receive_length i.sends i.next_xid c.held.result c.calls_bytes.result c.rooms_bytes.result i.outstanding.items i.answered.items c.self.invariant.1.0 c.facts.ensures.receives c.held.ensures.is more rooms in
     let few = c.self.invariant.0.few in
     omega (arith, bound, few)
 
@@ -28,8 +28,8 @@ pub overflow_add-result-3 : goal.overflow_add-result-3
 overflow_add-result-3 c =
     let i = c.self.inside in
     let more : c.calls_bytes.result ≡ calls_bytes (map stored_view i.outstanding.items) = c.calls_bytes.ensures ∙ ap (λ (cs : List OutstandingCall). calls_bytes (map stored_view cs)) c.as_slice.ensures.value in
-    let rooms : c.rooms_bytes.result ≡ rooms_bytes i.receive_length (map stored_view i.outstanding.items) = c.rooms_bytes.ensures ∙ ap (λ (cs : List OutstandingCall). rooms_bytes i.receive_length (map stored_view cs)) c.as_slice-2.ensures.value in
-    let bound = held_bound i.endpoint i.receive_length i.first_xid i.next_xid c.held.result c.calls_bytes.result c.rooms_bytes.result i.outstanding.items i.answered.items c.self.invariant.1.0 c.facts.ensures.receives c.held.ensures.is more rooms in
+    let rooms : c.rooms_bytes.result ≡ rooms_bytes i.receive_length (map stored_view i.outstanding.items) = c.rooms_bytes.ensures ∙ ap (λ (cs : List OutstandingCall). rooms_total cs) c.as_slice-2.ensures.value ∙ rooms_are i.receive_length i.outstanding.items c.self.invariant.1.0.each in
+    let bound = held_bound i.endpoint i.receive_length i.sends i.next_xid c.held.result c.calls_bytes.result c.rooms_bytes.result i.outstanding.items i.answered.items c.self.invariant.1.0 c.facts.ensures.receives c.held.ensures.is more rooms in
     let few = c.self.invariant.0.few in
     omega (arith, bound, few, c.answers_bytes.ensures.most)
 
@@ -37,16 +37,16 @@ pub returns-clause-is : goal.returns-clause-is
 returns-clause-is c =
     let i = c.self.inside in
     let more : c.calls_bytes.result ≡ calls_bytes (map stored_view i.outstanding.items) = c.calls_bytes.ensures ∙ ap (λ (cs : List OutstandingCall). calls_bytes (map stored_view cs)) c.as_slice.ensures.value in
-    let rooms : c.rooms_bytes.result ≡ rooms_bytes i.receive_length (map stored_view i.outstanding.items) = c.rooms_bytes.ensures ∙ ap (λ (cs : List OutstandingCall). rooms_bytes i.receive_length (map stored_view cs)) c.as_slice-2.ensures.value in
-    held_is i.endpoint i.receive_length i.first_xid i.next_xid i.sent i.wished i.first_xid i.next_xid i.grant c.held.result c.calls_bytes.result c.rooms_bytes.result i.outstanding.items i.answered.items c.answers_bytes.result c.args.self.now.state (ap (λ (h : RequesterSide). h.state) c.self.view_is) c.self.invariant.1.0 c.held.ensures.is more rooms
+    let rooms : c.rooms_bytes.result ≡ rooms_bytes i.receive_length (map stored_view i.outstanding.items) = c.rooms_bytes.ensures ∙ ap (λ (cs : List OutstandingCall). rooms_total cs) c.as_slice-2.ensures.value ∙ rooms_are i.receive_length i.outstanding.items c.self.invariant.1.0.each in
+    held_is i.endpoint i.receive_length i.sends i.next_xid i.sent i.wished i.grant c.held.result c.calls_bytes.result c.rooms_bytes.result i.outstanding.items i.answered.items c.answers_bytes.result c.args.self.now.state (ap (λ (h : RequesterSide). h.state) c.self.view_is) c.self.invariant.1.0 c.held.ensures.is more rooms
     (c.answers_bytes.ensures.is ∙ ap (λ (xs : List AnsweredCall). answers_bytes xs) c.as_slice-3.ensures.value)
 
 pub returns-clause-bound : goal.returns-clause-bound
 returns-clause-bound c =
     let i = c.self.inside in
     let more : c.calls_bytes.result ≡ calls_bytes (map stored_view i.outstanding.items) = c.calls_bytes.ensures ∙ ap (λ (cs : List OutstandingCall). calls_bytes (map stored_view cs)) c.as_slice.ensures.value in
-    let rooms : c.rooms_bytes.result ≡ rooms_bytes i.receive_length (map stored_view i.outstanding.items) = c.rooms_bytes.ensures ∙ ap (λ (cs : List OutstandingCall). rooms_bytes i.receive_length (map stored_view cs)) c.as_slice-2.ensures.value in
-    let bound = held_bound i.endpoint i.receive_length i.first_xid i.next_xid c.held.result c.calls_bytes.result c.rooms_bytes.result i.outstanding.items i.answered.items c.self.invariant.1.0 c.facts.ensures.receives c.held.ensures.is more rooms in
+    let rooms : c.rooms_bytes.result ≡ rooms_bytes i.receive_length (map stored_view i.outstanding.items) = c.rooms_bytes.ensures ∙ ap (λ (cs : List OutstandingCall). rooms_total cs) c.as_slice-2.ensures.value ∙ rooms_are i.receive_length i.outstanding.items c.self.invariant.1.0.each in
+    let bound = held_bound i.endpoint i.receive_length i.sends i.next_xid c.held.result c.calls_bytes.result c.rooms_bytes.result i.outstanding.items i.answered.items c.self.invariant.1.0 c.facts.ensures.receives c.held.ensures.is more rooms in
     let small : c.answers_bytes.result ≤ held_unit * length i.answered.items = omega (arith, c.answers_bytes.ensures.small, ap (λ (xs : List AnsweredCall). length xs) c.as_slice-3.ensures.value) in
     held_most i.wished _ c.answers_bytes.result i.outstanding.items i.answered.items c.args.self.now (ap (λ (h : RequesterSide). h.state.wished) (sym c.self.view_is)) (ap (λ (h : RequesterSide). h.state.outstanding) (sym c.self.view_is))
     (ap (λ (h : RequesterSide). h.state.answered) (sym c.self.view_is)) bound small

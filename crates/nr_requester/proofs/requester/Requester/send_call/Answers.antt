@@ -39,7 +39,7 @@ invariant_of-self-2 c =
     let credit = c.requires.numbers.credit in
     let len = length-map c.self.inside.outstanding.items stored_view in
     let queue : c.send_with_room.new.endpoint.link.state.receive_queue ≡ c.self.inside.endpoint.link.state.receive_queue = ap (λ (l : LinkSide). l.state.receive_queue) c.in-Ok.ensures.link in
-    let o : OutstandingCall = record { xid = c.self.inside.next_xid; call = Some c.args.call; is_forgotten = false; offered = c.in-Ok.sent.sent.lists; claims = c.in-Ok.sent.sent.claims; room = c.in-Ok.sent.room } in
+    let o : OutstandingCall = record { xid = c.self.inside.next_xid; send = c.self.inside.sends; call = Some c.args.call; is_forgotten = false; offered = c.in-Ok.sent.sent.lists; claims = c.in-Ok.sent.sent.claims; room = c.in-Ok.sent.room } in
     let plan : Plan = outline_plan (c.args.head.now ++ c.args.call.args) c.args.outline in
     let same : outline_plan (c.args.head.now ++ c.as_slice.result.now) c.args.outline ≡ plan = ap (λ (args : List ℕ). outline_plan (c.args.head.now ++ args) c.args.outline) c.as_slice.ensures in
     let planned : IsPlan plan = c.requires.planned in
@@ -58,8 +58,8 @@ invariant_of-self-2 c =
           c.self.invariant.0 c.in-Ok.ensures.held queue c.in-Ok.ensures.offer (own_room c.self.inside.receive_length s.memory plan o claims_are room_is) (ap (λ (l : LinkSide). l.state.reads) c.in-Ok.ensures.link) (omega (arith, xid, number)) (omega (arith, count, credit, grant, len))
           (c.push_reserved.ensures.items ∙ ap (λ (xs : List OutstandingCall). xs ++ o ∷ []) c.make_room.ensures.outstanding) c.make_room.ensures.answered refl c.in_default.ensures.answer,
       (
-        sent_within c.self.inside.endpoint c.send_with_room.new.endpoint c.self.inside.receive_length c.self.inside.first_xid c.self.inside.next_xid c.self.inside.next_xid c.self.inside.wished c.self.inside.outstanding.items c.push_reserved.new.self.items c.self.inside.answered.items c.make_room.new.answered.items o plan c.self.invariant.1.0 c.self.invariant.0.rising
-            c.send_with_room.ensures.staging c.in-Ok.ensures.outside link_is planned lives stags claims_are c.requires.small c.in-Ok.ensures.empty offered (let len = room_is.0 in omega (arith, len)) refl
+        sent_within c.self.inside.endpoint c.send_with_room.new.endpoint c.self.inside.receive_length c.self.inside.sends c.self.inside.next_xid c.self.inside.next_xid c.self.inside.wished c.self.inside.outstanding.items c.push_reserved.new.self.items c.self.inside.answered.items c.make_room.new.answered.items o plan c.self.invariant.1.0
+            c.send_with_room.ensures.staging c.in-Ok.ensures.outside link_is planned lives stags claims_are lists_are c.requires.small c.in-Ok.ensures.empty offered (let len = room_is.0 in omega (arith, len)) refl
             (c.push_reserved.ensures.items ∙ ap (λ (xs : List OutstandingCall). xs ++ o ∷ []) c.make_room.ensures.outstanding) c.make_room.ensures.answered,
         subst (λ (l : LinkSide). c.self.inside.sent ≤ l.state.send_queue.sends_left) (sym link_is) c.self.invariant.1.1,
       ),
@@ -68,8 +68,8 @@ invariant_of-self-2 c =
 pub returns-clause-state : goal.returns-clause-state
 returns-clause-state c =
     let plan : Plan = outline_plan (c.args.head.now ++ c.as_slice.result.now) c.args.outline in
-    let o : OutstandingCall = record { xid = c.self.inside.next_xid; call = Some c.args.call; is_forgotten = false; offered = c.in-Ok.sent.sent.lists; claims = c.in-Ok.sent.sent.claims; room = c.in-Ok.sent.room } in
-    sent_view c.args.self.now c.self.inside.endpoint.link c.send_with_room.new.endpoint.link c.self.inside.sent c.self.inside.wished c.self.inside.first_xid c.self.inside.next_xid c.self.inside.grant c.self.inside.outstanding.items c.push_reserved.new.self.items
+    let o : OutstandingCall = record { xid = c.self.inside.next_xid; send = c.self.inside.sends; call = Some c.args.call; is_forgotten = false; offered = c.in-Ok.sent.sent.lists; claims = c.in-Ok.sent.sent.claims; room = c.in-Ok.sent.room } in
+    sent_view c.args.self.now c.self.inside.endpoint.link c.send_with_room.new.endpoint.link c.self.inside.sent c.self.inside.wished c.self.inside.sends c.self.inside.next_xid c.self.inside.grant c.self.inside.outstanding.items c.push_reserved.new.self.items
     c.self.inside.answered.items c.make_room.new.answered.items c.args.call plan o c.self.inside.endpoint.staging c.send_with_room.new.endpoint.staging c.self.inside.marks c.marks_if-self-inside.result c.self.view_is c.in-Ok.ensures.link (c.push_reserved.ensures.items ∙ ap (λ (xs : List OutstandingCall). xs ++ o ∷ []) c.make_room.ensures.outstanding) c.make_room.ensures.answered
-    (λ i. record { xid = c.self.inside.next_xid; call = Some c.args.call; is_forgotten = false; offered = c.in-Ok.ensures.lists i; claims = c.in-Ok.ensures.claims i }) c.send_with_room.ensures.staging c.marks_if-self-inside.ensures
+    (λ i. record { xid = c.self.inside.next_xid; send = c.self.inside.sends; call = Some c.args.call; is_forgotten = false; offered = c.in-Ok.ensures.lists i; claims = c.in-Ok.ensures.claims i }) c.send_with_room.ensures.staging c.marks_if-self-inside.ensures
     ∙ ap (λ (args : List ℕ). after_submit c.args.self.now c.args.call (outline_plan (c.args.head.now ++ args) c.args.outline)) c.as_slice.ensures

@@ -1,11 +1,11 @@
-use Rattle.std.proofs.Common.{◌≡◌, ℕ, ◌+◌, ◌*◌, List, length, map, All, refl, sym, ap, subst, ◌∙◌, arith}
+use Rattle.std.proofs.Common.{◌≡◌, ℕ, ◌+◌, ◌*◌, List, length, map, refl, ap, ◌∙◌, arith}
 use Rattle.std.specs.Prelude.{sum_by}
 use Rattle.std.proofs.lemmas.List.{length-map}
 use Rattle.nr_regions.specs.RegisteredMemory.{outside_held}
 use Rattle.nr_endpoint.specs.EndpointState.{bytes_of}
 use Rattle.nr_responder.specs.ResponderState.{unsent}
 use Rattle.nr_responder.specs.declared.call.Pending.{Pending}
-use Rattle.nr_responder.specs.Sound.{InReceive, around_of, payload_len, room_len, rooms_of, with_staging}
+use Rattle.nr_responder.specs.Sound.{around_of, payload_len, room_len, rooms_of, with_staging}
 use Rattle.nr_responder.proofs.StepBounds.{held_bound}
 use Rattle.nr_responder.specs.Views.{call_view}
 use Rattle.nr_responder.proofs.Held.{held_sum, rooms_most}
@@ -14,14 +14,6 @@ use Rattle.nr_responder.proofs.Windows.{rooms_few}
 use Rattle.nr_responder.proofs.KeptLists.{lists_fit}
 use Rattle.nr_responder.proofs.server_end.ServerEnd.held.Goals as goal
 
-pub receive_len-each-requires : goal.receive_len-each-requires
-receive_len-each-requires c = record {
-  bufs = (
-    c.args.self.now.endpoint.link.state.receive_queue.receive_length,
-    (c.requires.sound.0.limit.1, (subst (λ (cs : List Pending). All (InReceive c.args.self.now.endpoint.link.state.receive_queue.receive_length) cs) (sym c.as_slice-2.ensures.value) c.requires.sound.0.bufs, c.requires.sound.0.used_bufs)),
-  );
-}
-
 pub returns-clause-is : goal.returns-clause-is
 returns-clause-is c =
     let n : ℕ = c.args.self.now.endpoint.link.state.receive_queue.receive_length in
@@ -29,13 +21,9 @@ returns-clause-is c =
     let outside : ℕ = outside_held c.args.self.now.endpoint.outside in
     let rooms : c.rooms_len.result + c.payloads_len.result + outside ≡ rooms_of calls c.args.self.now.ready.items c.args.self.now.endpoint.outside =
     (λ i. (c.rooms_len.ensures.sum ∙ ap (λ (cs : List Pending). sum_by (λ p. room_len p.room) cs) c.as_slice.ensures.value) i + c.payloads_len.ensures.sum i + outside) in
-    let slice : length c.as_slice-2.result.now ≡ length calls = ap (λ (cs : List Pending). length cs) c.as_slice-2.ensures.value in
-    let count : c.len.result + c.len-2.result ≡ length c.as_slice-2.result.now + length c.args.self.now.used.items = omega (arith, slice, c.len.ensures, c.len-2.ensures) in
-    let own : length c.as_slice-2.result.now + length c.args.self.now.used.items ≡ length (map call_view calls) + unsent c.args.self.now.endpoint.link.state =
-    (let same = c.requires.sound.0.unsent_is in omega (arith, slice, same, length-map calls call_view)) in
-    let bufs = subst (λ (cs : List Pending). All (InReceive n) cs) (sym c.as_slice-2.ensures.value) c.requires.sound.0.bufs in
-    let receives : c.receives_len.result ≡ n * (length (map call_view calls) + unsent c.args.self.now.endpoint.link.state) =
-    c.receives_len.ensures.is ∙ ap (λ (k : ℕ). c.receive_len-each.result * k) count ∙ c.receive_len-each.ensures.is n bufs c.requires.sound.0.used_bufs ∙ ap (λ (k : ℕ). n * k) own in
+    let count : c.len.result + c.len-2.result ≡ length (map call_view calls) + unsent c.args.self.now.endpoint.link.state =
+    (let same = c.requires.sound.0.unsent_is in omega (arith, c.len.ensures, c.len-2.ensures, same, length-map calls call_view)) in
+    let receives : c.receives_len.result ≡ n * (length (map call_view calls) + unsent c.args.self.now.endpoint.link.state) = c.receives_len.ensures.is ∙ (λ i. c.receive_length-each.ensures.is i * count i) in
     held_sum _ c.held.result (length c.args.self.now.endpoint.staging) (bytes_of c.args.self.now.endpoint.link.state) outside
     c.receives_len.result (n * (length (map call_view calls) + unsent c.args.self.now.endpoint.link.state)) (c.rooms_len.result + c.payloads_len.result) refl c.held.ensures.is receives
     ∙ ap (λ (k : ℕ). length c.args.self.now.endpoint.staging + bytes_of c.args.self.now.endpoint.link.state + n * (length (map call_view calls) + unsent c.args.self.now.endpoint.link.state) + k) rooms

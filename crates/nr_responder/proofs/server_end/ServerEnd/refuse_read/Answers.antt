@@ -12,7 +12,8 @@ use Rattle.nr_responder.specs.private.Reading.{left_sinks, opening, over_sinks, 
 use Rattle.nr_responder.specs.private.ReadsDone.{has_bad_chunk}
 use Rattle.nr_responder.specs.Sound.{QueuesInvariant, payloads_of, state_of, xids_of}
 use Rattle.nr_responder.specs.Views.{call_view, read_view, sink_view}
-use Rattle.nr_responder.proofs.DoneReads.{dropped_fetched, refused_ends, refused_fetched, refused_link, refused_sound, refuses}
+use Rattle.nr_responder.proofs.DoneReads.{refuses}
+use Rattle.nr_responder.proofs.RefusedReads.{dropped_fetched, refused_ends, refused_fetched, refused_link, refused_sound}
 use Rattle.nr_responder.proofs.Removed.{map_removed}
 use Rattle.nr_responder.proofs.ReadWindows.{done_refused}
 use Rattle.nr_responder.proofs.server_end.ServerEnd.refuse_read.Goals as goal

@@ -1,7 +1,7 @@
 use Rattle.std.specs.Prelude.{◌-◌}
 use Rattle.std.proofs.Common.{ℕ, ◌^◌, length}
 use Rattle.nr_tree.specs.Tree.{Tree}
-use Rattle.nr_script.specs.declared.script.Opening.{Opening}
+use Rattle.nr_texts.specs.declared.opening.Opening.{Opening}
 use Rattle.nr_drill.specs.Drill.{Drill, links_of}
 use Rattle.nr_drill.specs.Follows.{Drains}
 use Rattle.nr_script.specs.declared.script.Line.TheVariants as lines

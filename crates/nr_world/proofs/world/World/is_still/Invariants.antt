@@ -2,7 +2,7 @@ use Rattle.std.specs.Prelude.{◌-◌}
 use Rattle.std.specs.List.{list_all, range_with_len}
 use Rattle.std.proofs.Common.{◌≡◌, ◌+◌}
 use Rattle.nr_tree.specs.Tree.{Tree}
-use Rattle.nr_script.specs.declared.script.Opening.{Opening}
+use Rattle.nr_texts.specs.declared.opening.Opening.{Opening}
 use Rattle.nr_drill.specs.Drill.{Drill, links_of}
 use Rattle.nr_drill.specs.Follows.{is_still}
 use Rattle.nr_world.specs.private.Stands.{WorldStands, drill_setting}
