@@ -29,7 +29,7 @@ HasEnded end history = ClientEnded end history
 -- the client of the run refuses the call so
 abbrev pub ClientRefuses : Refused → Call → Form → List Entry → Type 0
 ClientRefuses why call form history = (opened : LinkParameters) (link : ℕ) → FitsHistory history opened →
-    submit_answer opened (client opened link (run_of 0 link history)) call form ≡ submissions.Refused why
+    submit_answer (client opened link (run_of 0 link history)) call form ≡ submissions.Refused why
 
 -- Why a call is refused: its requester has ended, the client of the run refuses it, or memory ran out.
 abbrev pub IsRefused : Refused → Call → Form → List Entry → Type 0
