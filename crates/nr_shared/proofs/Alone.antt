@@ -129,7 +129,7 @@ writes_quiet (entries.Revoke xid bytes asked ∷ es) all = absurd all
 writes_quiet (entries.Stopped cause before ∷ es) all = absurd all
 writes_quiet (entries.Out piece before ∷ es) all = absurd all
 
-writes_close : (es : List Entry) → AreWrites es → (i : ℕ) (e : Entry) → get_elem? es i ≡ some e → closes_of e ≡ None
+pub writes_close : (es : List Entry) → AreWrites es → (i : ℕ) (e : Entry) → get_elem? es i ≡ some e → closes_of e ≡ None
 writes_close [] all i e at = absurd (some-ne-none e (sym at))
 writes_close (entries.Wrote bytes ∷ es) all zero e at = ap closes_of (sym (some-injective (entries.Wrote bytes) e at))
 writes_close (entries.Wrote bytes ∷ es) all (suc i) e at = writes_close es all i e at

@@ -4,7 +4,7 @@ use Rattle.std.specs.List.{AllByRecursion}
 use mathlib.Core.Option.{some, some-injective, some-ne-none}
 use lib.ListN.{get_elem?}
 use Rattle.atomic_table.proofs.Lists.{at_longer, at_last}
-use Rattle.nr_turnstile.specs.Rule.{Begins, IsIn, in_order, places_from, put_in}
+use Rattle.nr_turnstile.specs.Rule.{Begins, IsIn, Rising, in_order, places_from, put_in}
 
 module _ {A : Type 0} where
   -- an element of a list with one more: of the list, or the last one
@@ -80,6 +80,13 @@ still_put x (y ∷ ys) z i = by_less (ltb x y) i (λ j. still_put x ys z j) wher
   by_less false (zero, at) later = (0, at)
   by_less false (suc n, at) later = let j = later (n, at) in (suc j.0, j.1)
 
+put_there : (x : ℕ) (ys : List ℕ) → IsIn x (put_in x ys)
+put_there x [] = (0, refl)
+put_there x (y ∷ ys) = by_less (ltb x y) (put_there x ys) where
+  by_less : (b : Bool) → IsIn x (put_in x ys) → IsIn x (if b then x ∷ y ∷ ys else y ∷ put_in x ys)
+  by_less true j = (0, refl)
+  by_less false j = (suc j.0, j.1)
+
 -- a place of two rising lists is one of the first or of the second
 pub in_ordered : (xs ys : List ℕ) (z : ℕ) → IsIn z (in_order xs ys) → IsIn z xs ⊎ IsIn z ys
 in_ordered [] ys z i = inr i
@@ -91,6 +98,33 @@ in_ordered (x ∷ xs) ys z i = ⊎_elim
 pub still_ordered : (xs ys : List ℕ) (z : ℕ) → IsIn z ys → IsIn z (in_order xs ys)
 still_ordered [] ys z i = i
 still_ordered (x ∷ xs) ys z i = still_put x (in_order xs ys) z (still_ordered xs ys z i)
+
+pub still_first : (xs ys : List ℕ) (z : ℕ) → IsIn z xs → IsIn z (in_order xs ys)
+still_first [] ys z i = absurd (some-ne-none z (sym i.1))
+still_first (x ∷ xs) ys z (zero, at) = subst (λ (w : ℕ). IsIn w (put_in x (in_order xs ys))) (some-injective x z at) (put_there x (in_order xs ys))
+still_first (x ∷ xs) ys z (suc n, at) = still_put x (in_order xs ys) z (still_first xs ys z (n, at))
+
+-- a number that is put into a list which has it isn't below the one after it
+put_twice : (x : ℕ) (ys : List ℕ) → IsIn x ys → Rising (put_in x ys) → ⊥
+put_twice x [] i r = some-ne-none x (sym i.1)
+put_twice x (y ∷ ys) i r = by_less (ltb x y) i r (λ j s. put_twice x ys j s) where
+  by_less : (b : Bool) → IsIn x (y ∷ ys) → Rising (if b then x ∷ y ∷ ys else y ∷ put_in x ys) → (IsIn x ys → Rising (put_in x ys) → ⊥) → ⊥
+  by_less true j s later = let l = s.0 x j in omega (arith, l)
+  by_less false (zero, at) s later = let l = s.0 x (put_there x ys) in let same = some-injective y x at in omega (arith, l, same)
+  by_less false (suc n, at) s later = later (n, at) s.1
+
+rising_put : (x : ℕ) (ys : List ℕ) → Rising (put_in x ys) → Rising ys
+rising_put x [] r = tt
+rising_put x (y ∷ ys) r = by_less (ltb x y) r (λ s. rising_put x ys s) where
+  by_less : (b : Bool) → Rising (if b then x ∷ y ∷ ys else y ∷ put_in x ys) → (Rising (put_in x ys) → Rising ys) → Rising (y ∷ ys)
+  by_less true s later = s.1
+  by_less false s later = ((λ w i. s.0 w (still_put x ys w i)), later s.1)
+
+-- no place is in both of two lists that rise as one
+pub not_twice : (xs ys : List ℕ) (z : ℕ) → Rising (in_order xs ys) → IsIn z xs → IsIn z ys → ⊥
+not_twice [] ys z r i j = some-ne-none z (sym i.1)
+not_twice (x ∷ xs) ys z r (zero, at) j = put_twice x (in_order xs ys) (subst (λ (w : ℕ). IsIn w (in_order xs ys)) (sym (some-injective x z at)) (still_ordered xs ys z j)) r
+not_twice (x ∷ xs) ys z r (suc n, at) j = not_twice xs ys z (rising_put x (in_order xs ys) r) (n, at) j
 
 places_in : (n k i : ℕ) → i < n → IsIn (k + i) (places_from k n)
 places_in zero k i lt = absurd (omega (arith, lt))

@@ -16,10 +16,11 @@ use Rattle.nr_shared.specs.declared.shared.TrySubmit.{TrySubmit}
 use Rattle.nr_shared.specs.declared.shared.TrySubmit.TheVariants as submits
 use Rattle.nr_shared.specs.declared.shared.TryRevoke.{TryRevoke}
 use Rattle.nr_shared.specs.declared.shared.TryRevoke.TheVariants as revokes
-use Rattle.nr_shared.specs.Histories.{FitsHistory, IsAskedAt, place_of, run_of, stop_of}
+use Rattle.nr_shared.specs.Histories.{FitsHistory, run_of, stop_of}
 use Rattle.nr_shared.specs.Adding.{Adds}
-use Rattle.nr_shared.specs.Callers.{IsAsked, IsCaller}
+use Rattle.nr_shared.specs.Callers.{IsAsked, IsCaller, KeepsOpen, KeepsOthers}
 use Rattle.nr_shared.specs.Ending.{IsRefused}
+use Rattle.nr_shared.specs.Waiting.{AtCall}
 
 -- whether a credit is left, by the run of a history at which memory didn't run out
 abbrev pub SaysCredit : Bool → List Entry → Type 0
@@ -38,12 +39,12 @@ module _ {I O : Type 0} where
 
   -- One requester call under one turn, or the turn was taken and all comes back.
   abbrev pub TrySubmits : Pass I O → Pass I O → Call → Form → TrySubmit → Type 0
-  TrySubmits p q call form (submits.Submitted xid) = Adds p.main q.main (entries.Submit call form xid ∷ []) × IsAsked q.main xid
-  TrySubmits p q call form (submits.Refused c why) = Adds p.main q.main [] × ((c ≡ call) × IsRefused why call form (seen_by q.main))
+  TrySubmits p q call form (submits.Submitted xid) = Adds p.main q.main (entries.Submit call form xid ∷ []) × (IsAsked q.main xid × KeepsOpen p.main q.main)
+  TrySubmits p q call form (submits.Refused c why) = Adds p.main q.main [] × (KeepsOpen p.main q.main × ((c ≡ call) × IsRefused why call form (seen_by q.main)))
   TrySubmits p q call form (submits.Busy c f) = Misses p.main q.main × ((c ≡ call) × (f ≡ form))
 
   -- the same of a revoke: the Revoke closes the place of the call, which comes back
   abbrev pub TryRevokes : Pass I O → Pass I O → (xid : ℕ) → TryRevoke → Type 0
   TryRevokes p q xid (revokes.Revoked call buffers) =
-      (k : ℕ) × ((place_of xid (seen_by p.main) ≡ Some k) × (IsAskedAt (seen_by p.main) xid k call × Adds p.main q.main (entries.Revoke xid (bytes_of_buffers buffers) k ∷ [])))
+      AtCall p.main xid (λ k asked. (call ≡ asked) × (Adds p.main q.main (entries.Revoke xid (bytes_of_buffers buffers) k ∷ []) × KeepsOthers k p.main q.main))
   TryRevokes p q xid (revokes.Busy ticket) = Misses p.main q.main × (ticket ≡ xid)

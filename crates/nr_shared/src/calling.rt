@@ -2,9 +2,10 @@
 
 ghost use Rattle.std.specs.Prelude.{◌≡◌, [], ◌∷◌};
 ghost use Rattle.nr_rpc.specs.Credential.{CanWriteCred};
-ghost use Rattle.nr_turnstile.specs.Passes.{Rests, seen_by};
+ghost use Rattle.nr_turnstile.specs.Passes.{Rests, mine_of, seen_by};
+ghost use Rattle.nr_turnstile.specs.Rule.{Lies};
 ghost use Rattle.nr_shared.specs.Adding.{Adds};
-ghost use Rattle.nr_shared.specs.Callers.{IsAsked};
+ghost use Rattle.nr_shared.specs.Callers.{IsAsked, KeepsOpen};
 ghost use Rattle.nr_shared.specs.Sharing.{SaysCredit, SharedRests};
 ghost use Rattle.nr_shared.specs.Waiting.{Attempts, Calls, ForgetsCall, LooksUp, Submits, Waits};
 
@@ -116,6 +117,7 @@ impl<I: Source, O: Sink> SharedRequester<I, O> {
         ensures rests { SharedRests self.now pass.new }
         ensures source { seen_by pass.new.source ≡ seen_by pass.old.source }
         ensures added { Adds pass.old.main pass.new.main [] }
+        ensures keeps { KeepsOpen pass.old.main pass.new.main }
         ensures credit { SaysCredit result (seen_by pass.new.main) }
     {
         self.sees_credit(rt, &mut pass.main)
@@ -131,6 +133,7 @@ impl<I: Source, O: Sink> SharedRequester<I, O> {
     ) -> Attempt
         requires writable { CanWriteCred call.cred }
         requires rests { Rests self.now.main main.old }
+        requires lies { Lies (seen_by main.old) (mine_of main.old) }
         ensures rests { Rests self.now.main main.new }
         ensures attempted { Attempts main.old main.new call form result }
     {
@@ -154,9 +157,11 @@ impl<I: Source, O: Sink> SharedRequester<I, O> {
 
     // One turn of a caller that asks for a credit.
     fn sees_credit<R: Wait>(&self, rt: &R, main: &mut nr_turnstile::Pass<Line<O>>) -> bool
-        requires { Rests self.now.main main.old }
+        requires rests { Rests self.now.main main.old }
+        requires lies { Lies (seen_by main.old) (mine_of main.old) }
         ensures rests { Rests self.now.main main.new }
         ensures added { Adds main.old main.new [] }
+        ensures keeps { KeepsOpen main.old main.new }
         ensures credit { SaysCredit result (seen_by main.new) }
     {
         let mut turn = self.main.take_turn(rt, main);

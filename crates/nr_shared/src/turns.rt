@@ -3,17 +3,18 @@
 ghost use Rattle.std.specs.Prelude.{◌≡◌, ◌≢◌, ◌+◌, ◌<◌, ◌≤◌, length, None, ℕ, true, is_some, [], ◌∷◌, ◌++◌, List, Some, IfOk, IfErr, OnErr};
 ghost use Rattle.nr_rpc.specs.Credential.{CanWriteCred};
 ghost use Rattle.nr_requester.specs.OpenCalls.{found_answer};
-ghost use Rattle.nr_turnstile.specs.Passes.{seen_by};
+ghost use Rattle.nr_turnstile.specs.Passes.{mine_of, seen_by};
+ghost use Rattle.nr_turnstile.specs.Rule.{IsOpen};
 ghost use Rattle.nr_turnstile.specs.Turns.{pass_of, Has, IsSameTurn};
 ghost use Rattle.nr_shared.specs.declared.line.Line.{Line};
-ghost use Rattle.nr_shared.specs.Histories.{IsAskedAt, place_of, bytes_fed, forget_by};
+ghost use Rattle.nr_shared.specs.Histories.{bytes_fed, closes_of, forget_by};
 ghost use Rattle.nr_shared.specs.Ending.{HasCredit, IsRefused};
 ghost use Rattle.nr_shared.specs.private.Finding.{LeavesCredit};
 ghost use Rattle.nr_shared.specs.declared.entry.Entry.TheVariants as entries;
-ghost use Rattle.nr_shared.specs.Callers.{IsAsked, IsFeeding, IsReady};
+ghost use Rattle.nr_shared.specs.Callers.{IsAsked, IsFeeding, IsReady, KeepsOpen, KeepsOthers};
 ghost use Rattle.nr_shared.specs.Adding.{Adds};
 ghost use Rattle.nr_shared.specs.Callers.{Writes};
-ghost use Rattle.nr_shared.specs.Waiting.{ForgetsCall, TakesAnswer};
+ghost use Rattle.nr_shared.specs.Waiting.{AtCall, ForgetsCall, TakesAnswer};
 ghost use Rattle.nr_shared.specs.Draining.{fed_after, stopped_after};
 ghost use Rattle.nr_shared.specs.declared.entry.Stop.TheVariants as causes;
 ghost use Rattle.nr_requester.specs.Buffers.{bytes_of_buffers};
@@ -44,6 +45,8 @@ pub(crate) fn submit_at<O: Sink>(
     ensures accepted { IfOk result (λ xid. Adds (pass_of turn.old) (pass_of turn.new) (entries.Submit call form xid ∷ []) × IsAsked (pass_of turn.new) xid) }
     ensures refused { OnErr result (Adds (pass_of turn.old) (pass_of turn.new) []) }
     ensures returned { IfErr result (λ e. e.0 ≡ call) }
+    ensures keeps { KeepsOpen (pass_of turn.old) (pass_of turn.new) }
+    ensures opened { IfOk result (λ xid. IsOpen closes_of (seen_by (pass_of turn.new)) (mine_of (pass_of turn.new)) (length (seen_by (pass_of turn.old)))) }
     ensures why { IfErr result (λ e. IsRefused e.1 call form (seen_by (pass_of turn.old))) }
     ensures credit { IfErr result (λ e. LeavesCredit turn.old → HasCredit e.1) }
     ensures seen { IfOk result (λ xid. seen_by (pass_of turn.new) ≡ seen_by (pass_of turn.old) ++ entries.Submit call form xid ∷ []) }
@@ -120,7 +123,7 @@ pub(crate) fn revoke_at<O: Sink>(turn: &mut Turn<'_, Line<O>>, ticket: Ticket) -
     requires asked { IsAsked (pass_of turn.old) ticket }
     ensures same { IsSameTurn turn.old turn.new }
     ensures ready { IsReady O.taken O.faults turn.new }
-    ensures revoked { (k : ℕ) × ((place_of ticket (seen_by (pass_of turn.old)) ≡ Some k) × (IsAskedAt (seen_by (pass_of turn.old)) ticket k result.0 × Adds (pass_of turn.old) (pass_of turn.new) (entries.Revoke ticket (bytes_of_buffers result.1) k ∷ []))) }
+    ensures revoked { AtCall (pass_of turn.old) ticket (λ k asked. (result.0 ≡ asked) × (Adds (pass_of turn.old) (pass_of turn.new) (entries.Revoke ticket (bytes_of_buffers result.1) k ∷ []) × KeepsOthers k (pass_of turn.old) (pass_of turn.new))) }
 {
     let xid = ticket.xid();
     let line = turn.value();

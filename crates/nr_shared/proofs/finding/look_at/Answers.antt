@@ -1,4 +1,4 @@
-use Rattle.std.proofs.Common.{◌≡◌, [], ◌∷◌, ◌++◌, ap, subst, ◌∙◌}
+use Rattle.std.proofs.Common.{◌≡◌, [], ◌∷◌, ◌++◌, refl, ap, subst, ◌∙◌}
 use Rattle.nr_turnstile.specs.Passes.{seen_by}
 use Rattle.nr_turnstile.specs.Turns.{pass_of}
 use Rattle.nr_turnstile.proofs.Held.{same_value, written}
@@ -6,6 +6,8 @@ use Rattle.nr_shared.specs.declared.line.Line.{Line}
 use Rattle.nr_shared.specs.declared.entry.Entry.TheVariants as entries
 use Rattle.nr_shared.specs.Histories.{place_or_none}
 use Rattle.nr_shared.specs.Standing.{Stands}
+use Rattle.nr_shared.proofs.Adding.{adds_none}
+use Rattle.nr_shared.proofs.Lists.{begins_self}
 use Rattle.nr_shared.proofs.finding.look_at.Goals as goal
 
 pub take_at-requires-clause-ready : goal.take_at-requires-clause-ready
@@ -41,16 +43,18 @@ returns-in-None-clause-ready g c =
       earlier = r.earlier;
     }
 
+pub returns-in-None-clause-looked : goal.returns-in-None-clause-looked
+returns-in-None-clause-looked g c = let p = pass_of c.args.turn.now in (refl, (adds_none p _ (begins_self (seen_by p)) refl, λ k o. o))
+
 pub returns-clause-looked : goal.returns-clause-looked
-returns-clause-looked g c =
-    let r = c.requires.ready in let f = c.value-line.result.now in let seen = seen_by (pass_of c.args.turn.now) in
+returns-clause-looked g c = λ k call asked o.
+    (let r = c.requires.ready in let f = c.value-line.result.now in let seen = seen_by (pass_of c.args.turn.now) in
     let st : Stands g.O.Sink.taken g.O.Sink.faults f seen = subst (λ (z : Line g.row.O.Denot). Stands g.O.Sink.taken g.O.Sink.faults z seen) (same_value _ r.value f r.has.1 c.value-line.ensures.value) r.stands in
-    let (k, (at, adds)) = c.forget_at.ensures.forgotten in
+    let t = c.forget_at.ensures.forgotten k call asked o in
     record {
-      at = k;
-      is_at = at;
-      adds = adds;
+      adds = t.adds;
+      keeps = t.keeps;
       before = seen;
-      seen = c.forget_at.ensures.seen ∙ ap (λ o. seen ++ entries.Forget c.args.ticket (place_or_none o) ∷ []) at;
+      seen = c.forget_at.ensures.seen ∙ ap (λ n. seen ++ entries.Forget c.args.ticket (place_or_none n) ∷ []) (st.calls c.args.ticket k call asked o.1).0;
       ended = c.in-Some.ensures.some seen st;
-    }
+    })

@@ -1,4 +1,4 @@
-use Rattle.std.proofs.Common.{◌≡◌, [], ◌∷◌, ◌++◌, List, sym, ap, subst, ◌∙◌}
+use Rattle.std.proofs.Common.{◌≡◌, [], ◌∷◌, ◌++◌, List, refl, sym, ap, subst, ◌∙◌}
 use Rattle.nr_reduce.specs.declared.call.Call.{Call}
 use Rattle.nr_reduce.specs.declared.call.Form.{Form}
 use Rattle.nr_turnstile.specs.declared.plays.View.{View}
@@ -10,7 +10,7 @@ use Rattle.nr_shared.specs.declared.entry.Entry.TheVariants as entries
 use Rattle.nr_shared.specs.declared.line.Line.{Line}
 use Rattle.nr_shared.specs.Standing.{Stands}
 use Rattle.nr_shared.proofs.Adding.{steps}
-use Rattle.nr_shared.proofs.Asking.{just_asked, none_closed, ready_on}
+use Rattle.nr_shared.proofs.Asking.{just_asked, keeps_none, none_closed, ready_on}
 use Rattle.nr_shared.proofs.Ends.{credit_left, refused_is}
 use Rattle.nr_shared.proofs.turns.submit_at.Goals as goal
 
@@ -35,7 +35,7 @@ returns-in-Ok-clause-accepted g c =
     let same : entries.Submit c.of-asked.result.value c.of-asked_in.result.value c.in-Ok.ticket ≡ entries.Submit c.args.call c.args.form c.in-Ok.ticket =
     ap (λ (z : Call). entries.Submit z c.of-asked_in.result.value c.in-Ok.ticket) c.of-asked.ensures ∙ ap (λ (z : Form). entries.Submit c.args.call z c.in-Ok.ticket) c.of-asked_in.ensures in
     let step = subst (λ (e : Entry). Steps (pass_of c.args.turn.now) (pass_of c.note_submit.new.turn) e) same c.note_submit.ensures.step in
-    (steps (pass_of c.args.turn.now) (pass_of c.note_submit.new.turn) (entries.Submit c.args.call c.args.form c.in-Ok.ticket) step, just_asked {O = g.row.O.Denot} (pass_of c.args.turn.now) (pass_of c.note_submit.new.turn) c.args.call c.args.form c.in-Ok.ticket r.earlier r.lies step)
+    (steps (pass_of c.args.turn.now) (pass_of c.note_submit.new.turn) (entries.Submit c.args.call c.args.form c.in-Ok.ticket) step, (just_asked {O = g.row.O.Denot} (pass_of c.args.turn.now) (pass_of c.note_submit.new.turn) c.args.call c.args.form c.in-Ok.ticket r.earlier r.lies step).0)
 
 pub returns-clause-ready : goal.returns-clause-ready
 returns-clause-ready g c =
@@ -65,3 +65,20 @@ pub returns-clause-credit : goal.returns-clause-credit
 returns-clause-credit g c = λ leaves.
     (let r = c.requires.ready in let f = c.value-line.result.now in
     credit_left f.requester.state c.args.call c.args.form c.in-Err.refused.1 (leaves f (r.has.0, c.value-line.ensures.value, r.has.2)) c.in-Err.ensures.refused)
+
+pub returns-in-Ok-clause-keeps : goal.returns-in-Ok-clause-keeps
+returns-in-Ok-clause-keeps g c =
+    let same : entries.Submit c.of-asked.result.value c.of-asked_in.result.value c.in-Ok.ticket ≡ entries.Submit c.args.call c.args.form c.in-Ok.ticket =
+    ap (λ (z : Call). entries.Submit z c.of-asked_in.result.value c.in-Ok.ticket) c.of-asked.ensures ∙ ap (λ (z : Form). entries.Submit c.args.call z c.in-Ok.ticket) c.of-asked_in.ensures in
+    let step = subst (λ (e : Entry). Steps (pass_of c.args.turn.now) (pass_of c.note_submit.new.turn) e) same c.note_submit.ensures.step in
+    keeps_none (pass_of c.args.turn.now) (pass_of c.note_submit.new.turn) (entries.Submit c.args.call c.args.form c.in-Ok.ticket) step refl
+
+pub returns-in-Ok-clause-opened : goal.returns-in-Ok-clause-opened
+returns-in-Ok-clause-opened g c = let r = c.requires.ready in
+    let same : entries.Submit c.of-asked.result.value c.of-asked_in.result.value c.in-Ok.ticket ≡ entries.Submit c.args.call c.args.form c.in-Ok.ticket =
+    ap (λ (z : Call). entries.Submit z c.of-asked_in.result.value c.in-Ok.ticket) c.of-asked.ensures ∙ ap (λ (z : Form). entries.Submit c.args.call z c.in-Ok.ticket) c.of-asked_in.ensures in
+    let step = subst (λ (e : Entry). Steps (pass_of c.args.turn.now) (pass_of c.note_submit.new.turn) e) same c.note_submit.ensures.step in
+    (just_asked {O = g.row.O.Denot} (pass_of c.args.turn.now) (pass_of c.note_submit.new.turn) c.args.call c.args.form c.in-Ok.ticket r.earlier r.lies step).1
+
+pub returns-clause-keeps : goal.returns-clause-keeps
+returns-clause-keeps g c = λ k o. o

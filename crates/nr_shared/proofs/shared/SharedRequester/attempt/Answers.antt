@@ -7,6 +7,7 @@ use Rattle.nr_shared.specs.Histories.{closes_of}
 use Rattle.nr_shared.specs.Standing.{Stands}
 use Rattle.nr_shared.specs.Waiting.{Attempts}
 use Rattle.nr_shared.proofs.Adding.{got}
+use Rattle.nr_shared.proofs.Asking.{keeps_got}
 use Rattle.nr_shared.proofs.Submitting.{attempts_after}
 use Rattle.nr_shared.proofs.shared.SharedRequester.attempt.Goals as goal
 
@@ -14,4 +15,4 @@ pub returns-clause-attempted : goal.returns-clause-attempted
 returns-clause-attempted g c = let t = c.take_turn-turn.ensures.got.1 in
     subst (λ (z : Pass (Line g.row.O.Denot) Entry). Attempts c.args.main.now z c.args.call c.args.form c.attempt_at-tried.result) (sym (c.main-1.given.1 (sym (c.attempt_at-tried.ensures.same.1 ∙ c.take_turn-turn.ensures.borrow))))
     (attempts_after c.args.main.now (pass_of c.take_turn-turn.result) (pass_of c.attempt_at-tried.new.turn) c.put_back.new.self.1.0 c.args.call c.args.form c.attempt_at-tried.result
-    (got (Stands g.O.Sink.taken g.O.Sink.faults) closes_of c.take_turn-turn.result.turnstile.now c.args.main.now (pass_of c.take_turn-turn.result) t) c.attempt_at-tried.ensures.attempted c.put_back.ensures.1 c.put_back.ensures.2)
+    (got (Stands g.O.Sink.taken g.O.Sink.faults) closes_of c.take_turn-turn.result.turnstile.now c.args.main.now (pass_of c.take_turn-turn.result) t) (keeps_got g.O.Sink.taken g.O.Sink.faults c.take_turn-turn.result.turnstile.now c.args.main.now (pass_of c.take_turn-turn.result) c.requires.lies t) c.attempt_at-tried.ensures.attempted c.put_back.ensures.1 c.put_back.ensures.2)

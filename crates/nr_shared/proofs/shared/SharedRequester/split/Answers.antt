@@ -22,3 +22,6 @@ returns-clause-rests g c =
         caller = new_caller c.split.result (ap (λ w. w.mine) c.split.ensures.new.1);
       },
     )
+
+pub returns-clause-source : goal.returns-clause-source
+returns-clause-source g c = (ap (λ m. m.0.seen) c.split-2.ensures.unchanged.1, ap (λ w. w.seen) c.split-2.ensures.new.1)
