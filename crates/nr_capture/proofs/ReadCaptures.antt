@@ -1,4 +1,5 @@
 -- What is read of a text can be written.
+use Rattle.std.specs.List.{AllByRecursion}
 use Rattle.std.proofs.Common.{◌≡◌, ℕ, ◌+◌, Bool, true, false, cond, List, [], ◌∷◌, ◌++◌, Option, None, Some, Result, Ok, Err, refl, subst}
 use Rattle.nr_texts.specs.declared.opening.Opening.{Opening}
 use Rattle.nr_texts.specs.Words.{space, newline, parts}

@@ -1,13 +1,14 @@
 -- What is read of a line can be written.
 use Rattle.std.specs.Prelude.{codes}
 use Rattle.std.specs.Str.{bytes_eq}
-use Rattle.std.proofs.Common.{ℕ, List, [], ◌∷◌, Option, None, Some, refl}
+use Rattle.std.proofs.Common.{◌≡◌, ℕ, ◌<◌, Bool, true, false, List, [], ◌∷◌, length, Option, None, Some, refl, arith}
 use Rattle.nr_xdr.specs.Item.{IsBytes}
 use Rattle.nr_rpc.specs.declared.cred.Cred.{Cred}
 use Rattle.nr_rpc.specs.declared.cred.Cred.TheVariants as creds
 use Rattle.nr_wire.specs.declared.hello.Side.{Side}
 use Rattle.nr_reduce.specs.declared.call.Call.{Call}
 use Rattle.nr_reduce.specs.declared.call.Form.{Form}
+use Rattle.nr_reduce.specs.declared.call.Outcome.{Outcome}
 use Rattle.nr_reduce.specs.declared.call.Outcome.TheVariants as outcomes
 use Rattle.nr_texts.specs.declared.program.Program.{Program}
 use Rattle.nr_texts.specs.Words.{◌>>=◌, IsWord, parts, number_in, bytes_in, arguments_in, one_number, two_numbers}
@@ -16,7 +17,7 @@ use Rattle.nr_texts.specs.Openings.{sys_cred}
 use Rattle.nr_texts.proofs.TypedTexts.{If, then_if, if_if, IsAny, any_if, small_if, some_bytes_if, arguments_if, writable_form_if, ProgramSmall, numbered_if, PairSmall, two_if}
 use Rattle.nr_capture.specs.declared.capture.CapturedMark.{CapturedMark}
 use Rattle.nr_capture.specs.declared.capture.CapturedMark.TheVariants as marks
-use Rattle.nr_capture.specs.Marks.{cred_in, called_in, call_with, call_in, submit_with, submit_in, end_in, bytes_with, piece_as, piece_mark, reply_with, version_in, outcome_in, done_with, done_in, exec_in, call_mark_in, link_mark_in, plain_mark, mark_named, mark_in}
+use Rattle.nr_capture.specs.Marks.{cred_in, called_in, call_with, call_in, submit_with, submit_in, side_in, end_in, bytes_with, piece_in, piece_as, piece_mark, reply_with, version_in, outcome_in, done_with, done_in, exec_in, call_mark_in, link_mark_in, plain_mark, mark_named, mark_in}
 use Rattle.nr_capture.specs.Writable.{IsWritableCred, IsWritableCall, IsWritableOutcome, IsPiece, IsWritableMark}
 
 -- ===== calls

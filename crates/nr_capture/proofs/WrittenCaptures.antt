@@ -2,16 +2,17 @@
 use Rattle.std.specs.Prelude.{codes, if◌then◌else◌}
 use Rattle.std.specs.List.{AllByRecursion, flat_map}
 use Rattle.std.specs.Fmt.{decimal}
-use Rattle.std.proofs.Common.{◌≡◌, ℕ, ◌+◌, ◌^◌, ◌<◌, ◌≤◌, Bool, true, false, cond, ◌&&◌, ◌==◌, leb, List, [], ◌∷◌, ◌++◌, Option, None, Some, Ok, refl, sym, ap, ◌∙◌, arith, append-nil, append_assoc, eqb-true, leb-true}
+use Rattle.std.proofs.Common.{◌≡◌, ℕ, ◌+◌, ◌^◌, ◌<◌, ◌≤◌, Bool, true, false, cond, ◌&&◌, ◌==◌, leb, List, [], ◌∷◌, ◌++◌, Option, None, Some, Result, Ok, Err, refl, sym, ap, subst, ◌∙◌, arith, append-nil, append_assoc, eqb-true, leb-true}
 use Rattle.nr_wire.specs.Constants.{UNITS_MAX}
 use Rattle.nr_reduce.specs.Limits.{credits_max}
 use Rattle.nr_texts.specs.declared.opening.Opening.{Opening}
 use Rattle.nr_texts.specs.Limits.{clients_max, default_capacity, default_units, capacity_max}
 use Rattle.nr_texts.specs.Words.{◌>>=◌, space, newline, parts, number_within, IsWord}
-use Rattle.nr_texts.specs.Openings.{capacity_in, sizes_in, opening_of, opening_in, IsOpening}
+use Rattle.nr_texts.specs.Openings.{capacity_in, sizes_of, sizes_in, opening_of, opening_in, IsOpening}
 use Rattle.nr_texts.proofs.TypedTexts.{both_true_lem}
 use Rattle.nr_capture.specs.declared.capture.CapturedMark.{CapturedMark}
-use Rattle.nr_capture.specs.Capture.{CaptureLines, is_link, link_of, with_mark, with_line, opened_by, with_first_line, marks_from, capture_of}
+use Rattle.nr_capture.specs.Capture.{CaptureLines, is_link, link_of, with_mark, with_line, opened_by, with_first_line, marks_from, capture_from, capture_of}
+use Rattle.nr_capture.specs.Marks.{mark_in}
 use Rattle.nr_capture.specs.Texts.{two_numbers_text, capacity_text, sizes_text, opening_text, mark_text, line_text, capture_text}
 use Rattle.nr_capture.specs.Writable.{IsWritableMark, IsWritable}
 use Rattle.nr_capture.proofs.Steps.{more, first_more}

@@ -1,8 +1,8 @@
 -- Forms that are written are read back.
 use Rattle.std.specs.Prelude.{codes}
-use Rattle.std.specs.List.{AllByRecursion}
+use Rattle.std.specs.List.{AllByRecursion, flat_map}
 use Rattle.std.specs.Fmt.{decimal}
-use Rattle.std.proofs.Common.{◌≡◌, ℕ, ◌<◌, true, not, ◌==◌, List, [], ◌∷◌, ◌++◌, length, map, Option, None, Some, refl, sym, ap, ◌∙◌, arith, append-nil}
+use Rattle.std.proofs.Common.{◌≡◌, ℕ, ◌^◌, ◌<◌, ◌≤◌, Bool, true, false, not, ◌==◌, List, [], ◌∷◌, ◌++◌, length, map, Option, None, Some, refl, sym, ap, subst, ◌∙◌, arith, append-nil, append_assoc}
 use Rattle.std.proofs.lemmas.List.{length-append}
 use Rattle.std.proofs.lemmas.Fmt.{decimal_nonempty}
 use Rattle.nr_reduce.specs.declared.call.Form.{Form}
@@ -12,7 +12,7 @@ use Rattle.nr_texts.specs.Words.{◌>>=◌, parts, each_read, number_in, IsWord}
 use Rattle.nr_texts.specs.Forms.{OfferPart, comma, semicolon, equals, at_sign, lengths_in, write_lengths_in, position_by, part_by, part_in, nothing_offered, with_part, offer_by, offer_in, form_in, HasSegments, MayHaveSegments, IsPosition, IsWritableOffer, IsWritableForm}
 use Rattle.nr_texts.specs.Forms.OfferPart.{Read, Write, Reply}
 use Rattle.nr_capture.specs.Texts.{length_after, lengths_after, lengths_text, part_text, semicolon_after, semicolon_if, read_text, offer_text, form_text}
-use Rattle.nr_capture.proofs.WrittenWords.{lacks, lacks_both, parts_cons, one_part, with_word, IsNoDigit, decimal_lacks, word_back}
+use Rattle.nr_capture.proofs.WrittenWords.{lacks, lacks_both, parts_cons, joined, one_part, with_word, IsNoDigit, decimal_lacks, word_back}
 
 -- ===== lengths
 

@@ -1,9 +1,9 @@
 -- Marks that are written are read back.
-use Rattle.std.specs.Prelude.{codes}
+use Rattle.std.specs.Prelude.{codes, if◌then◌else◌}
 use Rattle.std.specs.Str.{bytes_eq}
 use Rattle.std.specs.Str.Parse.{AllDigits}
 use Rattle.std.specs.Fmt.{decimal}
-use Rattle.std.proofs.Common.{◌≡◌, ℕ, ◌<◌, Bool, true, false, cond, List, [], ◌∷◌, ◌++◌, length, Option, None, Some, refl, sym, ap, ◌∙◌, arith, append_assoc, ne_eqb}
+use Rattle.std.proofs.Common.{◌≡◌, ℕ, ◌^◌, ◌<◌, ◌≤◌, Bool, true, false, not, cond, ◌&&◌, ◌==◌, List, [], ◌∷◌, ◌++◌, length, Option, None, Some, refl, sym, ap, subst, ◌∙◌, arith, append_assoc, ne_eqb}
 use Rattle.std.proofs.lemmas.Fmt.{decimal_is_IsNumeral}
 use Rattle.std.proofs.lemmas.Str.Parse.{digit_from_value}
 use Rattle.nr_xdr.specs.Item.{IsBytes}
@@ -16,15 +16,15 @@ use Rattle.nr_reduce.specs.declared.call.Form.{Form}
 use Rattle.nr_reduce.specs.declared.call.Outcome.{Outcome}
 use Rattle.nr_reduce.specs.declared.call.Outcome.TheVariants as outcomes
 use Rattle.nr_texts.specs.declared.program.Program.{Program}
-use Rattle.nr_texts.specs.Words.{◌>>=◌, space, newline, parts, number_in, two_numbers, IsWord}
-use Rattle.nr_texts.specs.Forms.{dot, numbered_program, IsWritableForm}
+use Rattle.nr_texts.specs.Words.{◌>>=◌, space, newline, parts, number_in, bytes_in, arguments_in, two_numbers, IsWord}
+use Rattle.nr_texts.specs.Forms.{dot, form_in, numbered_program, IsWritableForm}
 use Rattle.nr_texts.specs.Openings.{sys_cred}
 use Rattle.nr_capture.specs.declared.capture.CapturedMark.{CapturedMark}
 use Rattle.nr_capture.specs.declared.capture.CapturedMark.TheVariants as marks
-use Rattle.nr_capture.specs.Marks.{cred_in, called_in, call_in, side_in, piece_mark, reply_with, outcome_in, done_with, exec_in, call_mark_in, mark_in}
+use Rattle.nr_capture.specs.Marks.{cred_in, called_in, call_with, call_in, submit_with, submit_in, side_in, end_in, bytes_with, piece_in, piece_as, piece_mark, reply_with, version_in, outcome_in, done_with, done_in, exec_in, call_mark_in, link_mark_in, mark_in}
 use Rattle.nr_capture.specs.Capture.{link_of}
 use Rattle.nr_capture.specs.Texts.{two_numbers_text, bytes_text, form_text, cred_text, call_text, side_text, outcome_text, mark_text}
-use Rattle.nr_capture.specs.Writable.{IsWritableCred, IsWritableCall, IsWritableOutcome, IsWritableMark}
+use Rattle.nr_capture.specs.Writable.{IsWritableCred, IsWritableCall, IsWritableOutcome, IsPiece, IsWritableMark}
 use Rattle.nr_capture.proofs.WrittenWords.{lacks, lacks_both, parts_cons, joined, one_part, with_word, IsNoDigit, decimal_lacks, word_back, bytes_back, arguments_back, bytes_lack}
 use Rattle.nr_capture.proofs.WrittenForms.{form_back, form_lacks, space_outside, newline_outside}
 

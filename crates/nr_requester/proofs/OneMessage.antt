@@ -124,6 +124,13 @@ pub first_of : (cs : List OutstandingCall) (at : ℕ) → at < length cs → Out
 first_of [] at lt = absurd (omega (arith, lt))
 first_of (c ∷ cs) at lt = c
 
+pub same_xid : (xs ys : List OutstandingCall) (at : ℕ) (d : OutstandingCall) → SameCalls xs ys → (get_or xs at d).xid ≡ (get_or ys at d).xid
+same_xid [] [] at d h = refl
+same_xid [] (y ∷ ys) at d h = absurd h
+same_xid (x ∷ xs) [] at d h = absurd h
+same_xid (x ∷ xs) (y ∷ ys) zero d h = ap (λ (c : OutstandingCall). c.xid) (sym h.0.0)
+same_xid (x ∷ xs) (y ∷ ys) (suc n) d h = same_xid xs ys n d h.1
+
 pub same_send : (xs ys : List OutstandingCall) (at : ℕ) (d : OutstandingCall) → SameCalls xs ys → (get_or xs at d).send ≡ (get_or ys at d).send
 same_send [] [] at d h = refl
 same_send [] (y ∷ ys) at d h = absurd h

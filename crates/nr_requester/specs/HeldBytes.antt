@@ -1,5 +1,5 @@
 -- The bytes of the vectors that a requester keeps, and their bounds. The bounds are own.
-use Rattle.std.specs.Prelude.{◌≡◌, ◌≢◌, ℕ, ◌+◌, ◌*◌, ◌<◌, ◌≤◌, nat_lt, Bool, true, false, not, List, [], ◌∷◌, length, Option, None, Some}
+use Rattle.std.specs.Prelude.{◌≡◌, ◌≢◌, ℕ, ◌+◌, ◌-◌, ◌*◌, ◌<◌, ◌≤◌, nat_lt, Bool, true, false, not, List, [], ◌∷◌, length, Option, None, Some}
 use Rattle.std.specs.List.{AllByRecursion, filter, sum_by}
 use Rattle.nr_header.specs.declared.header.ChunkLists.{ChunkLists}
 use Rattle.nr_header.specs.declared.header.RdmaSegment.{RdmaSegment}
@@ -217,6 +217,7 @@ reply_segments (Some chunk) = length chunk
 abbrev pub segments_offered : ChunkLists → ℕ
 segments_offered lists = length lists.read + (sum_by (λ chunk. length chunk) lists.write + reply_segments lists.reply)
 
+-- The segments for which the header of a Send of UNITS_MAX units has room, 16 bytes each: (16,384 - 32) / 16.
 abbrev pub offered_segments_max : ℕ
 offered_segments_max = 1022
 

@@ -23,10 +23,11 @@ regions_held m = length (values m.held)
 abbrev pub OffersOneWrite : StoredCall → Type 0
 OffersOneWrite c = is_some c.call ≡ true → length c.offered.write ≤ 1
 
--- The outstanding calls are at most the credits that can be granted. A call has at most three regions, and no region is registered but those of the calls,
--- also of no bytes. The lists that a call offered have one write chunk, and a bounded number of segments. Each answer that wasn't handed
--- over is that of an open ticket, no two have one xid, and they are at most the next xid. The Sends that wait are of outstanding calls. At
--- most eight Read Responses wait. There is one receive, no message waits in it, and no Read Request is open.
+-- The outstanding calls are at most the credits that can be granted. A call has at most three regions, and no region is registered but those
+-- of the calls, also of no bytes. The lists that a call offered have at most one write chunk, until the call is revoked, and no more
+-- segments than a Send of the largest length that can be agreed on has room for. Each answer that wasn't handed over is that of an open
+-- ticket, no two have one xid, and they are at most the next xid. The Sends that wait are of outstanding calls. At most eight Read
+-- Responses wait. There is one receive, no message waits in it, and no Read Request is open.
 pub record ListsFit (r : RequesterState) : Type 0 where
   pub outstanding : length r.outstanding ≤ credits_max
   pub regions : regions_kept r.outstanding ≤ 3 * length r.outstanding

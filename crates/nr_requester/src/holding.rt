@@ -105,9 +105,10 @@ fn answers_bytes(answers: &[AnsweredCall]) -> u128
 }
 
 impl Requester {
-    /// How many bytes all byte buffers have that are kept: the staging buffer, the receive, the regions, the output, the calls with the names
-    /// of their machines, the rooms of their replies, and the answers with their buffers. At most 262144 for each call that is outstanding or each credit that was
-    /// wished for, whichever are more, for each answer that wasn't taken, and four times that. Takes no memory.
+    /// The sum of the lengths of all byte buffers that are kept, in bytes: the staging buffer, the receive, the regions, the output, the calls
+    /// with the names of their machines, the rooms of their replies, and the answers with their buffers, each by its own bytes. At most
+    /// 262,144 for each call that is outstanding or each credit that was wished for, whichever are more, for each answer that wasn't taken,
+    /// and four times that. Takes no memory.
     pub fn held(&self) -> u128
         ensures is { result ≡ bytes_held_by self.now.state }
         ensures bound { result ≤ held_unit * (max self.now.state.wished (length self.now.state.outstanding) + length self.now.state.answered + 4) }

@@ -1,4 +1,4 @@
-use Rattle.std.proofs.Common.{◌∙◌}
+use Rattle.std.proofs.Common.{◌≡◌, ◌∙◌}
 use Rattle.nr_endpoint.proofs.FedBytes.{open_fed, register_fed}
 use Rattle.nr_bench.proofs.endpoint.responder.Goals as goal
 

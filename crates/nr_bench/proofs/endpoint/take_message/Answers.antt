@@ -1,4 +1,4 @@
-use Rattle.std.proofs.Common.{◌∙◌}
+use Rattle.std.proofs.Common.{◌≡◌, ◌∙◌}
 use Rattle.nr_endpoint.proofs.FedBytes.{event_stands, post_stands}
 use Rattle.nr_bench.proofs.endpoint.take_message.Goals as goal
 

@@ -1,6 +1,6 @@
-use Rattle.std.proofs.Common.{◌≡◌, ◌∷◌, Some, rules}
+use Rattle.std.proofs.Common.{◌≡◌, ◌∷◌, Some, rules, ◌∙◌}
 use Rattle.nr_texts.specs.Words.{newline, parts}
-use Rattle.nr_capture.specs.Capture.{capture_of, with_first_line, marks_from}
+use Rattle.nr_capture.specs.Capture.{capture_of, capture_from, with_first_line, marks_from}
 use Rattle.nr_capture.proofs.Steps.{line_cut, first_more, same_answer}
 use Rattle.nr_capture.proofs.reading.read_capture.Goals as goal
 

@@ -1,4 +1,4 @@
-use Rattle.std.proofs.Common.{IfOk, subst, arith}
+use Rattle.std.proofs.Common.{IfOk, subst, sym, arith}
 use Rattle.nr_tree.specs.Steps.{IsBelow}
 use Rattle.nr_tree.proofs.DrillLemmas.{bounded_by}
 use Rattle.nr_plain_tests.proofs.steps.stepped.Goals as goal

@@ -19,7 +19,7 @@ use Rattle.nr_requester.specs.Judged.{kept_views, outcome_by}
 use Rattle.nr_requester.specs.Fed.{CallsSound, JudgesTo}
 use Rattle.nr_requester.specs.Views.{stored_view}
 use Rattle.nr_requester.proofs.MessageBodies.{one_held, shorter_rooms}
-use Rattle.nr_requester.proofs.OneMessage.{post_memory, post_ended, post_place, stop_memory, stop_on, first_of, same_send, sound_as}
+use Rattle.nr_requester.proofs.OneMessage.{post_memory, post_ended, post_place, stop_memory, stop_on, first_of, same_xid, same_send, sound_as}
 use Rattle.nr_requester.proofs.StepSides.{remove_fewer}
 use Rattle.nr_requester.proofs.Taken.{same_views, same_length, same_sound, completed_sound, judged_gives}
 use Rattle.nr_requester.proofs.FedBounds.{post_bounded, stop_bounded}
