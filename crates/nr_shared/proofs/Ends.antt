@@ -1,5 +1,5 @@
 -- Why a call has no answer: what the value has says it of each history that it stands for.
-use Rattle.std.proofs.Common.{◌≡◌, ◌≢◌, ℕ, ◌<◌, ◌-◌, Bool, true, false, if◌then◌else◌, List, length, Option, Some, None, Result, Ok, Err, refl, sym, ap, subst, ◌∙◌, unwrap_or}
+use Rattle.std.proofs.Common.{◌≡◌, ◌≢◌, ℕ, ◌<◌, ◌-◌, Bool, true, false, ltb, if◌then◌else◌, List, length, Option, Some, None, Result, Ok, Err, refl, sym, ap, subst, ◌∙◌, unwrap_or}
 use Rattle.std.specs.Prelude.{⊤, nat_le, nat_lt}
 use Rattle.std.proofs.lemmas.Bool.{lt-leb}
 use Rattle.nr_link.specs.declared.end.End.{End}
@@ -25,6 +25,12 @@ use Rattle.nr_shared.specs.declared.entry.Handing.{Handing}
 use Rattle.nr_shared.specs.declared.line.Line.{Line}
 use Rattle.nr_shared.specs.Ending.{ClientEnded, ClientRefuses, HasCredit, HasEnded, IsRefused}
 use Rattle.nr_shared.specs.Histories.{FitsHanding, FitsHistory, handed, run_of, stop_of}
+use Rattle.nr_turnstile.specs.declared.turn.Turn.{Turn}
+use Rattle.nr_turnstile.specs.declared.turnstile.Pass.{Pass}
+use Rattle.nr_turnstile.specs.Rule.{longer}
+use Rattle.nr_turnstile.specs.Passes.{seen_by}
+use Rattle.nr_turnstile.specs.Turns.{pass_of}
+use Rattle.nr_shared.specs.Callers.{IsReady, KeepsLaw}
 use Rattle.nr_shared.specs.Sharing.{SaysCredit}
 use Rattle.nr_shared.specs.Standing.{is_out, Follows, FollowsIf, Stands}
 use Rattle.nr_reduce.specs.declared.mark.LinkParameters.{LinkParameters}
@@ -192,3 +198,20 @@ module _ {O : Type 0} (taken : O → Option (List ℕ)) (faults : O → ℕ) whe
         let l = f.1 opened link (fits_handing h st.handing opened st.is_handed fits) in
         let counts = counts_as_client opened link m.requester (run_of 0 link h) l.stands in
         ap (λ (n : ℕ). nat_lt n m.requester.state.grant) counts.0 ∙ ap (λ (n : ℕ). nat_lt (calls_outstanding opened link (run_of 0 link h)) n) counts.1
+
+  -- the history keeps the law
+  pub law_of : (m : Line O) (h : List Entry) → Stands taken faults m h → KeepsLaw h
+  law_of m h st = by_out (is_out m.stopped) st.follows where
+    by_out : (b : Bool) → FollowsIf b st.handing m.requester h → KeepsLaw h
+    by_out false f = record { n = 0; law = λ opened link fits. (let l = f.1 opened link (fits_handing h st.handing opened st.is_handed fits) in (l.asked, l.granted)) }
+    by_out true f = record { n = f.1.0; law = λ opened link fits. (let l = f.1.1 opened link (fits_handing h st.handing opened st.is_handed fits) in (l.asked, l.granted)) }
+
+  -- told of the pass after its turn
+  pub law_put_back : (t : Turn (Line O) Entry) (s : Pass (Line O) Entry) → IsReady taken faults t → seen_by s ≡ seen_by (pass_of t) → KeepsLaw (seen_by s)
+  law_put_back t s r seen = subst KeepsLaw (sym seen) (law_of r.value (seen_by (pass_of t)) r.stands)
+
+pub law_joined : (xs ys zs : List Entry) → zs ≡ longer xs ys → KeepsLaw xs → KeepsLaw ys → KeepsLaw zs
+law_joined xs ys zs is one two = subst KeepsLaw (sym is) (by_len (ltb (length xs) (length ys))) where
+  by_len : (b : Bool) → KeepsLaw (if b then ys else xs)
+  by_len true = two
+  by_len false = one

@@ -23,7 +23,7 @@ use Rattle.nr_shared.specs.Histories.{mark_at, closes_of, is_feeding, bytes_fed,
 use Rattle.nr_shared.specs.Draining.{taken_between}
 use Rattle.nr_shared.specs.Standing.{is_out, Follows, FollowsIf, one_if, IsWithin, Stands, Becomes}
 use Rattle.nr_shared.proofs.Chains.{chained_end}
-use Rattle.nr_shared.proofs.Histories.{run_same, handed_end, written_end, written_same, fed_same, cut_end, cut_same, stop_same}
+use Rattle.nr_shared.proofs.Histories.{run_same, handed_end, placed_end, written_end, written_same, fed_same, cut_end, cut_same, stop_same}
 use Rattle.nr_shared.proofs.Calls.{calls_kept}
 use Rattle.nr_shared.specs.declared.entry.Handing.{Handing}
 use Rattle.nr_shared.specs.Marks.{IsLive, IsOut}
@@ -137,6 +137,7 @@ module _ {O : Type 0} (taken : O → Option (List ℕ)) (faults : O → ℕ) whe
         cut = λ is. absurd (false_true (sym cut ∙ is));
         stopped = d.stopped ∙ (st.stopped ∙ sym (stop_same h e refl));
         in_order = chained_end closes_of is_feeding 0 None h e st.in_order (λ is. absurd (false_true is));
+        placed = placed_end h e c st.is_handed refl st.placed;
         due = λ is. drained_all m.requester m'.requester n d.after all;
         within = subst (λ b. IsWithin m'.requester m'.due b m'.stopped (h ++ e ∷ [])) (sym cut)
             (subst (λ b. IsWithin m'.requester b false m'.stopped (h ++ e ∷ [])) (sym due)
@@ -169,6 +170,7 @@ module _ {O : Type 0} (taken : O → Option (List ℕ)) (faults : O → ℕ) whe
         cut = λ is. rises_from c.faults (faults m.sink) (faults m'.sink) st.never_falls up;
         stopped = d.stopped ∙ (st.stopped ∙ (sym (stop_same h e refl) ∙ sym (stop_same l f refl)));
         in_order = chained_end closes_of is_feeding 0 None l f (chained_end closes_of is_feeding 0 None h e st.in_order (λ is. absurd (false_true is))) (λ is. absurd (false_true is));
+        placed = placed_end l f c handed_l refl (placed_end h e c st.is_handed refl st.placed);
         due = λ is. absurd (false_true (sym is ∙ due));
         within = subst (λ b. IsWithin m'.requester m'.due b m'.stopped (l ++ f ∷ [])) (sym cut)
             (subst (λ b. IsWithin m'.requester b true m'.stopped (l ++ f ∷ [])) (sym due)

@@ -26,7 +26,7 @@ use Rattle.nr_shared.specs.declared.line.Line.{Line}
 use Rattle.nr_shared.specs.Callers.{IsFeeding}
 use Rattle.nr_shared.specs.Chains.{last_place}
 use Rattle.nr_shared.specs.Feeding.{FeedsFor, StopHolds}
-use Rattle.nr_shared.specs.Histories.{bytes_fed, bytes_written, closes_of, fed_by, handed, handing_in, has_cut, is_cut, is_feeding, last_feeding, since, stop_in, stop_of, FeedsInOrder, first_of, written_by}
+use Rattle.nr_shared.specs.Histories.{bytes_fed, bytes_written, closes_of, fed_by, handed, handing_in, has_cut, has_place, is_cut, is_feeding, last_feeding, since, stop_in, stop_of, FeedsInOrder, first_of, written_by}
 use Rattle.nr_shared.specs.Opening.{HandsIn, IsEarlyMark}
 use Rattle.nr_shared.specs.Standing.{Follows, FollowsIf, IsWithin, KeepsCalls, Stands, bytes_before, marks_before, one_if}
 use Rattle.nr_shared.proofs.Asking.{none_closed}
@@ -132,6 +132,7 @@ module _ {O : Type 0} (taken : O → Option (List ℕ)) (faults : O → ℕ) whe
         cut = λ is. absurd (false_true (sym whole ∙ is));
         stopped = going ∙ sym (stop_new es c all);
         in_order = chained_end closes_of is_feeding 0 None es e (unchained closes_of is_feeding 0 None es quiet) (λ is. sym (last_none is_feeding 0 None es quiet));
+        placed = subst (λ (l : List Entry). AllByRecursion (λ (x : Entry). has_place x ≡ true) l) (sym (since_new es c all)) tt;
         due = λ is. absurd (false_true (sym is ∙ due));
         within = record {
           asked = places m.requester.state.next_xid;

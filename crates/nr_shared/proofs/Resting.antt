@@ -12,7 +12,7 @@ use Rattle.nr_shared.specs.declared.shared.SharedRequester.{SharedRequester}
 use Rattle.nr_shared.specs.declared.shared.Pass.{Pass}
 use Rattle.nr_shared.specs.Adding.{Adds, AreAt}
 use Rattle.nr_shared.specs.Draining.{AreWrites}
-use Rattle.nr_shared.specs.Callers.{IsCaller, KeepsOpen}
+use Rattle.nr_shared.specs.Callers.{IsCaller, KeepsLaw, KeepsOpen}
 use Rattle.nr_shared.specs.Histories.{closes_of, is_feeding}
 use Rattle.nr_shared.specs.Sharing.{SharedRests}
 use Rattle.nr_shared.proofs.Adding.{adds_none}
@@ -129,8 +129,8 @@ module _ {O : Type 0} where
   )
 
 module _ {I O : Type 0} where
-  pub rests_on : (s : SharedRequester I O) (p q : Pass I O) → SharedRests s p → Rests s.main q.main → Rests s.source q.source → seen_by q.source ≡ seen_by p.source → IsCaller q.main → SharedRests s q
-  rests_on s p q r main source seen caller = record { main = main; source = source; beside = r.beside; has_seen = seen ∙ r.has_seen; home = r.home; caller = caller }
+  pub rests_on : (s : SharedRequester I O) (p q : Pass I O) → SharedRests s p → Rests s.main q.main → Rests s.source q.source → seen_by q.source ≡ seen_by p.source → IsCaller q.main → KeepsLaw (seen_by q.main) → SharedRests s q
+  rests_on s p q r main source seen caller law = record { main = main; source = source; beside = r.beside; has_seen = seen ∙ r.has_seen; home = r.home; caller = caller; law = law }
 
   -- the turn was taken
   pub rests_missed : (s : SharedRequester I O) (p : Pass I O) (m : TurnPass (Line O) Entry) → SharedRests s p → Misses p.main m → SharedRests s (record { main = m; source = p.source })
@@ -141,4 +141,5 @@ module _ {I O : Type 0} where
     has_seen = r.has_seen;
     home = r.home;
     caller = caller_same p.main m (ap (λ v. v.seen) miss.2) (ap (λ v. v.mine) miss.2) r.caller;
+    law = subst KeepsLaw (sym (ap (λ v. v.seen) miss.2)) r.law;
   }

@@ -3,6 +3,9 @@ use Rattle.std.specs.Prelude.{◌≡◌, ◌≢◌, ℕ, false, List, ◌++◌, 
 use mathlib.Core.Option.{some}
 use lib.ListN.{get_elem?}
 use Rattle.nr_reduce.specs.declared.call.Call.{Call}
+use Rattle.nr_reduce.specs.declared.mark.LinkParameters.{LinkParameters}
+use Rattle.nr_reduce.specs.Asked.{AskedSoFar}
+use Rattle.nr_reduce.specs.Credits.{KeepsGrant}
 use Rattle.nr_turnstile.specs.declared.turn.Turn.{Turn}
 use Rattle.nr_turnstile.specs.declared.turnstile.Pass.{Pass}
 use Rattle.nr_turnstile.specs.Rule.{Earlier, IsIn, IsOpen, Lies}
@@ -11,7 +14,7 @@ use Rattle.nr_turnstile.specs.Turns.{Has, pass_of}
 use Rattle.nr_shared.specs.declared.entry.Entry.{Entry}
 use Rattle.nr_shared.specs.declared.entry.Handing.{Handing}
 use Rattle.nr_shared.specs.declared.line.Line.{Line}
-use Rattle.nr_shared.specs.Histories.{IsAskedAt, closes_of, handed, is_feeding, last_feeding}
+use Rattle.nr_shared.specs.Histories.{FitsHistory, IsAskedAt, closes_of, handed, is_feeding, last_feeding, run_of}
 use Rattle.nr_shared.specs.Adding.{Adds}
 use Rattle.nr_shared.specs.Draining.{AreWrites}
 use Rattle.nr_shared.specs.Standing.{Stands}
@@ -37,6 +40,11 @@ pub record IsCaller {O : Type 0} (p : Pass (Line O) Entry) : Type 0 where
   pub lies : Lies (seen_by p) (mine_of p)
   pub closes_own : (n k : ℕ) (e : Entry) → IsIn n (mine_of p) → get_elem? (seen_by p) n ≡ some e → closes_of e ≡ Some k → IsIn k (mine_of p)
   pub feeds_none : (k : ℕ) (e : Entry) → IsIn k (mine_of p) → get_elem? (seen_by p) k ≡ some e → is_feeding e ≡ false
+
+-- The marks of the history keep the law of the client's side, and the last grant; `n` is how many bytes were fed of the piece at which memory ran out.
+pub record KeepsLaw (history : List Entry) : Type 0 where
+  pub n : ℕ
+  pub law : (opened : LinkParameters) (link : ℕ) → FitsHistory history opened → AskedSoFar opened link (run_of n link history) × KeepsGrant opened link (run_of n link history)
 
 -- A call of this xid stands at a place of the pass's own, which is open. All places of the pass lie in what it has seen.
 pub record IsAsked {O : Type 0} (p : Pass (Line O) Entry) (xid : ℕ) : Type 0 where

@@ -1,6 +1,6 @@
 -- The history of a shared requester: the marks of its run, and which entries close which.
 use Rattle.std.specs.Prelude.{◌≡◌, ℕ, Bool, true, false, ◌==◌, ◌||◌, is_some, take, if◌then◌else◌, List, [], ◌∷◌, ◌++◌, Option, None, Some}
-use Rattle.std.specs.List.{flat_map}
+use Rattle.std.specs.List.{AllByRecursion, flat_map}
 use mathlib.Core.Option.{some}
 use lib.ListN.{get_elem?}
 use Rattle.nr_wire.specs.declared.hello.Side.TheVariants.{Initiator}
@@ -70,6 +70,11 @@ is_feeding entry = false
 abbrev pub last_feeding : List Entry → Option ℕ
 last_feeding history = last_place is_feeding history
 
+-- bytes that are fed since the handing in have a place before them
+abbrev pub has_place : Entry → Bool
+has_place (entries.Fed bytes before) = has_some before
+has_place entry = true
+
 -- each of them closes the one before it
 abbrev pub FeedsInOrder : List Entry → Type 0
 FeedsInOrder history = Chained closes_of is_feeding history
@@ -92,6 +97,9 @@ handed (e ∷ es) = first_of (handing_in e) (handed es)
 abbrev pub since : List Entry → List Entry
 since [] = []
 since (e ∷ es) = if is_some (handing_in e) then es else since es
+
+abbrev pub ArePlaced : List Entry → Type 0
+ArePlaced history = AllByRecursion (λ (e : Entry). has_place e ≡ true) (since history)
 
 abbrev pub written_by : Entry → List ℕ
 written_by (entries.Wrote bytes) = bytes

@@ -14,7 +14,7 @@ use Rattle.nr_shared.specs.declared.entry.Entry.TheVariants as entries
 use Rattle.nr_shared.specs.declared.entry.Handing.{Handing}
 use Rattle.nr_shared.specs.declared.feeder.Beside.{Beside}
 use Rattle.nr_shared.specs.declared.shared.Pass.{Pass}
-use Rattle.nr_shared.specs.Histories.{FitsHanding, closes_of, handed, bytes_written, bytes_fed, has_cut, stop_of}
+use Rattle.nr_shared.specs.Histories.{ArePlaced, FitsHanding, closes_of, handed, bytes_written, bytes_fed, has_cut, stop_of}
 use Rattle.nr_shared.specs.Standing.{Follows, FollowsIf, KeepsCalls, bytes_before, marks_before}
 use Rattle.nr_shared.specs.Feeding.{StopHolds}
 
@@ -63,6 +63,7 @@ pub record GivesBack {I O : Type 0} (left given : I → Option (List ℕ)) (sour
   pub cut : has_cut history ≡ true → Rises handing.faults (sink_faults sink)
   pub beside : Beside I O
   pub has_seen : seen_by p.source ≡ beside ∷ []
+  pub placed : ArePlaced history
   pub gave : HandsOut (left beside.source.value) (given beside.source.value) (left source) (given source) (bytes_fed history)
   pub source_count : source_faults beside.source.value ≤ source_faults source
   pub stop : StopHolds (stop_of history) (source_faults beside.source.value) (source_faults source) (left source) (length (bytes_fed history))

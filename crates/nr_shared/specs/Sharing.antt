@@ -18,7 +18,7 @@ use Rattle.nr_shared.specs.declared.shared.TryRevoke.{TryRevoke}
 use Rattle.nr_shared.specs.declared.shared.TryRevoke.TheVariants as revokes
 use Rattle.nr_shared.specs.Histories.{FitsHistory, run_of, stop_of}
 use Rattle.nr_shared.specs.Adding.{Adds}
-use Rattle.nr_shared.specs.Callers.{IsAsked, IsCaller, KeepsOpen, KeepsOthers}
+use Rattle.nr_shared.specs.Callers.{IsAsked, IsCaller, KeepsLaw, KeepsOpen, KeepsOthers}
 use Rattle.nr_shared.specs.Ending.{IsRefused}
 use Rattle.nr_shared.specs.Waiting.{AtCall}
 
@@ -28,7 +28,8 @@ SaysCredit has history = stop_of history ≢ Some causes.Memory → (opened : Li
     has ≡ nat_lt (calls_outstanding opened link (run_of 0 link history)) (credits_granted opened link (run_of 0 link history))
 
 module _ {I O : Type 0} where
-  -- The pass is a caller's, of this shared requester, and outside of both turns. Its source stands beside this requester.
+  -- The pass is a caller's, of this shared requester, and outside of both turns. Its source stands beside this requester. What it has seen keeps
+  -- the law of a client.
   pub record SharedRests (s : SharedRequester I O) (p : Pass I O) : Type 0 where
     pub main : Rests s.main p.main
     pub source : Rests s.source p.source
@@ -36,6 +37,7 @@ module _ {I O : Type 0} where
     pub has_seen : seen_by p.source ≡ beside ∷ []
     pub home : home_of beside.pass.value ≡ id_of s.main
     pub caller : IsCaller p.main
+    pub law : KeepsLaw (seen_by p.main)
 
   -- One requester call under one turn, or the turn was taken and all comes back.
   abbrev pub TrySubmits : Pass I O → Pass I O → Call → Form → TrySubmit → Type 0

@@ -5,7 +5,7 @@ ghost use Rattle.nr_rpc.specs.Credential.{CanWriteCred};
 ghost use Rattle.nr_turnstile.specs.Passes.{Rests, mine_of, seen_by};
 ghost use Rattle.nr_turnstile.specs.Rule.{Lies};
 ghost use Rattle.nr_shared.specs.Adding.{Adds};
-ghost use Rattle.nr_shared.specs.Callers.{IsAsked, KeepsOpen};
+ghost use Rattle.nr_shared.specs.Callers.{IsAsked, KeepsLaw, KeepsOpen};
 ghost use Rattle.nr_shared.specs.Sharing.{SaysCredit, SharedRests};
 ghost use Rattle.nr_shared.specs.Waiting.{Attempts, Calls, ForgetsCall, LooksUp, Submits, Waits};
 
@@ -135,6 +135,7 @@ impl<I: Source, O: Sink> SharedRequester<I, O> {
         requires rests { Rests self.now.main main.old }
         requires lies { Lies (seen_by main.old) (mine_of main.old) }
         ensures rests { Rests self.now.main main.new }
+        ensures law { KeepsLaw (seen_by main.new) }
         ensures attempted { Attempts main.old main.new call form result }
     {
         let mut turn = self.main.take_turn(rt, main);
@@ -148,6 +149,7 @@ impl<I: Source, O: Sink> SharedRequester<I, O> {
         requires rests { Rests self.now.main main.old }
         requires asked { IsAsked main.old ticket }
         ensures rests { Rests self.now.main main.new }
+        ensures law { KeepsLaw (seen_by main.new) }
         ensures forgotten { ForgetsCall main.old main.new ticket }
     {
         let mut turn = self.main.take_turn(rt, main);
@@ -160,6 +162,7 @@ impl<I: Source, O: Sink> SharedRequester<I, O> {
         requires rests { Rests self.now.main main.old }
         requires lies { Lies (seen_by main.old) (mine_of main.old) }
         ensures rests { Rests self.now.main main.new }
+        ensures law { KeepsLaw (seen_by main.new) }
         ensures added { Adds main.old main.new [] }
         ensures keeps { KeepsOpen main.old main.new }
         ensures credit { SaysCredit result (seen_by main.new) }
@@ -180,6 +183,7 @@ impl<I: Source, O: Sink> SharedRequester<I, O> {
         requires rests { Rests self.now.main main.old }
         requires asked { IsAsked main.old ticket }
         ensures rests { Rests self.now.main main.new }
+        ensures law { KeepsLaw (seen_by main.new) }
         ensures looked { LooksUp main.old main.new ticket result }
     {
         let mut turn = self.main.take_turn(rt, main);

@@ -1,4 +1,5 @@
-use Rattle.std.proofs.Common.{ap, ◌∙◌}
+use Rattle.std.proofs.Common.{ap, sym, subst, ◌∙◌}
+use Rattle.nr_shared.specs.Callers.{KeepsLaw}
 use Rattle.nr_shared.proofs.Resting.{caller_same, new_caller}
 use Rattle.nr_shared.proofs.shared.SharedRequester.split.Goals as goal
 
@@ -12,6 +13,7 @@ returns-clause-rests g c =
         has_seen = ap (λ m. m.0.seen) v.1 ∙ r.has_seen;
         home = r.home;
         caller = caller_same c.args.pass.now.main c.split.new.pass (ap (λ m. m.0.seen) u.1) (ap (λ m. m.0.mine) u.1) r.caller;
+        law = subst KeepsLaw (sym (ap (λ m. m.0.seen) u.1)) r.law;
       },
       record {
         main = c.split.ensures.new.0;
@@ -20,6 +22,7 @@ returns-clause-rests g c =
         has_seen = ap (λ w. w.seen) c.split-2.ensures.new.1 ∙ r.has_seen;
         home = r.home;
         caller = new_caller c.split.result (ap (λ w. w.mine) c.split.ensures.new.1);
+        law = subst KeepsLaw (sym (ap (λ w. w.seen) c.split.ensures.new.1)) r.law;
       },
     )
 

@@ -20,7 +20,7 @@ pump-requires-clause-beside g c = let r = c.loop.invariant.0 in (r.beside, (r.ha
 pub returns-in-Sent-clause-rests : goal.returns-in-Sent-clause-rests
 returns-in-Sent-clause-rests g c = let r = c.loop.invariant.0 in
     rests_on c.args.self.now c.loop.pass _ r c.in-Sent.ensures.rests r.source refl
-    (caller_sends c.loop.pass.main c.attempt.new.main c.loop.wanted c.loop.wished c.in-Sent.ticket r.caller c.in-Sent.ensures.attempted)
+    (caller_sends c.loop.pass.main c.attempt.new.main c.loop.wanted c.loop.wished c.in-Sent.ticket r.caller c.in-Sent.ensures.attempted) c.in-Sent.ensures.law
 
 pub returns-in-Sent-clause-submitted : goal.returns-in-Sent-clause-submitted
 returns-in-Sent-clause-submitted g c = let l = c.loop.invariant.1.1 in
@@ -29,7 +29,7 @@ returns-in-Sent-clause-submitted g c = let l = c.loop.invariant.1.1 in
 pub returns-in-Ends-clause-rests : goal.returns-in-Ends-clause-rests
 returns-in-Ends-clause-rests g c = let r = c.loop.invariant.0 in
     rests_on c.args.self.now c.loop.pass _ r c.in-Ends.ensures.rests r.source refl
-    (caller_none c.loop.pass.main c.attempt.new.main c.loop.wanted c.loop.wished c.in-Ends.end r.caller c.in-Ends.ensures.attempted)
+    (caller_none c.loop.pass.main c.attempt.new.main c.loop.wanted c.loop.wished c.in-Ends.end r.caller c.in-Ends.ensures.attempted) c.in-Ends.ensures.law
 
 pub returns-in-Ends-clause-submitted : goal.returns-in-Ends-clause-submitted
 returns-in-Ends-clause-submitted g c = let l = c.loop.invariant.1.1 in
@@ -38,7 +38,7 @@ returns-in-Ends-clause-submitted g c = let l = c.loop.invariant.1.1 in
 pub loop-preserved : goal.loop-preserved
 loop-preserved g c = let i = c.loop.invariant in let t = c.in-Waits.ensures.attempted in (
       rests_on c.args.self.now c.loop.pass (record { main = c.attempt.new.main; source = c.pump.new.source }) i.0 c.in-Waits.ensures.rests c.pump.ensures.rests c.pump.ensures.seen
-          (caller_lacks c.loop.pass.main c.attempt.new.main c.loop.wanted c.in-Waits.call c.loop.wished c.in-Waits.form i.0.caller t),
+          (caller_lacks c.loop.pass.main c.attempt.new.main c.loop.wanted c.in-Waits.call c.loop.wished c.in-Waits.form i.0.caller t) c.in-Waits.ensures.law,
       (c.pump.ensures.seen ∙ i.1.0, lacks_later c.args.pass.now.main c.loop.pass.main c.attempt.new.main c.args.call c.loop.wanted c.in-Waits.call c.args.form c.loop.wished c.in-Waits.form i.1.1.waits i.1.1.are_waits i.1.1.adds i.1.1.keeps i.1.1.same_call i.1.1.same_form t),
     )
 

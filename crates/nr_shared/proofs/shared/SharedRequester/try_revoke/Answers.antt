@@ -8,11 +8,12 @@ use Rattle.nr_shared.specs.declared.entry.Entry.{Entry}
 use Rattle.nr_shared.specs.declared.entry.Entry.TheVariants as entries
 use Rattle.nr_shared.specs.declared.line.Line.{Line}
 use Rattle.nr_shared.specs.Adding.{Adds}
-use Rattle.nr_shared.specs.Callers.{IsCaller, KeepsOthers}
+use Rattle.nr_shared.specs.Callers.{IsCaller, KeepsLaw, KeepsOthers}
 use Rattle.nr_shared.specs.Histories.{closes_of}
 use Rattle.nr_shared.specs.Standing.{Stands}
 use Rattle.nr_shared.proofs.Adding.{adds_both, adds_same, got}
 use Rattle.nr_shared.proofs.Asking.{asked_got, asked_on, closes_own, keeps_got}
+use Rattle.nr_shared.proofs.Ends.{law_put_back}
 use Rattle.nr_shared.proofs.Looking.{keeps_same}
 use Rattle.nr_shared.proofs.Resting.{caller_on, rests_missed, rests_on}
 use Rattle.nr_shared.proofs.shared.SharedRequester.try_revoke.Goals as goal
@@ -36,7 +37,7 @@ returns-clause-rests g c = let main = c.pass-2-1.given.0 in let r = c.requires.r
     (subst (λ (t : Turnstile (Line g.row.O.Denot) Entry). Rests t c.put_back.new.self.1.0) (c.revoke_at-call.ensures.same.0 ∙ c.in-Ok.ensures.got.0) c.put_back.ensures.0))
     r.source refl
     (subst (λ (z : Pass (Line g.row.O.Denot) Entry). IsCaller {O = g.row.O.Denot} z) (sym e)
-    (caller_on p s es r.caller (adds_same p u s es (adds_both p q u [] es (got (Stands g.O.Sink.taken g.O.Sink.faults) closes_of c.in-Ok.turn.turnstile.now p q t) b) c.put_back.ensures.1 c.put_back.ensures.2) ((refl, λ k is. closes_own (mine_of p) a.at a.stays.0 k is), tt)))
+    (caller_on p s es r.caller (adds_same p u s es (adds_both p q u [] es (got (Stands g.O.Sink.taken g.O.Sink.faults) closes_of c.in-Ok.turn.turnstile.now p q t) b) c.put_back.ensures.1 c.put_back.ensures.2) ((refl, λ k is. closes_own (mine_of p) a.at a.stays.0 k is), tt))) (subst (λ (z : Pass (Line g.row.O.Denot) Entry). KeepsLaw (seen_by z)) (sym e) (law_put_back g.O.Sink.taken g.O.Sink.faults c.revoke_at-call.new.turn s c.revoke_at-call.ensures.ready c.put_back.ensures.1))
 
 pub returns-clause-tried : goal.returns-clause-tried
 returns-clause-tried g c = λ k call asked o.

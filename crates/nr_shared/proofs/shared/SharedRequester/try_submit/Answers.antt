@@ -7,12 +7,13 @@ use Rattle.nr_shared.specs.declared.entry.Entry.{Entry}
 use Rattle.nr_shared.specs.declared.entry.Entry.TheVariants as entries
 use Rattle.nr_shared.specs.declared.line.Line.{Line}
 use Rattle.nr_shared.specs.Adding.{Adds}
-use Rattle.nr_shared.specs.Callers.{IsAsked, IsCaller, KeepsOpen}
+use Rattle.nr_shared.specs.Callers.{IsAsked, IsCaller, KeepsLaw, KeepsOpen}
 use Rattle.nr_shared.specs.Ending.{IsRefused}
 use Rattle.nr_shared.specs.Histories.{closes_of}
 use Rattle.nr_shared.specs.Standing.{Stands}
 use Rattle.nr_shared.proofs.Adding.{adds_both, adds_same, got}
 use Rattle.nr_shared.proofs.Asking.{keeps_got, none_closed}
+use Rattle.nr_shared.proofs.Ends.{law_put_back}
 use Rattle.nr_shared.proofs.Looking.{asked_same, keeps_same}
 use Rattle.nr_shared.proofs.Resting.{caller_on, rests_missed, rests_on}
 use Rattle.nr_shared.proofs.shared.SharedRequester.try_submit.Goals as goal
@@ -30,7 +31,7 @@ returns-in-Ok-submit_at-clause-rests g c = let main = c.pass-in-Ok-submit_at-1.g
     (subst (λ (t : Turnstile (Line g.row.O.Denot) Entry). Rests t c.put_back.new.self.1.0) (c.submit_at.ensures.same.0 ∙ c.in-Ok.ensures.got.0) c.put_back.ensures.0))
     r.source refl
     (subst (λ (z : Pass (Line g.row.O.Denot) Entry). IsCaller {O = g.row.O.Denot} z) (sym e)
-    (caller_on p s es r.caller (adds_same p u s es (adds_both p q u [] es (got (Stands g.O.Sink.taken g.O.Sink.faults) closes_of c.in-Ok.turn.turnstile.now p q t) c.in-Ok-submit_at.ensures.accepted.0) c.put_back.ensures.1 c.put_back.ensures.2) ((refl, λ k is. absurd (none_closed k is)), tt)))
+    (caller_on p s es r.caller (adds_same p u s es (adds_both p q u [] es (got (Stands g.O.Sink.taken g.O.Sink.faults) closes_of c.in-Ok.turn.turnstile.now p q t) c.in-Ok-submit_at.ensures.accepted.0) c.put_back.ensures.1 c.put_back.ensures.2) ((refl, λ k is. absurd (none_closed k is)), tt))) (subst (λ (z : Pass (Line g.row.O.Denot) Entry). KeepsLaw (seen_by z)) (sym e) (law_put_back g.O.Sink.taken g.O.Sink.faults c.submit_at.new.turn s c.submit_at.ensures.ready c.put_back.ensures.1))
 
 pub returns-in-Ok-submit_at-clause-tried : goal.returns-in-Ok-submit_at-clause-tried
 returns-in-Ok-submit_at-clause-tried g c = let t = c.in-Ok.ensures.got.1 in let a = c.in-Ok-submit_at.ensures.accepted in
@@ -54,7 +55,7 @@ returns-in-Err-submit_at-clause-rests g c = let main = c.pass-in-Err-submit_at-1
     (subst (λ (t : Turnstile (Line g.row.O.Denot) Entry). Rests t c.put_back-in-Err-submit_at.new.self.1.0) (c.submit_at.ensures.same.0 ∙ c.in-Ok.ensures.got.0) c.put_back-in-Err-submit_at.ensures.0))
     r.source refl
     (subst (λ (z : Pass (Line g.row.O.Denot) Entry). IsCaller {O = g.row.O.Denot} z) (sym e)
-    (caller_on p s [] r.caller (adds_same p u s [] (adds_both p q u [] [] (got (Stands g.O.Sink.taken g.O.Sink.faults) closes_of c.in-Ok.turn.turnstile.now p q t) c.in-Err-submit_at.ensures.refused) c.put_back-in-Err-submit_at.ensures.1 c.put_back-in-Err-submit_at.ensures.2) tt))
+    (caller_on p s [] r.caller (adds_same p u s [] (adds_both p q u [] [] (got (Stands g.O.Sink.taken g.O.Sink.faults) closes_of c.in-Ok.turn.turnstile.now p q t) c.in-Err-submit_at.ensures.refused) c.put_back-in-Err-submit_at.ensures.1 c.put_back-in-Err-submit_at.ensures.2) tt)) (subst (λ (z : Pass (Line g.row.O.Denot) Entry). KeepsLaw (seen_by z)) (sym e) (law_put_back g.O.Sink.taken g.O.Sink.faults c.submit_at.new.turn s c.submit_at.ensures.ready c.put_back-in-Err-submit_at.ensures.1))
 
 pub returns-in-Err-submit_at-clause-tried : goal.returns-in-Err-submit_at-clause-tried
 returns-in-Err-submit_at-clause-tried g c = let t = c.in-Ok.ensures.got.1 in let a = c.in-Err-submit_at.ensures.refused in

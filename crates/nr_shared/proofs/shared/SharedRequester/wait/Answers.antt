@@ -17,7 +17,7 @@ pump-requires-clause-beside g c = let r = c.loop.invariant.0 in (r.beside, (r.ha
 pub returns-in-Answered-clause-rests : goal.returns-in-Answered-clause-rests
 returns-in-Answered-clause-rests g c = let r = c.loop.invariant.0 in
     rests_on c.args.self.now c.loop.pass _ r c.in-Answered.ensures.rests r.source refl
-    (caller_takes c.loop.pass.main c.look.new.main c.loop.waiting c.in-Answered.done r.caller c.loop.invariant.1.1.0 c.in-Answered.ensures.looked)
+    (caller_takes c.loop.pass.main c.look.new.main c.loop.waiting c.in-Answered.done r.caller c.loop.invariant.1.1.0 c.in-Answered.ensures.looked) c.in-Answered.ensures.law
 
 pub returns-in-Answered-clause-waited : goal.returns-in-Answered-clause-waited
 returns-in-Answered-clause-waited g c = let i = c.loop.invariant.1.1.1 in
@@ -27,7 +27,7 @@ returns-in-Answered-clause-waited g c = let i = c.loop.invariant.1.1.1 in
 pub returns-in-Ends-clause-rests : goal.returns-in-Ends-clause-rests
 returns-in-Ends-clause-rests g c = let r = c.loop.invariant.0 in
     rests_on c.args.self.now c.loop.pass _ r c.in-Ends.ensures.rests r.source refl
-    (caller_gives c.loop.pass.main c.look.new.main c.loop.waiting c.in-Ends.end r.caller c.loop.invariant.1.1.0 c.in-Ends.ensures.looked)
+    (caller_gives c.loop.pass.main c.look.new.main c.loop.waiting c.in-Ends.end r.caller c.loop.invariant.1.1.0 c.in-Ends.ensures.looked) c.in-Ends.ensures.law
 
 pub returns-in-Ends-clause-waited : goal.returns-in-Ends-clause-waited
 returns-in-Ends-clause-waited g c = let i = c.loop.invariant.1.1.1 in
@@ -37,7 +37,7 @@ returns-in-Ends-clause-waited g c = let i = c.loop.invariant.1.1.1 in
 pub loop-preserved : goal.loop-preserved
 loop-preserved g c = let r = c.loop.invariant.0 in let i = c.loop.invariant.1.1 in let l = c.in-NotYet.ensures.looked in
     let caller = caller_on c.loop.pass.main c.look.new.main [] r.caller l.1.0 tt in (
-      rests_on c.args.self.now c.loop.pass (record { main = c.look.new.main; source = c.pump.new.source }) r c.in-NotYet.ensures.rests c.pump.ensures.rests c.pump.ensures.seen caller,
+      rests_on c.args.self.now c.loop.pass (record { main = c.look.new.main; source = c.pump.new.source }) r c.in-NotYet.ensures.rests c.pump.ensures.rests c.pump.ensures.seen caller c.in-NotYet.ensures.law,
       (
         c.pump.ensures.seen ∙ c.loop.invariant.1.0,
         (
