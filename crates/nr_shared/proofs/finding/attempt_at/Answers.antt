@@ -25,10 +25,10 @@ returns-in-NoCredit-clause-attempted g c = let p = pass_of c.args.turn.now in le
 pub returns-in-Ok-clause-attempted : goal.returns-in-Ok-clause-attempted
 returns-in-Ok-clause-attempted g c = let p = pass_of c.args.turn.now in let q = pass_of c.drain_at.new.turn in let r = pass_of c.obstacle_at.new.turn in
     let a = c.in-Ok.ensures.accepted in
-    attempt_sends p q r (pass_of c.submit_at.new.turn) (pass_of c.drain_at-2.new.turn) c.args.call c.args.form c.in-Ok.ticket c.drain_at.ensures.wrote c.obstacle_at.ensures.seen c.obstacle_at.ensures.mine
-    a.0 c.in-Ok.ensures.seen c.in-Ok.ensures.keeps c.in-Ok.ensures.opened c.drain_at-2.ensures.wrote
+    attempt_sends p q r (pass_of c.submit_at.new.turn) (pass_of c.drain_at-in-Ok.new.turn) c.args.call c.args.form c.in-Ok.ticket c.drain_at.ensures.wrote c.obstacle_at.ensures.seen c.obstacle_at.ensures.mine
+    a.0 c.in-Ok.ensures.seen c.in-Ok.ensures.keeps c.in-Ok.ensures.opened c.drain_at-in-Ok.ensures.wrote
 
-pub returns-clause-attempted : goal.returns-clause-attempted
-returns-clause-attempted g c = let p = pass_of c.args.turn.now in let q = pass_of c.drain_at.new.turn in let r = pass_of c.obstacle_at.new.turn in let u = pass_of c.submit_at.new.turn in
+pub returns-in-Err-clause-attempted : goal.returns-in-Err-clause-attempted
+returns-in-Err-clause-attempted g c = let p = pass_of c.args.turn.now in let q = pass_of c.drain_at.new.turn in let r = pass_of c.obstacle_at.new.turn in let u = pass_of c.submit_at.new.turn in
     refused_none p q r u c.args.call c.args.form c.of_refused.result c.drain_at.ensures.wrote c.obstacle_at.ensures.seen c.obstacle_at.ensures.mine c.in-Err.ensures.refused c.in-Err.ensures.keeps c.in-Err.ensures.kept
     (c.of_refused.ensures c.args.call c.args.form (seen_by r) c.in-Err.ensures.why)

@@ -46,8 +46,8 @@ returns-in-None-clause-ready g c =
 pub returns-in-None-clause-looked : goal.returns-in-None-clause-looked
 returns-in-None-clause-looked g c = let p = pass_of c.args.turn.now in (refl, (adds_none p _ (begins_self (seen_by p)) refl, λ k o. o))
 
-pub returns-clause-looked : goal.returns-clause-looked
-returns-clause-looked g c = λ k call asked o.
+pub returns-in-Some-clause-looked : goal.returns-in-Some-clause-looked
+returns-in-Some-clause-looked g c = λ k call asked o.
     (let r = c.requires.ready in let f = c.value-line.result.now in let seen = seen_by (pass_of c.args.turn.now) in
     let st : Stands g.O.Sink.taken g.O.Sink.faults f seen = subst (λ (z : Line g.row.O.Denot). Stands g.O.Sink.taken g.O.Sink.faults z seen) (same_value _ r.value f r.has.1 c.value-line.ensures.value) r.stands in
     let t = c.forget_at.ensures.forgotten k call asked o in

@@ -8,8 +8,8 @@ use Rattle.nr_shared.proofs.Resting.{rests_on}
 use Rattle.nr_shared.proofs.Submitting.{caller_lacks, caller_none, caller_sends, lacks_later, none_later, sends_later}
 use Rattle.nr_shared.proofs.shared.SharedRequester.submit.Goals as goal
 
-pub loop-initially : goal.loop-initially
-loop-initially g c = (c.requires.rests, (refl, record { waits = []; are_waits = tt; adds = adds_none c.args.pass.now.main c.args.pass.now.main (begins_self (seen_by c.args.pass.now.main)) refl; keeps = λ k o. o; same_call = refl; same_form = refl }))
+pub loop-init : goal.loop-init
+loop-init g c = (c.requires.rests, (refl, record { waits = []; are_waits = tt; adds = adds_none c.args.pass.now.main c.args.pass.now.main (begins_self (seen_by c.args.pass.now.main)) refl; keeps = λ k o. o; same_call = refl; same_form = refl }))
 
 pub attempt-requires-clause-writable : goal.attempt-requires-clause-writable
 attempt-requires-clause-writable g c = subst (λ (x : Call). CanWriteCred x.cred) (sym c.loop.invariant.1.1.same_call) c.requires.writable

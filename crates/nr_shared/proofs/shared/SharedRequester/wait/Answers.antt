@@ -8,8 +8,8 @@ use Rattle.nr_shared.proofs.Looking.{caller_gives, caller_takes, gives_after, st
 use Rattle.nr_shared.proofs.Resting.{caller_on, rests_on}
 use Rattle.nr_shared.proofs.shared.SharedRequester.wait.Goals as goal
 
-pub loop-initially : goal.loop-initially
-loop-initially g c = (c.requires.rests, (refl, (c.requires.asked, (adds_none c.args.pass.now.main c.args.pass.now.main (begins_self (seen_by c.args.pass.now.main)) refl, ((λ k o. o), refl)))))
+pub loop-init : goal.loop-init
+loop-init g c = (c.requires.rests, (refl, (c.requires.asked, (adds_none c.args.pass.now.main c.args.pass.now.main (begins_self (seen_by c.args.pass.now.main)) refl, ((λ k o. o), refl)))))
 
 pub pump-requires-clause-beside : goal.pump-requires-clause-beside
 pump-requires-clause-beside g c = let r = c.loop.invariant.0 in (r.beside, (r.has_seen, r.home))
