@@ -31,13 +31,13 @@ impl<K: Noted> OpeningHistory<Entry> for HandedIn<K> {
 }
 
 /// The history of a source, for the proof.
-pub trait Placed<I, O: Sink> {
+pub trait Placed<I, O> {
     ghost use Rattle.nr_shared.specs.declared.feeder.Beside.{Beside};
 
     ghost placed: { List (Beside I O) };
 }
 
-impl<I, O: Sink> Placed<I, O> for Brand {
+impl<I, O> Placed<I, O> for Brand {
     ghost placed = { [] };
 }
 

@@ -52,8 +52,8 @@ returns-in-Some-clause-looked g c = λ k call asked o.
     let st : Stands g.O.Sink.taken g.O.Sink.faults f seen = subst (λ (z : Line g.row.O.Denot). Stands g.O.Sink.taken g.O.Sink.faults z seen) (same_value _ r.value f r.has.1 c.value-line.ensures.value) r.stands in
     let t = c.forget_at.ensures.forgotten k call asked o in
     record {
-      adds = t.adds;
-      keeps = t.keeps;
+      adds = record { seen = t.adds.seen; places = t.adds.places; mine = t.adds.mine; rising = t.adds.rising; at = t.adds.at; new = t.adds.new };
+      keeps = λ j differs oj. t.keeps j differs oj;
       before = seen;
       seen = c.forget_at.ensures.seen ∙ ap (λ n. seen ++ entries.Forget c.args.ticket (place_or_none n) ∷ []) (st.calls c.args.ticket k call asked o.1).0;
       ended = c.in-Some.ensures.some seen st;
