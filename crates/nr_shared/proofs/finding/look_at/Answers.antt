@@ -58,3 +58,12 @@ returns-in-Some-clause-looked g c = λ k call asked o.
       seen = c.forget_at.ensures.seen ∙ ap (λ n. seen ++ entries.Forget c.args.ticket (place_or_none n) ∷ []) (st.calls c.args.ticket k call asked o.1).0;
       ended = c.in-Some.ensures.some seen st;
     })
+
+pub returns-then-there-clause-looked : goal.returns-then-there-clause-looked
+returns-then-there-clause-looked g c = λ k call asked o.
+    (let t = c.take_at.ensures.taken k call asked o in
+    record {
+      own = t.own;
+      adds = record { seen = t.adds.seen; places = t.adds.places; mine = t.adds.mine; rising = t.adds.rising; at = t.adds.at; new = t.adds.new };
+      keeps = λ j differs oj. t.keeps j differs oj;
+    })

@@ -23,7 +23,7 @@ place-requires-clause-feeds g c =
     let mine : mine_of p ≡ places (length history) = ap (λ x. x.0.mine) u.1 ∙ ap (λ v. v.mine) m.1 in
     first_feeder g.I.Source.left g.I.Source.given g.I.Source.faults _ _ (ap home_of (sym c.of-first.ensures)) (ap (λ x. x.1) u.1 ∙ m.0.1, ap (λ x. x.0.stage) u.1 ∙ m.0.2)
     (first_lies t f history p seen mine) (first_feeds t f r k history p o seen mine) (sym c.of-handed.ensures)
-    (ap (λ (l : List Entry). bytes_fed l) seen ∙ opened_fed t f r k history o) (ap (λ (l : List Entry). stop_of l) seen ∙ opened_stop t f r k history o) refl c.in_ok-buf.ensures.len
+    (ap (λ (l : List Entry). bytes_fed l) seen ∙ opened_fed t f r k history o) (ap (λ (l : List Entry). stop_of l) seen ∙ opened_stop t f r k history o) refl (sym c.in_ok-buf.buf.ok.0 ∙ c.in_ok-buf.ensures.len)
 
 pub returns-clause-rests : goal.returns-clause-rests
 returns-clause-rests g c =
