@@ -174,12 +174,7 @@ impl<I: Source, O: Sink> SharedRequester<I, O> {
     }
 
     // One turn of a caller that waits.
-    fn look<R: Wait>(
-        &self,
-        rt: &R,
-        main: &mut nr_turnstile::Pass<Line<O>>,
-        ticket: Ticket,
-    ) -> Look
+    fn look<R: Wait>(&self, rt: &R, main: &mut nr_turnstile::Pass<Line<O>>, ticket: Ticket) -> Look
         requires rests { Rests self.now.main main.old }
         requires asked { IsAsked main.old ticket }
         ensures rests { Rests self.now.main main.new }

@@ -39,9 +39,15 @@ pub enum Entry {
     /// The requester was handed in.
     Handed(Handing),
     /// A call was accepted.
-    Submit { call: Call, form: Form, xid: u32 },
+    Submit {
+        call: Call,
+        form: Form,
+        xid: u32,
+    },
     /// The sink took bytes.
-    Wrote { bytes: LinkedList<u8> },
+    Wrote {
+        bytes: LinkedList<u8>,
+    },
     /// Bytes were fed; none before the requester was handed in.
     Fed {
         bytes: LinkedList<u8>,
@@ -54,9 +60,15 @@ pub enum Entry {
         asked: u64,
     },
     /// A call was lost.
-    Lost { xid: u32, asked: u64 },
+    Lost {
+        xid: u32,
+        asked: u64,
+    },
     /// A call was forgotten.
-    Forget { xid: u32, asked: u64 },
+    Forget {
+        xid: u32,
+        asked: u64,
+    },
     /// The memory of a call was revoked.
     Revoke {
         xid: u32,
@@ -66,7 +78,10 @@ pub enum Entry {
     /// A write failed.
     Cut,
     /// No bytes are fed any more, for another cause than memory.
-    Stopped { cause: Stop, before: Option<u64> },
+    Stopped {
+        cause: Stop,
+        before: Option<u64>,
+    },
     /// Memory ran out for a frame of this piece. Its first bytes, up to that frame, were fed.
     Out {
         piece: LinkedList<u8>,

@@ -85,8 +85,7 @@ impl<I: Source, O: Sink> SharedRequester<I, O> {
         ensures source { IfOk result (λ t. (b : Beside I O) × ((seen_by t.1.source ≡ b ∷ []) × (b.source.value ≡ source))) }
     {
         let buf = vec![in alloc; 0u8; PIECE_MAX]?;
-        let (main, mut feeding) =
-            Turnstile::new::<H>(alloc, Line::handed_in(requester, sink))?;
+        let (main, mut feeding) = Turnstile::new::<H>(alloc, Line::handed_in(requester, sink))?;
         let caller = main.split(&mut feeding);
         let handed = Snapshot::of(&source);
         let first = Snapshot::of(&feeding);
@@ -123,7 +122,9 @@ impl<I: Source, O: Sink> SharedRequester<I, O> {
         } = source.close(rt, beside);
         main.join(&mut caller, feeding);
         let Line {
-            requester, sink, ..
+            requester,
+            sink,
+            ..
         } = main.close(rt, caller);
         (requester, source, sink)
     }

@@ -81,12 +81,7 @@ impl<I: Source, O: Sink> SharedRequester<I, O> {
     }
 
     // A piece is fed by the pass that feeds, and what is then due is written. Answers whether memory ran out for a frame of it.
-    fn feed<R: Wait>(
-        &self,
-        rt: &R,
-        feeding: &mut nr_turnstile::Pass<Line<O>>,
-        piece: &[u8],
-    ) -> bool
+    fn feed<R: Wait>(&self, rt: &R, feeding: &mut nr_turnstile::Pass<Line<O>>, piece: &[u8]) -> bool
         requires rests { Rests self.now.main feeding.old }
         requires feeding { IsFeeding feeding.old }
         requires lies { Lies (seen_by feeding.old) (mine_of feeding.old) }

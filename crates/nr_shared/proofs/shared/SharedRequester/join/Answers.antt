@@ -17,9 +17,9 @@ returns-clause-rests g c = let r = c.requires.0 in let o = c.requires.1 in recor
 
 pub returns-clause-keeps : goal.returns-clause-keeps
 returns-clause-keeps g c = let r = c.requires.0 in let o = c.requires.1 in let j = c.join.ensures.joined in (
-      keeps_first c.args.pass.now.main c.args.other.main c.join.new.pass r.caller o.caller j,
-      keeps_second c.args.pass.now.main c.args.other.main c.join.new.pass r.caller o.caller j,
-    )
+  keeps_first c.args.pass.now.main c.args.other.main c.join.new.pass r.caller o.caller j,
+  keeps_second c.args.pass.now.main c.args.other.main c.join.new.pass r.caller o.caller j,
+)
 
 pub returns-clause-source : goal.returns-clause-source
 returns-clause-source g c = let r = c.requires.0 in let o = c.requires.1 in

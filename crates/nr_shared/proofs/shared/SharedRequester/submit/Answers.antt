@@ -37,10 +37,10 @@ returns-in-Ends-clause-submitted g c = let l = c.loop.invariant.1.1 in
 
 pub loop-preserved : goal.loop-preserved
 loop-preserved g c = let i = c.loop.invariant in let t = c.in-Waits.ensures.attempted in (
-      rests_on c.args.self.now c.loop.pass (record { main = c.attempt.new.main; source = c.pump.new.source }) i.0 c.in-Waits.ensures.rests c.pump.ensures.rests c.pump.ensures.seen
-          (caller_lacks c.loop.pass.main c.attempt.new.main c.loop.wanted c.in-Waits.call c.loop.wished c.in-Waits.form i.0.caller t) c.in-Waits.ensures.law,
-      (c.pump.ensures.seen ∙ i.1.0, lacks_later c.args.pass.now.main c.loop.pass.main c.attempt.new.main c.args.call c.loop.wanted c.in-Waits.call c.args.form c.loop.wished c.in-Waits.form i.1.1.waits i.1.1.are_waits i.1.1.adds i.1.1.keeps i.1.1.same_call i.1.1.same_form t),
-    )
+  rests_on c.args.self.now c.loop.pass (record { main = c.attempt.new.main; source = c.pump.new.source }) i.0 c.in-Waits.ensures.rests c.pump.ensures.rests c.pump.ensures.seen
+      (caller_lacks c.loop.pass.main c.attempt.new.main c.loop.wanted c.in-Waits.call c.loop.wished c.in-Waits.form i.0.caller t) c.in-Waits.ensures.law,
+  (c.pump.ensures.seen ∙ i.1.0, lacks_later c.args.pass.now.main c.loop.pass.main c.attempt.new.main c.args.call c.loop.wanted c.in-Waits.call c.args.form c.loop.wished c.in-Waits.form i.1.1.waits i.1.1.are_waits i.1.1.adds i.1.1.keeps i.1.1.same_call i.1.1.same_form t),
+)
 
 pub attempt-requires-clause-lies : goal.attempt-requires-clause-lies
 attempt-requires-clause-lies g c = c.loop.invariant.0.caller.lies

@@ -46,7 +46,10 @@ returns-clause-tried g c = λ k call asked o.
     let p = c.args.pass.now.main in let q = pass_of c.in-Ok.turn in let u = pass_of c.revoke_at-call.new.turn in let s = c.put_back.new.self.1.0 in
     let keeps = keeps_got g.O.Sink.taken g.O.Sink.faults c.in-Ok.turn.turnstile.now p q c.requires.rests.caller.lies t in
     let b = c.revoke_at-call.ensures.revoked k call (asked_on (seen_by p) (seen_by q) c.args.ticket k call t.3 asked) (keeps k o) in
-    let es : List Entry = entries.Revoke c.args.ticket (bytes_of_buffers c.revoke_at-call.result.1) k ∷ [] in
-    (b.0, subst (λ (z : Pass (Line g.row.O.Denot) Entry). Adds {M = Line g.row.O.Denot} {E = Entry} p z es × KeepsOthers {O = g.row.O.Denot} k p z) (sym e)
-    (adds_same p u s es (adds_both p q u [] es (got (Stands g.O.Sink.taken g.O.Sink.faults) closes_of c.in-Ok.turn.turnstile.now p q t) b.1.0) c.put_back.ensures.1 c.put_back.ensures.2,
-    λ j differs oj. keeps_same u s c.put_back.ensures.1 c.put_back.ensures.2 j (b.1.1 j differs (keeps j oj)))))
+    let es : List Entry = entries.Revoke c.args.ticket (bytes_of_buffers c.revoke_at-call.result.1) k ∷ [] in (
+      b.0,
+      subst (λ (z : Pass (Line g.row.O.Denot) Entry). Adds {M = Line g.row.O.Denot} {E = Entry} p z es × KeepsOthers {O = g.row.O.Denot} k p z) (sym e) (
+        adds_same p u s es (adds_both p q u [] es (got (Stands g.O.Sink.taken g.O.Sink.faults) closes_of c.in-Ok.turn.turnstile.now p q t) b.1.0) c.put_back.ensures.1 c.put_back.ensures.2,
+        λ j differs oj. keeps_same u s c.put_back.ensures.1 c.put_back.ensures.2 j (b.1.1 j differs (keeps j oj)),
+      ),
+    ))

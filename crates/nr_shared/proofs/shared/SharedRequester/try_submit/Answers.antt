@@ -60,8 +60,7 @@ returns-in-Err-submit_at-clause-rests g c = let main = c.pass-in-Err-submit_at-1
 pub returns-in-Err-submit_at-clause-tried : goal.returns-in-Err-submit_at-clause-tried
 returns-in-Err-submit_at-clause-tried g c = let t = c.in-Ok.ensures.got.1 in let a = c.in-Err-submit_at.ensures.refused in
     let e = c.pass-in-Err-submit_at-1.given.1 (sym (c.submit_at.ensures.same.1 ∙ c.in-Ok.ensures.borrow)) in
-    let p = c.args.pass.now.main in let q = pass_of c.in-Ok.turn in let r = pass_of c.submit_at.new.turn in let s = c.put_back-in-Err-submit_at.new.self.1.0 in
-    (
+    let p = c.args.pass.now.main in let q = pass_of c.in-Ok.turn in let r = pass_of c.submit_at.new.turn in let s = c.put_back-in-Err-submit_at.new.self.1.0 in (
       subst (λ (z : Pass (Line g.row.O.Denot) Entry). Adds {M = Line g.row.O.Denot} {E = Entry} p z []) (sym e)
           (adds_same p r s [] (adds_both p q r [] [] (got (Stands g.O.Sink.taken g.O.Sink.faults) closes_of c.in-Ok.turn.turnstile.now p q t) a) c.put_back-in-Err-submit_at.ensures.1 c.put_back-in-Err-submit_at.ensures.2),
       (
