@@ -1,0 +1,172 @@
+-- No other pass feeds: what was fed, and why no more is, is as the pass that fed last knew it.
+use Rattle.std.proofs.Common.{◌≡◌, ℕ, zero, suc, ◌+◌, arith, Bool, true, false, if◌then◌else◌, List, [], ◌∷◌, ◌++◌, length, Option, Some, None, refl, sym, ap, subst, ◌∙◌, append-nil, ◌⊎◌, ⊎_elim, inl, inr}
+use Rattle.std.specs.List.{AllByRecursion, flat_map}
+use Rattle.std.proofs.lemmas.Grind.{flat_map-append}
+use mathlib.Core.Option.{some, some-injective, some-ne-none}
+use lib.ListN.{get_elem?}
+use Rattle.nr_turnstile.specs.declared.turnstile.Turnstile.{Turnstile}
+use Rattle.nr_turnstile.specs.declared.turnstile.Pass.{Pass}
+use Rattle.nr_turnstile.specs.Rule.{IsIn, IsOpen, Lies}
+use Rattle.nr_turnstile.specs.Passes.{Gets, seen_by, mine_of}
+use Rattle.nr_turnstile.proofs.Open.{stays_open}
+use Rattle.nr_shared.specs.declared.entry.Stop.{Stop}
+use Rattle.nr_shared.specs.declared.entry.Entry.{Entry}
+use Rattle.nr_shared.specs.declared.entry.Entry.TheVariants as entries
+use Rattle.nr_shared.specs.declared.entry.Handing.{Handing}
+use Rattle.nr_shared.specs.declared.line.Line.{Line}
+use Rattle.nr_shared.specs.Chains.{last_from, last_place}
+use Rattle.nr_shared.specs.Histories.{closes_of, is_feeding, last_feeding, FeedsInOrder, first_of, handing_in, handed, since, fed_by, bytes_fed, stop_in, stop_of}
+use Rattle.nr_shared.specs.Standing.{Stands}
+use Rattle.nr_shared.specs.Callers.{IsFeeding, Writes}
+use Rattle.nr_shared.specs.Draining.{AreWrites}
+use Rattle.nr_shared.proofs.Calls.{none_some}
+use Rattle.nr_shared.proofs.Lists.{at_after, at_either, in_more}
+use Rattle.nr_shared.proofs.Chains.{last_same, no_link_after}
+use Rattle.nr_shared.proofs.Histories.{handed_more, since_more}
+
+true_false : true ≡ false → ⊥
+true_false e = absurd cc
+
+-- an entry that doesn't feed has no bytes that were fed, and is no end of feeding
+quiet_bytes : (e : Entry) → is_feeding e ≡ false → fed_by e ≡ []
+quiet_bytes (entries.Handed handing) none = refl
+quiet_bytes (entries.Submit call form xid) none = refl
+quiet_bytes (entries.Wrote bytes) none = refl
+quiet_bytes (entries.Fed bytes None) none = refl
+quiet_bytes (entries.Fed bytes (Some k)) none = absurd (true_false none)
+quiet_bytes (entries.Done xid outcome asked) none = refl
+quiet_bytes (entries.Lost xid asked) none = refl
+quiet_bytes (entries.Forget xid asked) none = refl
+quiet_bytes (entries.Revoke xid bytes asked) none = refl
+quiet_bytes entries.Cut none = refl
+quiet_bytes (entries.Stopped cause before) none = refl
+quiet_bytes (entries.Out piece before) none = absurd (true_false none)
+
+quiet_stop : (e : Entry) → is_feeding e ≡ false → stop_in e ≡ None
+quiet_stop (entries.Handed handing) none = refl
+quiet_stop (entries.Submit call form xid) none = refl
+quiet_stop (entries.Wrote bytes) none = refl
+quiet_stop (entries.Fed bytes before) none = refl
+quiet_stop (entries.Done xid outcome asked) none = refl
+quiet_stop (entries.Lost xid asked) none = refl
+quiet_stop (entries.Forget xid asked) none = refl
+quiet_stop (entries.Revoke xid bytes asked) none = refl
+quiet_stop entries.Cut none = refl
+quiet_stop (entries.Stopped cause before) none = absurd (true_false none)
+quiet_stop (entries.Out piece before) none = absurd (true_false none)
+
+abbrev pub AreQuiet : List Entry → Type 0
+AreQuiet es = AllByRecursion (λ (e : Entry). is_feeding e ≡ false) es
+
+none_fed : (es : List Entry) → AreQuiet es → flat_map fed_by es ≡ []
+none_fed [] all = refl
+none_fed (e ∷ es) all = ap (λ (l : List ℕ). l ++ flat_map fed_by es) (quiet_bytes e all.0) ∙ none_fed es all.1
+
+none_stops : (es : List Entry) → AreQuiet es → stop_of es ≡ None
+none_stops [] all = refl
+none_stops (e ∷ es) all = ap (λ (o : Option Stop). first_of o (stop_of es)) (quiet_stop e all.0) ∙ none_stops es all.1
+
+first_assoc : {A : Type 0} (x y z : Option A) → first_of x (first_of y z) ≡ first_of (first_of x y) z
+first_assoc (Some a) y z = refl
+first_assoc None y z = refl
+
+first_none : {A : Type 0} (x : Option A) → first_of x None ≡ x
+first_none (Some a) = refl
+first_none None = refl
+
+stop_both : (xs ys : List Entry) → stop_of (xs ++ ys) ≡ first_of (stop_of xs) (stop_of ys)
+stop_both [] ys = refl
+stop_both (x ∷ xs) ys = ap (λ o. first_of (stop_in x) o) (stop_both xs ys) ∙ first_assoc (stop_in x) (stop_of xs) (stop_of ys)
+
+-- what was fed, and why no more is, of a history with such entries
+pub bytes_quiet : (xs ys : List Entry) (c : Handing) → handed xs ≡ Some c → AreQuiet ys → bytes_fed (xs ++ ys) ≡ bytes_fed xs
+bytes_quiet xs ys c is quiet = ap (λ (l : List Entry). flat_map fed_by l) (since_more xs ys c is)
+    ∙ (flat_map-append fed_by (since xs) ys ∙ (ap (λ (l : List ℕ). flat_map fed_by (since xs) ++ l) (none_fed ys quiet) ∙ append-nil (flat_map fed_by (since xs))))
+
+pub stop_quiet : (xs ys : List Entry) → AreQuiet ys → stop_of (xs ++ ys) ≡ stop_of xs
+stop_quiet xs ys quiet = stop_both xs ys ∙ (ap (λ (o : Option Stop). first_of (stop_of xs) o) (none_stops ys quiet) ∙ first_none (stop_of xs))
+
+-- what a pass that fed last knows of feeding is so still
+pub record FeedsAlone {O : Type 0} (p q : Pass (Line O) Entry) : Type 0 where
+  pub feeding : IsFeeding q
+  pub bytes : bytes_fed (seen_by q) ≡ bytes_fed (seen_by p)
+  pub stop : stop_of (seen_by q) ≡ stop_of (seen_by p)
+
+pub alone : {O : Type 0} (taken : O → Option (List ℕ)) (faults : O → ℕ) (t : Turnstile (Line O) Entry) (p q : Pass (Line O) Entry) (y : Line O) → Lies (seen_by p) (mine_of p) → Gets (Stands taken faults) closes_of t p q → Stands taken faults y (seen_by q)
+    → IsFeeding p → FeedsAlone p q
+alone taken faults t p q y lies g st fe =
+    let xs = seen_by p in
+    let ys = g.3.0 in
+    let seen : seen_by q ≡ xs ++ ys = g.3.1 in
+    let stays = stays_open (Stands taken faults) closes_of t p q fe.last lies fe.is_open g in
+    let quiet : AreQuiet ys = no_link_after closes_of is_feeding xs ys fe.last (subst FeedsInOrder seen st.in_order) fe.is_last
+    (λ e i link closes. let (n, (is, at)) = at_after xs ys i.0 e i.1 in stays.1 n e (subst (λ (l : List Entry). get_elem? l n ≡ some e) (sym seen) at) closes) in
+    record {
+      feeding = record {
+        handing = fe.handing;
+        is_handed = subst (λ (l : List Entry). handed l ≡ Some fe.handing) (sym seen) (handed_more xs ys fe.handing fe.is_handed);
+        last = fe.last;
+        is_last = ap (λ (l : List Entry). last_feeding l) seen ∙ (last_same is_feeding xs ys quiet ∙ fe.is_last);
+        is_open = stays;
+      };
+      bytes = ap (λ (l : List Entry). bytes_fed l) seen ∙ bytes_quiet xs ys fe.handing fe.is_handed quiet;
+      stop = ap (λ (l : List Entry). stop_of l) seen ∙ stop_quiet xs ys quiet;
+    }
+
+-- ---- Writes leave all of this
+
+pub writes_quiet : (es : List Entry) → AreWrites es → AreQuiet es
+writes_quiet [] all = tt
+writes_quiet (entries.Wrote bytes ∷ es) all = (refl, writes_quiet es all)
+writes_quiet (entries.Cut ∷ es) all = (refl, writes_quiet es all)
+writes_quiet (entries.Handed handing ∷ es) all = absurd all
+writes_quiet (entries.Submit call form xid ∷ es) all = absurd all
+writes_quiet (entries.Fed bytes before ∷ es) all = absurd all
+writes_quiet (entries.Done xid outcome asked ∷ es) all = absurd all
+writes_quiet (entries.Lost xid asked ∷ es) all = absurd all
+writes_quiet (entries.Forget xid asked ∷ es) all = absurd all
+writes_quiet (entries.Revoke xid bytes asked ∷ es) all = absurd all
+writes_quiet (entries.Stopped cause before ∷ es) all = absurd all
+writes_quiet (entries.Out piece before ∷ es) all = absurd all
+
+pub writes_close : (es : List Entry) → AreWrites es → (i : ℕ) (e : Entry) → get_elem? es i ≡ some e → closes_of e ≡ None
+writes_close [] all i e at = absurd (some-ne-none e (sym at))
+writes_close (entries.Wrote bytes ∷ es) all zero e at = ap closes_of (sym (some-injective (entries.Wrote bytes) e at))
+writes_close (entries.Wrote bytes ∷ es) all (suc i) e at = writes_close es all i e at
+writes_close (entries.Cut ∷ es) all zero e at = ap closes_of (sym (some-injective entries.Cut e at))
+writes_close (entries.Cut ∷ es) all (suc i) e at = writes_close es all i e at
+writes_close (entries.Handed handing ∷ es) all i e at = absurd all
+writes_close (entries.Submit call form xid ∷ es) all i e at = absurd all
+writes_close (entries.Fed bytes before ∷ es) all i e at = absurd all
+writes_close (entries.Done xid outcome asked ∷ es) all i e at = absurd all
+writes_close (entries.Lost xid asked ∷ es) all i e at = absurd all
+writes_close (entries.Forget xid asked ∷ es) all i e at = absurd all
+writes_close (entries.Revoke xid bytes asked ∷ es) all i e at = absurd all
+writes_close (entries.Stopped cause before ∷ es) all i e at = absurd all
+writes_close (entries.Out piece before ∷ es) all i e at = absurd all
+
+-- an open place stays open
+pub open_writes : {O : Type 0} (p q : Pass (Line O) Entry) (k : ℕ) → Writes p q → IsOpen closes_of (seen_by p) (mine_of p) k → IsOpen closes_of (seen_by q) (mine_of q) k
+open_writes p q k w o = (
+  subst (IsIn k) (sym w.adds.mine) (in_more (mine_of p) w.adds.places k o.0),
+  λ n e at closes. ⊎_elim
+      (λ (old : get_elem? (seen_by p) n ≡ some e). o.1 n e old closes)
+      (λ (new : (i : ℕ) × (get_elem? w.es i ≡ some e)). none_some k (sym (writes_close w.es w.are new.0 e new.1) ∙ closes))
+      (at_either (seen_by p) w.es n e (subst (λ (l : List Entry). get_elem? l n ≡ some e) w.seen at)),
+)
+
+pub alone_writes : {O : Type 0} (p q : Pass (Line O) Entry) → Writes p q → IsFeeding p → FeedsAlone p q
+alone_writes p q w fe =
+    let xs = seen_by p in
+    let quiet = writes_quiet w.es w.are in
+    record {
+      feeding = record {
+        handing = fe.handing;
+        is_handed = subst (λ (l : List Entry). handed l ≡ Some fe.handing) (sym w.seen) (handed_more xs w.es fe.handing fe.is_handed);
+        last = fe.last;
+        is_last = ap (λ (l : List Entry). last_feeding l) w.seen ∙ (last_same is_feeding xs w.es quiet ∙ fe.is_last);
+        is_open = open_writes p q fe.last w fe.is_open;
+      };
+      bytes = ap (λ (l : List Entry). bytes_fed l) w.seen ∙ bytes_quiet xs w.es fe.handing fe.is_handed quiet;
+      stop = ap (λ (l : List Entry). stop_of l) w.seen ∙ stop_quiet xs w.es quiet;
+    }

@@ -1,0 +1,89 @@
+-- What is given back at the end.
+use Rattle.std.proofs.Common.{◌≡◌, ◌⊎◌, ⊎_elim, ℕ, ◌+◌, ◌<◌, arith, Bool, true, false, List, [], ◌∷◌, ◌++◌, length, length-append, Option, Some, None, refl, sym, ap, subst, ◌∙◌}
+use Rattle.std.specs.List.{AllByRecursion}
+use mathlib.Core.Option.{some, some-injective}
+use lib.ListN.{get_elem?}
+use Rattle.atomic_table.proofs.Lists.{at_longer}
+use Rattle.nr_outside.specs.Content.{HandsOut}
+use Rattle.nr_turnstile.specs.declared.turnstile.Pass.{Pass as TurnPass}
+use Rattle.nr_turnstile.specs.Rule.{Begins, Earlier, IsIn, Lies, Owns, in_order}
+use Rattle.nr_turnstile.specs.Passes.{Joins, mine_of, seen_by}
+use Rattle.nr_shared.specs.declared.entry.Entry.{Entry}
+use Rattle.nr_shared.specs.declared.entry.Handing.{Handing}
+use Rattle.nr_shared.specs.declared.entry.Stop.{Stop}
+use Rattle.nr_shared.specs.declared.feeder.Beside.{Beside}
+use Rattle.nr_shared.specs.declared.feeder.Feeder.{Feeder}
+use Rattle.nr_shared.specs.declared.line.Line.{Line}
+use Rattle.nr_shared.specs.declared.shared.Pass.{Pass}
+use Rattle.nr_shared.specs.Callers.{IsCaller, IsFeeding}
+use Rattle.nr_shared.specs.Feeding.{FeedsFor, StopHolds}
+use Rattle.nr_shared.specs.Histories.{FeedsInOrder, bytes_fed, closes_of, is_feeding, stop_of}
+use Rattle.nr_shared.specs.Opening.{GivesBack}
+use Rattle.nr_shared.specs.Standing.{Follows, Stands}
+use Rattle.nr_shared.proofs.Adding.{begins_then}
+use Rattle.nr_shared.proofs.Alone.{AreQuiet, bytes_quiet, stop_quiet}
+use Rattle.nr_shared.proofs.Chains.{no_link_after}
+use Rattle.nr_shared.proofs.Lists.{at_after, at_begin, in_ordered, still_ordered}
+use Rattle.nr_shared.proofs.Resting.{seen_one}
+
+true_false : true ≡ false → ⊥
+true_false e = absurd cc
+
+module _ {O : Type 0} where
+  -- After what the pass that feeds has seen the history has no entry that feeds: such an entry closes a place of this pass, so that it is an entry
+  -- of this pass, or of the caller's into which it was joined. It isn't the first, since it comes after what that pass has seen; and a
+  -- caller's entries don't feed.
+  after_feeding : (p f j : TurnPass (Line O) Entry) (h : List Entry) (b : Begins (seen_by f) h) → IsCaller p → (fe : IsFeeding f) → Lies (seen_by f) (mine_of f) → FeedsInOrder h
+      → Begins (seen_by p) (seen_by j) → mine_of j ≡ in_order (mine_of p) (mine_of f) → Begins (seen_by j) h → Owns closes_of h (mine_of j) → AreQuiet b.0
+  after_feeding p f j h b c fe lies chained first mine whole owns =
+      let xs = seen_by f in
+      let ys = b.0 in
+      let last_own : IsIn fe.last (mine_of j) = subst (IsIn fe.last) (sym mine) (still_ordered (mine_of p) (mine_of f) fe.last fe.is_open.0) in
+      let p_begins : Begins (seen_by p) h = begins_then (seen_by p) (seen_by j) h first whole in
+      no_link_after closes_of is_feeding xs ys fe.last (subst FeedsInOrder b.1 chained) fe.is_last
+      (λ e i link closes.
+      (let (n, (is, at)) = at_after xs ys i.0 e i.1 in
+      let there : get_elem? h n ≡ some e = subst (λ (l : List Entry). get_elem? l n ≡ some e) (sym b.1) at in
+      let own : IsIn n (mine_of j) = owns fe.last n e last_own there closes in
+      ⊎_elim
+      (λ (caller : IsIn n (mine_of p)).
+      (let here : get_elem? (seen_by p) n ≡ some e = at_begin (seen_by p) p_begins.0 n e (c.lies n caller) (subst (λ (l : List Entry). get_elem? l n ≡ some e) p_begins.1 there) in
+      true_false (sym link ∙ c.feeds_none n e caller here)))
+      (λ (feeds : IsIn n (mine_of f)). (let l = lies n feeds in omega (arith, l, is)))
+      (in_ordered (mine_of p) (mine_of f) n (subst (IsIn n) mine own))))
+
+-- a history that begins with one entry and has one has that entry
+pub same_beside : {A : Type 0} (b c : A) (p q : List A) → p ≡ b ∷ [] → q ≡ c ∷ [] → Begins p q → c ≡ b
+same_beside b c p q one two begins = some-injective c b (ap (λ l. get_elem? l 0) (sym two ∙ (seen_one p q b c one two begins ∙ one)))
+
+module _ {I O : Type 0} (left given : I → Option (List ℕ)) (source_faults : I → ℕ) (taken : O → Option (List ℕ)) (sink_faults : O → ℕ) where
+  pub gives_back : (p : Pass I O) (j : TurnPass (Line O) Entry) (s : Feeder I O) (m : Line O) (b b' : Beside I O) (h : List Entry) → IsCaller p.main → seen_by p.source ≡ b ∷ [] → b' ≡ b → FeedsFor left given source_faults b' s
+      → Joins closes_of p.main s.pass j → Stands taken sink_faults m h → Begins (seen_by j) h → ((n : ℕ) → IsIn n (mine_of j) → n < length h) → Owns closes_of h (mine_of j) → Earlier closes_of h
+      → GivesBack left given source_faults taken sink_faults p m.requester s.source m.sink
+  gives_back p j s m b b' h c one same f (longer_is, first, second, mine, rising, own, lies_j, missed) st whole inside owns earlier =
+      let begins : Begins (seen_by p.main) h = begins_then (seen_by p.main) (seen_by j) h first whole in
+      let fed : Begins (seen_by s.pass) h = begins_then (seen_by s.pass) (seen_by j) h second whole in
+      let quiet = after_feeding p.main s.pass j h fed c f.feeding f.lies st.in_order first mine whole owns in
+      let bytes : bytes_fed h ≡ bytes_fed (seen_by s.pass) = ap (λ (l : List Entry). bytes_fed l) fed.1 ∙ bytes_quiet (seen_by s.pass) fed.0 f.feeding.handing f.feeding.is_handed quiet in
+      let stop : stop_of h ≡ stop_of (seen_by s.pass) = ap (λ (l : List Entry). stop_of l) fed.1 ∙ stop_quiet (seen_by s.pass) fed.0 quiet in
+      let read : s.read ≡ length (bytes_fed h) = f.read ∙ ap length (sym bytes) in
+      record {
+        history = h;
+        begins = begins;
+        lies = λ k i. (let old = c.lies k i in let len = ap length begins.1 ∙ length-append (seen_by p.main) begins.0 in omega (arith, old, len));
+        earlier = earlier;
+        handing = st.handing;
+        is_handed = st.is_handed;
+        follows = subst (λ (o : Option Stop). Follows st.handing m.requester o h) st.stopped st.follows;
+        calls = st.calls;
+        took = st.took;
+        sink_count = st.never_falls;
+        cut = λ is. st.cut (st.is_cut ∙ is);
+        beside = b';
+        has_seen = one ∙ ap (λ (x : Beside I O). x ∷ []) (sym same);
+        placed = st.placed;
+        gave = subst (λ (l : List ℕ). HandsOut (left b'.source.value) (given b'.source.value) (left s.source) (given s.source) l) (sym bytes) f.gave;
+        source_count = f.never_falls;
+        stop = subst (λ (n : ℕ). StopHolds (stop_of h) (source_faults b'.source.value) (source_faults s.source) (left s.source) n) read
+            (subst (λ (o : Option Stop). StopHolds o (source_faults b'.source.value) (source_faults s.source) (left s.source) s.read) (sym stop) f.stop);
+      }

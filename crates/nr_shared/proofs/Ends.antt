@@ -1,0 +1,217 @@
+-- Why a call has no answer: what the value has says it of each history that it stands for.
+use Rattle.std.proofs.Common.{◌≡◌, ◌≢◌, ℕ, ◌<◌, ◌-◌, Bool, true, false, ltb, if◌then◌else◌, List, length, Option, Some, None, Result, Ok, Err, refl, sym, ap, subst, ◌∙◌, unwrap_or}
+use Rattle.std.specs.Prelude.{⊤, nat_le, nat_lt}
+use Rattle.std.proofs.lemmas.Bool.{lt-leb}
+use Rattle.nr_link.specs.declared.end.End.{End}
+use Rattle.nr_link.specs.declared.end.End.TheVariants as ends
+use Rattle.nr_reduce.specs.declared.call.Call.{Call}
+use Rattle.nr_reduce.specs.declared.call.Form.{Form}
+use Rattle.nr_reduce.specs.declared.call.Refused.{Refused}
+use Rattle.nr_reduce.specs.declared.call.Refused.TheVariants as refusals
+use Rattle.nr_reduce.specs.declared.call.Submission.{Submission}
+use Rattle.nr_reduce.specs.declared.call.Submission.TheVariants as submissions
+use Rattle.nr_reduce.specs.declared.outline.Plan.{Plan}
+use Rattle.nr_reduce.specs.Credits.{calls_outstanding, credits_granted}
+use Rattle.nr_reduce.specs.Limits.{numbers_end}
+use Rattle.nr_reduce.specs.Plans.{TooLarge, regions_needed}
+use Rattle.nr_reduce.specs.SubmitAnswer.{unless_spent}
+use Rattle.nr_requester.specs.RequesterState.{RequesterSide, RequesterState}
+use Rattle.nr_requester.specs.Answers.{answer_by_plan, answer_if, answer_of, plan_under}
+use Rattle.nr_requester.proofs.Accepting.{answers_as_client, counts_as_client}
+use Rattle.nr_shared.specs.declared.entry.Entry.{Entry}
+use Rattle.nr_shared.specs.declared.entry.Stop.{Stop}
+use Rattle.nr_shared.specs.declared.entry.Stop.TheVariants as causes
+use Rattle.nr_shared.specs.declared.entry.Handing.{Handing}
+use Rattle.nr_shared.specs.declared.line.Line.{Line}
+use Rattle.nr_shared.specs.Ending.{ClientEnded, ClientRefuses, HasCredit, HasEnded, IsRefused}
+use Rattle.nr_shared.specs.Histories.{FitsHanding, FitsHistory, handed, run_of, stop_of}
+use Rattle.nr_turnstile.specs.declared.turn.Turn.{Turn}
+use Rattle.nr_turnstile.specs.declared.turnstile.Pass.{Pass}
+use Rattle.nr_turnstile.specs.Rule.{longer}
+use Rattle.nr_turnstile.specs.Passes.{seen_by}
+use Rattle.nr_turnstile.specs.Turns.{pass_of}
+use Rattle.nr_shared.specs.Callers.{IsReady, KeepsLaw}
+use Rattle.nr_shared.specs.Sharing.{SaysCredit}
+use Rattle.nr_shared.specs.Standing.{is_out, Follows, FollowsIf, Stands}
+use Rattle.nr_reduce.specs.declared.mark.LinkParameters.{LinkParameters}
+
+-- ---- Ends
+
+true_false : true ≡ false → ⊥
+true_false e = absurd cc
+
+-- a link that fits the history was opened as its handing says
+fits_handing : (h : List Entry) (c : Handing) (opened : LinkParameters) → handed h ≡ Some c → FitsHistory h opened → FitsHanding c opened
+fits_handing h c opened is (d, has, fits) = subst (λ (x : Handing). FitsHanding x opened) (ap (λ (o : Option Handing). unwrap_or o c) (sym has ∙ is)) fits
+
+client_ended : (c : Handing) (r : RequesterSide) (h : List Entry) (end : End) → handed h ≡ Some c → FollowsIf false c r h → r.state.side.ended ≡ Some end → ClientEnded end h
+client_ended c r h end is follows ended opened link fits = let live = follows.1 opened link (fits_handing h c opened is fits) in sym live.stands.keeps.kept.keeps.ended ∙ ended
+
+-- the end of a requester that ran out of memory
+end_is : (end : End) (o : Option End) → o ≡ Some end → o ≡ Some ends.Memory → end ≡ ends.Memory
+end_is end o is memory = ap (λ (p : Option End). unwrap_or p end) (sym is ∙ memory)
+
+abbrev IsMemory : End → Type 0
+IsMemory ends.Memory = ⊤
+IsMemory end = ⊥
+
+out_is : (o : Option Stop) → is_out o ≡ true → o ≡ Some causes.Memory
+out_is None is = absurd cc
+out_is (Some causes.LinkRead) is = absurd cc
+out_is (Some causes.Closed) is = absurd cc
+out_is (Some causes.Budget) is = absurd cc
+out_is (Some causes.Memory) is = refl
+
+-- a requester that ended for another cause hasn't run out of memory
+pub not_out : (o : Option Stop) (c : Handing) (r : RequesterSide) (h : List Entry) (P : Type 0) → (r.state.side.ended ≡ Some ends.Memory → ⊥) → Follows c r o h → (FollowsIf false c r h → P) → P
+not_out o c r h P other follows next = by_out (is_out o) follows where
+  by_out : (b : Bool) → FollowsIf b c r h → P
+  by_out false f = next f
+  by_out true f = absurd (other f.0)
+
+other_end : (r : RequesterSide) (end : End) → r.state.side.ended ≡ Some end → (IsMemory end → ⊥) → r.state.side.ended ≡ Some ends.Memory → ⊥
+other_end r end is other memory = other (subst IsMemory (sym (end_is end r.state.side.ended is memory)) tt)
+
+module _ {O : Type 0} (taken : O → Option (List ℕ)) (faults : O → ℕ) where
+  memory_ended : (m : Line O) (h : List Entry) → Stands taken faults m h → m.requester.state.side.ended ≡ Some ends.Memory → stop_of h ≡ Some causes.Memory
+  memory_ended m h st is = sym st.stopped ∙ by_out (is_out m.stopped) refl where
+    by_out : (b : Bool) → is_out m.stopped ≡ b → m.stopped ≡ Some causes.Memory
+    by_out true out = out_is m.stopped out
+    by_out false out = absurd ((subst (λ b. FollowsIf b st.handing m.requester h) out st.follows).0 is)
+
+  other_ended : (m : Line O) (h : List Entry) (end : End) → Stands taken faults m h → (IsMemory end → ⊥) → m.requester.state.side.ended ≡ Some end → ClientEnded end h
+  other_ended m h end st other is = not_out m.stopped st.handing m.requester h (ClientEnded end h) (other_end m.requester end is other) st.follows (λ f. client_ended st.handing m.requester h end st.is_handed f is)
+
+  -- the requester has ended so
+  pub ended_is : (m : Line O) (h : List Entry) (end : End) → Stands taken faults m h → m.requester.state.side.ended ≡ Some end → HasEnded end h
+  ended_is m h ends.Memory st is = memory_ended m h st is
+  ended_is m h (ends.Bad at reason) st is = other_ended m h (ends.Bad at reason) st (λ no. no) is
+  ended_is m h (ends.Denied stag to why) st is = other_ended m h (ends.Denied stag to why) st (λ no. no) is
+  ended_is m h (ends.NoBuffer at) st is = other_ended m h (ends.NoBuffer at) st (λ no. no) is
+  ended_is m h (ends.Terminated reason) st is = other_ended m h (ends.Terminated reason) st (λ no. no) is
+
+-- ---- Refusals
+
+abbrev end_in_refused : Refused → Option End
+end_in_refused (refusals.Ended end) = Some end
+end_in_refused why = None
+
+abbrev end_in : Submission → Option End
+end_in (submissions.Refused why) = end_in_refused why
+end_in answer = None
+
+-- an answer that isn't for want of a credit
+abbrev Credited : Submission → Type 0
+Credited (submissions.Refused why) = HasCredit why
+Credited answer = ⊤
+
+unless : (P : Submission → Type 0) (b : Bool) (x y : Submission) → P x → P y → P (if b then x else y)
+unless P true x y px py = px
+unless P false x y px py = py
+
+passes : (P : Submission → Type 0) (b : Bool) (x y : Submission) → b ≡ false → P y → P (if b then x else y)
+passes P true x y never py = absurd (true_false never)
+passes P false x y never py = py
+
+abbrev numbered : RequesterState → Plan → Submission
+numbered r plan = unless_spent (numbers_end - r.next_xid) 1 (unless_spent (numbers_end - r.side.memory.next) (regions_needed plan) (submissions.Accepted r.next_xid))
+
+if_numbered : (P : Submission → Type 0) (r : RequesterState) (plan : Plan) → ((left need : ℕ) → P (submissions.Refused (refusals.Spent left need))) → P (submissions.Accepted r.next_xid) → P (numbered r plan)
+if_numbered P r plan spent accepted =
+    unless P (nat_lt (numbers_end - r.next_xid) 1) (submissions.Refused (refusals.Spent (numbers_end - r.next_xid) 1))
+    (unless_spent (numbers_end - r.side.memory.next) (regions_needed plan) (submissions.Accepted r.next_xid)) (spent (numbers_end - r.next_xid) 1)
+    (unless P (nat_lt (numbers_end - r.side.memory.next) (regions_needed plan)) (submissions.Refused (refusals.Spent (numbers_end - r.side.memory.next) (regions_needed plan)))
+    (submissions.Accepted r.next_xid) (spent (numbers_end - r.side.memory.next) (regions_needed plan)) accepted)
+
+no_end : (r : RequesterState) (p : Result Plan TooLarge) → end_in (answer_by_plan r p) ≡ None
+no_end r (Err large) = refl
+no_end r (Ok plan) = unless (λ (s : Submission). end_in s ≡ None) (nat_le r.grant (length r.outstanding)) (submissions.Refused (refusals.NoCredit (length r.outstanding) r.grant)) (numbered r plan) refl
+    (if_numbered (λ (s : Submission). end_in s ≡ None) r plan (λ left need. refl) refl)
+
+has_end : (r : RequesterState) (call : Call) (form : Form) (end : Option End) → end_in (answer_if r call form end) ≡ end
+has_end r call form (Some end) = refl
+has_end r call form None = no_end r (plan_under r call form)
+
+answers_end : (r : RequesterState) (call : Call) (form : Form) → end_in (answer_of r call form) ≡ r.side.ended
+unfolding answer_of
+answers_end r call form = has_end r call form r.side.ended
+
+credited_by_plan : (r : RequesterState) (p : Result Plan TooLarge) → length r.outstanding < r.grant → Credited (answer_by_plan r p)
+credited_by_plan r (Err large) credit = tt
+credited_by_plan r (Ok plan) credit = passes Credited (nat_le r.grant (length r.outstanding)) (submissions.Refused (refusals.NoCredit (length r.outstanding) r.grant)) (numbered r plan)
+    (lt-leb r.grant (length r.outstanding) credit) (if_numbered Credited r plan (λ left need. tt) tt)
+
+credited_if : (r : RequesterState) (call : Call) (form : Form) (end : Option End) → length r.outstanding < r.grant → Credited (answer_if r call form end)
+credited_if r call form (Some end) credit = tt
+credited_if r call form None credit = credited_by_plan r (plan_under r call form) credit
+
+credited : (r : RequesterState) (call : Call) (form : Form) → length r.outstanding < r.grant → Credited (answer_of r call form)
+unfolding answer_of
+credited r call form credit = credited_if r call form r.side.ended credit
+
+abbrev NotMemory : Refused → Type 0
+NotMemory refusals.Memory = ⊥
+NotMemory why = ⊤
+
+abbrev pub SaysSo : RequesterState → Call → Form → Refused → Type 0
+SaysSo r call form why = why ≢ refusals.Memory → answer_of r call form ≡ submissions.Refused why
+
+said : (r : RequesterState) (call : Call) (form : Form) (why : Refused) → NotMemory why → SaysSo r call form why → answer_of r call form ≡ submissions.Refused why
+said r call form why other says = says (λ same. subst NotMemory same other)
+
+-- a call isn't refused for want of a credit while one is left
+pub credit_left : (r : RequesterState) (call : Call) (form : Form) (why : Refused) → length r.outstanding < r.grant → SaysSo r call form why → HasCredit why
+credit_left r call form refusals.Memory credit says = tt
+credit_left r call form (refusals.Ended end) credit says = tt
+credit_left r call form (refusals.TooLarge need room) credit says = tt
+credit_left r call form (refusals.Spent left need) credit says = tt
+credit_left r call form (refusals.NoCredit out grant) credit says = subst Credited (said r call form (refusals.NoCredit out grant) tt says) (credited r call form credit)
+
+none_memory : None ≡ Some ends.Memory → ⊥
+none_memory e = absurd cc
+
+module _ {O : Type 0} (taken : O → Option (List ℕ)) (faults : O → ℕ) where
+  client_refuses : (m : Line O) (h : List Entry) (call : Call) (form : Form) (why : Refused) → Stands taken faults m h → end_in_refused why ≡ None → NotMemory why → SaysSo m.requester.state call form why → ClientRefuses why call form h
+  client_refuses m h call form why st no_end other says =
+      let is = said m.requester.state call form why other says in
+      let live : m.requester.state.side.ended ≡ None = sym (answers_end m.requester.state call form) ∙ (ap end_in is ∙ no_end) in
+      not_out m.stopped st.handing m.requester h (ClientRefuses why call form h) (λ memory. none_memory (sym live ∙ memory)) st.follows
+      (λ f opened link fits. (let l = f.1 opened link (fits_handing h st.handing opened st.is_handed fits) in
+      sym (answers_as_client opened link m.requester (run_of 0 link h) call form l.stands) ∙ is))
+
+  -- what the requester says of a call that it refuses is said of the history
+  pub refused_is : (m : Line O) (h : List Entry) (call : Call) (form : Form) (why : Refused) → Stands taken faults m h → SaysSo m.requester.state call form why → IsRefused why call form h
+  refused_is m h call form refusals.Memory st says = tt
+  refused_is m h call form (refusals.Ended end) st says =
+      ended_is taken faults m h end st (sym (answers_end m.requester.state call form) ∙ ap end_in (said m.requester.state call form (refusals.Ended end) tt says))
+  refused_is m h call form (refusals.TooLarge need room) st says = client_refuses m h call form (refusals.TooLarge need room) st refl tt says
+  refused_is m h call form (refusals.NoCredit out grant) st says = client_refuses m h call form (refusals.NoCredit out grant) st refl tt says
+  refused_is m h call form (refusals.Spent left need) st says = client_refuses m h call form (refusals.Spent left need) st refl tt says
+
+  -- whether a credit is left
+  pub says_credit : (m : Line O) (h : List Entry) → Stands taken faults m h → SaysCredit (nat_lt (length m.requester.state.outstanding) m.requester.state.grant) h
+  says_credit m h st other opened link fits = by_out (is_out m.stopped) refl where
+    by_out : (b : Bool) → is_out m.stopped ≡ b → nat_lt (length m.requester.state.outstanding) m.requester.state.grant ≡ nat_lt (calls_outstanding opened link (run_of 0 link h)) (credits_granted opened link (run_of 0 link h))
+    by_out true out = absurd (other (sym st.stopped ∙ out_is m.stopped out))
+    by_out false out =
+        let f = subst (λ b. FollowsIf b st.handing m.requester h) out st.follows in
+        let l = f.1 opened link (fits_handing h st.handing opened st.is_handed fits) in
+        let counts = counts_as_client opened link m.requester (run_of 0 link h) l.stands in
+        ap (λ (n : ℕ). nat_lt n m.requester.state.grant) counts.0 ∙ ap (λ (n : ℕ). nat_lt (calls_outstanding opened link (run_of 0 link h)) n) counts.1
+
+  -- the history keeps the law
+  pub law_of : (m : Line O) (h : List Entry) → Stands taken faults m h → KeepsLaw h
+  law_of m h st = by_out (is_out m.stopped) st.follows where
+    by_out : (b : Bool) → FollowsIf b st.handing m.requester h → KeepsLaw h
+    by_out false f = record { n = 0; law = λ opened link fits. (let l = f.1 opened link (fits_handing h st.handing opened st.is_handed fits) in (l.asked, l.granted)) }
+    by_out true f = record { n = f.1.0; law = λ opened link fits. (let l = f.1.1 opened link (fits_handing h st.handing opened st.is_handed fits) in (l.asked, l.granted)) }
+
+  -- told of the pass after its turn
+  pub law_put_back : (t : Turn (Line O) Entry) (s : Pass (Line O) Entry) → IsReady taken faults t → seen_by s ≡ seen_by (pass_of t) → KeepsLaw (seen_by s)
+  law_put_back t s r seen = subst KeepsLaw (sym seen) (law_of r.value (seen_by (pass_of t)) r.stands)
+
+pub law_joined : (xs ys zs : List Entry) → zs ≡ longer xs ys → KeepsLaw xs → KeepsLaw ys → KeepsLaw zs
+law_joined xs ys zs is one two = subst KeepsLaw (sym is) (by_len (ltb (length xs) (length ys))) where
+  by_len : (b : Bool) → KeepsLaw (if b then ys else xs)
+  by_len true = two
+  by_len false = one

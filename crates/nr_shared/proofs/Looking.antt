@@ -1,0 +1,77 @@
+-- What is found under a turn, told of the pass before and after it.
+use Rattle.std.proofs.Common.{◌≡◌, ◌≢◌, ℕ, List, [], ◌∷◌, ◌++◌, Some, refl, sym, ap, subst, ◌∙◌}
+use Rattle.nr_turnstile.specs.declared.turnstile.Pass.{Pass}
+use Rattle.nr_turnstile.specs.Rule.{Begins, IsOpen, Lies}
+use Rattle.nr_turnstile.specs.Passes.{seen_by, mine_of}
+use Rattle.nr_reduce.specs.declared.call.Call.{Call}
+use Rattle.nr_requester.specs.declared.taking.Done.{Done}
+use Rattle.nr_shared.specs.declared.call_end.CallEnd.{CallEnd}
+use Rattle.nr_shared.specs.declared.finding.Look.{Look}
+use Rattle.nr_shared.specs.declared.finding.Look.TheVariants as looks
+use Rattle.nr_shared.specs.declared.entry.Entry.{Entry}
+use Rattle.nr_shared.specs.declared.entry.Entry.TheVariants as entries
+use Rattle.nr_shared.specs.declared.line.Line.{Line}
+use Rattle.nr_shared.specs.Adding.{Adds}
+use Rattle.nr_shared.specs.Callers.{IsAsked, IsCaller, KeepsOpen, KeepsOthers}
+use Rattle.nr_shared.specs.Histories.{closes_of, IsAskedAt}
+use Rattle.nr_shared.specs.Waiting.{ForgetsAt, ForgetsCall, GivesUp, GivesUpAt, LooksUp, TakesAnswer, TakesAt}
+use Rattle.nr_shared.proofs.Adding.{adds_both, adds_same}
+use Rattle.nr_shared.proofs.Asking.{asked_on, closes_own}
+use Rattle.nr_shared.proofs.Resting.{caller_on}
+
+module _ {O : Type 0} where
+  pub asked_same : (r s : Pass (Line O) Entry) (xid : ℕ) → seen_by s ≡ seen_by r → mine_of s ≡ mine_of r → IsAsked r xid → IsAsked s xid
+  asked_same r s xid seen mine a = record {
+    at = a.at;
+    call = a.call;
+    asked = subst (λ (l : List Entry). IsAskedAt l xid a.at a.call) (sym seen) a.asked;
+    stays = subst (λ (l : List Entry). IsOpen closes_of l (mine_of s) a.at) (sym seen) (subst (λ (m : List ℕ). IsOpen closes_of (seen_by r) m a.at) (sym mine) a.stays);
+    lies = subst (λ (l : List Entry). Lies l (mine_of s)) (sym seen) (subst (λ (m : List ℕ). Lies (seen_by r) m) (sym mine) a.lies);
+  }
+
+  pub keeps_same : (r s : Pass (Line O) Entry) → seen_by s ≡ seen_by r → mine_of s ≡ mine_of r → KeepsOpen r s
+  keeps_same r s seen mine k o = subst (λ (l : List Entry). IsOpen closes_of l (mine_of s) k) (sym seen) (subst (λ (m : List ℕ). IsOpen closes_of (seen_by r) m k) (sym mine) o)
+
+  -- a call of the pass's own, after turns that kept its place open
+  pub still_asked : (p q : Pass (Line O) Entry) (xid : ℕ) → Begins (seen_by p) (seen_by q) → KeepsOpen p q → Lies (seen_by q) (mine_of q) → IsAsked p xid → IsAsked q xid
+  still_asked p q xid begins keeps lies a = record { at = a.at; call = a.call; asked = asked_on (seen_by p) (seen_by q) xid a.at a.call begins a.asked; stays = keeps a.at a.stays; lies = lies }
+
+  others_after : (p q r s : Pass (Line O) Entry) (c : ℕ) → KeepsOpen p q → KeepsOthers c q r → seen_by s ≡ seen_by r → mine_of s ≡ mine_of r → KeepsOthers c p s
+  others_after p q r s c a b seen mine k differs o = keeps_same r s seen mine k (b k differs (a k o))
+
+  pub takes_after : (p q r s : Pass (Line O) Entry) (xid : ℕ) (done : Done) → Adds p q [] → KeepsOpen p q → TakesAnswer q r xid done → seen_by s ≡ seen_by r → mine_of s ≡ mine_of r → TakesAnswer p s xid done
+  takes_after p q r s xid done a keeps b seen mine k call asked o =
+      let t = b k call (asked_on (seen_by p) (seen_by q) xid k call a.seen asked) (keeps k o) in
+      record { own = t.own; adds = adds_same p r s (entries.Done xid done.outcome k ∷ []) (adds_both p q r [] (entries.Done xid done.outcome k ∷ []) a t.adds) seen mine; keeps = others_after p q r s k keeps t.keeps seen mine }
+
+  pub forgets_after : (p q r s : Pass (Line O) Entry) (xid : ℕ) → Adds p q [] → KeepsOpen p q → ForgetsCall q r xid → seen_by s ≡ seen_by r → mine_of s ≡ mine_of r → ForgetsCall p s xid
+  forgets_after p q r s xid a keeps b seen mine k call asked o =
+      let t = b k call (asked_on (seen_by p) (seen_by q) xid k call a.seen asked) (keeps k o) in
+      record { adds = adds_same p r s (entries.Forget xid k ∷ []) (adds_both p q r [] (entries.Forget xid k ∷ []) a t.adds) seen mine; keeps = others_after p q r s k keeps t.keeps seen mine }
+
+  pub gives_after : (p q r s : Pass (Line O) Entry) (xid : ℕ) (end : CallEnd) → Adds p q [] → KeepsOpen p q → GivesUp q r xid end → seen_by s ≡ seen_by r → mine_of s ≡ mine_of r → GivesUp p s xid end
+  gives_after p q r s xid end a keeps b seen mine k call asked o =
+      let t = b k call (asked_on (seen_by p) (seen_by q) xid k call a.seen asked) (keeps k o) in
+      record {
+        adds = adds_same p r s (entries.Forget xid k ∷ []) (adds_both p q r [] (entries.Forget xid k ∷ []) a t.adds) seen mine;
+        keeps = others_after p q r s k keeps t.keeps seen mine;
+        before = t.before;
+        seen = seen ∙ t.seen;
+        ended = t.ended;
+      }
+
+  pub looks_after : (p q r s : Pass (Line O) Entry) (xid : ℕ) (look : Look) → Adds p q [] → KeepsOpen p q → LooksUp q r xid look → seen_by s ≡ seen_by r → mine_of s ≡ mine_of r → LooksUp p s xid look
+  looks_after p q r s xid (looks.Answered done) a keeps b seen mine = takes_after p q r s xid done a keeps b seen mine
+  looks_after p q r s xid (looks.NotYet ticket) a keeps (is, (b, kept)) seen mine = (is, (adds_same p r s [] (adds_both p q r [] [] a b) seen mine, λ k o. keeps_same r s seen mine k (kept k (keeps k o))))
+  looks_after p q r s xid (looks.Ends end) a keeps b seen mine = gives_after p q r s xid end a keeps b seen mine
+
+  -- ---- Callers
+
+  pub caller_takes : (p q : Pass (Line O) Entry) (xid : ℕ) (done : Done) → IsCaller p → IsAsked p xid → TakesAnswer p q xid done → IsCaller q
+  caller_takes p q xid done c a t = caller_on p q (entries.Done xid done.outcome a.at ∷ []) c (t a.at a.call a.asked a.stays).adds ((refl, λ k is. closes_own (mine_of p) a.at a.stays.0 k is), tt)
+
+  pub caller_gives : (p q : Pass (Line O) Entry) (xid : ℕ) (end : CallEnd) → IsCaller p → IsAsked p xid → GivesUp p q xid end → IsCaller q
+  caller_gives p q xid end c a t = caller_on p q (entries.Forget xid a.at ∷ []) c (t a.at a.call a.asked a.stays).adds ((refl, λ k is. closes_own (mine_of p) a.at a.stays.0 k is), tt)
+
+  pub caller_forgets : (p q : Pass (Line O) Entry) (xid : ℕ) → IsCaller p → IsAsked p xid → ForgetsCall p q xid → IsCaller q
+  caller_forgets p q xid c a t = caller_on p q (entries.Forget xid a.at ∷ []) c (t a.at a.call a.asked a.stays).adds ((refl, λ k is. closes_own (mine_of p) a.at a.stays.0 k is), tt)

@@ -1,0 +1,13 @@
+pub mod Chains
+pub mod Adding
+pub mod Histories
+pub mod Marks
+pub mod Standing
+pub mod Callers
+pub mod Feeding
+pub mod Sharing
+pub mod Waiting
+pub mod Draining
+pub mod Ending
+pub mod Opening
+pub mod private

@@ -1,0 +1,52 @@
+-- What callers of a shared requester know.
+use Rattle.std.specs.Prelude.{◌≡◌, ◌≢◌, ℕ, Bool, nat_lt, List, [], ◌∷◌, Some}
+use Rattle.nr_reduce.specs.declared.call.Call.{Call}
+use Rattle.nr_reduce.specs.declared.call.Form.{Form}
+use Rattle.nr_reduce.specs.declared.mark.LinkParameters.{LinkParameters}
+use Rattle.nr_reduce.specs.Credits.{calls_outstanding, credits_granted}
+use Rattle.nr_requester.specs.Buffers.{bytes_of_buffers}
+use Rattle.nr_turnstile.specs.Passes.{Rests, Misses, home_of, id_of, seen_by}
+use Rattle.nr_shared.specs.declared.entry.Entry.{Entry}
+use Rattle.nr_shared.specs.declared.entry.Entry.TheVariants as entries
+use Rattle.nr_shared.specs.declared.entry.Stop.TheVariants as causes
+use Rattle.nr_shared.specs.declared.feeder.Beside.{Beside}
+use Rattle.nr_shared.specs.declared.shared.SharedRequester.{SharedRequester}
+use Rattle.nr_shared.specs.declared.shared.Pass.{Pass}
+use Rattle.nr_shared.specs.declared.shared.TrySubmit.{TrySubmit}
+use Rattle.nr_shared.specs.declared.shared.TrySubmit.TheVariants as submits
+use Rattle.nr_shared.specs.declared.shared.TryRevoke.{TryRevoke}
+use Rattle.nr_shared.specs.declared.shared.TryRevoke.TheVariants as revokes
+use Rattle.nr_shared.specs.Histories.{FitsHistory, run_of, stop_of}
+use Rattle.nr_shared.specs.Adding.{Adds}
+use Rattle.nr_shared.specs.Callers.{IsAsked, IsCaller, KeepsLaw, KeepsOpen, KeepsOthers}
+use Rattle.nr_shared.specs.Ending.{IsRefused}
+use Rattle.nr_shared.specs.Waiting.{AtCall}
+
+-- whether a credit is left, by the run of a history at which memory didn't run out
+abbrev pub SaysCredit : Bool → List Entry → Type 0
+SaysCredit has history = stop_of history ≢ Some causes.Memory → (opened : LinkParameters) (link : ℕ) → FitsHistory history opened →
+    has ≡ nat_lt (calls_outstanding opened link (run_of 0 link history)) (credits_granted opened link (run_of 0 link history))
+
+module _ {I O : Type 0} where
+  -- The pass is a caller's, of this shared requester, and outside of both turns. Its source stands beside this requester. What it has seen keeps
+  -- the law of a client.
+  pub record SharedRests (s : SharedRequester I O) (p : Pass I O) : Type 0 where
+    pub main : Rests s.main p.main
+    pub source : Rests s.source p.source
+    pub beside : Beside I O
+    pub has_seen : seen_by p.source ≡ beside ∷ []
+    pub home : home_of beside.pass.value ≡ id_of s.main
+    pub caller : IsCaller p.main
+    pub law : KeepsLaw (seen_by p.main)
+
+  -- One requester call under one turn, or the turn was taken and all comes back.
+  abbrev pub TrySubmits : Pass I O → Pass I O → Call → Form → TrySubmit → Type 0
+  TrySubmits p q call form (submits.Submitted xid) = Adds p.main q.main (entries.Submit call form xid ∷ []) × (IsAsked q.main xid × KeepsOpen p.main q.main)
+  TrySubmits p q call form (submits.Refused c why) = Adds p.main q.main [] × (KeepsOpen p.main q.main × ((c ≡ call) × IsRefused why call form (seen_by q.main)))
+  TrySubmits p q call form (submits.Busy c f) = Misses p.main q.main × ((c ≡ call) × (f ≡ form))
+
+  -- the same of a revoke: the Revoke closes the place of the call, which comes back
+  abbrev pub TryRevokes : Pass I O → Pass I O → (xid : ℕ) → TryRevoke → Type 0
+  TryRevokes p q xid (revokes.Revoked call buffers) =
+      AtCall p.main xid (λ k asked. (call ≡ asked) × (Adds p.main q.main (entries.Revoke xid (bytes_of_buffers buffers) k ∷ []) × KeepsOthers k p.main q.main))
+  TryRevokes p q xid (revokes.Busy ticket) = Misses p.main q.main × (ticket ≡ xid)

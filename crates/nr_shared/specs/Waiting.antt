@@ -1,0 +1,142 @@
+-- What a caller that waits for an answer finds and adds.
+use Rattle.std.specs.Prelude.{◌≡◌, ◌≤◌, ◌⊎◌, ℕ, List, [], ◌∷◌, ◌++◌, length, Result, Ok, Err}
+use mathlib.Core.Option.{some}
+use lib.ListN.{get_elem?}
+use Rattle.nr_reduce.specs.declared.call.Call.{Call}
+use Rattle.nr_reduce.specs.declared.call.Form.{Form}
+use Rattle.nr_requester.specs.declared.taking.Done.{Done}
+use Rattle.nr_turnstile.specs.declared.turnstile.Pass.{Pass}
+use Rattle.nr_turnstile.specs.Rule.{IsIn, IsOpen}
+use Rattle.nr_turnstile.specs.Passes.{mine_of, seen_by}
+use Rattle.nr_shared.specs.Histories.{IsAskedAt, closes_of}
+use Rattle.nr_shared.specs.declared.call_end.CallEnd.{CallEnd}
+use Rattle.nr_shared.specs.declared.finding.Look.{Look}
+use Rattle.nr_shared.specs.declared.finding.Look.TheVariants as looks
+use Rattle.nr_shared.specs.declared.finding.Attempt.{Attempt}
+use Rattle.nr_shared.specs.declared.finding.Attempt.TheVariants as attempts
+use Rattle.nr_shared.specs.declared.entry.Entry.{Entry}
+use Rattle.nr_shared.specs.declared.entry.Entry.TheVariants as entries
+use Rattle.nr_shared.specs.declared.line.Line.{Line}
+use Rattle.nr_shared.specs.Adding.{Adds}
+use Rattle.nr_shared.specs.Callers.{KeepsOpen, KeepsOthers}
+use Rattle.nr_shared.specs.Draining.{AreWrites}
+use Rattle.nr_shared.specs.Ending.{IsCause, LinkEnded}
+
+module _ {O : Type 0} where
+  -- the outcome of the call that stands at this place is handed over
+  pub record TakesAt (p q : Pass (Line O) Entry) (xid k : ℕ) (call : Call) (done : Done) : Type 0 where
+    pub own : done.call ≡ call
+    pub adds : Adds p q (entries.Done xid done.outcome k ∷ [])
+    pub keeps : KeepsOthers k p q
+
+  -- the call that stands at this place is forgotten
+  pub record ForgetsAt (p q : Pass (Line O) Entry) (xid k : ℕ) : Type 0 where
+    pub adds : Adds p q (entries.Forget xid k ∷ [])
+    pub keeps : KeepsOthers k p q
+
+  -- the same, since the link had ended so by the history before
+  pub record GivesUpAt (p q : Pass (Line O) Entry) (xid k : ℕ) (end : CallEnd) : Type 0 where
+    pub adds : Adds p q (entries.Forget xid k ∷ [])
+    pub keeps : KeepsOthers k p q
+    pub before : List Entry
+    pub seen : seen_by q ≡ before ++ entries.Forget xid k ∷ []
+    pub ended : LinkEnded end before
+
+  -- such is so of the place at which a call of this xid stands, open and the pass's own
+  abbrev pub AtCall : Pass (Line O) Entry → ℕ → (ℕ → Call → Type 0) → Type 0
+  AtCall p xid Says = (k : ℕ) (call : Call) → IsAskedAt (seen_by p) xid k call → IsOpen closes_of (seen_by p) (mine_of p) k → Says k call
+
+  abbrev pub TakesAnswer : Pass (Line O) Entry → Pass (Line O) Entry → ℕ → Done → Type 0
+  TakesAnswer p q xid done = AtCall p xid (λ k call. TakesAt p q xid k call done)
+
+  abbrev pub ForgetsCall : Pass (Line O) Entry → Pass (Line O) Entry → ℕ → Type 0
+  ForgetsCall p q xid = AtCall p xid (λ k call. ForgetsAt p q xid k)
+
+  abbrev pub GivesUp : Pass (Line O) Entry → Pass (Line O) Entry → ℕ → CallEnd → Type 0
+  GivesUp p q xid end = AtCall p xid (λ k call. GivesUpAt p q xid k end)
+
+  -- The answer is handed over; or it isn't there, and nothing is added; or none comes, and the call is forgotten.
+  abbrev pub LooksUp : Pass (Line O) Entry → Pass (Line O) Entry → ℕ → Look → Type 0
+  LooksUp p q xid (looks.Answered done) = TakesAnswer p q xid done
+  LooksUp p q xid (looks.NotYet ticket) = (ticket ≡ xid) × (Adds p q [] × KeepsOpen p q)
+  LooksUp p q xid (looks.Ends end) = GivesUp p q xid end
+
+  -- the same, with all turns that it took
+  abbrev pub Waits : Pass (Line O) Entry → Pass (Line O) Entry → ℕ → Result Done CallEnd → Type 0
+  Waits p q xid (Ok done) = TakesAnswer p q xid done
+  Waits p q xid (Err end) = GivesUp p q xid end
+
+  -- The call is submitted. Before that and after it bytes are written.
+  pub record Sends (p q : Pass (Line O) Entry) (call : Call) (form : Form) (xid : ℕ) : Type 0 where
+    pub waits : List Entry
+    pub are_waits : AreWrites waits
+    pub moved : List Entry
+    pub are_moved : AreWrites moved
+    pub adds : Adds p q (waits ++ entries.Submit call form xid ∷ moved)
+    pub keeps : KeepsOpen p q
+    pub at : ℕ
+    pub stands : get_elem? (seen_by q) at ≡ some (entries.Submit call form xid)
+    pub new : length (seen_by p) ≤ at
+    pub opened : IsOpen closes_of (seen_by q) (mine_of q) at
+
+  -- the call is not submitted, since the history says so; bytes are written
+  pub record SendsNone (p q : Pass (Line O) Entry) (call : Call) (form : Form) (end : CallEnd) : Type 0 where
+    pub waits : List Entry
+    pub are_waits : AreWrites waits
+    pub adds : Adds p q waits
+    pub keeps : KeepsOpen p q
+    pub cause : IsCause end call form (seen_by q)
+
+  -- no credit is left, and the call comes back; bytes are written
+  pub record LacksCredit (p q : Pass (Line O) Entry) (call c : Call) (form f : Form) : Type 0 where
+    pub waits : List Entry
+    pub are_waits : AreWrites waits
+    pub adds : Adds p q waits
+    pub keeps : KeepsOpen p q
+    pub same_call : c ≡ call
+    pub same_form : f ≡ form
+
+  abbrev pub Attempts : Pass (Line O) Entry → Pass (Line O) Entry → Call → Form → Attempt → Type 0
+  Attempts p q call form (attempts.Sent xid) = Sends p q call form xid
+  Attempts p q call form (attempts.Waits c f) = LacksCredit p q call c form f
+  Attempts p q call form (attempts.Ends end) = SendsNone p q call form end
+
+  abbrev pub Submits : Pass (Line O) Entry → Pass (Line O) Entry → Call → Form → Result ℕ CallEnd → Type 0
+  Submits p q call form (Ok xid) = Sends p q call form xid
+  Submits p q call form (Err end) = SendsNone p q call form end
+
+  -- The call has its own answer: a Submit of it, and the Done that closes the Submit's place, with bytes that are written before and between.
+  pub record OwnAnswer (p q : Pass (Line O) Entry) (asked : Call) (form : Form) (done : Done) : Type 0 where
+    pub waits : List Entry
+    pub are_waits : AreWrites waits
+    pub moved : List Entry
+    pub are_moved : AreWrites moved
+    pub xid : ℕ
+    pub at : ℕ
+    pub stands : get_elem? (seen_by q) at ≡ some (entries.Submit asked form xid)
+    pub adds : Adds p q ((waits ++ entries.Submit asked form xid ∷ moved) ++ entries.Done xid done.outcome at ∷ [])
+    pub new : length (seen_by p) ≤ at
+    pub own : IsIn at (mine_of q)
+    pub keeps : KeepsOpen p q
+    pub call : done.call ≡ asked
+
+  -- The call was submitted and forgotten, since the link had ended so by the history before.
+  pub record NoAnswer (p q : Pass (Line O) Entry) (call : Call) (form : Form) (end : CallEnd) : Type 0 where
+    pub waits : List Entry
+    pub are_waits : AreWrites waits
+    pub moved : List Entry
+    pub are_moved : AreWrites moved
+    pub xid : ℕ
+    pub at : ℕ
+    pub stands : get_elem? (seen_by q) at ≡ some (entries.Submit call form xid)
+    pub adds : Adds p q ((waits ++ entries.Submit call form xid ∷ moved) ++ entries.Forget xid at ∷ [])
+    pub new : length (seen_by p) ≤ at
+    pub own : IsIn at (mine_of q)
+    pub keeps : KeepsOpen p q
+    pub before : List Entry
+    pub seen : seen_by q ≡ before ++ entries.Forget xid at ∷ []
+    pub ended : LinkEnded end before
+
+  abbrev pub Calls : Pass (Line O) Entry → Pass (Line O) Entry → Call → Form → Result Done CallEnd → Type 0
+  Calls p q call form (Ok done) = OwnAnswer p q call form done
+  Calls p q call form (Err end) = SendsNone p q call form end ⊎ NoAnswer p q call form end

@@ -1,0 +1,189 @@
+//! Calls, each of which waits for its own answer.
+
+ghost use Rattle.std.specs.Prelude.{◌≡◌, [], ◌∷◌};
+ghost use Rattle.nr_rpc.specs.Credential.{CanWriteCred};
+ghost use Rattle.nr_turnstile.specs.Passes.{Rests, mine_of, seen_by};
+ghost use Rattle.nr_turnstile.specs.Rule.{Lies};
+ghost use Rattle.nr_shared.specs.Adding.{Adds};
+ghost use Rattle.nr_shared.specs.Callers.{IsAsked, KeepsLaw, KeepsOpen};
+ghost use Rattle.nr_shared.specs.Sharing.{SaysCredit, SharedRests};
+ghost use Rattle.nr_shared.specs.Waiting.{Attempts, Calls, ForgetsCall, LooksUp, Submits, Waits};
+
+use crate::call_end::CallEnd;
+use crate::finding::{Attempt, Look, attempt_at, credit_at, look_at};
+use crate::line::Line;
+use crate::shared::{Pass, SharedRequester};
+use crate::turns::forget_at;
+use nr_outside::{Sink, Source};
+use nr_reduce::{Call, Form};
+use nr_requester::{Done, Ticket};
+use std::sync::Wait;
+
+impl<I: Source, O: Sink> SharedRequester<I, O> {
+    /// Makes a call, and waits for its outcome. It is submitted once a credit is left. If there is no outcome, a call that was submitted is
+    /// forgotten.
+    pub fn call<R: Wait>(
+        &self,
+        rt: &R,
+        pass: &mut Pass<I, O>,
+        call: Call,
+        form: Form,
+    ) -> Result<Done, CallEnd>
+        requires writable { CanWriteCred call.cred }
+        requires rests { SharedRests self.now pass.old }
+        ensures rests { SharedRests self.now pass.new }
+        ensures source { seen_by pass.new.source ≡ seen_by pass.old.source }
+        ensures called { Calls pass.old.main pass.new.main call form result }
+    {
+        let ticket = match self.submit(rt, pass, call, form) {
+            Ok(ticket) => ticket,
+            Err(end) => return Err(end),
+        };
+        match self.wait(rt, pass, ticket) {
+            Ok(done) => Ok(done),
+            Err(end) => Err(end),
+        }
+    }
+
+    /// Submits a call once a credit is left. `wait`, `forget` or `try_revoke` takes its ticket.
+    pub fn submit<R: Wait>(
+        &self,
+        rt: &R,
+        pass: &mut Pass<I, O>,
+        call: Call,
+        form: Form,
+    ) -> Result<Ticket, CallEnd>
+        requires writable { CanWriteCred call.cred }
+        requires rests { SharedRests self.now pass.old }
+        ensures rests { SharedRests self.now pass.new }
+        ensures source { seen_by pass.new.source ≡ seen_by pass.old.source }
+        ensures submitted { Submits pass.old.main pass.new.main call form result }
+    {
+        let mut wanted = call;
+        let mut wished = form;
+        for _ in rt.forever() {
+            match self.attempt(rt, &mut pass.main, wanted, wished) {
+                Attempt::Sent(ticket) => return Ok(ticket),
+                Attempt::Ends(end) => return Err(end),
+                Attempt::Waits(call, form) => {
+                    wanted = call;
+                    wished = form;
+                }
+            }
+            self.pump(rt, &mut pass.source, None);
+        }
+        unreachable!()
+    }
+
+    /// Waits for the outcome of a call of the pass's own. If there is none, the call is forgotten.
+    pub fn wait<R: Wait>(
+        &self,
+        rt: &R,
+        pass: &mut Pass<I, O>,
+        ticket: Ticket,
+    ) -> Result<Done, CallEnd>
+        requires rests { SharedRests self.now pass.old }
+        requires asked { IsAsked pass.old.main ticket }
+        ensures rests { SharedRests self.now pass.new }
+        ensures source { seen_by pass.new.source ≡ seen_by pass.old.source }
+        ensures waited { Waits pass.old.main pass.new.main ticket result }
+    {
+        let mut waiting = ticket;
+        for _ in rt.forever() {
+            match self.look(rt, &mut pass.main, waiting) {
+                Look::Answered(done) => return Ok(done),
+                Look::Ends(end) => return Err(end),
+                Look::NotYet(ticket) => waiting = ticket,
+            }
+            self.pump(rt, &mut pass.source, Some(&waiting));
+        }
+        unreachable!()
+    }
+
+    /// Forgets a call of the pass's own, whether or not its answer has come.
+    pub fn forget<R: Wait>(&self, rt: &R, pass: &mut Pass<I, O>, ticket: Ticket)
+        requires rests { SharedRests self.now pass.old }
+        requires asked { IsAsked pass.old.main ticket }
+        ensures rests { SharedRests self.now pass.new }
+        ensures source { seen_by pass.new.source ≡ seen_by pass.old.source }
+        ensures forgotten { ForgetsCall pass.old.main pass.new.main ticket }
+    {
+        self.give_up(rt, &mut pass.main, ticket);
+    }
+
+    /// Whether a credit is left at this moment.
+    pub fn has_credit<R: Wait>(&self, rt: &R, pass: &mut Pass<I, O>) -> bool
+        requires { SharedRests self.now pass.old }
+        ensures rests { SharedRests self.now pass.new }
+        ensures source { seen_by pass.new.source ≡ seen_by pass.old.source }
+        ensures added { Adds pass.old.main pass.new.main [] }
+        ensures keeps { KeepsOpen pass.old.main pass.new.main }
+        ensures credit { SaysCredit result (seen_by pass.new.main) }
+    {
+        self.sees_credit(rt, &mut pass.main)
+    }
+
+    // One turn of a caller that submits.
+    fn attempt<R: Wait>(
+        &self,
+        rt: &R,
+        main: &mut nr_turnstile::Pass<Line<O>>,
+        call: Call,
+        form: Form,
+    ) -> Attempt
+        requires writable { CanWriteCred call.cred }
+        requires rests { Rests self.now.main main.old }
+        requires lies { Lies (seen_by main.old) (mine_of main.old) }
+        ensures rests { Rests self.now.main main.new }
+        ensures law { KeepsLaw (seen_by main.new) }
+        ensures attempted { Attempts main.old main.new call form result }
+    {
+        let mut turn = self.main.take_turn(rt, main);
+        let tried = attempt_at(&mut turn, call, form);
+        turn.put_back();
+        tried
+    }
+
+    // One turn of a caller that gives a call up.
+    fn give_up<R: Wait>(&self, rt: &R, main: &mut nr_turnstile::Pass<Line<O>>, ticket: Ticket)
+        requires rests { Rests self.now.main main.old }
+        requires asked { IsAsked main.old ticket }
+        ensures rests { Rests self.now.main main.new }
+        ensures law { KeepsLaw (seen_by main.new) }
+        ensures forgotten { ForgetsCall main.old main.new ticket }
+    {
+        let mut turn = self.main.take_turn(rt, main);
+        forget_at(&mut turn, ticket);
+        turn.put_back();
+    }
+
+    // One turn of a caller that asks for a credit.
+    fn sees_credit<R: Wait>(&self, rt: &R, main: &mut nr_turnstile::Pass<Line<O>>) -> bool
+        requires rests { Rests self.now.main main.old }
+        requires lies { Lies (seen_by main.old) (mine_of main.old) }
+        ensures rests { Rests self.now.main main.new }
+        ensures law { KeepsLaw (seen_by main.new) }
+        ensures added { Adds main.old main.new [] }
+        ensures keeps { KeepsOpen main.old main.new }
+        ensures credit { SaysCredit result (seen_by main.new) }
+    {
+        let mut turn = self.main.take_turn(rt, main);
+        let has = credit_at(&mut turn);
+        turn.put_back();
+        has
+    }
+
+    // One turn of a caller that waits.
+    fn look<R: Wait>(&self, rt: &R, main: &mut nr_turnstile::Pass<Line<O>>, ticket: Ticket) -> Look
+        requires rests { Rests self.now.main main.old }
+        requires asked { IsAsked main.old ticket }
+        ensures rests { Rests self.now.main main.new }
+        ensures law { KeepsLaw (seen_by main.new) }
+        ensures looked { LooksUp main.old main.new ticket result }
+    {
+        let mut turn = self.main.take_turn(rt, main);
+        let found = look_at(&mut turn, ticket);
+        turn.put_back();
+        found
+    }
+}

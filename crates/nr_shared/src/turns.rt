@@ -1,0 +1,170 @@
+//! What a caller does with the requester and its sink under one turn.
+
+ghost use Rattle.std.specs.Prelude.{◌≡◌, ◌≢◌, ◌+◌, ◌<◌, ◌≤◌, length, None, ℕ, true, is_some, [], ◌∷◌, ◌++◌, List, Some, IfOk, IfErr, OnErr};
+ghost use Rattle.nr_rpc.specs.Credential.{CanWriteCred};
+ghost use Rattle.nr_requester.specs.OpenCalls.{found_answer};
+ghost use Rattle.nr_turnstile.specs.Passes.{mine_of, seen_by};
+ghost use Rattle.nr_turnstile.specs.Rule.{IsOpen};
+ghost use Rattle.nr_turnstile.specs.Turns.{pass_of, Has, IsSameTurn};
+ghost use Rattle.nr_shared.specs.declared.line.Line.{Line};
+ghost use Rattle.nr_shared.specs.Histories.{bytes_fed, closes_of, forget_by};
+ghost use Rattle.nr_shared.specs.Ending.{HasCredit, IsRefused};
+ghost use Rattle.nr_shared.specs.private.Finding.{LeavesCredit};
+ghost use Rattle.nr_shared.specs.declared.entry.Entry.TheVariants as entries;
+ghost use Rattle.nr_shared.specs.Callers.{IsAsked, IsFeeding, IsReady, KeepsOpen, KeepsOthers};
+ghost use Rattle.nr_shared.specs.Adding.{Adds};
+ghost use Rattle.nr_shared.specs.Callers.{Writes};
+ghost use Rattle.nr_shared.specs.Waiting.{AtCall, ForgetsCall, TakesAnswer};
+ghost use Rattle.nr_shared.specs.Draining.{fed_after, stopped_after};
+ghost use Rattle.nr_shared.specs.declared.entry.Stop.TheVariants as causes;
+ghost use Rattle.nr_requester.specs.Buffers.{bytes_of_buffers};
+ghost use Rattle.nr_links.specs.Limits.{read_max};
+
+use crate::entry::Stop;
+use crate::line::{Drained, Line};
+use crate::notes::{
+    note_cut, note_done, note_fed, note_forget, note_revoke, note_stopped, note_submit, note_wrote,
+};
+use nr_outside::Sink;
+use nr_reduce::{Call, Form, Refused};
+use nr_requester::{Buffers, Done, Ticket};
+use nr_turnstile::Turn;
+use std::marker::Brand;
+use std::snapshot::Snapshot;
+
+/// Submits a call.
+pub(crate) fn submit_at<O: Sink>(
+    turn: &mut Turn<'_, Line<O>>,
+    call: Call,
+    form: Form,
+) -> Result<Ticket, (Call, Refused)>
+    requires writable { CanWriteCred call.cred }
+    requires ready { IsReady O.taken O.faults turn.old }
+    ensures same { IsSameTurn turn.old turn.new }
+    ensures ready { IsReady O.taken O.faults turn.new }
+    ensures accepted { IfOk result (λ xid. Adds (pass_of turn.old) (pass_of turn.new) (entries.Submit call form xid ∷ []) × IsAsked (pass_of turn.new) xid) }
+    ensures refused { OnErr result (Adds (pass_of turn.old) (pass_of turn.new) []) }
+    ensures returned { IfErr result (λ e. e.0 ≡ call) }
+    ensures keeps { KeepsOpen (pass_of turn.old) (pass_of turn.new) }
+    ensures opened { IfOk result (λ xid. IsOpen closes_of (seen_by (pass_of turn.new)) (mine_of (pass_of turn.new)) (length (seen_by (pass_of turn.old)))) }
+    ensures why { IfErr result (λ e. IsRefused e.1 call form (seen_by (pass_of turn.old))) }
+    ensures credit { IfErr result (λ e. LeavesCredit turn.old → HasCredit e.1) }
+    ensures seen { IfOk result (λ xid. seen_by (pass_of turn.new) ≡ seen_by (pass_of turn.old) ++ entries.Submit call form xid ∷ []) }
+    ensures kept { OnErr result (seen_by (pass_of turn.new) ≡ seen_by (pass_of turn.old)) }
+{
+    let asked = Snapshot::of(&call);
+    let asked_in = Snapshot::of(&form);
+    let line = turn.value();
+    match line.submit(call, form) {
+        Ok(ticket) => {
+            note_submit::<O, Brand>(turn, &asked, &asked_in, &ticket);
+            Ok(ticket)
+        }
+        Err(refused) => Err(refused),
+    }
+}
+
+/// Takes the answer of a call of the pass's own, which is there.
+pub(crate) fn take_at<O: Sink>(turn: &mut Turn<'_, Line<O>>, ticket: Ticket) -> Done
+    requires ready { IsReady O.taken O.faults turn.old }
+    requires there { (y : Line O) → Has turn.old y → is_some (found_answer ticket y.requester.state) ≡ true }
+    requires asked { IsAsked (pass_of turn.old) ticket }
+    ensures same { IsSameTurn turn.old turn.new }
+    ensures ready { IsReady O.taken O.faults turn.new }
+    ensures taken { TakesAnswer (pass_of turn.old) (pass_of turn.new) ticket result }
+{
+    let xid = ticket.xid();
+    let line = turn.value();
+    let done = line.take_answer(ticket);
+    let outcome = Snapshot::of(&done.outcome);
+    note_done::<O, Brand>(turn, xid, &outcome);
+    done
+}
+
+/// Forgets a call of the pass's own.
+pub(crate) fn forget_at<O: Sink>(turn: &mut Turn<'_, Line<O>>, ticket: Ticket)
+    requires ready { IsReady O.taken O.faults turn.old }
+    requires asked { IsAsked (pass_of turn.old) ticket }
+    ensures same { IsSameTurn turn.old turn.new }
+    ensures ready { IsReady O.taken O.faults turn.new }
+    ensures forgotten { ForgetsCall (pass_of turn.old) (pass_of turn.new) ticket }
+    ensures seen { seen_by (pass_of turn.new) ≡ seen_by (pass_of turn.old) ++ forget_by (seen_by (pass_of turn.old)) ticket ∷ [] }
+{
+    let xid = ticket.xid();
+    let line = turn.value();
+    line.forget(ticket);
+    note_forget::<O, Brand>(turn, xid);
+}
+
+/// Hands the output to the sink, unless a write failed before.
+pub(crate) fn drain_at<O: Sink>(turn: &mut Turn<'_, Line<O>>)
+    requires ready { IsReady O.taken O.faults turn.old }
+    ensures same { IsSameTurn turn.old turn.new }
+    ensures ready { IsReady O.taken O.faults turn.new }
+    ensures wrote { Writes (pass_of turn.old) (pass_of turn.new) }
+{
+    let line = turn.value();
+    let before = Snapshot::of(&line.requester);
+    let drained = line.drain();
+    let after = Snapshot::of(&line.requester);
+    match drained {
+        Drained::Nothing => {}
+        Drained::Wrote => note_wrote::<O, Brand>(turn, &before, &after),
+        Drained::Cut => {
+            note_wrote::<O, Brand>(turn, &before, &after);
+            note_cut::<O, Brand>(turn);
+        }
+    }
+}
+
+/// Revokes the memory of a call of the pass's own.
+pub(crate) fn revoke_at<O: Sink>(turn: &mut Turn<'_, Line<O>>, ticket: Ticket) -> (Call, Buffers)
+    requires ready { IsReady O.taken O.faults turn.old }
+    requires asked { IsAsked (pass_of turn.old) ticket }
+    ensures same { IsSameTurn turn.old turn.new }
+    ensures ready { IsReady O.taken O.faults turn.new }
+    ensures revoked { AtCall (pass_of turn.old) ticket (λ k asked. (result.0 ≡ asked) × (Adds (pass_of turn.old) (pass_of turn.new) (entries.Revoke ticket (bytes_of_buffers result.1) k ∷ []) × KeepsOthers k (pass_of turn.old) (pass_of turn.new))) }
+{
+    let xid = ticket.xid();
+    let line = turn.value();
+    let given = line.revoke(ticket);
+    let buffers = Snapshot::of(&given.1);
+    note_revoke::<O, Brand>(turn, xid, &buffers);
+    given
+}
+
+/// Feeds a piece that was read. Answers whether memory ran out for a frame of it.
+pub(crate) fn feed_at<O: Sink>(turn: &mut Turn<'_, Line<O>>, piece: &[u8]) -> bool
+    requires ready { IsReady O.taken O.faults turn.old }
+    requires feeding { IsFeeding (pass_of turn.old) }
+    requires goes { (y : Line O) → Has turn.old y → y.stopped ≡ None }
+    requires some { 0 < length piece.now }
+    requires room { length (bytes_fed (seen_by (pass_of turn.old))) + length piece.now ≤ read_max }
+    ensures same { IsSameTurn turn.old turn.new }
+    ensures ready { IsReady O.taken O.faults turn.new }
+    ensures feeding { IsFeeding (pass_of turn.new) }
+    ensures seen { seen_by (pass_of turn.new) ≡ seen_by (pass_of turn.old) ++ fed_after (seen_by (pass_of turn.old)) result piece.now ∷ [] }
+    ensures fed { Adds (pass_of turn.old) (pass_of turn.new) (fed_after (seen_by (pass_of turn.old)) result piece.now ∷ []) }
+{
+    let line = turn.value();
+    let out = line.feed(piece);
+    note_fed::<O, Brand>(turn, out, piece);
+    out
+}
+
+/// No more is fed.
+pub(crate) fn stop_at<O: Sink>(turn: &mut Turn<'_, Line<O>>, cause: Stop)
+    requires ready { IsReady O.taken O.faults turn.old }
+    requires feeding { IsFeeding (pass_of turn.old) }
+    requires goes { (y : Line O) → Has turn.old y → y.stopped ≡ None }
+    requires cause { cause ≢ causes.Memory }
+    ensures same { IsSameTurn turn.old turn.new }
+    ensures ready { IsReady O.taken O.faults turn.new }
+    ensures feeding { IsFeeding (pass_of turn.new) }
+    ensures seen { seen_by (pass_of turn.new) ≡ seen_by (pass_of turn.old) ++ stopped_after (seen_by (pass_of turn.old)) cause ∷ [] }
+    ensures stopped { Adds (pass_of turn.old) (pass_of turn.new) (stopped_after (seen_by (pass_of turn.old)) cause ∷ []) }
+{
+    let line = turn.value();
+    line.stop(cause);
+    note_stopped::<O, Brand>(turn, cause);
+}
