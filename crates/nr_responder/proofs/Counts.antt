@@ -1,6 +1,8 @@
 -- What a responder counts is what the server of a run does.
-use Rattle.std.proofs.Common.{◌≡◌, ℕ, ◌+◌, List, [], ◌∷◌, ◌++◌, length, Some, None, Ok, Err, ap, ◌∙◌, arith, inl, inr}
+use Rattle.std.proofs.Common.{◌≡◌, ℕ, ◌+◌, List, [], ◌∷◌, ◌++◌, length, Some, None, Ok, Err, ap, subst, ◌∙◌, arith, inl, inr}
 use Rattle.std.specs.Prelude.{◌≢◌, Result, IfOk, OnOk}
+use Rattle.nr_link.specs.Agreement.{IsSendLimit}
+use Rattle.nr_link.specs.Input.{InputState}
 use Rattle.nr_link.specs.SegmentFaults.{is_begun}
 use Rattle.nr_link.specs.declared.end.End.TheVariants as ends
 use Rattle.nr_outside.specs.declared.moment.Moment.{Moment}
@@ -15,11 +17,12 @@ use Rattle.nr_reduce.specs.Served.{IsExecuted}
 use Rattle.nr_responder.specs.declared.call.Sent.{Sent}
 use Rattle.nr_responder.specs.Answering.{Answers}
 use Rattle.nr_responder.specs.ResponderState.{ResponderSide, end_of, unsent}
-use Rattle.nr_responder.specs.Keeping.{Keeps, KeepsEnd}
-use Rattle.nr_responder.specs.Standing.{RepresentsServer, ResponderRepresents}
+use Rattle.nr_responder.specs.Keeping.{Keeps, KeepsAgreed, KeepsEnd}
+use Rattle.nr_responder.specs.Standing.{RepresentsServer, RepresentsSome, ResponderRepresents}
 use Rattle.nr_responder.proofs.Answered.{answered_stands}
 use Rattle.nr_responder.proofs.Fed.{not_ended_lem}
 use Rattle.nr_responder.proofs.FrameEnds.{in_use, waiting_is}
+use Rattle.nr_responder.proofs.Frames.{keeps_agreed}
 use Rattle.nr_responder.proofs.Marks.{represents}
 use Rattle.nr_responder.proofs.SendFrames.{begun_fine}
 
@@ -52,11 +55,22 @@ answered_all (Ok sent) v after xid reply live a = λ opened link run moment payl
 answered_all (Err e) v after xid reply live a = tt
 
 -- what is agreed is what the server of a run has agreed on
-pub agreed_of_run : (opened : LinkParameters) (link : ℕ) (run : List Mark) (v : ResponderSide) → end_of v ≡ None → ResponderRepresents opened link run v →
+kept_agreed : (opened : LinkParameters) (end : EndState ServerState) (input : InputState) (v : ResponderSide) → KeepsEnd opened end input v → KeepsAgreed end.state v.link.state.agreed
+kept_agreed opened end input v (inl live) = keeps_agreed opened end.state v.link.state v.link.state.place live.1.link live.1.server
+kept_agreed opened end input v (inr ended) = ended.agreed
+
+agreed_now : (opened : LinkParameters) (link : ℕ) (run : List Mark) (v : ResponderSide) → end_of v ≢ Some ends.Memory → ResponderRepresents opened link run v → KeepsAgreed (server opened link run).state v.link.state.agreed
+agreed_now opened link run v other (inr out) = absurd (other out.output.0)
+agreed_now opened link run v other (inl h) = subst (λ (e : EndState ServerState). KeepsAgreed e.state v.link.state.agreed) h.stands.keeps (kept_agreed opened h.end h.input v h.keeps)
+
+pub agreed_of_run : (opened : LinkParameters) (link : ℕ) (run : List Mark) (v : ResponderSide) → end_of v ≢ Some ends.Memory → ResponderRepresents opened link run v →
     (v.link.state.agreed.up ≡ (server opened link run).state.up_max) × (v.link.state.agreed.down ≡ (server opened link run).state.down_max)
-agreed_of_run opened link run v live stands =
-    let h : RepresentsServer opened link run v = represents opened link run v live stands in
-    let keeps : Keeps opened h.end.state h.input v = (not_ended_lem opened h.end h.input v live h.keeps).1 in (
-      keeps.link.up ∙ ap (λ (e : EndState ServerState). e.state.up_max) h.stands.keeps,
-      keeps.link.down ∙ ap (λ (e : EndState ServerState). e.state.down_max) h.stands.keeps,
-    )
+agreed_of_run opened link run v other h = (let a = agreed_now opened link run v other h in (a.up, a.down))
+
+-- it is from one unit to UNITS_MAX of them
+pub agreed_limits : (v : ResponderSide) → RepresentsSome v → IsSendLimit v.link.state.agreed.up × IsSendLimit v.link.state.agreed.down
+agreed_limits v s = by s.1.1.1
+  where
+    by : ResponderRepresents s.0 s.1.0 s.1.1.0 v → IsSendLimit v.link.state.agreed.up × IsSendLimit v.link.state.agreed.down
+    by (inr out) = (out.agreed.up_limit, out.agreed.down_limit)
+    by (inl h) = (let a = kept_agreed s.0 h.end h.input v h.keeps in (a.up_limit, a.down_limit))

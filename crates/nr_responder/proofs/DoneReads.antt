@@ -1,13 +1,11 @@
 -- What the code made of the call of a read that is done is what is said of it.
-use Rattle.std.proofs.Common.{◌≡◌, ◌≢◌, ℕ, zero, suc, ◌+◌, ◌-◌, ◌<◌, ◌≤◌, Bool, true, false, not, cond, eqb, ◌||◌, List, [], ◌∷◌, ◌++◌, length, take, drop, get_or, map, Some, None, refl, sym, ap, subst, ◌∙◌, arith, append-nil, inl, inr, length-append, All}
+use Rattle.std.proofs.Common.{◌≡◌, ◌≢◌, ℕ, zero, suc, ◌+◌, ◌-◌, ◌<◌, ◌≤◌, Bool, true, false, not, cond, eqb, ◌||◌, List, [], ◌∷◌, ◌++◌, length, take, get_or, map, Some, None, refl, sym, ap, subst, ◌∙◌, arith, append-nil, inl, inr, All}
 use Rattle.std.specs.Prelude.{◌⊎◌, slice_get, find, min}
-use Rattle.std.specs.List.{AllByRecursion, filter, list_any, remove}
+use Rattle.std.specs.List.{AllByRecursion, list_any, remove}
 use Rattle.std.proofs.lemmas.Bool.{eqb-true, eq-eqb, ne_eqb}
 use Rattle.std.proofs.lemmas.List.{length-map, length-take, map-append}
 use Rattle.nr_link.specs.Limits.{open_reads_max}
-use Rattle.nr_endpoint.specs.Receives.{IsReceive}
-use Rattle.nr_endpoint.specs.LinkState.{LinkState, LinkSide}
-use Rattle.nr_endpoint.specs.SendQueue.{with_send}
+use Rattle.nr_endpoint.specs.LinkState.{LinkState}
 use Rattle.nr_endpoint.specs.Calls.{after_call}
 use Rattle.nr_endpoint.specs.Calls.Call.{OutOfMemory, Stop}
 use Rattle.nr_reduce.specs.ServerState.{PendingCall, PendingRead, ReadyCall, ServerState}
@@ -19,10 +17,10 @@ use Rattle.nr_responder.specs.declared.call.Ready.{Ready}
 use Rattle.nr_responder.specs.declared.call.ReadEntry.{ReadEntry}
 use Rattle.nr_responder.specs.declared.server_end.ServerEnd.{ServerEnd}
 use Rattle.nr_responder.specs.Fetching.{Fetching}
-use Rattle.nr_responder.specs.ResponderState.{ResponderSide, unsent}
+use Rattle.nr_responder.specs.ResponderState.{ResponderSide}
 use Rattle.nr_responder.specs.private.Handling.{IsServerOf, OrOut, out}
 use Rattle.nr_responder.specs.Keeping.{IsReadyOf, OwnNumbers, OwnReady, OwnXids}
-use Rattle.nr_responder.specs.Sound.{AreFetched, AreHeldFrom, QueuesInvariant, HasOutside, KeepsOutside, around_of, claims_of, HasRoom, InReceive, ServerEndInvariant, payloads_of, state_of, xids_of}
+use Rattle.nr_responder.specs.Sound.{AreFetched, QueuesInvariant, around_of, HasRoom, InReceive, ServerEndInvariant, payloads_of, state_of, xids_of}
 use Rattle.nr_responder.specs.Views.{call_view, read_view, sink_view}
 use Rattle.nr_responder.specs.private.Reading.{opening}
 use Rattle.nr_responder.specs.private.DoneReads.{IsOfCall, ReadsOn, ReadyMade}
@@ -35,25 +33,11 @@ use Rattle.std.specs.Prelude.{set, vec_capacity}
 use Rattle.std.specs.VecDeque.{deque_capacity}
 use Rattle.std.proofs.lemmas.List.{length-set}
 use Rattle.std.proofs.lemmas.List.Elements.{All-set}
-use Rattle.nr_endpoint.specs.EndpointState.{EndpointState}
-use Rattle.nr_endpoint.specs.ReceiveQueue.{ReceiveQueue}
-use Rattle.nr_endpoint.specs.SendQueue.{send_output}
-use Rattle.nr_header.specs.Constants.{PAYLOAD_MAX}
 use Rattle.nr_reduce.specs.Holds.{chunk_error}
-use Rattle.nr_responder.specs.Fetching.{SinkRegion}
-use Rattle.nr_responder.specs.declared.call.OpenSink.{OpenSink}
-use Rattle.nr_responder.specs.private.Reading.{left_sinks, with_opened_after, with_released}
-use Rattle.nr_responder.specs.private.ReadsDone.{reads_without, side_after_done, with_sent}
+use Rattle.nr_responder.specs.private.ReadsDone.{reads_without, with_sent}
 use Rattle.nr_responder.proofs.Answered.{get_view, same_item}
-use Rattle.nr_responder.proofs.HeldSinks.{fetched_as}
-use Rattle.nr_responder.proofs.Windows.{around_removed, around_set, keeps_as, keeps_on, more_outside, rooms_closed, same_outside}
-use Rattle.std.specs.FinMap.{FinMap}
-use Rattle.std.specs.Ordering.{nat_cmp}
-use Rattle.nr_regions.specs.RegisteredMemory.{Outside, RegisteredMemory}
-use Rattle.nr_responder.proofs.ReadsGoOn.{requests_ends}
+use Rattle.nr_responder.proofs.Windows.{around_set, more_outside}
 use Rattle.nr_responder.proofs.Executed.{one_out_lem, without_call}
-use Rattle.nr_responder.proofs.Removed.{all_pushed_lem, all_removed, length_removed}
-use Rattle.nr_responder.proofs.Sounds.{bufs_as, used_as, limit_as}
 
 abbrev pub without : ResponderSide → List PendingRead → ResponderSide
 without v reads = record { link = v.link; calls = v.calls; ready = v.ready; credits = v.credits; fetching = record { reads = reads; sinks = v.fetching.sinks; payloads = v.fetching.payloads } }
@@ -363,99 +347,6 @@ refuses v r kept at c calls reads after own bad calls_are reads_are is = by (lis
 pub refusal_out : (v after : ResponderSide) (r : PendingRead) (kept at : ℕ) (c : PendingCall) (fetching : Fetching) → IsOfCall v r kept at c → has_bad_chunk v c r v.fetching.reads ≡ true → fetching.sinks ≡ v.fetching.sinks → after ≡ ended_as v (after_call v.link OutOfMemory) fetching → HandlesRead v r v.fetching.reads after
 refusal_out v after r kept at c fetching own bad sinks is = inr (inr (record { takes = Answers (record { call = c; found = own.found; bad = bad }); fetching = fetching; sinks = sinks; is_out = is }))
 
--- ---- What holds of it
-
-any_append : (n : ℕ) (xs ys : List PendingRead) → list_any (λ r. eqb r.number n) xs ≡ false → list_any (λ r. eqb r.number n) ys ≡ false → list_any (λ r. eqb r.number n) (xs ++ ys) ≡ false
-any_append n [] ys none more = more
-any_append n (x ∷ xs) ys none more = by (any_append n xs ys) (eqb x.number n) refl none
-  where
-    by : (list_any (λ r. eqb r.number n) xs ≡ false → list_any (λ r. eqb r.number n) ys ≡ false → list_any (λ r. eqb r.number n) (xs ++ ys) ≡ false) → (b : Bool) → eqb x.number n ≡ b → (b || list_any (λ r. eqb r.number n) xs) ≡ false →
-        (eqb x.number n || list_any (λ r. eqb r.number n) (xs ++ ys)) ≡ false
-    by rest true e h = absurd cc
-    by rest false e h = ap (λ (b : Bool). b || list_any (λ r. eqb r.number n) (xs ++ ys)) e ∙ rest h more
-
-any_split : (n i : ℕ) (xs : List PendingRead) → list_any (λ r. eqb r.number n) xs ≡ false → (list_any (λ r. eqb r.number n) (take i xs) ≡ false) × (list_any (λ r. eqb r.number n) (drop i xs) ≡ false)
-any_split n zero xs none = (refl, none)
-any_split n (suc i) [] none = (refl, refl)
-any_split n (suc i) (x ∷ xs) none = by (any_split n i xs) (eqb x.number n) refl none
-  where
-    by : (list_any (λ r. eqb r.number n) xs ≡ false → (list_any (λ r. eqb r.number n) (take i xs) ≡ false) × (list_any (λ r. eqb r.number n) (drop i xs) ≡ false)) → (b : Bool) → eqb x.number n ≡ b → (b || list_any (λ r. eqb r.number n) xs) ≡ false →
-        ((eqb x.number n || list_any (λ r. eqb r.number n) (take i xs)) ≡ false) × (list_any (λ r. eqb r.number n) (drop i xs) ≡ false)
-    by rest true e h = absurd cc
-    by rest false e h = (ap (λ (b : Bool). b || list_any (λ r. eqb r.number n) (take i xs)) e ∙ (rest h).0, (rest h).1)
-
-any_filtered : (n m : ℕ) (xs : List PendingRead) → list_any (λ r. eqb r.number n) xs ≡ false → list_any (λ r. eqb r.number n) (filter (λ r. not (eqb r.number m)) xs) ≡ false
-any_filtered n m [] none = refl
-any_filtered n m (x ∷ xs) none = by (any_filtered n m xs) (eqb x.number n) refl (not (eqb x.number m)) none
-  where
-    by : (list_any (λ r. eqb r.number n) xs ≡ false → list_any (λ r. eqb r.number n) (filter (λ r. not (eqb r.number m)) xs) ≡ false) → (b : Bool) → eqb x.number n ≡ b → (k : Bool) → (b || list_any (λ r. eqb r.number n) xs) ≡ false →
-        list_any (λ r. eqb r.number n) (cond k (x ∷ filter (λ r. not (eqb r.number m)) xs) (filter (λ r. not (eqb r.number m)) xs)) ≡ false
-    by rest true e k h = absurd cc
-    by rest false e true h = ap (λ (b : Bool). b || list_any (λ r. eqb r.number n) (filter (λ r. not (eqb r.number m)) xs)) e ∙ rest h
-    by rest false e false h = rest h
-
--- fewer reads are left
-pub dropped_rooms : (around : FinMap nat_cmp Outside) (sinks : List OpenSink) (m kept : ℕ) (reads later : List ReadEntry) (c : Pending) → map read_view later ≡ reads_without m kept (map read_view reads) → HasRoom around sinks reads c → HasRoom around sinks later c
-dropped_rooms around sinks m kept reads later c is room = record {
-  space = λ left. room.space (by (list_any (λ r. eqb r.number c.number) (map read_view reads)) refl left);
-  apart = λ some. subst (λ (rs : List PendingRead). AllByRecursion (λ r. r.number ≡ c.number → r.position ≢ 0) rs) (sym is) (kept_each (λ r. r.number ≡ c.number → r.position ≢ 0) kept (map read_view reads) (room.apart some));
-  few = room.few;
-}
-  where
-    by : (b : Bool) → list_any (λ r. eqb r.number c.number) (map read_view reads) ≡ b → is_read (map read_view later) c.number ≡ false → not (list_any (λ r. eqb r.number c.number) (map read_view reads)) ≡ false
-    by true e left = ap (λ (b : Bool). not b) e
-    by false e left =
-        let s = any_split c.number kept (map read_view reads) e in
-        let none : list_any (λ r. eqb r.number c.number) (map read_view later) ≡ false =
-        ap (λ (rs : List PendingRead). list_any (λ r. eqb r.number c.number) rs) is ∙ any_append c.number (take kept (map read_view reads)) (filter (λ r. not (eqb r.number m)) (drop kept (map read_view reads))) s.0 (any_filtered c.number m (drop kept (map read_view reads)) s.1) in
-        absurd (let two : true ≡ false = sym (ap (λ (b : Bool). not b) none) ∙ left in cc)
-
-    filtered_each : (P : PendingRead → Type 0) (rs : List PendingRead) → AllByRecursion P rs → AllByRecursion P (filter (λ r. not (eqb r.number m)) rs)
-    filtered_each P [] h = tt
-    filtered_each P (r ∷ rs) h = choose (filtered_each P rs h.1) (not (eqb r.number m))
-      where
-        choose : AllByRecursion P (filter (λ q. not (eqb q.number m)) rs) → (b : Bool) → AllByRecursion P (cond b (r ∷ filter (λ q. not (eqb q.number m)) rs) (filter (λ q. not (eqb q.number m)) rs))
-        choose rest true = (h.0, rest)
-        choose rest false = rest
-
-    kept_each : (P : PendingRead → Type 0) (n : ℕ) (rs : List PendingRead) → AllByRecursion P rs → AllByRecursion P (take n rs ++ filter (λ r. not (eqb r.number m)) (drop n rs))
-    kept_each P zero rs h = filtered_each P rs h
-    kept_each P (suc n) [] h = tt
-    kept_each P (suc n) (r ∷ rs) h = (h.0, kept_each P n rs h.1)
-
-pub dropped_fetched : (e f : EndpointState) (m kept : ℕ) (calls : List Pending) (reads later : List ReadEntry) (sinks : List OpenSink) → map read_view later ≡ reads_without m kept (map read_view reads) → f.link.state.memory ≡ e.link.state.memory → f.outside ≡ e.outside →
-    AreFetched e calls reads sinks → AreFetched f calls later sinks
-dropped_fetched e f m kept calls reads later sinks is memory outside h =
-    fetched_as e f calls later sinks memory outside (record { held = h.held; short = h.short; rooms = λ k d lt. dropped_rooms e.outside sinks m kept reads later (get_or calls k d) is (h.rooms k d lt); outside = h.outside })
-
--- the message of a call was queued, and its receive waits until that has left
-pub refused_sound : (s t : LinkState) (at : ℕ) (call : Pending) (calls later : List Pending) (ready : List Ready) (used after : List (List ℕ)) (a b c d e : ℕ) → t.receive_queue ≡ s.receive_queue → length t.send_queue.send_ends ≡ unsent s + 1 → at < length calls → InReceive s.receive_queue.receive_length call → later ≡ remove calls at →
-    length ready < length calls → after ≡ used ++ call.buf ∷ [] → d ≡ a → e ≡ c → QueuesInvariant 0 s calls ready used a b c → QueuesInvariant 0 t later ready after d b e
-refused_sound s t at call calls later ready used after a b c d e queue ends lt whole left few used_is calls_room used_room h =
-    let count : length later + 1 ≡ length calls = ap (λ (xs : List Pending). length xs + 1) left ∙ length_removed calls at lt in
-    let used_count : length after ≡ length used + 1 = ap (λ (xs : List (List ℕ)). length xs) used_is ∙ length-append used (call.buf ∷ []) in
-    record {
-      unsent_is = omega (arith, used_count, ends, h.unsent_is);
-      lent = omega (arith, used_count, count, h.lent, ap (λ (q : ReceiveQueue). q.lent) queue);
-      few = omega (arith, count, few);
-      bufs = bufs_as _ _ _ (ap (λ (q : ReceiveQueue). q.receive_length) queue) (subst (λ (xs : List Pending). All (InReceive s.receive_queue.receive_length) xs) (sym left) (all_removed (InReceive s.receive_queue.receive_length) calls at h.bufs));
-      used_bufs = used_as _ _ _ (ap (λ (q : ReceiveQueue). q.receive_length) queue) (subst (λ (xs : List (List ℕ)). All (IsReceive s.receive_queue.receive_length) xs) (sym used_is) (all_pushed_lem (IsReceive s.receive_queue.receive_length) used call.buf h.used_bufs whole.0));
-      calls_fit = omega (arith, h.calls_fit, calls_room, ap (λ (q : ReceiveQueue). q.receives) queue);
-      ready_fit = omega (arith, h.ready_fit, ap (λ (q : ReceiveQueue). q.receives) queue);
-      used_fit = omega (arith, h.used_fit, used_room, ap (λ (q : ReceiveQueue). q.receives) queue);
-      limit = limit_as _ _ (ap (λ (q : ReceiveQueue). q.receive_length) queue) h.limit;
-    }
-
-pub refused_ends : (message : List ℕ) (opened : List PendingRead) (over : List SinkRegion) (l m n : LinkSide) → m ≡ with_opened_after message opened l → n ≡ with_released over m → length n.state.send_queue.send_ends ≡ unsent l.state + 1
-refused_ends message opened over l m n sent closed =
-    ap (λ (x : LinkSide). length x.state.send_queue.send_ends) closed ∙ ap (λ (x : LinkSide). length x.state.send_queue.send_ends) sent
-    ∙ ap (λ (xs : List ℕ). length xs) (requests_ends opened (with_send message l.state.send_queue))
-    ∙ length-append l.state.send_queue.send_ends (length (l.state.send_queue.fpdus ++ send_output l.state.send_queue message) ∷ [])
-
-pub refused_link : (message : List ℕ) (opened : List PendingRead) (over : List SinkRegion) (l m n : LinkSide) → m ≡ with_opened_after message opened l → n ≡ with_released over m →
-    n ≡ record { awaited = l.awaited; rest = l.rest; state = side_after_done (with_sent l.state message) opened over }
-refused_link message opened over l m n sent closed = closed ∙ ap (λ (x : LinkSide). with_released over x) sent
-
 -- ---- The room of a payload is taken out of its call
 
 pub emptied : Pending → Pending
@@ -492,16 +383,3 @@ first_read v after reads later first r rest some is left reads_are h =
     let one : read_view first ≡ r = cc in
     let others : map read_view later ≡ rest = cc in
     with_read v r rest (map read_view reads) after (subst (λ (rs : List PendingRead). HandlesRead (without v rs) r rs after) others (subst (λ (q : PendingRead). HandlesRead (without v (map read_view later)) q (map read_view later) after) one h))
-
-pub refused_fetched : (e f g : EndpointState) (m kept at : ℕ) (d : Pending) (message : List ℕ) (opened : List PendingRead) (calls left : List Pending) (reads later : List ReadEntry) (sinks left_open : List OpenSink) → map read_view later ≡ reads_without m kept (map read_view reads) → at < length calls → (get_or calls at d).around ≡ 0 → left ≡ remove calls at →
-    f.link ≡ with_opened_after message opened e.link → f.outside ≡ e.outside → AreHeldFrom g.link.state.memory 0 (claims_of left_open) → All (λ s. s.registration.len ≤ PAYLOAD_MAX) left_open → ((n : ℕ) → HasOutside f n → HasOutside g n) → KeepsOutside f g →
-    map sink_view left_open ≡ left_sinks (map call_view left) (map read_view later) (map sink_view sinks) → AreFetched e calls reads sinks → AreFetched g left later left_open
-refused_fetched e f g m kept at d message opened calls left reads later sinks left_open is lt none left_is sent outside held short fewer keeps sinks_are h =
-    let memory : f.link.state.memory ≡ e.link.state.memory = ap (λ (l : LinkSide). l.state.memory) sent in
-    record {
-      held = held;
-      short = short;
-      rooms = rooms_closed e g left later sinks left_open (keeps_on e f g (keeps_as e f memory outside) keeps) sinks_are held
-          (subst (λ (cs : List Pending). All (HasRoom e.outside sinks later) cs) (sym left_is) (all_removed (HasRoom e.outside sinks later) calls at (λ k d lt. dropped_rooms e.outside sinks m kept reads later (get_or calls k d) is (h.rooms k d lt))));
-      outside = fewer (around_of left) (same_outside e f (around_of left) (ap (λ (m : RegisteredMemory). m.next) memory) outside (subst (λ (n : ℕ). HasOutside e n) (sym (ap (λ (cs : List Pending). around_of cs) left_is ∙ around_removed calls at d lt none)) h.outside));
-    }

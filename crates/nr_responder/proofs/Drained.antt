@@ -97,7 +97,7 @@ keeps_drained opened end so_far v n within (inl (is, h)) =
     subst (λ (e : EndState ServerState). KeepsEnd opened e so_far (after_drain v n)) (sym (live_next_lem opened end.state n end.ended is)) (inl (refl, keeps))
 keeps_drained opened end so_far v n within (inr ended) =
     subst (λ (e : EndState ServerState). KeepsEnd opened e so_far (after_drain v n)) (sym (ended_next opened end.state n end.ended ended.over))
-    (inr (record { over = ended.over; why = ended.why; calls = ended.calls; ready = ended.ready; credits = ended.credits; sendable = sendable_drained v.link.state.has_hello n v.link.state.send_queue ended.sendable }))
+    (inr (record { over = ended.over; why = ended.why; calls = ended.calls; ready = ended.ready; credits = ended.credits; agreed = ended.agreed; sendable = sendable_drained v.link.state.has_hello n v.link.state.send_queue ended.sendable }))
 
 pub drained_stands : (opened : LinkParameters) (link : ℕ) (run : List Mark) (v : ResponderSide) (n : ℕ) → n ≤ length (may_write v) → ResponderRepresents opened link run v →
     ResponderRepresents opened link (run ++ marks.Wrote link Responder (take n (may_write v)) ∷ []) (after_drain v n)
@@ -108,5 +108,5 @@ drained_stands opened link run v n within (inl h) =
     (subst (λ (m : ℕ). KeepsEnd opened (end_state_after (server_rules opened) h.end (QueueWritten m ∷ [])) h.input (after_drain v n)) count (keeps_drained opened h.end h.input v n most h.keeps))
     (live_silent opened h.end.state (length (take n (may_write v))) h.end.ended))
 drained_stands opened link run v n within (inr out) =
-    inr (stays_out opened link run v (after_drain v n) (marks.Wrote link Responder (take n (may_write v))) out refl (record { calls = refl; ready = refl; credits = refl })
+    inr (stays_out opened link run v (after_drain v n) (marks.Wrote link Responder (take n (may_write v))) out refl (record { calls = refl; ready = refl; credits = refl }) refl
     (ap (λ (bytes : List ℕ). bytes ++ queue (after_drain v n)) (own_bytes link (take n (may_write v))) ∙ split_queue v.link.state.has_hello n v.link.state.send_queue within))

@@ -16,6 +16,7 @@ use Rattle.nr_link.specs.Input.{InputState}
 use Rattle.nr_link.specs.Output.{terminate_message}
 use Rattle.nr_link.specs.declared.agreement.SideTerms.{SideTerms}
 use Rattle.nr_link.specs.declared.agreement.Agreement.{Agreement}
+use Rattle.nr_link.specs.Agreement.{IsSendLimit}
 use Rattle.nr_link.proofs.Agreements.{agreements_bounded}
 use Rattle.nr_reduce.specs.Hellos.{private_of, server_private, server_hello, server_agreement}
 use Rattle.nr_link.specs.Ending.{final_output, frame_end, hello_end, last_output}
@@ -34,7 +35,7 @@ use Rattle.nr_reduce.specs.ServerState.{ReadyCall, ServerState}
 use Rattle.nr_reduce.specs.Server.{server_rules, server_end, with_own_hello, or_refusal, server_readiness}
 use Rattle.nr_reduce.proofs.MemorySteps.{holds_later, received_later, offered_later}
 use Rattle.nr_responder.specs.ResponderState.{ResponderSide, queue, queued_bytes}
-use Rattle.nr_responder.specs.Keeping.{IsServer, Begins, LinkKeeps, QueueKeeps, Keeps, KeepsEnd}
+use Rattle.nr_responder.specs.Keeping.{IsServer, Begins, LinkKeeps, QueueKeeps, Keeps, KeepsAgreed, KeepsEnd}
 use Rattle.nr_responder.specs.Keeping.Begins.{BeforeHello, AfterHello}
 use Rattle.nr_responder.specs.private.Handling.{on_link}
 use Rattle.nr_responder.proofs.FrameEnds.{frame_ends}
@@ -139,6 +140,10 @@ server_ends opened k l frame end h is (AfterHello place awaited hello) some ende
     ap (λ (b : Bool). cond b (hello_end (hello_of Initiator frame)) (or_refusal k f (frame_end (server_readiness opened k) (region_grants f.end k.regions) f))) (later_frame l.state.place place)
     ∙ by_end_lem k f (frame_end (server_readiness opened k) (region_grants f.end k.regions) f) end (sym (frame_ends opened k l.state frame h is some) ∙ as_fpdu)
 
+-- what is agreed is what the server has agreed on
+pub keeps_agreed : (opened : LinkParameters) (k : ServerState) (s : LinkState) (place : ℕ) → LinkKeeps opened k s → IsServer k place → KeepsAgreed k s.agreed
+keeps_agreed opened k s place h is = record { up = h.up; down = h.down; up_limit = subst IsSendLimit (sym h.up) is.up; down_limit = subst IsSendLimit (sym h.down) is.down }
+
 pub ended_takes : (opened : LinkParameters) (k : ServerState) (input later : InputState) (v : ResponderSide) (frame : List ℕ) (end : End) → Keeps opened k input v → 0 < length frame →
     (with_frame v.link.state v.link.awaited frame).ended ≡ Some end →
     TakesFrame opened k later (next_frame v.link.state frame) v (on_link v (record { awaited = Fpdu; rest = []; state = with_frame v.link.state v.link.awaited frame }))
@@ -158,6 +163,9 @@ ended_takes opened k input later v frame end h some ended =
         calls = h.calls ∙ sym (ap (λ (e : EndState ServerState). e.state.calls) next);
         ready = h.ready ∙ sym (ap (λ (e : EndState ServerState). map (λ (r : ReadyCall). r.xid) e.state.ready) next);
         credits = h.credits ∙ sym (ap (λ (e : EndState ServerState). e.state.credit) next);
+        agreed =
+            subst (λ (e : EndState ServerState). KeepsAgreed e.state (with_frame s v.link.awaited frame).agreed) (sym next)
+            (subst (λ (t : LinkState). KeepsAgreed k t.agreed) (sym state) (keeps_agreed opened k s s.place h.link h.server));
         sendable =
             ap (λ (t : LinkState). writable t.has_hello t.send_queue) state
             ∙ ap (λ (x : Side). writable s.has_hello (with_end x end s.send_queue)) h.link.side

@@ -25,6 +25,7 @@ pub mod KeptLists
 pub mod LastResponses
 pub mod ListedReads
 pub mod Marks
+pub mod NewCalls
 pub mod NextCalls
 pub mod Opened
 pub mod OpenedReads
@@ -43,6 +44,7 @@ pub mod ReadsGoOn
 pub mod ReadsHandled
 pub mod ReadsRefused
 pub mod ReadsTaken
+pub mod RefusedReads
 pub mod RegisteredSinks
 pub mod Removed
 pub mod Responses

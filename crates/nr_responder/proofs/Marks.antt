@@ -17,16 +17,19 @@ use Rattle.nr_reduce.specs.ServerState.{ReadyCall, ServerState}
 use Rattle.nr_reduce.specs.Server.{server_rules}
 use Rattle.nr_reduce.specs.Standing.{input_events, ServerRepresents, ServerRunsOut}
 use Rattle.nr_reduce.proofs.Standing.{itself, live_before, received_one, sent_one, server_stands, server_runs_out_lem, server_stays_out_lem}
+use Rattle.nr_reduce.specs.Run.{server}
 use Rattle.nr_reduce.proofs.Steps.{output_for_all_append}
 use Rattle.nr_link.specs.declared.end.End.{End}
 use Rattle.nr_link.specs.declared.end.End.TheVariants as ends
 use Rattle.nr_responder.specs.ResponderState.{ResponderSide, queue, queued_bytes, end_of}
-use Rattle.nr_responder.specs.Keeping.{Keeps, KeepsEnd}
+use Rattle.nr_responder.specs.Keeping.{Keeps, KeepsEnd, KeepsAgreed}
 use Rattle.nr_responder.specs.Standing.{RepresentsServer, ResponderRunsOut, ResponderRepresents}
-use Rattle.nr_responder.specs.Steps.{received_events, GoesOn, FedOn, SameCalls, ResponderRanOutAt, Fed}
+use Rattle.nr_responder.specs.Steps.{received_events, GoesOn, FedOn, SameCalls, ResponderRanOutAt, Fed, KeepsOutput}
 use Rattle.nr_responder.specs.Steps.Fed.{WentOn, RanOut}
 use Rattle.nr_responder.proofs.Pieces.{events_parts}
 use Rattle.nr_responder.proofs.Fed.{ended_fed_lem, not_ended_lem}
+use Rattle.nr_link.specs.declared.agreement.Agreement.{Agreement}
+use Rattle.nr_responder.proofs.Frames.{keeps_agreed}
 
 -- one mark more, whose events are these
 one_mark_lem : (opened : LinkParameters) (link : ℕ) (run : List Mark) (mark : Mark) (v after : ResponderSide) (fed written : List ℕ) (events : InputState → List RunEvent) →
@@ -109,9 +112,9 @@ not_live None e t = absurd cc
 not_live (Some end) e t = absurd cc
 
 -- one that ran out of memory stands for a mark more, if what leaves of its queue is written
-pub stays_out : (opened : LinkParameters) (link : ℕ) (run : List Mark) (v after : ResponderSide) (mark : Mark) → ResponderRunsOut opened link run v → end_of after ≡ end_of v → SameCalls v after → written_at link Responder mark ++ queue after ≡ queue v →
+pub stays_out : (opened : LinkParameters) (link : ℕ) (run : List Mark) (v after : ResponderSide) (mark : Mark) → ResponderRunsOut opened link run v → end_of after ≡ end_of v → SameCalls v after → after.link.state.agreed ≡ v.link.state.agreed → written_at link Responder mark ++ queue after ≡ queue v →
     ResponderRunsOut opened link (run ++ mark ∷ []) after
-stays_out opened link run v after mark h end same left = record {
+stays_out opened link run v after mark h end same agreed left = record {
   output = subst (λ (o : Option End). ServerRunsOut opened link o (queue after) (run ++ mark ∷ [])) (sym end) (server_stays_out_lem opened link (end_of v) (queue v) (queue after) run mark h.output left);
   stopped = h.stopped;
   received = (
@@ -129,12 +132,13 @@ stays_out opened link run v after mark h end same left = record {
   calls = same.calls ∙ h.calls;
   ready = same.ready ∙ h.ready;
   credits = same.credits ∙ h.credits;
+  agreed = subst (λ (a : Agreement). KeepsAgreed (server opened link h.stopped).state a) (sym agreed) h.agreed;
 }
 
 -- what is fed to a side that has ended changes nothing
 pub ended_stands : (opened : LinkParameters) (link : ℕ) (run : List Mark) (v : ResponderSide) (piece : List ℕ) → is_some (end_of v) ≡ true → ResponderRepresents opened link run v → ResponderRepresents opened link (run ++ marks.Fed link Responder piece ∷ []) v
 ended_stands opened link run v piece over (inl h) = inl (fed_represents opened link run v v piece (ended_fed_lem v piece over) h)
-ended_stands opened link run v piece over (inr out) = inr (stays_out opened link run v v (marks.Fed link Responder piece) out refl (record { calls = refl; ready = refl; credits = refl }) refl)
+ended_stands opened link run v piece over (inr out) = inr (stays_out opened link run v v (marks.Fed link Responder piece) out refl (record { calls = refl; ready = refl; credits = refl }) refl refl)
 
 -- one that hasn't ended didn't run out of memory
 pub represents : (opened : LinkParameters) (link : ℕ) (run : List Mark) (v : ResponderSide) → end_of v ≡ None → ResponderRepresents opened link run v → RepresentsServer opened link run v
@@ -149,7 +153,8 @@ ran_out opened link run v after piece n out r output =
     let mark : Mark = marks.Fed link Responder piece in
     let s : RepresentsServer opened link (run ++ part ∷ []) out.stopped = fed_represents opened link run v out.stopped (take n piece) out.fed r in
     let both : (s.end.ended ≡ None) × Keeps opened s.end.state s.input out.stopped = not_ended_lem opened s.end s.input out.stopped out.live s.keeps in
-    let same : queue after ≡ queue out.stopped = ap queued_bytes (out.needs opened s.end s.input s.keeps).1.0 in
+    let output : KeepsOutput out.stopped.link.state after.link.state = (out.needs opened s.end s.input s.keeps).1.0 in
+    let same : queue after ≡ queue out.stopped = ap queued_bytes output.queue in
     record {
       output = output;
       stopped = run ++ part ∷ [];
@@ -168,6 +173,9 @@ ran_out opened link run v after piece n out r output =
       calls = out.same.calls ∙ both.1.calls ∙ ap (λ (e : EndState ServerState). e.state.calls) s.stands.keeps;
       ready = out.same.ready ∙ both.1.ready ∙ ap (λ (e : EndState ServerState). map (λ (q : ReadyCall). q.xid) e.state.ready) s.stands.keeps;
       credits = out.same.credits ∙ both.1.credits ∙ ap (λ (e : EndState ServerState). e.state.credit) s.stands.keeps;
+      agreed =
+          subst (λ (e : EndState ServerState). KeepsAgreed e.state after.link.state.agreed) s.stands.keeps
+          (subst (λ (a : Agreement). KeepsAgreed s.end.state a) (sym output.agreed) (keeps_agreed opened s.end.state out.stopped.link.state out.stopped.link.state.place both.1.link both.1.server));
     }
 
 pub fed_stands_lem : (opened : LinkParameters) (link : ℕ) (run : List Mark) (v after : ResponderSide) (piece : List ℕ) → Fed v piece after → end_of v ≡ None → ResponderRepresents opened link run v → ResponderRepresents opened link (run ++ marks.Fed link Responder piece ∷ []) after
@@ -181,7 +189,7 @@ fed_stands_lem opened link run v after piece (RanOut n out) live h =
     let events : input_events link Responder r.input (marks.Fed link Responder piece) ≡ es ++ more = own link true (received_events r.input piece) ∙ all in
     let rest : List ℕ = output_for_all (server_rules opened) (end_state_after (server_rules opened) r.end es) more in
     let first : queue after ++ rest ≡ queue v ++ output_for_all (server_rules opened) r.end (input_events link Responder r.input (marks.Fed link Responder piece)) =
-    ap (λ (bytes : List ℕ). bytes ++ rest) (ap queued_bytes (out.needs opened (end_state_after (server_rules opened) r.end es) (input_after r.input (take n piece)) goes.keeps).1.0 ∙ goes.output)
+    ap (λ (bytes : List ℕ). bytes ++ rest) (ap queued_bytes (out.needs opened (end_state_after (server_rules opened) r.end es) (input_after r.input (take n piece)) goes.keeps).1.0.queue ∙ goes.output)
     ∙ append_assoc (queue v) (output_for_all (server_rules opened) r.end es) rest
     ∙ ap (λ (bytes : List ℕ). queue v ++ bytes) (sym (output_for_all_append (server_rules opened) r.end es more) ∙ ap (output_for_all (server_rules opened) r.end) (sym events)) in
     let runs = server_runs_out_lem opened link r.end r.input (queue v) (queue after) run (marks.Fed link Responder piece) r.stands (rest, first) in

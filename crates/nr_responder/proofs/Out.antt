@@ -1,6 +1,6 @@
 -- A responder that runs out of memory at a frame: the server has output of its own for the frame, or it completes the Send of a call with a
 -- read chunk.
-use Rattle.std.proofs.Common.{◌≡◌, ◌≢◌, ℕ, ◌+◌, ◌<◌, Bool, true, false, List, [], ◌∷◌, ◌++◌, length, Option, Some, None, Ok, refl, sym, ap, subst, ◌∙◌, arith, inl, inr, length-append}
+use Rattle.std.proofs.Common.{◌≡◌, ◌≢◌, ℕ, ◌+◌, ◌<◌, Bool, true, false, List, [], ◌∷◌, ◌++◌, length, Option, Some, None, Ok, refl, sym, ap, subst, ◌∙◌, arith, inl, inr, length-append, cond, is_some}
 use Rattle.std.proofs.lemmas.List.{append-nil}
 use Rattle.nr_wire.specs.declared.hello.Side.TheVariants.{Initiator}
 use Rattle.nr_wire.specs.declared.stream.Awaited.{Awaited}
@@ -11,6 +11,7 @@ use Rattle.nr_wire.specs.Segment.{Segment, segment_of}
 use Rattle.nr_wire.specs.Segment.Segment.{Tagged, Untagged}
 use Rattle.nr_wire.specs.Stream.{is_whole, IsPartial}
 use Rattle.nr_link.specs.declared.end.End.{End}
+use Rattle.nr_link.specs.declared.end.End.TheVariants as ends
 use Rattle.nr_link.specs.Ending.{frame_segment}
 use Rattle.nr_link.specs.Frames.{Frame, is_hello}
 use Rattle.nr_link.specs.Input.{InputState}
@@ -35,7 +36,7 @@ use Rattle.nr_reduce.specs.Server.{server_rules}
 use Rattle.nr_responder.specs.ResponderState.{ResponderSide, queue, queued_bytes, end_of}
 use Rattle.nr_responder.specs.Keeping.{Begins, Keeps, KeepsEnd}
 use Rattle.nr_responder.specs.Keeping.Begins.{BeforeHello, AfterHello}
-use Rattle.nr_responder.specs.Steps.{TakesMemory, ResponderRanOutAt, Fed, frame_by}
+use Rattle.nr_responder.specs.Steps.{TakesMemory, ResponderRanOutAt, Fed, frame_by, KeepsOutput}
 use Rattle.nr_responder.specs.Steps.Fed.{RanOut}
 use Rattle.nr_responder.specs.private.Handling.{IsServerOf, MessageTakes, refused_effect, on_link}
 use Rattle.nr_responder.specs.private.Handling.MessageTakes.{EndsFor, ErrorFor, ReadsFor}
@@ -111,10 +112,13 @@ message_takes opened k so_far v frame w queue_number msn offset payload h after_
       bytes = read.bytes;
     })
 
+state_output : (s t u : LinkState) → t ≡ u → u.send_queue ≡ s.send_queue → u.agreed ≡ s.agreed → KeepsOutput s t
+state_output s t u is queue agreed = record { queue = ap (λ (x : LinkState). x.send_queue) is ∙ queue; agreed = ap (λ (x : LinkState). x.agreed) is ∙ agreed }
+
 -- what a frame that lives brings to be delivered
 frame_message : (opened : LinkParameters) (k : ServerState) (so_far : InputState) (v : ResponderSide) (frame : List ℕ) (number : ℕ) (invalidated : Option ℕ) (message : List ℕ) (rest : List DeliveredEvent) → Keeps opened k so_far v → 0 < length frame →
     (with_frame v.link.state v.link.awaited frame).ended ≡ None → (with_frame v.link.state v.link.awaited frame).receive_queue.deliveries ≡ MessageReceived number invalidated message ∷ rest →
-    (number ≡ k.received.sends + 1 → MessageTakes k message) → ((with_frame v.link.state v.link.awaited frame).send_queue ≡ v.link.state.send_queue) × TakesMemory opened k (next_frame v.link.state frame)
+    (number ≡ k.received.sends + 1 → MessageTakes k message) → KeepsOutput v.link.state (with_frame v.link.state v.link.awaited frame) × TakesMemory opened k (next_frame v.link.state frame)
 frame_message opened k so_far v frame number invalidated message rest h some lives one takes = by h.begins
   where
     s : LinkState
@@ -124,7 +128,7 @@ frame_message opened k so_far v frame number invalidated message rest h some liv
     none_told deliveries none is = (let two : [] ≡ MessageReceived number invalidated message ∷ rest = sym none ∙ is in cc)
 
     fpdu : 0 < s.place → (with_frame s Fpdu frame).ended ≡ None → (with_frame s Fpdu frame).receive_queue.deliveries ≡ MessageReceived number invalidated message ∷ rest → (send : IsSend s frame) → (b : Bool) → send.last ≡ b →
-        ((with_frame s Fpdu frame).send_queue ≡ s.send_queue) × TakesMemory opened k (next_frame s frame)
+        KeepsOutput s (with_frame s Fpdu frame) × TakesMemory opened k (next_frame s frame)
     fpdu place lives_on told send false is =
         let reads : segment_of frame ≡ Ok (Untagged false OPCODE_SEND send.w send.queue_number send.msn send.offset send.payload) = send.reads ∙ ap (λ (b : Bool). Ok (Untagged b OPCODE_SEND send.w send.queue_number send.msn send.offset send.payload)) is in
         let state = (frame_lives s frame (Untagged false OPCODE_SEND send.w send.queue_number send.msn send.offset send.payload) reads lives_on).1 ∙ part_framed s frame send.w send.queue_number send.msn send.offset send.payload in
@@ -139,7 +143,7 @@ frame_message opened k so_far v frame number invalidated message rest h some liv
         let own : whole ≡ message = cc in
         let count : s.receive_queue.received.sends + 1 ≡ number = cc in
         let taken : MessageTakes k message = takes (sym count ∙ ap (λ (r : ReceiveState). r.sends + 1) h.link.received) in (
-          ap (λ (t : LinkState). t.send_queue) state,
+          state_output s (with_frame s Fpdu frame) _ state refl refl,
           message_takes opened k so_far v frame send.w send.queue_number send.msn send.offset send.payload h place some reads lives_on (subst (λ (m : List ℕ). MessageTakes k m) (sym own) taken),
         )
 
@@ -148,24 +152,36 @@ frame_message opened k so_far v frame number invalidated message rest h some liv
     no_message false is = (let two : [] ≡ MessageReceived number invalidated message ∷ rest = is in cc)
 
     either : 0 < s.place → (with_frame s Fpdu frame).ended ≡ None → (with_frame s Fpdu frame).receive_queue.deliveries ≡ MessageReceived number invalidated message ∷ rest → Lives s frame →
-        ((with_frame s Fpdu frame).send_queue ≡ s.send_queue) × TakesMemory opened k (next_frame s frame)
+        KeepsOutput s (with_frame s Fpdu frame) × TakesMemory opened k (next_frame s frame)
     either place lives_on told (inl send) = fpdu place lives_on told send send.last refl
     either place lives_on told (inr r) = absurd (no_message r.last (sym (response_deliveries opened k so_far v frame h lives_on r r.last refl) ∙ told))
 
-    by : Begins v.link → ((with_frame s v.link.awaited frame).send_queue ≡ s.send_queue) × TakesMemory opened k (next_frame s frame)
+    by : Begins v.link → KeepsOutput s (with_frame s v.link.awaited frame) × TakesMemory opened k (next_frame s frame)
     by (BeforeHello place awaited hello none) =
         let as_hello : with_frame s v.link.awaited frame ≡ with_peer_hello (next_frame s frame) (hello_of Initiator frame) s = ap (λ (a : Awaited). with_frame s a frame) awaited in
         absurd (none_told (with_frame s v.link.awaited frame).receive_queue.deliveries (ap (λ (t : LinkState). t.receive_queue.deliveries) as_hello ∙ hello_deliveries s (next_frame s frame) (hello_of Initiator frame) ∙ h.link.told) one)
     by (AfterHello place awaited hello) =
         let lives_on : (with_frame s Fpdu frame).ended ≡ None = subst (λ (a : Awaited). (with_frame s a frame).ended ≡ None) awaited lives in
         let told_on = subst (λ (a : Awaited). (with_frame s a frame).receive_queue.deliveries ≡ MessageReceived number invalidated message ∷ rest) awaited one in
-        subst (λ (a : Awaited). ((with_frame s a frame).send_queue ≡ s.send_queue) × TakesMemory opened k (next_frame s frame)) (sym awaited) (either place lives_on told_on (frame_is opened k s frame h.link h.server lives_on))
+        subst (λ (a : Awaited). KeepsOutput s (with_frame s a frame) × TakesMemory opened k (next_frame s frame)) (sym awaited) (either place lives_on told_on (frame_is opened k s frame h.link h.server lives_on))
 
 -- ---- A step
 
 told_same : (m : LinkSide) → (after_call m NextEvent).state.send_queue ≡ m.state.send_queue
 unfolding after_call
 told_same m = refl
+
+told_agreed : (m : LinkSide) → (after_call m NextEvent).state.agreed ≡ m.state.agreed
+unfolding after_call
+told_agreed m = refl
+
+-- running out of memory queues nothing
+out_output : (l m : LinkSide) → l.state.ended ≡ None → m ≡ after_call l OutOfMemory → KeepsOutput l.state m.state
+unfolding after_call
+out_output l m live is =
+    let state : m.state ≡ cond (is_some l.state.ended) l.state (record l.state { ended = Some ends.Memory }) = ap (λ (x : LinkSide). x.state) is in
+    let now : m.state ≡ record l.state { ended = Some ends.Memory } = state ∙ ap (λ (o : Option End). cond (is_some o) l.state (record l.state { ended = Some ends.Memory })) live in
+    record { queue = ap (λ (t : LinkState). t.send_queue) now; agreed = ap (λ (t : LinkState). t.agreed) now }
 
 -- it ran out of memory for a message
 pub out_by_message : (v after : ResponderSide) (piece : List ℕ) (m : LinkSide) (number : ℕ) (invalidated : Option ℕ) (message : List ℕ) (rest : List DeliveredEvent) → end_of v ≡ None → IsPartial v.link.awaited v.link.rest → StepOf v.link piece m → m.state.ended ≡ None →
@@ -179,11 +195,11 @@ out_by_message v after piece m number invalidated message rest live_now p step l
       live = live_now;
       ended = ap end_of ran.is_out ∙ ended.0;
       same = record { calls = ap (λ (x : ResponderSide). x.calls) ran.is_out; ready = ap (λ (x : ResponderSide). x.ready) ran.is_out; credits = ap (λ (x : ResponderSide). x.credits) ran.is_out };
-      needs = λ opened end so_far keeps. needs opened end so_far keeps (ap (λ (x : ResponderSide). x.link.state.send_queue) ran.is_out ∙ ended.1) step;
+      needs = λ opened end so_far keeps. needs opened end so_far keeps (out_output (after_call m NextEvent) after.link (t.live ∙ lives) (ap (λ (x : ResponderSide). x.link) ran.is_out)) step;
     }
   where
-    needs : (opened : LinkParameters) (end : EndState ServerState) (so_far : InputState) → KeepsEnd opened end so_far v → after.link.state.send_queue ≡ (after_call m NextEvent).state.send_queue → StepOf v.link piece m →
-        (is_whole v.link.awaited (v.link.rest ++ piece) ≡ true) × ((after.link.state.send_queue ≡ v.link.state.send_queue) × TakesMemory opened end.state (frame_by v.link piece))
+    needs : (opened : LinkParameters) (end : EndState ServerState) (so_far : InputState) → KeepsEnd opened end so_far v → KeepsOutput (after_call m NextEvent).state after.link.state → StepOf v.link piece m →
+        (is_whole v.link.awaited (v.link.rest ++ piece) ≡ true) × (KeepsOutput v.link.state after.link.state × TakesMemory opened end.state (frame_by v.link piece))
     needs opened end so_far keeps same (Part w link) =
         let h = (not_ended_lem opened end so_far v live_now keeps).1 in
         let none : m.state.receive_queue.deliveries ≡ [] = ap (λ (l : LinkSide). l.state.receive_queue.deliveries) link ∙ h.link.told in
@@ -197,33 +213,36 @@ out_by_message v after piece m number invalidated message rest live_now p step l
         let found = frame_message opened end.state so_far v frame number invalidated message rest h long lives_on told_on (ran.takes end.state server) in (
           w,
           (
-            same ∙ told_same m ∙ ap (λ (l : LinkSide). l.state.send_queue) link ∙ found.0,
+            record {
+              queue = same.queue ∙ told_same m ∙ ap (λ (l : LinkSide). l.state.send_queue) link ∙ found.0.queue;
+              agreed = same.agreed ∙ told_agreed m ∙ ap (λ (l : LinkSide). l.state.agreed) link ∙ found.0.agreed;
+            },
             subst (λ (bytes : List ℕ). TakesMemory opened end.state (next_frame v.link.state bytes)) frame_is found.1,
           ),
         )
 
-sent_same : (s : LinkState) (frame : List ℕ) (send : IsSend s frame) → (with_frame s Fpdu frame).ended ≡ None → (b : Bool) → send.last ≡ b → (with_frame s Fpdu frame).send_queue ≡ s.send_queue
+sent_same : (s : LinkState) (frame : List ℕ) (send : IsSend s frame) → (with_frame s Fpdu frame).ended ≡ None → (b : Bool) → send.last ≡ b → KeepsOutput s (with_frame s Fpdu frame)
 sent_same s frame send lives false is =
     let reads : segment_of frame ≡ Ok (Untagged false OPCODE_SEND send.w send.queue_number send.msn send.offset send.payload) = send.reads ∙ ap (λ (b : Bool). Ok (Untagged b OPCODE_SEND send.w send.queue_number send.msn send.offset send.payload)) is in
-    ap (λ (t : LinkState). t.send_queue) ((frame_lives s frame (Untagged false OPCODE_SEND send.w send.queue_number send.msn send.offset send.payload) reads lives).1 ∙ part_framed s frame send.w send.queue_number send.msn send.offset send.payload)
+    state_output s (with_frame s Fpdu frame) _ ((frame_lives s frame (Untagged false OPCODE_SEND send.w send.queue_number send.msn send.offset send.payload) reads lives).1 ∙ part_framed s frame send.w send.queue_number send.msn send.offset send.payload) refl refl
 sent_same s frame send lives true is =
     let reads : segment_of frame ≡ Ok (Untagged true OPCODE_SEND send.w send.queue_number send.msn send.offset send.payload) = send.reads ∙ ap (λ (b : Bool). Ok (Untagged b OPCODE_SEND send.w send.queue_number send.msn send.offset send.payload)) is in
-    ap (λ (t : LinkState). t.send_queue) ((frame_lives s frame (Untagged true OPCODE_SEND send.w send.queue_number send.msn send.offset send.payload) reads lives).1 ∙ last_framed s frame send.w send.queue_number send.msn send.offset send.payload)
+    state_output s (with_frame s Fpdu frame) _ ((frame_lives s frame (Untagged true OPCODE_SEND send.w send.queue_number send.msn send.offset send.payload) reads lives).1 ∙ last_framed s frame send.w send.queue_number send.msn send.offset send.payload) refl refl
 
-response_same : (s : LinkState) (frame : List ℕ) (r : IsResponse s frame) → (with_frame s Fpdu frame).ended ≡ None → (b : Bool) → r.last ≡ b → (with_frame s Fpdu frame).send_queue ≡ s.send_queue
+response_same : (s : LinkState) (frame : List ℕ) (r : IsResponse s frame) → (with_frame s Fpdu frame).ended ≡ None → (b : Bool) → r.last ≡ b → KeepsOutput s (with_frame s Fpdu frame)
 response_same s frame r lives true is =
-    ap (λ (t : LinkState). t.send_queue) ((frame_lives s frame (Tagged true OPCODE_READ_RESPONSE r.stag r.to r.payload) (response_reads s frame r true is) lives).1 ∙ last_link s frame r.stag r.to r.payload)
+    state_output s (with_frame s Fpdu frame) _ ((frame_lives s frame (Tagged true OPCODE_READ_RESPONSE r.stag r.to r.payload) (response_reads s frame r true is) lives).1 ∙ last_link s frame r.stag r.to r.payload) refl refl
 response_same s frame r lives false is =
-    ap (λ (t : LinkState). t.send_queue) ((frame_lives s frame (Tagged false OPCODE_READ_RESPONSE r.stag r.to r.payload) (response_reads s frame r false is) lives).1 ∙ part_link s frame r.stag r.to r.payload)
+    state_output s (with_frame s Fpdu frame) _ ((frame_lives s frame (Tagged false OPCODE_READ_RESPONSE r.stag r.to r.payload) (response_reads s frame r false is) lives).1 ∙ part_link s frame r.stag r.to r.payload) refl refl
 
-pub lives_same : (s : LinkState) (frame : List ℕ) → Lives s frame → (with_frame s Fpdu frame).ended ≡ None → (with_frame s Fpdu frame).send_queue ≡ s.send_queue
+pub lives_same : (s : LinkState) (frame : List ℕ) → Lives s frame → (with_frame s Fpdu frame).ended ≡ None → KeepsOutput s (with_frame s Fpdu frame)
 lives_same s frame (inl send) lives = sent_same s frame send lives send.last refl
 lives_same s frame (inr r) lives = response_same s frame r lives r.last refl
 
 -- it ran out of memory as a read was done
 read_needs : (opened : LinkParameters) (k : ServerState) (so_far : InputState) (v : ResponderSide) (frame : List ℕ) (x : PendingRead) (rest : List PendingRead) → Keeps opened k so_far v → 0 < length frame → (with_frame v.link.state v.link.awaited frame).ended ≡ None →
     (with_frame v.link.state v.link.awaited frame).receive_queue.deliveries ≡ ReadDone ∷ [] → v.fetching.reads ≡ x ∷ rest → ReadTakes (on_link v (after_call (record { awaited = Fpdu; rest = []; state = with_frame v.link.state v.link.awaited frame }) NextEvent)) x rest →
-    ((with_frame v.link.state v.link.awaited frame).send_queue ≡ v.link.state.send_queue) × TakesMemory opened k (next_frame v.link.state frame)
+    KeepsOutput v.link.state (with_frame v.link.state v.link.awaited frame) × TakesMemory opened k (next_frame v.link.state frame)
 read_needs opened k so_far v frame x rest h some lives one reads takes = by h.begins
   where
     s : LinkState
@@ -255,11 +274,11 @@ read_needs opened k so_far v frame x rest h some lives one reads takes = by h.be
     last lives_on told r false is = absurd (none_told (with_frame s Fpdu frame).receive_queue.deliveries (response_deliveries opened k so_far v frame h lives_on r false is) told)
 
     either : 0 < s.place → (with_frame s Fpdu frame).ended ≡ None → (with_frame s Fpdu frame).receive_queue.deliveries ≡ ReadDone ∷ [] → ReadTakes (on_link v (after_call (record { awaited = Fpdu; rest = []; state = with_frame s Fpdu frame }) NextEvent)) x rest → Lives s frame →
-        ((with_frame s Fpdu frame).send_queue ≡ s.send_queue) × TakesMemory opened k (next_frame s frame)
+        KeepsOutput s (with_frame s Fpdu frame) × TakesMemory opened k (next_frame s frame)
     either place lives_on told memory (inl send) = absurd (sent lives_on told send send.last refl)
     either place lives_on told memory (inr r) = (response_same s frame r lives_on r.last refl, done place lives_on memory r (last lives_on told r r.last refl))
 
-    by : Begins v.link → ((with_frame s v.link.awaited frame).send_queue ≡ s.send_queue) × TakesMemory opened k (next_frame s frame)
+    by : Begins v.link → KeepsOutput s (with_frame s v.link.awaited frame) × TakesMemory opened k (next_frame s frame)
     by (BeforeHello place awaited hello none) =
         let as_hello : with_frame s v.link.awaited frame ≡ with_peer_hello (next_frame s frame) (hello_of Initiator frame) s = ap (λ (a : Awaited). with_frame s a frame) awaited in
         absurd (none_told (with_frame s v.link.awaited frame).receive_queue.deliveries (ap (λ (t : LinkState). t.receive_queue.deliveries) as_hello ∙ hello_deliveries s (next_frame s frame) (hello_of Initiator frame) ∙ h.link.told) one)
@@ -267,7 +286,7 @@ read_needs opened k so_far v frame x rest h some lives one reads takes = by h.be
         let lives_on : (with_frame s Fpdu frame).ended ≡ None = subst (λ (a : Awaited). (with_frame s a frame).ended ≡ None) awaited lives in
         let told_on = subst (λ (a : Awaited). (with_frame s a frame).receive_queue.deliveries ≡ ReadDone ∷ []) awaited one in
         let memory = subst (λ (a : Awaited). ReadTakes (on_link v (after_call (record { awaited = Fpdu; rest = []; state = with_frame s a frame }) NextEvent)) x rest) awaited takes in
-        subst (λ (a : Awaited). ((with_frame s a frame).send_queue ≡ s.send_queue) × TakesMemory opened k (next_frame s frame)) (sym awaited) (either place lives_on told_on memory (frame_is opened k s frame h.link h.server lives_on))
+        subst (λ (a : Awaited). KeepsOutput s (with_frame s a frame) × TakesMemory opened k (next_frame s frame)) (sym awaited) (either place lives_on told_on memory (frame_is opened k s frame h.link h.server lives_on))
 
 pub out_by_read : (v after : ResponderSide) (piece : List ℕ) (m : LinkSide) (x : PendingRead) (rest : List PendingRead) → end_of v ≡ None → IsPartial v.link.awaited v.link.rest → StepOf v.link piece m → m.state.ended ≡ None →
     m.state.receive_queue.deliveries ≡ ReadDone ∷ [] → v.fetching.reads ≡ x ∷ rest → ReadRanOut (on_link v (after_call m NextEvent)) x rest after → ResponderRanOutAt v piece 0 after
@@ -280,11 +299,11 @@ out_by_read v after piece m x rest live_now p step lives one reads ran =
       live = live_now;
       ended = ap end_of ran.is_out ∙ ended.0;
       same = record { calls = ap (λ (x : ResponderSide). x.calls) ran.is_out; ready = ap (λ (x : ResponderSide). x.ready) ran.is_out; credits = ap (λ (x : ResponderSide). x.credits) ran.is_out };
-      needs = λ opened end so_far keeps. needs opened end so_far keeps (ap (λ (x : ResponderSide). x.link.state.send_queue) ran.is_out ∙ ended.1) step;
+      needs = λ opened end so_far keeps. needs opened end so_far keeps (out_output (after_call m NextEvent) after.link (t.live ∙ lives) (ap (λ (x : ResponderSide). x.link) ran.is_out)) step;
     }
   where
-    needs : (opened : LinkParameters) (end : EndState ServerState) (so_far : InputState) → KeepsEnd opened end so_far v → after.link.state.send_queue ≡ (after_call m NextEvent).state.send_queue → StepOf v.link piece m →
-        (is_whole v.link.awaited (v.link.rest ++ piece) ≡ true) × ((after.link.state.send_queue ≡ v.link.state.send_queue) × TakesMemory opened end.state (frame_by v.link piece))
+    needs : (opened : LinkParameters) (end : EndState ServerState) (so_far : InputState) → KeepsEnd opened end so_far v → KeepsOutput (after_call m NextEvent).state after.link.state → StepOf v.link piece m →
+        (is_whole v.link.awaited (v.link.rest ++ piece) ≡ true) × (KeepsOutput v.link.state after.link.state × TakesMemory opened end.state (frame_by v.link piece))
     needs opened end so_far keeps same (Part w link) =
         let h = (not_ended_lem opened end so_far v live_now keeps).1 in
         let none : m.state.receive_queue.deliveries ≡ [] = ap (λ (l : LinkSide). l.state.receive_queue.deliveries) link ∙ h.link.told in
@@ -298,7 +317,10 @@ out_by_read v after piece m x rest live_now p step lives one reads ran =
         let found = read_needs opened end.state so_far v frame x rest h long lives_on told_on reads takes in (
           w,
           (
-            same ∙ told_same m ∙ ap (λ (l : LinkSide). l.state.send_queue) link ∙ found.0,
+            record {
+              queue = same.queue ∙ told_same m ∙ ap (λ (l : LinkSide). l.state.send_queue) link ∙ found.0.queue;
+              agreed = same.agreed ∙ told_agreed m ∙ ap (λ (l : LinkSide). l.state.agreed) link ∙ found.0.agreed;
+            },
             subst (λ (bytes : List ℕ). TakesMemory opened end.state (next_frame v.link.state bytes)) frame_is found.1,
           ),
         )
@@ -312,7 +334,7 @@ out_frame v opened k so_far frame h long more None e (BeforeHello place awaited 
 out_frame v opened k so_far frame h long more None e (AfterHello place awaited hello) =
     let lives_on : (with_frame v.link.state Fpdu frame).ended ≡ None = subst (λ (a : Awaited). (with_frame v.link.state a frame).ended ≡ None) awaited e in
     let still : output_len v.link.state.send_queue < output_len (with_frame v.link.state Fpdu frame).send_queue = subst (λ (a : Awaited). output_len v.link.state.send_queue < output_len (with_frame v.link.state a frame).send_queue) awaited more in
-    absurd (let same = lives_same v.link.state frame (frame_is opened k v.link.state frame h.link h.server lives_on) lives_on in omega (arith, still, ap output_len same))
+    absurd (let same = lives_same v.link.state frame (frame_is opened k v.link.state frame h.link h.server lives_on) lives_on in omega (arith, still, ap output_len same.queue))
 
 -- it ran out of memory in its side of the link
 pub out_by_link : (v after : ResponderSide) (piece : List ℕ) → end_of v ≡ None → IsPartial v.link.awaited v.link.rest → after ≡ on_link v (after_call v.link OutOfMemory) → makes_whole v.link piece ≡ true → QueuesOutput v.link piece → Fed v piece after
@@ -325,7 +347,7 @@ out_by_link v after piece live_now p is whole queues =
       ended = ap end_of is ∙ ended.0;
       same = record { calls = ap (λ (x : ResponderSide). x.calls) is; ready = ap (λ (x : ResponderSide). x.ready) is; credits = ap (λ (x : ResponderSide). x.credits) is };
       needs = λ opened end so_far keeps.
-          (whole, (ap (λ (x : ResponderSide). x.link.state.send_queue) is ∙ ended.1, inl (needs opened end so_far keeps (step_of v.link (after_call v.link (FeedOne piece)) piece p live_now refl))));
+          (whole, (out_output v.link after.link live_now (ap (λ (x : ResponderSide). x.link) is), inl (needs opened end so_far keeps (step_of v.link (after_call v.link (FeedOne piece)) piece p live_now refl))));
     })
   where
     needs : (opened : LinkParameters) (end : EndState ServerState) (so_far : InputState) → KeepsEnd opened end so_far v → StepOf v.link piece (after_call v.link (FeedOne piece)) →

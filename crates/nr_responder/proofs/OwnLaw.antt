@@ -69,7 +69,7 @@ others_leave_it opened link v run mark other (inl h) =
     inl (no_event_represents opened link run v mark none.fed none.written none.events h)
 others_leave_it opened link v run mark other (inr out) =
     let none : IsNothing link mark = of_others link mark other in
-    inr (stays_out opened link run v v mark out refl (record { calls = refl; ready = refl; credits = refl }) (ap (λ (bytes : List ℕ). bytes ++ queue v) none.written))
+    inr (stays_out opened link run v v mark out refl (record { calls = refl; ready = refl; credits = refl }) refl (ap (λ (bytes : List ℕ). bytes ++ queue v) none.written))
 
 -- ---- The law of a mark
 

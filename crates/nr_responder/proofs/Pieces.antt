@@ -22,7 +22,7 @@ use Rattle.nr_reduce.proofs.Steps.{end_state_after_append, output_for_all_append
 use Rattle.nr_responder.specs.ResponderState.{ResponderSide, queue, end_of}
 use Rattle.nr_responder.specs.Keeping.{KeepsEnd}
 use Rattle.nr_link.specs.declared.end.End.TheVariants as ends
-use Rattle.nr_responder.specs.Steps.{received_events, GoesOn, FedOn, TakesMemory, frame_by, Fed}
+use Rattle.nr_responder.specs.Steps.{received_events, GoesOn, FedOn, TakesMemory, frame_by, Fed, KeepsOutput}
 use Rattle.nr_responder.specs.Steps.Fed.{WentOn, RanOut}
 
 -- ---- The input of a piece in two parts
@@ -150,6 +150,6 @@ fed_join a b c x y (WentOn first) live (RanOut n out) =
       ended = out.ended;
       same = out.same;
       needs = subst (λ (bytes : List ℕ). (opened : LinkParameters) (end : EndState ServerState) (input : InputState) → KeepsEnd opened end input out.stopped →
-          (is_whole out.stopped.link.awaited (out.stopped.link.rest ++ bytes) ≡ true) × ((c.link.state.send_queue ≡ out.stopped.link.state.send_queue) × TakesMemory opened end.state (frame_by out.stopped.link bytes))) (sym (drop_past n x y)) out.needs;
+          (is_whole out.stopped.link.awaited (out.stopped.link.rest ++ bytes) ≡ true) × (KeepsOutput out.stopped.link.state c.link.state × TakesMemory opened end.state (frame_by out.stopped.link bytes))) (sym (drop_past n x y)) out.needs;
     })
 fed_join a b c x y (RanOut n out) live second = absurd (let two : Some ends.Memory ≡ None = sym out.ended ∙ live in cc)

@@ -39,7 +39,7 @@ use Rattle.nr_endpoint.proofs.Queued.{send_some, request_some}
 use Rattle.nr_reduce.proofs.MemorySteps.{offered_later}
 use Rattle.nr_responder.specs.Fetching.{SinkRegion, Fetching, open_sinks}
 use Rattle.nr_responder.specs.ResponderState.{ResponderSide, queued_bytes}
-use Rattle.nr_responder.specs.Keeping.{ArePayloads, Keeps, KeepsEnd, later_responses, open_responses}
+use Rattle.nr_responder.specs.Keeping.{ArePayloads, Keeps, KeepsEnd, later_responses, open_responses, KeepsAgreed}
 use Rattle.nr_responder.specs.private.Reading.{sink_bytes, over_sinks, left_sinks, opening}
 use Rattle.nr_responder.specs.private.Handling.{on_link}
 use Rattle.nr_responder.specs.private.ReadsDone.{side_after_done, ended_as, still_open, read_payload, has_bad_chunk, NothingReady, MakesReady, EndsLink, ReadTakes}
@@ -47,7 +47,7 @@ use Rattle.nr_responder.specs.private.ReadsDone.NothingReady.{Gone, Waits}
 use Rattle.nr_responder.specs.private.ReadsDone.ReadTakes.{Requests, Terminates, Answers}
 use Rattle.nr_responder.proofs.ServerSteps.{quiet_output, closed_if_over}
 use Rattle.nr_responder.proofs.SendFrames.{frame_lives, framed}
-use Rattle.nr_responder.proofs.Frames.{behind, TakesFrame, later_frame}
+use Rattle.nr_responder.proofs.Frames.{behind, TakesFrame, later_frame, keeps_agreed}
 use Rattle.nr_responder.proofs.Queues.{last_queue, last_some, sendable_ended}
 use Rattle.nr_responder.proofs.Sinks.{open_left}
 use Rattle.nr_responder.proofs.Responses.{IsResponse, part_link, part_state, part_effect, response_access, response_memory, response_part_keeps, response_part_server, placed_next, with_part, none_expected}
@@ -335,6 +335,7 @@ done_stopped opened k so_far later_input v frame reason fetching h some long liv
         calls = h.calls ∙ sym (ap (λ (e : EndState ServerState). e.state.calls) at.next);
         ready = h.ready ∙ sym (ap (λ (e : EndState ServerState). map (λ (r : ReadyCall). r.xid) e.state.ready) at.next);
         credits = h.credits ∙ sym (ap (λ (e : EndState ServerState). e.state.credit) at.next);
+        agreed = subst (λ (e : EndState ServerState). KeepsAgreed e.state s.agreed) (sym at.next) (keeps_agreed opened k s s.place h.link h.server);
         sendable =
             ap (λ (x : Side). writable s.has_hello (with_end x end s.send_queue)) h.link.side
             ∙ sendable_ended s.has_hello end s.send_queue (λ e. absurd (let two : true ≡ false = sym (greeted_link v.link s h.begins some refl) ∙ e in cc))

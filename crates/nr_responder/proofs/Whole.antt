@@ -45,7 +45,7 @@ use Rattle.nr_reduce.specs.ServerMessages.Verdict.{MakesPending}
 use Rattle.nr_reduce.specs.ServerFrames.{FrameEffect, no_effect, by_message, frame_effect}
 use Rattle.nr_reduce.specs.Server.{server_rules, server_end, server_output, server_state_after, with_own_hello, or_refusal, refusal_end, server_readiness, with_effect, effect_output}
 use Rattle.nr_responder.specs.ResponderState.{ResponderSide, queued_bytes, unsent}
-use Rattle.nr_responder.specs.Keeping.{IsServer, Begins, LinkKeeps, Keeps, KeepsEnd}
+use Rattle.nr_responder.specs.Keeping.{IsServer, Begins, LinkKeeps, Keeps, KeepsEnd, KeepsAgreed}
 use Rattle.nr_responder.specs.Keeping.Begins.{BeforeHello, AfterHello}
 use Rattle.nr_responder.specs.private.Handling.{inline_call, refused_effect, on_link, with_ready}
 use Rattle.nr_responder.proofs.FrameEnds.{frame_ends}
@@ -54,7 +54,7 @@ use Rattle.nr_responder.proofs.SendFrames.{framed, frame_lives, send_framed, par
 use Rattle.nr_reduce.proofs.MemorySteps.{received_later, offered_later}
 use Rattle.nr_responder.proofs.Queues.{sent_queue, sent_has, last_queue, sendable_ended}
 use Rattle.nr_responder.proofs.Executed.{with_message}
-use Rattle.nr_responder.proofs.Frames.{behind, TakesFrame, later_frame}
+use Rattle.nr_responder.proofs.Frames.{behind, TakesFrame, later_frame, keeps_agreed}
 
 -- ---- The server at a frame that isn't the hello
 
@@ -390,6 +390,9 @@ stopped_takes opened k input later_input v frame w queue_number msn offset paylo
         calls = h.calls ∙ sym (ap (λ (e : EndState ServerState). e.state.calls) at.next);
         ready = h.ready ∙ sym (ap (λ (e : EndState ServerState). map (λ (r : ReadyCall). r.xid) e.state.ready) at.next);
         credits = h.credits ∙ sym (ap (λ (e : EndState ServerState). e.state.credit) at.next);
+        agreed =
+            subst (λ (e : EndState ServerState). KeepsAgreed e.state (told_link s frame).agreed) (sym at.next)
+            (subst (λ (t : LinkState). KeepsAgreed k t.agreed) (sym link) (keeps_agreed opened k s s.place h.link h.server));
         sendable =
             ap (λ (x : Side). writable (told_link s frame).has_hello (with_end x end (told_link s frame).send_queue)) side
             ∙ sendable_ended (told_link s frame).has_hello end (told_link s frame).send_queue (λ e. absurd (let two : true ≡ false = sym (greeted_link v.link (told_link s frame) h.begins behind_hello (ap (λ (t : LinkState). t.has_hello) link)) ∙ e in cc))

@@ -5,6 +5,7 @@ use Rattle.nr_wire.specs.declared.hello.Side.TheVariants.{Initiator, Responder}
 use Rattle.nr_wire.specs.declared.stream.Awaited.TheVariants.{Hello as HelloFrom, Fpdu}
 use Rattle.nr_regions.specs.declared.right.Right.TheVariants.{Sink}
 use Rattle.nr_link.specs.Input.{InputState}
+use Rattle.nr_link.specs.declared.agreement.Agreement.{Agreement}
 use Rattle.nr_link.specs.Agreement.{IsSendLimit}
 use Rattle.nr_link.specs.KeptSends.{received_within}
 use Rattle.nr_link.specs.Output.{msn_word}
@@ -148,13 +149,21 @@ pub record Keeps (opened : LinkParameters) (k : ServerState) (input_now : InputS
   pub payloads : ArePayloads k.calls k.ready v.fetching.payloads
   pub quiet : v.link.state.place ≡ 0 → (v.ready ≡ []) × (k.message_ends ≡ [])
 
--- One that has ended keeps why, and the calls and the credits of the server as it ended. All of its queue may be written.
+-- What both hellos agree on is what the server has agreed on: from one unit to UNITS_MAX of them in each direction.
+pub record KeepsAgreed (k : ServerState) (agreed : Agreement) : Type 0 where
+  pub up : agreed.up ≡ k.up_max
+  pub down : agreed.down ≡ k.down_max
+  pub up_limit : IsSendLimit agreed.up
+  pub down_limit : IsSendLimit agreed.down
+
+-- One that has ended keeps why, and the calls, the credits and what is agreed of the server as it ended. All of its queue may be written.
 pub record KeepsEnded (end : EndState ServerState) (v : ResponderSide) : Type 0 where
   pub over : is_some end.ended ≡ true
   pub why : end_of v ≡ end.ended
   pub calls : v.calls ≡ end.state.calls
   pub ready : v.ready ≡ map (λ r. r.xid) end.state.ready
   pub credits : v.credits ≡ end.state.credit
+  pub agreed : KeepsAgreed end.state v.link.state.agreed
   pub sendable : may_write v ≡ queue v
 
 abbrev pub KeepsEnd : LinkParameters → EndState ServerState → InputState → ResponderSide → Type 0

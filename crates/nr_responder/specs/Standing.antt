@@ -12,7 +12,7 @@ use Rattle.nr_reduce.specs.ServerState.{ServerState}
 use Rattle.nr_reduce.specs.Standing.{ServerRepresents, ServerRunsOut}
 use Rattle.nr_responder.specs.ResponderState.{ResponderSide, queue, end_of}
 use Rattle.nr_responder.specs.HeldBytes.{KeptFits}
-use Rattle.nr_responder.specs.Keeping.{KeepsEnd}
+use Rattle.nr_responder.specs.Keeping.{KeepsAgreed, KeepsEnd}
 
 -- Its state is that of the server after these marks, and its queue is the output that is due by them and isn't written.
 pub record RepresentsServer (opened : LinkParameters) (link : ℕ) (run : List Mark) (v : ResponderSide) : Type 0 where
@@ -23,7 +23,7 @@ pub record RepresentsServer (opened : LinkParameters) (link : ℕ) (run : List M
 
 -- Or it ran out of memory while it was fed: what it wrote and its queue are the first bytes of what is due by these marks. When it
 -- stopped, after the marks `stopped`, of which a prefix of what it received was fed to it, the server hadn't ended. All that these marks
--- make due is written or in its queue, and its calls, those that are ready and its credits are those of that server.
+-- make due is written or in its queue, and its calls, those that are ready, its credits and what is agreed are those of that server.
 pub record ResponderRunsOut (opened : LinkParameters) (link : ℕ) (run : List Mark) (v : ResponderSide) : Type 0 where
   pub output : ServerRunsOut opened link (end_of v) (queue v) run
   pub stopped : List Mark
@@ -33,6 +33,7 @@ pub record ResponderRunsOut (opened : LinkParameters) (link : ℕ) (run : List M
   pub calls : v.calls ≡ (server opened link stopped).state.calls
   pub ready : v.ready ≡ map (λ r. r.xid) (server opened link stopped).state.ready
   pub credits : v.credits ≡ (server opened link stopped).state.credit
+  pub agreed : KeepsAgreed (server opened link stopped).state v.link.state.agreed
 
 abbrev pub ResponderRepresents : (opened : LinkParameters) (link : ℕ) (run : List Mark) (v : ResponderSide) → Type 0
 ResponderRepresents opened link run v = RepresentsServer opened link run v ⊎ ResponderRunsOut opened link run v

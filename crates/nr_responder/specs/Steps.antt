@@ -7,7 +7,7 @@ use Rattle.nr_link.specs.Frames.{Frame}
 use Rattle.nr_link.specs.Input.{InputState, input_frames, input_after}
 use Rattle.nr_link.specs.ReceiveState.{message_completed}
 use Rattle.nr_link.specs.Ending.{frame_segment}
-use Rattle.nr_endpoint.specs.LinkState.{LinkSide}
+use Rattle.nr_endpoint.specs.LinkState.{LinkState, LinkSide}
 use Rattle.nr_endpoint.specs.Judging.{next_frame}
 use Rattle.nr_reduce.specs.declared.mark.LinkParameters.{LinkParameters}
 use Rattle.nr_reduce.specs.Events.{RunEvent}
@@ -61,8 +61,13 @@ pub record SameCalls (before after : ResponderSide) : Type 0 where
   pub ready : after.ready ≡ before.ready
   pub credits : after.credits ≡ before.credits
 
+-- its output and what is agreed are as they were
+pub record KeepsOutput (before after : LinkState) : Type 0 where
+  pub queue : after.send_queue ≡ before.send_queue
+  pub agreed : after.agreed ≡ before.agreed
+
 -- It ran out of memory within a piece: at a frame that takes memory, which the bytes after the first n complete. Until then it went
--- on, and its calls and its queue are as they were before that frame.
+-- on, and its calls, its queue and what is agreed are as they were before that frame.
 pub record ResponderRanOutAt (before : ResponderSide) (piece : List ℕ) (n : ℕ) (after : ResponderSide) : Type 0 where
   pub stopped : ResponderSide
   pub fed : FedOn before (take n piece) stopped
@@ -70,7 +75,7 @@ pub record ResponderRanOutAt (before : ResponderSide) (piece : List ℕ) (n : �
   pub ended : end_of after ≡ Some ends.Memory
   pub same : SameCalls stopped after
   pub needs : (opened : LinkParameters) (end : EndState ServerState) (input : InputState) → KeepsEnd opened end input stopped →
-      (is_whole stopped.link.awaited (stopped.link.rest ++ drop n piece) ≡ true) × ((after.link.state.send_queue ≡ stopped.link.state.send_queue) × TakesMemory opened end.state (frame_by stopped.link (drop n piece)))
+      (is_whole stopped.link.awaited (stopped.link.rest ++ drop n piece) ≡ true) × (KeepsOutput stopped.link.state after.link.state × TakesMemory opened end.state (frame_by stopped.link (drop n piece)))
 
 pub data Fed (before : ResponderSide) (piece : List ℕ) (after : ResponderSide) : Type 0 where
   WentOn : FedOn before piece after → Fed before piece after

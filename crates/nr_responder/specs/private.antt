@@ -4,4 +4,6 @@ pub mod DoneReads
 pub mod Reading
 pub mod ReadsDone
 pub mod Handling
+pub mod Invariants
+pub mod NewCalls
 pub mod Starting

@@ -1,7 +1,8 @@
 //! The calls that a responder has not answered.
 
-ghost use Rattle.std.specs.Prelude.{◌≡◌, ◌≢◌, ℕ, ◌==◌, ◌<◌, ◌≤◌, length, drop, take, get_or, map, None, Some, IfSome, true};
-ghost use Rattle.std.specs.List.{list_any};
+ghost use Rattle.std.specs.Prelude.{◌≡◌, ◌≢◌, ℕ, ◌==◌, ◌<◌, ◌≤◌, ◌++◌, ◌∷◌, [], vec_capacity, length, drop, take, get_or, map, None, Some, IfSome, true};
+ghost use Rattle.std.specs.List.{list_any, remove};
+ghost use Rattle.std.specs.VecDeque.{deque_capacity};
 ghost use Rattle.nr_reduce.specs.ServerReads.{is_read};
 ghost use Rattle.nr_header.specs.Header.{no_lists};
 ghost use Rattle.nr_reduce.specs.declared.item.Item.{Item};
@@ -14,6 +15,7 @@ use nr_reduce::Item;
 use nr_regions::Registration;
 use nr_rpc::CallTarget;
 use nr_xdr::Octets;
+use std::collections::VecDeque;
 use std::marker::Model;
 
 /// A call whose Send is complete, and which isn't answered. Its message is the first `len` bytes of its receive buffer, and has its chunk
@@ -178,6 +180,27 @@ pub(crate) fn inline_item(call: &Pending) -> Option<Item>
         Some(item) => item,
         None => None,
     }
+}
+
+/// Takes a call out, and puts its receive to those whose answer hasn't left. There is room for it.
+pub(crate) fn retire(calls: &mut Vec<Pending>, used: &mut VecDeque<Octets>, at: usize)
+    requires at { at < length calls.old.items }
+    requires room { length used.old.items < deque_capacity used.old }
+    ensures calls { calls.new.items ≡ remove calls.old.items at }
+    ensures calls_room { vec_capacity calls.new ≡ vec_capacity calls.old }
+    ensures used { (d : Pending) → used.new.items ≡ used.old.items ++ (get_or calls.old.items at d).buf ∷ [] }
+    ensures used_room { deque_capacity used.new ≡ deque_capacity used.old }
+{
+    let call = calls.remove(at);
+    used.push_back_reserved(call.buf);
+}
+
+/// Drops the first call that is ready.
+pub(crate) fn drop_first(ready: &mut VecDeque<Ready>)
+    ensures items { ready.new.items ≡ drop 1 ready.old.items }
+    ensures room { deque_capacity ready.new ≡ deque_capacity ready.old }
+{
+    drop(ready.pop_front());
 }
 
 /// Puts the lists of a call's message into a room: that message was read before.

@@ -3,6 +3,7 @@
 ghost use Rattle.std.specs.Prelude.{◌≡◌, ◌≢◌, ℕ, ◌+◌, ◌*◌, ◌≤◌, List, length, sum_by, None, Some, All};
 ghost use Rattle.nr_link.specs.declared.end.End.TheVariants as ends;
 ghost use Rattle.nr_wire.specs.Constants.{UNITS_MAX};
+ghost use Rattle.nr_link.specs.Agreement.{IsSendLimit};
 ghost use Rattle.nr_link.specs.Limits.{send_unit};
 ghost use Rattle.nr_link.specs.SegmentFaults.{is_begun};
 ghost use Rattle.nr_endpoint.specs.Receives.{IsReceive};
@@ -15,7 +16,7 @@ ghost use Rattle.nr_responder.specs.HeldBytes.{held_unit, IsBounded, ListsFit};
 ghost use Rattle.nr_responder.specs.ResponderState.{bytes_held_by, end_of, unsent};
 ghost use Rattle.nr_responder.specs.Rooms.{payload_room};
 ghost use Rattle.nr_responder.specs.Sound.{payload_len, room_len, state_of, with_staging, InReceive, ServerEndInvariant};
-ghost use Rattle.nr_responder.specs.Standing.{ResponderRepresents};
+ghost use Rattle.nr_responder.specs.Standing.{RepresentsSome, ResponderRepresents};
 
 use crate::call::{Pending, Ready};
 use crate::room::{Payload, Room};
@@ -147,7 +148,8 @@ impl ServerEnd {
     pub fn agreed(&self) -> (u32, u32)
         ensures up { result.0 ≡ self.now.endpoint.link.state.agreed.up }
         ensures down { result.1 ≡ self.now.endpoint.link.state.agreed.down }
-        ensures of_run { end_of (state_of self.now) ≡ None → (opened : LinkParameters) (link : ℕ) (run : List Mark) → ResponderRepresents opened link run (state_of self.now) →
+        ensures limits { RepresentsSome (state_of self.now) → IsSendLimit result.0 × IsSendLimit result.1 }
+        ensures of_run { end_of (state_of self.now) ≢ Some ends.Memory → (opened : LinkParameters) (link : ℕ) (run : List Mark) → ResponderRepresents opened link run (state_of self.now) →
             (result.0 ≡ (server opened link run).state.up_max) × (result.1 ≡ (server opened link run).state.down_max) }
     {
         self.endpoint.agreed()

@@ -1,28 +1,40 @@
 //! Calls with a read list: their chunks are read before they are ready (RFC 8166 section 3.4.5).
 
-ghost use Rattle.std.specs.Prelude.{◌≡◌, ◌≢◌, ◌⊎◌, ◌+◌, ◌^◌, ◌==◌, ℕ, ◌<◌, ◌≤◌, [], ◌∷◌, None, Some, IfSome, length, map, true, false};
-ghost use Rattle.std.specs.List.{list_all, list_any};
-ghost use Rattle.nr_header.specs.Constants.{PAYLOAD_MAX};
-ghost use Rattle.nr_header.specs.WithinLimits.{read_total};
-ghost use Rattle.nr_endpoint.specs.Receives.{IsReceive};
-ghost use Rattle.nr_responder.specs.private.Handling.{FetchesCall, out};
-ghost use Rattle.nr_responder.specs.Sound.{state_of, InBuffer, ServerEndInvariant, ServerEndInvariantWith, SameInput, WindowsAreRead, WindowsInvariant};
-ghost use Rattle.nr_reduce.specs.ServerReads.{is_read};
-ghost use Rattle.nr_responder.specs.Fetching.{has_bytes, HasBytes};
+ghost use Rattle.std.specs.Prelude.{◌≡◌, ◌≢◌, ◌==◌, IfSome, length, [], ◌∷◌, None, Some, true};
+ghost use Rattle.std.specs.List.{list_all};
 ghost use Rattle.nr_reduce.specs.Chunks.{item_position};
+ghost use Rattle.nr_responder.specs.Fetching.{has_bytes, HasBytes};
+ghost use Rattle.nr_responder.specs.Sound.{state_of, InBuffer};
+ghost use Rattle.nr_responder.specs.Views.{call_view};
+ghost use Rattle.nr_responder.specs.private.CallsRead.{chunk_positions};
+ghost use Rattle.nr_responder.specs.private.Handling.{FetchesCall};
+ghost use Rattle.nr_responder.specs.private.Invariants.{IsKept};
+ghost use Rattle.nr_responder.specs.private.NewCalls.{HasBegun, HasChunks, IsNewCall};
 ghost use Rattle.nr_responder.specs.private.Starting.{FitsWindow};
-ghost use Rattle.nr_responder.specs.private.CallsRead.{chunk_positions, HasNoBytes, reading_call};
-ghost use Rattle.nr_responder.specs.Views.{call_view, read_view};
 
 use crate::call::{OpenSink, Pending, has_number, inline_item};
 use crate::payloads::judge_at_once;
 use crate::read_lists::chunk_positions;
+use crate::room::Room;
 use crate::server_end::ServerEnd;
 use crate::sink_regions::sink_place;
 use crate::starting::{begin_in_place, begin_reads, push_around, push_reading};
 use nr_header::ReadSegment;
 use nr_link::constants::REASON_STAGS;
 use nr_reduce::item_position;
+
+/// What begins for a call with a read list, before it is one of the pending calls.
+#[derive(Drop)]
+pub enum Begun {
+    /// Nothing is read: its payload is the stream of its Send.
+    Complete,
+    /// Its chunks are read, and its payload is put together in this room.
+    InRoom(Room),
+    /// Its chunk is read into a buffer in which its payload is completed, with this many bytes outside of the region.
+    InPlace(usize),
+    /// Nothing: the side has ended.
+    Ended,
+}
 
 /// Whether some entry of a read list has bytes.
 fn has_bytes(read: &[ReadSegment]) -> bool
@@ -95,131 +107,77 @@ fn window_start(
 impl ServerEnd {
     /// A call with a read list.
     pub(crate) fn fetch(&mut self, call: Pending, read: &[ReadSegment])
-        requires sound { ServerEndInvariantWith 1 self.old }
-        requires windows { WindowsAreRead self.old.calls.items self.old.reads.items }
-        requires live { self.old.endpoint.link.state.ended ≡ None }
-        requires frame { 0 < self.old.endpoint.link.state.place }
-        requires call { InBuffer call }
-        requires receive { IsReceive self.old.endpoint.link.state.receive_queue.receive_length call.buf }
-        requires empty { (call.around ≡ 0) × (call.room ≡ None) }
-        requires read { read.now ≡ (call_view call).lists.read }
-        requires reads { read_total read.now ≤ PAYLOAD_MAX }
-        requires fresh { is_read (map read_view self.old.reads.items) call.number ≡ true }
+        requires { IsNewCall self.old call read.now }
         ensures fetched { FetchesCall (state_of self.old) (state_of self.new) (call_view call) }
-        ensures windows { WindowsInvariant self.new }
-        ensures sound { ServerEndInvariant self.new }
-        ensures input { SameInput self.old.endpoint.link self.new.endpoint.link }
-        ensures staging { self.new.endpoint.staging ≡ self.old.endpoint.staging }
+        ensures kept { IsKept self.old self.new }
+    {
+        match self.begin_fetch(&call, read) {
+            Begun::Complete => self.push(call, None),
+            Begun::InRoom(room) => push_reading(&mut self.calls, call, room),
+            Begun::InPlace(around) => push_around(&mut self.calls, call, around),
+            Begun::Ended => drop(call),
+        }
+    }
+
+    /// What begins for a call with a read list.
+    fn begin_fetch(&mut self, call: &Pending, read: &[ReadSegment]) -> Begun
+        requires { IsNewCall self.old call.now read.now }
+        ensures { HasBegun self.old self.new call.now result }
     {
         if has_bytes(read) {
-            self.fetch_chunks(call, read);
-        } else {
-            self.complete_at_once(call, read);
+            return self.read_chunks(call, read);
+        }
+        match judge_at_once(call, read) {
+            None => Begun::Complete,
+            Some(reason) => {
+                self.end_for(reason);
+                Begun::Ended
+            }
         }
     }
 
-    /// A call whose read list has bytes.
-    fn fetch_chunks(&mut self, call: Pending, read: &[ReadSegment])
-        requires sound { ServerEndInvariantWith 1 self.old }
-        requires windows { WindowsAreRead self.old.calls.items self.old.reads.items }
-        requires live { self.old.endpoint.link.state.ended ≡ None }
-        requires frame { 0 < self.old.endpoint.link.state.place }
-        requires call { InBuffer call }
-        requires receive { IsReceive self.old.endpoint.link.state.receive_queue.receive_length call.buf }
-        requires empty { (call.around ≡ 0) × (call.room ≡ None) }
-        requires read { read.now ≡ (call_view call).lists.read }
-        requires reads { read_total read.now ≤ PAYLOAD_MAX }
+    /// What begins for a call whose read list has bytes.
+    fn read_chunks(&mut self, call: &Pending, read: &[ReadSegment]) -> Begun
+        requires new { IsNewCall self.old call.now read.now }
         requires bytes { HasBytes read.now }
-        requires fresh { is_read (map read_view self.old.reads.items) call.number ≡ true }
-        ensures fetched { FetchesCall (state_of self.old) (state_of self.new) (call_view call) }
-        ensures windows { WindowsInvariant self.new }
-        ensures sound { ServerEndInvariant self.new }
-        ensures input { SameInput self.old.endpoint.link self.new.endpoint.link }
-        ensures staging { self.new.endpoint.staging ≡ self.old.endpoint.staging }
+        ensures { HasBegun self.old self.new call.now result }
     {
         match chunk_positions(self.alloc, read) {
-            Ok(chunks) => self.fetch_into(call, chunks.as_slice(), read),
-            Err(_) => self.run_out(),
+            Ok(chunks) => self.read_listed(call, chunks.as_slice(), read),
+            Err(_) => {
+                self.run_out();
+                Begun::Ended
+            }
         }
     }
 
-    /// A call with these chunks that have bytes.
-    fn fetch_into(&mut self, call: Pending, chunks: &[u32], read: &[ReadSegment])
-        requires sound { ServerEndInvariantWith 1 self.old }
-        requires windows { WindowsAreRead self.old.calls.items self.old.reads.items }
-        requires live { self.old.endpoint.link.state.ended ≡ None }
-        requires frame { 0 < self.old.endpoint.link.state.place }
-        requires call { InBuffer call }
-        requires receive { IsReceive self.old.endpoint.link.state.receive_queue.receive_length call.buf }
-        requires empty { (call.around ≡ 0) × (call.room ≡ None) }
-        requires read { read.now ≡ (call_view call).lists.read }
-        requires reads { read_total read.now ≤ PAYLOAD_MAX }
-        requires bytes { HasBytes (call_view call).lists.read }
-        requires chunks { chunks.now ≡ chunk_positions (call_view call).lists.read }
-        requires fresh { is_read (map read_view self.old.reads.items) call.number ≡ true }
-        ensures fetched { FetchesCall (state_of self.old) (state_of self.new) (call_view call) }
-        ensures windows { WindowsInvariant self.new }
-        ensures sound { ServerEndInvariant self.new }
-        ensures input { SameInput self.old.endpoint.link self.new.endpoint.link }
-        ensures staging { self.new.endpoint.staging ≡ self.old.endpoint.staging }
+    /// What begins for a call with these chunks that have bytes.
+    fn read_listed(&mut self, call: &Pending, chunks: &[u32], read: &[ReadSegment]) -> Begun
+        requires new { IsNewCall self.old call.now read.now }
+        requires bytes { HasBytes read.now }
+        requires chunks { chunks.now ≡ chunk_positions read.now }
+        ensures { HasBegun self.old self.new call.now result }
     {
         if chunks.len() as u64 > self.endpoint.regions().stags_left() {
             self.end_for(REASON_STAGS);
-            return;
+            return Begun::Ended;
         }
         // A read list with bytes has such a chunk, and no other call has the number of its Send.
         if chunks.is_empty() || has_number(self.calls.as_slice(), call.number) {
             self.run_out();
-            return;
+            return Begun::Ended;
         }
-        self.start(call, chunks, read);
-    }
-
-    /// A call whose reads may begin: its payload is completed in the buffer of its sink if it can be.
-    fn start(&mut self, call: Pending, chunks: &[u32], read: &[ReadSegment])
-        requires sound { ServerEndInvariantWith 1 self.old }
-        requires windows { WindowsAreRead self.old.calls.items self.old.reads.items }
-        requires live { self.old.endpoint.link.state.ended ≡ None }
-        requires call { InBuffer call }
-        requires receive { IsReceive self.old.endpoint.link.state.receive_queue.receive_length call.buf }
-        requires empty { (call.around ≡ 0) × (call.room ≡ None) }
-        requires read { read.now ≡ (call_view call).lists.read }
-        requires reads { read_total read.now ≤ PAYLOAD_MAX }
-        requires chunks { chunks.now ≡ chunk_positions (call_view call).lists.read }
-        requires stags { self.old.endpoint.link.state.memory.next + length chunks.now ≤ 2 ^ 32 }
-        requires own { list_any (λ c. c.number == call.number) self.old.calls.items ≡ false }
-        requires fresh { is_read (map read_view self.old.reads.items) call.number ≡ true }
-        ensures started { (state_of self.new ≡ reading_call (state_of self.old) (call_view call)) ⊎ (state_of self.new ≡ out (state_of self.old)) }
-        ensures windows { WindowsInvariant self.new }
-        ensures sound { ServerEndInvariant self.new }
-        ensures input { SameInput self.old.endpoint.link self.new.endpoint.link }
-        ensures staging { self.new.endpoint.staging ≡ self.old.endpoint.staging }
-    {
-        match window_start(&call, self.sinks.as_slice(), chunks, read) {
-            Some(start) => self.start_in_place(call, chunks, read, start),
-            None => self.start_reads(call, chunks, read),
+        match window_start(call, self.sinks.as_slice(), chunks, read) {
+            Some(start) => self.read_in_place(call, chunks, read, start),
+            None => self.read_in_room(call, chunks, read),
         }
     }
 
-    /// A call whose reads may begin.
-    #[tactic(none)]
-    fn start_reads(&mut self, call: Pending, chunks: &[u32], read: &[ReadSegment])
-        requires sound { ServerEndInvariantWith 1 self.old }
-        requires windows { WindowsAreRead self.old.calls.items self.old.reads.items }
-        requires live { self.old.endpoint.link.state.ended ≡ None }
-        requires call { InBuffer call }
-        requires receive { IsReceive self.old.endpoint.link.state.receive_queue.receive_length call.buf }
-        requires empty { (call.around ≡ 0) × (call.room ≡ None) }
-        requires read { read.now ≡ (call_view call).lists.read }
-        requires reads { read_total read.now ≤ PAYLOAD_MAX }
-        requires chunks { chunks.now ≡ chunk_positions (call_view call).lists.read }
-        requires stags { self.old.endpoint.link.state.memory.next + length chunks.now ≤ 2 ^ 32 }
-        requires own { list_any (λ c. c.number == call.number) self.old.calls.items ≡ false }
-        ensures started { (state_of self.new ≡ reading_call (state_of self.old) (call_view call)) ⊎ (state_of self.new ≡ out (state_of self.old)) }
-        ensures windows { WindowsInvariant self.new }
-        ensures sound { ServerEndInvariant self.new }
-        ensures input { SameInput self.old.endpoint.link self.new.endpoint.link }
-        ensures staging { self.new.endpoint.staging ≡ self.old.endpoint.staging }
+    /// The reads of a call begin, whose payload is put together in a room of its own.
+    fn read_in_room(&mut self, call: &Pending, chunks: &[u32], read: &[ReadSegment]) -> Begun
+        requires new { IsNewCall self.old call.now read.now }
+        requires chunks { HasChunks self.old call.now chunks.now }
+        ensures { HasBegun self.old self.new call.now result }
     {
         self.endpoint.facts();
         match begin_reads(
@@ -231,31 +189,26 @@ impl ServerEnd {
             chunks,
             read,
         ) {
-            Ok(room) => push_reading(&mut self.calls, call, room),
-            Err(_) => self.run_out(),
+            Ok(room) => Begun::InRoom(room),
+            Err(_) => {
+                self.run_out();
+                Begun::Ended
+            }
         }
     }
 
-    /// A call whose reads may begin, and whose payload is completed in the buffer of its sink.
-    fn start_in_place(&mut self, call: Pending, chunks: &[u32], read: &[ReadSegment], start: usize)
-        requires sound { ServerEndInvariantWith 1 self.old }
-        requires windows { WindowsAreRead self.old.calls.items self.old.reads.items }
-        requires live { self.old.endpoint.link.state.ended ≡ None }
-        requires call { InBuffer call }
-        requires receive { IsReceive self.old.endpoint.link.state.receive_queue.receive_length call.buf }
-        requires empty { (call.around ≡ 0) × (call.room ≡ None) }
-        requires read { read.now ≡ (call_view call).lists.read }
-        requires reads { read_total read.now ≤ PAYLOAD_MAX }
-        requires chunks { chunks.now ≡ chunk_positions (call_view call).lists.read }
-        requires stags { self.old.endpoint.link.state.memory.next + length chunks.now ≤ 2 ^ 32 }
-        requires own { list_any (λ c. c.number == call.number) self.old.calls.items ≡ false }
-        requires fresh { is_read (map read_view self.old.reads.items) call.number ≡ true }
-        requires window { FitsWindow self.old.sinks.items read.now chunks.now call start }
-        ensures started { (state_of self.new ≡ reading_call (state_of self.old) (call_view call)) ⊎ (state_of self.new ≡ out (state_of self.old)) }
-        ensures windows { WindowsInvariant self.new }
-        ensures sound { ServerEndInvariant self.new }
-        ensures input { SameInput self.old.endpoint.link self.new.endpoint.link }
-        ensures staging { self.new.endpoint.staging ≡ self.old.endpoint.staging }
+    /// The reads of a call begin, whose payload is completed in the buffer of its sink.
+    fn read_in_place(
+        &mut self,
+        call: &Pending,
+        chunks: &[u32],
+        read: &[ReadSegment],
+        start: usize,
+    ) -> Begun
+        requires new { IsNewCall self.old call.now read.now }
+        requires chunks { HasChunks self.old call.now chunks.now }
+        requires window { FitsWindow self.old.sinks.items read.now chunks.now call.now start }
+        ensures { HasBegun self.old self.new call.now result }
     {
         self.endpoint.facts();
         let around = call.len - call.stream_at + 3;
@@ -269,32 +222,11 @@ impl ServerEnd {
             read,
             (start, around),
         ) {
-            Ok(()) => push_around(&mut self.calls, call, around),
-            Err(_) => self.run_out(),
-        }
-    }
-
-    /// A call whose read list has no bytes: it is ready, or ends the link. Takes memory for a Terminate alone.
-    fn complete_at_once(&mut self, call: Pending, read: &[ReadSegment])
-        requires sound { ServerEndInvariantWith 1 self.old }
-        requires windows { WindowsAreRead self.old.calls.items self.old.reads.items }
-        requires live { self.old.endpoint.link.state.ended ≡ None }
-        requires frame { 0 < self.old.endpoint.link.state.place }
-        requires call { InBuffer call }
-        requires receive { IsReceive self.old.endpoint.link.state.receive_queue.receive_length call.buf }
-        requires empty { (call.around ≡ 0) × (call.room ≡ None) }
-        requires read { read.now ≡ (call_view call).lists.read }
-        requires none { HasNoBytes read.now }
-        requires fresh { is_read (map read_view self.old.reads.items) call.number ≡ true }
-        ensures fetched { FetchesCall (state_of self.old) (state_of self.new) (call_view call) }
-        ensures windows { WindowsInvariant self.new }
-        ensures sound { ServerEndInvariant self.new }
-        ensures input { SameInput self.old.endpoint.link self.new.endpoint.link }
-        ensures staging { self.new.endpoint.staging ≡ self.old.endpoint.staging }
-    {
-        match judge_at_once(&call, read) {
-            None => self.push(call, None),
-            Some(reason) => self.end_for(reason),
+            Ok(()) => Begun::InPlace(around),
+            Err(_) => {
+                self.run_out();
+                Begun::Ended
+            }
         }
     }
 }

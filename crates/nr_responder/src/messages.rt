@@ -8,8 +8,9 @@ ghost use Rattle.nr_endpoint.specs.Receives.{IsReceive};
 ghost use Rattle.nr_endpoint.specs.Calls.{after_call, IsStopReason};
 ghost use Rattle.nr_endpoint.specs.Calls.Call.{Stop, Send, OutOfMemory};
 ghost use Rattle.nr_responder.specs.private.Handling.{out, Begins, Makes, OrOut};
+ghost use Rattle.nr_responder.specs.private.Invariants.{IsKept, IsLive, TakesMessage};
 ghost use Rattle.nr_reduce.specs.ServerReads.{is_read};
-ghost use Rattle.nr_responder.specs.Sound.{state_of, HasRoom, InBuffer, ServerEndInvariant, ServerEndInvariantWith, SameInput, WindowsAreRead, WindowsInvariant};
+ghost use Rattle.nr_responder.specs.Sound.{state_of, HasRoom, InBuffer, ServerEndInvariant, ServerEndInvariantWith, WindowsAreRead, WindowsInvariant};
 ghost use Rattle.nr_responder.specs.Views.{read_view, HasLists};
 
 use crate::answering::{chunk_error, version_error};
@@ -47,12 +48,9 @@ fn item_read(head: Option<StreamHead>) -> Option<Option<Item>>
 impl ServerEnd {
     /// Ends the side because memory ran out.
     pub(crate) fn run_out(&mut self)
-        requires sound { ServerEndInvariant self.old }
+        requires { ServerEndInvariant self.old }
         ensures out { state_of self.new ≡ out (state_of self.old) }
-        ensures windows { WindowsInvariant self.new }
-        ensures sound { ServerEndInvariant self.new }
-        ensures input { SameInput self.old.endpoint.link self.new.endpoint.link }
-        ensures staging { self.new.endpoint.staging ≡ self.old.endpoint.staging }
+        ensures kept { IsKept self.old self.new }
     {
         let _ = self.endpoint.run_out();
     }
@@ -64,27 +62,18 @@ impl ServerEnd {
         requires frame { 0 < self.old.endpoint.link.state.place }
         requires reason { IsStopReason reason }
         ensures ended { OrOut (state_of self.old) (after_call self.old.endpoint.link (Stop reason)) (state_of self.new) }
-        ensures windows { WindowsInvariant self.new }
-        ensures sound { ServerEndInvariant self.new }
-        ensures input { SameInput self.old.endpoint.link self.new.endpoint.link }
-        ensures staging { self.new.endpoint.staging ≡ self.old.endpoint.staging }
+        ensures kept { IsKept self.old self.new }
     {
         stop(&mut self.endpoint, reason);
     }
 
     /// A message, which may make a call.
     pub(crate) fn message(&mut self, number: u64, buf: Octets, len: usize)
-        requires sound { ServerEndInvariantWith 1 self.old }
-        requires windows { WindowsAreRead self.old.calls.items self.old.reads.items }
-        requires live { self.old.endpoint.link.state.ended ≡ None }
-        requires frame { 0 < self.old.endpoint.link.state.place }
+        requires takes { TakesMessage self.old }
         requires buf { IsReceive self.old.endpoint.link.state.receive_queue.receive_length buf }
         requires len { (FIXED_LEN ≤ len) × (len ≤ length buf) }
         ensures made { Makes (state_of self.old) number (take len buf) (state_of self.new) }
-        ensures windows { WindowsInvariant self.new }
-        ensures sound { ServerEndInvariant self.new }
-        ensures input { SameInput self.old.endpoint.link self.new.endpoint.link }
-        ensures staging { self.new.endpoint.staging ≡ self.old.endpoint.staging }
+        ensures kept { IsKept self.old self.new }
     {
         let mut room = ListsRoom::new();
         self.message_into(number, buf, len, &mut room);
@@ -94,17 +83,11 @@ impl ServerEnd {
     /// The same, with room for its lists.
     fn message_into(&mut self, number: u64, buf: Octets, len: usize, room: &mut ListsRoom)
         requires room { room.old ≡ no_lists }
-        requires sound { ServerEndInvariantWith 1 self.old }
-        requires windows { WindowsAreRead self.old.calls.items self.old.reads.items }
-        requires live { self.old.endpoint.link.state.ended ≡ None }
-        requires frame { 0 < self.old.endpoint.link.state.place }
+        requires takes { TakesMessage self.old }
         requires buf { IsReceive self.old.endpoint.link.state.receive_queue.receive_length buf }
         requires len { (FIXED_LEN ≤ len) × (len ≤ length buf) }
         ensures made { Makes (state_of self.old) number (take len buf) (state_of self.new) }
-        ensures windows { WindowsInvariant self.new }
-        ensures sound { ServerEndInvariant self.new }
-        ensures input { SameInput self.old.endpoint.link self.new.endpoint.link }
-        ensures staging { self.new.endpoint.staging ≡ self.old.endpoint.staging }
+        ensures kept { IsKept self.old self.new }
     {
         self.endpoint.facts();
         if !is_read(self.reads.as_slice(), number) {
@@ -151,16 +134,12 @@ impl ServerEnd {
 
     /// Queues an error message for the message in this receive.
     fn refuse(&mut self, buf: Octets, made: Result<Octets, Memory>)
-        requires sound { ServerEndInvariantWith 1 self.old }
-        requires windows { WindowsAreRead self.old.calls.items self.old.reads.items }
-        requires live { self.old.endpoint.link.state.ended ≡ None }
+        requires live { IsLive 1 self.old }
         requires buf { IsReceive self.old.endpoint.link.state.receive_queue.receive_length buf }
         ensures link { (IfOk made (λ m. self.new.endpoint.link ≡ after_call self.old.endpoint.link (Send m)) × IsOk made) ⊎ (self.new.endpoint.link ≡ after_call self.old.endpoint.link OutOfMemory) }
         ensures same { (self.new.calls ≡ self.old.calls) × (self.new.ready ≡ self.old.ready) × (self.new.credits ≡ self.old.credits) }
         ensures reads { (self.new.reads.items ≡ self.old.reads.items) × (self.new.sinks.items ≡ self.old.sinks.items) }
-        ensures staging { self.new.endpoint.staging ≡ self.old.endpoint.staging }
-        ensures windows { WindowsInvariant self.new }
-        ensures sound { ServerEndInvariant self.new }
+        ensures kept { IsKept self.old self.new }
     {
         self.endpoint.facts();
         if send_error(&mut self.endpoint, made) {
@@ -170,20 +149,14 @@ impl ServerEnd {
 
     /// A call whose stream stands in its message: it is ready if that is an RPC call of its xid, else it ends the link.
     fn begin(&mut self, number: u64, buf: Octets, len: usize, stream_at: usize)
-        requires sound { ServerEndInvariantWith 1 self.old }
-        requires windows { WindowsAreRead self.old.calls.items self.old.reads.items }
-        requires live { self.old.endpoint.link.state.ended ≡ None }
-        requires frame { 0 < self.old.endpoint.link.state.place }
+        requires takes { TakesMessage self.old }
         requires buf { IsReceive self.old.endpoint.link.state.receive_queue.receive_length buf }
         requires len { (FIXED_LEN ≤ len) × (len ≤ length buf) }
         requires stream { stream_at ≤ len }
         requires lists { HasLists (take len buf) }
         requires fresh { is_read (map read_view self.old.reads.items) number ≡ true }
         ensures begun { Begins (state_of self.old) (state_of self.new) number (take len buf) (lists_in (take len buf)) stream_at }
-        ensures windows { WindowsInvariant self.new }
-        ensures sound { ServerEndInvariant self.new }
-        ensures input { SameInput self.old.endpoint.link self.new.endpoint.link }
-        ensures staging { self.new.endpoint.staging ≡ self.old.endpoint.staging }
+        ensures kept { IsKept self.old self.new }
     {
         let target = call_target(stream_of(&buf, len, stream_at));
         match own_xid(&buf, len, stream_at, target) {
@@ -217,8 +190,7 @@ impl ServerEnd {
         ensures pushed { (self.new.calls.items ≡ self.old.calls.items ++ call ∷ []) × (self.new.ready.items ≡ self.old.ready.items ++ record { xid = call.xid; payload = payload } ∷ []) }
         ensures same { (self.new.endpoint ≡ self.old.endpoint) × (self.new.credits ≡ self.old.credits) }
         ensures reads { (self.new.reads.items ≡ self.old.reads.items) × (self.new.sinks.items ≡ self.old.sinks.items) }
-        ensures windows { WindowsInvariant self.new }
-        ensures sound { ServerEndInvariant self.new }
+        ensures kept { IsKept self.old self.new }
     {
         self.endpoint.facts();
         let xid = call.xid;

@@ -8,9 +8,10 @@ ghost use Rattle.nr_reduce.specs.Chunks.{whole};
 ghost use Rattle.nr_reduce.specs.ServerReads.{is_read};
 ghost use Rattle.nr_reduce.specs.declared.item.Of.TheVariants as of;
 ghost use Rattle.nr_responder.specs.Rooms.{payload_room};
-ghost use Rattle.nr_responder.specs.private.DoneReads.{IsOfCall, IsPlaced, ReadyMade};
-ghost use Rattle.nr_responder.specs.private.ReadsDone.{has_bad_chunk, read_payload, HandlesRead};
-ghost use Rattle.nr_responder.specs.Sound.{state_of, HasWindow, InBuffer, ServerEndInvariant, SameInput, OthersAreRead, WindowsInvariant};
+ghost use Rattle.nr_responder.specs.private.DoneReads.{HasDoneRead, IsAllRead, IsPlaced, ReadyMade};
+ghost use Rattle.nr_responder.specs.private.Invariants.{IsKept};
+ghost use Rattle.nr_responder.specs.private.ReadsDone.{read_payload, HandlesRead};
+ghost use Rattle.nr_responder.specs.Sound.{state_of, HasWindow, InBuffer, ServerEndInvariant, OthersAreRead};
 ghost use Rattle.nr_responder.specs.Views.{call_view, read_view};
 
 use crate::call::{OpenSink, Pending, ReadEntry, Ready, inline_item};
@@ -73,21 +74,11 @@ impl ServerEnd {
     /// The call at this place, whose payload is completed in the buffer of its sink, is complete by the read that is done: it is ready, or ends
     /// the link.
     pub(crate) fn complete_in_place(&mut self, at: usize, done: ReadEntry, kept: usize)
-        requires sound { ServerEndInvariant self.old }
-        requires windows { OthersAreRead done.number self.old.calls.items self.old.reads.items }
-        requires live { self.old.endpoint.link.state.ended ≡ None }
-        requires frame { 0 < self.old.endpoint.link.state.place }
-        requires at { at < length self.old.calls.items }
-        requires call { (d : Pending) → IsOfCall (state_of self.old) (read_view done) kept at (call_view (get_or self.old.calls.items at d)) }
-        requires few { length self.old.ready.items < length self.old.calls.items }
-        requires fine { (d : Pending) → has_bad_chunk (state_of self.old) (call_view (get_or self.old.calls.items at d)) (read_view done) (map read_view self.old.reads.items) ≡ false }
-        requires read { (d : Pending) → is_read (map read_view self.old.reads.items) (get_or self.old.calls.items at d).number ≡ true }
+        requires read { HasDoneRead self.old done kept at }
+        requires all { IsAllRead self.old done at }
         requires window { (d : Pending) → HasWindow self.old.endpoint.outside self.old.sinks.items (get_or self.old.calls.items at d) }
         ensures handled { HandlesRead (state_of self.old) (read_view done) (map read_view self.old.reads.items) (state_of self.new) }
-        ensures windows { WindowsInvariant self.new }
-        ensures sound { ServerEndInvariant self.new }
-        ensures input { SameInput self.old.endpoint.link self.new.endpoint.link }
-        ensures staging { self.new.endpoint.staging ≡ self.old.endpoint.staging }
+        ensures kept { IsKept self.old self.new }
     {
         // Only the contract speaks of it.
         let _done = done;
@@ -123,10 +114,7 @@ impl ServerEnd {
         requires xid { (d : Pending) → (get_or self.old.calls.items at d).xid ≡ xid }
         requires whole { (d : Pending) → is_some (read_payload (state_of self.old) (call_view (get_or self.old.calls.items at d))) ≡ true }
         ensures made { (d : Pending) (payload : List ℕ) → read_payload (state_of self.old) (call_view (get_or self.old.calls.items at d)) ≡ Some payload → ReadyMade (state_of self.old) kept xid payload (state_of self.new) }
-        ensures windows { WindowsInvariant self.new }
-        ensures sound { ServerEndInvariant self.new }
-        ensures input { SameInput self.old.endpoint.link self.new.endpoint.link }
-        ensures staging { self.new.endpoint.staging ≡ self.old.endpoint.staging }
+        ensures kept { IsKept self.old self.new }
     {
         self.endpoint.facts();
         let (item, place, moved) = sink;

@@ -10,13 +10,14 @@ ghost use Rattle.nr_reduce.specs.ServerReads.{is_read};
 ghost use Rattle.nr_reduce.specs.Chunks.{call_conveyed, call_stream, is_read_chunk_of_item, item_position};
 ghost use Rattle.nr_responder.specs.private.Reading.{opening, sink_bytes, with_opened_after};
 ghost use Rattle.nr_responder.specs.private.ReadsDone.{has_bad_chunk, reads_without, still_open, HandlesRead, NothingReady};
-ghost use Rattle.nr_responder.specs.private.DoneReads.{IsOfCall, ReadsOn, ReadyMade};
+ghost use Rattle.nr_responder.specs.private.DoneReads.{HasDoneRead, IsAllRead, ReadsOn, ReadyMade};
+ghost use Rattle.nr_responder.specs.private.Invariants.{IsKept, IsLive};
 ghost use Rattle.nr_responder.specs.Rooms.{payload_room};
-ghost use Rattle.nr_responder.specs.Sound.{claims_of, state_of, AreHeldFrom, HasSpace, InBuffer, IsRoom, ServerEndInvariant, SameInput, OthersAreRead, WindowsAreRead, WindowsInvariant};
+ghost use Rattle.nr_responder.specs.Sound.{claims_of, state_of, AreHeldFrom, HasSpace, InBuffer, IsRoom, ServerEndInvariant, WindowsInvariant};
 ghost use Rattle.nr_responder.specs.Views.{call_view, read_view, sink_view};
 
 use crate::answering::chunk_error;
-use crate::call::{OpenSink, Pending, ReadEntry, Ready, is_read, lists_again};
+use crate::call::{OpenSink, Pending, ReadEntry, Ready, is_read, lists_again, retire};
 use crate::heads::head_of;
 use crate::opening::{open_count, open_reads, send_and_open};
 use crate::payloads::{inline_stream, judge_payload, stream_alone, with_item};
@@ -159,9 +160,7 @@ fn queue_refusal(
 impl ServerEnd {
     /// Opens the reads that may open, and closes the sinks that are over. An `Err` changes nothing: some may open, and memory ran out.
     fn read_on(&mut self, kept: usize) -> Result<(), Memory>
-        requires sound { ServerEndInvariant self.old }
-        requires windows { WindowsAreRead self.old.calls.items self.old.reads.items }
-        requires live { self.old.endpoint.link.state.ended ≡ None }
+        requires live { IsLive 0 self.old }
         ensures ok { OnOk result (ReadsOn self.old.endpoint.link.state kept self.old self.new) }
         ensures err { OnErr result (state_of self.new ≡ state_of self.old) }
         ensures some { OnErr result (opening kept (map read_view self.old.reads.items) ≢ []) }
@@ -184,16 +183,11 @@ impl ServerEnd {
 
     /// The call of the read that is done waits for more, or was answered or refused before.
     fn go_on(&mut self, done: ReadEntry, kept: usize)
-        requires sound { ServerEndInvariant self.old }
-        requires windows { WindowsAreRead self.old.calls.items self.old.reads.items }
-        requires live { self.old.endpoint.link.state.ended ≡ None }
+        requires live { IsLive 0 self.old }
         requires kept { kept ≡ still_open (read_view done) (map read_view self.old.reads.items) }
         requires nothing { NothingReady (state_of self.old) (read_view done) (map read_view self.old.reads.items) }
         ensures handled { HandlesRead (state_of self.old) (read_view done) (map read_view self.old.reads.items) (state_of self.new) }
-        ensures windows { WindowsInvariant self.new }
-        ensures sound { ServerEndInvariant self.new }
-        ensures input { SameInput self.old.endpoint.link self.new.endpoint.link }
-        ensures staging { self.new.endpoint.staging ≡ self.old.endpoint.staging }
+        ensures kept { IsKept self.old self.new }
     {
         // Only the contract speaks of it.
         let _done = done;
@@ -205,15 +199,10 @@ impl ServerEnd {
 
     /// A call is ready with this payload.
     fn make_ready(&mut self, xid: u32, payload: Payload, kept: usize)
-        requires sound { ServerEndInvariant self.old }
-        requires windows { WindowsAreRead self.old.calls.items self.old.reads.items }
-        requires live { self.old.endpoint.link.state.ended ≡ None }
+        requires live { IsLive 0 self.old }
         requires few { length self.old.ready.items < length self.old.calls.items }
         ensures made { ReadyMade (state_of self.old) kept xid payload (state_of self.new) }
-        ensures windows { WindowsInvariant self.new }
-        ensures sound { ServerEndInvariant self.new }
-        ensures input { SameInput self.old.endpoint.link self.new.endpoint.link }
-        ensures staging { self.new.endpoint.staging ≡ self.old.endpoint.staging }
+        ensures kept { IsKept self.old self.new }
     {
         self.endpoint.facts();
         match self.read_on(kept) {
@@ -227,8 +216,7 @@ impl ServerEnd {
 
     /// The room of the payload of the call at this place, which is read.
     fn take_room_at(&mut self, at: usize) -> Room
-        requires sound { ServerEndInvariant self.old }
-        requires windows { WindowsAreRead self.old.calls.items self.old.reads.items }
+        requires live { IsLive 0 self.old }
         requires at { at < length self.old.calls.items }
         requires read { (d : Pending) → is_read (map read_view self.old.reads.items) (get_or self.old.calls.items at d).number ≡ true }
         requires empty { (d : Pending) → (get_or self.old.calls.items at d).around ≡ 0 }
@@ -240,8 +228,7 @@ impl ServerEnd {
         ensures same { state_of self.new ≡ state_of self.old }
         ensures endpoint { self.new.endpoint ≡ self.old.endpoint }
         ensures ready { self.new.ready ≡ self.old.ready }
-        ensures windows { WindowsAreRead self.new.calls.items self.new.reads.items }
-        ensures sound { ServerEndInvariant self.new }
+        ensures live { IsLive 0 self.new }
     {
         match take_out_room(&mut self.calls[at]) {
             Some(room) => room,
@@ -251,21 +238,11 @@ impl ServerEnd {
 
     /// The call at this place is complete by the read that is done: it is ready, or ends the link.
     fn complete(&mut self, at: usize, done: ReadEntry, kept: usize)
-        requires sound { ServerEndInvariant self.old }
-        requires windows { OthersAreRead done.number self.old.calls.items self.old.reads.items }
-        requires live { self.old.endpoint.link.state.ended ≡ None }
-        requires frame { 0 < self.old.endpoint.link.state.place }
-        requires at { at < length self.old.calls.items }
-        requires call { (d : Pending) → IsOfCall (state_of self.old) (read_view done) kept at (call_view (get_or self.old.calls.items at d)) }
-        requires few { length self.old.ready.items < length self.old.calls.items }
-        requires fine { (d : Pending) → has_bad_chunk (state_of self.old) (call_view (get_or self.old.calls.items at d)) (read_view done) (map read_view self.old.reads.items) ≡ false }
-        requires read { (d : Pending) → is_read (map read_view self.old.reads.items) (get_or self.old.calls.items at d).number ≡ true }
+        requires read { HasDoneRead self.old done kept at }
+        requires all { IsAllRead self.old done at }
         requires space { (d : Pending) → HasSpace self.old.endpoint.outside self.old.sinks.items (get_or self.old.calls.items at d) }
         ensures handled { HandlesRead (state_of self.old) (read_view done) (map read_view self.old.reads.items) (state_of self.new) }
-        ensures windows { WindowsInvariant self.new }
-        ensures sound { ServerEndInvariant self.new }
-        ensures input { SameInput self.old.endpoint.link self.new.endpoint.link }
-        ensures staging { self.new.endpoint.staging ≡ self.old.endpoint.staging }
+        ensures kept { IsKept self.old self.new }
     {
         if self.calls[at].around == 0 {
             self.complete_in_room(at, done, kept);
@@ -276,22 +253,12 @@ impl ServerEnd {
 
     /// The same, if its payload is put together in a room of its own.
     fn complete_in_room(&mut self, at: usize, done: ReadEntry, kept: usize)
-        requires sound { ServerEndInvariant self.old }
-        requires windows { OthersAreRead done.number self.old.calls.items self.old.reads.items }
-        requires live { self.old.endpoint.link.state.ended ≡ None }
-        requires frame { 0 < self.old.endpoint.link.state.place }
-        requires at { at < length self.old.calls.items }
-        requires call { (d : Pending) → IsOfCall (state_of self.old) (read_view done) kept at (call_view (get_or self.old.calls.items at d)) }
-        requires few { length self.old.ready.items < length self.old.calls.items }
-        requires fine { (d : Pending) → has_bad_chunk (state_of self.old) (call_view (get_or self.old.calls.items at d)) (read_view done) (map read_view self.old.reads.items) ≡ false }
-        requires read { (d : Pending) → is_read (map read_view self.old.reads.items) (get_or self.old.calls.items at d).number ≡ true }
+        requires read { HasDoneRead self.old done kept at }
+        requires all { IsAllRead self.old done at }
         requires empty { (d : Pending) → (get_or self.old.calls.items at d).around ≡ 0 }
         requires room { (d : Pending) → IsRoom (get_or self.old.calls.items at d).room }
         ensures handled { HandlesRead (state_of self.old) (read_view done) (map read_view self.old.reads.items) (state_of self.new) }
-        ensures windows { WindowsInvariant self.new }
-        ensures sound { ServerEndInvariant self.new }
-        ensures input { SameInput self.old.endpoint.link self.new.endpoint.link }
-        ensures staging { self.new.endpoint.staging ≡ self.old.endpoint.staging }
+        ensures kept { IsKept self.old self.new }
     {
         // Only the contract speaks of it.
         let _done = done;
@@ -321,19 +288,12 @@ impl ServerEnd {
 
     /// The call at this place is refused by ERR_CHUNK (RFC 8166 section 4.5.3), and its reads that wait are dropped.
     fn refuse_read(&mut self, at: usize, done: ReadEntry, kept: usize)
-        requires sound { ServerEndInvariant self.old }
-        requires windows { OthersAreRead done.number self.old.calls.items self.old.reads.items }
-        requires live { self.old.endpoint.link.state.ended ≡ None }
-        requires at { at < length self.old.calls.items }
-        requires call { (d : Pending) → IsOfCall (state_of self.old) (read_view done) kept at (call_view (get_or self.old.calls.items at d)) }
+        requires read { HasDoneRead self.old done kept at }
         requires few { length self.old.ready.items < length self.old.calls.items }
         requires empty { (d : Pending) → (get_or self.old.calls.items at d).around ≡ 0 }
         requires bad { (d : Pending) → has_bad_chunk (state_of self.old) (call_view (get_or self.old.calls.items at d)) (read_view done) (map read_view self.old.reads.items) ≡ true }
         ensures handled { HandlesRead (state_of self.old) (read_view done) (map read_view self.old.reads.items) (state_of self.new) }
-        ensures windows { WindowsInvariant self.new }
-        ensures sound { ServerEndInvariant self.new }
-        ensures input { SameInput self.old.endpoint.link self.new.endpoint.link }
-        ensures staging { self.new.endpoint.staging ≡ self.old.endpoint.staging }
+        ensures kept { IsKept self.old self.new }
     {
         self.endpoint.facts();
         let xid = self.calls[at].xid;
@@ -348,8 +308,7 @@ impl ServerEnd {
         ) {
             Err(_) => self.run_out(),
             Ok(()) => {
-                let call = self.calls.remove(at);
-                self.used.push_back_reserved(call.buf);
+                retire(&mut self.calls, &mut self.used, at);
                 close_over(
                     &mut self.endpoint,
                     &mut self.sinks,
@@ -362,19 +321,11 @@ impl ServerEnd {
 
     /// The read that is done is of the call at this place.
     fn read_of_call(&mut self, at: usize, done: ReadEntry, kept: usize)
-        requires sound { ServerEndInvariant self.old }
-        requires windows { OthersAreRead done.number self.old.calls.items self.old.reads.items }
-        requires live { self.old.endpoint.link.state.ended ≡ None }
-        requires frame { 0 < self.old.endpoint.link.state.place }
-        requires at { at < length self.old.calls.items }
-        requires call { (d : Pending) → IsOfCall (state_of self.old) (read_view done) kept at (call_view (get_or self.old.calls.items at d)) }
+        requires read { HasDoneRead self.old done kept at }
         requires space { (d : Pending) → HasSpace self.old.endpoint.outside self.old.sinks.items (get_or self.old.calls.items at d) }
         requires apart { (d : Pending) → (get_or self.old.calls.items at d).around ≢ 0 → done.position ≢ 0 }
         ensures handled { HandlesRead (state_of self.old) (read_view done) (map read_view self.old.reads.items) (state_of self.new) }
-        ensures windows { WindowsInvariant self.new }
-        ensures sound { ServerEndInvariant self.new }
-        ensures input { SameInput self.old.endpoint.link self.new.endpoint.link }
-        ensures staging { self.new.endpoint.staging ≡ self.old.endpoint.staging }
+        ensures kept { IsKept self.old self.new }
     {
         if self.calls.len() <= self.ready.len() {
             // Each call that is ready is pending, and this one isn't ready.
@@ -392,15 +343,10 @@ impl ServerEnd {
 
     /// The oldest read is done.
     pub(crate) fn read_done(&mut self)
-        requires sound { ServerEndInvariant self.old }
-        requires windows { WindowsAreRead self.old.calls.items self.old.reads.items }
-        requires live { self.old.endpoint.link.state.ended ≡ None }
+        requires live { IsLive 0 self.old }
         requires frame { 0 < self.old.endpoint.link.state.place }
         ensures handled { (r : PendingRead) (rest : List PendingRead) → map read_view self.old.reads.items ≡ r ∷ rest → HandlesRead (state_of self.old) r rest (state_of self.new) }
-        ensures windows { WindowsInvariant self.new }
-        ensures sound { ServerEndInvariant self.new }
-        ensures input { SameInput self.old.endpoint.link self.new.endpoint.link }
-        ensures staging { self.new.endpoint.staging ≡ self.old.endpoint.staging }
+        ensures kept { IsKept self.old self.new }
     {
         if self.reads.is_empty() {
             return;

@@ -19,7 +19,7 @@ ghost use Rattle.nr_responder.specs.Answering.{Answers};
 ghost use Rattle.nr_responder.specs.Draining.{Drains};
 ghost use Rattle.nr_link.specs.declared.end.End.TheVariants as ends;
 ghost use Rattle.nr_header.specs.Constants.{PAYLOAD_MAX};
-ghost use Rattle.nr_link.specs.Agreement.{default_terms, sized_terms};
+ghost use Rattle.nr_link.specs.Agreement.{default_terms, sized_terms, IsSendLimit};
 ghost use Rattle.nr_link.specs.Limits.{open_reads_max};
 ghost use Rattle.nr_link.specs.SegmentFaults.{is_begun};
 ghost use Rattle.nr_regions.specs.RegisteredMemory.{bytes_held};
@@ -100,7 +100,10 @@ impl Responder {
     pub fn agreed(&self) -> (u32, u32)
         ensures up { result.0 ≡ self.now.side.link.state.agreed.up }
         ensures down { result.1 ≡ self.now.side.link.state.agreed.down }
-        ensures of_run { end_of self.now.side ≡ None → (opened : LinkParameters) (link : ℕ) (run : List Mark) → ResponderRepresents opened link run self.now.side →
+        // From 1,024 to 16,384.
+        ensures limits { IsSendLimit result.0 × IsSendLimit result.1 }
+        // Once the side has ended, it is what was agreed as it ended.
+        ensures of_run { end_of self.now.side ≢ Some ends.Memory → (opened : LinkParameters) (link : ℕ) (run : List Mark) → ResponderRepresents opened link run self.now.side →
             (result.0 ≡ (server opened link run).state.up_max) × (result.1 ≡ (server opened link run).state.down_max) }
     {
         self.end.agreed()

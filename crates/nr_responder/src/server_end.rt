@@ -32,7 +32,9 @@ ghost use Rattle.nr_responder.specs.Standing.{RepresentsSome, ResponderRepresent
 ghost use Rattle.nr_responder.specs.Steps.{Fed, taken_of};
 
 use crate::answering::{SENDABLE, queue_answer};
-use crate::call::{OpenSink, Pending, ReadEntry, Ready, Sent, place_of, stream_of};
+use crate::call::{
+    OpenSink, Pending, ReadEntry, Ready, Sent, drop_first, place_of, retire, stream_of,
+};
 use crate::payloads::{first_payload, ready_payload};
 use nr_endpoint::{DrainFault, Endpoint, Event};
 use nr_link::constants::{REASON_HEAD, REASON_XID};
@@ -379,9 +381,8 @@ impl ServerEnd {
             self.credits,
             reply,
         )?;
-        let call = self.calls.remove(at);
-        self.used.push_back_reserved(call.buf);
-        let _ = self.ready.pop_front();
+        retire(&mut self.calls, &mut self.used, at);
+        drop_first(&mut self.ready);
         Ok(sent)
     }
 

@@ -1,5 +1,5 @@
 -- What the code makes of a responder as a read is done.
-use Rattle.std.specs.Prelude.{◌≡◌, ◌≢◌, ◌⊎◌, ℕ, ◌<◌, List, [], ◌∷◌, length, map, find, get_or, Option, None, Some, slice_get}
+use Rattle.std.specs.Prelude.{◌≡◌, ◌≢◌, ◌⊎◌, ℕ, ◌<◌, true, false, List, [], ◌∷◌, length, map, find, get_or, Option, None, Some, slice_get}
 use Rattle.nr_endpoint.specs.Calls.{after_call}
 use Rattle.nr_endpoint.specs.Calls.Call.{OutOfMemory}
 use Rattle.nr_reduce.specs.ServerState.{PendingCall, PendingRead}
@@ -10,13 +10,16 @@ use Rattle.nr_reduce.specs.declared.item.Item.{Item}
 use Rattle.nr_reduce.specs.declared.item.Of.TheVariants as of
 use Rattle.nr_responder.specs.declared.call.Pending.{Pending}
 use Rattle.nr_responder.specs.declared.call.OpenSink.{OpenSink}
+use Rattle.nr_responder.specs.declared.call.ReadEntry.{ReadEntry}
+use Rattle.nr_reduce.specs.ServerReads.{is_read}
+use Rattle.nr_responder.specs.Sound.{state_of, OthersAreRead, ServerEndInvariant}
 use Rattle.nr_responder.specs.private.CallsRead.{ready_with_payload}
 use Rattle.nr_responder.specs.ResponderState.{ResponderSide}
 use Rattle.nr_endpoint.specs.LinkState.{LinkState}
 use Rattle.nr_responder.specs.declared.server_end.ServerEnd.{ServerEnd}
 use Rattle.nr_responder.specs.Fetching.{is_sink}
 use Rattle.nr_responder.specs.private.Reading.{opening, over_sinks, left_sinks}
-use Rattle.nr_responder.specs.private.ReadsDone.{call_of_read, ended_as, reading_on, side_after_done, still_open}
+use Rattle.nr_responder.specs.private.ReadsDone.{call_of_read, ended_as, has_bad_chunk, reading_on, side_after_done, still_open}
 use Rattle.nr_responder.specs.Views.{call_view, read_view, sink_view}
 
 -- with the reads opened that may open, and the sinks closed that are over; `state` is the side of the link before
@@ -42,6 +45,23 @@ pub record IsOfCall (v : ResponderSide) (r : PendingRead) (kept at : ℕ) (c : P
   pub found : call_of_read v r ≡ Some c
   pub own : c.number ≡ r.number
   pub open_reads : kept ≡ still_open r v.fetching.reads
+
+-- ---- The call of a read that is done
+
+-- The side lives, the read that is done is of the call at a place of its calls, and `kept` of the reads that are left are open.
+pub record HasDoneRead (r : ServerEnd) (done : ReadEntry) (kept at : ℕ) : Type 0 where
+  pub sound : ServerEndInvariant r
+  pub windows : OthersAreRead done.number r.calls.items r.reads.items
+  pub live : r.endpoint.link.state.ended ≡ None
+  pub frame : 0 < r.endpoint.link.state.place
+  pub within : at < length r.calls.items
+  pub call : (d : Pending) → IsOfCall (state_of r) (read_view done) kept at (call_view (get_or r.calls.items at d))
+
+-- Nothing is left to be read for that call, which isn't ready, and it isn't refused.
+pub record IsAllRead (r : ServerEnd) (done : ReadEntry) (at : ℕ) : Type 0 where
+  pub few : length r.ready.items < length r.calls.items
+  pub fine : (d : Pending) → has_bad_chunk (state_of r) (call_view (get_or r.calls.items at d)) (read_view done) (map read_view r.reads.items) ≡ false
+  pub all : (d : Pending) → is_read (map read_view r.reads.items) (get_or r.calls.items at d).number ≡ true
 
 -- ---- A payload that is completed in the buffer of its sink
 

@@ -1,6 +1,6 @@
-use Rattle.std.proofs.Common.{rules, ◌≡◌, ℕ, List, length, drop, sym, ap, subst, ◌∙◌, refl, arith}
+use Rattle.std.proofs.Common.{◌≡◌, ℕ, List, [], ◌∷◌, ◌++◌, length, sym, ap, subst, ◌∙◌, refl, arith}
 use Rattle.std.specs.Prelude.{map}
-use Rattle.nr_endpoint.specs.LinkState.{LinkSide}
+use Rattle.nr_endpoint.specs.LinkState.{LinkSide, LinkState}
 use Rattle.nr_endpoint.specs.Calls.{after_calls}
 use Rattle.nr_endpoint.specs.Offering.{answer_calls, writes_output}
 use Rattle.nr_responder.specs.declared.call.Pending.{Pending}
@@ -25,8 +25,8 @@ returns-clause-answers c =
     let whole : InBuffer p = (kept_receive 0 c.args.self.now.endpoint.link.state c.args.self.now.calls.items c.args.self.now.ready.items c.args.self.now.used.items _ _ _ c.args.at p c.requires.at c.index-2.ensures c.requires.sound.0).1 in
     let own : p.xid ≡ c.args.xid = ap (λ (x : Pending). x.xid) c.index-2.ensures ∙ c.requires.own p in
     let link = q.link ∙ ap (λ (x : ℕ). after_calls c.args.self.now.endpoint.link (answer_calls q.writes (message_for x c.args.self.now.credits (call_view p).lists (answer_to c.args.self.now.endpoint.link.state.agreed.down (call_view p) stream c.args.reply.now)))) own in
-    let calls = ap (map call_view) c.remove-call.ensures.items ∙ map_removed call_view c.args.self.now.calls.items c.args.at in
-    let ready : c.pop_front.new.self.items ≡ drop 1 c.args.self.now.ready.items = search rules in
+    let calls = ap (map call_view) c.retire.ensures.calls ∙ map_removed call_view c.args.self.now.calls.items c.args.at in
+    let ready = c.drop_first.ensures.items in
     record {
       at = c.args.at;
       call = call_view p;
@@ -47,10 +47,14 @@ returns-clause-answers c =
 pub returns-clause-sound : goal.returns-clause-sound
 returns-clause-sound c =
     let q = c.in_ok-sent.ensures.queued in
-    let one = kept_receive 0 c.args.self.now.endpoint.link.state c.args.self.now.calls.items c.args.self.now.ready.items c.args.self.now.used.items _ _ _ c.args.at c.remove-call.result c.requires.at c.remove-call.ensures.value c.requires.sound.0 in (
-      sound_room_as 0 c.queue_answer.new.endpoint.link.state c.remove-call.new.self.items c.pop_front.new.self.items c.push_back_reserved.new.self.items _ _ _ _ _ _ (search rules) (search rules) (search rules) (sound_answered c.args.self.now.endpoint.link.state c.queue_answer.new.endpoint.link.state (writes_output q.writes) _ c.args.at c.remove-call.result c.args.self.now.calls.items c.remove-call.new.self.items c.args.self.now.ready.items c.pop_front.new.self.items
-          c.args.self.now.used.items c.push_back_reserved.new.self.items _ _ _ (ap (λ (l : LinkSide). l.state) (q.link ∙ answer_link c.args.self.now.endpoint.link q.writes _ c.requires.live)) c.requires.at one c.remove-call.ensures.items (search rules) c.requires.next (search rules) c.requires.sound.0),
-      fetched_removed c.args.self.now.endpoint c.queue_answer.new.endpoint c.args.at c.index.result.now c.args.self.now.calls.items c.remove-call.new.self.items c.args.self.now.reads.items c.args.self.now.sinks.items (ap (λ (l : LinkSide). l.state.memory) (q.link ∙ answer_link c.args.self.now.endpoint.link q.writes _ c.requires.live)) c.queue_answer.ensures.outside c.requires.at (c.requires.none c.index.result.now) c.remove-call.ensures.items c.requires.sound.1,
+    let p : Pending = c.index-2.result.now in
+    let state = ap (λ (l : LinkSide). l.state) (q.link ∙ answer_link c.args.self.now.endpoint.link q.writes _ c.requires.live) in
+    let one = kept_receive 0 c.args.self.now.endpoint.link.state c.args.self.now.calls.items c.args.self.now.ready.items c.args.self.now.used.items _ _ _ c.args.at p c.requires.at c.index-2.ensures c.requires.sound.0 in
+    let used = c.retire.ensures.used p ∙ ap (λ (x : Pending). c.args.self.now.used.items ++ x.buf ∷ []) (sym c.index-2.ensures) in (
+      sound_room_as 0 c.queue_answer.new.endpoint.link.state c.retire.new.calls.items c.drop_first.new.ready.items c.retire.new.used.items _ _ _ _ _ _ c.retire.ensures.calls_room c.drop_first.ensures.room c.retire.ensures.used_room
+          (sound_answered c.args.self.now.endpoint.link.state c.queue_answer.new.endpoint.link.state (writes_output q.writes) _ c.args.at p c.args.self.now.calls.items c.retire.new.calls.items c.args.self.now.ready.items c.drop_first.new.ready.items
+          c.args.self.now.used.items c.retire.new.used.items _ _ _ state c.requires.at one c.retire.ensures.calls c.drop_first.ensures.items c.requires.next used c.requires.sound.0),
+      fetched_removed c.args.self.now.endpoint c.queue_answer.new.endpoint c.args.at p c.args.self.now.calls.items c.retire.new.calls.items c.args.self.now.reads.items c.args.self.now.sinks.items (ap (λ (s : LinkState). s.memory) state) c.queue_answer.ensures.outside c.requires.at (c.requires.none p) c.retire.ensures.calls c.requires.sound.1,
     )
 
 pub returns-clause-fed : goal.returns-clause-fed
@@ -59,4 +63,4 @@ returns-clause-fed c =
     answered_fed c.args.self.now.endpoint.link c.queue_answer.new.endpoint.link q.writes _ c.requires.live q.link
 
 pub returns-clause-windows : goal.returns-clause-windows
-returns-clause-windows c = λ live. removed_windows c.args.self.now.calls.items c.remove-call.new.self.items c.args.at c.index.result.now c.args.self.now.reads.items c.remove-call.ensures.items c.requires.at c.requires.windows
+returns-clause-windows c = λ live. removed_windows c.args.self.now.calls.items c.retire.new.calls.items c.args.at c.index.result.now c.args.self.now.reads.items c.retire.ensures.calls c.requires.at c.requires.windows

@@ -22,7 +22,7 @@ pub push-requires-clause-room : goal.push-requires-clause-room
 push-requires-clause-room c = read_has_room c.args.self.now.endpoint.outside c.args.self.now.sinks.items c.args.self.now.reads.items (record { number = c.args.number; xid = c.in-Ok.xid; buf = c.args.buf; len = c.args.len; stream_at = c.args.stream_at; inline = true; room = None; around = 0; target = Some c.call_target-target.result; item = None }) c.requires.fresh refl (omega arith)
 
 pub end_for-requires-clause-sound : goal.end_for-requires-clause-sound
-end_for-requires-clause-sound c = sound_less c.args.self.now c.requires.sound
+end_for-requires-clause-sound c = sound_less c.args.self.now c.requires.takes.live.sound
 
 pub push-requires-clause-read : goal.push-requires-clause-read
 push-requires-clause-read c = (refl, c.requires.fresh)

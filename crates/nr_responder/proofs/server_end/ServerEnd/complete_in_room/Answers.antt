@@ -25,9 +25,9 @@ returns-in-Ok-clause-handled c =
     let w : ResponderSide = state_of c.take_room_at-room.new.self in
     let same : call_view (get_or c.args.self.now.calls.items c.args.at d) ≡ p = sym (c.take_room_at-room.ensures.call d) ∙ ap (λ (x : Pending). call_view x) (sym c.index-call.ensures) in
     let judged = ap (λ (u : ResponderSide). by_payload p (read_payload u p)) (sym c.take_room_at-room.ensures.same) ∙ ap (by_payload p) (sym (c.payload_read-payload.ensures ∙ ap (λ (ss : List OpenSink). call_conveyed p.inline p.lists.read (sink_bytes c.take_room_at-room.new.self.endpoint.link.state.memory (map sink_view ss) p.number)) c.as_slice.ensures.value)) ∙ c.judge_payload.ensures.verdict p refl ∙ ap (verdict_of p) c.in-Ok.is in
-    readies v w (state_of c.make_ready.new.self) (read_view c.args.done) c.args.kept c.args.at p c.in-Ok.payload (subst (λ (x : PendingCall). IsOfCall v (read_view c.args.done) c.args.kept c.args.at x) same (c.requires.call d))
-    (subst (λ (x : PendingCall). has_bad_chunk v x (read_view c.args.done) (map read_view c.args.self.now.reads.items) ≡ false) same (c.requires.fine d))
-    (subst (λ (x : PendingCall). is_read (map read_view c.args.self.now.reads.items) x.number ≡ true) same (c.requires.read d)) judged c.take_room_at-room.ensures.same c.make_ready.ensures.made
+    readies v w (state_of c.make_ready.new.self) (read_view c.args.done) c.args.kept c.args.at p c.in-Ok.payload (subst (λ (x : PendingCall). IsOfCall v (read_view c.args.done) c.args.kept c.args.at x) same (c.requires.read.call d))
+    (subst (λ (x : PendingCall). has_bad_chunk v x (read_view c.args.done) (map read_view c.args.self.now.reads.items) ≡ false) same (c.requires.all.fine d))
+    (subst (λ (x : PendingCall). is_read (map read_view c.args.self.now.reads.items) x.number ≡ true) same (c.requires.all.all d)) judged c.take_room_at-room.ensures.same c.make_ready.ensures.made
 
 pub returns-in-Err-clause-handled : goal.returns-in-Err-clause-handled
 returns-in-Err-clause-handled c =
@@ -37,9 +37,13 @@ returns-in-Err-clause-handled c =
     let w : ResponderSide = state_of c.take_room_at-room.new.self in
     let same : call_view (get_or c.args.self.now.calls.items c.args.at d) ≡ p = sym (c.take_room_at-room.ensures.call d) ∙ ap (λ (x : Pending). call_view x) (sym c.index-call.ensures) in
     let judged = ap (λ (u : ResponderSide). by_payload p (read_payload u p)) (sym c.take_room_at-room.ensures.same) ∙ ap (by_payload p) (sym (c.payload_read-payload.ensures ∙ ap (λ (ss : List OpenSink). call_conveyed p.inline p.lists.read (sink_bytes c.take_room_at-room.new.self.endpoint.link.state.memory (map sink_view ss) p.number)) c.as_slice.ensures.value)) ∙ c.judge_payload.ensures.verdict p refl ∙ ap (verdict_of p) c.in-Err.is in
-    ends_for v w (state_of c.end_for.new.self) (read_view c.args.done) c.args.kept c.args.at p c.in-Err.reason (subst (λ (x : PendingCall). IsOfCall v (read_view c.args.done) c.args.kept c.args.at x) same (c.requires.call d))
-    (subst (λ (x : PendingCall). has_bad_chunk v x (read_view c.args.done) (map read_view c.args.self.now.reads.items) ≡ false) same (c.requires.fine d))
-    (subst (λ (x : PendingCall). is_read (map read_view c.args.self.now.reads.items) x.number ≡ true) same (c.requires.read d)) c.in-Err.ensures.reason.1 judged c.take_room_at-room.ensures.same c.end_for.ensures.ended
+    ends_for v w (state_of c.end_for.new.self) (read_view c.args.done) c.args.kept c.args.at p c.in-Err.reason (subst (λ (x : PendingCall). IsOfCall v (read_view c.args.done) c.args.kept c.args.at x) same (c.requires.read.call d))
+    (subst (λ (x : PendingCall). has_bad_chunk v x (read_view c.args.done) (map read_view c.args.self.now.reads.items) ≡ false) same (c.requires.all.fine d))
+    (subst (λ (x : PendingCall). is_read (map read_view c.args.self.now.reads.items) x.number ≡ true) same (c.requires.all.all d)) c.in-Err.ensures.reason.1 judged c.take_room_at-room.ensures.same c.end_for.ensures.ended
 
-pub take_room_at-room-requires-clause-windows : goal.take_room_at-room-requires-clause-windows
-take_room_at-room-requires-clause-windows c = done_none c.args.done.number c.args.self.now.calls.items c.args.at no_call c.args.self.now.reads.items c.requires.at (c.requires.call no_call).own (c.requires.empty no_call) c.requires.windows
+pub take_room_at-room-requires-clause-live : goal.take_room_at-room-requires-clause-live
+take_room_at-room-requires-clause-live c = record {
+  sound = c.requires.read.sound;
+  windows = done_none c.args.done.number c.args.self.now.calls.items c.args.at no_call c.args.self.now.reads.items c.requires.read.within (c.requires.read.call no_call).own (c.requires.empty no_call) c.requires.read.windows;
+  live = c.requires.read.live;
+}

@@ -1,4 +1,4 @@
-use Rattle.std.proofs.Common.{◌≡◌, ℕ, List, drop, map, take, sym, ap, subst, ◌∙◌, arith}
+use Rattle.std.proofs.Common.{rules, ◌≡◌, ℕ, List, drop, map, take, refl, sym, ap, subst, ◌∙◌, arith}
 use Rattle.nr_reduce.specs.ServerMessages.{verdict}
 use Rattle.nr_reduce.specs.ServerMessages.Verdict.{EndsLink}
 use Rattle.nr_reduce.specs.ServerReads.{is_read}
@@ -13,7 +13,6 @@ use Rattle.nr_responder.specs.Sound.{state_of}
 use Rattle.nr_responder.proofs.Sounds.{sound_less}
 use Rattle.nr_responder.proofs.Begun.{few_stags, fresh_number, not_fresh}
 use Rattle.nr_responder.proofs.Fetches.{fetched_makes}
-use Rattle.nr_responder.proofs.Posted.{refused_input}
 use Rattle.nr_responder.proofs.server_end.ServerEnd.message_into.Goals as goal
 
 pub returns-in-Kind-clause-made : goal.returns-in-Kind-clause-made
@@ -27,12 +26,6 @@ returns-in-Open-clause-made c =
     Ends 20 (omega arith)
     (λ k server. subst (λ (m : List ℕ). verdict k m ≡ EndsLink 20) c.stream_of-message.ensures (c.in-Open.ensures.judged k (server.calls ∙ ap (λ (cs : List Pending). map call_view cs) (sym c.as_slice-2.ensures.value)) (few_stags k (state_of c.args.self.now) server c.facts.ensures.stags)))
     c.end_for-in-Open.ensures.ended
-
-pub returns-in-OtherVersion-clause-input : goal.returns-in-OtherVersion-clause-input
-returns-in-OtherVersion-clause-input c = refused_input _ c.args.self.now.endpoint.link c.refuse.new.self.endpoint.link c.requires.live c.refuse.ensures.link
-
-pub returns-in-BadChunks-clause-input : goal.returns-in-BadChunks-clause-input
-returns-in-BadChunks-clause-input c = refused_input _ c.args.self.now.endpoint.link c.refuse-in-BadChunks.new.self.endpoint.link c.requires.live c.refuse-in-BadChunks.ensures.link
 
 pub returns-in-Call-clause-made : goal.returns-in-Call-clause-made
 returns-in-Call-clause-made c =
@@ -55,14 +48,22 @@ returns-then-not-is_read-clause-made c = NoServer (λ k server count. not_fresh 
 pub begin-requires-clause-fresh : goal.begin-requires-clause-fresh
 begin-requires-clause-fresh c = fresh_number c.args.number c.args.self.now.reads.items c.as_slice.result.now c.is_read.result c.as_slice.ensures.value c.is_read.ensures c.if-not-is_read.false
 
-pub fetch-requires-clause-fresh : goal.fetch-requires-clause-fresh
-fetch-requires-clause-fresh c = fresh_number c.args.number c.args.self.now.reads.items c.as_slice.result.now c.is_read.result c.as_slice.ensures.value c.is_read.ensures c.if-not-is_read.false
+pub fetch-requires : goal.fetch-requires
+fetch-requires c = record {
+  takes = c.requires.takes;
+  whole = search rules;
+  receive = c.requires.buf;
+  empty = (refl, refl);
+  lists = search rules;
+  total = search rules;
+  fresh = fresh_number c.args.number c.args.self.now.reads.items c.as_slice.result.now c.is_read.result c.as_slice.ensures.value c.is_read.ensures c.if-not-is_read.false;
+}
 
 pub run_out-requires : goal.run_out-requires
-run_out-requires c = record { sound = sound_less c.args.self.now c.requires.sound }
+run_out-requires c = sound_less c.args.self.now c.requires.takes.live.sound
 
 pub end_for-requires-clause-sound : goal.end_for-requires-clause-sound
-end_for-requires-clause-sound c = sound_less c.args.self.now c.requires.sound
+end_for-requires-clause-sound c = sound_less c.args.self.now c.requires.takes.live.sound
 
 pub end_for-requires-in-Open-clause-sound : goal.end_for-requires-in-Open-clause-sound
-end_for-requires-in-Open-clause-sound c = sound_less c.args.self.now c.requires.sound
+end_for-requires-in-Open-clause-sound c = sound_less c.args.self.now c.requires.takes.live.sound

@@ -83,8 +83,8 @@ returns-in-Ok-clause-made c = λ d payload is.
     inl (placed_state c.args.self.now c.open_reads.new.endpoint.link c.close_with-buffer.new.endpoint.link _ c.close_with-buffer.new.sinks.items c.push_back_reserved.new.self.items c.args.kept c.args.xid payload opened closed calls left
     (c.push_back_reserved.ensures.items ∙ (λ i. c.args.self.now.ready.items ++ record { xid = c.args.xid; payload = Some (result i) } ∷ [])))
 
-pub returns-in-Ok-clause-sound : goal.returns-in-Ok-clause-sound
-returns-in-Ok-clause-sound c =
+pub returns-in-Ok-clause-kept : goal.returns-in-Ok-clause-kept
+returns-in-Ok-clause-kept c =
     let p : Pending = c.index_mut.result.now in
     let k : OpenSink = get_or c.args.self.now.sinks.items c.args.sink.1 no_sink in
     let opened = c.in-Ok.ensures.ok ∙ (λ i. with_opened (opening c.args.kept (map read_view (c.as_slice.ensures.value i))) c.args.self.now.endpoint.link) in
@@ -94,17 +94,17 @@ returns-in-Ok-clause-sound c =
     let left = c.close_with-buffer.ensures.sinks ∙ (λ i. left_sinks (map call_view (c.as_slice-in-Ok.ensures.value i)) (map read_view (c.as_slice-in-Ok-2.ensures.value i)) sinks) in
     let kept = kept_receive 0 c.args.self.now.endpoint.link.state c.args.self.now.calls.items c.args.self.now.ready.items c.args.self.now.used.items _ _ _ c.args.at p c.requires.at c.index_mut.ensures.value c.requires.sound.0 in
     let whole : InBuffer p = kept.1 in
-    let read : is_read (map read_view c.args.self.now.reads.items) p.number ≡ true = ap (λ (x : Pending). is_read (map read_view c.args.self.now.reads.items) x.number) c.index_mut.ensures.value ∙ c.requires.read p in (
-      readied_queues c.close_with-buffer.new.endpoint.link.state c.args.at c.payload_in_place-payload.new.call c.args.self.now.calls.items _ c.args.self.now.ready.items c.push_back_reserved.new.self.items _ c.args.self.now.used.items _ _ _ _ (ap (λ (x : Pending). length x.buf) c.payload_in_place-payload.ensures.call ∙ kept.0 ∙ sym (ap (λ (x : LinkSide). x.state.receive_queue.receive_length) c.close_with-buffer.ensures.link ∙ ap (λ (x : LinkSide). x.state.receive_queue.receive_length) opened), emptied_around p c.payload_in_place-payload.new.call c.payload_in_place-payload.ensures.call whole) refl c.push_back_reserved.ensures.items c.requires.few
-          c.push_back_reserved.ensures.capacity
-          (opened_closed_queues c.args.self.now.endpoint.link c.open_reads.new.endpoint.link c.close_with-buffer.new.endpoint.link (opening c.args.kept (map read_view c.args.self.now.reads.items)) (over_sinks (map call_view c.as_slice-in-Ok.result.now) (map read_view c.as_slice-in-Ok-2.result.now) sinks) c.args.self.now.calls.items c.args.self.now.ready.items c.args.self.now.used.items _ _ _ opened c.close_with-buffer.ensures.link c.requires.sound.0),
-      placed_fetched c.args.self.now.endpoint c.open_reads.new.endpoint c.close_with-buffer.new.endpoint c.args.at k.registration.stag p c.payload_in_place-payload.new.call h.call.outside (opening c.args.kept (map read_view c.args.self.now.reads.items)) c.args.self.now.calls.items _ c.args.self.now.reads.items c.args.self.now.sinks.items c.close_with-buffer.new.sinks.items
-          opened c.open_reads.ensures.outside c.close_with-buffer.ensures.held c.close_with-buffer.ensures.short (λ n. c.close_with-buffer.ensures.less no_sink h.call.outside n) c.close_with-buffer.ensures.kept left c.requires.at c.index_mut.ensures.value c.payload_in_place-payload.ensures.call refl h.call.there h.call.size read c.requires.sound.1,
-    )
-
-pub returns-in-Ok-clause-windows : goal.returns-in-Ok-clause-windows
-returns-in-Ok-clause-windows c = λ live.
-    let p : Pending = c.index_mut.result.now in
+    let read : is_read (map read_view c.args.self.now.reads.items) p.number ≡ true = ap (λ (x : Pending). is_read (map read_view c.args.self.now.reads.items) x.number) c.index_mut.ensures.value ∙ c.requires.read p in
     let new : Pending = c.payload_in_place-payload.new.call in
-    let number : new.number ≡ (get_or c.args.self.now.calls.items c.args.at p).number = ap (λ (x : Pending). x.number) c.payload_in_place-payload.ensures.call ∙ ap (λ (x : Pending). x.number) c.index_mut.ensures.value in
-    done_placed (get_or c.args.self.now.calls.items c.args.at p).number c.args.self.now.calls.items (set c.args.self.now.calls.items c.args.at new) c.args.at new p c.args.self.now.reads.items c.requires.at refl refl number (ap (λ (x : Pending). x.around) c.payload_in_place-payload.ensures.call) (c.requires.windows p)
+    let number : new.number ≡ (get_or c.args.self.now.calls.items c.args.at p).number = ap (λ (x : Pending). x.number) c.payload_in_place-payload.ensures.call ∙ ap (λ (x : Pending). x.number) c.index_mut.ensures.value in record {
+      sound = (
+        readied_queues c.close_with-buffer.new.endpoint.link.state c.args.at c.payload_in_place-payload.new.call c.args.self.now.calls.items _ c.args.self.now.ready.items c.push_back_reserved.new.self.items _ c.args.self.now.used.items _ _ _ _ (ap (λ (x : Pending). length x.buf) c.payload_in_place-payload.ensures.call ∙ kept.0 ∙ sym (ap (λ (x : LinkSide). x.state.receive_queue.receive_length) c.close_with-buffer.ensures.link ∙ ap (λ (x : LinkSide). x.state.receive_queue.receive_length) opened), emptied_around p c.payload_in_place-payload.new.call c.payload_in_place-payload.ensures.call whole) refl c.push_back_reserved.ensures.items c.requires.few
+            c.push_back_reserved.ensures.capacity
+            (opened_closed_queues c.args.self.now.endpoint.link c.open_reads.new.endpoint.link c.close_with-buffer.new.endpoint.link (opening c.args.kept (map read_view c.args.self.now.reads.items)) (over_sinks (map call_view c.as_slice-in-Ok.result.now) (map read_view c.as_slice-in-Ok-2.result.now) sinks) c.args.self.now.calls.items c.args.self.now.ready.items c.args.self.now.used.items _ _ _ opened c.close_with-buffer.ensures.link c.requires.sound.0),
+        placed_fetched c.args.self.now.endpoint c.open_reads.new.endpoint c.close_with-buffer.new.endpoint c.args.at k.registration.stag p c.payload_in_place-payload.new.call h.call.outside (opening c.args.kept (map read_view c.args.self.now.reads.items)) c.args.self.now.calls.items _ c.args.self.now.reads.items c.args.self.now.sinks.items c.close_with-buffer.new.sinks.items
+            opened c.open_reads.ensures.outside c.close_with-buffer.ensures.held c.close_with-buffer.ensures.short (λ n. c.close_with-buffer.ensures.less no_sink h.call.outside n) c.close_with-buffer.ensures.kept left c.requires.at c.index_mut.ensures.value c.payload_in_place-payload.ensures.call refl h.call.there h.call.size read c.requires.sound.1,
+      );
+      windows = λ live. done_placed (get_or c.args.self.now.calls.items c.args.at p).number c.args.self.now.calls.items (set c.args.self.now.calls.items c.args.at new) c.args.at new p c.args.self.now.reads.items c.requires.at refl refl number (ap (λ (x : Pending). x.around) c.payload_in_place-payload.ensures.call) (c.requires.windows p);
+      input = search rules;
+      staging = search rules;
+    }

@@ -17,10 +17,17 @@ use Rattle.nr_responder.proofs.Staging.{rest_or_none}
 use Rattle.nr_responder.proofs.Stepped.{same_message}
 use Rattle.nr_responder.proofs.server_end.ServerEnd.take_event.Goals as goal
 
-pub message-requires-clause-sound : goal.message-requires-clause-sound
-message-requires-clause-sound c =
+pub message-requires-clause-takes : goal.message-requires-clause-takes
+message-requires-clause-takes c =
     let one = c.in-Some-Message.ensures.event ∙ ap (λ (e : Event). delivery e ∷ c.next_event.new.self.link.state.receive_queue.deliveries) c.in-Some-Message.field-0-is in
-    (sound_told c.args.self.now.endpoint.link c.next_event.new.self.link _ _ _ c.next_event.new.self.link.state.receive_queue.deliveries c.args.self.now.calls.items c.args.self.now.ready.items c.args.self.now.used.items _ _ _ c.in-Some-Message.ensures.state one c.requires.sound.0, fetched_as c.args.self.now.endpoint c.next_event.new.self c.args.self.now.calls.items c.args.self.now.reads.items c.args.self.now.sinks.items (told_link_lem c.args.self.now.endpoint.link c.next_event.new.self.link c.in-Some-Message.ensures.state).memory c.next_event.ensures.outside c.requires.sound.1)
+    record {
+      live = record {
+        sound = (sound_told c.args.self.now.endpoint.link c.next_event.new.self.link _ _ _ c.next_event.new.self.link.state.receive_queue.deliveries c.args.self.now.calls.items c.args.self.now.ready.items c.args.self.now.used.items _ _ _ c.in-Some-Message.ensures.state one c.requires.sound.0, fetched_as c.args.self.now.endpoint c.next_event.new.self c.args.self.now.calls.items c.args.self.now.reads.items c.args.self.now.sinks.items (told_link_lem c.args.self.now.endpoint.link c.next_event.new.self.link c.in-Some-Message.ensures.state).memory c.next_event.ensures.outside c.requires.sound.1);
+        windows = c.requires.windows;
+        live = (told_link_lem c.args.self.now.endpoint.link c.next_event.new.self.link c.in-Some-Message.ensures.state).live ∙ c.requires.live;
+      };
+      frame = search rules;
+    }
 
 pub message-requires-clause-buf : goal.message-requires-clause-buf
 message-requires-clause-buf c = (subst (λ (e : Event). HasBuffer c.next_event.new.self.link.state.receive_queue.receive_length e) c.in-Some-Message.field-0-is c.in-Some-Message.ensures.buffer).0
@@ -32,9 +39,6 @@ message-requires-clause-len c =
     let most = b.1.1 in
     let size = b.0 in
     (omega (arith, least), omega (arith, most, size))
-
-pub message-requires-clause-live : goal.message-requires-clause-live
-message-requires-clause-live c = (told_link_lem c.args.self.now.endpoint.link c.next_event.new.self.link c.in-Some-Message.ensures.state).live ∙ c.requires.live
 
 pub returns-in-Some-Message-clause-taken : goal.returns-in-Some-Message-clause-taken
 returns-in-Some-Message-clause-taken c =
@@ -55,17 +59,18 @@ returns-in-Some-Message-clause-taken c =
 pub returns-in-Some-Message-clause-fed : goal.returns-in-Some-Message-clause-fed
 returns-in-Some-Message-clause-fed c =
     let t = told_link_lem c.args.self.now.endpoint.link c.next_event.new.self.link c.in-Some-Message.ensures.state in
-    let same = same_fed c.next_event.new.self.link c.message.new.self.endpoint.link c.message.ensures.input in
+    let same = same_fed c.next_event.new.self.link c.message.new.self.endpoint.link c.message.ensures.kept.input in
     omega (arith, same, t.place, ap (λ (xs : List ℕ). length xs) t.rest)
 
-pub read_done-requires-clause-sound : goal.read_done-requires-clause-sound
-read_done-requires-clause-sound c = (
-  sound_read c.args.self.now.endpoint.link c.next_event.new.self.link c.args.self.now.calls.items c.args.self.now.ready.items c.args.self.now.used.items _ _ _ c.in-Some-ReadDone.ensures.state c.requires.sound.0,
-  fetched_as c.args.self.now.endpoint c.next_event.new.self c.args.self.now.calls.items c.args.self.now.reads.items c.args.self.now.sinks.items (told_link_lem c.args.self.now.endpoint.link c.next_event.new.self.link c.in-Some-ReadDone.ensures.state).memory c.next_event.ensures.outside c.requires.sound.1,
-)
-
 pub read_done-requires-clause-live : goal.read_done-requires-clause-live
-read_done-requires-clause-live c = (told_link_lem c.args.self.now.endpoint.link c.next_event.new.self.link c.in-Some-ReadDone.ensures.state).live ∙ c.requires.live
+read_done-requires-clause-live c = record {
+  sound = (
+    sound_read c.args.self.now.endpoint.link c.next_event.new.self.link c.args.self.now.calls.items c.args.self.now.ready.items c.args.self.now.used.items _ _ _ c.in-Some-ReadDone.ensures.state c.requires.sound.0,
+    fetched_as c.args.self.now.endpoint c.next_event.new.self c.args.self.now.calls.items c.args.self.now.reads.items c.args.self.now.sinks.items (told_link_lem c.args.self.now.endpoint.link c.next_event.new.self.link c.in-Some-ReadDone.ensures.state).memory c.next_event.ensures.outside c.requires.sound.1,
+  );
+  windows = c.requires.windows;
+  live = (told_link_lem c.args.self.now.endpoint.link c.next_event.new.self.link c.in-Some-ReadDone.ensures.state).live ∙ c.requires.live;
+}
 
 pub returns-in-Some-ReadDone-clause-taken : goal.returns-in-Some-ReadDone-clause-taken
 returns-in-Some-ReadDone-clause-taken c =
@@ -81,15 +86,15 @@ returns-in-Some-ReadDone-clause-taken c =
 pub returns-in-Some-ReadDone-clause-fed : goal.returns-in-Some-ReadDone-clause-fed
 returns-in-Some-ReadDone-clause-fed c =
     let t = told_link_lem c.args.self.now.endpoint.link c.next_event.new.self.link c.in-Some-ReadDone.ensures.state in
-    let same = same_fed c.next_event.new.self.link c.read_done.new.self.endpoint.link c.read_done.ensures.input in
+    let same = same_fed c.next_event.new.self.link c.read_done.new.self.endpoint.link c.read_done.ensures.kept.input in
     omega (arith, same, t.place, ap (λ (xs : List ℕ). length xs) t.rest)
 
 pub returns-in-Some-Message-clause-rest : goal.returns-in-Some-Message-clause-rest
 returns-in-Some-Message-clause-rest c =
     let t = told_link_lem c.args.self.now.endpoint.link c.next_event.new.self.link c.in-Some-Message.ensures.state in
-    rest_or_none c.args.self.now.endpoint.link.rest c.next_event.new.self.link.rest c.message.new.self.endpoint.link.rest t.rest c.message.ensures.input.rest
+    rest_or_none c.args.self.now.endpoint.link.rest c.next_event.new.self.link.rest c.message.new.self.endpoint.link.rest t.rest c.message.ensures.kept.input.rest
 
 pub returns-in-Some-ReadDone-clause-rest : goal.returns-in-Some-ReadDone-clause-rest
 returns-in-Some-ReadDone-clause-rest c =
     let t = told_link_lem c.args.self.now.endpoint.link c.next_event.new.self.link c.in-Some-ReadDone.ensures.state in
-    rest_or_none c.args.self.now.endpoint.link.rest c.next_event.new.self.link.rest c.read_done.new.self.endpoint.link.rest t.rest c.read_done.ensures.input.rest
+    rest_or_none c.args.self.now.endpoint.link.rest c.next_event.new.self.link.rest c.read_done.new.self.endpoint.link.rest t.rest c.read_done.ensures.kept.input.rest

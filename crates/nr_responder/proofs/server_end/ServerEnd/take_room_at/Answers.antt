@@ -18,22 +18,21 @@ returns-clause-same c =
     ap (λ (cs : List PendingCall). record { link = c.args.self.now.endpoint.link; calls = cs; ready = xids_of c.args.self.now.ready.items; credits = c.args.self.now.credits; fetching = fetching_of c.args.self.now.reads.items c.args.self.now.sinks.items c.args.self.now.ready.items })
     (map-set_same call_view c.args.self.now.calls.items c.args.at c.take_out_room.new.call c.index_mut.result.now one)
 
-pub returns-clause-sound : goal.returns-clause-sound
-returns-clause-sound c =
+pub returns-clause-live : goal.returns-clause-live
+returns-clause-live c =
     let d : Pending = c.index_mut.result.now in
     let around : c.take_out_room.new.call.around ≡ (get_or c.args.self.now.calls.items c.args.at d).around = ap (λ (x : Pending). x.around) c.take_out_room.ensures.call ∙ ap (λ (x : Pending). x.around) c.index_mut.ensures.value in
-    let kept = kept_receive 0 c.args.self.now.endpoint.link.state c.args.self.now.calls.items c.args.self.now.ready.items c.args.self.now.used.items _ _ _ c.args.at d c.requires.at c.index_mut.ensures.value c.requires.sound.0 in
+    let kept = kept_receive 0 c.args.self.now.endpoint.link.state c.args.self.now.calls.items c.args.self.now.ready.items c.args.self.now.used.items _ _ _ c.args.at d c.requires.at c.index_mut.ensures.value c.requires.live.sound.0 in
     let whole : InBuffer d = kept.1 in
-    emptied_sound c.args.self.now c.args.at c.take_out_room.new.call (set c.args.self.now.calls.items c.args.at c.take_out_room.new.call) refl
-    (subst (InReceive c.args.self.now.endpoint.link.state.receive_queue.receive_length) (sym c.take_out_room.ensures.call) (kept.0, record { buf = whole.buf; len = whole.len; at = whole.at; lists = whole.lists; target = whole.target; item = whole.item }))
-    (read_has_room c.args.self.now.endpoint.outside c.args.self.now.sinks.items c.args.self.now.reads.items c.take_out_room.new.call
-    (ap (λ (x : Pending). is_read (map read_view c.args.self.now.reads.items) x.number) c.take_out_room.ensures.call ∙ ap (λ (x : Pending). is_read (map read_view c.args.self.now.reads.items) x.number) c.index_mut.ensures.value ∙ c.requires.read d)
-    (around ∙ c.requires.empty d) (let none = ap (λ (x : Pending). room_len x.room) c.take_out_room.ensures.call in omega (arith, none)))
-    c.requires.at (around ∙ ap (λ (x : Pending). x.around) (same_item c.args.self.now.calls.items c.args.at c.take_out_room.new.call d c.requires.at)) c.requires.sound
-
-pub returns-clause-windows : goal.returns-clause-windows
-returns-clause-windows c =
-    let d : Pending = c.index_mut.result.now in
     let number : c.take_out_room.new.call.number ≡ (get_or c.args.self.now.calls.items c.args.at d).number = ap (λ (x : Pending). x.number) c.take_out_room.ensures.call ∙ ap (λ (x : Pending). x.number) c.index_mut.ensures.value in
-    let around : c.take_out_room.new.call.around ≡ (get_or c.args.self.now.calls.items c.args.at d).around = ap (λ (x : Pending). x.around) c.take_out_room.ensures.call ∙ ap (λ (x : Pending). x.around) c.index_mut.ensures.value in
-    set_windows c.args.self.now.calls.items (set c.args.self.now.calls.items c.args.at c.take_out_room.new.call) c.args.at c.take_out_room.new.call d c.args.self.now.reads.items refl c.requires.at number (omega (arith, around)) c.requires.windows
+    record {
+      sound =
+          emptied_sound c.args.self.now c.args.at c.take_out_room.new.call (set c.args.self.now.calls.items c.args.at c.take_out_room.new.call) refl
+          (subst (InReceive c.args.self.now.endpoint.link.state.receive_queue.receive_length) (sym c.take_out_room.ensures.call) (kept.0, record { buf = whole.buf; len = whole.len; at = whole.at; lists = whole.lists; target = whole.target; item = whole.item }))
+          (read_has_room c.args.self.now.endpoint.outside c.args.self.now.sinks.items c.args.self.now.reads.items c.take_out_room.new.call
+          (ap (λ (x : Pending). is_read (map read_view c.args.self.now.reads.items) x.number) c.take_out_room.ensures.call ∙ ap (λ (x : Pending). is_read (map read_view c.args.self.now.reads.items) x.number) c.index_mut.ensures.value ∙ c.requires.read d)
+          (around ∙ c.requires.empty d) (let none = ap (λ (x : Pending). room_len x.room) c.take_out_room.ensures.call in omega (arith, none)))
+          c.requires.at (around ∙ ap (λ (x : Pending). x.around) (same_item c.args.self.now.calls.items c.args.at c.take_out_room.new.call d c.requires.at)) c.requires.live.sound;
+      windows = set_windows c.args.self.now.calls.items (set c.args.self.now.calls.items c.args.at c.take_out_room.new.call) c.args.at c.take_out_room.new.call d c.args.self.now.reads.items refl c.requires.at number (omega (arith, around)) c.requires.live.windows;
+      live = c.requires.live.live;
+    }
