@@ -153,8 +153,8 @@ ran_out opened link run v after piece n out r output =
     let mark : Mark = marks.Fed link Responder piece in
     let s : RepresentsServer opened link (run ++ part ∷ []) out.stopped = fed_represents opened link run v out.stopped (take n piece) out.fed r in
     let both : (s.end.ended ≡ None) × Keeps opened s.end.state s.input out.stopped = not_ended_lem opened s.end s.input out.stopped out.live s.keeps in
-    let output : KeepsOutput out.stopped.link.state after.link.state = (out.needs opened s.end s.input s.keeps).1.0 in
-    let same : queue after ≡ queue out.stopped = ap queued_bytes output.queue in
+    let stays : KeepsOutput out.stopped.link.state after.link.state = (out.needs opened s.end s.input s.keeps).1.0 in
+    let same : queue after ≡ queue out.stopped = ap queued_bytes stays.queue in
     record {
       output = output;
       stopped = run ++ part ∷ [];
@@ -175,7 +175,7 @@ ran_out opened link run v after piece n out r output =
       credits = out.same.credits ∙ both.1.credits ∙ ap (λ (e : EndState ServerState). e.state.credit) s.stands.keeps;
       agreed =
           subst (λ (e : EndState ServerState). KeepsAgreed e.state after.link.state.agreed) s.stands.keeps
-          (subst (λ (a : Agreement). KeepsAgreed s.end.state a) (sym output.agreed) (keeps_agreed opened s.end.state out.stopped.link.state out.stopped.link.state.place both.1.link both.1.server));
+          (subst (λ (a : Agreement). KeepsAgreed s.end.state a) (sym stays.agreed) (keeps_agreed opened s.end.state out.stopped.link.state out.stopped.link.state.place both.1.link both.1.server));
     }
 
 pub fed_stands_lem : (opened : LinkParameters) (link : ℕ) (run : List Mark) (v after : ResponderSide) (piece : List ℕ) → Fed v piece after → end_of v ≡ None → ResponderRepresents opened link run v → ResponderRepresents opened link (run ++ marks.Fed link Responder piece ∷ []) after

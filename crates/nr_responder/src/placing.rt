@@ -74,6 +74,7 @@ impl ServerEnd {
     /// The call at this place, whose payload is completed in the buffer of its sink, is complete by the read that is done: it is ready, or ends
     /// the link.
     pub(crate) fn complete_in_place(&mut self, at: usize, done: ReadEntry, kept: usize)
+        requires sound { ServerEndInvariant self.old }
         requires read { HasDoneRead self.old done kept at }
         requires all { IsAllRead self.old done at }
         requires window { (d : Pending) → HasWindow self.old.endpoint.outside self.old.sinks.items (get_or self.old.calls.items at d) }

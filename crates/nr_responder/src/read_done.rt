@@ -13,7 +13,7 @@ ghost use Rattle.nr_responder.specs.private.ReadsDone.{has_bad_chunk, reads_with
 ghost use Rattle.nr_responder.specs.private.DoneReads.{HasDoneRead, IsAllRead, ReadsOn, ReadyMade};
 ghost use Rattle.nr_responder.specs.private.Invariants.{IsKept, IsLive};
 ghost use Rattle.nr_responder.specs.Rooms.{payload_room};
-ghost use Rattle.nr_responder.specs.Sound.{claims_of, state_of, AreHeldFrom, HasSpace, InBuffer, IsRoom, ServerEndInvariant, WindowsInvariant};
+ghost use Rattle.nr_responder.specs.Sound.{claims_of, state_of, AreHeldFrom, HasSpace, InBuffer, IsRoom, ServerEndInvariant, WindowsAreRead, WindowsInvariant};
 ghost use Rattle.nr_responder.specs.Views.{call_view, read_view, sink_view};
 
 use crate::answering::chunk_error;
@@ -160,7 +160,7 @@ fn queue_refusal(
 impl ServerEnd {
     /// Opens the reads that may open, and closes the sinks that are over. An `Err` changes nothing: some may open, and memory ran out.
     fn read_on(&mut self, kept: usize) -> Result<(), Memory>
-        requires live { IsLive 0 self.old }
+        requires { IsLive 0 self.old }
         ensures ok { OnOk result (ReadsOn self.old.endpoint.link.state kept self.old self.new) }
         ensures err { OnErr result (state_of self.new ≡ state_of self.old) }
         ensures some { OnErr result (opening kept (map read_view self.old.reads.items) ≢ []) }
@@ -183,7 +183,9 @@ impl ServerEnd {
 
     /// The call of the read that is done waits for more, or was answered or refused before.
     fn go_on(&mut self, done: ReadEntry, kept: usize)
-        requires live { IsLive 0 self.old }
+        requires sound { ServerEndInvariant self.old }
+        requires windows { WindowsAreRead self.old.calls.items self.old.reads.items }
+        requires live { self.old.endpoint.link.state.ended ≡ None }
         requires kept { kept ≡ still_open (read_view done) (map read_view self.old.reads.items) }
         requires nothing { NothingReady (state_of self.old) (read_view done) (map read_view self.old.reads.items) }
         ensures handled { HandlesRead (state_of self.old) (read_view done) (map read_view self.old.reads.items) (state_of self.new) }
@@ -238,6 +240,7 @@ impl ServerEnd {
 
     /// The call at this place is complete by the read that is done: it is ready, or ends the link.
     fn complete(&mut self, at: usize, done: ReadEntry, kept: usize)
+        requires sound { ServerEndInvariant self.old }
         requires read { HasDoneRead self.old done kept at }
         requires all { IsAllRead self.old done at }
         requires space { (d : Pending) → HasSpace self.old.endpoint.outside self.old.sinks.items (get_or self.old.calls.items at d) }
@@ -253,6 +256,7 @@ impl ServerEnd {
 
     /// The same, if its payload is put together in a room of its own.
     fn complete_in_room(&mut self, at: usize, done: ReadEntry, kept: usize)
+        requires sound { ServerEndInvariant self.old }
         requires read { HasDoneRead self.old done kept at }
         requires all { IsAllRead self.old done at }
         requires empty { (d : Pending) → (get_or self.old.calls.items at d).around ≡ 0 }
@@ -288,6 +292,7 @@ impl ServerEnd {
 
     /// The call at this place is refused by ERR_CHUNK (RFC 8166 section 4.5.3), and its reads that wait are dropped.
     fn refuse_read(&mut self, at: usize, done: ReadEntry, kept: usize)
+        requires sound { ServerEndInvariant self.old }
         requires read { HasDoneRead self.old done kept at }
         requires few { length self.old.ready.items < length self.old.calls.items }
         requires empty { (d : Pending) → (get_or self.old.calls.items at d).around ≡ 0 }
@@ -321,6 +326,7 @@ impl ServerEnd {
 
     /// The read that is done is of the call at this place.
     fn read_of_call(&mut self, at: usize, done: ReadEntry, kept: usize)
+        requires sound { ServerEndInvariant self.old }
         requires read { HasDoneRead self.old done kept at }
         requires space { (d : Pending) → HasSpace self.old.endpoint.outside self.old.sinks.items (get_or self.old.calls.items at d) }
         requires apart { (d : Pending) → (get_or self.old.calls.items at d).around ≢ 0 → done.position ≢ 0 }
@@ -343,7 +349,9 @@ impl ServerEnd {
 
     /// The oldest read is done.
     pub(crate) fn read_done(&mut self)
-        requires live { IsLive 0 self.old }
+        requires sound { ServerEndInvariant self.old }
+        requires windows { WindowsAreRead self.old.calls.items self.old.reads.items }
+        requires live { self.old.endpoint.link.state.ended ≡ None }
         requires frame { 0 < self.old.endpoint.link.state.place }
         ensures handled { (r : PendingRead) (rest : List PendingRead) → map read_view self.old.reads.items ≡ r ∷ rest → HandlesRead (state_of self.old) r rest (state_of self.new) }
         ensures kept { IsKept self.old self.new }

@@ -12,7 +12,7 @@ use Rattle.nr_responder.specs.declared.call.Pending.{Pending}
 use Rattle.nr_responder.specs.declared.call.OpenSink.{OpenSink}
 use Rattle.nr_responder.specs.declared.call.ReadEntry.{ReadEntry}
 use Rattle.nr_reduce.specs.ServerReads.{is_read}
-use Rattle.nr_responder.specs.Sound.{state_of, OthersAreRead, ServerEndInvariant}
+use Rattle.nr_responder.specs.Sound.{state_of, OthersAreRead}
 use Rattle.nr_responder.specs.private.CallsRead.{ready_with_payload}
 use Rattle.nr_responder.specs.ResponderState.{ResponderSide}
 use Rattle.nr_endpoint.specs.LinkState.{LinkState}
@@ -50,7 +50,6 @@ pub record IsOfCall (v : ResponderSide) (r : PendingRead) (kept at : ℕ) (c : P
 
 -- The side lives, the read that is done is of the call at a place of its calls, and `kept` of the reads that are left are open.
 pub record HasDoneRead (r : ServerEnd) (done : ReadEntry) (kept at : ℕ) : Type 0 where
-  pub sound : ServerEndInvariant r
   pub windows : OthersAreRead done.number r.calls.items r.reads.items
   pub live : r.endpoint.link.state.ended ≡ None
   pub frame : 0 < r.endpoint.link.state.place

@@ -30,7 +30,7 @@ ready_in_place-requires-clause-whole c = λ d.
     let w : HasWindow c.args.self.now.endpoint.outside c.args.self.now.sinks.items p = subst (λ (x : Pending). HasWindow c.args.self.now.endpoint.outside c.args.self.now.sinks.items x) (sym c.index-call.ensures) (c.requires.window p) in
     let stream : List ℕ = drop p.stream_at (take p.len p.buf) in
     let is : read_payload (state_of c.args.self.now) (call_view p) ≡ whole of.Call stream (Some c.sink_bytes-moved.result.now) =
-    placed_read c.args.self.now p c.item_place-place.result.0 c.item_place-place.result.1 no_sink c.as_slice.result.now c.as_slice-2.result.now c.sink_bytes-moved.result.now w c.item_place-place.ensures c.as_slice.ensures.value c.as_slice-2.ensures.value c.requires.read.sound.1.held c.sink_bytes-moved.ensures.bytes in
+    placed_read c.args.self.now p c.item_place-place.result.0 c.item_place-place.result.1 no_sink c.as_slice.result.now c.as_slice-2.result.now c.sink_bytes-moved.result.now w c.item_place-place.ensures c.as_slice.ensures.value c.as_slice-2.ensures.value c.requires.sound.1.held c.sink_bytes-moved.ensures.bytes in
     let ready : IsReadyWith (call_view p) (whole of.Call stream (Some c.sink_bytes-moved.result.now)) = c.in-None.ensures.verdict in
     ap (λ (x : Pending). is_some (read_payload (state_of c.args.self.now) (call_view x))) (same_item c.args.self.now.calls.items c.args.at p d c.requires.read.within ∙ sym c.index-call.ensures) ∙ ap is_some is ∙ ap is_some ready.is
 
@@ -38,7 +38,7 @@ pub ready_in_place-requires-clause-moved : goal.ready_in_place-requires-clause-m
 ready_in_place-requires-clause-moved c = λ d.
     let p : Pending = c.index-call.result.now in
     let w : HasWindow c.args.self.now.endpoint.outside c.args.self.now.sinks.items p = subst (λ (x : Pending). HasWindow c.args.self.now.endpoint.outside c.args.self.now.sinks.items x) (sym c.index-call.ensures) (c.requires.window p) in
-    placed_len c.args.self.now p c.item_place-place.result.0 c.item_place-place.result.1 d c.as_slice.result.now c.as_slice-2.result.now c.sink_bytes-moved.result.now w c.item_place-place.ensures c.as_slice.ensures.value c.as_slice-2.ensures.value c.requires.read.sound.1.held c.sink_bytes-moved.ensures.bytes
+    placed_len c.args.self.now p c.item_place-place.result.0 c.item_place-place.result.1 d c.as_slice.result.now c.as_slice-2.result.now c.sink_bytes-moved.result.now w c.item_place-place.ensures c.as_slice.ensures.value c.as_slice-2.ensures.value c.requires.sound.1.held c.sink_bytes-moved.ensures.bytes
 
 pub returns-in-None-clause-handled : goal.returns-in-None-clause-handled
 returns-in-None-clause-handled c =
@@ -47,7 +47,7 @@ returns-in-None-clause-handled c =
     let w : HasWindow c.args.self.now.endpoint.outside c.args.self.now.sinks.items p = subst (λ (x : Pending). HasWindow c.args.self.now.endpoint.outside c.args.self.now.sinks.items x) (sym c.index-call.ensures) (c.requires.window p) in
     let stream : List ℕ = drop p.stream_at (take p.len p.buf) in
     let is : read_payload v (call_view p) ≡ whole of.Call stream (Some c.sink_bytes-moved.result.now) =
-    placed_read c.args.self.now p c.item_place-place.result.0 c.item_place-place.result.1 no_sink c.as_slice.result.now c.as_slice-2.result.now c.sink_bytes-moved.result.now w c.item_place-place.ensures c.as_slice.ensures.value c.as_slice-2.ensures.value c.requires.read.sound.1.held c.sink_bytes-moved.ensures.bytes in
+    placed_read c.args.self.now p c.item_place-place.result.0 c.item_place-place.result.1 no_sink c.as_slice.result.now c.as_slice-2.result.now c.sink_bytes-moved.result.now w c.item_place-place.ensures c.as_slice.ensures.value c.as_slice-2.ensures.value c.requires.sound.1.held c.sink_bytes-moved.ensures.bytes in
     let ready : IsReadyWith (call_view p) (whole of.Call stream (Some c.sink_bytes-moved.result.now)) = c.in-None.ensures.verdict in
     let same : get_or c.args.self.now.calls.items c.args.at p ≡ p = sym c.index-call.ensures in
     readies v v (state_of c.ready_in_place.new.self) (read_view c.args.done) c.args.kept c.args.at (call_view p) ready.payload (subst (λ (x : Pending). IsOfCall v (read_view c.args.done) c.args.kept c.args.at (call_view x)) same (c.requires.read.call p))
@@ -62,7 +62,7 @@ returns-in-Some-clause-handled c =
     let w : HasWindow c.args.self.now.endpoint.outside c.args.self.now.sinks.items p = subst (λ (x : Pending). HasWindow c.args.self.now.endpoint.outside c.args.self.now.sinks.items x) (sym c.index-call.ensures) (c.requires.window p) in
     let stream : List ℕ = drop p.stream_at (take p.len p.buf) in
     let is : read_payload v (call_view p) ≡ whole of.Call stream (Some c.sink_bytes-moved.result.now) =
-    placed_read c.args.self.now p c.item_place-place.result.0 c.item_place-place.result.1 no_sink c.as_slice.result.now c.as_slice-2.result.now c.sink_bytes-moved.result.now w c.item_place-place.ensures c.as_slice.ensures.value c.as_slice-2.ensures.value c.requires.read.sound.1.held c.sink_bytes-moved.ensures.bytes in
+    placed_read c.args.self.now p c.item_place-place.result.0 c.item_place-place.result.1 no_sink c.as_slice.result.now c.as_slice-2.result.now c.sink_bytes-moved.result.now w c.item_place-place.ensures c.as_slice.ensures.value c.as_slice-2.ensures.value c.requires.sound.1.held c.sink_bytes-moved.ensures.bytes in
     let same : get_or c.args.self.now.calls.items c.args.at p ≡ p = sym c.index-call.ensures in
     ends_for v v (state_of c.end_for.new.self) (read_view c.args.done) c.args.kept c.args.at (call_view p) c.in-Some.reason (subst (λ (x : Pending). IsOfCall v (read_view c.args.done) c.args.kept c.args.at (call_view x)) same (c.requires.read.call p))
     (subst (λ (x : Pending). has_bad_chunk v (call_view x) (read_view c.args.done) (map read_view c.args.self.now.reads.items) ≡ false) same (c.requires.all.fine p))

@@ -43,7 +43,7 @@ returns-in-Err-clause-handled c =
 
 pub take_room_at-room-requires-clause-live : goal.take_room_at-room-requires-clause-live
 take_room_at-room-requires-clause-live c = record {
-  sound = c.requires.read.sound;
+  sound = c.requires.sound;
   windows = done_none c.args.done.number c.args.self.now.calls.items c.args.at no_call c.args.self.now.reads.items c.requires.read.within (c.requires.read.call no_call).own (c.requires.empty no_call) c.requires.read.windows;
   live = c.requires.read.live;
 }

@@ -12,3 +12,6 @@ returns-in-Ok-clause-handled c =
 pub returns-in-Err-clause-handled : goal.returns-in-Err-clause-handled
 returns-in-Err-clause-handled c =
     stops_on (state_of c.args.self.now) (state_of c.read_on.new.self) (state_of c.run_out.new.self) (read_view c.args.done) c.args.kept c.requires.kept c.requires.nothing c.in-Err.ensures.some c.in-Err.ensures.err c.run_out.ensures.out
+
+pub read_on-requires : goal.read_on-requires
+read_on-requires c = record { sound = c.requires.sound; windows = c.requires.windows; live = c.requires.live }

@@ -21,9 +21,8 @@ read_of_call-requires-clause-read c =
     let len : c.len.result ≡ length c.args.self.now.reads.items = search rules in
     let count : c.open_count-kept.result ≡ min (length c.args.self.now.reads.items) open_reads_max = c.open_count-kept.ensures ∙ ap (λ (n : ℕ). min n open_reads_max) len in
     record {
-      sound = search rules;
-      windows = first_done c.args.self.now.calls.items c.args.self.now.reads.items c.remove-done.new.self.items c.remove-done.result (split_first c.args.self.now.reads.items c.remove-done.new.self.items c.remove-done.result some c.remove-done.ensures.value c.remove-done.ensures.items) c.requires.live.windows;
-      live = c.requires.live.live;
+      windows = first_done c.args.self.now.calls.items c.args.self.now.reads.items c.remove-done.new.self.items c.remove-done.result (split_first c.args.self.now.reads.items c.remove-done.new.self.items c.remove-done.result some c.remove-done.ensures.value c.remove-done.ensures.items) c.requires.windows;
+      live = c.requires.live;
       frame = c.requires.frame;
       within = first.0;
       call = λ d.
@@ -39,12 +38,8 @@ pub returns-in-None-clause-handled : goal.returns-in-None-clause-handled
 returns-in-None-clause-handled c = λ r rest is.
     first_read (state_of c.args.self.now) (state_of c.go_on.new.self) c.args.self.now.reads.items c.remove-done.new.self.items c.remove-done.result r rest (search rules) c.remove-done.ensures.value c.remove-done.ensures.items is c.go_on.ensures.handled
 
-pub go_on-requires-clause-live : goal.go_on-requires-clause-live
-go_on-requires-clause-live c =
+pub go_on-requires-clause-windows : goal.go_on-requires-clause-windows
+go_on-requires-clause-windows c =
     let some : 0 < length c.args.self.now.reads.items = search rules in
-    record {
-      sound = search rules;
-      windows = done_gone c.remove-done.result.number c.args.self.now.calls.items c.remove-done.new.self.items (subst (λ (xs : List Pending). (k : ℕ) (d : Pending) → k < length xs → (get_or xs k d).number ≢ c.remove-done.result.number) c.as_slice.ensures.value (c.in-None.ensures.none refl))
-      (first_done c.args.self.now.calls.items c.args.self.now.reads.items c.remove-done.new.self.items c.remove-done.result (split_first c.args.self.now.reads.items c.remove-done.new.self.items c.remove-done.result some c.remove-done.ensures.value c.remove-done.ensures.items) c.requires.live.windows);
-      live = c.requires.live.live;
-    }
+    done_gone c.remove-done.result.number c.args.self.now.calls.items c.remove-done.new.self.items (subst (λ (xs : List Pending). (k : ℕ) (d : Pending) → k < length xs → (get_or xs k d).number ≢ c.remove-done.result.number) c.as_slice.ensures.value (c.in-None.ensures.none refl))
+    (first_done c.args.self.now.calls.items c.args.self.now.reads.items c.remove-done.new.self.items c.remove-done.result (split_first c.args.self.now.reads.items c.remove-done.new.self.items c.remove-done.result some c.remove-done.ensures.value c.remove-done.ensures.items) c.requires.windows)

@@ -24,9 +24,5 @@ go_on-requires-clause-nothing c =
     Waits (call_view (get_or c.args.self.now.calls.items c.args.at no_call)) (record { found = own.found; fine = sym (c.has_bad_chunk.ensures no_call) ∙ c.if-has_bad_chunk.false })
     (ap (is_read (map read_view c.args.self.now.reads.items)) own.own ∙ ap (λ (rs : List ReadEntry). is_read (map read_view rs) c.args.done.number) (sym c.as_slice.ensures.value) ∙ sym c.is_read.ensures ∙ c.if-is_read.false)
 
-pub go_on-requires-clause-live : goal.go_on-requires-clause-live
-go_on-requires-clause-live c = record {
-  sound = c.requires.read.sound;
-  windows = done_unread c.args.done.number c.args.self.now.calls.items c.args.self.now.reads.items (ap (λ (rs : List ReadEntry). is_read (map read_view rs) c.args.done.number) (sym c.as_slice.ensures.value) ∙ sym c.is_read.ensures ∙ c.if-is_read.false) c.requires.read.windows;
-  live = c.requires.read.live;
-}
+pub go_on-requires-clause-windows : goal.go_on-requires-clause-windows
+go_on-requires-clause-windows c = done_unread c.args.done.number c.args.self.now.calls.items c.args.self.now.reads.items (ap (λ (rs : List ReadEntry). is_read (map read_view rs) c.args.done.number) (sym c.as_slice.ensures.value) ∙ sym c.is_read.ensures ∙ c.if-is_read.false) c.requires.read.windows

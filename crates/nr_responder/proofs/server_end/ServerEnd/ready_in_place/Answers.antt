@@ -105,6 +105,11 @@ returns-in-Ok-clause-kept c =
             opened c.open_reads.ensures.outside c.close_with-buffer.ensures.held c.close_with-buffer.ensures.short (λ n. c.close_with-buffer.ensures.less no_sink h.call.outside n) c.close_with-buffer.ensures.kept left c.requires.at c.index_mut.ensures.value c.payload_in_place-payload.ensures.call refl h.call.there h.call.size read c.requires.sound.1,
       );
       windows = λ live. done_placed (get_or c.args.self.now.calls.items c.args.at p).number c.args.self.now.calls.items (set c.args.self.now.calls.items c.args.at new) c.args.at new p c.args.self.now.reads.items c.requires.at refl refl number (ap (λ (x : Pending). x.around) c.payload_in_place-payload.ensures.call) (c.requires.windows p);
-      input = search rules;
-      staging = search rules;
+      input = record {
+        queue = ap (λ (l : LinkSide). l.state.receive_queue) c.close_with-buffer.ensures.link ∙ ap (λ (l : LinkSide). l.state.receive_queue) opened;
+        place = ap (λ (l : LinkSide). l.state.place) c.close_with-buffer.ensures.link ∙ ap (λ (l : LinkSide). l.state.place) opened;
+        awaited = ap (λ (l : LinkSide). l.awaited) c.close_with-buffer.ensures.link ∙ ap (λ (l : LinkSide). l.awaited) opened;
+        rest = inl (ap (λ (l : LinkSide). l.rest) c.close_with-buffer.ensures.link ∙ ap (λ (l : LinkSide). l.rest) opened);
+      };
+      staging = c.close_with-buffer.ensures.staging ∙ c.open_reads.ensures.staging;
     }

@@ -1,4 +1,4 @@
-use Rattle.std.proofs.Common.{rules, ◌≡◌, ℕ, List, [], ◌∷◌, ◌++◌, map, get_or, ap, sym, subst, ◌∙◌, append-nil, true}
+use Rattle.std.proofs.Common.{inl, ◌≡◌, ℕ, List, [], ◌∷◌, ◌++◌, map, get_or, ap, sym, subst, ◌∙◌, append-nil, true}
 use Rattle.std.specs.Prelude.{vec_capacity}
 use Rattle.std.specs.VecDeque.{deque_capacity}
 use Rattle.nr_endpoint.specs.LinkState.{LinkSide}
@@ -21,9 +21,9 @@ use Rattle.nr_responder.proofs.Sounds.{kept_receive}
 
 pub run_out-requires : goal.run_out-requires
 run_out-requires c = (
-  subst (λ (l : LinkSide). QueuesInvariant 0 l.state c.args.self.now.calls.items c.args.self.now.ready.items c.args.self.now.used.items (vec_capacity c.args.self.now.calls) (deque_capacity c.args.self.now.ready) (deque_capacity c.args.self.now.used)) (sym c.in-Err.ensures.err) c.requires.read.sound.0,
+  subst (λ (l : LinkSide). QueuesInvariant 0 l.state c.args.self.now.calls.items c.args.self.now.ready.items c.args.self.now.used.items (vec_capacity c.args.self.now.calls) (deque_capacity c.args.self.now.ready) (deque_capacity c.args.self.now.used)) (sym c.in-Err.ensures.err) c.requires.sound.0,
   dropped_fetched c.args.self.now.endpoint c.queue_refusal.new.endpoint c.args.done.number c.args.kept c.args.self.now.calls.items c.args.self.now.reads.items c.drop_waiting.new.reads.items c.args.self.now.sinks.items c.drop_waiting.ensures
-      (ap (λ (l : LinkSide). l.state.memory) c.in-Err.ensures.err) c.queue_refusal.ensures.outside c.requires.read.sound.1,
+      (ap (λ (l : LinkSide). l.state.memory) c.in-Err.ensures.err) c.queue_refusal.ensures.outside c.requires.sound.1,
 )
 
 pub returns-in-Ok-clause-handled : goal.returns-in-Ok-clause-handled
@@ -57,17 +57,22 @@ returns-in-Ok-clause-kept c =
     let reads : List PendingRead = map read_view c.drop_waiting.new.reads.items in
     let sinks : List SinkRegion = map sink_view c.args.self.now.sinks.items in
     let opened = c.in-Ok.ensures.ok ∙ (λ i. with_opened_after message (opening c.args.kept (map read_view (c.as_slice.ensures.value i))) c.args.self.now.endpoint.link) in
-    let whole = kept_receive 0 c.args.self.now.endpoint.link.state c.args.self.now.calls.items c.args.self.now.ready.items c.args.self.now.used.items _ _ _ c.args.at d c.requires.read.within c.index.ensures c.requires.read.sound.0 in record {
+    let whole = kept_receive 0 c.args.self.now.endpoint.link.state c.args.self.now.calls.items c.args.self.now.ready.items c.args.self.now.used.items _ _ _ c.args.at d c.requires.read.within c.index.ensures c.requires.sound.0 in record {
       sound = (
         refused_sound c.args.self.now.endpoint.link.state c.close_over.new.endpoint.link.state c.args.at d c.args.self.now.calls.items c.retire.new.calls.items c.args.self.now.ready.items c.args.self.now.used.items c.retire.new.used.items _ _ _ _ _
             (ap (λ (l : LinkSide). l.state.receive_queue) c.close_over.ensures.link ∙ ap (λ (l : LinkSide). l.state.receive_queue) opened)
             (refused_ends message (opening c.args.kept reads) (over_sinks (map call_view c.as_slice-in-Ok.result.now) (map read_view c.as_slice-in-Ok-2.result.now) sinks) c.args.self.now.endpoint.link c.queue_refusal.new.endpoint.link c.close_over.new.endpoint.link opened c.close_over.ensures.link)
-            c.requires.read.within whole c.retire.ensures.calls c.requires.few (c.retire.ensures.used d ∙ ap (λ (x : Pending). c.args.self.now.used.items ++ x.buf ∷ []) (sym c.index.ensures)) c.retire.ensures.calls_room c.retire.ensures.used_room c.requires.read.sound.0,
+            c.requires.read.within whole c.retire.ensures.calls c.requires.few (c.retire.ensures.used d ∙ ap (λ (x : Pending). c.args.self.now.used.items ++ x.buf ∷ []) (sym c.index.ensures)) c.retire.ensures.calls_room c.retire.ensures.used_room c.requires.sound.0,
         refused_fetched c.args.self.now.endpoint c.queue_refusal.new.endpoint c.close_over.new.endpoint c.args.done.number c.args.kept c.args.at d message (opening c.args.kept reads) c.args.self.now.calls.items c.retire.new.calls.items c.args.self.now.reads.items c.drop_waiting.new.reads.items
             c.args.self.now.sinks.items c.close_over.new.sinks.items c.drop_waiting.ensures c.requires.read.within (c.requires.empty d) c.retire.ensures.calls opened c.queue_refusal.ensures.outside c.close_over.ensures.held c.close_over.ensures.short c.close_over.ensures.outside c.close_over.ensures.kept
-            (c.close_over.ensures.sinks ∙ (λ i. left_sinks (map call_view (c.as_slice-in-Ok.ensures.value i)) (map read_view (c.as_slice-in-Ok-2.ensures.value i)) sinks)) c.requires.read.sound.1,
+            (c.close_over.ensures.sinks ∙ (λ i. left_sinks (map call_view (c.as_slice-in-Ok.ensures.value i)) (map read_view (c.as_slice-in-Ok-2.ensures.value i)) sinks)) c.requires.sound.1,
       );
       windows = λ live. done_refused c.args.done.number c.args.kept c.args.self.now.calls.items c.retire.new.calls.items c.args.at d c.args.self.now.reads.items c.drop_waiting.new.reads.items c.requires.read.within (c.requires.read.call d).own (c.requires.empty d) c.retire.ensures.calls c.drop_waiting.ensures c.requires.read.windows;
-      input = search rules;
-      staging = search rules;
+      input = record {
+        queue = ap (λ (l : LinkSide). l.state.receive_queue) c.close_over.ensures.link ∙ ap (λ (l : LinkSide). l.state.receive_queue) opened;
+        place = ap (λ (l : LinkSide). l.state.place) c.close_over.ensures.link ∙ ap (λ (l : LinkSide). l.state.place) opened;
+        awaited = ap (λ (l : LinkSide). l.awaited) c.close_over.ensures.link ∙ ap (λ (l : LinkSide). l.awaited) opened;
+        rest = inl (ap (λ (l : LinkSide). l.rest) c.close_over.ensures.link ∙ ap (λ (l : LinkSide). l.rest) opened);
+      };
+      staging = c.close_over.ensures.staging ∙ c.queue_refusal.ensures.staging;
     }

@@ -1,4 +1,4 @@
-use Rattle.std.proofs.Common.{ℕ, List, [], ◌∷◌, length, take, sym, ap, subst, ◌∙◌, arith}
+use Rattle.std.proofs.Common.{ℕ, List, [], ◌∷◌, length, take, refl, sym, ap, subst, ◌∙◌, arith}
 use Rattle.nr_endpoint.specs.declared.event.Event.{Event}
 use Rattle.nr_endpoint.specs.LinkState.{LinkSide}
 use Rattle.nr_endpoint.specs.Calls.{after_call}
@@ -26,7 +26,7 @@ message-requires-clause-takes c =
         windows = c.requires.windows;
         live = (told_link_lem c.args.self.now.endpoint.link c.next_event.new.self.link c.in-Some-Message.ensures.state).live ∙ c.requires.live;
       };
-      frame = search rules;
+      frame = c.in-Some-Message.ensures.place refl;
     }
 
 pub message-requires-clause-buf : goal.message-requires-clause-buf
@@ -62,15 +62,14 @@ returns-in-Some-Message-clause-fed c =
     let same = same_fed c.next_event.new.self.link c.message.new.self.endpoint.link c.message.ensures.kept.input in
     omega (arith, same, t.place, ap (λ (xs : List ℕ). length xs) t.rest)
 
+pub read_done-requires-clause-sound : goal.read_done-requires-clause-sound
+read_done-requires-clause-sound c = (
+  sound_read c.args.self.now.endpoint.link c.next_event.new.self.link c.args.self.now.calls.items c.args.self.now.ready.items c.args.self.now.used.items _ _ _ c.in-Some-ReadDone.ensures.state c.requires.sound.0,
+  fetched_as c.args.self.now.endpoint c.next_event.new.self c.args.self.now.calls.items c.args.self.now.reads.items c.args.self.now.sinks.items (told_link_lem c.args.self.now.endpoint.link c.next_event.new.self.link c.in-Some-ReadDone.ensures.state).memory c.next_event.ensures.outside c.requires.sound.1,
+)
+
 pub read_done-requires-clause-live : goal.read_done-requires-clause-live
-read_done-requires-clause-live c = record {
-  sound = (
-    sound_read c.args.self.now.endpoint.link c.next_event.new.self.link c.args.self.now.calls.items c.args.self.now.ready.items c.args.self.now.used.items _ _ _ c.in-Some-ReadDone.ensures.state c.requires.sound.0,
-    fetched_as c.args.self.now.endpoint c.next_event.new.self c.args.self.now.calls.items c.args.self.now.reads.items c.args.self.now.sinks.items (told_link_lem c.args.self.now.endpoint.link c.next_event.new.self.link c.in-Some-ReadDone.ensures.state).memory c.next_event.ensures.outside c.requires.sound.1,
-  );
-  windows = c.requires.windows;
-  live = (told_link_lem c.args.self.now.endpoint.link c.next_event.new.self.link c.in-Some-ReadDone.ensures.state).live ∙ c.requires.live;
-}
+read_done-requires-clause-live c = (told_link_lem c.args.self.now.endpoint.link c.next_event.new.self.link c.in-Some-ReadDone.ensures.state).live ∙ c.requires.live
 
 pub returns-in-Some-ReadDone-clause-taken : goal.returns-in-Some-ReadDone-clause-taken
 returns-in-Some-ReadDone-clause-taken c =
