@@ -175,8 +175,8 @@ client_written_lem o k (FrameReceived f) c h = by (is_hello f)
     by false = read_bytes_lem k f.end (segment_request (frame_segment f)) h
 client_written_lem o k (CallSubmitted place a) c h = by k.has_hello
   where
-    by : (b : Bool) → IsBytes (cond b (call_output o (k.calls_accepted + 1) (outstanding_of k a)) [])
-    by true = call_bytes o (k.calls_accepted + 1) (outstanding_of k a) (submitted_bytes k a c).0
+    by : (b : Bool) → IsBytes (cond b (call_output o (k.sends + 1) (outstanding_of k a)) [])
+    by true = call_bytes o (k.sends + 1) (outstanding_of k a) (submitted_bytes k a c).0
     by false = no_bytes_lem
 client_written_lem o k (MemoryRevoked place xid) c h = no_bytes_lem
 client_written_lem o k (CallExecuted call) c h = no_bytes_lem

@@ -25,10 +25,11 @@ use Rattle.nr_reduce.specs.ServerState.{ReadyCall}
 use Rattle.nr_reduce.specs.EndRules.{output_for_all}
 use Rattle.nr_reduce.specs.Events.{if_own}
 use Rattle.nr_reduce.specs.Events.RunEvent.{MemoryRevoked}
-use Rattle.nr_reduce.specs.History.{same_side, CompletedCall, bytes_sent, bytes_received, written_at, fed_at, is_drop_of, is_dropped}
+use Rattle.nr_reduce.specs.History.{CompletedCall, bytes_sent, bytes_received, written_at, fed_at, is_drop_of, is_dropped}
 use Rattle.nr_reduce.specs.Matched.{Matched, MatchedMark}
 use Rattle.nr_reduce.proofs.Standing.{AtEachMark_more, itself, sent_one, received_one}
 use Rattle.nr_laws.proofs.DistinctKeys.{any_append}
+use Rattle.nr_reduce.proofs.Unconcerned.{not_fed as is_unfed, none_fed}
 use Rattle.nr_drill.specs.Drill.{link_of, Setting, Drill, Pipes, empty_pipes, plain_of, now, unwritten, appended, after_output, after_all_output, settled, pipes_of, with_mark, with_pipes, after_feeding, after_feeding_up, after_feeding_down, after_up, after_down, after_handing, after_done, after_dones, after_outcomes, after_submit, if_standing, waiting_call, after_answer, after_execution, after_work, after_calls, after_all_up, after_all_work, after_all_down, after_moves, answer_of_line, open_xid, after_giving_up, after_forget, after_taking_back, after_revoke, after_drop, after_raw, after_round, after_opening, after_openings, SerialServer, start, links_of, cred_of, with_cred}
 use Rattle.nr_script.specs.declared.script.Opening.{Opening}
 use Rattle.nr_script.specs.Script.{ScriptLines, HasWritableCred, IsScript, FollowOn, may_follow, is_client, is_call_line}
@@ -41,7 +42,7 @@ use Rattle.nr_drill.proofs.Lawful.{IsLawful, IsWritten, Keeps, own_written, up_w
 use Rattle.nr_script.specs.declared.script.Line.{Line}
 use Rattle.nr_script.specs.declared.script.Line.TheVariants as lines
 use Rattle.nr_drill.proofs.Handed.{follows_hands}
-use Rattle.nr_drill.proofs.Followed.{quiet_mark, apart, not_written, Extends, Acts, Holds, AreWritable, Among, elsewhere, holds_by, line_holds, cred_at, submit_adds, up_adds, down_adds, work_adds, forget_adds, revoke_adds, drop_adds, raw_adds, moves_adds, opening_adds, keeps_forget, keeps_drop, opening_keeps, among_range, start_lawful, start_creds, opened_by_script, follows_keeps_laws}
+use Rattle.nr_drill.proofs.Followed.{quiet_mark, apart, unconcerned, not_written, Extends, Acts, Holds, AreWritable, Among, elsewhere, holds_by, line_holds, cred_at, submit_adds, up_adds, down_adds, work_adds, forget_adds, revoke_adds, drop_adds, raw_adds, moves_adds, opening_adds, keeps_forget, keeps_drop, opening_keeps, among_range, start_lawful, start_creds, opened_by_script, follows_keeps_laws}
 
 -- what each side sent is what the other received and what waits
 pub record IsCarried (link : ℕ) (d : Drill) : Type 0 where
@@ -348,7 +349,7 @@ carries_submit s link call form d h c = by (is_dropped link d.marks) refl
     o = s.opened link
 
     answered : Bool → Mark
-    answered b = marks.Submit link call form (unless_dropped b (submit_answer o (client o link d.marks) call form))
+    answered b = marks.Submit link call form (unless_dropped b (submit_answer (client o link d.marks) call form))
 
     by : (b : Bool) → is_dropped link d.marks ≡ b → Carries link (settled s link (with_mark (answered (is_dropped link d.marks)) d))
     by true e =
@@ -429,15 +430,7 @@ carries_drop link d c =
 -- ===== on other links
 
 pub not_fed : (link : ℕ) (side : Side) (mark : Mark) → link_of mark ≢ link → fed_at link side mark ≡ []
-not_fed link side (marks.Fed l s bytes) ne = ap (λ (b : Bool). if b && same_side s side then bytes else []) (apart l link ne)
-not_fed link side (marks.Submit l call form answer) ne = refl
-not_fed link side (marks.Wrote l s bytes) ne = refl
-not_fed link side (marks.Execute l xid moment payload place reply) ne = refl
-not_fed link side (marks.Done l xid outcome) ne = refl
-not_fed link side (marks.Lost l xid) ne = refl
-not_fed link side (marks.Forget l xid) ne = refl
-not_fed link side (marks.Revoke l xid bytes) ne = refl
-not_fed link side (marks.Drop l) ne = refl
+not_fed link side mark ne = none_fed link side mark (is_unfed link side mark (unconcerned link side mark ne))
 
 pub not_drop : (link : ℕ) (mark : Mark) → link_of mark ≢ link → is_drop_of link mark ≡ false
 not_drop link (marks.Drop l) ne = apart l link ne

@@ -1,7 +1,7 @@
 -- A run that follows a script keeps the laws of each of its links.
-use Rattle.std.specs.Prelude.{slice_get, ◌-◌, ◌&&◌, if◌then◌else◌, slice_index_or, slice_set, replicate}
+use Rattle.std.specs.Prelude.{slice_get, ◌-◌, ◌&&◌, ◌||◌, slice_index_or, slice_set, replicate}
 use Rattle.std.specs.List.{AllByRecursion, range_with_len}
-use Rattle.std.proofs.Common.{◌≡◌, ◌≢◌, ℕ, ◌+◌, ◌≤◌, ◌<◌, arith, zero, suc, Bool, true, false, eqb, List, [], ◌∷◌, ◌++◌, length, map, take, drop, Option, None, Some, ◌⊎◌, inl, inr, refl, sym, ap, subst, ◌∙◌, append_assoc, append-nil, eqb-true}
+use Rattle.std.proofs.Common.{◌≡◌, ◌≢◌, ℕ, ◌+◌, ◌≤◌, ◌<◌, arith, zero, suc, Bool, true, false, eqb, List, [], ◌∷◌, ◌++◌, length, take, drop, Option, None, Some, ◌⊎◌, inl, inr, refl, sym, ap, subst, ◌∙◌, append_assoc, append-nil, eqb-true}
 use Rattle.nr_wire.specs.declared.hello.Side.{Side}
 use Rattle.nr_wire.specs.declared.hello.Side.TheVariants.{Initiator, Responder}
 use Rattle.nr_reduce.specs.declared.call.Call.{Call}
@@ -10,12 +10,10 @@ use Rattle.nr_reduce.specs.declared.call.Submission.TheVariants as submissions
 use Rattle.nr_reduce.specs.declared.mark.Mark.{Mark}
 use Rattle.nr_reduce.specs.declared.mark.Mark.TheVariants as marks
 use Rattle.nr_reduce.specs.declared.mark.LinkParameters.{LinkParameters}
-use Rattle.nr_link.specs.Frames.{frames_completed}
 use Rattle.std.proofs.lemmas.Bool.{eq-eqb}
 use Rattle.std.proofs.lemmas.List.{get_or-set_other, length-set}
-use Rattle.nr_reduce.specs.History.{CompletedCall, bytes_sent, bytes_received, written_at, same_side, other, is_dropped}
-use Rattle.nr_reduce.specs.Events.{RunEvent, events_at, if_own}
-use Rattle.nr_reduce.specs.Events.RunEvent.{FrameReceived, CallSubmitted, MemoryRevoked, CallExecuted, QueueWritten}
+use Rattle.nr_reduce.specs.History.{CompletedCall, bytes_sent, written_at, same_side, other, is_dropped}
+use Rattle.nr_reduce.specs.Events.{RunEvent, events_at}
 use Rattle.nr_reduce.specs.EndRules.{output_for_all}
 use Rattle.nr_reduce.specs.Client.{client_rules}
 use Rattle.nr_reduce.specs.Server.{server_rules}
@@ -37,6 +35,8 @@ use Rattle.nr_laws.specs.Grant.{AcceptedMark, AcceptsByRule}
 use Rattle.nr_script.specs.declared.script.Line.{Line}
 use Rattle.nr_script.specs.declared.script.Line.TheVariants as lines
 use Rattle.nr_script.specs.Script.{ScriptLines, HasWritableCred, IsScript}
+use Rattle.nr_reduce.specs.Concerns.{concerns}
+use Rattle.nr_reduce.proofs.Unconcerned.{not_judged, none_written, no_events, none_asked, none_served}
 use Rattle.nr_drill.specs.Follows.{after_line, Drains, Makes, MakeAll, Follows, parameters_of, setting_of, opened_drill}
 use Rattle.nr_drill.specs.Drill.{link_of, Setting, Drill, Pipes, plain_of, now, unwritten, after_output, after_all_output, settled, pipes_of, with_mark, after_submit, after_feeding, after_feeding_up, after_up, waiting_call, after_answer, after_execution, after_work, after_calls, after_drop, after_raw, after_feeding_down, after_handing, after_done, after_dones, after_outcomes, after_down, answer_of_line, open_xid, after_giving_up, after_forget, after_taking_back, after_revoke, after_all_up, after_all_work, after_all_down, after_moves, after_round, after_opening, after_openings, SerialServer, with_pipes, appended, empty_pipes, start, links_of, cred_of}
 use Rattle.nr_drill.proofs.Lawful.{IsLawful, IsWritten, IsDueOf, Keeps, lawful_mark, left_is, due_more, more_due, due_of, lawful_settled, lawful_drop, lawful_forget, lawful_submit, lawful_after_up, lawful_after_down, lawful_work, lawful_revoke, lawful_moves}
@@ -50,59 +50,30 @@ apart l link ne = by (eqb l link) refl
     by true is = absurd (ne (eqb-true l link is))
     by false is = is
 
+pub unconcerned : (link : ℕ) (side : Side) (mark : Mark) → link_of mark ≢ link → concerns link side mark ≡ false
+unconcerned link side (marks.Submit l call form (submissions.Accepted xid)) ne = ap (λ (b : Bool). (b && same_side Initiator side) || false) (apart l link ne)
+unconcerned link side (marks.Submit l call form (submissions.Refused why)) ne = refl
+unconcerned link side (marks.Submit l call form submissions.Dropped) ne = refl
+unconcerned link side (marks.Wrote l s bytes) ne = ap (λ (b : Bool). (b && same_side s side) || false) (apart l link ne)
+unconcerned link side (marks.Fed l s bytes) ne = ap (λ (b : Bool). b && same_side s side) (apart l link ne)
+unconcerned link side (marks.Execute l xid moment payload place reply) ne = ap (λ (b : Bool). (b && same_side Responder side) || false) (apart l link ne)
+unconcerned link side (marks.Done l xid outcome) ne = ap (λ (b : Bool). (b && same_side Initiator side) || false) (apart l link ne)
+unconcerned link side (marks.Lost l xid) ne = ap (λ (b : Bool). (b && same_side Initiator side) || false) (apart l link ne)
+unconcerned link side (marks.Forget l xid) ne = ap (λ (b : Bool). (b && same_side Initiator side) || false) (apart l link ne)
+unconcerned link side (marks.Revoke l xid bytes) ne = ap (λ (b : Bool). (b && same_side Initiator side) || false) (apart l link ne)
+unconcerned link side (marks.Drop l) ne = refl
+
 pub not_written : (link : ℕ) (side : Side) (mark : Mark) → link_of mark ≢ link → written_at link side mark ≡ []
-not_written link side (marks.Wrote l Initiator bytes) ne = ap (λ (b : Bool). if b && same_side Initiator side then bytes else []) (apart l link ne)
-not_written link side (marks.Wrote l Responder bytes) ne = ap (λ (b : Bool). if b && same_side Responder side then bytes else []) (apart l link ne)
-not_written link side (marks.Submit l call form answer) ne = refl
-not_written link side (marks.Fed l s bytes) ne = refl
-not_written link side (marks.Execute l xid moment payload place reply) ne = refl
-not_written link side (marks.Done l xid outcome) ne = refl
-not_written link side (marks.Lost l xid) ne = refl
-not_written link side (marks.Forget l xid) ne = refl
-not_written link side (marks.Revoke l xid bytes) ne = refl
-not_written link side (marks.Drop l) ne = refl
+not_written link side mark ne = none_written link side mark (not_judged link side mark (unconcerned link side mark ne))
 
 pub no_event : (link : ℕ) (side : Side) (run : List Mark) (mark : Mark) → link_of mark ≢ link → events_at link side run mark ≡ []
-no_event link side run (marks.Submit l call form (submissions.Accepted xid)) ne =
-    ap (λ (b : Bool). if_own (b && same_side Initiator side) (CallSubmitted (length (bytes_received link side run)) (record { xid = xid; call = call; form = form }) ∷ [])) (apart l link ne)
-no_event link side run (marks.Submit l call form (submissions.Refused why)) ne = refl
-no_event link side run (marks.Submit l call form submissions.Dropped) ne = refl
-no_event link side run (marks.Wrote l s bytes) ne = ap (λ (b : Bool). if_own (b && same_side s side) (QueueWritten (length bytes) ∷ [])) (apart l link ne)
-no_event link side run (marks.Fed l s bytes) ne =
-    ap (λ (b : Bool). if_own (b && same_side s side) (map FrameReceived (frames_completed (other side) (bytes_received link side run) bytes))) (apart l link ne)
-no_event link side run (marks.Execute l xid moment payload place reply) ne =
-    ap (λ (b : Bool). if_own (b && same_side Responder side) (CallExecuted (record { xid = xid; moment = moment; payload = payload; place = place; reply = reply }) ∷ [])) (apart l link ne)
-no_event link side run (marks.Done l xid outcome) ne = refl
-no_event link side run (marks.Lost l xid) ne = refl
-no_event link side run (marks.Forget l xid) ne = refl
-no_event link side run (marks.Revoke l xid bytes) ne = ap (λ (b : Bool). if_own (b && same_side Initiator side) (MemoryRevoked (length (bytes_received link side run)) xid ∷ [])) (apart l link ne)
-no_event link side run (marks.Drop l) ne = refl
+no_event link side run mark ne = no_events link side run mark (unconcerned link side mark ne)
 
 pub asked_elsewhere : (o : LinkParameters) (link : ℕ) (run : List Mark) (mark : Mark) → link_of mark ≢ link → AskedMark IsAll o link run mark
-asked_elsewhere o link run (marks.Submit l call form (submissions.Accepted xid)) ne = λ same. absurd (ne same)
-asked_elsewhere o link run (marks.Submit l call form (submissions.Refused why)) ne = tt
-asked_elsewhere o link run (marks.Submit l call form submissions.Dropped) ne = tt
-asked_elsewhere o link run (marks.Wrote l Initiator bytes) ne = λ same. absurd (ne same)
-asked_elsewhere o link run (marks.Wrote l Responder bytes) ne = tt
-asked_elsewhere o link run (marks.Fed l side bytes) ne = tt
-asked_elsewhere o link run (marks.Execute l xid moment payload place reply) ne = tt
-asked_elsewhere o link run (marks.Done l xid outcome) ne = λ same. absurd (ne same)
-asked_elsewhere o link run (marks.Lost l xid) ne = λ same. absurd (ne same)
-asked_elsewhere o link run (marks.Forget l xid) ne = λ same. absurd (ne same)
-asked_elsewhere o link run (marks.Revoke l xid bytes) ne = λ same. absurd (ne same)
-asked_elsewhere o link run (marks.Drop l) ne = tt
+asked_elsewhere o link run mark ne = none_asked IsAll o link run mark (not_judged link Initiator mark (unconcerned link Initiator mark ne))
 
 pub served_elsewhere : (o : LinkParameters) (link : ℕ) (run : List Mark) (mark : Mark) → link_of mark ≢ link → ServedMark IsAll o link run mark
-served_elsewhere o link run (marks.Submit l call form answer) ne = tt
-served_elsewhere o link run (marks.Wrote l Initiator bytes) ne = tt
-served_elsewhere o link run (marks.Wrote l Responder bytes) ne = λ same. absurd (ne same)
-served_elsewhere o link run (marks.Fed l side bytes) ne = tt
-served_elsewhere o link run (marks.Execute l xid moment payload place reply) ne = λ same. absurd (ne same)
-served_elsewhere o link run (marks.Done l xid outcome) ne = tt
-served_elsewhere o link run (marks.Lost l xid) ne = tt
-served_elsewhere o link run (marks.Forget l xid) ne = tt
-served_elsewhere o link run (marks.Revoke l xid bytes) ne = tt
-served_elsewhere o link run (marks.Drop l) ne = tt
+served_elsewhere o link run mark ne = none_served IsAll o link run mark (not_judged link Responder mark (unconcerned link Responder mark ne))
 
 pub accepted_elsewhere : (o : LinkParameters) (link : ℕ) (run : List Mark) (mark : Mark) → link_of mark ≢ link → AcceptedMark o link run mark
 accepted_elsewhere o link run (marks.Submit l call form (submissions.Accepted xid)) ne = λ same. absurd (ne same)
@@ -535,6 +506,7 @@ opened_by_script script is link =
       wished_fits = few;
       granted = omega (arith, some);
       granted_fits = few;
+      receives = omega arith;
     }
 
 pub follows_keeps_laws : (server : SerialServer) (script : ScriptLines) (run : List Mark) → IsScript script → Follows server script run → (link : ℕ) → 1 ≤ link → link ≤ script.opening.clients →

@@ -33,7 +33,7 @@ use Rattle.nr_reduce.specs.ClientMessages.{ReplyVerdict, reply_verdict}
 use Rattle.nr_reduce.specs.ClientMessages.ReplyVerdict.{EndsLink, GivesOutcome}
 use Rattle.nr_reduce.specs.Client.{client_rules, client_end, client_state_after, outcomes_of, with_message, with_request, with_segment, outstanding_of, revoked_call, with_hello, due_with_response}
 use Rattle.nr_reduce.specs.ServerState.{ReadyCall}
-use Rattle.nr_reduce.specs.SubmitAnswer.{next_xid, submit_answer_after}
+use Rattle.nr_reduce.specs.SubmitAnswer.{submit_answer_after}
 use Rattle.nr_reduce.specs.Run.{client, server}
 use Rattle.nr_reduce.specs.Asked.{AskedMark, IsAll, revoked_bytes}
 use Rattle.nr_reduce.proofs.Steps.{client_one}
@@ -54,8 +54,8 @@ use Rattle.nr_drill.proofs.Followed.{no_event, apart, Extends, Holds, cred_at, l
 -- ===== the xids of outcomes are below the one that is given next
 
 pub record XidsBelow (o : LinkParameters) (k : ClientState) : Type 0 where
-  pub waiting : AreAtMost (λ (c : OutstandingCall). c.xid + 1) (next_xid o k) k.outstanding
-  pub brought : AreAtMost (λ (c : CompletedCall). c.xid + 1) (next_xid o k) k.outcomes
+  pub waiting : AreAtMost (λ (c : OutstandingCall). c.xid + 1) k.next_xid k.outstanding
+  pub brought : AreAtMost (λ (c : CompletedCall). c.xid + 1) k.next_xid k.outcomes
 
 found_below : (n : ℕ) (p : OutstandingCall → Bool) (os : List OutstandingCall) (c : OutstandingCall) → find p os ≡ Some c → AreAtMost (λ (c : OutstandingCall). c.xid + 1) n os → c.xid + 1 ≤ n
 found_below n p [] c e h = absurd cc
@@ -78,8 +78,8 @@ given_below n k place m (GivesOutcome xid (Some outcome)) e h =
 message_below : (o : LinkParameters) (k : ClientState) (place : ℕ) (m : Option (List ℕ)) → XidsBelow o k → XidsBelow o (with_message k place m)
 message_below o k place None h = h
 message_below o k place (Some m) h = record {
-  waiting = below_kept (λ (c : OutstandingCall). c.xid + 1) (next_xid o k) (λ c. not (eqb c.xid (word_at 0 m))) k.outstanding h.waiting;
-  brought = below_append (λ (c : CompletedCall). c.xid + 1) (next_xid o k) k.outcomes (outcomes_of (reply_verdict k place m)) h.brought (given_below (next_xid o k) k place m (reply_verdict k place m) refl h.waiting);
+  waiting = below_kept (λ (c : OutstandingCall). c.xid + 1) k.next_xid (λ c. not (eqb c.xid (word_at 0 m))) k.outstanding h.waiting;
+  brought = below_append (λ (c : CompletedCall). c.xid + 1) k.next_xid k.outcomes (outcomes_of (reply_verdict k place m)) h.brought (given_below k.next_xid k place m (reply_verdict k place m) refl h.waiting);
 }
 
 request_below : (o : LinkParameters) (k : ClientState) (due : ℕ) (q : Option ReadRequest) → XidsBelow o k → XidsBelow o (with_request k due q)
@@ -107,7 +107,7 @@ revoked_xid xid c = by (eqb c.xid xid)
 -- a call that is submitted has the next xid
 abbrev IsFresh : LinkParameters → ClientState → RunEvent → Type 0
 IsFresh o k (FrameReceived f) = Unit {0}
-IsFresh o k (CallSubmitted place a) = a.xid ≡ next_xid o k
+IsFresh o k (CallSubmitted place a) = a.xid ≡ k.next_xid
 IsFresh o k (MemoryRevoked place xid) = Unit {0}
 IsFresh o k (CallExecuted call) = Unit {0}
 IsFresh o k (QueueWritten taken) = Unit {0}
@@ -120,13 +120,13 @@ after_below o k (FrameReceived f) fresh h = by (is_hello f)
     by true = record { waiting = h.waiting; brought = h.brought }
     by false = segment_below o k f (frame_segment f) h
 after_below o k (CallSubmitted place a) fresh h =
-    let more : next_xid o k ≤ o.first_xid + (k.calls_accepted + 1) = omega arith in
+    let more : k.next_xid ≤ k.next_xid + 1 = omega arith in
     record {
-      waiting = below_append (λ (c : OutstandingCall). c.xid + 1) (o.first_xid + (k.calls_accepted + 1)) k.outstanding (outstanding_of k a ∷ [])
-          (below_more (λ (c : OutstandingCall). c.xid + 1) (next_xid o k) (o.first_xid + (k.calls_accepted + 1)) k.outstanding more h.waiting) (omega (arith, fresh), tt);
-      brought = below_more (λ (c : CompletedCall). c.xid + 1) (next_xid o k) (o.first_xid + (k.calls_accepted + 1)) k.outcomes more h.brought;
+      waiting = below_append (λ (c : OutstandingCall). c.xid + 1) (k.next_xid + 1) k.outstanding (outstanding_of k a ∷ [])
+          (below_more (λ (c : OutstandingCall). c.xid + 1) k.next_xid (k.next_xid + 1) k.outstanding more h.waiting) (omega (arith, fresh), tt);
+      brought = below_more (λ (c : CompletedCall). c.xid + 1) k.next_xid (k.next_xid + 1) k.outcomes more h.brought;
     }
-after_below o k (MemoryRevoked place xid) fresh h = record { waiting = same_xids (next_xid o k) (revoked_call xid) k.outstanding (revoked_xid xid) h.waiting; brought = h.brought }
+after_below o k (MemoryRevoked place xid) fresh h = record { waiting = same_xids k.next_xid (revoked_call xid) k.outstanding (revoked_xid xid) h.waiting; brought = h.brought }
 after_below o k (CallExecuted call) fresh h = h
 after_below o k (QueueWritten taken) fresh h = record { waiting = h.waiting; brought = h.brought }
 
@@ -477,7 +477,7 @@ submit_brings o link run call form (submissions.Accepted xid) below asked =
     record {
       none = if_none_lem _ (CallSubmitted (length (bytes_received link Initiator run)) a ∷ []) (tt, tt);
       fresh = ap (λ (b : Bool). flat_map (outcomes_of_call outs) (if b then a ∷ [] else [])) (itself link) ∙ append-nil (outcomes_of_call outs a)
-          ∙ none_of_lem (next_xid o (client o link run).state) xid outs (omega (arith, next)) below.brought;
+          ∙ none_of_lem (client o link run).state.next_xid xid outs (omega (arith, next)) below.brought;
     }
 submit_brings o link run call form (submissions.Refused why) below asked = record { none = tt; fresh = by (eqb link link) }
   where

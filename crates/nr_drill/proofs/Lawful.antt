@@ -231,7 +231,7 @@ pub answer_asked : (o : LinkParameters) (link : ℕ) (run : List Mark) (call : C
     submit_answer_after o link run call form ≡ answer → AskedMark IsAll o link run (marks.Submit link call form answer)
 unfolding submit_answer_after
 answer_asked o link run call form (submissions.Accepted xid) numbers writable h e =
-    λ same. (accepted_keeps o link run call form xid (not_dropped (is_dropped link run) (submit_answer o (client o link run) call form) xid e) numbers (asked_so_far o link run h) writable).0
+    λ same. (accepted_keeps o link run call form xid (not_dropped (is_dropped link run) (submit_answer (client o link run) call form) xid e) numbers (asked_so_far o link run h) writable).0
 answer_asked o link run call form (submissions.Refused why) numbers writable h e = tt
 answer_asked o link run call form submissions.Dropped numbers writable h e = tt
 

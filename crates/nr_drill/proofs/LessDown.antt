@@ -1,14 +1,12 @@
 -- Feeding a client all that waits for it leaves less work.
 use Rattle.std.specs.Prelude.{◌&&◌, ◌<◌, if◌then◌else◌, slice_get, filter, sum_by}
-use Rattle.std.proofs.Common.{◌≡◌, ◌≢◌, ℕ, zero, suc, ◌+◌, inl, inr, arith, cond, Bool, true, false, List, [], ◌∷◌, ◌++◌, length, map, take, Option, None, Some, Result, Ok, Err, refl, sym, ap, subst, ◌∙◌, append-nil, append_assoc, length-append}
+use Rattle.std.proofs.Common.{◌≡◌, ◌≢◌, ℕ, zero, suc, ◌+◌, inl, inr, arith, cond, Bool, true, false, List, [], ◌∷◌, ◌++◌, length, map, take, Option, None, Some, refl, sym, ap, subst, ◌∙◌, append-nil, append_assoc, length-append}
 use Rattle.std.proofs.Math.Seq.{drop-length}
 use Rattle.std.proofs.lemmas.List.{take_all, append_cancel_left, nil_from_length}
 use Rattle.std.proofs.lemmas.List.Elements.{filter-append}
 use Rattle.nr_wire.specs.declared.hello.Side.TheVariants.{Initiator, Responder}
-use Rattle.nr_wire.specs.Segment.{Segment}
 use Rattle.nr_link.specs.declared.end.End.{End}
 use Rattle.nr_link.specs.Frames.{Frame, frames_of, frames_completed, is_hello}
-use Rattle.nr_link.specs.ReceiveState.{ReadRequest, message_completed, read_request_of}
 use Rattle.nr_link.specs.Ending.{frame_segment}
 use Rattle.nr_reduce.specs.declared.mark.Mark.{Mark}
 use Rattle.nr_reduce.specs.declared.mark.Mark.TheVariants as marks
@@ -20,7 +18,7 @@ use Rattle.nr_reduce.specs.Events.RunEvent.{FrameReceived}
 use Rattle.nr_reduce.specs.EndRules.{EndState, next_end_state_by, next_end_state_in, next_end_state, end_state_after, output_for_all}
 use Rattle.nr_reduce.specs.ClientState.{ClientState}
 use Rattle.nr_reduce.specs.ServerState.{ServerState, PendingRead, ReadyCall}
-use Rattle.nr_reduce.specs.Client.{client_rules, client_end, client_state_after, due_with_response, with_hello, with_message, with_request, with_segment}
+use Rattle.nr_reduce.specs.Client.{client_rules, client_end, client_state_after, with_hello, with_segment}
 use Rattle.nr_reduce.specs.Run.{client, server, output_due, end_of_side}
 use Rattle.nr_reduce.proofs.Steps.{AtEachMark_first, ended_stays}
 use Rattle.nr_reduce.proofs.Standing.{itself, received_one}
@@ -28,6 +26,7 @@ use Rattle.nr_laws.specs.Typed.{TypedMark, IsTyped}
 use Rattle.nr_reduce.specs.Matched.{IsPrefixOf}
 use Rattle.nr_reduce.specs.Asked.{AskedMark, AskedSoFar, IsAll}
 use Rattle.nr_reduce.proofs.SoFarLaws.{AtEachMark_each, asked_mark}
+use Rattle.nr_reduce.proofs.Placing.{segment_sends}
 use Rattle.nr_drill.specs.Drill.{Setting, Drill, Pipes, unwritten, settled, pipes_of, with_mark, with_pipes, after_feeding, after_feeding_down, after_handing, after_done, after_dones, after_outcomes, after_down, after_all_down}
 use Rattle.nr_drill.specs.WorkLeft.{frame_len, is_send, send_bytes_left, work_left, stays, IsLess}
 use Rattle.nr_drill.proofs.Lawful.{IsLawful, Keeps, lawful_after_down}
@@ -55,36 +54,23 @@ outcomes_leave s o link d = dones_leave s o link (length (outcomes_due (s.opened
 
 -- ===== frames make a client accept no call
 
-request_accepts : (k : ClientState) (due : ℕ) (r : Option ReadRequest) → (with_request k due r).calls_accepted ≡ k.calls_accepted
-request_accepts k due None = refl
-request_accepts k due (Some r) = refl
-
-message_accepts : (k : ClientState) (place : ℕ) (m : Option (List ℕ)) → (with_message k place m).calls_accepted ≡ k.calls_accepted
-message_accepts k place None = refl
-message_accepts k place (Some m) = refl
-
-segment_accepts : (k : ClientState) (f : Frame) (r : Result Segment ℕ) → (with_segment k f r).calls_accepted ≡ k.calls_accepted
-segment_accepts k f (Err reason) = refl
-segment_accepts k f (Ok segment) =
-    request_accepts (with_message k f.end (message_completed k.received segment)) (due_with_response k f segment) (read_request_of segment) ∙ message_accepts k f.end (message_completed k.received segment)
-
-frame_accepts : (o : LinkParameters) (k : ClientState) (f : Frame) → (client_state_after o k (FrameReceived f)).calls_accepted ≡ k.calls_accepted
+frame_accepts : (o : LinkParameters) (k : ClientState) (f : Frame) → (client_state_after o k (FrameReceived f)).sends ≡ k.sends
 unfolding client_state_after
 frame_accepts o k f = by (is_hello f)
   where
-    by : (b : Bool) → (cond b (with_hello o k f) (with_segment k f (frame_segment f))).calls_accepted ≡ k.calls_accepted
+    by : (b : Bool) → (cond b (with_hello o k f) (with_segment k f (frame_segment f))).sends ≡ k.sends
     by true = refl
-    by false = segment_accepts k f (frame_segment f)
+    by false = segment_sends k f (frame_segment f)
 
-next_accepts : (o : LinkParameters) (k : ClientState) (ended : Option End) (f : Frame) → (next_end_state_in (client_rules o) k (FrameReceived f) ended).state.calls_accepted ≡ k.calls_accepted
+next_accepts : (o : LinkParameters) (k : ClientState) (ended : Option End) (f : Frame) → (next_end_state_in (client_rules o) k (FrameReceived f) ended).state.sends ≡ k.sends
 next_accepts o k (Some end) f = refl
 next_accepts o k None f = by (client_end k (FrameReceived f))
   where
-    by : (end : Option End) → (next_end_state_by (client_rules o) k (FrameReceived f) end).state.calls_accepted ≡ k.calls_accepted
+    by : (end : Option End) → (next_end_state_by (client_rules o) k (FrameReceived f) end).state.sends ≡ k.sends
     by None = frame_accepts o k f
     by (Some end) = refl
 
-frames_accept : (o : LinkParameters) (r : EndState ClientState) (fs : List Frame) → (end_state_after (client_rules o) r (map FrameReceived fs)).state.calls_accepted ≡ r.state.calls_accepted
+frames_accept : (o : LinkParameters) (r : EndState ClientState) (fs : List Frame) → (end_state_after (client_rules o) r (map FrameReceived fs)).state.sends ≡ r.state.sends
 frames_accept o r [] = refl
 frames_accept o r (f ∷ fs) = frames_accept o (next_end_state (client_rules o) r (FrameReceived f)) fs ∙ next_accepts o r.state r.ended f
 
@@ -184,8 +170,8 @@ fed_less s link bytes d h c heard_down waits some typed typed_new h_new c_new = 
     client_end_is : (client o link new.marks).ended ≡ after.ended
     client_end_is = leaves.client_end ∙ ap (λ (r : EndState ClientState). r.ended) client_is
 
-    accepted : (client o link new.marks).state.calls_accepted ≡ before.state.calls_accepted
-    accepted = leaves.accepted ∙ ap (λ (r : EndState ClientState). r.state.calls_accepted) client_is ∙ frames_accept o before (frames_completed Responder got_down bytes)
+    accepted : (client o link new.marks).state.sends ≡ before.state.sends
+    accepted = leaves.accepted ∙ ap (λ (r : EndState ClientState). r.state.sends) client_is ∙ frames_accept o before (frames_completed Responder got_down bytes)
 
     due_up : output_due o link Initiator new.marks ≡ output_due o link Initiator run ++ X
     due_up = leaves.due ∙ due_more_up o link run mark es X (own link es) refl

@@ -146,7 +146,7 @@ whole_some link run heard =
 -- if it has the server's hello, there is a Send of each call that it accepted among the frames that the server has, and those to come
 pub sends_waiting : (o : LinkParameters) (link : ℕ) (run : List Mark) (way : List ℕ) → IsTyped run → AskedSoFar o link run → (client o link run).ended ≡ None → frames_of Responder (bytes_received link Initiator run) ≢ [] →
     bytes_received link Responder run ++ way ≡ output_due o link Initiator run →
-    length (filter is_send (frames_of Initiator (bytes_received link Responder run))) + length (filter is_send (frames_completed Initiator (bytes_received link Responder run) way)) ≡ (client o link run).state.calls_accepted
+    length (filter is_send (frames_of Initiator (bytes_received link Responder run))) + length (filter is_send (frames_completed Initiator (bytes_received link Responder run) way)) ≡ (client o link run).state.sends
 sends_waiting o link run way typed asked_so lives heard carried =
     let got = bytes_received link Responder run in
     let t = client_outputs o link run typed asked_so in
@@ -157,7 +157,7 @@ sends_waiting o link run way typed asked_so lives heard carried =
     ap (λ (xs : List ℕ). sends_among (frames_of Initiator xs)) (carried ∙ t.bytes) ∙ stream_sends o (client_outs o link run) t.says.words in
     let said : length (completed_from None (client_outs o link run)) ≡ length calls =
     ap (λ (ms : List (List ℕ)). length ms) (t.says.completes.completed ∙ (λ i. cond (knows i) (map (message_of_call o) calls) [])) ∙ length-map calls (message_of_call o) in
-    let accepted : length calls ≡ k.calls_accepted = asked_count o (events link Initiator run) ∙ sym t.says.count in
+    let accepted : length calls ≡ k.sends = asked_count o (events link Initiator run) ∙ sym t.says.count in
     let both : sends_among (frames_of Initiator (got ++ way)) ≡ sends_among (frames_of Initiator got) + sends_among (frames_completed Initiator got way) =
     ap sends_among (frames_one Initiator got way) ∙ ap (λ (fs : List Frame). length fs) (filter-append is_send (frames_of Initiator got) (frames_completed Initiator got way))
     ∙ length-append (filter is_send (frames_of Initiator got)) (filter is_send (frames_completed Initiator got way)) in

@@ -41,7 +41,7 @@ pub record Leaves (o : LinkParameters) (link : ℕ) (old new : List Mark) : Type
   pub heard : bytes_received link Initiator new ≡ bytes_received link Initiator old
   pub due : output_due o link Initiator new ≡ output_due o link Initiator old
   pub due_down : output_due o link Responder new ≡ output_due o link Responder old
-  pub accepted : (client o link new).state.calls_accepted ≡ (client o link old).state.calls_accepted
+  pub accepted : (client o link new).state.sends ≡ (client o link old).state.sends
   pub sends : (server o link new).state.received.sends ≡ (server o link old).state.received.sends
   pub dropped : is_dropped link new ≡ is_dropped link old
 
@@ -72,7 +72,7 @@ record SameWork (o : LinkParameters) (a b : EndState ServerState) (taken : ℕ) 
 
 record SameCalls (o : LinkParameters) (a : EndState ClientState) (event : RunEvent) : Type 0 where
   ended : (end_state_after (client_rules o) a (event ∷ [])).ended ≡ a.ended
-  accepted : (end_state_after (client_rules o) a (event ∷ [])).state.calls_accepted ≡ a.state.calls_accepted
+  accepted : (end_state_after (client_rules o) a (event ∷ [])).state.sends ≡ a.state.sends
   quiet : output_for_all (client_rules o) a (event ∷ []) ≡ []
 
 written_calls : (o : LinkParameters) (k : ClientState) (ended : Option End) (taken : ℕ) → SameCalls o (record { state = k; ended = ended }) (QueueWritten taken)
@@ -148,7 +148,7 @@ wrote_leaves o link Initiator run bytes =
       heard = not_heard link run mark refl;
       due = same_due o link run mark (QueueWritten (length bytes) ∷ []) (own link (QueueWritten (length bytes) ∷ [])) w.quiet;
       due_down = same_due_down o link run mark [] (not_own link (QueueWritten (length bytes) ∷ [])) refl;
-      accepted = ap (λ (r : EndState ClientState). r.state.calls_accepted) k ∙ w.accepted;
+      accepted = ap (λ (r : EndState ClientState). r.state.sends) k ∙ w.accepted;
       sends = ap (λ (r : EndState ServerState). r.state.received.sends) s;
       dropped = no_drop link run mark refl;
     }
@@ -166,7 +166,7 @@ wrote_leaves o link Responder run bytes =
       heard = not_heard link run mark refl;
       due = same_due o link run mark [] (not_own link (QueueWritten (length bytes) ∷ [])) refl;
       due_down = same_due_down o link run mark (QueueWritten (length bytes) ∷ []) (own link (QueueWritten (length bytes) ∷ [])) w.quiet;
-      accepted = ap (λ (r : EndState ClientState). r.state.calls_accepted) k;
+      accepted = ap (λ (r : EndState ClientState). r.state.sends) k;
       sends = ap (λ (r : EndState ServerState). r.state.received.sends) s ∙ w.sends;
       dropped = no_drop link run mark refl;
     }
@@ -186,7 +186,7 @@ done_leaves o link xid outcome run =
       heard = not_heard link run mark refl;
       due = same_due o link run mark [] refl refl;
       due_down = same_due_down o link run mark [] refl refl;
-      accepted = ap (λ (r : EndState ClientState). r.state.calls_accepted) k;
+      accepted = ap (λ (r : EndState ClientState). r.state.sends) k;
       sends = ap (λ (r : EndState ServerState). r.state.received.sends) s;
       dropped = no_drop link run mark refl;
     }

@@ -22,7 +22,7 @@ use Rattle.nr_reduce.specs.Events.{RunEvent, events, events_at, if_own}
 use Rattle.nr_reduce.specs.Events.RunEvent.{FrameReceived, CallSubmitted, MemoryRevoked, CallExecuted, QueueWritten}
 use Rattle.nr_reduce.specs.History.{AcceptedCall, accepted_at, accepted_calls, bytes_received, same_side}
 use Rattle.nr_reduce.specs.Run.{client}
-use Rattle.nr_reduce.proofs.Placing.{accepted_calls_one, segment_accepted}
+use Rattle.nr_reduce.proofs.Placing.{next_xid_one, segment_next}
 use Rattle.nr_reduce.proofs.Steps.{client_one}
 use Rattle.nr_script.specs.declared.script.Opening.{Opening}
 use Rattle.nr_script.specs.declared.script.Line.{Line}
@@ -131,9 +131,9 @@ follows_within server script run is follows =
 -- ===== xids
 
 module _ (o : LinkParameters) where
-  frame_kept : (k : ClientState) (f : Frame) (b : Bool) → (cond b (with_hello o k f) (with_segment k f (frame_segment f))).calls_accepted ≡ k.calls_accepted
+  frame_kept : (k : ClientState) (f : Frame) (b : Bool) → (cond b (with_hello o k f) (with_segment k f (frame_segment f))).next_xid ≡ k.next_xid
   frame_kept k f true = refl
-  frame_kept k f false = segment_accepted k f (frame_segment f)
+  frame_kept k f false = segment_next k f (frame_segment f)
 
   -- an event that is no call
   abbrev IsQuiet : RunEvent → Type 0
@@ -143,7 +143,7 @@ module _ (o : LinkParameters) where
   IsQuiet (CallExecuted call) = Unit {0}
   IsQuiet (QueueWritten taken) = Unit {0}
 
-  quiet_state : (k : ClientState) (event : RunEvent) → IsQuiet event → (client_state_after o k event).calls_accepted ≡ k.calls_accepted
+  quiet_state : (k : ClientState) (event : RunEvent) → IsQuiet event → (client_state_after o k event).next_xid ≡ k.next_xid
   unfolding client_state_after
   quiet_state k (FrameReceived f) quiet = frame_kept k f (is_hello f)
   quiet_state k (CallSubmitted place a) quiet = absurd quiet
@@ -151,15 +151,15 @@ module _ (o : LinkParameters) where
   quiet_state k (CallExecuted call) quiet = refl
   quiet_state k (QueueWritten taken) quiet = refl
 
-  quiet_by : (k : ClientState) (event : RunEvent) (why : Option End) → IsQuiet event → (next_end_state_by (client_rules o) k event why).state.calls_accepted ≡ k.calls_accepted
+  quiet_by : (k : ClientState) (event : RunEvent) (why : Option End) → IsQuiet event → (next_end_state_by (client_rules o) k event why).state.next_xid ≡ k.next_xid
   quiet_by k event None quiet = quiet_state k event quiet
   quiet_by k event (Some end) quiet = refl
 
-  quiet_in : (k : ClientState) (event : RunEvent) (ended : Option End) → IsQuiet event → (next_end_state_in (client_rules o) k event ended).state.calls_accepted ≡ k.calls_accepted
+  quiet_in : (k : ClientState) (event : RunEvent) (ended : Option End) → IsQuiet event → (next_end_state_in (client_rules o) k event ended).state.next_xid ≡ k.next_xid
   quiet_in k event None quiet = quiet_by k event (client_end k event) quiet
   quiet_in k event (Some end) quiet = refl
 
-  quiet_all : (r : EndState ClientState) (es : List RunEvent) → AllByRecursion IsQuiet es → (end_state_after (client_rules o) r es).state.calls_accepted ≡ r.state.calls_accepted
+  quiet_all : (r : EndState ClientState) (es : List RunEvent) → AllByRecursion IsQuiet es → (end_state_after (client_rules o) r es).state.next_xid ≡ r.state.next_xid
   quiet_all r [] quiet = refl
   quiet_all r (event ∷ es) quiet = quiet_all (next_end_state (client_rules o) r event) es quiet.1 ∙ quiet_in r.state event r.ended quiet.0
 
@@ -175,15 +175,15 @@ module _ (o : LinkParameters) where
   never true es = tt
   never false es = tt
 
-  -- as many calls were accepted as the client counts
+  -- the next xid is that after those of the calls that were accepted
   abbrev IsCounted : ℕ → List Mark → Type 0
-  IsCounted link run = (client o link run).state.calls_accepted ≡ length (accepted_calls link run)
+  IsCounted link run = (client o link run).state.next_xid ≡ o.first_xid + length (accepted_calls link run)
 
   module _ (link : ℕ) (run : List Mark) where
     quiet_mark : (mark : Mark) → AllByRecursion IsQuiet (events_at link Initiator run mark) → accepted_at link mark ≡ [] → IsCounted link run → IsCounted link (run ++ mark ∷ [])
     quiet_mark mark quiet none is =
-        ap (λ (r : EndState ClientState). r.state.calls_accepted) (client_one o link run mark) ∙ quiet_all (client o link run) (events_at link Initiator run mark) quiet ∙ is
-        ∙ sym (ap (λ (cs : List AcceptedCall). length cs) (accepted_one link run mark ∙ ap (λ (cs : List AcceptedCall). accepted_calls link run ++ cs) none ∙ append-nil (accepted_calls link run)))
+        ap (λ (r : EndState ClientState). r.state.next_xid) (client_one o link run mark) ∙ quiet_all (client o link run) (events_at link Initiator run mark) quiet ∙ is
+        ∙ sym (ap (λ (cs : List AcceptedCall). o.first_xid + length cs) (accepted_one link run mark ∙ ap (λ (cs : List AcceptedCall). accepted_calls link run ++ cs) none ∙ append-nil (accepted_calls link run)))
 
     none_accepted : (b : Bool) → ◌≡◌ {A = List AcceptedCall} (cond b [] []) []
     none_accepted true = refl
@@ -193,7 +193,7 @@ module _ (o : LinkParameters) where
     own_call call form xid stays is =
         let a : AcceptedCall = record { xid = xid; call = call; form = form } in
         let at : accepted_at link (marks.Submit link call form (submissions.Accepted xid)) ≡ a ∷ [] = ap (λ (b : Bool). cond b (a ∷ []) []) (itself link) in
-        accepted_calls_one o link run call form xid stays ∙ ap (λ (n : ℕ). n + 1) is
+        next_xid_one o link run call form xid stays ∙ ap (λ (n : ℕ). n + 1) is
         ∙ sym (ap (λ (cs : List AcceptedCall). length cs) (accepted_one link run (marks.Submit link call form (submissions.Accepted xid)) ∙ ap (λ (cs : List AcceptedCall). accepted_calls link run ++ cs) at)
         ∙ length-append (accepted_calls link run) (a ∷ []))
 

@@ -55,6 +55,7 @@ parameters_of opening link = record {
   first_stag = 1;
   wished = opening.credits;
   granted = opening.credits;
+  receives = opening.credits;
   client = sized_terms opening.client_units;
   server = sized_terms opening.server_units;
 }

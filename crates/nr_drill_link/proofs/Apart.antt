@@ -1,5 +1,5 @@
 -- Marks of other links leave a link.
-use Rattle.std.specs.Prelude.{◌-◌, ◌&&◌, ◌||◌, if◌then◌else◌}
+use Rattle.std.specs.Prelude.{◌-◌, ◌||◌, if◌then◌else◌}
 use Rattle.std.specs.List.{AllByRecursion, list_any}
 use Rattle.std.proofs.Common.{◌≡◌, ◌≢◌, ℕ, ◌≤◌, arith, eqb, Bool, false, List, [], ◌∷◌, ◌++◌, length, refl, ap, sym, subst, ◌∙◌, append_assoc, append-nil}
 use Rattle.nr_wire.specs.declared.hello.Side.{Side}
@@ -7,14 +7,15 @@ use Rattle.nr_wire.specs.declared.hello.Side.TheVariants.{Initiator, Responder}
 use Rattle.nr_reduce.specs.declared.mark.Mark.{Mark}
 use Rattle.nr_reduce.specs.declared.mark.Mark.TheVariants as marks
 use Rattle.nr_reduce.specs.History.{CompletedCall, fed_at, same_side, is_drop_of, is_dropped}
+use Rattle.nr_reduce.specs.Concerns.{is_judged}
+use Rattle.nr_reduce.proofs.Unconcerned.{not_judged, none_abandoned, none_completed}
 use Rattle.nr_requester.specs.Standing.{RequesterRepresents}
 use Rattle.nr_requester.specs.Laws.{GivesUpNothing}
 use Rattle.nr_requester.proofs.AllMarks.{others_leave_it}
 use Rattle.nr_responder.specs.Standing.{RepresentsServer}
-use Rattle.nr_responder.specs.Laws.{IsOfOthers}
 use Rattle.nr_drill.specs.Drill.{link_of, Setting, Drill, pipes_of, with_mark, answer_at}
 use Rattle.nr_drill.proofs.Carried.{not_drop, not_fed, same_dropped}
-use Rattle.nr_drill.proofs.Followed.{apart, not_written, no_event, Extends}
+use Rattle.nr_drill.proofs.Followed.{apart, unconcerned, not_written, no_event, Extends}
 use Rattle.nr_drill_link.specs.DrillLinkState.{DrillLinkState}
 use Rattle.nr_drill_link.specs.LinkStands.{answers_of, awaited_lines, LinkStands}
 use Rattle.nr_drill_link.specs.Laws.{OtherLinksStand}
@@ -35,29 +36,9 @@ not_answered link (marks.Revoke l xid bytes) ne = refl
 not_answered link (marks.Drop l) ne = refl
 
 not_given_up : (link : ℕ) (mark : Mark) → link_of mark ≢ link → GivesUpNothing link mark
-not_given_up link (marks.Forget l x) ne xid = ap (λ (b : Bool). (b && eqb x xid) || false) (apart l link ne)
-not_given_up link (marks.Revoke l x bytes) ne xid = ap (λ (b : Bool). (b && eqb x xid) || false) (apart l link ne)
-not_given_up link (marks.Lost l x) ne xid = ap (λ (b : Bool). (b && eqb x xid) || false) (apart l link ne)
-not_given_up link (marks.Done l x outcome) ne xid =
-    ap (λ (b : Bool). list_any (λ (c : CompletedCall). eqb c.xid xid) (if b then record { xid = x; outcome = outcome } ∷ [] else [])) (apart l link ne)
-not_given_up link (marks.Submit l call form answer) ne xid = refl
-not_given_up link (marks.Fed l s bytes) ne xid = refl
-not_given_up link (marks.Wrote l s bytes) ne xid = refl
-not_given_up link (marks.Execute l x moment payload place reply) ne xid = refl
-not_given_up link (marks.Drop l) ne xid = refl
-
-of_others : (link : ℕ) (mark : Mark) → link_of mark ≢ link → IsOfOthers link mark
-of_others link (marks.Wrote l Initiator bytes) ne = tt
-of_others link (marks.Wrote l Responder bytes) ne = ne
-of_others link (marks.Fed l Initiator bytes) ne = tt
-of_others link (marks.Fed l Responder bytes) ne = ne
-of_others link (marks.Execute l xid moment payload place reply) ne = ne
-of_others link (marks.Submit l call form answer) ne = tt
-of_others link (marks.Done l xid outcome) ne = tt
-of_others link (marks.Lost l xid) ne = tt
-of_others link (marks.Forget l xid) ne = tt
-of_others link (marks.Revoke l xid bytes) ne = tt
-of_others link (marks.Drop l) ne = tt
+not_given_up link mark ne xid =
+    let e : is_judged link Initiator mark ≡ false = not_judged link Initiator mark (unconcerned link Initiator mark ne) in
+    (λ i. none_abandoned link xid mark e i || list_any (λ (c : CompletedCall). eqb c.xid xid) (none_completed link mark e i))
 
 -- ---- The link
 
@@ -85,7 +66,7 @@ one_elsewhere s link d v mark ne h = record {
   pipes = h.pipes;
   dropped = h.dropped ∙ sym (same_dropped link d.marks mark (not_drop link mark ne));
   client = others_leave_it (s.opened link) link v.client d.marks mark h.client (no_event link Initiator d.marks mark ne) (not_written link Initiator mark ne) (not_fed link Initiator mark ne) (not_given_up link mark ne);
-  server = server_stays (s.opened link) link d.marks v.server mark (of_others link mark ne) h.server_memory h.server;
+  server = server_stays (s.opened link) link d.marks v.server mark (unconcerned link Responder mark ne) h.server_memory h.server;
   client_memory = h.client_memory;
   server_memory = h.server_memory;
   lines = h.lines ∙ ap length (sym (answers_same link d.marks mark (not_answered link mark ne)));

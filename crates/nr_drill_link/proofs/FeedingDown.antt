@@ -1,9 +1,10 @@
 -- Bytes that are fed to a client.
-use Rattle.std.proofs.Common.{◌≡◌, ◌≢◌, ℕ, List, [], ◌∷◌, ◌++◌, take, drop, Some, refl, ap, sym, subst, ◌∙◌}
+use Rattle.std.proofs.Common.{◌≡◌, ◌≢◌, ℕ, eqb, List, [], ◌∷◌, ◌++◌, take, drop, Some, refl, ap, sym, subst, ◌∙◌}
 use Rattle.nr_wire.specs.declared.hello.Side.TheVariants.{Initiator}
 use Rattle.nr_link.specs.declared.end.End.TheVariants as ends
 use Rattle.nr_reduce.specs.declared.mark.Mark.{Mark}
 use Rattle.nr_reduce.specs.declared.mark.Mark.TheVariants as marks
+use Rattle.nr_reduce.proofs.Unconcerned.{fed_elsewhere}
 use Rattle.nr_requester.specs.RequesterState.{RequesterSide}
 use Rattle.nr_requester.specs.Standing.{StandsOn}
 use Rattle.nr_drill.specs.Drill.{Setting, Drill, Pipes, pipes_of, with_pipes, with_mark, after_feeding, after_feeding_down, after_outcomes, after_down, settled}
@@ -34,7 +35,7 @@ down_fed v client n (b ∷ bytes) pipes run run2 taken some takes ends_not is mo
     let all : take n (pipes_of link d).down ≡ piece = ap (λ (p : Pipes). take n p.down) (sym h.pipes) ∙ sym taken in
     let e : EndsStand s link (d.marks ++ mark ∷ []) client v.server = record {
       client = takes o link d.marks h.client;
-      server = server_stays o link d.marks v.server mark tt h.server_memory h.server;
+      server = server_stays o link d.marks v.server mark (fed_elsewhere (eqb link link)) h.server_memory h.server;
       client_memory = ends_not;
       server_memory = h.server_memory;
     } in

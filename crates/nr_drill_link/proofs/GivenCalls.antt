@@ -27,6 +27,7 @@ use Rattle.nr_reduce.specs.Run.{client}
 use Rattle.nr_reduce.specs.SubmitAnswer.{submit_answer, unless_dropped, submit_answer_after}
 use Rattle.nr_reduce.proofs.Standing.{itself}
 use Rattle.nr_reduce.proofs.Steps.{client_one}
+use Rattle.nr_reduce.proofs.Unconcerned.{submit_elsewhere}
 use Rattle.nr_requester.specs.RequesterState.{RequesterSide, RequesterState}
 use Rattle.nr_requester.specs.Answers.{plan_under, answer_by_plan, answer_if, answer_of}
 use Rattle.nr_requester.specs.KeptAnswers.{is_due}
@@ -159,7 +160,7 @@ marked s link d v asks left call form answer h represents lives is =
       pipes = h.pipes;
       dropped = h.dropped ∙ sym (same_dropped link d.marks mark refl);
       client = represents;
-      server = server_stays (s.opened link) link d.marks v.server mark tt h.server_memory h.server;
+      server = server_stays (s.opened link) link d.marks v.server mark (submit_elsewhere link link call form answer) h.server_memory h.server;
       client_memory = lives;
       server_memory = h.server_memory;
       lines = count ∙ ap length (sym (own_answer link d.marks call form answer));
@@ -171,7 +172,7 @@ pub dropped_call : (v h v2 : DrillLinkState) (call : Call) (form : Form) → v �
 unfolding submit_answer_after
 dropped_call v h v2 call form same gone is s link d stands =
     let at : LinkStands s link d v = subst (λ (x : DrillLinkState). LinkStands s link d x) (sym same) stands in (
-      ap (λ (b : Bool). unless_dropped b (submit_answer (s.opened link) (client (s.opened link) link d.marks) call form)) (sym gone ∙ at.dropped),
+      ap (λ (b : Bool). unless_dropped b (submit_answer (client (s.opened link) link d.marks) call form)) (sym gone ∙ at.dropped),
       subst (λ (x : DrillLinkState). LinkStands s link (with_mark (marks.Submit link call form submissions.Dropped) d) x) (sym is)
           (marked s link d v v.client v.awaited call form submissions.Dropped at
           (others_leave_it (s.opened link) link v.client d.marks (marks.Submit link call form submissions.Dropped) at.client refl refl refl (λ xid. refl)) at.client_memory (sym (append-nil v.awaited))),
@@ -183,7 +184,7 @@ client_answer : (s : Setting) (link : ℕ) (d : Drill) (v : DrillLinkState) (cal
 unfolding submit_answer_after
 client_answer s link d v call form answer stands h is =
     sym is ∙ answers_as_client (s.opened link) link v.client d.marks call form h.client
-    ∙ ap (λ (b : Bool). unless_dropped b (submit_answer (s.opened link) (client (s.opened link) link d.marks) call form)) (sym stands ∙ h.dropped)
+    ∙ ap (λ (b : Bool). unless_dropped b (submit_answer (client (s.opened link) link d.marks) call form)) (sym stands ∙ h.dropped)
 
 lives_on : (o : LinkParameters) (k : ClientState) (ended : Option End) (place : ℕ) (a : AcceptedCall) → ended ≡ None → (end_state_after (client_rules o) (record { state = k; ended = ended }) (CallSubmitted place a ∷ [])).ended ≡ None
 unfolding client_end

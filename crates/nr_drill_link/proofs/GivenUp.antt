@@ -3,6 +3,7 @@ use Rattle.std.specs.Prelude.{◌-◌, if◌then◌else◌, is_none, is_some, sl
 use Rattle.std.specs.List.{AllByRecursion}
 use Rattle.std.proofs.Common.{◌≡◌, ◌≢◌, ℕ, eqb, Bool, true, false, not, ◌&&◌, ◌||◌, List, [], ◌∷◌, ◌++◌, length, Option, None, Some, refl, ap, sym, subst, ◌∙◌}
 use Rattle.nr_link.specs.declared.end.End.{End}
+use Rattle.nr_wire.specs.declared.hello.Side.TheVariants.{Responder}
 use Rattle.nr_reduce.specs.declared.call.Call.{Call}
 use Rattle.nr_reduce.specs.declared.call.Submission.{Submission}
 use Rattle.nr_reduce.specs.declared.call.Submission.TheVariants as submissions
@@ -21,7 +22,8 @@ use Rattle.nr_requester.specs.OpenCalls.{open_call, buffers_of}
 use Rattle.nr_requester.specs.Standing.{RequesterRepresents, StandsOn}
 use Rattle.nr_requester.proofs.RevokedBytes.{left_are_placed}
 use Rattle.nr_requester.proofs.HandedBack.{open_remains}
-use Rattle.nr_responder.specs.Laws.{IsOfOthers}
+use Rattle.nr_reduce.specs.Concerns.{concerns}
+use Rattle.nr_reduce.proofs.Unconcerned.{of_other_side}
 use Rattle.nr_drill.specs.Drill.{Setting, Drill, with_mark, settled, answer_at, answer_of_line, is_open, open_xid, after_giving_up, after_forget, after_taking_back, after_revoke}
 use Rattle.nr_drill.specs.InBytes.{RepliedInBytes, RepliedMark}
 use Rattle.nr_drill.proofs.Carried.{same_dropped}
@@ -136,7 +138,7 @@ pub record GivesUpOne (link xid : ℕ) (mark : Mark) : Type 0 where
   pub drops : is_drop_of link mark ≡ false
   pub answer : answer_at link mark ≡ []
   pub gives : (x : ℕ) → gives_up link x mark ≡ eqb xid x
-  pub others : IsOfOthers link mark
+  pub others : concerns link Responder mark ≡ false
   pub replied : (before : List Mark) → RepliedMark before mark
 
 or_false : (b : Bool) → (b || false) ≡ b
@@ -147,10 +149,10 @@ own_given : (link xid x : ℕ) → ((eqb link link && eqb xid x) || false) ≡ e
 own_given link xid x = ap (λ (b : Bool). (b && eqb xid x) || false) (itself link) ∙ or_false (eqb xid x)
 
 forget_gives : (link xid : ℕ) → GivesUpOne link xid (marks.Forget link xid)
-forget_gives link xid = record { drops = refl; answer = refl; gives = λ x. own_given link xid x; others = tt; replied = λ before. tt }
+forget_gives link xid = record { drops = refl; answer = refl; gives = λ x. own_given link xid x; others = of_other_side (eqb link link); replied = λ before. tt }
 
 revoke_gives : (link xid : ℕ) (bytes : List ℕ) → GivesUpOne link xid (marks.Revoke link xid bytes)
-revoke_gives link xid bytes = record { drops = refl; answer = refl; gives = λ x. own_given link xid x; others = tt; replied = λ before. tt }
+revoke_gives link xid bytes = record { drops = refl; answer = refl; gives = λ x. own_given link xid x; others = of_other_side (eqb link link); replied = λ before. tt }
 
 -- what was taken out of a link that stands and isn't ended
 pub record TookOut (v : DrillLinkState) (number xid : ℕ) (left : List AwaitedLine) : Type 0 where

@@ -10,6 +10,7 @@ use Rattle.nr_reduce.specs.declared.mark.Mark.TheVariants as marks
 use Rattle.nr_reduce.specs.History.{CompletedCall}
 use Rattle.nr_reduce.specs.OutcomesDue.{outcomes_due}
 use Rattle.nr_reduce.proofs.Standing.{itself}
+use Rattle.nr_reduce.proofs.Unconcerned.{of_other_side}
 use Rattle.nr_requester.specs.declared.answer.AnsweredCall.{AnsweredCall}
 use Rattle.nr_requester.specs.RequesterState.{RequesterState, RequesterSide}
 use Rattle.nr_requester.specs.KeptAnswers.{completed_of}
@@ -128,7 +129,7 @@ hands_at v client at l xid outcome run run2 within apart own t more = record {
             pipes = h.pipes;
             dropped = h.dropped ∙ sym (same_dropped link d.marks mark refl);
             client = t.stands o link d.marks h.client;
-            server = server_stays o link d.marks v.server mark tt h.server_memory h.server;
+            server = server_stays o link d.marks v.server mark (of_other_side (eqb link link)) h.server_memory h.server;
             client_memory = end_kept v.client client xid t.state h.client_memory;
             server_memory = h.server_memory;
             lines = h.lines ∙ ap length (sym (answers_same link d.marks mark refl));

@@ -15,7 +15,7 @@ use Rattle.nr_requester.specs.Standing.{RequesterRepresents}
 use Rattle.nr_requester.proofs.AllMarks.{others_leave_it}
 use Rattle.nr_responder.specs.ResponderState.{ResponderSide, queue, may_write, end_of, after_drain as after_server_drain}
 use Rattle.nr_responder.specs.Standing.{RepresentsServer}
-use Rattle.nr_responder.specs.Laws.{IsOfOthers}
+use Rattle.nr_reduce.specs.Concerns.{concerns}
 use Rattle.nr_responder.proofs.OwnLaw.{others_leave_it as others_leave_server, all_may_be_written}
 use Rattle.nr_drill.specs.Drill.{Setting, Drill, Pipes, pipes_of, with_pipes, with_mark, appended, unwritten, after_output, after_all_output, settled}
 use Rattle.nr_drill.specs.InBytes.{RepliedInBytes}
@@ -32,7 +32,7 @@ pub not_own : (link : ℕ) (es : List RunEvent) → if_own (eqb link link && fal
 not_own link es = ap (λ (b : Bool). if_own (b && false) es) (itself link)
 
 -- a mark of a link's client leaves its server
-pub server_stays : (o : LinkParameters) (link : ℕ) (run : List Mark) (v : ResponderSide) (mark : Mark) → IsOfOthers link mark → end_of v ≢ Some ends.Memory → RepresentsServer o link run v → RepresentsServer o link (run ++ mark ∷ []) v
+pub server_stays : (o : LinkParameters) (link : ℕ) (run : List Mark) (v : ResponderSide) (mark : Mark) → concerns link Responder mark ≡ false → end_of v ≢ Some ends.Memory → RepresentsServer o link run v → RepresentsServer o link (run ++ mark ∷ []) v
 server_stays o link run v mark other some h = represents_of o link (run ++ mark ∷ []) v some (others_leave_server o link v run mark other (inl h))
 
 -- the link with other ends, and the same marks

@@ -151,14 +151,14 @@ pub connections_are_typed_lem : ConnectionsAreTyped
 unfolding bytes_received answers_of
 connections_are_typed_lem terms link before after end first J left ended is =
     let over = ended.runs.over first J is.history in
-    let opened : LinkParameters = record { first_xid = 1; first_stag = 1; wished = 1; granted = terms.credits; client = default_terms; server = sized_terms terms.units } in
+    let opened : LinkParameters = record { first_xid = 1; first_stag = 1; wished = 1; granted = terms.credits; receives = terms.credits; client = default_terms; server = sized_terms terms.units } in
     let all : IsBytes (flat_map (fed_at link Responder) ended.run ++ ended.ahead) =
     given_bytes left after.left (flat_map (fed_at link Responder) ended.run ++ ended.ahead)
     (subst (λ (o : Option (List ℕ)). Consumes o after.left (flat_map (fed_at link Responder) ended.run ++ ended.ahead)) is.known ended.runs.handed.from_left) is.bytes in
     typed_from (setup_in first) (J ++ over.more) opened link is.tree [] ended.run (length J) (record {
       typed = tt;
       own = ended.runs.own;
-      served = ended.runs.served opened (refl, refl);
+      served = ended.runs.served opened (refl, refl, refl);
       fed = IsBytes_left (flat_map (fed_at link Responder) ended.run) ended.ahead all;
       entries = all_bytes (setup_in first) J over.more is.entries over.of_calls;
       placed = over.placed;

@@ -11,7 +11,7 @@ use Rattle.nr_link.specs.Frames.{Frame, is_hello}
 use Rattle.nr_link.specs.Output.{msn_word, segment_count}
 use Rattle.nr_link.specs.ReceiveState.{begun_bytes, ReadRequest}
 use Rattle.nr_link.specs.Ending.{frame_segment}
-use Rattle.nr_reduce.proofs.OwnLimits.{ClientLimits, limited_plan}
+use Rattle.nr_reduce.proofs.OwnLimits.{ClientLimits}
 use Rattle.nr_reduce.specs.declared.mark.LinkParameters.{LinkParameters}
 use Rattle.nr_reduce.specs.declared.outline.Plan.{Plan}
 use Rattle.nr_reduce.specs.Limits.{numbers_end}
@@ -23,6 +23,7 @@ use Rattle.nr_reduce.specs.ClientState.{ClientState, OutstandingCall, call_paylo
 use Rattle.nr_reduce.specs.Client.{client_state_after, outstanding_of, region_of, with_segment, segment_request, with_hello}
 use Rattle.nr_reduce.specs.ServerState.{ServerState}
 use Rattle.nr_laws.specs.Typed.{IsTypedForm}
+use Rattle.nr_laws.proofs.PlannedSizes.{plan_up, plan_down, planned_for}
 use Rattle.nr_laws.proofs.FrameContents.{FrameContent, client_frames, response_frames, tagged_frame, tagged_frames, Carries, SentMessage, CompletesMessage, last_segment, part_segment, send_frames, calls_frames}
 use Rattle.nr_laws.proofs.FrameContents.FrameContent.{HelloFrame, PartFrame, SendFrame, RequestFrame, TaggedFrame}
 use Rattle.nr_laws.proofs.TotalsAtServer.{segment_is}
@@ -70,7 +71,7 @@ new_live answered xid place (b ∷ bs) = (inl refl, new_live answered xid place 
 pub accessed_submit : (opened : LinkParameters) (k : ClientState) (s : ServerState) (d all_up all_down : List FrameContent) (place : ℕ) (a : AcceptedCall) (plan : Plan) → AccessesAgree opened k s d all_up all_down place → plan_for k a.xid a.call a.form ≡ Ok plan → a.xid < numbers_end
     → k.stag + regions_needed plan ≤ numbers_end → IsBytes (call_payload a.xid a.call) → IsTypedForm a.form → ClientLimits k
     → AccessesAgree opened (client_state_after opened k (CallSubmitted place a)) s d (all_up ++ client_frames opened k (CallSubmitted place a)) all_down place
-unfolding client_state_after client_frames plan_for
+unfolding client_state_after client_frames
 accessed_submit opened k s d all_up all_down place a plan h is small stags bytes typed limits =
     let t = client_state_after opened k (CallSubmitted place a) in
     let o = outstanding_of k a in
@@ -78,7 +79,7 @@ accessed_submit opened k s d all_up all_down place a plan h is small stags bytes
     let same : o.plan ≡ plan = planned (call_payload a.xid a.call) (plan_for k a.xid a.call a.form) plan is in
     let own : SendOffered new (message_of_call opened o) =
     subst (λ (p : Plan). SendOffered (map (region_of a.xid place) (buffers k.stag p)) (call_message a.xid opened.wished k.stag p)) (sym same)
-    (planned_offered (call_payload a.xid a.call) a.form k.up_max k.down_max a.xid opened.wished place k.stag plan limits.up (limited_plan k a.xid a.call a.form (Ok plan) is) bytes typed small stags) in
+    (planned_offered (call_payload a.xid a.call) a.form (plan_up k) (plan_down k) a.xid opened.wished place k.stag plan limits.up (planned_for k a.xid a.call a.form plan is) bytes typed small stags) in
     let one : CallAsked opened t.regions o = send_more new t.regions (offers_right k.regions new) (message_of_call opened o) own in
     preserved opened k t s d d all_up (client_frames opened k (CallSubmitted place a)) all_down place h (offers_left k.regions new)
     (each_append (IsEarly place) k.regions new h.early (new_early a.xid place (buffers k.stag o.plan)))

@@ -23,7 +23,6 @@ use Rattle.nr_reduce.specs.ClientState.{ClientState, plan_for}
 use Rattle.nr_reduce.specs.Limits.{numbers_end}
 use Rattle.nr_reduce.specs.Plans.{regions_needed}
 use Rattle.nr_reduce.specs.ServerState.{ServerState, ReadyCall}
-use Rattle.nr_reduce.specs.SubmitAnswer.{next_xid}
 use Rattle.nr_reduce.specs.Client.{client_rules, client_end, client_state_after, client_output}
 use Rattle.nr_reduce.specs.Server.{server_rules, server_end, server_state_after, server_output}
 use Rattle.nr_reduce.specs.Run.{client, server, output_due}
@@ -159,7 +158,7 @@ pub submit_preserves : (opened : LinkParameters) (link : ℕ) (run : List Mark) 
 submit_preserves opened link run call form xid j h =
     let a : AcceptedCall = record { xid = xid; call = call; form = form } in
     let place = length (bytes_received link Initiator run) in
-    let own : xid ≡ next_xid opened j.k = h.next ∙ ap (λ (r : EndState ClientState). next_xid opened r.state) j.client_is in
+    let own : xid ≡ j.k.next_xid = h.next ∙ ap (λ (r : EndState ClientState). r.state.next_xid) j.client_is in
     let planned = ap (λ (r : EndState ClientState). plan_for r.state xid call form) (sym j.client_is) ∙ h.planned in
     let limits : ClientLimits j.k = subst (λ (r : EndState ClientState). ClientLimits r.state) j.client_is (client_limits_of opened link run) in
     let m = submitted opened j.k j.s j.u j.d j.all_up j.all_down j.w place a h.plan j.linked own planned limits in

@@ -262,13 +262,13 @@ nothing_else_is_disclosed opened link run earlier later event is = by_ended befo
         made : IsSubmittedCall opened here (outstanding_of k a)
         made = record { earlier = earlier; later = []; place = place; call = a; is_submitted = ap (λ (e : RunEvent). earlier ++ e ∷ []) same; own = refl }
 
-        sent : (b : Bool) → IsOwnOutput opened here after (cond b (call_output opened (k.calls_accepted + 1) (outstanding_of k a)) [])
+        sent : (b : Bool) → IsOwnOutput opened here after (cond b (call_output opened (k.sends + 1) (outstanding_of k a)) [])
         sent true = inl (
-          k.calls_accepted + 1,
+          k.sends + 1,
           outstanding_of k a ∷ [],
           (
             (λ o c. each_at (IsSubmittedCall opened here) (outstanding_of k a ∷ []) (made, tt) o c),
-            sym (append-nil (call_output opened (k.calls_accepted + 1) (outstanding_of k a))),
+            sym (append-nil (call_output opened (k.sends + 1) (outstanding_of k a))),
           ),
         )
         sent false = none

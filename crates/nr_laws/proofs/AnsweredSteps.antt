@@ -1,7 +1,7 @@
 -- At each moment every call of a matched link is outstanding or has its message, and no call has two; so a message that is received
 -- answers a call that is outstanding and whose Send has left.
-use Rattle.std.proofs.Common.{◌≡◌, ◌≢◌, ℕ, ◌+◌, ◌-◌, ◌≤◌, ◌<◌, Bool, true, false, cond, not, ◌&&◌, eqb, List, [], ◌∷◌, ◌++◌, map, filter, Some, refl, sym, ap, ◌∙◌, arith, ◌⊎◌, inl, inr}
-use Rattle.std.specs.List.{find}
+use Rattle.std.proofs.Common.{◌≡◌, ◌≢◌, ℕ, ◌+◌, ◌≤◌, ◌<◌, Bool, true, false, cond, not, ◌&&◌, eqb, List, [], ◌∷◌, ◌++◌, map, filter, Some, refl, sym, ap, ◌∙◌, arith, ◌⊎◌, inl, inr}
+use Rattle.std.specs.List.{AllByRecursion, find}
 use Rattle.std.proofs.lemmas.Bool.{lt-ltb, eqb-true, ne_eqb, eq-eqb, cases_lt}
 use Rattle.std.proofs.lemmas.List.{map-append}
 use Rattle.nr_xdr.specs.Fields.{word_at}
@@ -11,6 +11,8 @@ use Rattle.nr_reduce.specs.Written.{ends_written}
 use Rattle.nr_reduce.specs.ClientState.{ClientState, OutstandingCall, is_sent}
 use Rattle.nr_reduce.specs.ClientMessages.{answered_call}
 use Rattle.nr_reduce.specs.ServerState.{ServerState, PendingCall}
+use Rattle.nr_reduce.proofs.XidsFollow.{Follows}
+use Rattle.nr_laws.proofs.Basics.{each_all}
 use Rattle.nr_laws.proofs.FrameContents.{FrameContent, SentMessage}
 use Rattle.nr_laws.proofs.FrameContents.FrameContent.{SendFrame}
 use Rattle.nr_laws.proofs.LinkInvariants.{Transit}
@@ -24,8 +26,8 @@ pub record Answered (first : ℕ) (k : ClientState) (s : ServerState) (u d all_d
   pub once : (x : ℕ) → given_to x all_down s.calls ≤ 1
   pub later : (x : ℕ) → first + s.received.sends ≤ x → given_to x all_down s.calls ≤ 0
   pub earlier : (x : ℕ) → x < first → given_to x all_down s.calls ≤ 0
-  pub open_calls : (x : ℕ) → first ≤ x → x < first + k.calls_accepted → 1 ≤ times x (outstanding_xids k.outstanding) + times x (message_xids d)
-  pub room : first + k.calls_accepted ≤ numbers_end
+  pub open_calls : (x : ℕ) → first ≤ x → x < first + k.sends → 1 ≤ times x (outstanding_xids k.outstanding) + times x (message_xids d)
+  pub room : first + k.sends ≤ numbers_end
 
 said_more_lem : (x : ℕ) (all_down said : List FrameContent) → times x (message_xids (all_down ++ said)) ≡ times x (message_xids all_down) + times x (message_xids said)
 said_more_lem x all_down said = ap (λ (xs : List ℕ). times x xs) (xids_append all_down said) ∙ times_append x (message_xids all_down) (message_xids said)
@@ -101,7 +103,7 @@ others_times x xid (o ∷ os) ne = by (eqb o.xid xid) refl (others_times x xid o
         omega (arith, same, ap one_if other)
     by false is same = omega (arith, same)
 
-pub answered_message_lem : (first : ℕ) (k t : ClientState) (s : ServerState) (u d all_down : List FrameContent) (w v : Transit) (message : SentMessage) → t.outstanding ≡ filter (λ (o : OutstandingCall). not (eqb o.xid (word_at 0 message.bytes))) k.outstanding → t.calls_accepted ≡ k.calls_accepted
+pub answered_message_lem : (first : ℕ) (k t : ClientState) (s : ServerState) (u d all_down : List FrameContent) (w v : Transit) (message : SentMessage) → t.outstanding ≡ filter (λ (o : OutstandingCall). not (eqb o.xid (word_at 0 message.bytes))) k.outstanding → t.sends ≡ k.sends
     → Answered first k s u d all_down w → Answered first t s u (d ++ SendFrame message ∷ []) all_down v
 answered_message_lem first k t s u d all_down w v message left accepted h = record {
   once = h.once;
@@ -114,14 +116,14 @@ answered_message_lem first k t s u d all_down w v message left accepted h = reco
     more : (x : ℕ) → times x (message_xids (d ++ SendFrame message ∷ [])) ≡ times x (message_xids d) + (one_if (eqb (word_at 0 message.bytes) x) + 0)
     more x = said_more_lem x d (SendFrame message ∷ [])
 
-    open_call : (x : ℕ) → first ≤ x → x < first + k.calls_accepted → (b : Bool) → eqb (word_at 0 message.bytes) x ≡ b → 1 ≤ times x (outstanding_xids t.outstanding) + times x (message_xids (d ++ SendFrame message ∷ []))
+    open_call : (x : ℕ) → first ≤ x → x < first + k.sends → (b : Bool) → eqb (word_at 0 message.bytes) x ≡ b → 1 ≤ times x (outstanding_xids t.outstanding) + times x (message_xids (d ++ SendFrame message ∷ []))
     open_call x le lt true is = omega (arith, more x, ap one_if is)
     open_call x le lt false is =
         let other : eqb x (word_at 0 message.bytes) ≡ false = ne_eqb x (word_at 0 message.bytes) (λ e. absurd (let wrong : true ≡ false = sym (eq-eqb (word_at 0 message.bytes) x (sym e)) ∙ is in cc)) in
         omega (arith, more x, h.open_calls x le lt, ap (λ (os : List OutstandingCall). times x (outstanding_xids os)) left, others_times x (word_at 0 message.bytes) k.outstanding other)
 
 -- a frame without a message
-pub answered_same : (first : ℕ) (k t : ClientState) (s : ServerState) (u d all_down : List FrameContent) (w v : Transit) (p : FrameContent) → t.outstanding ≡ k.outstanding → t.calls_accepted ≡ k.calls_accepted → message_xids (p ∷ []) ≡ []
+pub answered_same : (first : ℕ) (k t : ClientState) (s : ServerState) (u d all_down : List FrameContent) (w v : Transit) (p : FrameContent) → t.outstanding ≡ k.outstanding → t.sends ≡ k.sends → message_xids (p ∷ []) ≡ []
     → Answered first k s u d all_down w → Answered first t s u (d ++ p ∷ []) all_down v
 answered_same first k t s u d all_down w v p same accepted none h = record {
   once = h.once;
@@ -134,7 +136,7 @@ answered_same first k t s u d all_down w v p same accepted none h = record {
 
 -- ---- Events of the client
 
-pub answered_submit : (first : ℕ) (k t : ClientState) (s : ServerState) (u d all_down : List FrameContent) (w v : Transit) (o : OutstandingCall) → t.outstanding ≡ k.outstanding ++ o ∷ [] → t.calls_accepted ≡ k.calls_accepted + 1 → o.xid ≡ first + k.calls_accepted → o.xid < numbers_end
+pub answered_submit : (first : ℕ) (k t : ClientState) (s : ServerState) (u d all_down : List FrameContent) (w v : Transit) (o : OutstandingCall) → t.outstanding ≡ k.outstanding ++ o ∷ [] → t.sends ≡ k.sends + 1 → o.xid ≡ first + k.sends → o.xid < numbers_end
     → Answered first k s u d all_down w → Answered first t s u d all_down v
 answered_submit first k t s u d all_down w v o outs accepted own small h = record {
   once = h.once;
@@ -149,13 +151,13 @@ answered_submit first k t s u d all_down w v o outs accepted own small h = recor
         ap (λ (os : List OutstandingCall). times x (outstanding_xids os)) outs ∙ ap (λ (xs : List ℕ). times x xs) (map-append (λ (y : OutstandingCall). y.xid) k.outstanding (o ∷ []))
         ∙ times_append x (outstanding_xids k.outstanding) (o.xid ∷ [])
 
-    open_call : (x : ℕ) → first ≤ x → x < first + t.calls_accepted → (b : Bool) → eqb o.xid x ≡ b → 1 ≤ times x (outstanding_xids t.outstanding) + times x (message_xids d)
+    open_call : (x : ℕ) → first ≤ x → x < first + t.sends → (b : Bool) → eqb o.xid x ≡ b → 1 ≤ times x (outstanding_xids t.outstanding) + times x (message_xids d)
     open_call x le lt true is = omega (arith, more x, ap one_if is)
     open_call x le lt false is =
         let ne : o.xid ≢ x = λ e. absurd (let wrong : true ≡ false = sym (eq-eqb o.xid x e) ∙ is in cc) in
-        omega (arith, more x, h.open_calls x le (below (cases_lt x (first + k.calls_accepted)) ne))
+        omega (arith, more x, h.open_calls x le (below (cases_lt x (first + k.sends)) ne))
       where
-        below : (x < first + k.calls_accepted) ⊎ (first + k.calls_accepted ≤ x) → o.xid ≢ x → x < first + k.calls_accepted
+        below : (x < first + k.sends) ⊎ (first + k.sends ≤ x) → o.xid ≢ x → x < first + k.sends
         below (inl lt2) ne = lt2
         below (inr ge) ne = absurd (ne (omega (arith, own, ge, lt, accepted)))
 
@@ -164,7 +166,7 @@ map_times f x [] same = refl
 map_times f x (o ∷ os) same = omega (arith, ap (λ (n : ℕ). one_if (eqb n x)) (same o), map_times f x os same)
 
 -- the calls go on as others of the same xids
-pub answered_map : (first : ℕ) (f : OutstandingCall → OutstandingCall) (k t : ClientState) (s : ServerState) (u d all_down : List FrameContent) (w v : Transit) → t.outstanding ≡ map f k.outstanding → ((o : OutstandingCall) → (f o).xid ≡ o.xid) → t.calls_accepted ≡ k.calls_accepted
+pub answered_map : (first : ℕ) (f : OutstandingCall → OutstandingCall) (k t : ClientState) (s : ServerState) (u d all_down : List FrameContent) (w v : Transit) → t.outstanding ≡ map f k.outstanding → ((o : OutstandingCall) → (f o).xid ≡ o.xid) → t.sends ≡ k.sends
     → Answered first k s u d all_down w → Answered first t s u d all_down v
 answered_map first f k t s u d all_down w v outs same accepted h = record {
   once = h.once;
@@ -177,19 +179,19 @@ answered_map first f k t s u d all_down w v outs same accepted h = record {
 
 -- ---- The message at the front answers a call
 
-found_sent : (sent : OutstandingCall → Bool) (x : ℕ) (os : List OutstandingCall) → ((o : OutstandingCall) → o.xid ≡ x → sent o ≡ true) → 1 ≤ times x (outstanding_xids os)
+found_sent : (sent : OutstandingCall → Bool) (x : ℕ) (os : List OutstandingCall) → AllByRecursion (λ (o : OutstandingCall). o.xid ≡ x → sent o ≡ true) os → 1 ≤ times x (outstanding_xids os)
     → (o : OutstandingCall) × (find (λ (y : OutstandingCall). eqb y.xid x && sent y) os ≡ Some o)
 found_sent sent x [] own some = absurd (omega (arith, some))
-found_sent sent x (o ∷ os) own some = by (eqb o.xid x) refl (found_sent sent x os own)
+found_sent sent x (o ∷ os) own some = by (eqb o.xid x) refl (found_sent sent x os own.1)
   where
     by : (b : Bool) → eqb o.xid x ≡ b → (1 ≤ times x (outstanding_xids os) → (y : OutstandingCall) × (find (λ (z : OutstandingCall). eqb z.xid x && sent z) os ≡ Some y))
         → (y : OutstandingCall) × (find (λ (z : OutstandingCall). eqb z.xid x && sent z) (o ∷ os) ≡ Some y)
-    by true is later = (o, (λ i. cond (is i && own o (eqb-true o.xid x is) i) (Some o) (find (λ (z : OutstandingCall). eqb z.xid x && sent z) os)))
+    by true is later = (o, (λ i. cond (is i && own.0 (eqb-true o.xid x is) i) (Some o) (find (λ (z : OutstandingCall). eqb z.xid x && sent z) os)))
     by false is later =
         let m = later (omega (arith, some, ap one_if is)) in
         (m.0, (λ i. cond (is i && sent o) (Some o) (find (λ (z : OutstandingCall). eqb z.xid x && sent z) os)) ∙ m.1)
 
-pub answers_one : (first : ℕ) (k : ClientState) (s : ServerState) (u d all_down : List FrameContent) (w : Transit) (message : SentMessage) (rest : List FrameContent) → all_down ≡ d ++ SendFrame message ∷ rest → s.received.sends ≤ k.calls_accepted → k.first_xid ≡ first → s.received.sends ≤ ends_written k.written k.send_ends
+pub answers_one : (first : ℕ) (k : ClientState) (s : ServerState) (u d all_down : List FrameContent) (w : Transit) (message : SentMessage) (rest : List FrameContent) → all_down ≡ d ++ SendFrame message ∷ rest → s.received.sends ≤ k.sends → AllByRecursion (λ (o : OutstandingCall). Follows first k.sends o) k.outstanding → s.received.sends ≤ ends_written k.written k.send_ends
     → Answered first k s u d all_down w → (o : OutstandingCall) × (answered_call k (word_at 0 message.bytes) ≡ Some o)
 answers_one first k s u d all_down w message rest parts sends own left h =
     let x = word_at 0 message.bytes in
@@ -199,7 +201,10 @@ answers_one first k s u d all_down w message rest parts sends own left h =
     let below : x < first + s.received.sends = not_later x there (cases_lt x (first + s.received.sends)) in
     let above : first ≤ x = not_earlier x there (cases_lt x first) in
     let some : 1 ≤ times x (outstanding_xids k.outstanding) = omega (arith, there, h.once x, h.open_calls x above (omega (arith, below, sends))) in
-    found_sent (is_sent k) x k.outstanding (λ o same. lt-ltb (o.xid - k.first_xid) (ends_written k.written k.send_ends) (omega (arith, same, own, left, below, above))) some
+    found_sent (is_sent k) x k.outstanding
+    (each_all (λ (o : OutstandingCall). Follows first k.sends o) (λ (o : OutstandingCall). o.xid ≡ x → is_sent k o ≡ true) k.outstanding
+    (λ o follows same. (let xid = follows.0 in lt-ltb o.send (ends_written k.written k.send_ends) (omega (arith, same, xid, left, below)))) own)
+    some
   where
     not_later : (x : ℕ) → times x (message_xids all_down) ≡ times x (message_xids d) + (1 + times x (message_xids rest)) → (x < first + s.received.sends) ⊎ (first + s.received.sends ≤ x) → x < first + s.received.sends
     not_later x there (inl lt) = lt

@@ -285,14 +285,14 @@ untagged_uses k f s e none (OfRead r reads last reads_are is) = absurd (let wron
 untagged_uses k f s e none (OfRefusal r reads c last reads_are found test is) = absurd (let wrong : false ≡ true = sym none ∙ last in cc)
 untagged_uses k f s e none (OfCall r reads c last reads_are found is) = absurd (let wrong : false ≡ true = sym none ∙ last in cc)
 
-keeps_send : (opened : LinkParameters) (k : ServerState) (h : ReceiveState) (e : FrameEffect) → (uses e + begun_one h ≤ length k.calls + 1) → (is_begun k.received.begun ≡ false → receives_in_use k < opened.granted) → Keeps k opened.granted h e
+keeps_send : (opened : LinkParameters) (k : ServerState) (h : ReceiveState) (e : FrameEffect) → (uses e + begun_one h ≤ length k.calls + 1) → (is_begun k.received.begun ≡ false → receives_in_use k < opened.receives) → Keeps k opened.receives h e
 keeps_send opened k h e most left = by (is_begun k.received.begun) refl
   where
-    by : (b : Bool) → is_begun k.received.begun ≡ b → Keeps k opened.granted h e
+    by : (b : Bool) → is_begun k.received.begun ≡ b → Keeps k opened.receives h e
     by true begun = (let one = ap one_if begun in inl (omega (arith, one, most)))
     by false begun = inr (left begun, most, begun)
 
-frame_keeps : (opened : LinkParameters) (k : ServerState) (f : Frame) (s : Segment) → is_hello f ≡ false → frame_segment f ≡ Ok s → server_end opened k (FrameReceived f) ≡ None → Keeps k opened.granted (received_after k.received s) (frame_effect k f)
+frame_keeps : (opened : LinkParameters) (k : ServerState) (f : Frame) (s : Segment) → is_hello f ≡ false → frame_segment f ≡ Ok s → server_end opened k (FrameReceived f) ≡ None → Keeps k opened.receives (received_after k.received s) (frame_effect k f)
 frame_keeps opened k f (Tagged last opcode stag to payload) behind is stays =
     (let u = tagged_uses k f (Tagged last opcode stag to payload) (frame_effect k f) refl (effect_case k f (Tagged last opcode stag to payload) is) in inl (omega (arith, u)))
 frame_keeps opened k f (Untagged last opcode w queue msn offset payload) behind is stays = by (is_send opcode) refl
@@ -329,9 +329,9 @@ frame_keeps opened k f (Untagged last opcode w queue msn offset payload) behind 
         let one : begun_one (received_after k.received (Untagged last opcode w queue msn offset payload)) ≡ 1 = after true own ∙ ap (λ (x : Bool). begun_one (send_continued k.received x payload)) ends in
         omega (arith, most, one)
 
-    by : (b : Bool) → is_send opcode ≡ b → Keeps k opened.granted (received_after k.received (Untagged last opcode w queue msn offset payload)) (frame_effect k f)
+    by : (b : Bool) → is_send opcode ≡ b → Keeps k opened.receives (received_after k.received (Untagged last opcode w queue msn offset payload)) (frame_effect k f)
     by true own = keeps_send opened k (received_after k.received (Untagged last opcode w queue msn offset payload)) (frame_effect k f) (by_last own last refl)
-        (λ not_begun. receive_left k opened.granted msn r refl refl (ap (λ (b : Bool). no_buffer r b msn) (sym own) ∙ pass.buffer) not_begun)
+        (λ not_begun. receive_left k opened.receives msn r refl refl (ap (λ (b : Bool). no_buffer r b msn) (sym own) ∙ pass.buffer) not_begun)
     by false own =
         let none : message_completed k.received (Untagged last opcode w queue msn offset payload) ≡ None = ap (λ (b : Bool). cond (b && last) (Some (begun_bytes k.received.begun ++ payload)) None) own in
         let most = tagged_uses k f (Untagged last opcode w queue msn offset payload) (frame_effect k f) none case in
@@ -373,61 +373,61 @@ wrong_frame opened k f reason behind is e =
     ap (λ (b : Bool). cond b (hello_end (hello_of Initiator f.bytes)) (or_refusal k f (frame_end_by (server_readiness opened k) (region_grants f.end k.regions) f (frame_segment f)))) (sym behind) ∙ e in
     let wrong : Some (ends_as.Bad f.at reason) ≡ None = ap (λ (r : Result Segment ℕ). or_refusal k f (frame_end_by (server_readiness opened k) (region_grants f.end k.regions) f r)) (sym is) ∙ ends in cc
 
-quiet_submitted : (opened : LinkParameters) (k : ServerState) (p : ℕ) (a : AcceptedCall) → receives_in_use k ≤ opened.granted → receives_in_use (server_state_after opened k (CallSubmitted p a)) ≤ opened.granted
+quiet_submitted : (opened : LinkParameters) (k : ServerState) (p : ℕ) (a : AcceptedCall) → receives_in_use k ≤ opened.receives → receives_in_use (server_state_after opened k (CallSubmitted p a)) ≤ opened.receives
 unfolding server_state_after
 quiet_submitted opened k p a h = h
 
-quiet_revoked : (opened : LinkParameters) (k : ServerState) (p xid : ℕ) → receives_in_use k ≤ opened.granted → receives_in_use (server_state_after opened k (MemoryRevoked p xid)) ≤ opened.granted
+quiet_revoked : (opened : LinkParameters) (k : ServerState) (p xid : ℕ) → receives_in_use k ≤ opened.receives → receives_in_use (server_state_after opened k (MemoryRevoked p xid)) ≤ opened.receives
 unfolding server_state_after
 quiet_revoked opened k p xid h = h
 
-frame_receives : (opened : LinkParameters) (k : ServerState) (f : Frame) → server_end opened k (FrameReceived f) ≡ None → receives_in_use k ≤ opened.granted → receives_in_use (server_state_after opened k (FrameReceived f)) ≤ opened.granted
+frame_receives : (opened : LinkParameters) (k : ServerState) (f : Frame) → server_end opened k (FrameReceived f) ≡ None → receives_in_use k ≤ opened.receives → receives_in_use (server_state_after opened k (FrameReceived f)) ≤ opened.receives
 unfolding server_state_after receives_in_use
 frame_receives opened k f stays h = by (is_hello f) refl
   where
     refused : (reason : ℕ) → is_hello f ≡ false → frame_segment f ≡ Err reason → ⊥
     refused reason behind is = wrong_frame opened k f reason behind is stays
 
-    by_segment : is_hello f ≡ false → (r : Result Segment ℕ) → frame_segment f ≡ r → receives_in_use (with_effect k f (frame_effect k f)) ≤ opened.granted
+    by_segment : is_hello f ≡ false → (r : Result Segment ℕ) → frame_segment f ≡ r → receives_in_use (with_effect k f (frame_effect k f)) ≤ opened.receives
     by_segment behind (Err reason) is = absurd (refused reason behind is)
-    by_segment behind (Ok s) is = effect_receives opened.granted k f s (frame_effect k f) is (frame_keeps opened k f s behind is stays) h
+    by_segment behind (Ok s) is = effect_receives opened.receives k f s (frame_effect k f) is (frame_keeps opened k f s behind is stays) h
 
-    by : (b : Bool) → is_hello f ≡ b → receives_in_use (cond b (with_own_hello opened k f) (with_effect k f (frame_effect k f))) ≤ opened.granted
+    by : (b : Bool) → is_hello f ≡ b → receives_in_use (cond b (with_own_hello opened k f) (with_effect k f (frame_effect k f))) ≤ opened.receives
     by true behind = h
     by false behind = by_segment behind (frame_segment f) refl
 
 server_step : (opened : LinkParameters) (k : ServerState) (event : RunEvent) → server_end opened k event ≡ None → ((e : ExecutedCall) → event ≡ CallExecuted e → list_any (λ (c : PendingCall). eqb c.xid e.xid) k.calls ≡ true)
-    → receives_in_use k ≤ opened.granted → receives_in_use (server_state_after opened k event) ≤ opened.granted
+    → receives_in_use k ≤ opened.receives → receives_in_use (server_state_after opened k event) ≤ opened.receives
 server_step opened k (FrameReceived f) stays pending h = frame_receives opened k f stays h
 server_step opened k (CallSubmitted p a) stays pending h = quiet_submitted opened k p a h
 server_step opened k (MemoryRevoked p xid) stays pending h = quiet_revoked opened k p xid h
-server_step opened k (CallExecuted e) stays pending h = executed_receives opened.granted opened k e (pending e refl) h
-server_step opened k (QueueWritten taken) stays pending h = written_receives opened.granted opened k taken h
+server_step opened k (CallExecuted e) stays pending h = executed_receives opened.receives opened k e (pending e refl) h
+server_step opened k (QueueWritten taken) stays pending h = written_receives opened.receives opened k taken h
 
 server_next : (opened : LinkParameters) (r : EndState ServerState) (event : RunEvent) → ((e : ExecutedCall) → event ≡ CallExecuted e → list_any (λ (c : PendingCall). eqb c.xid e.xid) r.state.calls ≡ true)
-    → receives_in_use r.state ≤ opened.granted → receives_in_use (next_end_state (server_rules opened) r event).state ≤ opened.granted
+    → receives_in_use r.state ≤ opened.receives → receives_in_use (next_end_state (server_rules opened) r event).state ≤ opened.receives
 server_next opened r event pending h = by_end r.ended
   where
-    by_why : (o : Option Stop) → server_end opened r.state event ≡ o → receives_in_use (next_end_state_by (server_rules opened) r.state event o).state ≤ opened.granted
+    by_why : (o : Option Stop) → server_end opened r.state event ≡ o → receives_in_use (next_end_state_by (server_rules opened) r.state event o).state ≤ opened.receives
     by_why None is = server_step opened r.state event is pending h
     by_why (Some end) is = h
 
-    by_end : (o : Option Stop) → receives_in_use (next_end_state_in (server_rules opened) r.state event o).state ≤ opened.granted
+    by_end : (o : Option Stop) → receives_in_use (next_end_state_in (server_rules opened) r.state event o).state ≤ opened.receives
     by_end None = by_why (server_end opened r.state event) refl
     by_end (Some end) = h
 
-server_all : (opened : LinkParameters) (link : ℕ) (run : List Mark) → IsTyped run → ServedSoFar opened link run → (more es : List RunEvent) → events link Responder run ≡ es ++ more → receives_in_use (server_by opened es) ≤ opened.granted
-    → receives_in_use (server_by opened (es ++ more)) ≤ opened.granted
-server_all opened link run typed served [] es is h = subst (λ (xs : List RunEvent). receives_in_use (server_by opened xs) ≤ opened.granted) (sym (append-nil es)) h
+server_all : (opened : LinkParameters) (link : ℕ) (run : List Mark) → IsTyped run → ServedSoFar opened link run → (more es : List RunEvent) → events link Responder run ≡ es ++ more → receives_in_use (server_by opened es) ≤ opened.receives
+    → receives_in_use (server_by opened (es ++ more)) ≤ opened.receives
+server_all opened link run typed served [] es is h = subst (λ (xs : List RunEvent). receives_in_use (server_by opened xs) ≤ opened.receives) (sym (append-nil es)) h
 server_all opened link run typed served (event ∷ more) es is h =
-    let next : receives_in_use (server_by opened (es ++ event ∷ [])) ≤ opened.granted =
-    subst (λ (r : EndState ServerState). receives_in_use r.state ≤ opened.granted) (sym (end_state_after_append (server_rules opened) (initial_server opened) es (event ∷ [])))
+    let next : receives_in_use (server_by opened (es ++ event ∷ [])) ≤ opened.receives =
+    subst (λ (r : EndState ServerState). receives_in_use r.state ≤ opened.receives) (sym (end_state_after_append (server_rules opened) (initial_server opened) es (event ∷ [])))
     (server_next opened (end_state_after (server_rules opened) (initial_server opened) es) event
     (λ e own. executes_pending opened link run typed served es e more (is ∙ ap (λ (x : RunEvent). es ++ x ∷ more) own)) h) in
-    subst (λ (xs : List RunEvent). receives_in_use (server_by opened xs) ≤ opened.granted) (append_assoc es (event ∷ []) more)
+    subst (λ (xs : List RunEvent). receives_in_use (server_by opened xs) ≤ opened.receives) (append_assoc es (event ∷ []) more)
     (server_all opened link run typed served more (es ++ event ∷ []) (is ∙ sym (append_assoc es (event ∷ []) more)) next)
 
-none_in_use : (opened : LinkParameters) → receives_in_use (server_by opened []) ≤ opened.granted
+none_in_use : (opened : LinkParameters) → receives_in_use (server_by opened []) ≤ opened.receives
 unfolding receives_in_use
 none_in_use opened = omega arith
 

@@ -47,18 +47,21 @@ xids_at x (SendFrame m ∷ ps) message qs h = omega (arith, xids_at (x + 1) ps m
 xids_at x (RequestFrame sink at size stag to ∷ ps) message qs h = omega (arith, xids_at x ps message qs h)
 xids_at x (TaggedFrame last opcode stag to payload ∷ ps) message qs h = omega (arith, xids_at x ps message qs h)
 
--- outstanding calls with xids one after the other
+-- outstanding calls of which a number, the xid or that of the Send, goes on by one from call to call
+abbrev pub NumberedBy : (OutstandingCall → ℕ) → ℕ → List OutstandingCall → Type 0
+NumberedBy number x [] = Unit {0}
+NumberedBy number x (o ∷ os) = (number o ≡ x) × NumberedBy number (x + 1) os
+
 abbrev pub NumberedCalls : ℕ → List OutstandingCall → Type 0
-NumberedCalls x [] = Unit {0}
-NumberedCalls x (o ∷ os) = (o.xid ≡ x) × NumberedCalls (x + 1) os
+NumberedCalls x os = NumberedBy (λ (o : OutstandingCall). o.xid) x os
 
-pub own_xids_push : (x : ℕ) (os : List OutstandingCall) (o : OutstandingCall) → NumberedCalls x os → o.xid ≡ x + length os → NumberedCalls x (os ++ o ∷ [])
-own_xids_push x [] o h is = (omega (arith, is), tt)
-own_xids_push x (y ∷ os) o h is = (h.0, own_xids_push (x + 1) os o h.1 (omega (arith, is)))
+pub numbered_push : (number : OutstandingCall → ℕ) (x : ℕ) (os : List OutstandingCall) (o : OutstandingCall) → NumberedBy number x os → number o ≡ x + length os → NumberedBy number x (os ++ o ∷ [])
+numbered_push number x [] o h is = (omega (arith, is), tt)
+numbered_push number x (y ∷ os) o h is = (h.0, numbered_push number (x + 1) os o h.1 (omega (arith, is)))
 
-pub own_xids_map : (f : OutstandingCall → OutstandingCall) (x : ℕ) (os : List OutstandingCall) → ((o : OutstandingCall) → (f o).xid ≡ o.xid) → NumberedCalls x os → NumberedCalls x (map f os)
-own_xids_map f x [] same h = tt
-own_xids_map f x (o ∷ os) same h = (same o ∙ h.0, own_xids_map f (x + 1) os same h.1)
+pub numbered_map : (number : OutstandingCall → ℕ) (f : OutstandingCall → OutstandingCall) (x : ℕ) (os : List OutstandingCall) → ((o : OutstandingCall) → number (f o) ≡ number o) → NumberedBy number x os → NumberedBy number x (map f os)
+numbered_map number f x [] same h = tt
+numbered_map number f x (o ∷ os) same h = (same o ∙ h.0, numbered_map number f (x + 1) os same h.1)
 
 abbrev pub HasOwnXid : LinkParameters → OutstandingCall → Type 0
 HasOwnXid opened o = word_at 0 (message_of_call opened o) ≡ o.xid

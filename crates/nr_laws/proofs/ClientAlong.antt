@@ -17,11 +17,10 @@ use Rattle.nr_reduce.specs.Events.{RunEvent}
 use Rattle.nr_reduce.specs.Events.RunEvent.{FrameReceived, CallSubmitted, MemoryRevoked, CallExecuted, QueueWritten}
 use Rattle.nr_reduce.specs.EndRules.{next_end_state_by, next_end_state_in}
 use Rattle.nr_reduce.specs.OfferedRegions.{region_grants}
-use Rattle.nr_reduce.specs.Plans.{TooLarge}
-use Rattle.nr_reduce.specs.ClientState.{ClientState, OutstandingCall, call_payload, plan_for, client_memory_at}
-use Rattle.nr_reduce.specs.Client.{client_rules, client_end, client_state_after, client_readiness, segment_request, outstanding_of, plan_or, with_message, with_request, with_segment, with_hello, due_with_response}
+use Rattle.nr_reduce.specs.ClientState.{ClientState, OutstandingCall, plan_for, client_memory_at}
+use Rattle.nr_reduce.specs.Client.{client_rules, client_end, client_state_after, client_readiness, segment_request, outstanding_of, with_message, with_request, with_segment, with_hello, due_with_response}
 use Rattle.nr_reduce.specs.RunLaws.{as_submitted}
-use Rattle.nr_reduce.proofs.Sizes.{message_size}
+use Rattle.nr_laws.proofs.PlannedSizes.{short_call}
 use Rattle.nr_laws.proofs.EventOutputs.{IsNext, place_after, outputs_by, outputs_in}
 use Rattle.nr_laws.proofs.Outputs.{Output, IsShort, CallsShort, message_of_call, message_outputs, call_sends, client_says, response_outputs, response_segments, final_outputs, terminate_segment, CallShort}
 use Rattle.nr_laws.proofs.Outputs.Output.{ASegment}
@@ -86,7 +85,7 @@ segment_quiet k f bytes behind stays = by (frame_segment f) refl
 
 record Step (opened : LinkParameters) (place : ℕ) (k after : ClientState) (ended : Option Stop) : Type 0 where
   short : CallsShort opened k.outstanding → CallsShort opened after.outstanding
-  count : after.calls_accepted ≡ k.calls_accepted
+  count : after.sends ≡ k.sends
   hello : after.has_hello ≡ k.has_hello
   greeted : ended ≡ None → HasHello place after.has_hello
   waits : k.has_hello ≡ false → map as_submitted after.outstanding ≡ map as_submitted k.outstanding
@@ -117,16 +116,16 @@ stays_step opened place k end = record { short = λ h. h; count = refl; hello = 
 
 -- ---- Frames
 
-request_fields : (opened : LinkParameters) (k m : ClientState) (due : ℕ) (o : Option ReadRequest) → (CallsShort opened k.outstanding → CallsShort opened m.outstanding) × (m.calls_accepted ≡ k.calls_accepted) × (m.has_hello ≡ k.has_hello)
-    → (CallsShort opened k.outstanding → CallsShort opened (with_request m due o).outstanding) × ((with_request m due o).calls_accepted ≡ k.calls_accepted) × ((with_request m due o).has_hello ≡ k.has_hello)
+request_fields : (opened : LinkParameters) (k m : ClientState) (due : ℕ) (o : Option ReadRequest) → (CallsShort opened k.outstanding → CallsShort opened m.outstanding) × (m.sends ≡ k.sends) × (m.has_hello ≡ k.has_hello)
+    → (CallsShort opened k.outstanding → CallsShort opened (with_request m due o).outstanding) × ((with_request m due o).sends ≡ k.sends) × ((with_request m due o).has_hello ≡ k.has_hello)
 request_fields opened k m due None h = h
 request_fields opened k m due (Some q) h = h
 
-message_fields : (opened : LinkParameters) (k : ClientState) (place : ℕ) (o : Option (List ℕ)) → (CallsShort opened k.outstanding → CallsShort opened (with_message k place o).outstanding) × ((with_message k place o).calls_accepted ≡ k.calls_accepted) × ((with_message k place o).has_hello ≡ k.has_hello)
+message_fields : (opened : LinkParameters) (k : ClientState) (place : ℕ) (o : Option (List ℕ)) → (CallsShort opened k.outstanding → CallsShort opened (with_message k place o).outstanding) × ((with_message k place o).sends ≡ k.sends) × ((with_message k place o).has_hello ≡ k.has_hello)
 message_fields opened k place None = ((λ h. h), refl, refl)
 message_fields opened k place (Some message) = ((λ h. each_kept (CallShort opened) _ k.outstanding h), refl, refl)
 
-segment_fields : (opened : LinkParameters) (k : ClientState) (f : Frame) (r : Result Segment ℕ) → (CallsShort opened k.outstanding → CallsShort opened (with_segment k f r).outstanding) × ((with_segment k f r).calls_accepted ≡ k.calls_accepted) × ((with_segment k f r).has_hello ≡ k.has_hello)
+segment_fields : (opened : LinkParameters) (k : ClientState) (f : Frame) (r : Result Segment ℕ) → (CallsShort opened k.outstanding → CallsShort opened (with_segment k f r).outstanding) × ((with_segment k f r).sends ≡ k.sends) × ((with_segment k f r).has_hello ≡ k.has_hello)
 segment_fields opened k f (Err reason) = ((λ h. h), refl, refl)
 segment_fields opened k f (Ok segment) = request_fields opened k (with_message k f.end (message_completed k.received segment)) (due_with_response k f segment) (read_request_of segment) (message_fields opened k f.end (message_completed k.received segment))
 
@@ -171,17 +170,10 @@ hello_step opened es place k outs f first at goes p =
 
 -- ---- A call
 
-pub short_call : (opened : LinkParameters) (k : ClientState) (a : AcceptedCall) (plan : Plan) → plan_for k a.xid a.call a.form ≡ Ok plan → ClientLimits k → IsShort (message_of_call opened (outstanding_of k a))
-unfolding plan_for
-short_call opened k a plan planned l =
-    let is_plan : (outstanding_of k a).plan ≡ plan = ap (λ (r : Result Plan TooLarge). plan_or (call_payload a.xid a.call) r) planned in
-    subst (λ (q : Plan). IsShort (Rattle.nr_reduce.specs.Plans.call_message a.xid opened.wished k.stag q)) (sym is_plan)
-    (let m = (message_size (call_payload a.xid a.call) a.form k.up_max k.down_max a.xid opened.wished k.stag plan planned).1 in let up = l.up.1 in omega (arith, m, up))
-
 call_step : (opened : LinkParameters) (es : List RunEvent) (place p : ℕ) (k : ClientState) (outs : List Output) (a : AcceptedCall) (plan : Plan) → k ≡ (client_after opened es).state → plan_for k a.xid a.call a.form ≡ Ok plan → ClientLimits k → ClientSays opened es place k None outs
     → ClientSays opened (es ++ CallSubmitted p a ∷ []) place (client_state_after opened k (CallSubmitted p a)) None
-    (outs ++ cond k.has_hello (message_outputs (k.calls_accepted + 1) (message_of_call opened (outstanding_of k a))) [])
-unfolding client_state_after plan_for
+    (outs ++ cond k.has_hello (message_outputs (k.sends + 1) (message_of_call opened (outstanding_of k a))) [])
+unfolding client_state_after
 call_step opened es place p k outs a plan at planned l h =
     let own : OutstandingCall = outstanding_of k a in
     let before : List AcceptedCall = accepted_in es in
@@ -198,10 +190,10 @@ call_step opened es place p k outs a plan at planned l h =
     }
   where
     says : Bool → List Output
-    says b = cond b (message_outputs (k.calls_accepted + 1) (message_of_call opened (outstanding_of k a))) []
+    says b = cond b (message_outputs (k.sends + 1) (message_of_call opened (outstanding_of k a))) []
 
     words_by : (b : Bool) → IsShort (message_of_call opened (outstanding_of k a)) → AreFrom Fpdu (says b)
-    words_by true s = message_words (k.calls_accepted + 1) (message_of_call opened (outstanding_of k a)) s
+    words_by true s = message_words (k.sends + 1) (message_of_call opened (outstanding_of k a)) s
     words_by false s = tt
 
     completes_by : (b : Bool) → k.has_hello ≡ b → asked opened (es ++ CallSubmitted p a ∷ []) ≡ asked opened es ++ outstanding_of k a ∷ []
@@ -210,7 +202,7 @@ call_step opened es place p k outs a plan at planned l h =
         subst (λ (ms : List (List ℕ)). Completes (outs ++ says true) ms)
         (sym (map_more opened (asked opened es) (outstanding_of k a ∷ [])) ∙ ap (λ (os : List OutstandingCall). map (message_of_call opened) os) (sym all))
         (completes_append outs (says true) (map (message_of_call opened) (asked opened es)) (message_of_call opened (outstanding_of k a) ∷ [])
-        (subst (λ (c : Bool). Completes outs (cond c (map (message_of_call opened) (asked opened es)) [])) is h.completes) (completes_message (k.calls_accepted + 1) (message_of_call opened (outstanding_of k a))))
+        (subst (λ (c : Bool). Completes outs (cond c (map (message_of_call opened) (asked opened es)) [])) is h.completes) (completes_message (k.sends + 1) (message_of_call opened (outstanding_of k a))))
     completes_by false is all =
         completes_append outs [] [] [] (subst (λ (c : Bool). Completes outs (cond c (map (message_of_call opened) (asked opened es)) [])) is h.completes) completes_none
 

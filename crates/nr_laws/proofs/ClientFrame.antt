@@ -159,7 +159,7 @@ took_hello opened k s u d all_up all_down w rest f l first is =
     let says = says_hello opened k f is in
     let after = after_hello opened k f is in
     let none : hello_bit k.has_hello ≡ 0 = omega (arith, l.counts.hello, ap (total_of hellos_in) first) in
-    let calls : total_of sends_in all_up ≡ 0 = calls_said opened k s u d all_up all_down w l ∙ ap (λ (b : Bool). cond b k.calls_accepted 0) (bit_of k.has_hello none) in
+    let calls : total_of sends_in all_up ≡ 0 = calls_said opened k s u d all_up all_down w l ∙ ap (λ (b : Bool). cond b k.sends 0) (bit_of k.has_hello none) in
     let counts : TotalsAgree (client_state_after opened k (FrameReceived f)) s (down_one w said rest) =
     subst (λ (ps : List FrameContent). TotalsAgree (client_state_after opened k (FrameReceived f)) s (down_one w ps rest)) says (totals_hello_down opened k s w f rest l.counts first is) in
     record {

@@ -281,8 +281,8 @@ answers_event opened es k outs (CallSubmitted p a) own h None stays =
     quiet_answers opened es (CallSubmitted p a) k (client_state_after opened k (CallSubmitted p a)) None None outs (client_says opened k (CallSubmitted p a)) (by k.has_hello) (λ n. (refl, refl))
     (data_left k.regions (map (region_of a.xid p) (buffers k.stag (outstanding_of k a).plan))) h
   where
-    by : (b : Bool) → tagged_in (cond b (message_outputs (k.calls_accepted + 1) (message_of_call opened (outstanding_of k a))) []) ≡ []
-    by true = tagged_message (k.calls_accepted + 1) (message_of_call opened (outstanding_of k a))
+    by : (b : Bool) → tagged_in (cond b (message_outputs (k.sends + 1) (message_of_call opened (outstanding_of k a))) []) ≡ []
+    by true = tagged_message (k.sends + 1) (message_of_call opened (outstanding_of k a))
     by false = refl
 answers_event opened es k outs (MemoryRevoked p xid) own h None stays =
     quiet_answers opened es (MemoryRevoked p xid) k (client_state_after opened k (MemoryRevoked p xid)) None None outs [] refl (λ n. (refl, refl)) (data_closed (λ r. eqb r.call xid) p k.regions) h

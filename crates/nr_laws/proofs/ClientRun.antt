@@ -149,7 +149,7 @@ pub record SubmittedCall (opened : LinkParameters) (link : ℕ) (run : List Mark
   pub xid : ℕ
   pub is : run ≡ earlier ++ marks.Submit link call form (submissions.Accepted xid) ∷ later
   pub accepted : IsAccepted opened link earlier call form xid
-  pub counted : (client opened link earlier).state.calls_accepted ≡ index
+  pub counted : (client opened link earlier).state.sends ≡ index
   pub own_xid : o.xid ≡ xid
   pub own_call : o.call ≡ call
   pub own_plan : o.plan ≡ accepted.plan
@@ -163,7 +163,7 @@ pub record WasSubmitted (opened : LinkParameters) (link : ℕ) (run : List Mark)
   pub xid : ℕ
   pub is : run ≡ earlier ++ marks.Submit link call form (submissions.Accepted xid) ∷ later
   pub accepted : IsAccepted opened link earlier call form xid
-  pub counted : (client opened link earlier).state.calls_accepted ≡ index
+  pub counted : (client opened link earlier).state.sends ≡ index
   pub message_is : message ≡ call_message xid opened.wished (client opened link earlier).state.stag accepted.plan
 
 submitted_later : (opened : LinkParameters) (link : ℕ) (run : List Mark) (mark : Mark) (index : ℕ) (o : OutstandingCall) → SubmittedCall opened link run index o → SubmittedCall opened link (run ++ mark ∷ []) index o

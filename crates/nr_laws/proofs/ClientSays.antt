@@ -30,7 +30,6 @@ use Rattle.nr_reduce.specs.OfferedRegions.{region_grants}
 use Rattle.nr_reduce.specs.Plans.{regions_needed}
 use Rattle.nr_reduce.specs.ClientState.{ClientState, OutstandingCall, call_payload, plan_for, client_memory_at}
 use Rattle.nr_reduce.specs.Client.{client_rules, client_end, client_readiness, initial_client, or_message_end, outstanding_of, revoked_call}
-use Rattle.nr_reduce.specs.SubmitAnswer.{next_xid}
 use Rattle.nr_reduce.specs.RunLaws.{as_submitted}
 use Rattle.nr_laws.specs.Typed.{IsTypedForm}
 use Rattle.nr_laws.proofs.Outputs.{Output, IsShort, CallsShort, message_of_call, response_outputs}
@@ -43,7 +42,7 @@ use Rattle.nr_reduce.proofs.Touches.{AreNone, all_none, no_flaw}
 
 pub record IsGoodCall (opened : LinkParameters) (r : EndState ClientState) (a : AcceptedCall) : Type 0 where
   pub stays : r.ended ≡ None
-  pub next : a.xid ≡ next_xid opened r.state
+  pub next : a.xid ≡ r.state.next_xid
   pub plan : Plan
   pub planned : plan_for r.state a.xid a.call a.form ≡ Ok plan
   pub xids : a.xid < numbers_end
@@ -142,7 +141,7 @@ HasHello place hello = ((place ≡ 0) × (hello ≡ false)) ⊎ ((0 < place) × 
 
 pub record ClientSays (opened : LinkParameters) (es : List RunEvent) (place : ℕ) (k : ClientState) (ended : Option Stop) (outs : List Output) : Type 0 where
   pub short : CallsShort opened k.outstanding
-  pub count : k.calls_accepted ≡ length (accepted_in es)
+  pub count : k.sends ≡ length (accepted_in es)
   pub greeted : ended ≡ None → HasHello place k.has_hello
   pub waits : k.has_hello ≡ false → map as_submitted k.outstanding ≡ asked opened es
   pub words : AreFrom Fpdu outs

@@ -61,9 +61,7 @@ use Rattle.nr_laws.proofs.Guards.{Guards}
 use Rattle.nr_laws.proofs.GuardsAtClient.{front_down, asked_of, guards_hello_down, guards_send_down, guards_read_down, guards_tagged_down, guards_part_down}
 use Rattle.nr_laws.proofs.Basics.{some_not}
 use Rattle.nr_laws.proofs.HeaderXid.{header_xid}
-use Rattle.nr_reduce.specs.EndRules.{EndState}
 use Rattle.nr_laws.proofs.EndsWaiting.{left_waiting}
-use Rattle.nr_reduce.proofs.CountedBytes.{first_xid_is}
 use Rattle.nr_laws.proofs.SendFrames.{at_front}
 
 -- ---- A message
@@ -182,7 +180,7 @@ step_piece opened k s u d all_up all_down w place (SendFrame message) rest f o l
     let sent = calls_said opened k s u d all_up all_down w l in
     let answers = answers_one opened.first_xid k s u d all_down w message (rest ++ w.queued_down) (sym l.parts_down ∙ ap (λ (ps : List FrameContent). d ++ (ps ++ w.queued_down)) first)
     (omega (arith, sent, sent_most k, l.sends_up, ap (total_of sends_in) l.parts_up, total_append sends_in u (w.up ++ w.queued_up)))
-    (sym (ap (λ (r : EndState ClientState). r.state.first_xid) g.reached.1) ∙ first_xid_is opened g.reached.0)
+    l.outs.follow.1
     (omega (arith, l.counts.calls_up, l.counts.sends, l.counts.all_sends, left_waiting k.written k.send_ends)) g.answered in
     let ends : client_end k (FrameReceived f) ≡ end_of_verdict f (reply_verdict k f.end whole) =
     client_send opened k s w f message rest l.counts first piece reply.least (omega (arith, reply.size, g.sizes.client_down hello)) ∙ ap (λ (r : Result Segment ℕ). client_message_end k f (segment_message k r)) reads in

@@ -20,11 +20,11 @@ use Rattle.nr_reduce.specs.EndRules.{EndState, next_end_state, next_end_state_by
 use Rattle.nr_reduce.specs.OfferedRegions.{Region, until_at, closed_if, regions_closed}
 use Rattle.nr_reduce.specs.ClientState.{ClientState, OutstandingCall, client_memory_at}
 use Rattle.nr_reduce.specs.Client.{client_rules, client_end, client_state_after, initial_client, outstanding_of, region_of, revoked_call, with_message, with_segment, with_hello, due_with_response}
-use Rattle.nr_reduce.specs.SubmitAnswer.{next_xid}
 use Rattle.nr_reduce.specs.Matched.{IsPrefixOf}
 use Rattle.nr_reduce.specs.Asked.{AskedMark, AskedSoFar, IsCompleted}
 use Rattle.nr_reduce.specs.Run.{client, placed_bytes}
-use Rattle.nr_reduce.proofs.Placing.{segment_accepted}
+use Rattle.nr_reduce.proofs.Placing.{segment_next}
+use Rattle.nr_reduce.proofs.XidsFollow.{both_first, both_after}
 use Rattle.nr_reduce.proofs.Steps.{end_state_after_append}
 use Rattle.nr_laws.specs.Typed.{TypedMark, IsTyped}
 use Rattle.nr_laws.specs.ClientRegions.{IsMessageOf, IsClosedForCall}
@@ -38,7 +38,7 @@ use Rattle.nr_laws.proofs.HandedBack.{closed_regions_stand, closed_regions_hold_
 use Rattle.nr_laws.proofs.LinkInvariants.{IsUnused, AreDistinct, AreAtMost}
 use Rattle.nr_laws.proofs.OnceByXid.{at_mark, before_mark}
 use Rattle.nr_laws.proofs.Outcomes.{client_by, WasGiven, outcome_given}
-use Rattle.nr_laws.proofs.OwnXids.{OwnXids, own_xids_came, own_xids_accepts, own_xids_writes}
+use Rattle.nr_laws.proofs.OwnXids.{OwnXids, below_next, own_xids_came, own_xids_accepts, own_xids_writes}
 use Rattle.nr_laws.proofs.RevokedEvents.{NoRevoke, no_revoke, revoke_at}
 use Rattle.nr_laws.proofs.Revoked.{frame_regions, request_regions}
 
@@ -59,15 +59,11 @@ apart_revoked : (w : ℕ) (os : List OutstandingCall) → AreDistinct (λ (o : O
 apart_revoked w [] h = tt
 apart_revoked w (o ∷ os) h = (subst (λ (n : ℕ). IsUnused (λ (x : OutstandingCall). x.xid) n (map (revoked_call w) os)) (sym (xid_revoked w o)) (absent_revoked w o.xid os h.0), apart_revoked w os h.1)
 
-below_revoked : (w n : ℕ) (os : List OutstandingCall) → AreAtMost (λ (o : OutstandingCall). o.xid + 1) n os → AreAtMost (λ (o : OutstandingCall). o.xid + 1) n (map (revoked_call w) os)
-below_revoked w n [] h = tt
-below_revoked w n (o ∷ os) h = (let same = xid_revoked w o in let low = h.0 in (omega (arith, same, low), below_revoked w n os h.1))
-
 own_event : (opened : LinkParameters) (k : ClientState) (ended : Option Stop) (e : RunEvent) → ClientGood opened (record { state = k; ended = ended }) e → OwnXids opened k → OwnXids opened (client_state_after opened k e)
 unfolding client_state_after
 own_event opened k ended (FrameReceived f) good h = own_xids_came opened k f h
 own_event opened k ended (CallSubmitted p a) good h = own_xids_accepts opened k p a good.next h
-own_event opened k ended (MemoryRevoked p xid) good h = record { apart = apart_revoked xid k.outstanding h.apart; below = below_revoked xid (next_xid opened k) k.outstanding h.below }
+own_event opened k ended (MemoryRevoked p xid) good h = record { apart = apart_revoked xid k.outstanding h.apart; follow = both_after opened k (MemoryRevoked p xid) tt h.follow }
 own_event opened k ended (CallExecuted e) good h = h
 own_event opened k ended (QueueWritten taken) good h = own_xids_writes taken opened k h
 
@@ -137,7 +133,7 @@ closed_new x xid place (b ∷ bs) lt = ((λ own. absurd (omega (arith, own, lt))
 
 record HasClosedRegions (opened : LinkParameters) (x : ℕ) (k : ClientState) : Type 0 where
   regions : AreClosed x k.regions
-  low : x < next_xid opened k
+  low : x < k.next_xid
 
 closed_event : (opened : LinkParameters) (x : ℕ) (k : ClientState) (ended : Option Stop) (e : RunEvent) → ClientGood opened (record { state = k; ended = ended }) e → HasClosedRegions opened x k → HasClosedRegions opened x (client_state_after opened k e)
 unfolding client_state_after
@@ -145,7 +141,7 @@ closed_event opened x k ended (FrameReceived f) good h = by (is_hello f)
   where
     by : (b : Bool) → HasClosedRegions opened x (cond b (with_hello opened k f) (with_segment k f (frame_segment f)))
     by true = record { regions = h.regions; low = h.low }
-    by false = (let same = segment_accepted k f (frame_segment f) in let low = h.low in record {
+    by false = (let same = segment_next k f (frame_segment f) in let low = h.low in record {
       regions = frame_regions (λ (rs : List Region). AreClosed x rs) k f (λ test. closed_again test f.end x k.regions) h.regions (frame_segment f);
       low = omega (arith, same, low);
     })
@@ -166,16 +162,16 @@ closed_message k f s message x whole own =
     (subst (λ (o : Option (List ℕ)). AreClosed x (with_message k f.end o).regions) (sym whole)
     (subst (λ (n : ℕ). AreClosed x (regions_closed (λ r. eqb r.call n) f.end k.regions)) own (closed_now f.end x k.regions)))
 
-closed_frame : (opened : LinkParameters) (k : ClientState) (f : Frame) (s : Segment) (message : List ℕ) (x : ℕ) → is_hello f ≡ false → frame_segment f ≡ Ok s → message_completed k.received s ≡ Some message → x ≡ word_at 0 message → x < next_xid opened k
+closed_frame : (opened : LinkParameters) (k : ClientState) (f : Frame) (s : Segment) (message : List ℕ) (x : ℕ) → is_hello f ≡ false → frame_segment f ≡ Ok s → message_completed k.received s ≡ Some message → x ≡ word_at 0 message → x < k.next_xid
     → HasClosedRegions opened x (client_state_after opened k (FrameReceived f))
 unfolding client_state_after
 closed_frame opened k f s message x behind is whole own low =
     subst (λ (b : Bool). HasClosedRegions opened x (cond b (with_hello opened k f) (with_segment k f (frame_segment f)))) (sym behind)
     (subst (λ (r : Result Segment ℕ). HasClosedRegions opened x (with_segment k f r)) (sym is)
-    (let same = segment_accepted k f (Ok s) in record { regions = closed_message k f s message x whole own; low = omega (arith, same, low) }))
+    (let same = segment_next k f (Ok s) in record { regions = closed_message k f s message x whole own; low = omega (arith, same, low) }))
 
 start_own : (opened : LinkParameters) → OwnXids opened (initial_client opened).state
-start_own opened = record { apart = tt; below = tt }
+start_own opened = record { apart = tt; follow = both_first opened }
 
 closed_by_outcome : (opened : LinkParameters) (link : ℕ) (run : List Mark) (c : CompletedCall) → IsTyped run → AskedSoFar opened link run → WasGiven opened (events link Initiator run) c → HasClosedRegions opened c.xid (client opened link run).state
 unfolding client
@@ -188,7 +184,7 @@ closed_by_outcome opened link run c typed asked w =
     let rest = later_preserve rules (ClientGood opened) 0 (initial_client opened) w.earlier (FrameReceived w.frame ∷ w.later) all in
     let numbers : OwnXids opened k = keeps_all opened (λ (t : ClientState). OwnXids opened t) (own_event opened) 0 (initial_client opened) w.earlier (first_preserve rules (ClientGood opened) 0 (initial_client opened) w.earlier (FrameReceived w.frame ∷ w.later) all) (start_own opened) in
     let by : GivesBy k w.frame.end w.message c.xid (Some c.outcome) = gives_by k w.frame.end w.message c.xid (Some c.outcome) w.given in
-    let under = found_below _ (next_xid opened k) k.outstanding by.call by.is_call numbers.below in
+    let under = found_below _ k.next_xid k.outstanding by.call by.is_call (below_next opened k numbers.follow) in
     let same = by.call_xid in
     let now : HasClosedRegions opened c.xid (client_state_after opened k (FrameReceived w.frame)) =
     closed_frame opened k w.frame w.segment w.message c.xid w.behind w.is_segment w.whole (verdict_xid k w.frame.end w.message c.xid (Some c.outcome) w.given) (omega (arith, under, same)) in

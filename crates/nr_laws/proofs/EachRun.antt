@@ -21,6 +21,7 @@ use Rattle.nr_reduce.specs.Asked.{AskedMark, IsAll}
 use Rattle.nr_reduce.specs.Served.{ServedMark}
 use Rattle.nr_reduce.proofs.Steps.{client_one, server_one}
 use Rattle.nr_laws.specs.Typed.{TypedMark}
+use Rattle.nr_reduce.proofs.XidsFollow.{both_first}
 use Rattle.nr_laws.proofs.AgreedSizes.{up_limited, down_limited}
 use Rattle.nr_laws.proofs.FrameContents.FrameContent.{HelloFrame}
 use Rattle.nr_laws.proofs.TotalsAtClient.{totals_first}
@@ -72,7 +73,7 @@ starts opened link = record {
       parts_down = refl;
       counts = totals_first opened;
       waits = record { numbers = tt; xids = tt; calls_below = tt; reads_below = tt; ready_apart = tt; ready_calls = tt; whole_calls = tt };
-      outs = record { apart = tt; below = tt };
+      outs = record { apart = tt; follow = both_first opened };
       fits = tt;
       short = tt;
       stream_up = tt;
@@ -106,7 +107,7 @@ starts opened link = record {
       limits = record { up = (omega arith, omega arith); down = (omega arith, omega arith) };
     };
     sizes = record { client_up = (up_limited opened).0; client_down = λ e. absurd cc; server_up = λ some. absurd (omega (arith, some)); server_down = (down_limited opened).0 };
-    window = record { window = omega arith; grant = omega (arith, o.granted) };
+    window = record { window = omega arith; grant = omega (arith, o.granted); receives = o.receives };
     up_said = (tt, tt);
     down_said = tt;
     credit = refl;

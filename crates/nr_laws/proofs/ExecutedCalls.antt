@@ -80,7 +80,7 @@ received_message opened link run typed asked matched c rest es is own live =
 pub record ExecutedSubmit (opened : LinkParameters) (link : ℕ) (before : List Mark) (xid : ℕ) (payload : List ℕ) (h : IsExecuted opened link before xid payload) : Type 0 where
   pub was : WasConveyed opened (events link Responder before) (record { number = h.call.number; xid = xid; payload = payload })
   pub submitted : WasSubmitted opened link before (server_by opened was.own.earlier).received.sends was.own.message
-  pub number : h.call.number ≡ (client opened link submitted.earlier).state.calls_accepted + 1
+  pub number : h.call.number ≡ (client opened link submitted.earlier).state.sends + 1
   pub own_xid : submitted.xid ≡ xid
 
 pub live_server : (opened : LinkParameters) (link : ℕ) (before : List Mark) (r : ReadyCall) → next_call opened link before ≡ Some r → (server opened link before).ended ≡ None

@@ -1,14 +1,13 @@
 -- The lists of an outstanding call of a client that keeps its law have few segments: its Send has room for them.
-use Rattle.std.proofs.Common.{◌≡◌, ℕ, ◌+◌, ◌*◌, ◌≤◌, ◌<◌, Bool, true, false, cond, eqb, List, [], ◌∷◌, map, length, Option, None, Some, Result, Ok, Err, refl, sym, ap, subst, ◌∙◌, arith, eqb-true}
+use Rattle.std.proofs.Common.{◌≡◌, ℕ, ◌+◌, ◌*◌, ◌≤◌, ◌<◌, Bool, true, false, cond, eqb, List, [], ◌∷◌, map, Option, None, Some, Result, Ok, Err, refl, sym, ap, subst, ◌∙◌, arith, eqb-true}
 use Rattle.std.specs.List.{AllByRecursion}
-use Rattle.nr_header.specs.Constants.{HEADER_LEN_MIN, PAYLOAD_MAX}
+use Rattle.nr_header.specs.Constants.{HEADER_LEN_MIN}
 use Rattle.nr_wire.specs.Segment.{Segment}
 use Rattle.nr_link.specs.declared.end.End.{End as Stop}
 use Rattle.nr_link.specs.Frames.{Frame, is_hello}
 use Rattle.nr_link.specs.ReceiveState.{ReadRequest, message_completed, read_request_of}
 use Rattle.nr_link.specs.Ending.{frame_segment}
 use Rattle.nr_wire.specs.declared.hello.Side.TheVariants.{Initiator}
-use Rattle.nr_reduce.specs.declared.call.Form.{Form}
 use Rattle.nr_reduce.specs.declared.call.Form.TheVariants as forms
 use Rattle.nr_reduce.specs.declared.mark.LinkParameters.{LinkParameters}
 use Rattle.nr_reduce.specs.declared.outline.Plan.{Plan}
@@ -19,12 +18,12 @@ use Rattle.nr_reduce.specs.Events.{RunEvent, events}
 use Rattle.nr_reduce.specs.Events.RunEvent.{FrameReceived, CallSubmitted, MemoryRevoked, CallExecuted, QueueWritten}
 use Rattle.nr_reduce.specs.Hellos.{client_private, private_of, client_agreement}
 use Rattle.nr_reduce.specs.History.{AcceptedCall}
-use Rattle.nr_reduce.specs.Limits.{given_max, send_unit}
-use Rattle.nr_reduce.specs.Plans.{TooLarge, given_total, given_within, plan_in_form, plan_of, plan_size, reply_size, within, write_size}
+use Rattle.nr_reduce.specs.Limits.{send_unit}
+use Rattle.nr_reduce.specs.Plans.{TooLarge, plan_size, reply_size, write_size}
 use Rattle.nr_reduce.specs.Run.{client}
-use Rattle.nr_reduce.proofs.PlanKinds.{within_ok_lem}
 use Rattle.nr_laws.specs.Bounds.{ClientOffersFewSegments, chunk_segments, segments_in}
 use Rattle.nr_link.proofs.Agreements.{agreements_bounded}
+use Rattle.nr_laws.proofs.PlannedSizes.{planned_size}
 use Rattle.nr_laws.proofs.EventOutputs.{IsNext, along, place_after}
 use Rattle.nr_laws.proofs.ClientSays.{ClientGood}
 use Rattle.nr_laws.proofs.ClientRun.{client_goes}
@@ -34,24 +33,6 @@ use Rattle.nr_laws.proofs.Basics.{each_append, each_kept}
 -- the lists of a plan leave room in a Send of this length
 abbrev Fits : ℕ → Plan → Type 0
 Fits n p = HEADER_LEN_MIN + 16 * segments_in p ≤ n
-
-given_any : (form : Form) (answer : Result Plan TooLarge) (p : Plan) → given_within form answer ≡ Ok p → answer ≡ Ok p
-given_any forms.Auto answer p e = e
-given_any forms.Inline answer p e = e
-given_any forms.Chunk answer p e = e
-given_any forms.Long answer p e = e
-given_any (forms.Given offer) answer p e = (within_ok_lem (given_total offer) given_max answer p e).1
-
--- a plan that there is fits its Send
-plan_fits : (payload : List ℕ) (form : Form) (up down : ℕ) (p : Plan) → plan_of payload form up down ≡ Ok p → plan_size p ≤ up
-unfolding plan_of
-plan_fits payload form up down p e =
-    let q : Plan = plan_in_form payload form up down in
-    let sent : Result Plan TooLarge = within (plan_size q) up (Ok q) in
-    let a = within_ok_lem (length payload) PAYLOAD_MAX (given_within form sent) p e in
-    let b = within_ok_lem (plan_size q) up (Ok q) p (given_any form sent p a.1) in
-    let same : q ≡ p = (let s : Ok q ≡ Ok p = b.1 in cc) in
-    subst (λ (r : Plan). plan_size r ≤ up) same b.0
 
 write_room : (w : Option (List ℕ)) → 16 * chunk_segments w ≤ write_size w
 write_room None = omega arith
@@ -125,10 +106,10 @@ few_frame opened place k f next h None = by (is_hello f) refl
     by false is = few_segment place k f (frame_segment f) (let l = next.1 in omega (arith, l)) h
 
 few_call : (opened : LinkParameters) (place q : ℕ) (k : ClientState) (a : AcceptedCall) (plan : Plan) → plan_for k a.xid a.call a.form ≡ Ok plan → FewAt place k → FewAt place (client_state_after opened k (CallSubmitted q a))
-unfolding client_state_after plan_for
+unfolding client_state_after
 few_call opened place q k a plan planned h =
     let same : (outstanding_of k a).plan ≡ plan = ap (λ (r : Result Plan TooLarge). plan_or (call_payload a.xid a.call) r) planned in
-    let one : Fits k.up_max (outstanding_of k a).plan = subst (Fits k.up_max) (sym same) (few_in_plan k.up_max plan (plan_fits (call_payload a.xid a.call) a.form k.up_max k.down_max plan planned)) in
+    let one : Fits k.up_max (outstanding_of k a).plan = subst (Fits k.up_max) (sym same) (few_in_plan k.up_max plan (planned_size k a.xid a.call a.form plan planned)) in
     record { least = h.least; first = h.first; fit = each_append (λ (o : OutstandingCall). Fits k.up_max o.plan) k.outstanding (outstanding_of k a ∷ []) h.fit (one, tt) }
 
 few_step : (opened : LinkParameters) (place : ℕ) (k : ClientState) (ended : Option Stop) (e : RunEvent) → IsNext place e → ClientGood opened (record { state = k; ended = ended }) e → FewAt place k → FewAt (place_after place e) (next_end_state_in (client_rules opened) k e ended).state

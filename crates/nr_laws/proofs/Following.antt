@@ -26,6 +26,7 @@ use Rattle.nr_reduce.proofs.Placing.{places_rise, xids_differ}
 use Rattle.nr_reduce.proofs.Steps.{events_one}
 use Rattle.nr_laws.specs.Typed.{TypedMark, IsTyped}
 use Rattle.nr_laws.specs.Places.{PlacesFollow}
+use Rattle.nr_reduce.proofs.XidsFollow.{accepted_follows}
 use Rattle.nr_laws.proofs.HeaderXid.{answer_xid, chunk_error_xid}
 use Rattle.nr_laws.proofs.ServerAlong.{Said}
 use Rattle.nr_laws.proofs.ServerAlong.Said.{IsRefusal, IsAnswer, IsNoAnswer}
@@ -114,8 +115,8 @@ not_after opened link run before after mid rest xid outcome moment payload place
         let more = events_more link Responder before (done ∷ mid) in
         let all : events link Responder (before ++ done ∷ mid) ≡ s.earlier ++ FrameReceived s.frame ∷ (s.later ++ more.0) =
         more.1 ∙ ap (λ (es : List RunEvent). es ++ more.0) s.is ∙ append_assoc s.earlier (FrameReceived s.frame ∷ s.later) more.0 in
-        let p = r.submitted.accepted.next in
-        let q = x.submit.submitted.accepted.next in
+        let p = accepted_follows opened link r.submitted.earlier _ _ _ r.submitted.accepted in
+        let q = accepted_follows opened link x.submit.submitted.earlier _ _ _ x.submit.submitted.accepted in
         let m = r.submitted.counted in
         let n = x.submit.number in
         let u = r.xid in

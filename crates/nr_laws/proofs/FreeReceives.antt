@@ -17,16 +17,16 @@ said_some true n = omega arith
 said_some false n = omega arith
 
 -- a Send that is in transit is begun, or the receives in use are fewer than the calls that are out
-pub receives : (opened : LinkParameters) (k : ClientState) (s : ServerState) (w : Transit) → TotalsAgree k s w → WithinWindow opened k → 0 < total_of sends_in (w.up ++ w.queued_up) → (is_begun s.received.begun || ltb (receives_in_use s) opened.granted) ≡ true
+pub receives : (opened : LinkParameters) (k : ClientState) (s : ServerState) (w : Transit) → TotalsAgree k s w → WithinWindow opened k → 0 < total_of sends_in (w.up ++ w.queued_up) → (is_begun s.received.begun || ltb (receives_in_use s) opened.receives) ≡ true
 unfolding receives_in_use
 receives opened k s w c g some = by s.received.begun refl
   where
-    by : (b : Option (List ℕ)) → s.received.begun ≡ b → (is_begun b || ltb (receives_in_use s) opened.granted) ≡ true
+    by : (b : Option (List ℕ)) → s.received.begun ≡ b → (is_begun b || ltb (receives_in_use s) opened.receives) ≡ true
     by (Some bytes) is = refl
     by None is =
         let none : one_if (is_begun s.received.begun) ≡ 0 = ap (λ (b : Option (List ℕ)). one_if (is_begun b)) is in
-        lt-ltb (receives_in_use s) opened.granted
-        (omega (arith, none, c.calls_up, c.messages_down, c.messages, c.out, c.waiting, g.window, some, total_append sends_in w.up w.queued_up, said_some k.has_hello k.calls_accepted))
+        lt-ltb (receives_in_use s) opened.receives
+        (omega (arith, none, c.calls_up, c.messages_down, c.messages, c.out, c.waiting, g.window, g.receives, some, total_append sends_in w.up w.queued_up, said_some k.has_hello k.sends))
 
 -- a Read Request that is received finds fewer responses unwritten than there may be
 pub requests : (opened : LinkParameters) (k : ClientState) (s : ServerState) (w : Transit) → TotalsAgree k s w → 0 < total_of requests_in w.down → responses_owed k < open_reads_max

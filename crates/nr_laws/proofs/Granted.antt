@@ -18,7 +18,7 @@ use Rattle.nr_reduce.specs.AtEachMark.{AtEachMark}
 use Rattle.nr_reduce.specs.Credits.{WithinGrant, calls_outstanding, credits_granted}
 use Rattle.nr_reduce.specs.ClientState.{ClientState, plan_for}
 use Rattle.nr_reduce.specs.Run.{client}
-use Rattle.nr_reduce.specs.SubmitAnswer.{next_xid, unless_spent, by_plan, answer_by, submit_answer, submit_answer_after, unless_dropped}
+use Rattle.nr_reduce.specs.SubmitAnswer.{unless_spent, by_plan, answer_by, submit_answer, submit_answer_after, unless_dropped}
 use Rattle.nr_laws.specs.Grant.{AcceptedMark, SubmitsWithinGrant}
 
 not_dropped_lem : (b : Bool) (answer : Submission) (xid : ℕ) → unless_dropped b answer ≡ submissions.Accepted xid → answer ≡ submissions.Accepted xid
@@ -26,27 +26,27 @@ not_dropped_lem true answer xid e = absurd cc
 not_dropped_lem false answer xid e = e
 
 -- an accepted call found a credit
-granted : (opened : LinkParameters) (k : ClientState) (call : Call) (form : Form) (ended : Option Stop) (xid : ℕ) → answer_by opened k call form ended ≡ submissions.Accepted xid → length k.outstanding < k.grant
+granted : (opened : LinkParameters) (k : ClientState) (call : Call) (form : Form) (ended : Option Stop) (xid : ℕ) → answer_by k call form ended ≡ submissions.Accepted xid → length k.outstanding < k.grant
 granted opened k call form (Some end) xid e = absurd cc
-granted opened k call form None xid e = by_result (plan_for k (next_xid opened k) call form) e
+granted opened k call form None xid e = by_result (plan_for k k.next_xid call form) e
   where
     by_grant : (answer : Submission) (b : Bool) → leb k.grant (length k.outstanding) ≡ b → cond b (submissions.Refused (refusals.NoCredit (length k.outstanding) k.grant)) answer ≡ submissions.Accepted xid → length k.outstanding < k.grant
     by_grant answer true is e = absurd cc
     by_grant answer false is e = leb-false k.grant (length k.outstanding) is
 
-    by_result : (r : Result Plan TooLarge) → by_plan opened k r ≡ submissions.Accepted xid → length k.outstanding < k.grant
+    by_result : (r : Result Plan TooLarge) → by_plan k r ≡ submissions.Accepted xid → length k.outstanding < k.grant
     by_result (Ok plan) e =
-        by_grant (unless_spent (numbers_end - next_xid opened k) 1 (unless_spent (numbers_end - k.stag) (regions_needed plan) (submissions.Accepted (next_xid opened k)))) (leb k.grant (length k.outstanding)) refl e
+        by_grant (unless_spent (numbers_end - k.next_xid) 1 (unless_spent (numbers_end - k.stag) (regions_needed plan) (submissions.Accepted k.next_xid))) (leb k.grant (length k.outstanding)) refl e
     by_result (Err large) e = absurd cc
 
-within : (opened : LinkParameters) (link : ℕ) (before : List Mark) (call : Call) (form : Form) (xid : ℕ) → submit_answer opened (client opened link before) call form ≡ submissions.Accepted xid → calls_outstanding opened link before < credits_granted opened link before
+within : (opened : LinkParameters) (link : ℕ) (before : List Mark) (call : Call) (form : Form) (xid : ℕ) → submit_answer (client opened link before) call form ≡ submissions.Accepted xid → calls_outstanding opened link before < credits_granted opened link before
 unfolding submit_answer calls_outstanding credits_granted
 within opened link before call form xid e = granted opened (client opened link before).state call form (client opened link before).ended xid e
 
 mark_within : (opened : LinkParameters) (link : ℕ) (before : List Mark) (mark : Mark) → AcceptedMark opened link before mark → WithinGrant opened link before mark
 unfolding submit_answer_after
 mark_within opened link before (marks.Submit l call form (submissions.Accepted xid)) a = λ same.
-    within opened link before call form xid (not_dropped_lem (is_dropped link before) (submit_answer opened (client opened link before) call form) xid (a same))
+    within opened link before call form xid (not_dropped_lem (is_dropped link before) (submit_answer (client opened link before) call form) xid (a same))
 mark_within opened link before (marks.Submit l call form (submissions.Refused why)) a = tt
 mark_within opened link before (marks.Submit l call form submissions.Dropped) a = tt
 mark_within opened link before (marks.Fed l s bytes) a = tt

@@ -184,7 +184,7 @@ guards_hello_down opened k s u d all_up all_down w place rest f l g first is own
     let after = after_hello opened k f is in
     let none : hello_bit k.has_hello ≡ 0 = omega (arith, l.counts.hello, ap (total_of hellos_in) first) in
     let no_hello_numbered : k.has_hello ≡ false = bit_of k.has_hello none in
-    let sends : total_of sends_in all_up ≡ 0 = calls_said opened k s u d all_up all_down w l ∙ ap (λ (b : Bool). cond b k.calls_accepted 0) no_hello_numbered in
+    let sends : total_of sends_in all_up ≡ 0 = calls_said opened k s u d all_up all_down w l ∙ ap (λ (b : Bool). cond b k.sends 0) no_hello_numbered in
     let asked : XidsFrom (opened.first_xid + total_of sends_in all_up) said =
     subst (λ (n : ℕ). XidsFrom n said) (let same : opened.first_xid ≡ opened.first_xid + total_of sends_in all_up = omega (arith, sends) in same)
     (xids_asked opened opened.first_xid k.outstanding (g.no_hello_numbered no_hello_numbered) (own_xids opened k.outstanding g.calls)) in
@@ -197,8 +197,8 @@ guards_hello_down opened k s u d all_up all_down w place rest f l g first is own
       limits = g.server.limits;
     } in
     subst (λ (ps : List FrameContent). Guards opened t s u (d ++ HelloFrame ∷ []) (all_up ++ ps) all_down (down_one w ps rest) place) (sym says)
-    (guards_down opened k t s u d all_up all_down w place HelloFrame rest said (FrameReceived f) g server (subst (WithinWindow opened) (sym after) (record { window = g.window.window; grant = g.window.grant })) (asks_up opened k.outstanding g.calls) (subst (λ (x : ClientState). SizesAgree opened x s u) (sym after) (client_takes_sizes opened k s u f own g.sizes)) (subst (λ (x : ClientState). AreSized opened x.outstanding) (sym after) g.calls) asked (ap (λ (x : ClientState). x.has_hello) after)
-    (answered_same opened.first_xid k t s u d all_down w (down_one w said rest) HelloFrame (ap (λ (x : ClientState). x.outstanding) after) (ap (λ (x : ClientState). x.calls_accepted) after) refl g.answered) stays refl)
+    (guards_down opened k t s u d all_up all_down w place HelloFrame rest said (FrameReceived f) g server (subst (WithinWindow opened) (sym after) (record { window = g.window.window; grant = g.window.grant; receives = g.window.receives })) (asks_up opened k.outstanding g.calls) (subst (λ (x : ClientState). SizesAgree opened x s u) (sym after) (client_takes_sizes opened k s u f own g.sizes)) (subst (λ (x : ClientState). AreSized opened x.outstanding) (sym after) g.calls) asked (ap (λ (x : ClientState). x.has_hello) after)
+    (answered_same opened.first_xid k t s u d all_down w (down_one w said rest) HelloFrame (ap (λ (x : ClientState). x.outstanding) after) (ap (λ (x : ClientState). x.sends) after) refl g.answered) stays refl)
 
 pub guards_send_down : (opened : LinkParameters) (k : ClientState) (s : ServerState) (u d all_up all_down : List FrameContent) (w : Transit) (place : ℕ) (message : SentMessage) (rest : List FrameContent) (f : Frame) → IsOpened opened → EndsAgree opened k s u d all_up all_down w → Guards opened k s u d all_up all_down w place → w.down ≡ SendFrame message ∷ rest
     → Carries k.received.sends k.received.requests f (SendFrame message) → k.has_hello ≡ true → client_end k (FrameReceived f) ≡ None
@@ -217,6 +217,7 @@ guards_send_down opened k s u d all_up all_down w place message rest f o l g fir
     let window : WithinWindow opened (with_segment k f (Ok segment)) = record {
       window = omega (arith, fewer, g.window.window);
       grant = omega (arith, grant, credits_same opened.granted o.granted o.granted_fits);
+      receives = g.window.receives;
     } in
     let server : ServerAgrees opened t s (down_one w [] rest) place = record {
       counts = subst (λ (ps : List FrameContent). TotalsAgree t s (down_one w ps rest)) says (totals_send_down opened k s w f message rest g.server.counts first piece stays l.outs.apart);
@@ -229,7 +230,7 @@ guards_send_down opened k s u d all_up all_down w place message rest f o l g fir
     subst (λ (ps : List FrameContent). Guards opened t s u (d ++ SendFrame message ∷ []) (all_up ++ ps) all_down (down_one w ps rest) place) (sym says)
     (guards_down opened k t s u d all_up all_down w place (SendFrame message) rest [] (FrameReceived f) g server (subst (WithinWindow opened) (sym after) window) tt (client_keeps_sizes opened k t s u f (Ok segment) after hello g.sizes) (sized_frame opened k t f (Ok segment) after g.calls) tt (behind_hello_lem opened k t s u d all_up all_down w f (Ok segment) after hello)
     (answered_message_lem opened.first_xid k t s u d all_down w (down_one w [] rest) message
-    (ap (λ (x : ClientState). x.outstanding) after ∙ ap (λ (xs : List ℕ). filter (λ (o : OutstandingCall). not (eqb o.xid (word_at 0 xs))) k.outstanding) same) (ap (λ (x : ClientState). x.calls_accepted) after) g.answered) stays refl)
+    (ap (λ (x : ClientState). x.outstanding) after ∙ ap (λ (xs : List ℕ). filter (λ (o : OutstandingCall). not (eqb o.xid (word_at 0 xs))) k.outstanding) same) (ap (λ (x : ClientState). x.sends) after) g.answered) stays refl)
   where
     filter_less : (p : OutstandingCall → Bool) (os : List OutstandingCall) → length (filter p os) ≤ length os
     filter_less p [] = omega arith
@@ -288,9 +289,9 @@ guards_read_down opened k s u d all_up all_down w place sink at size stag to res
       regions = g.server.regions;
       limits = g.server.limits;
     } in
-    guards_down opened k t s u d all_up all_down w place (RequestFrame sink at size stag to) rest said (FrameReceived f) g server (subst (WithinWindow opened) (sym after) (record { window = g.window.window; grant = g.window.grant }))
+    guards_down opened k t s u d all_up all_down w place (RequestFrame sink at size stag to) rest said (FrameReceived f) g server (subst (WithinWindow opened) (sym after) (record { window = g.window.window; grant = g.window.grant; receives = g.window.receives }))
     (tagged_up opened k f (Ok segment) piece.behind reads) (client_keeps_sizes opened k t s u f (Ok segment) after hello g.sizes) (sized_frame opened k t f (Ok segment) after g.calls) (tagged_xids (opened.first_xid + total_of sends_in all_up) opened k f (Ok segment) piece.behind reads) (behind_hello_lem opened k t s u d all_up all_down w f (Ok segment) after hello)
-    (answered_same opened.first_xid k t s u d all_down w (down_one w said rest) (RequestFrame sink at size stag to) (ap (λ (x : ClientState). x.outstanding) after) (ap (λ (x : ClientState). x.calls_accepted) after) refl g.answered) stays refl
+    (answered_same opened.first_xid k t s u d all_down w (down_one w said rest) (RequestFrame sink at size stag to) (ap (λ (x : ClientState). x.outstanding) after) (ap (λ (x : ClientState). x.sends) after) refl g.answered) stays refl
   where
     ap_regions : (opened : LinkParameters) (k : ClientState) (es : List RunEvent) → end_state_after (client_rules opened) (initial_client opened) es ≡ live k
         → AreNumbered opened.first_stag (end_state_after (client_rules opened) (initial_client opened) es).state.regions → AreNumbered opened.first_stag k.regions
@@ -315,8 +316,8 @@ guards_part_down opened k s u d all_up all_down w place offset payload rest f g 
       limits = g.server.limits;
     } in
     subst (λ (ps : List FrameContent). Guards opened t s u (d ++ PartFrame offset payload ∷ []) (all_up ++ ps) all_down (down_one w ps rest) place) (sym says)
-    (guards_down opened k t s u d all_up all_down w place (PartFrame offset payload) rest [] (FrameReceived f) g server (subst (WithinWindow opened) (sym after) (record { window = g.window.window; grant = g.window.grant })) tt (client_keeps_sizes opened k t s u f (Ok segment) after hello g.sizes) (sized_frame opened k t f (Ok segment) after g.calls) tt (behind_hello_lem opened k t s u d all_up all_down w f (Ok segment) after hello)
-    (answered_same opened.first_xid k t s u d all_down w (down_one w [] rest) (PartFrame offset payload) (ap (λ (x : ClientState). x.outstanding) after) (ap (λ (x : ClientState). x.calls_accepted) after) refl g.answered) stays refl)
+    (guards_down opened k t s u d all_up all_down w place (PartFrame offset payload) rest [] (FrameReceived f) g server (subst (WithinWindow opened) (sym after) (record { window = g.window.window; grant = g.window.grant; receives = g.window.receives })) tt (client_keeps_sizes opened k t s u f (Ok segment) after hello g.sizes) (sized_frame opened k t f (Ok segment) after g.calls) tt (behind_hello_lem opened k t s u d all_up all_down w f (Ok segment) after hello)
+    (answered_same opened.first_xid k t s u d all_down w (down_one w [] rest) (PartFrame offset payload) (ap (λ (x : ClientState). x.outstanding) after) (ap (λ (x : ClientState). x.sends) after) refl g.answered) stays refl)
 
 pub guards_tagged_down : (opened : LinkParameters) (k : ClientState) (s : ServerState) (u d all_up all_down : List FrameContent) (w : Transit) (place : ℕ) (last : Bool) (opcode stag to : ℕ) (payload : List ℕ) (rest : List FrameContent) (f : Frame) → Guards opened k s u d all_up all_down w place
     → w.down ≡ TaggedFrame last opcode stag to payload ∷ rest → Carries k.received.sends k.received.requests f (TaggedFrame last opcode stag to payload) → k.has_hello ≡ true → client_end k (FrameReceived f) ≡ None
@@ -336,5 +337,5 @@ guards_tagged_down opened k s u d all_up all_down w place last opcode stag to pa
       limits = g.server.limits;
     } in
     subst (λ (ps : List FrameContent). Guards opened t s u (d ++ TaggedFrame last opcode stag to payload ∷ []) (all_up ++ ps) all_down (down_one w ps rest) place) (sym says)
-    (guards_down opened k t s u d all_up all_down w place (TaggedFrame last opcode stag to payload) rest [] (FrameReceived f) g server (subst (WithinWindow opened) (sym after) (record { window = g.window.window; grant = g.window.grant })) tt (client_keeps_sizes opened k t s u f (Ok segment) after hello g.sizes) (sized_frame opened k t f (Ok segment) after g.calls) tt (behind_hello_lem opened k t s u d all_up all_down w f (Ok segment) after hello)
-    (answered_same opened.first_xid k t s u d all_down w (down_one w [] rest) (TaggedFrame last opcode stag to payload) (ap (λ (x : ClientState). x.outstanding) after) (ap (λ (x : ClientState). x.calls_accepted) after) refl g.answered) stays refl)
+    (guards_down opened k t s u d all_up all_down w place (TaggedFrame last opcode stag to payload) rest [] (FrameReceived f) g server (subst (WithinWindow opened) (sym after) (record { window = g.window.window; grant = g.window.grant; receives = g.window.receives })) tt (client_keeps_sizes opened k t s u f (Ok segment) after hello g.sizes) (sized_frame opened k t f (Ok segment) after g.calls) tt (behind_hello_lem opened k t s u d all_up all_down w f (Ok segment) after hello)
+    (answered_same opened.first_xid k t s u d all_down w (down_one w [] rest) (TaggedFrame last opcode stag to payload) (ap (λ (x : ClientState). x.outstanding) after) (ap (λ (x : ClientState). x.sends) after) refl g.answered) stays refl)

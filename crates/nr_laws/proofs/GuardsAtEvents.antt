@@ -1,4 +1,5 @@
 -- The guards of both ends are kept when a call is submitted or executed, memory is revoked, and a queue is written.
+use Rattle.nr_laws.proofs.PlannedSizes.{planned_message}
 use Rattle.nr_laws.proofs.OneChunk.{one_chunk}
 use Rattle.std.proofs.Common.{◌≡◌, ℕ, ◌+◌, ◌≤◌, ◌<◌, ◌^◌, Bool, true, false, cond, not, eqb, List, [], ◌∷◌, ◌++◌, length, map, Option, None, Ok, refl, sym, ap, subst, ◌∙◌, arith, length-append, append-nil}
 use Rattle.nr_rpc.specs.Reading.{call_of, target_of}
@@ -9,7 +10,7 @@ use Rattle.nr_reduce.specs.declared.mark.LinkParameters.{LinkParameters}
 use Rattle.nr_reduce.specs.declared.outline.Plan.{Plan}
 use Rattle.nr_reduce.specs.Opening.{IsOpened}
 use Rattle.nr_reduce.specs.Limits.{numbers_end}
-use Rattle.nr_reduce.specs.Plans.{plan_size, call_message}
+use Rattle.nr_reduce.specs.Plans.{call_message}
 use Rattle.nr_reduce.specs.History.{AcceptedCall, ExecutedCall}
 use Rattle.nr_reduce.specs.Events.{RunEvent}
 use Rattle.nr_reduce.specs.Events.RunEvent.{CallSubmitted, MemoryRevoked, CallExecuted, QueueWritten}
@@ -19,7 +20,6 @@ use Rattle.nr_reduce.specs.ServerState.{ServerState, ReadyCall}
 use Rattle.nr_reduce.specs.Client.{client_rules, client_end, client_state_after, initial_client, outstanding_of, revoked_call}
 use Rattle.nr_reduce.specs.Server.{server_state_after}
 use Rattle.nr_reduce.proofs.Steps.{end_state_after_append}
-use Rattle.nr_reduce.proofs.Sizes.{message_size}
 use Rattle.nr_laws.proofs.FrameContents.{FrameContent, client_frames, server_frames, send_frames}
 use Rattle.nr_laws.proofs.LinkInvariants.{Transit}
 use Rattle.nr_laws.proofs.TotalsAtClient.{up_more, totals_accepts, totals_writes_up}
@@ -28,10 +28,9 @@ use Rattle.nr_laws.proofs.EventsAtServer.{server_executes, server_writes}
 use Rattle.nr_laws.proofs.ServerOutputs.{CallsFit}
 use Rattle.nr_laws.proofs.OwnEvents.{planned, totals_revoked, xid_revoked}
 use Rattle.nr_laws.proofs.AgreeingEnds.{EndsAgree}
-use Rattle.nr_reduce.specs.SubmitAnswer.{next_xid}
 use Rattle.nr_laws.proofs.FrameContents.{total_of, sends_in}
 use Rattle.nr_laws.proofs.CallWords.{call_words_lem}
-use Rattle.nr_laws.proofs.CallNumbers.{XidsFrom, xids_append, own_xids_push, own_xids_map, IsNumbered, send_xids_from}
+use Rattle.nr_laws.proofs.CallNumbers.{XidsFrom, xids_append, numbered_push, numbered_map, IsNumbered, send_xids_from}
 use Rattle.nr_laws.proofs.ClientFrame.{calls_said}
 use Rattle.nr_reduce.specs.Server.{offer_of, answer_of_target}
 use Rattle.nr_laws.proofs.PendingExecuted.{executed_there}
@@ -59,9 +58,8 @@ reached_more opened k event stays r = (
 -- ---- A call is submitted
 
 sized_call : (opened : LinkParameters) (k : ClientState) (a : AcceptedCall) (plan : Plan) → plan_for k a.xid a.call a.form ≡ Ok plan → a.xid < numbers_end → k.up_max ≤ matched_up opened → IsAsked opened (outstanding_of k a)
-unfolding plan_for plan_size
 sized_call opened k a plan is lt up =
-    let size = message_size (call_payload a.xid a.call) a.form k.up_max k.down_max a.xid opened.wished k.stag plan is in
+    let size = planned_message k a.xid opened.wished k.stag a.call a.form plan is in
     let words = call_words_lem a.xid opened.wished k.stag (outstanding_of k a).plan lt in
     let fits = subst (λ (p : Plan). (16 ≤ length (call_message a.xid opened.wished k.stag p)) × (length (call_message a.xid opened.wished k.stag p) ≤ matched_up opened))
     (sym (planned (call_payload a.xid a.call) (plan_for k a.xid a.call a.form) plan is)) (omega (arith, size.0), omega (arith, size.1, up)) in
@@ -75,7 +73,7 @@ up_says : (opened : LinkParameters) (b : Bool) (message : List ℕ) → ClientMe
 up_says opened true message h = each_send (ClientContent opened) (λ offset payload. tt) message h
 up_says opened false message h = tt
 
-pub guards_submit : (opened : LinkParameters) (k : ClientState) (s : ServerState) (u d all_up all_down : List FrameContent) (w : Transit) (up place : ℕ) (a : AcceptedCall) (plan : Plan) → EndsAgree opened k s u d all_up all_down w → Guards opened k s u d all_up all_down w up → plan_for k a.xid a.call a.form ≡ Ok plan → a.xid ≡ next_xid opened k → a.xid < numbers_end → length k.outstanding < k.grant
+pub guards_submit : (opened : LinkParameters) (k : ClientState) (s : ServerState) (u d all_up all_down : List FrameContent) (w : Transit) (up place : ℕ) (a : AcceptedCall) (plan : Plan) → EndsAgree opened k s u d all_up all_down w → Guards opened k s u d all_up all_down w up → plan_for k a.xid a.call a.form ≡ Ok plan → a.xid ≡ k.next_xid → a.xid < numbers_end → length k.outstanding < k.grant
     → Guards opened (client_state_after opened k (CallSubmitted place a)) s u d (all_up ++ client_frames opened k (CallSubmitted place a)) all_down (up_more w (client_frames opened k (CallSubmitted place a))) up
 unfolding client_state_after client_frames client_end
 guards_submit opened k s u d all_up all_down w up place a plan l g is own lt room =
@@ -93,7 +91,7 @@ guards_submit opened k s u d all_up all_down w up place a plan l g is own lt roo
         limits = g.server.limits;
       };
       sizes = record { client_up = g.sizes.client_up; client_down = g.sizes.client_down; server_up = g.sizes.server_up; server_down = g.sizes.server_down };
-      window = record { window = omega (arith, g.window.grant, room, length-append k.outstanding (outstanding_of k a ∷ [])); grant = g.window.grant };
+      window = record { window = omega (arith, g.window.grant, room, length-append k.outstanding (outstanding_of k a ∷ [])); grant = g.window.grant; receives = g.window.receives };
       up_said = each_append (ClientContent opened) all_up said g.up_said (up_says opened k.has_hello message one.0);
       down_said = g.down_said;
       credit = g.credit;
@@ -101,16 +99,19 @@ guards_submit opened k s u d all_up all_down w up place a plan l g is own lt roo
       within = g.within;
       sinks = g.sinks;
       xids = xids_append opened.first_xid all_up said g.xids (new_xid k.has_hello refl);
-      no_hello_numbered = λ e. own_xids_push opened.first_xid k.outstanding (outstanding_of k a) (g.no_hello_numbered e) (omega (arith, own, all_waiting e));
+      no_hello_numbered = λ e. numbered_push (λ (o : OutstandingCall). o.xid) opened.first_xid k.outstanding (outstanding_of k a) (g.no_hello_numbered e) (omega (arith, number, all_waiting e));
       numbers = g.numbers;
-      answered = answered_submit opened.first_xid k t s u d all_down w (up_more w said) (outstanding_of k a) refl refl own lt g.answered;
+      answered = answered_submit opened.first_xid k t s u d all_down w (up_more w said) (outstanding_of k a) refl refl number lt g.answered;
       reached = reached_more opened k (CallSubmitted place a) refl g.reached;
     }
   where
+    number : a.xid ≡ opened.first_xid + k.sends
+    number = own ∙ l.outs.follow.0
+
     -- before the hello all accepted calls are outstanding
-    all_waiting : k.has_hello ≡ false → length k.outstanding ≡ k.calls_accepted
+    all_waiting : k.has_hello ≡ false → length k.outstanding ≡ k.sends
     all_waiting e =
-        let none : total_of sends_in all_up ≡ 0 = calls_said opened k s u d all_up all_down w l ∙ ap (λ (b : Bool). cond b k.calls_accepted 0) e in
+        let none : total_of sends_in all_up ≡ 0 = calls_said opened k s u d all_up all_down w l ∙ ap (λ (b : Bool). cond b k.sends 0) e in
         omega (arith, none, l.counts.calls_up, calls_said opened k s u d all_up all_down w l, l.counts.waiting, l.counts.messages_down, l.counts.out)
 
     message : List ℕ
@@ -118,9 +119,9 @@ guards_submit opened k s u d all_up all_down w up place a plan l g is own lt roo
 
     new_xid : (b : Bool) → k.has_hello ≡ b → XidsFrom (opened.first_xid + total_of sends_in all_up) (cond k.has_hello (send_frames message) [])
     new_xid true e =
-        let sends : total_of sends_in all_up ≡ k.calls_accepted = calls_said opened k s u d all_up all_down w l ∙ ap (λ (b : Bool). cond b k.calls_accepted 0) e in
+        let sends : total_of sends_in all_up ≡ k.sends = calls_said opened k s u d all_up all_down w l ∙ ap (λ (b : Bool). cond b k.sends 0) e in
         subst (λ (b : Bool). XidsFrom (opened.first_xid + total_of sends_in all_up) (cond b (send_frames message) [])) (sym e)
-        (send_xids_from (opened.first_xid + total_of sends_in all_up) message ((sized_call opened k a plan is lt g.sizes.client_up).1 ∙ omega (arith, own, sends)))
+        (send_xids_from (opened.first_xid + total_of sends_in all_up) message ((sized_call opened k a plan is lt g.sizes.client_up).1 ∙ omega (arith, number, sends)))
     new_xid false e = subst (λ (b : Bool). XidsFrom (opened.first_xid + total_of sends_in all_up) (cond b (send_frames message) [])) (sym e) tt
 
 -- ---- Memory is revoked, and a queue is written
@@ -139,7 +140,7 @@ unfolding client_state_after client_end
 guards_revoke opened k s u d all_up all_down w up place xid g = record {
   server = record { counts = totals_revoked opened k s w place xid g.server.counts; reads = g.server.reads; waits = g.server.waits; sinks = g.server.sinks; regions = g.server.regions; limits = g.server.limits };
   sizes = record { client_up = g.sizes.client_up; client_down = g.sizes.client_down; server_up = g.sizes.server_up; server_down = g.sizes.server_down };
-  window = record { window = omega (arith, g.window.window, length-map k.outstanding (revoked_call xid)); grant = g.window.grant };
+  window = record { window = omega (arith, g.window.window, length-map k.outstanding (revoked_call xid)); grant = g.window.grant; receives = g.window.receives };
   up_said = g.up_said;
   down_said = g.down_said;
   credit = g.credit;
@@ -147,7 +148,7 @@ guards_revoke opened k s u d all_up all_down w up place xid g = record {
   within = g.within;
   sinks = g.sinks;
   xids = g.xids;
-  no_hello_numbered = λ e. own_xids_map (revoked_call xid) opened.first_xid k.outstanding (xid_revoked xid) (g.no_hello_numbered e);
+  no_hello_numbered = λ e. numbered_map (λ (o : OutstandingCall). o.xid) (revoked_call xid) opened.first_xid k.outstanding (xid_revoked xid) (g.no_hello_numbered e);
   numbers = g.numbers;
   answered = answered_map opened.first_xid (revoked_call xid) k (client_state_after opened k (MemoryRevoked place xid)) s u d all_down w w refl (xid_revoked xid) refl g.answered;
   reached = reached_more opened k (MemoryRevoked place xid) refl g.reached;
@@ -159,7 +160,7 @@ unfolding client_state_after client_end
 guards_written_up opened k s u d all_up all_down w up taken all ends g = record {
   server = record { counts = totals_writes_up opened k s w taken all ends g.server.counts; reads = reads_writes_up s w g.server.reads; waits = g.server.waits; sinks = g.server.sinks; regions = g.server.regions; limits = g.server.limits };
   sizes = record { client_up = g.sizes.client_up; client_down = g.sizes.client_down; server_up = g.sizes.server_up; server_down = g.sizes.server_down };
-  window = record { window = g.window.window; grant = g.window.grant };
+  window = record { window = g.window.window; grant = g.window.grant; receives = g.window.receives };
   up_said = g.up_said;
   down_said = g.down_said;
   credit = g.credit;

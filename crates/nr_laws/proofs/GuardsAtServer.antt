@@ -85,10 +85,10 @@ guards_up opened k s t u d all_up all_down w place end p rest said g server down
 }
 
 -- a pending call has the xid of a call that was received, which is a word
-pub sent_most : (k : ClientState) → calls_sent k ≤ k.calls_accepted
+pub sent_most : (k : ClientState) → calls_sent k ≤ k.sends
 sent_most k = by k.has_hello
   where
-    by : (b : Bool) → cond b k.calls_accepted 0 ≤ k.calls_accepted
+    by : (b : Bool) → cond b k.sends 0 ≤ k.sends
     by true = omega arith
     by false = omega arith
 
@@ -109,7 +109,7 @@ counted_word opened k s u d all_up all_down w place xid l g some =
     let sent = calls_said opened k s u d all_up all_down w l in
     by (cases_lt xid (opened.first_xid + s.received.sends)) (omega (arith, sent, sent_most k, l.sends_up, ap (total_of sends_in) l.parts_up, total_append sends_in u (w.up ++ w.queued_up)))
   where
-    by : (xid < opened.first_xid + s.received.sends) ⊎ (opened.first_xid + s.received.sends ≤ xid) → s.received.sends ≤ k.calls_accepted → xid < 2 ^ 32
+    by : (xid < opened.first_xid + s.received.sends) ⊎ (opened.first_xid + s.received.sends ≤ xid) → s.received.sends ≤ k.sends → xid < 2 ^ 32
     by (inl lt) few = omega (arith, lt, few, g.answered.room)
     by (inr le) few = absurd (omega (arith, some, g.answered.later xid le))
 

@@ -16,7 +16,7 @@ use Rattle.nr_reduce.specs.Events.RunEvent.{FrameReceived}
 use Rattle.nr_reduce.specs.EndRules.{end_state_after}
 use Rattle.nr_reduce.specs.Plans.{lists_of}
 use Rattle.nr_reduce.specs.ChunkBytes.{IsOffer, lists_by}
-use Rattle.nr_reduce.specs.ClientState.{call_payload, plan_for}
+use Rattle.nr_reduce.specs.ClientState.{call_payload}
 use Rattle.nr_reduce.specs.Asked.{AskedSoFar}
 use Rattle.nr_reduce.specs.Run.{client}
 use Rattle.nr_reduce.specs.ServerState.{ServerState, PendingCall}
@@ -59,7 +59,6 @@ pub record PendingOffer (c : PendingCall) (stag : ℕ) (plan : Plan) : Type 0 wh
 pub pending_offer : (opened : LinkParameters) (link : ℕ) (run before : List Mark) (mark : Mark) (after : List Mark) (xid : ℕ) (plan : Plan) → IsTyped before → MatchedSoFar opened link before → AskedSoFar opened link run → run ≡ before ++ mark ∷ after
     → (h : HasPlan opened link run xid plan) → (es rest : List RunEvent) → events link Responder before ≡ es ++ rest → (end_state_after (server_rules opened) (initial_server opened) es).ended ≡ None
     → (c : PendingCall) → find (λ (x : PendingCall). eqb x.xid xid) (server_by opened es).calls ≡ Some c → PendingOffer c (client opened link h.before).state.stag plan
-unfolding plan_for
 pending_offer opened link run before mark after xid plan typed far asked_so is h es rest all live c there =
     let known : Known opened es (server_by opened es) = known_from opened [] es (record { calls = tt; ready = tt }) in
     let found = found_call (IsReceivedCall opened es) xid (server_by opened es).calls c known.calls there in

@@ -162,6 +162,7 @@ pub mod OtherReasons
 pub mod PendingReads
 pub mod KeptAtServer
 pub mod PlannedOffers
+pub mod PlannedSizes
 pub mod ChunkCauses
 pub mod AnsweredChanges
 pub mod OwnPlans

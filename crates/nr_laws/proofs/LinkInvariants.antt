@@ -32,7 +32,7 @@ AreDistinct key (x ∷ xs) = IsUnused key (key x) xs × AreDistinct key xs
 
 -- how many calls the client has sent: none before the server's hello
 abbrev pub calls_sent : ClientState → ℕ
-calls_sent k = if k.has_hello then k.calls_accepted else 0
+calls_sent k = if k.has_hello then k.sends else 0
 
 abbrev pub hello_bit : Bool → ℕ
 hello_bit true = 1
@@ -63,7 +63,7 @@ pub record TotalsAgree (k : ClientState) (s : ServerState) (w : Transit) : Type 
   pub within_up : k.written ≤ k.due
   pub within_down : s.written ≤ s.due
   -- each message that was received answered one call; each Send that was received is answered or its call is pending
-  pub out : k.received.sends + length k.outstanding ≡ k.calls_accepted
+  pub out : k.received.sends + length k.outstanding ≡ k.sends
   pub waiting : s.messages_queued + length s.calls ≡ s.received.sends
   -- the Send that is begun goes on in transit, and each that is in transit is its message in segments
   pub whole_up : AreSends s.received.begun (w.up ++ w.queued_up)
@@ -71,10 +71,11 @@ pub record TotalsAgree (k : ClientState) (s : ServerState) (w : Transit) : Type 
   -- an open read has its Read Request or its Read Response in transit
   pub reads : length (open_reads s) ≡ (total_of requests_in w.down + total_of requests_in w.queued_down) + (total_of responses_in w.up + total_of responses_in w.queued_up)
 
--- The client keeps the grant, which is how many receives the server has (RFC 8166 section 3.3).
+-- The client keeps the grant, and the server has as many receives (RFC 8166 section 3.3).
 pub record WithinWindow (opened : LinkParameters) (k : ClientState) : Type 0 where
   pub window : length k.outstanding ≤ opened.granted
   pub grant : k.grant ≤ opened.granted
+  pub receives : opened.granted ≤ opened.receives
 
 -- ---- Read Requests and their Read Responses
 

@@ -34,5 +34,5 @@ pub quiet : (opened : LinkParameters) (k : ClientState) (s : ServerState) → To
 quiet opened k s c h none =
     let no_reads : s.reads ≡ [] = none_open s.reads c.reads in
     let no_calls : length s.calls ≡ 0 = ap (λ (cs : List PendingCall). length cs) (none_waits s.reads s.ready s.calls no_reads none h) in
-    let all : calls_sent k ≡ k.calls_accepted = greeted_is k.has_hello k.calls_accepted (omega (arith, c.hello)) in
+    let all : calls_sent k ≡ k.sends = greeted_is k.has_hello k.sends (omega (arith, c.hello)) in
     nothing_left k.outstanding (omega (arith, c.out, c.calls_up, c.messages_down, c.waiting, no_calls, all))

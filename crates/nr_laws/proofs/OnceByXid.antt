@@ -14,6 +14,7 @@ use Rattle.nr_reduce.proofs.Placing.{AtEachMark_at}
 use Rattle.nr_reduce.proofs.Once.{executes_once}
 use Rattle.nr_laws.specs.Typed.{TypedMark, IsTyped}
 use Rattle.nr_laws.specs.Once.{NoXidTwice}
+use Rattle.nr_reduce.proofs.XidsFollow.{accepted_follows}
 use Rattle.nr_laws.proofs.ExecutedCalls.{ExecutedSubmit, executed_submit}
 
 -- a mark of a run, with what holds of the marks before it
@@ -46,8 +47,8 @@ no_xid_twice opened link run before between xid yid moment now payload asked pla
     let whole : run ≡ before ++ first ∷ (between ++ second ∷ h.after) = h.is ∙ append_assoc before (first ∷ between) (second ∷ h.after) in
     let a = executed_at_lem opened link run before (between ++ second ∷ h.after) xid moment payload place reply typed far whole in
     let b = executed_at_lem opened link run (before ++ first ∷ between) h.after yid now asked later answer typed far h.is in
-    let p = a.submit.submitted.accepted.next in
-    let q = b.submit.submitted.accepted.next in
+    let p = accepted_follows opened link a.submit.submitted.earlier _ _ _ a.submit.submitted.accepted in
+    let q = accepted_follows opened link b.submit.submitted.earlier _ _ _ b.submit.submitted.accepted in
     let x = a.submit.own_xid in
     let y = b.submit.own_xid in
     let m = a.submit.number in

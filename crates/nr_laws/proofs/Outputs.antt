@@ -189,7 +189,7 @@ response_outputs k place (Some r) = map ASegment (response_segments r.sink r.sin
 
 unfoldable pub client_says : LinkParameters → ClientState → RunEvent → List Output
 client_says opened k (FrameReceived f) = cond (is_hello f) (call_sends opened 1 k.outstanding) (response_outputs k f.end (segment_request (frame_segment f)))
-client_says opened k (CallSubmitted place a) = cond k.has_hello (message_outputs (k.calls_accepted + 1) (message_of_call opened (outstanding_of k a))) []
+client_says opened k (CallSubmitted place a) = cond k.has_hello (message_outputs (k.sends + 1) (message_of_call opened (outstanding_of k a))) []
 client_says opened k (MemoryRevoked place xid) = []
 client_says opened k (CallExecuted call) = []
 client_says opened k (QueueWritten taken) = []
@@ -207,8 +207,8 @@ client_said opened k (FrameReceived f) = by (is_hello f) (segment_request (frame
     by false o = by_request o
 client_said opened k (CallSubmitted place a) = by k.has_hello
   where
-    by : (b : Bool) → cond b (call_output opened (k.calls_accepted + 1) (outstanding_of k a)) [] ≡ bytes_of_all (cond b (message_outputs (k.calls_accepted + 1) (message_of_call opened (outstanding_of k a))) [])
-    by true = send_said (k.calls_accepted + 1) (message_of_call opened (outstanding_of k a))
+    by : (b : Bool) → cond b (call_output opened (k.sends + 1) (outstanding_of k a)) [] ≡ bytes_of_all (cond b (message_outputs (k.sends + 1) (message_of_call opened (outstanding_of k a))) [])
+    by true = send_said (k.sends + 1) (message_of_call opened (outstanding_of k a))
     by false = refl
 client_said opened k (MemoryRevoked place xid) = refl
 client_said opened k (CallExecuted call) = refl

@@ -11,14 +11,14 @@ use Rattle.nr_reduce.specs.declared.outline.Plan.{Plan}
 use Rattle.nr_reduce.specs.Plans.{TooLarge, call_message}
 use Rattle.nr_reduce.specs.History.{AcceptedCall, ExecutedCall}
 use Rattle.nr_reduce.specs.Events.RunEvent.{CallSubmitted, MemoryRevoked, CallExecuted, QueueWritten}
-use Rattle.nr_reduce.specs.SubmitAnswer.{next_xid}
-use Rattle.nr_reduce.specs.ClientState.{ClientState, OutstandingCall, call_payload, plan_for}
+use Rattle.nr_reduce.specs.ClientState.{ClientState, OutstandingCall, plan_for}
 use Rattle.nr_reduce.specs.ServerState.{ServerState, PendingCall, ReadyCall}
 use Rattle.nr_reduce.specs.Client.{client_state_after, client_output, call_output, outstanding_of, plan_or, revoked_call}
 use Rattle.nr_reduce.specs.Server.{server_state_after, server_output, offer_of, answer_of_target}
-use Rattle.nr_reduce.proofs.Sizes.{message_size}
+use Rattle.nr_reduce.proofs.XidsFollow.{both_after}
+use Rattle.nr_laws.proofs.PlannedSizes.{short_call}
 use Rattle.nr_laws.proofs.FrameContents.{FrameContent, output_bytes, total_of, sends_in, requests_in, hellos_in, client_frames, server_frames, send_frames}
-use Rattle.nr_laws.proofs.LinkInvariants.{Transit, TotalsAgree, AreDistinct, AreAtMost, IsUnused}
+use Rattle.nr_laws.proofs.LinkInvariants.{Transit, TotalsAgree, AreDistinct, IsUnused}
 use Rattle.nr_laws.proofs.Totals.{total_append}
 use Rattle.nr_laws.proofs.TotalsAtClient.{totals_accepts, totals_writes_up, up_more}
 use Rattle.nr_laws.proofs.TotalsAtServer.{totals_executes, totals_writes_down, answer_counts}
@@ -73,15 +73,8 @@ pub record Submitted (opened : LinkParameters) (k : ClientState) (s : ServerStat
   pub output : client_output opened k (CallSubmitted place a) ≡ output_bytes opened Initiator (total_of sends_in all_up) (total_of requests_in all_up) said
   pub linked : EndsAgree opened (client_state_after opened k (CallSubmitted place a)) s u d (all_up ++ said) all_down (up_more w said)
 
-short_call : (opened : LinkParameters) (k : ClientState) (a : AcceptedCall) (plan : Plan) → plan_for k a.xid a.call a.form ≡ Ok plan → ClientLimits k → IsShort (call_message a.xid opened.wished k.stag (outstanding_of k a).plan)
-unfolding plan_for
-short_call opened k a plan is limits =
-    let up = limits.up.1 in
-    let size = message_size (call_payload a.xid a.call) a.form k.up_max k.down_max a.xid opened.wished k.stag plan is in
-    subst (λ (p : Plan). IsShort (call_message a.xid opened.wished k.stag p)) (sym (planned (call_payload a.xid a.call) (plan_for k a.xid a.call a.form) plan is)) (omega (arith, size.1, up))
-
 pub submitted : (opened : LinkParameters) (k : ClientState) (s : ServerState) (u d all_up all_down : List FrameContent) (w : Transit) (place : ℕ) (a : AcceptedCall) (plan : Plan) → EndsAgree opened k s u d all_up all_down w
-    → a.xid ≡ next_xid opened k → plan_for k a.xid a.call a.form ≡ Ok plan → ClientLimits k → Submitted opened k s u d all_up all_down w place a
+    → a.xid ≡ k.next_xid → plan_for k a.xid a.call a.form ≡ Ok plan → ClientLimits k → Submitted opened k s u d all_up all_down w place a
 unfolding client_state_after client_frames client_output
 submitted opened k s u d all_up all_down w place a plan l own is limits = by k.has_hello refl
   where
@@ -94,8 +87,8 @@ submitted opened k s u d all_up all_down w place a plan l own is limits = by k.h
     frames : List FrameContent
     frames = send_frames message
 
-    calls : (b : Bool) → k.has_hello ≡ b → total_of sends_in all_up ≡ cond b k.calls_accepted 0
-    calls b e = calls_said opened k s u d all_up all_down w l ∙ ap (λ (x : Bool). cond x k.calls_accepted 0) e
+    calls : (b : Bool) → k.has_hello ≡ b → total_of sends_in all_up ≡ cond b k.sends 0
+    calls b e = calls_said opened k s u d all_up all_down w l ∙ ap (λ (x : Bool). cond x k.sends 0) e
 
     with_said : (said : List FrameContent) → cond k.has_hello frames [] ≡ said → client_output opened k (CallSubmitted place a) ≡ output_bytes opened Initiator (total_of sends_in all_up) (total_of requests_in all_up) said → AreWritable said → total_of hellos_in said ≡ 0 → total_of requests_in said ≡ 0
         → Submitted opened k s u d all_up all_down w place a
@@ -112,12 +105,12 @@ submitted opened k s u d all_up all_down w place a plan l own is limits = by k.h
     by : (b : Bool) → k.has_hello ≡ b → Submitted opened k s u d all_up all_down w place a
     by true e =
         with_said frames (ap (λ (x : Bool). cond x frames []) e)
-        (ap (λ (x : Bool). cond x (call_output opened (k.calls_accepted + 1) (outstanding_of k a)) []) e
-        ∙ message_said opened Initiator k.calls_accepted (total_of requests_in all_up) message
+        (ap (λ (x : Bool). cond x (call_output opened (k.sends + 1) (outstanding_of k a)) []) e
+        ∙ message_said opened Initiator k.sends (total_of requests_in all_up) message
         ∙ (λ i. output_bytes opened Initiator (sym (calls true e) i) (total_of requests_in all_up) frames))
         (short_proper message short) (send_counts hellos_in 0 (λ offset payload. refl) (λ m. refl) message) (send_counts requests_in 0 (λ offset payload. refl) (λ m. refl) message)
     by false e =
-        with_said [] (ap (λ (x : Bool). cond x frames []) e) (ap (λ (x : Bool). cond x (call_output opened (k.calls_accepted + 1) (outstanding_of k a)) []) e) tt refl refl
+        with_said [] (ap (λ (x : Bool). cond x frames []) e) (ap (λ (x : Bool). cond x (call_output opened (k.sends + 1) (outstanding_of k a)) []) e) tt refl refl
 
 -- the memory of a call is revoked
 pub xid_revoked : (xid : ℕ) (o : OutstandingCall) → (revoked_call xid o).xid ≡ o.xid
@@ -134,10 +127,6 @@ absent_revoked xid n (o ∷ os) h = ((λ e. h.0 (sym (xid_revoked xid o) ∙ e))
 apart_revoked : (xid : ℕ) (os : List OutstandingCall) → AreDistinct (λ (o : OutstandingCall). o.xid) os → AreDistinct (λ (o : OutstandingCall). o.xid) (map (revoked_call xid) os)
 apart_revoked xid [] h = tt
 apart_revoked xid (o ∷ os) h = (subst (λ (n : ℕ). IsUnused (λ (x : OutstandingCall). x.xid) n (map (revoked_call xid) os)) (sym (xid_revoked xid o)) (absent_revoked xid o.xid os h.0), apart_revoked xid os h.1)
-
-below_revoked : (xid n : ℕ) (os : List OutstandingCall) → AreAtMost (λ (o : OutstandingCall). o.xid + 1) n os → AreAtMost (λ (o : OutstandingCall). o.xid + 1) n (map (revoked_call xid) os)
-below_revoked xid n [] h = tt
-below_revoked xid n (o ∷ os) h = (omega (arith, xid_revoked xid o, h.0), below_revoked xid n os h.1)
 
 same_linked : (opened : LinkParameters) (k t : ClientState) (s : ServerState) (u d all_up all_down : List FrameContent) (w v : Transit) → EndsAgree opened k s u d all_up all_down w
     → v.up ++ v.queued_up ≡ w.up ++ w.queued_up → v.down ++ v.queued_down ≡ w.down ++ w.queued_down → TotalsAgree t s v → OwnXids opened t → CallsShort opened t.outstanding → t.received ≡ k.received
@@ -187,7 +176,7 @@ pub revoked : (opened : LinkParameters) (k : ClientState) (s : ServerState) (u d
 unfolding client_state_after
 revoked opened k s u d all_up all_down w place xid l =
     same_linked opened k (client_state_after opened k (MemoryRevoked place xid)) s u d all_up all_down w w l refl refl (totals_revoked opened k s w place xid l.counts)
-    (record { apart = apart_revoked xid k.outstanding l.outs.apart; below = below_revoked xid (next_xid opened k) k.outstanding l.outs.below }) (short_revoked opened xid k.outstanding l.short) refl
+    (record { apart = apart_revoked xid k.outstanding l.outs.apart; follow = both_after opened k (MemoryRevoked place xid) tt l.outs.follow }) (short_revoked opened xid k.outstanding l.short) refl
 
 pub written_up : (opened : LinkParameters) (k : ClientState) (s : ServerState) (u d all_up all_down : List FrameContent) (w : Transit) (taken : ℕ) → k.written + taken ≡ k.due → ClientEnds k → EndsAgree opened k s u d all_up all_down w
     → EndsAgree opened (client_state_after opened k (QueueWritten taken)) s u d all_up all_down (record { queued_up = []; up = w.up ++ w.queued_up; queued_down = w.queued_down; down = w.down })

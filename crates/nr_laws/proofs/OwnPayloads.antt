@@ -13,6 +13,7 @@ use Rattle.nr_reduce.specs.Matched.{IsPrefixOf, MatchedMark}
 use Rattle.nr_reduce.proofs.Placing.{xids_differ}
 use Rattle.nr_laws.specs.Payloads.{form_conveyed, PayloadsAreOwn}
 use Rattle.nr_laws.specs.Typed.{TypedMark}
+use Rattle.nr_reduce.proofs.XidsFollow.{accepted_follows}
 use Rattle.nr_laws.proofs.OnceByXid.{executed_at_lem, before_mark}
 use Rattle.nr_laws.proofs.ExecutedReads.{read_call_lem}
 use Rattle.nr_laws.proofs.Basics.{first_is_lem, rest_is_lem}
@@ -65,8 +66,8 @@ payloads_are_own opened link run before xid plan moment payload place reply type
     let r = read_call_lem opened link before xid payload (before_mark TypedMark run before execute at.after at.is typed) (before_mark (AskedMark IsPrefixOf opened link) run before execute at.after at.is far.asked)
     (before_mark (ServedMark IsPrefixOf opened link) run before execute at.after at.is far.served) (before_mark (MatchedMark link) run before execute at.after at.is far.matched) a.executed in
     let w = r.submitted in
-    let p = w.accepted.next in
-    let q = a.submit.submitted.accepted.next in
+    let p = accepted_follows opened link w.earlier _ _ _ w.accepted in
+    let q = accepted_follows opened link a.submit.submitted.earlier _ _ _ a.submit.submitted.accepted in
     let x = a.submit.own_xid in
     let m = a.submit.number in
     let n = r.number_is in

@@ -25,7 +25,7 @@ use Rattle.nr_reduce.specs.declared.mark.Mark.{Mark}
 use Rattle.nr_reduce.specs.declared.mark.Mark.TheVariants as marks
 use Rattle.nr_reduce.specs.declared.mark.LinkParameters.{LinkParameters}
 use Rattle.nr_reduce.specs.declared.outline.Plan.{Plan}
-use Rattle.nr_reduce.specs.Plans.{plan_size, lists_of, call_message, entries_from, read_stag, read_list}
+use Rattle.nr_reduce.specs.Plans.{lists_of, call_message, entries_from, read_stag, read_list}
 use Rattle.nr_reduce.specs.Chunks.{is_read_chunk_of_item, is_read_chunk_at, item_position}
 use Rattle.nr_reduce.specs.Events.{RunEvent, events}
 use Rattle.nr_reduce.specs.Events.RunEvent.{FrameReceived}
@@ -40,7 +40,6 @@ use Rattle.nr_reduce.specs.ServerFrames.{frame_effect, effect_in, effect_by, by_
 use Rattle.nr_reduce.specs.Server.{server_rules, initial_server, server_end, refusal_end, or_refusal, server_readiness}
 use Rattle.nr_reduce.specs.Run.{client}
 use Rattle.nr_reduce.specs.RunLaws.{server_by, IsReceivedCall, RefusesSend}
-use Rattle.nr_reduce.proofs.Sizes.{message_size}
 use Rattle.nr_reduce.proofs.Steps.{end_state_after_append}
 use Rattle.nr_reduce.proofs.Refusals.{refused_never}
 use Rattle.nr_reduce.proofs.BadMessages.{bad_refused}
@@ -50,6 +49,8 @@ use Rattle.nr_laws.specs.Typed.{TypedMark, IsTyped}
 use Rattle.nr_laws.specs.MarkAt.{MarkAt}
 use Rattle.nr_laws.specs.MatchedSoFar.{MatchedSoFar}
 use Rattle.nr_laws.specs.RefusedMessages.{IsRefusedMessage, HasRefusedMessage}
+use Rattle.nr_reduce.proofs.XidsFollow.{accepted_follows}
+use Rattle.nr_laws.proofs.PlannedSizes.{planned_message}
 use Rattle.nr_laws.proofs.CallWords.{call_words_lem}
 use Rattle.nr_laws.proofs.ClientRun.{WasSubmitted}
 use Rattle.nr_laws.proofs.ServerAlong.{SaidError}
@@ -119,18 +120,15 @@ tested k message e = by (not (eqb (word_at 4 message) 1)) refl (eqb (word_at 12 
 
 -- the message of a plan has the fixed words
 pub long_enough : (opened : LinkParameters) (k : ClientState) (xid : ℕ) (call : Call) (form : Form) (plan : Plan) → plan_for k xid call form ≡ Ok plan → 16 ≤ length (call_message xid opened.wished k.stag plan)
-unfolding plan_for plan_size
-long_enough opened k xid call form plan is =
-    let size = (message_size (call_payload xid call) form k.up_max k.down_max xid opened.wished k.stag plan is).0 in
-    omega (arith, size)
+long_enough opened k xid call form plan is = (planned_message k xid opened.wished k.stag call form plan is).0
 
 -- ---- The message of a Send that is refused
 
 -- two Sends with one number have one message
 same_message : (opened : LinkParameters) (link : ℕ) (run : List Mark) (index other : ℕ) (message again : List ℕ) → MatchedSoFar opened link run → index ≡ other → WasSubmitted opened link run index message → WasSubmitted opened link run other again → message ≡ again
 same_message opened link run index other message again far same v w =
-    let a = v.accepted.next in
-    let b = w.accepted.next in
+    let a = accepted_follows opened link v.earlier _ _ _ v.accepted in
+    let b = accepted_follows opened link w.earlier _ _ _ w.accepted in
     let c = v.counted in
     let d = w.counted in
     let xids : v.xid ≡ w.xid = omega (arith, a, b, c, d, same) in

@@ -1,5 +1,5 @@
 -- The Sends due at a client are those of its calls, in order; so a call is sent if and only if its Send is written completely.
-use Rattle.std.proofs.Common.{◌≡◌, ℕ, zero, suc, ◌+◌, ◌-◌, ◌≤◌, ◌<◌, Bool, true, false, cond, ◌&&◌, eqb, leb, List, [], ◌∷◌, ◌++◌, length, map, Option, None, Some, Result, Ok, Err, refl, sym, ap, subst, ◌∙◌, arith, append_assoc, append-nil, length-append, inl, inr, ◌⊎◌, lt-ltb, eqb-true}
+use Rattle.std.proofs.Common.{◌≡◌, ℕ, zero, suc, ◌+◌, ◌≤◌, ◌<◌, Bool, true, false, cond, ◌&&◌, eqb, leb, List, [], ◌∷◌, ◌++◌, length, map, Option, None, Some, Result, Ok, Err, refl, sym, ap, subst, ◌∙◌, arith, append_assoc, append-nil, length-append, inl, inr, ◌⊎◌, lt-ltb, eqb-true}
 use Rattle.std.specs.Prelude.{Contains}
 use Rattle.std.specs.List.{filter, slice_get, AllByRecursion}
 use Rattle.std.proofs.lemmas.Bool.{ltb-true, lt-leb, le-leb, eq-eqb, cases_lt}
@@ -24,16 +24,16 @@ use Rattle.nr_reduce.specs.ClientState.{ClientState, OutstandingCall, is_sent}
 use Rattle.nr_reduce.specs.Client.{client_rules, client_end, client_state_after, initial_client, outstanding_of, revoked_call, segment_request, with_hello, with_segment, with_message, with_request, due_with_response}
 use Rattle.nr_reduce.specs.DueItems.{sent_call_item, sent_call_items, response_items, client_items_at, due_for_by, due_for_all, items_due, hello_due}
 use Rattle.nr_reduce.specs.Run.{client}
-use Rattle.nr_reduce.proofs.CountedBytes.{first_xid_is, some_none}
+use Rattle.nr_reduce.proofs.CountedBytes.{some_none}
 use Rattle.nr_reduce.proofs.OutputItems.{client_counts_items}
-use Rattle.nr_reduce.proofs.Placing.{segment_accepted}
+use Rattle.nr_reduce.proofs.Placing.{segment_sends}
 use Rattle.nr_reduce.proofs.Steps.{ended_stays}
 use Rattle.nr_reduce.specs.Asked.{AskedSoFar}
 use Rattle.nr_laws.specs.Typed.{IsTyped}
 use Rattle.nr_laws.specs.SentCalls.{complete_items, complete_sends, SentCallsAreWritten}
 use Rattle.nr_laws.proofs.EventOutputs.{IsNext, GoesOn, place_after}
 use Rattle.nr_laws.proofs.Basics.{each_all, each_append, each_kept}
-use Rattle.nr_laws.proofs.CallNumbers.{NumberedCalls, own_xids_push, own_xids_map}
+use Rattle.nr_laws.proofs.CallNumbers.{NumberedBy, numbered_push, numbered_map}
 use Rattle.nr_laws.proofs.ClientRun.{client_goes}
 use Rattle.nr_laws.proofs.ClientSays.{ClientGood, HasHello}
 use Rattle.nr_laws.proofs.OwnXids.{segment_out}
@@ -113,13 +113,13 @@ complete_count p at n (x ∷ items) = by (p x) refl (leb end n) (complete_count 
 -- ---- The Sends due are those of the calls, in order
 
 abbrev HasSend : LinkParameters → List OutputItem → OutstandingCall → Type 0
-HasSend opened sends o = slice_get sends (o.xid - opened.first_xid) ≡ Some (sent_call_item opened (o.xid - opened.first_xid + 1) o)
+HasSend opened sends o = slice_get sends o.send ≡ Some (sent_call_item opened (o.send + 1) o)
 
 record SendsAreDue (opened : LinkParameters) (place : ℕ) (k : ClientState) (sends : List OutputItem) : Type 0 where
   greeted : HasHello place k.has_hello
   silent : k.has_hello ≡ false → sends ≡ []
-  waiting : k.has_hello ≡ false → NumberedCalls opened.first_xid k.outstanding × (length k.outstanding ≡ k.calls_accepted)
-  count : k.has_hello ≡ true → length sends ≡ k.calls_accepted
+  waiting : k.has_hello ≡ false → NumberedBy (λ (o : OutstandingCall). o.send) 0 k.outstanding × (length k.outstanding ≡ k.sends)
+  count : k.has_hello ≡ true → length sends ≡ k.sends
   own : k.has_hello ≡ true → AllByRecursion (HasSend opened sends) k.outstanding
 
 abbrev send_items : List OutputItem → List OutputItem
@@ -133,15 +133,14 @@ calls_count : (opened : LinkParameters) (n : ℕ) (os : List OutstandingCall) �
 calls_count opened n [] = refl
 calls_count opened n (o ∷ os) = ap (λ (m : ℕ). suc m) (calls_count opened (n + 1) os)
 
-hello_sends : (opened : LinkParameters) (front : List OutputItem) (os : List OutstandingCall) → NumberedCalls (opened.first_xid + length front) os → AllByRecursion (HasSend opened (front ++ sent_call_items opened (length front + 1) os)) os
+hello_sends : (opened : LinkParameters) (front : List OutputItem) (os : List OutstandingCall) → NumberedBy (λ (o : OutstandingCall). o.send) (length front) os → AllByRecursion (HasSend opened (front ++ sent_call_items opened (length front + 1) os)) os
 hello_sends opened front [] h = tt
 hello_sends opened front (o ∷ os) h =
-    let own = h.0 in
-    let at : o.xid - opened.first_xid ≡ length front = omega (arith, own) in
+    let at : o.send ≡ length front = h.0 in
     let x : OutputItem = sent_call_item opened (length front + 1) o in
     let l : length (front ++ x ∷ []) ≡ length front + 1 = length-append front (x ∷ []) in
     let rest : AllByRecursion (HasSend opened ((front ++ x ∷ []) ++ sent_call_items opened (length (front ++ x ∷ []) + 1) os)) os =
-    hello_sends opened (front ++ x ∷ []) os (subst (λ (n : ℕ). NumberedCalls n os) (let e : opened.first_xid + length front + 1 ≡ opened.first_xid + length (front ++ x ∷ []) = omega (arith, l) in e) h.1) in (
+    hello_sends opened (front ++ x ∷ []) os (subst (λ (n : ℕ). NumberedBy (λ (o : OutstandingCall). o.send) n os) (sym l) h.1) in (
       (λ i. slice_get (front ++ sent_call_items opened (length front + 1) (o ∷ os)) (at i)) ∙ get_first front x (sent_call_items opened (length front + 1 + 1) os) ∙ ap (λ (n : ℕ). Some (sent_call_item opened (n + 1) o)) (sym at),
       subst (λ (xs : List OutputItem). AllByRecursion (HasSend opened xs) os) (append_assoc front (x ∷ []) (sent_call_items opened (length (front ++ x ∷ []) + 1) os) ∙ ap (λ (n : ℕ). front ++ x ∷ sent_call_items opened (n + 1) os) l) rest,
     )
@@ -179,10 +178,10 @@ has_revoked opened sends xid (o ∷ os) h = (by (eqb o.xid xid), has_revoked ope
     by true = h.0
     by false = h.0
 
-revoked_xid : (xid : ℕ) (o : OutstandingCall) → (revoked_call xid o).xid ≡ o.xid
-revoked_xid xid o = by (eqb o.xid xid)
+revoked_send : (xid : ℕ) (o : OutstandingCall) → (revoked_call xid o).send ≡ o.send
+revoked_send xid o = by (eqb o.xid xid)
   where
-    by : (b : Bool) → (cond b (record o { is_revoked = true }) o).xid ≡ o.xid
+    by : (b : Bool) → (cond b (record o { is_revoked = true }) o).send ≡ o.send
     by true = refl
     by false = refl
 
@@ -204,7 +203,7 @@ hello_step opened place end k f sends first lt h =
       waiting = λ wrong. absurd (let e : true ≡ false = wrong in cc);
       count = λ is_so. omega (arith, size, count, accepted);
       own = λ is_so. subst (λ (xs : List OutputItem). AllByRecursion (HasSend opened xs) k.outstanding) (sym all)
-          (hello_sends opened [] k.outstanding (subst (λ (n : ℕ). NumberedCalls n k.outstanding) (let e : opened.first_xid ≡ opened.first_xid + 0 = omega arith in e) w.0));
+          (hello_sends opened [] k.outstanding w.0);
     }
 
 segment_step : (opened : LinkParameters) (place end : ℕ) (k : ClientState) (f : Frame) (r : Result Segment ℕ) (sends : List OutputItem) → (place ≡ 0 → ⊥) → place < end → SendsAreDue opened place k sends
@@ -214,7 +213,7 @@ segment_step opened place end k f r sends some lt h =
     let still = kept_hello k f r ∙ greeted in
     let same : sends ++ send_items (response_items k f.end (segment_request r)) ≡ sends = ap (λ (xs : List OutputItem). sends ++ xs) (no_sends k f.end (segment_request r)) ∙ append-nil sends in
     let count = h.count greeted in
-    let accepted = segment_accepted k f r in
+    let accepted = segment_sends k f r in
     let size = ap (λ (xs : List OutputItem). length xs) same in
     let held = h.own greeted in
     record {
@@ -229,36 +228,33 @@ segment_step opened place end k f r sends some lt h =
     left (inl e) held = subst (AllByRecursion (HasSend opened sends)) (sym e) held
     left (inr e) held = subst (AllByRecursion (HasSend opened sends)) (sym e.1) (each_kept (HasSend opened sends) e.0 k.outstanding held)
 
-submit_step : (opened : LinkParameters) (place p : ℕ) (k : ClientState) (a : AcceptedCall) (sends : List OutputItem) → a.xid ≡ opened.first_xid + k.calls_accepted → SendsAreDue opened place k sends
-    → SendsAreDue opened place (client_state_after opened k (CallSubmitted p a)) (sends ++ send_items (cond k.has_hello (sent_call_item opened (k.calls_accepted + 1) (outstanding_of k a) ∷ []) []))
+submit_step : (opened : LinkParameters) (place p : ℕ) (k : ClientState) (a : AcceptedCall) (sends : List OutputItem) → SendsAreDue opened place k sends
+    → SendsAreDue opened place (client_state_after opened k (CallSubmitted p a)) (sends ++ send_items (cond k.has_hello (sent_call_item opened (k.sends + 1) (outstanding_of k a) ∷ []) []))
 unfolding client_state_after
-submit_step opened place p k a sends next h = by k.has_hello refl
+submit_step opened place p k a sends h = by k.has_hello refl
   where
     o : OutstandingCall
     o = outstanding_of k a
 
     x : OutputItem
-    x = sent_call_item opened (k.calls_accepted + 1) o
+    x = sent_call_item opened (k.sends + 1) o
 
     t : ClientState
     t = client_state_after opened k (CallSubmitted p a)
-
-    at : a.xid - opened.first_xid ≡ k.calls_accepted
-    at = omega (arith, next)
 
     by : (b : Bool) → k.has_hello ≡ b → SendsAreDue opened place t (sends ++ send_items (cond b (x ∷ []) []))
     by true is =
         let count = h.count is in
         let more = length-append sends (x ∷ []) in
-        let here : a.xid - opened.first_xid ≡ length sends = omega (arith, next, count) in
+        let here : k.sends ≡ length sends = sym count in
         record {
           greeted = h.greeted;
           silent = λ wrong. clash k.has_hello is wrong;
           waiting = λ wrong. clash k.has_hello is wrong;
           count = λ is_so. omega (arith, count, more);
           own = λ is_so. each_append (HasSend opened (sends ++ x ∷ [])) k.outstanding (o ∷ [])
-              (each_all (HasSend opened sends) (HasSend opened (sends ++ x ∷ [])) k.outstanding (λ y e. get_more sends (x ∷ []) (y.xid - opened.first_xid) (sent_call_item opened (y.xid - opened.first_xid + 1) y) e) (h.own is))
-              ((λ i. slice_get (sends ++ x ∷ []) (here i)) ∙ get_first sends x [] ∙ ap (λ (n : ℕ). Some (sent_call_item opened (n + 1) o)) (sym at), tt);
+              (each_all (HasSend opened sends) (HasSend opened (sends ++ x ∷ [])) k.outstanding (λ y e. get_more sends (x ∷ []) y.send (sent_call_item opened (y.send + 1) y) e) (h.own is))
+              ((λ i. slice_get (sends ++ x ∷ []) (here i)) ∙ get_first sends x [], tt);
         }
     by false is =
         let w = h.waiting is in
@@ -267,7 +263,7 @@ submit_step opened place p k a sends next h = by k.has_hello refl
         record {
           greeted = h.greeted;
           silent = λ quiet. append-nil sends ∙ h.silent quiet;
-          waiting = λ quiet. (own_xids_push opened.first_xid k.outstanding o w.0 (omega (arith, next, accepted)), omega (arith, more, accepted));
+          waiting = λ quiet. (numbered_push (λ (y : OutstandingCall). y.send) 0 k.outstanding o w.0 (omega (arith, accepted)), omega (arith, more, accepted));
           count = λ wrong. clash k.has_hello wrong is;
           own = λ wrong. clash k.has_hello wrong is;
         }
@@ -281,14 +277,14 @@ event_step opened place k (FrameReceived f) items next good h = by (is_hello f) 
         (send_items items ++ send_items (cond b (sent_call_items opened 1 k.outstanding) (response_items k f.end (segment_request (frame_segment f)))))
     by true is = (let e = eqb-true f.at 0 is in let at = next.0 in hello_step opened place f.end k f (send_items items) (omega (arith, e, at)) next.1 h)
     by false is = segment_step opened place f.end k f (frame_segment f) (send_items items) (λ first. clash (is_hello f) (eq-eqb f.at 0 (next.0 ∙ first)) is) next.1 h
-event_step opened place k (CallSubmitted p a) items next good h = submit_step opened place p k a (send_items items) good.next h
+event_step opened place k (CallSubmitted p a) items next good h = submit_step opened place p k a (send_items items) h
 event_step opened place k (MemoryRevoked p xid) items next good h =
     let same : send_items items ++ [] ≡ send_items items = append-nil (send_items items) in
     let size = revoked_length xid k.outstanding in
     subst (SendsAreDue opened place (client_state_after opened k (MemoryRevoked p xid))) (sym same) (record {
       greeted = h.greeted;
       silent = h.silent;
-      waiting = λ quiet. (let w = h.waiting quiet in let accepted = w.1 in (own_xids_map (revoked_call xid) opened.first_xid k.outstanding (revoked_xid xid) w.0, omega (arith, size, accepted)));
+      waiting = λ quiet. (let w = h.waiting quiet in let accepted = w.1 in (numbered_map (λ (o : OutstandingCall). o.send) (revoked_call xid) 0 k.outstanding (revoked_send xid) w.0, omega (arith, size, accepted)));
       count = h.count;
       own = λ is_so. has_revoked opened (send_items items) xid k.outstanding (h.own is_so);
     })
@@ -335,10 +331,6 @@ due_run opened link run typed asked stays =
 
 -- ---- The law
 
-first_of_lem : (opened : LinkParameters) (link : ℕ) (run : List Mark) → (client opened link run).state.first_xid ≡ opened.first_xid
-unfolding client
-first_of_lem opened link run = first_xid_is opened (events link Initiator run)
-
 element_all : {X : Type 0} (P : X → Type 0) (xs : List X) (x : X) → Contains xs x → AllByRecursion P xs → P x
 element_all P xs x there h = All-contains P xs x (All-from_recursion P xs h) there
 
@@ -358,10 +350,7 @@ sent_calls_are_written opened link run o typed asked stays there = (to, from)
     items = items_due opened link Initiator run
 
     position : ℕ
-    position = o.xid - opened.first_xid
-
-    first : k.first_xid ≡ opened.first_xid
-    first = first_of_lem opened link run
+    position = o.send
 
     counted : ends_written k.written k.send_ends ≡ length (complete_sends opened link run)
     counted = (client_counts_items opened link run stays).0 ∙ sym (complete_count is_send_item at n items)
@@ -369,7 +358,7 @@ sent_calls_are_written opened link run o typed asked stays there = (to, from)
     from : slice_get (complete_sends opened link run) position ≡ Some (sent_call_item opened (position + 1) o) → is_sent k o ≡ true
     from e =
         let within = slice_get_within (complete_sends opened link run) position (sent_call_item opened (position + 1) o) e in
-        lt-ltb (o.xid - k.first_xid) (ends_written k.written k.send_ends) (omega (arith, within, counted, first))
+        lt-ltb o.send (ends_written k.written k.send_ends) (omega (arith, within, counted))
 
     by : (b : Bool) → k.has_hello ≡ b → DueAfter opened k (send_items items) → position < length (complete_sends opened link run) → slice_get (complete_sends opened link run) position ≡ Some (sent_call_item opened (position + 1) o)
     by true greeted d low =
@@ -385,5 +374,5 @@ sent_calls_are_written opened link run o typed asked stays there = (to, from)
 
     to : is_sent k o ≡ true → slice_get (complete_sends opened link run) position ≡ Some (sent_call_item opened (position + 1) o)
     to e =
-        let low = ltb-true (o.xid - k.first_xid) (ends_written k.written k.send_ends) e in
-        by k.has_hello refl (due_run opened link run typed asked stays) (omega (arith, low, counted, first))
+        let low = ltb-true o.send (ends_written k.written k.send_ends) e in
+        by k.has_hello refl (due_run opened link run typed asked stays) (omega (arith, low, counted))

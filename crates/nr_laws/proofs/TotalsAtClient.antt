@@ -241,7 +241,7 @@ unfolding client_state_after client_frames
 totals_hello_down opened k s w f rest c first is =
     let said = calls_frames opened k.outstanding in
     let hello : hello_bit k.has_hello ≡ 0 = omega (arith, c.hello, ap (total_of hellos_in) first) in
-    let before : calls_sent k ≡ 0 = ap (λ (b : Bool). cond b k.calls_accepted 0) (bit_of k.has_hello hello) in
+    let before : calls_sent k ≡ 0 = ap (λ (b : Bool). cond b k.sends 0) (bit_of k.has_hello hello) in
     let sends : total_of sends_in said ≡ length k.outstanding = sends_one sends_in (message_of_call opened) k.outstanding (λ offset payload. refl) (λ m. refl) in
     let none_queued : total_of sends_in w.queued_up ≡ 0 = omega (arith, c.calls_up, before) in
     let all : length (call_ends opened k.due 1 k.outstanding) ≡ length k.outstanding = calls_length opened k.due 1 k.outstanding in
@@ -292,11 +292,11 @@ totals_accepts opened k s w place a c =
     let said = cond k.has_hello (send_frames message) [] in
     record {
       hello = omega (arith, c.hello, total_append hellos_in w.queued_up said, says_no hellos_in k.has_hello message (λ offset payload. refl) (λ m. refl));
-      calls_up = omega (arith, c.calls_up, said_more k.has_hello k.calls_accepted, total_append sends_in w.queued_up said, says_call k.has_hello message);
+      calls_up = omega (arith, c.calls_up, said_more k.has_hello k.sends, total_append sends_in w.queued_up said, says_call k.has_hello message);
       messages_down = c.messages_down;
       sends = omega (arith, c.sends, total_append sends_in w.queued_up said, says_call k.has_hello message, waiting_append k.written k.send_ends (submitted_ends opened k a), submitted_waits k.has_hello);
       messages = c.messages;
-      all_sends = omega (arith, c.all_sends, said_more k.has_hello k.calls_accepted, length-append k.send_ends (submitted_ends opened k a), submitted_length k.has_hello);
+      all_sends = omega (arith, c.all_sends, said_more k.has_hello k.sends, length-append k.send_ends (submitted_ends opened k a), submitted_length k.has_hello);
       within_up = omega (arith, c.within_up);
       within_down = c.within_down;
       out = omega (arith, c.out, length-append k.outstanding (outstanding_of k a ∷ []));
@@ -308,10 +308,10 @@ totals_accepts opened k s w place a c =
     }
   where
     one : List ℕ
-    one = call_output opened (k.calls_accepted + 1) (outstanding_of k a)
+    one = call_output opened (k.sends + 1) (outstanding_of k a)
 
     submitted_waits : (b : Bool) → ends_waiting k.written (cond b ((k.due + length (cond b one [])) ∷ []) []) ≡ hello_bit b
-    submitted_waits true = one_waiting k.written (k.due + length one) (omega (arith, c.within_up, send_some (k.calls_accepted + 1) (call_message a.xid opened.wished k.stag (outstanding_of k a).plan)))
+    submitted_waits true = one_waiting k.written (k.due + length one) (omega (arith, c.within_up, send_some (k.sends + 1) (call_message a.xid opened.wished k.stag (outstanding_of k a).plan)))
     submitted_waits false = refl
 
     submitted_length : (b : Bool) → length (cond b ((k.due + length (cond b one [])) ∷ []) []) ≡ hello_bit b

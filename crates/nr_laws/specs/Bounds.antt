@@ -22,10 +22,10 @@ ClientOwesFewResponses = (opened : LinkParameters) (link : ℕ) (run : List Mark
 abbrev pub ServerReadsFew : Type 0
 ServerReadsFew = (opened : LinkParameters) (link : ℕ) (run : List Mark) → length (open_reads (server opened link run).state) ≤ open_reads_max
 
--- and a server that keeps its law uses no more receives than it granted credits: those of pending calls, of a Send that is begun, and of answers
+-- and a server that keeps its law uses no more receives than it has: those of pending calls, of a Send that is begun, and of answers
 -- that haven't completely left.
 abbrev pub ServerUsesItsReceives : Type 0
-ServerUsesItsReceives = (opened : LinkParameters) (link : ℕ) (run : List Mark) → IsTyped run → ServedSoFar opened link run → receives_in_use (server opened link run).state ≤ opened.granted
+ServerUsesItsReceives = (opened : LinkParameters) (link : ℕ) (run : List Mark) → IsTyped run → ServedSoFar opened link run → receives_in_use (server opened link run).state ≤ opened.receives
 
 -- how many segments a chunk has, and how many the lists of a plan have together
 abbrev pub chunk_segments : Option (List ℕ) → ℕ

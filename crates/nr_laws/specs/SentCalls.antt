@@ -1,5 +1,5 @@
 -- Which calls of a client a message may answer: those whose Sends are written completely.
-use Rattle.std.specs.Prelude.{◌≡◌, ℕ, ◌+◌, ◌-◌, true, nat_le, if◌then◌else◌, List, [], ◌∷◌, ◌++◌, length, None, Some, Contains, slice_get, ◌↔◌}
+use Rattle.std.specs.Prelude.{◌≡◌, ℕ, ◌+◌, true, nat_le, if◌then◌else◌, List, [], ◌∷◌, ◌++◌, length, None, Some, Contains, slice_get, ◌↔◌}
 use Rattle.std.specs.List.{filter}
 use Rattle.nr_wire.specs.declared.hello.Side.TheVariants.{Initiator}
 use Rattle.nr_link.specs.OutputItem.{OutputItem, item_encoding, is_send_item}
@@ -23,10 +23,10 @@ abbrev pub complete_sends : LinkParameters → ℕ → List Mark → List Output
 complete_sends opened link run =
     filter is_send_item (complete_items (length (hello_due opened link Initiator run)) (length (bytes_sent link Initiator run)) (items_due opened link Initiator run))
 
--- While a client hasn't ended, an outstanding call is one that a message may answer if and only if its Send is complete in the bytes sent: the
--- first accepted call's is the first Send, and so on.
+-- While a client hasn't ended, an outstanding call is one that a message may answer if and only if the Send of its number is complete in the
+-- bytes sent.
 abbrev pub SentCallsAreWritten : Type 0
 SentCallsAreWritten = (opened : LinkParameters) (link : ℕ) (run : List Mark) (o : OutstandingCall) → IsTyped run → AskedSoFar opened link run → (client opened link run).ended ≡ None →
     Contains (client opened link run).state.outstanding o →
     (is_sent (client opened link run).state o ≡ true)
-    ↔ (slice_get (complete_sends opened link run) (o.xid - opened.first_xid) ≡ Some (sent_call_item opened (o.xid - opened.first_xid + 1) o))
+    ↔ (slice_get (complete_sends opened link run) o.send ≡ Some (sent_call_item opened (o.send + 1) o))

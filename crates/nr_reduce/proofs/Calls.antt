@@ -71,7 +71,7 @@ submit_due opened link run call form xid stays =
 pub submit_sent : (opened : LinkParameters) (link : ℕ) (run : List Mark) (call : Call) (form : Form) (xid : ℕ) → (h : IsAccepted opened link run call form xid) →
     ((client opened link run).state.has_hello ≡ true →
     output_due opened link Initiator (run ++ marks.Submit link call form (submissions.Accepted xid) ∷ [])
-    ≡ output_due opened link Initiator run ++ send ((client opened link run).state.calls_accepted + 1) (call_message xid opened.wished (client opened link run).state.stag h.plan))
+    ≡ output_due opened link Initiator run ++ send ((client opened link run).state.sends + 1) (call_message xid opened.wished (client opened link run).state.stag h.plan))
     × ((client opened link run).state.has_hello ≡ false →
     output_due opened link Initiator (run ++ marks.Submit link call form (submissions.Accepted xid) ∷ []) ≡ output_due opened link Initiator run)
 unfolding client_output
@@ -79,11 +79,11 @@ submit_sent opened link run call form xid h =
     let k : ClientState = (client opened link run).state in
     let a : AcceptedCall = record { xid = xid; call = call; form = form } in
     let due = output_due opened link Initiator run in
-    let one : List ℕ = call_output opened (k.calls_accepted + 1) (outstanding_of k a) in
+    let one : List ℕ = call_output opened (k.sends + 1) (outstanding_of k a) in
     let all = submit_due opened link run call form xid h.stays in (
       (λ hello. all
           ∙ ap (λ (b : Bool). due ++ cond b one []) hello
-          ∙ ap (λ (p : Plan). due ++ send (k.calls_accepted + 1) (call_message xid opened.wished k.stag p)) (plan_is_lem k xid call form (plan_for k xid call form) h.plan h.planned)),
+          ∙ ap (λ (p : Plan). due ++ send (k.sends + 1) (call_message xid opened.wished k.stag p)) (plan_is_lem k xid call form (plan_for k xid call form) h.plan h.planned)),
       λ none. all ∙ ap (λ (b : Bool). due ++ cond b one []) none ∙ append-nil due,
     )
 

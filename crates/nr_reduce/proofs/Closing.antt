@@ -227,7 +227,6 @@ owned_closed xid place calls regions owned stag r e is_open =
 
 -- what is kept of the calls doesn't depend on more of the state than which Sends have left
 pub record SendsAlike (k k2 : ClientState) : Type 0 where
-  pub first : k2.first_xid ≡ k.first_xid
   pub written : k2.written ≡ k.written
   pub ends : k2.send_ends ≡ k.send_ends
 
@@ -238,7 +237,8 @@ kept_alike k k2 (c ∷ cs) [] same is = absurd is
 kept_alike k k2 (c ∷ cs) (o ∷ os) same is = (
   record {
     xid = is.0.xid;
-    sent = is.0.sent ∙ (λ i. ltb (o.xid - sym same.first i) (ends_written (sym same.written i) (sym same.ends i)));
+    send = is.0.send;
+    sent = is.0.sent ∙ (λ i. ltb o.send (ends_written (sym same.written i) (sym same.ends i)));
     revoked = is.0.revoked;
     call = is.0.call;
     write = is.0.write;

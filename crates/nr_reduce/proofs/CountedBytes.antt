@@ -156,32 +156,6 @@ pub client_ends_within : (opened : LinkParameters) (link : ℕ) (run : List Mark
 unfolding client
 client_ends_within opened link run = kept_after (client_rules opened) ClientEnds (client_ends opened) (initial_client opened) (events link Initiator run) (record { sends = tt; responses = tt })
 
-first_kept_lem : (opened : LinkParameters) (k : ClientState) (e : RunEvent) → k.first_xid ≡ opened.first_xid → (client_state_after opened k e).first_xid ≡ opened.first_xid
-unfolding client_state_after
-first_kept_lem opened k (FrameReceived f) h = by (is_hello f)
-  where
-    by_message : (m : Option (List ℕ)) (due : ℕ) (q : Option ReadRequest) → (with_request (with_message k f.end m) due q).first_xid ≡ opened.first_xid
-    by_message None due None = h
-    by_message None due (Some q) = h
-    by_message (Some m) due None = h
-    by_message (Some m) due (Some q) = h
-
-    by_segment : (r : Result Segment ℕ) → (with_segment k f r).first_xid ≡ opened.first_xid
-    by_segment (Err reason) = h
-    by_segment (Ok segment) = by_message (message_completed k.received segment) (due_with_response k f segment) (read_request_of segment)
-
-    by : (b : Bool) → (cond b (with_hello opened k f) (with_segment k f (frame_segment f))).first_xid ≡ opened.first_xid
-    by true = h
-    by false = by_segment (frame_segment f)
-first_kept_lem opened k (CallSubmitted place a) h = h
-first_kept_lem opened k (MemoryRevoked place xid) h = h
-first_kept_lem opened k (CallExecuted call) h = h
-first_kept_lem opened k (QueueWritten taken) h = h
-
--- its first xid is that of its opening
-pub first_xid_is : (opened : LinkParameters) (es : List RunEvent) → (end_state_after (client_rules opened) (initial_client opened) es).state.first_xid ≡ opened.first_xid
-first_xid_is opened es = kept_after (client_rules opened) (λ (k : ClientState). k.first_xid ≡ opened.first_xid) (first_kept_lem opened) (initial_client opened) es refl
-
 -- ---- Of a server
 
 server_writes : (opened : LinkParameters) (k : ServerState) (e : RunEvent) → (server_state_after opened k e).written ≡ k.written + taken_by e

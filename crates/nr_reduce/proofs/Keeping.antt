@@ -22,7 +22,7 @@ use Rattle.nr_reduce.specs.OfferedMemory.{region_at, HoldsRegions, held_if_open,
 use Rattle.nr_reduce.specs.EndRules.{EndState, live}
 use Rattle.nr_reduce.specs.ClientState.{OutstandingCall, ClientState, call_payload, plan_for, client_memory_at}
 use Rattle.nr_reduce.specs.Client.{initial_client}
-use Rattle.nr_reduce.specs.SubmitAnswer.{unless_spent, by_plan, answer_by, submit_answer, next_xid}
+use Rattle.nr_reduce.specs.SubmitAnswer.{unless_spent, by_plan, answer_by, submit_answer}
 use Rattle.nr_reduce.specs.KeptCalls.{KeptCall, AreKept}
 use Rattle.nr_reduce.specs.KeptClient.{KeptClient, ClientKeeps, CallsKeep, MemoryKeeps, bytes_under, opened_client}
 use Rattle.nr_reduce.specs.StandingLaws.{KeptJudges, KeptResponds, KeptAnswers, KeptCounts, kept_answer_by_plan, kept_answer_if}
@@ -42,7 +42,8 @@ next_begins first_stag = refl
 pub keeps_begins : (opened : LinkParameters) → ClientKeeps opened (opened_client opened) (initial_client opened) 0
 keeps_begins opened = record {
   ended = refl;
-  xid = omega arith;
+  xid = refl;
+  sends = refl;
   grant = refl;
   up = refl;
   down = refl;
@@ -115,27 +116,27 @@ unfolding answer_parts
 own_parts kept (Ok plan) = refl
 own_parts kept (Err large) = refl
 
-client_parts : (opened : LinkParameters) (k : ClientState) (p : Result Plan TooLarge) → by_plan opened k p ≡ answer_parts p k.grant (length k.outstanding) (next_xid opened k) k.stag
+client_parts : (k : ClientState) (p : Result Plan TooLarge) → by_plan k p ≡ answer_parts p k.grant (length k.outstanding) k.next_xid k.stag
 unfolding answer_parts
-client_parts opened k (Ok plan) = refl
-client_parts opened k (Err large) = refl
+client_parts k (Ok plan) = refl
+client_parts k (Err large) = refl
 
 plan_same : (k : ClientState) (xid : ℕ) (call : Call) (form : Form) → plan_of (call_payload xid call) form k.up_max k.down_max ≡ plan_for k xid call form
 unfolding plan_for
 plan_same k xid call form = refl
 
 answer_live : (opened : LinkParameters) (kept : KeptClient) (k : ClientState) (count : ℕ) (call : Call) (form : Form) → ClientKeeps opened kept (live k) count →
-    kept_answer_by_plan kept (plan_of (call_payload kept.next_xid call) form kept.up_max kept.down_max) ≡ by_plan opened k (plan_for k (next_xid opened k) call form)
+    kept_answer_by_plan kept (plan_of (call_payload kept.next_xid call) form kept.up_max kept.down_max) ≡ by_plan k (plan_for k k.next_xid call form)
 answer_live opened kept k count call form keeps =
     let memory : MemoryKeeps kept.memory k count = keeps.memory refl in
     let calls : CallsKeep kept.calls kept.next_xid k = keeps.calls refl in
     own_parts kept (plan_of (call_payload kept.next_xid call) form kept.up_max kept.down_max)
     ∙ (λ i. answer_parts (plan_of (call_payload (keeps.xid i) call) form (keeps.up i) (keeps.down i)) (keeps.grant i) (kept_count k kept.calls k.outstanding calls.kept i) (keeps.xid i) (memory.next i))
-    ∙ sym (client_parts opened k (plan_of (call_payload (next_xid opened k) call) form k.up_max k.down_max))
-    ∙ ap (by_plan opened k) (plan_same k (next_xid opened k) call form)
+    ∙ sym (client_parts k (plan_of (call_payload k.next_xid call) form k.up_max k.down_max))
+    ∙ ap (by_plan k) (plan_same k k.next_xid call form)
 
 answer_if : (opened : LinkParameters) (kept : KeptClient) (e : EndState ClientState) (count : ℕ) (call : Call) (form : Form) → ClientKeeps opened kept e count → (x : Option End) → e.ended ≡ x →
-    kept_answer_if kept call form x ≡ answer_by opened e.state call form x
+    kept_answer_if kept call form x ≡ answer_by e.state call form x
 answer_if opened kept e count call form keeps (Some end) is = refl
 answer_if opened kept e count call form keeps None is =
     answer_live opened kept e.state count call form (subst (λ (y : Option End). ClientKeeps opened kept (record { state = e.state; ended = y }) count) is keeps)

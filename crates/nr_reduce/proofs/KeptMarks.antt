@@ -11,7 +11,7 @@ use Rattle.nr_reduce.specs.declared.mark.Mark.TheVariants as marks
 use Rattle.nr_reduce.specs.declared.mark.LinkParameters.{LinkParameters}
 use Rattle.nr_reduce.specs.History.{bytes_sent, bytes_received, written_at, fed_at}
 use Rattle.nr_reduce.specs.Written.{ends_written}
-use Rattle.nr_reduce.specs.Events.{RunEvent, if_own, events_at, events}
+use Rattle.nr_reduce.specs.Events.{RunEvent, if_own, events_at}
 use Rattle.nr_reduce.specs.Events.RunEvent.{MemoryRevoked, QueueWritten}
 use Rattle.nr_reduce.specs.EndRules.{EndState, next_end_state, output_for, output_for_in, end_state_after, output_for_all, live}
 use Rattle.nr_reduce.specs.ClientState.{OutstandingCall, ClientState}
@@ -25,7 +25,6 @@ use Rattle.nr_reduce.proofs.Steps.{client_one, output_due_up_one}
 use Rattle.nr_reduce.proofs.Standing.{itself, received_one, events_input, SameAfter, same_after_lem, live_before, stands_on, client_stays_out_lem}
 use Rattle.nr_reduce.proofs.Releasing.{kept_revokes}
 use Rattle.nr_reduce.proofs.Submits.{kept_writes, rising_sent, opens_sent, holds_sent}
-use Rattle.nr_reduce.proofs.CountedBytes.{first_xid_is}
 
 -- events after which no output is due
 revoke_output : (opened : LinkParameters) (e : EndState ClientState) (place xid : ℕ) → output_for (client_rules opened) e (MemoryRevoked place xid) ≡ []
@@ -137,50 +136,46 @@ revoke_stays_out opened link kept queue stopped run xid bytes out =
       output = stays.output;
     }
 
-waits_sent : (first sent : ℕ) (os : List OutstandingCall) (cs : List KeptCall) → AllByRecursion (IsWaiting os) cs → AllByRecursion (IsWaiting os) (map (sent_kept first sent) cs)
-waits_sent first sent os [] h = tt
-waits_sent first sent os (c ∷ cs) h = (one (find (λ (p : OutstandingCall). eqb p.xid c.xid) os) h.0, waits_sent first sent os cs h.1)
+waits_sent : (sent : ℕ) (os : List OutstandingCall) (cs : List KeptCall) → AllByRecursion (IsWaiting os) cs → AllByRecursion (IsWaiting os) (map (sent_kept sent) cs)
+waits_sent sent os [] h = tt
+waits_sent sent os (c ∷ cs) h = (one (find (λ (p : OutstandingCall). eqb p.xid c.xid) os) h.0, waits_sent sent os cs h.1)
   where
-    one : (o : Option OutstandingCall) → HasRegionsOf c o → HasRegionsOf (sent_kept first sent c) o
+    one : (o : Option OutstandingCall) → HasRegionsOf c o → HasRegionsOf (sent_kept sent c) o
     one None h = h
     one (Some o) h = record { call = h.call; stags = h.stags }
 
 -- of a client that has ended it doesn't matter which Sends have left
-writes_ended : (opened : LinkParameters) (kept : KeptClient) (k : ClientState) (end : End) (count first sent : ℕ) → ClientKeeps opened kept (record { state = k; ended = Some end }) count → ClientKeeps opened (kept_sent first sent kept) (record { state = k; ended = Some end }) count
+writes_ended : (opened : LinkParameters) (kept : KeptClient) (k : ClientState) (end : End) (count sent : ℕ) → ClientKeeps opened kept (record { state = k; ended = Some end }) count → ClientKeeps opened (kept_sent sent kept) (record { state = k; ended = Some end }) count
 unfolding kept_sent
-writes_ended opened kept k end count first sent keeps = record {
+writes_ended opened kept k end count sent keeps = record {
   ended = keeps.ended;
   xid = keeps.xid;
+  sends = keeps.sends;
   grant = keeps.grant;
   up = keeps.up;
   down = keeps.down;
   outstanding = keeps.outstanding;
   calls = λ e. absurd cc;
   memory = λ e. absurd cc;
-  waits = waits_sent first sent k.outstanding kept.calls keeps.waits;
-  rising = rising_sent first sent kept.calls kept.next_xid keeps.rising;
-  opens = opens_sent first sent k.regions kept.calls keeps.opens;
+  waits = waits_sent sent k.outstanding kept.calls keeps.waits;
+  rising = rising_sent sent kept.calls kept.next_xid keeps.rising;
+  opens = opens_sent sent k.regions kept.calls keeps.opens;
   accesses = keeps.accesses;
-  holds = holds_sent first sent kept.memory k count kept.calls keeps.holds;
+  holds = holds_sent sent kept.memory k count kept.calls keeps.holds;
 }
 
-first_is_lem : (opened : LinkParameters) (link : ℕ) (run : List Mark) → (client opened link run).state.first_xid ≡ opened.first_xid
-unfolding client
-first_is_lem opened link run = first_xid_is opened (events link Initiator run)
-
-writes : (opened : LinkParameters) (kept : KeptClient) (e : EndState ClientState) (count sent taken : ℕ) → e.state.first_xid ≡ opened.first_xid → (e.ended ≡ None → sent ≡ ends_written (e.state.written + taken) e.state.send_ends) → ClientKeeps opened kept e count →
-    ClientKeeps opened (kept_sent opened.first_xid sent kept) (next_end_state (client_rules opened) e (QueueWritten taken)) count
-writes opened kept e count sent taken first many keeps = by e.ended refl
+writes : (opened : LinkParameters) (kept : KeptClient) (e : EndState ClientState) (count sent taken : ℕ) → (e.ended ≡ None → sent ≡ ends_written (e.state.written + taken) e.state.send_ends) → ClientKeeps opened kept e count →
+    ClientKeeps opened (kept_sent sent kept) (next_end_state (client_rules opened) e (QueueWritten taken)) count
+writes opened kept e count sent taken many keeps = by e.ended refl
   where
-    by : (x : Option End) → e.ended ≡ x → ClientKeeps opened (kept_sent opened.first_xid sent kept) (next_end_state (client_rules opened) e (QueueWritten taken)) count
+    by : (x : Option End) → e.ended ≡ x → ClientKeeps opened (kept_sent sent kept) (next_end_state (client_rules opened) e (QueueWritten taken)) count
     by None is =
-        subst (λ (y : Option End). ClientKeeps opened (kept_sent opened.first_xid sent kept) (next_end_state (client_rules opened) (record { state = e.state; ended = y }) (QueueWritten taken)) count) (sym is)
-        (subst (λ (m : ℕ). ClientKeeps opened (kept_sent opened.first_xid m kept) (next_end_state (client_rules opened) (live e.state) (QueueWritten taken)) count) (sym (many is))
-        (subst (λ (f : ℕ). ClientKeeps opened (kept_sent f (ends_written (e.state.written + taken) e.state.send_ends) kept) (next_end_state (client_rules opened) (live e.state) (QueueWritten taken)) count) first
-        (kept_writes opened kept e.state count taken (subst (λ (y : Option End). ClientKeeps opened kept (record { state = e.state; ended = y }) count) is keeps))))
+        subst (λ (y : Option End). ClientKeeps opened (kept_sent sent kept) (next_end_state (client_rules opened) (record { state = e.state; ended = y }) (QueueWritten taken)) count) (sym is)
+        (subst (λ (m : ℕ). ClientKeeps opened (kept_sent m kept) (next_end_state (client_rules opened) (live e.state) (QueueWritten taken)) count) (sym (many is))
+        (kept_writes opened kept e.state count taken (subst (λ (y : Option End). ClientKeeps opened kept (record { state = e.state; ended = y }) count) is keeps)))
     by (Some end) is =
-        subst (λ (y : Option End). ClientKeeps opened (kept_sent opened.first_xid sent kept) (next_end_state (client_rules opened) (record { state = e.state; ended = y }) (QueueWritten taken)) count) (sym is)
-        (writes_ended opened kept e.state end count opened.first_xid sent (subst (λ (y : Option End). ClientKeeps opened kept (record { state = e.state; ended = y }) count) is keeps))
+        subst (λ (y : Option End). ClientKeeps opened (kept_sent sent kept) (next_end_state (client_rules opened) (record { state = e.state; ended = y }) (QueueWritten taken)) count) (sym is)
+        (writes_ended opened kept e.state end count sent (subst (λ (y : Option End). ClientKeeps opened kept (record { state = e.state; ended = y }) count) is keeps))
 
 taken_is : (link : ℕ) (taken : List ℕ) → written_at link Initiator (marks.Wrote link Initiator taken) ≡ taken
 taken_is link taken = ap (λ (b : Bool). cond (b && true) taken []) (itself link)
@@ -191,9 +186,9 @@ wrote_stands opened link kept input taken left run sent s many =
     let count = length (bytes_received link Initiator run) in
     let mark : Mark = marks.Wrote link Initiator taken in
     let event : RunEvent = QueueWritten (length taken) in
-    stands_unfed opened link kept (kept_sent opened.first_xid sent kept) input (taken ++ left) left run mark (event ∷ []) s refl
+    stands_unfed opened link kept (kept_sent sent kept) input (taken ++ left) left run mark (event ∷ []) s refl
     (λ lives. own_events link (event ∷ []))
-    (writes opened kept e count sent (length taken) (first_is_lem opened link run) many s.keeps)
+    (writes opened kept e count sent (length taken) many s.keeps)
     (ap (λ (xs : List ℕ). xs ++ left) (taken_is link taken) ∙ sym (append-nil (taken ++ left)) ∙ ap (λ (xs : List ℕ). (taken ++ left) ++ xs) (sym (one_output opened e event (wrote_output opened e (length taken)))))
 
 pub other_stands : OtherMarkStands

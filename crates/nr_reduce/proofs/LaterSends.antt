@@ -48,6 +48,6 @@ calls_later opened written due msn (o ∷ os) le =
 pub submit_later : (opened : LinkParameters) (k : ClientState) (a : AcceptedCall) → k.written ≤ k.due → AllByRecursion (λ end. k.written < end) (submitted_ends opened k a)
 submit_later opened k a le = by k.has_hello
   where
-    by : (b : Bool) → AllByRecursion (λ end. k.written < end) (cond b ((k.due + length (cond b (call_output opened (k.calls_accepted + 1) (outstanding_of k a)) [])) ∷ []) [])
-    by true = (let some : 0 < length (call_output opened (k.calls_accepted + 1) (outstanding_of k a)) = call_some opened (k.calls_accepted + 1) (outstanding_of k a) in (omega (arith, le, some), tt))
+    by : (b : Bool) → AllByRecursion (λ end. k.written < end) (cond b ((k.due + length (cond b (call_output opened (k.sends + 1) (outstanding_of k a)) [])) ∷ []) [])
+    by true = (let some : 0 < length (call_output opened (k.sends + 1) (outstanding_of k a)) = call_some opened (k.sends + 1) (outstanding_of k a) in (omega (arith, le, some), tt))
     by false = tt

@@ -14,6 +14,8 @@ pub mod AnswerLists
 pub mod Compared
 pub mod CountedBytes
 pub mod OutcomesStay
+pub mod XidsFollow
+pub mod Unconcerned
 pub mod OutputItems
 pub mod ServerItems
 pub mod WroteItems

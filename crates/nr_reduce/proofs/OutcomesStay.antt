@@ -10,17 +10,16 @@ use Rattle.nr_link.specs.Ending.{frame_segment}
 use Rattle.nr_reduce.specs.declared.mark.Mark.{Mark}
 use Rattle.nr_reduce.specs.declared.mark.LinkParameters.{LinkParameters}
 use Rattle.nr_reduce.specs.History.{CompletedCall}
-use Rattle.nr_reduce.specs.Events.{RunEvent, events, events_at}
+use Rattle.nr_reduce.specs.Events.{RunEvent, events_at}
 use Rattle.nr_reduce.specs.Events.RunEvent.{FrameReceived, CallSubmitted, MemoryRevoked, CallExecuted, QueueWritten}
 use Rattle.nr_reduce.specs.EndRules.{EndState}
 use Rattle.nr_reduce.specs.ClientState.{ClientState}
 use Rattle.nr_reduce.specs.Client.{client_rules, client_state_after, outcomes_of, with_message, with_request, with_segment, with_hello, due_with_response}
 use Rattle.nr_reduce.specs.ClientMessages.{reply_verdict}
 use Rattle.nr_reduce.specs.Run.{client}
-use Rattle.nr_reduce.specs.StandingLaws.{FirstXidStays, OutcomesStay}
+use Rattle.nr_reduce.specs.StandingLaws.{OutcomesStay}
 use Rattle.nr_reduce.proofs.Steps.{client_one}
 use Rattle.nr_reduce.proofs.OwnStags.{kept_after}
-use Rattle.nr_reduce.proofs.CountedBytes.{first_xid_is}
 
 outcome_kept : (opened : LinkParameters) (c : CompletedCall) (k : ClientState) (e : RunEvent) → Contains k.outcomes c → Contains (client_state_after opened k e).outcomes c
 unfolding client_state_after
@@ -54,7 +53,3 @@ outcomes_stay opened link run [] c h = subst (λ (r : List Mark). Contains (clie
 outcomes_stay opened link run (mark ∷ more) c h =
     subst (λ (r : List Mark). Contains (client opened link r).state.outcomes c) (append_assoc run (mark ∷ []) more)
     (outcomes_stay opened link (run ++ mark ∷ []) more c (outcome_one opened link run mark c h))
-
-pub first_xid_stays : FirstXidStays
-unfolding client
-first_xid_stays opened link run = first_xid_is opened (events link Initiator run)

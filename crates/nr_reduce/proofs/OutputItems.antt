@@ -155,8 +155,8 @@ client_encoded opened k (FrameReceived f) = by (is_hello f)
     by false = by_request (segment_request (frame_segment f))
 client_encoded opened k (CallSubmitted place a) = by k.has_hello
   where
-    by : (b : Bool) → cond b (call_output opened (k.calls_accepted + 1) (outstanding_of k a)) [] ≡ items_encoding (cond b (sent_call_item opened (k.calls_accepted + 1) (outstanding_of k a) ∷ []) [])
-    by true = call_word opened (k.calls_accepted + 1) (outstanding_of k a) ∙ sym (append-nil (item_encoding (sent_call_item opened (k.calls_accepted + 1) (outstanding_of k a))))
+    by : (b : Bool) → cond b (call_output opened (k.sends + 1) (outstanding_of k a)) [] ≡ items_encoding (cond b (sent_call_item opened (k.sends + 1) (outstanding_of k a) ∷ []) [])
+    by true = call_word opened (k.sends + 1) (outstanding_of k a) ∙ sym (append-nil (item_encoding (sent_call_item opened (k.sends + 1) (outstanding_of k a))))
     by false = refl
 client_encoded opened k (MemoryRevoked place xid) = refl
 client_encoded opened k (CallExecuted call) = refl
@@ -196,10 +196,10 @@ client_sends opened k (FrameReceived f) = by (is_hello f)
 client_sends opened k (CallSubmitted place a) = by k.has_hello
   where
     one : List ℕ
-    one = call_output opened (k.calls_accepted + 1) (outstanding_of k a)
+    one = call_output opened (k.sends + 1) (outstanding_of k a)
 
-    by : (b : Bool) → k.send_ends ++ cond b ((k.due + length (cond b one [])) ∷ []) [] ≡ k.send_ends ++ item_ends is_send_item k.due (cond b (sent_call_item opened (k.calls_accepted + 1) (outstanding_of k a) ∷ []) [])
-    by true = ap (λ (bs : List ℕ). k.send_ends ++ (k.due + length bs) ∷ []) (call_word opened (k.calls_accepted + 1) (outstanding_of k a))
+    by : (b : Bool) → k.send_ends ++ cond b ((k.due + length (cond b one [])) ∷ []) [] ≡ k.send_ends ++ item_ends is_send_item k.due (cond b (sent_call_item opened (k.sends + 1) (outstanding_of k a) ∷ []) [])
+    by true = ap (λ (bs : List ℕ). k.send_ends ++ (k.due + length bs) ∷ []) (call_word opened (k.sends + 1) (outstanding_of k a))
     by false = refl
 client_sends opened k (MemoryRevoked place xid) = sym (append-nil k.send_ends)
 client_sends opened k (CallExecuted call) = sym (append-nil k.send_ends)
@@ -225,7 +225,7 @@ client_responses opened k (FrameReceived f) = by (is_hello f)
     by false = by_segment (frame_segment f)
 client_responses opened k (CallSubmitted place a) = by k.has_hello
   where
-    by : (b : Bool) → k.response_ends ≡ k.response_ends ++ item_ends is_response_item k.due (cond b (sent_call_item opened (k.calls_accepted + 1) (outstanding_of k a) ∷ []) [])
+    by : (b : Bool) → k.response_ends ≡ k.response_ends ++ item_ends is_response_item k.due (cond b (sent_call_item opened (k.sends + 1) (outstanding_of k a) ∷ []) [])
     by true = sym (append-nil k.response_ends)
     by false = sym (append-nil k.response_ends)
 client_responses opened k (MemoryRevoked place xid) = sym (append-nil k.response_ends)

@@ -82,75 +82,86 @@ completes_once Relates opened link xid outcome run before after is h c there =
     let asked : AtEachMark (AskedMark Relates opened link) [] (before ++ marks.Done link xid outcome ∷ after) = subst (λ (r : List Mark). AtEachMark (AskedMark Relates opened link) [] r) is h in
     (AtEachMark_at (AskedMark Relates opened link) [] before (marks.Done link xid outcome) after asked refl).awaited.first c there
 
--- ---- Xids
+-- ---- Xids: the next one never falls
 
-by_request : (m : ClientState) (due : ℕ) (r : Option ReadRequest) → (with_request m due r).calls_accepted ≡ m.calls_accepted
+by_request : (m : ClientState) (due : ℕ) (r : Option ReadRequest) → (with_request m due r).next_xid ≡ m.next_xid
 by_request m due None = refl
 by_request m due (Some r) = refl
 
-by_message : (k : ClientState) (place : ℕ) (message : Option (List ℕ)) → (with_message k place message).calls_accepted ≡ k.calls_accepted
+by_message : (k : ClientState) (place : ℕ) (message : Option (List ℕ)) → (with_message k place message).next_xid ≡ k.next_xid
 by_message k place None = refl
 by_message k place (Some message) = refl
 
-pub segment_accepted : (k : ClientState) (f : Frame) (r : Result Segment ℕ) → (with_segment k f r).calls_accepted ≡ k.calls_accepted
-segment_accepted k f (Err reason) = refl
-segment_accepted k f (Ok segment) =
+pub segment_next : (k : ClientState) (f : Frame) (r : Result Segment ℕ) → (with_segment k f r).next_xid ≡ k.next_xid
+segment_next k f (Err reason) = refl
+segment_next k f (Ok segment) =
     by_request (with_message k f.end (message_completed k.received segment)) (due_with_response k f segment) (read_request_of segment) ∙ by_message k f.end (message_completed k.received segment)
 
-by_frame : (opened : LinkParameters) (k : ClientState) (f : Frame) (b : Bool) → k.calls_accepted ≤ (cond b (with_hello opened k f) (with_segment k f (frame_segment f))).calls_accepted
-by_frame opened k f true = omega arith
-by_frame opened k f false = (let e = segment_accepted k f (frame_segment f) in omega (arith, e))
-
-accepted_calls_after : (opened : LinkParameters) (k : ClientState) (event : RunEvent) → k.calls_accepted ≤ (client_state_after opened k event).calls_accepted
-unfolding client_state_after
-accepted_calls_after opened k (FrameReceived f) = by_frame opened k f (is_hello f)
-accepted_calls_after opened k (CallSubmitted place a) = omega arith
-accepted_calls_after opened k (MemoryRevoked place xid) = omega arith
-accepted_calls_after opened k (CallExecuted call) = omega arith
-accepted_calls_after opened k (QueueWritten taken) = omega arith
-
-accepted_calls_next_end_state : (opened : LinkParameters) (r : EndState ClientState) (event : RunEvent) → r.state.calls_accepted ≤ (next_end_state (client_rules opened) r event).state.calls_accepted
-accepted_calls_next_end_state opened r event = by_end r.state r.ended
+-- the number of Sends stays too
+pub segment_sends : (k : ClientState) (f : Frame) (r : Result Segment ℕ) → (with_segment k f r).sends ≡ k.sends
+segment_sends k f (Err reason) = refl
+segment_sends k f (Ok segment) = by (message_completed k.received segment) (read_request_of segment)
   where
-    by_why : (k : ClientState) (why : Option Stop) → k.calls_accepted ≤ (next_end_state_by (client_rules opened) k event why).state.calls_accepted
-    by_why k None = accepted_calls_after opened k event
+    by : (m : Option (List ℕ)) (q : Option ReadRequest) → (with_request (with_message k f.end m) (due_with_response k f segment) q).sends ≡ k.sends
+    by None None = refl
+    by None (Some q) = refl
+    by (Some m) None = refl
+    by (Some m) (Some q) = refl
+
+by_frame : (opened : LinkParameters) (k : ClientState) (f : Frame) (b : Bool) → k.next_xid ≤ (cond b (with_hello opened k f) (with_segment k f (frame_segment f))).next_xid
+by_frame opened k f true = omega arith
+by_frame opened k f false = (let e = segment_next k f (frame_segment f) in omega (arith, e))
+
+next_after : (opened : LinkParameters) (k : ClientState) (event : RunEvent) → k.next_xid ≤ (client_state_after opened k event).next_xid
+unfolding client_state_after
+next_after opened k (FrameReceived f) = by_frame opened k f (is_hello f)
+next_after opened k (CallSubmitted place a) = omega arith
+next_after opened k (MemoryRevoked place xid) = omega arith
+next_after opened k (CallExecuted call) = omega arith
+next_after opened k (QueueWritten taken) = omega arith
+
+next_after_event : (opened : LinkParameters) (r : EndState ClientState) (event : RunEvent) → r.state.next_xid ≤ (next_end_state (client_rules opened) r event).state.next_xid
+next_after_event opened r event = by_end r.state r.ended
+  where
+    by_why : (k : ClientState) (why : Option Stop) → k.next_xid ≤ (next_end_state_by (client_rules opened) k event why).state.next_xid
+    by_why k None = next_after opened k event
     by_why k (Some end) = omega arith
 
-    by_end : (k : ClientState) (ended : Option Stop) → k.calls_accepted ≤ (next_end_state_in (client_rules opened) k event ended).state.calls_accepted
+    by_end : (k : ClientState) (ended : Option Stop) → k.next_xid ≤ (next_end_state_in (client_rules opened) k event ended).state.next_xid
     by_end k None = by_why k (client_end k event)
     by_end k (Some end) = omega arith
 
-accepted_calls_reached : (opened : LinkParameters) (r : EndState ClientState) (events : List RunEvent) → r.state.calls_accepted ≤ (end_state_after (client_rules opened) r events).state.calls_accepted
-accepted_calls_reached opened r [] = omega arith
-accepted_calls_reached opened r (event ∷ events) =
-    (let a = accepted_calls_next_end_state opened r event in let b = accepted_calls_reached opened (next_end_state (client_rules opened) r event) events in omega (arith, a, b))
+next_after_events : (opened : LinkParameters) (r : EndState ClientState) (events : List RunEvent) → r.state.next_xid ≤ (end_state_after (client_rules opened) r events).state.next_xid
+next_after_events opened r [] = omega arith
+next_after_events opened r (event ∷ events) =
+    (let a = next_after_event opened r event in let b = next_after_events opened (next_end_state (client_rules opened) r event) events in omega (arith, a, b))
 
-abbrev accepted_so_far : LinkParameters → ℕ → List Mark → ℕ
-accepted_so_far opened link run = (client opened link run).state.calls_accepted
+abbrev next_xid_at : LinkParameters → ℕ → List Mark → ℕ
+next_xid_at opened link run = (client opened link run).state.next_xid
 
-accepted_calls_rises : (opened : LinkParameters) (link : ℕ) (run more : List Mark) → accepted_so_far opened link run ≤ accepted_so_far opened link (run ++ more)
-accepted_calls_rises opened link run [] = (let e = ap (λ (r : List Mark). (client opened link r).state.calls_accepted) (append-nil run) in omega (arith, e))
-accepted_calls_rises opened link run (mark ∷ more) =
-    let one = ap (λ (r : EndState ClientState). r.state.calls_accepted) (client_one opened link run mark) in
-    let frame_effect = accepted_calls_reached opened (client opened link run) (events_at link Initiator run mark) in
-    let rest = accepted_calls_rises opened link (run ++ mark ∷ []) more in
-    let same = ap (λ (r : List Mark). (client opened link r).state.calls_accepted) (append_assoc run (mark ∷ []) more) in
+next_rises : (opened : LinkParameters) (link : ℕ) (run more : List Mark) → next_xid_at opened link run ≤ next_xid_at opened link (run ++ more)
+next_rises opened link run [] = (let e = ap (λ (r : List Mark). (client opened link r).state.next_xid) (append-nil run) in omega (arith, e))
+next_rises opened link run (mark ∷ more) =
+    let one = ap (λ (r : EndState ClientState). r.state.next_xid) (client_one opened link run mark) in
+    let frame_effect = next_after_events opened (client opened link run) (events_at link Initiator run mark) in
+    let rest = next_rises opened link (run ++ mark ∷ []) more in
+    let same = ap (λ (r : List Mark). (client opened link r).state.next_xid) (append_assoc run (mark ∷ []) more) in
     omega (arith, one, frame_effect, rest, same)
 
-accepts_one : (opened : LinkParameters) (k : ClientState) (ended : Option Stop) (place : ℕ) (a : AcceptedCall) → ended ≡ None → (next_end_state_in (client_rules opened) k (CallSubmitted place a) ended).state.calls_accepted ≡ k.calls_accepted + 1
+submits_one : (opened : LinkParameters) (k : ClientState) (ended : Option Stop) (place : ℕ) (a : AcceptedCall) → ended ≡ None → (next_end_state_in (client_rules opened) k (CallSubmitted place a) ended).state.next_xid ≡ k.next_xid + 1
 unfolding client_state_after client_end
-accepts_one opened k None place a e = refl
-accepts_one opened k (Some end) place a e = absurd cc
+submits_one opened k None place a e = refl
+submits_one opened k (Some end) place a e = absurd cc
 
--- an accepted call counts
-pub accepted_calls_one : (opened : LinkParameters) (link : ℕ) (run : List Mark) (call : Call) (form : Form) (xid : ℕ) → (client opened link run).ended ≡ None
-    → accepted_so_far opened link (run ++ marks.Submit link call form (submissions.Accepted xid) ∷ []) ≡ accepted_so_far opened link run + 1
-accepted_calls_one opened link run call form xid stays =
+-- after an accepted call the next xid is one more
+pub next_xid_one : (opened : LinkParameters) (link : ℕ) (run : List Mark) (call : Call) (form : Form) (xid : ℕ) → (client opened link run).ended ≡ None
+    → next_xid_at opened link (run ++ marks.Submit link call form (submissions.Accepted xid) ∷ []) ≡ next_xid_at opened link run + 1
+next_xid_one opened link run call form xid stays =
     let a : AcceptedCall = record { xid = xid; call = call; form = form } in
     let r = client opened link run in
-    ap (λ (r : EndState ClientState). r.state.calls_accepted) (client_one opened link run (marks.Submit link call form (submissions.Accepted xid)))
-    ∙ ap (λ (b : Bool). (end_state_after (client_rules opened) r (if_own (b && true) (CallSubmitted (length (bytes_received link Initiator run)) a ∷ []))).state.calls_accepted) (itself link)
-    ∙ accepts_one opened r.state r.ended (length (bytes_received link Initiator run)) a stays
+    ap (λ (r : EndState ClientState). r.state.next_xid) (client_one opened link run (marks.Submit link call form (submissions.Accepted xid)))
+    ∙ ap (λ (b : Bool). (end_state_after (client_rules opened) r (if_own (b && true) (CallSubmitted (length (bytes_received link Initiator run)) a ∷ []))).state.next_xid) (itself link)
+    ∙ submits_one opened r.state r.ended (length (bytes_received link Initiator run)) a stays
 
 -- No xid is given twice on a link.
 pub xids_differ : (Relates : List ℕ → List ℕ → Type 0) (opened : LinkParameters) (link : ℕ) (run before between after : List Mark) (call other : Call) (form way : Form) (xid yid : ℕ)
@@ -164,9 +175,9 @@ xids_differ Relates opened link run before between after call other form way xid
     let one : IsAccepted opened link before call form xid = AtEachMark_at P [] before first (between ++ second ∷ after) asked refl in
     let two : IsAccepted opened link (before ++ first ∷ between) other way yid =
     AtEachMark_at P [] (before ++ first ∷ between) second after (subst (λ (r : List Mark). AtEachMark P [] r) (sym (append_assoc before (first ∷ between) (second ∷ after))) asked) refl in
-    let counted = accepted_calls_one opened link before call form xid one.stays in
-    let rises = accepted_calls_rises opened link (before ++ first ∷ []) between in
-    let same = ap (λ (r : List Mark). (client opened link r).state.calls_accepted) (append_assoc before (first ∷ []) between) in
+    let counted = next_xid_one opened link before call form xid one.stays in
+    let rises = next_rises opened link (before ++ first ∷ []) between in
+    let same = ap (λ (r : List Mark). (client opened link r).state.next_xid) (append_assoc before (first ∷ []) between) in
     let x = one.next in
     let y = two.next in
     omega (arith, x, y, counted, rises, same)

@@ -90,7 +90,7 @@ one_revoked : (k : ClientState) (xid : ℕ) (c : KeptCall) (o : OutstandingCall)
 one_revoked k xid c o is = subst (λ (n : ℕ). IsKeptCall k (revoked_if (eqb c.xid xid) c) (cond (eqb n xid) (record o { is_revoked = true }) o)) is.xid (by (eqb c.xid xid))
   where
     by : (b : Bool) → IsKeptCall k (revoked_if b c) (cond b (record o { is_revoked = true }) o)
-    by true = record { xid = is.xid; sent = is.sent; revoked = refl; call = tt; write = is.write; reply = is.reply; stags = refl }
+    by true = record { xid = is.xid; send = is.send; sent = is.sent; revoked = refl; call = tt; write = is.write; reply = is.reply; stags = refl }
     by false = is
 
 kept_revoked_lem : (k : ClientState) (xid : ℕ) (cs : List KeptCall) (os : List OutstandingCall) → AreKept k cs os → AreKept k (map (revoked_kept xid) cs) (map (revoked_call xid) os)
@@ -137,7 +137,7 @@ opens_revoked xid place regions (c ∷ cs) h = (by (eqb c.xid xid) refl, opens_r
 calls_revoked : (opened : LinkParameters) (calls : List KeptCall) (next_xid xid place : ℕ) (k : ClientState) → CallsKeep calls next_xid k → CallsKeep (map (revoked_kept xid) calls) next_xid (client_state_after opened k (MemoryRevoked place xid))
 unfolding client_state_after
 calls_revoked opened calls next_xid xid place k keeps = record {
-  kept = kept_alike k (client_state_after opened k (MemoryRevoked place xid)) (map (revoked_kept xid) calls) (map (revoked_call xid) k.outstanding) (record { first = refl; written = refl; ends = refl }) (kept_revoked_lem k xid calls k.outstanding keeps.kept);
+  kept = kept_alike k (client_state_after opened k (MemoryRevoked place xid)) (map (revoked_kept xid) calls) (map (revoked_call xid) k.outstanding) (record { written = refl; ends = refl }) (kept_revoked_lem k xid calls k.outstanding keeps.kept);
   rising = rising_revoked xid calls next_xid keeps.rising;
   owned = λ stag r e is_open.
       (let owner = closed_owner xid place calls k.regions keeps.owned stag r e is_open in
@@ -245,6 +245,7 @@ pub kept_stays : KeptStays
 kept_stays opened kept e count later keeps le = record {
   ended = keeps.ended;
   xid = keeps.xid;
+  sends = keeps.sends;
   grant = keeps.grant;
   up = keeps.up;
   down = keeps.down;
@@ -300,11 +301,12 @@ waits_revoked xid os (c ∷ cs) h = (by (eqb c.xid xid), waits_revoked xid os cs
     by false = h.0
 
 -- of a client that hasn't ended the memory of its calls is that of its open regions
-pub keeps_live : (opened : LinkParameters) (kept : KeptClient) (k : ClientState) (count : ℕ) → kept.ended ≡ None → kept.next_xid ≡ Rattle.nr_reduce.specs.SubmitAnswer.next_xid opened k → kept.grant ≡ k.grant → kept.up_max ≡ k.up_max → kept.down_max ≡ k.down_max → kept.outstanding ≡ length k.outstanding →
+pub keeps_live : (opened : LinkParameters) (kept : KeptClient) (k : ClientState) (count : ℕ) → kept.ended ≡ None → kept.next_xid ≡ k.next_xid → kept.sends ≡ k.sends → kept.grant ≡ k.grant → kept.up_max ≡ k.up_max → kept.down_max ≡ k.down_max → kept.outstanding ≡ length k.outstanding →
     AreReceived count k.accesses_received → MemoryKeeps kept.memory k count → CallsKeep kept.calls kept.next_xid k → ClientKeeps opened kept (live k) count
-keeps_live opened kept k count ended xid grant up down outstanding accesses memory calls = record {
+keeps_live opened kept k count ended xid sends grant up down outstanding accesses memory calls = record {
   ended = ended;
   xid = xid;
+  sends = sends;
   grant = grant;
   up = up;
   down = down;
@@ -334,7 +336,7 @@ revokes : (opened : LinkParameters) (kept : KeptClient) (k : ClientState) (count
 unfolding client_end client_state_after kept_revoked
 revokes opened kept k count xid keeps =
     let calls : CallsKeep kept.calls kept.next_xid k = keeps.calls refl in
-    keeps_live opened (kept_revoked kept xid) (client_state_after opened k (MemoryRevoked count xid)) count keeps.ended keeps.xid keeps.grant keeps.up keeps.down (keeps.outstanding ∙ sym (length-map k.outstanding (revoked_call xid))) keeps.accesses
+    keeps_live opened (kept_revoked kept xid) (client_state_after opened k (MemoryRevoked count xid)) count keeps.ended keeps.xid keeps.sends keeps.grant keeps.up keeps.down (keeps.outstanding ∙ sym (length-map k.outstanding (revoked_call xid))) keeps.accesses
     (memory_closed xid count count kept.calls kept.next_xid k (client_state_after opened k (MemoryRevoked count xid)) kept.memory (omega arith) calls keeps.accesses (keeps.memory refl) refl refl refl)
     (calls_revoked opened kept.calls kept.next_xid xid count k calls)
 
@@ -343,6 +345,7 @@ unfolding kept_revoked
 revokes_ended opened kept k end count xid keeps = record {
   ended = keeps.ended;
   xid = keeps.xid;
+  sends = keeps.sends;
   grant = keeps.grant;
   up = keeps.up;
   down = keeps.down;
@@ -372,6 +375,7 @@ unfolding kept_handed_back
 kept_hands_back opened kept e end count xid ended keeps = record {
   ended = keeps.ended;
   xid = keeps.xid;
+  sends = keeps.sends;
   grant = keeps.grant;
   up = keeps.up;
   down = keeps.down;
@@ -391,7 +395,7 @@ kept_completes opened kept k count place message keeps le =
     let calls : CallsKeep kept.calls kept.next_xid k = keeps.calls refl in
     let after : ClientState = with_message k place (Some message) in
     let closed : CallsKeep (without (word_at 0 message) kept.calls) kept.next_xid after =
-    calls_closed kept.calls kept.next_xid (word_at 0 message) place k after (record { first = refl; written = refl; ends = refl }) calls refl refl in
-    keeps_live opened (kept_completed kept message) after place keeps.ended keeps.xid refl keeps.up keeps.down (kept_count after (without (word_at 0 message) kept.calls) after.outstanding closed.kept) (received_later count place k.accesses_received le keeps.accesses)
+    calls_closed kept.calls kept.next_xid (word_at 0 message) place k after (record { written = refl; ends = refl }) calls refl refl in
+    keeps_live opened (kept_completed kept message) after place keeps.ended keeps.xid keeps.sends refl keeps.up keeps.down (kept_count after (without (word_at 0 message) kept.calls) after.outstanding closed.kept) (received_later count place k.accesses_received le keeps.accesses)
     (memory_closed (word_at 0 message) count place kept.calls kept.next_xid k after kept.memory le calls keeps.accesses (keeps.memory refl) refl refl refl)
     closed

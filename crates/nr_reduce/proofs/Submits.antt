@@ -1,5 +1,5 @@
 -- What a client keeps after an access of its peer, after a write, with the server's hello, and after a call that it accepts.
-use Rattle.std.proofs.Common.{◌≡◌, ℕ, ◌+◌, ◌-◌, ◌<◌, ◌≤◌, Bool, true, false, cond, eqb, leb, ltb, List, [], ◌∷◌, ◌++◌, length, map, inl, inr, Option, None, Some, Result, Ok, refl, sym, ap, subst, ◌∙◌, arith, length-append}
+use Rattle.std.proofs.Common.{◌≡◌, ℕ, ◌+◌, ◌<◌, ◌≤◌, Bool, true, false, cond, leb, ltb, List, [], ◌∷◌, ◌++◌, length, map, inl, inr, Option, None, Some, Result, Ok, refl, sym, ap, subst, ◌∙◌, arith, length-append}
 use Rattle.std.specs.List.{AllByRecursion, filter}
 use Rattle.std.proofs.lemmas.Bool.{lt-leb, le-ltb}
 use Rattle.nr_regions.specs.RegisteredMemory.{RegisteredMemory, denial}
@@ -30,9 +30,8 @@ use Rattle.nr_reduce.proofs.Registering.{Registers, register_all, buffers_number
 -- ---- The Sends that have left
 
 -- the same number has left in both states
-record SendsStay (k k2 : ClientState) : Type 0 where
-  first : k2.first_xid ≡ k.first_xid
-  left : ends_written k2.written k2.send_ends ≡ ends_written k.written k.send_ends
+abbrev SendsStay : ClientState → ClientState → Type 0
+SendsStay k k2 = ends_written k2.written k2.send_ends ≡ ends_written k.written k.send_ends
 
 kept_stay : (k k2 : ClientState) (cs : List KeptCall) (os : List OutstandingCall) → SendsStay k k2 → AreKept k cs os → AreKept k2 cs os
 kept_stay k k2 [] [] same is = tt
@@ -41,7 +40,8 @@ kept_stay k k2 (c ∷ cs) [] same is = absurd is
 kept_stay k k2 (c ∷ cs) (o ∷ os) same is = (
   record {
     xid = is.0.xid;
-    sent = is.0.sent ∙ (λ i. ltb (o.xid - sym same.first i) (sym same.left i));
+    send = is.0.send;
+    sent = is.0.sent ∙ ap (ltb o.send) (sym same);
     revoked = is.0.revoked;
     call = is.0.call;
     write = is.0.write;
@@ -76,7 +76,7 @@ event_next m s = arrival_next m s (denial m (access_of_tagged s))
 
 calls_same : (calls : List KeptCall) (next : ℕ) (k : ClientState) (access : TaggedSegment) → CallsKeep calls next k → CallsKeep calls next (record k { accesses_received = k.accesses_received ++ access ∷ [] })
 calls_same calls next k access keeps = record {
-  kept = kept_stay k (record k { accesses_received = k.accesses_received ++ access ∷ [] }) calls k.outstanding (record { first = refl; left = refl }) keeps.kept;
+  kept = kept_stay k (record k { accesses_received = k.accesses_received ++ access ∷ [] }) calls k.outstanding refl keeps.kept;
   rising = keeps.rising;
   owned = keeps.owned;
   opens = keeps.opens;
@@ -87,7 +87,7 @@ unfolding kept_placed
 kept_places opened kept k count access keeps lt =
     let memory : MemoryKeeps kept.memory k count = keeps.memory refl in
     let after : ClientState = record k { accesses_received = k.accesses_received ++ access ∷ [] } in
-    keeps_live opened (kept_placed kept access) after access.end keeps.ended keeps.xid keeps.grant keeps.up keeps.down keeps.outstanding (received_one count k.accesses_received access (omega (arith, lt)) keeps.accesses)
+    keeps_live opened (kept_placed kept access) after access.end keeps.ended keeps.xid keeps.sends keeps.grant keeps.up keeps.down keeps.outstanding (received_one count k.accesses_received access (omega (arith, lt)) keeps.accesses)
     (record {
       next = event_next kept.memory access ∙ memory.next;
       offered = offered_later count access.end k.regions (omega (arith, lt)) memory.offered;
@@ -98,43 +98,44 @@ kept_places opened kept k count access keeps lt =
 
 -- ---- A write
 
-sent_all : (k k2 : ClientState) (first sent : ℕ) (cs : List KeptCall) (os : List OutstandingCall) → k2.first_xid ≡ first → ends_written k2.written k2.send_ends ≡ sent → AreKept k cs os → AreKept k2 (map (sent_kept first sent) cs) os
-sent_all k k2 first sent [] [] f e is = tt
-sent_all k k2 first sent [] (o ∷ os) f e is = absurd is
-sent_all k k2 first sent (c ∷ cs) [] f e is = absurd is
-sent_all k k2 first sent (c ∷ cs) (o ∷ os) f e is = (
+sent_all : (k k2 : ClientState) (sent : ℕ) (cs : List KeptCall) (os : List OutstandingCall) → ends_written k2.written k2.send_ends ≡ sent → AreKept k cs os → AreKept k2 (map (sent_kept sent) cs) os
+sent_all k k2 sent [] [] e is = tt
+sent_all k k2 sent [] (o ∷ os) e is = absurd is
+sent_all k k2 sent (c ∷ cs) [] e is = absurd is
+sent_all k k2 sent (c ∷ cs) (o ∷ os) e is = (
   record {
     xid = is.0.xid;
-    sent = λ i. ltb (is.0.xid i - sym f i) (sym e i);
+    send = is.0.send;
+    sent = λ i. ltb (is.0.send i) (sym e i);
     revoked = is.0.revoked;
     call = is.0.call;
     write = is.0.write;
     reply = is.0.reply;
     stags = is.0.stags;
   },
-  sent_all k k2 first sent cs os f e is.1,
+  sent_all k k2 sent cs os e is.1,
 )
 
-above_sent : (first sent n : ℕ) (cs : List KeptCall) → AllByRecursion (λ d. n < d.xid) cs → AllByRecursion (λ d. n < d.xid) (map (sent_kept first sent) cs)
-above_sent first sent n [] h = tt
-above_sent first sent n (c ∷ cs) h = (h.0, above_sent first sent n cs h.1)
+above_sent : (sent n : ℕ) (cs : List KeptCall) → AllByRecursion (λ d. n < d.xid) cs → AllByRecursion (λ d. n < d.xid) (map (sent_kept sent) cs)
+above_sent sent n [] h = tt
+above_sent sent n (c ∷ cs) h = (h.0, above_sent sent n cs h.1)
 
-pub rising_sent : (first sent : ℕ) (cs : List KeptCall) (below : ℕ) → AreRising cs below → AreRising (map (sent_kept first sent) cs) below
-rising_sent first sent [] below h = tt
-rising_sent first sent (c ∷ cs) below h = (h.0, (above_sent first sent c.xid cs h.1.0, rising_sent first sent cs below h.1.1))
+pub rising_sent : (sent : ℕ) (cs : List KeptCall) (below : ℕ) → AreRising cs below → AreRising (map (sent_kept sent) cs) below
+rising_sent sent [] below h = tt
+rising_sent sent (c ∷ cs) below h = (h.0, (above_sent sent c.xid cs h.1.0, rising_sent sent cs below h.1.1))
 
-among_sent : (first sent : ℕ) (d : KeptCall) (cs : List KeptCall) → IsAmong d cs → IsAmong (sent_kept first sent d) (map (sent_kept first sent) cs)
-among_sent first sent d [] is = absurd is
-among_sent first sent d (c ∷ cs) (inl e) = inl (ap (sent_kept first sent) e)
-among_sent first sent d (c ∷ cs) (inr is) = inr (among_sent first sent d cs is)
+among_sent : (sent : ℕ) (d : KeptCall) (cs : List KeptCall) → IsAmong d cs → IsAmong (sent_kept sent d) (map (sent_kept sent) cs)
+among_sent sent d [] is = absurd is
+among_sent sent d (c ∷ cs) (inl e) = inl (ap (sent_kept sent) e)
+among_sent sent d (c ∷ cs) (inr is) = inr (among_sent sent d cs is)
 
-pub opens_sent : (first sent : ℕ) (regions : List Region) (cs : List KeptCall) → AllByRecursion (OpensFor regions) cs → AllByRecursion (OpensFor regions) (map (sent_kept first sent) cs)
-opens_sent first sent regions [] h = tt
-opens_sent first sent regions (c ∷ cs) h = (h.0, opens_sent first sent regions cs h.1)
+pub opens_sent : (sent : ℕ) (regions : List Region) (cs : List KeptCall) → AllByRecursion (OpensFor regions) cs → AllByRecursion (OpensFor regions) (map (sent_kept sent) cs)
+opens_sent sent regions [] h = tt
+opens_sent sent regions (c ∷ cs) h = (h.0, opens_sent sent regions cs h.1)
 
-pub holds_sent : (first sent : ℕ) (m : RegisteredMemory) (k : ClientState) (count : ℕ) (cs : List KeptCall) → AllByRecursion (HoldsFor m k count) cs → AllByRecursion (HoldsFor m k count) (map (sent_kept first sent) cs)
-holds_sent first sent m k count [] h = tt
-holds_sent first sent m k count (c ∷ cs) h = (h.0, holds_sent first sent m k count cs h.1)
+pub holds_sent : (sent : ℕ) (m : RegisteredMemory) (k : ClientState) (count : ℕ) (cs : List KeptCall) → AllByRecursion (HoldsFor m k count) cs → AllByRecursion (HoldsFor m k count) (map (sent_kept sent) cs)
+holds_sent sent m k count [] h = tt
+holds_sent sent m k count (c ∷ cs) h = (h.0, holds_sent sent m k count cs h.1)
 
 pub kept_writes : KeptWrites
 unfolding client_end client_state_after kept_sent
@@ -143,15 +144,15 @@ kept_writes opened kept k count taken keeps =
     let memory : MemoryKeeps kept.memory k count = keeps.memory refl in
     let after : ClientState = record k { written = k.written + taken } in
     let sent : ℕ = ends_written (k.written + taken) k.send_ends in
-    keeps_live opened (kept_sent k.first_xid sent kept) after count keeps.ended keeps.xid keeps.grant keeps.up keeps.down keeps.outstanding keeps.accesses
+    keeps_live opened (kept_sent sent kept) after count keeps.ended keeps.xid keeps.sends keeps.grant keeps.up keeps.down keeps.outstanding keeps.accesses
     (record { next = memory.next; offered = memory.offered; holds = memory.holds; below = memory.below })
     (record {
-      kept = sent_all k after k.first_xid sent kept.calls k.outstanding refl refl calls.kept;
-      rising = rising_sent k.first_xid sent kept.calls kept.next_xid calls.rising;
+      kept = sent_all k after sent kept.calls k.outstanding refl calls.kept;
+      rising = rising_sent sent kept.calls kept.next_xid calls.rising;
       owned = λ stag r there is_open.
           (let owner : IsOwned kept.calls r.call stag = calls.owned stag r there is_open in
-          record { call = sent_kept k.first_xid sent owner.call; there = among_sent k.first_xid sent owner.call kept.calls owner.there; xid_is = owner.xid_is; own = owner.own });
-      opens = opens_sent k.first_xid sent k.regions kept.calls calls.opens;
+          record { call = sent_kept sent owner.call; there = among_sent sent owner.call kept.calls owner.there; xid_is = owner.xid_is; own = owner.own });
+      opens = opens_sent sent k.regions kept.calls calls.opens;
     })
 
 -- ---- The server's hello
@@ -162,10 +163,10 @@ kept_greets opened kept k f count keeps within =
     let later : AllByRecursion (λ end. k.written < end) (call_ends opened k.due 1 k.outstanding) = calls_later opened k.written k.due 1 k.outstanding within in
     let calls : CallsKeep kept.calls kept.next_xid k = keeps.calls refl in
     let memory : MemoryKeeps kept.memory k count = keeps.memory refl in
-    keeps_live opened (kept_greeted kept (client_agreement opened f)) (with_hello opened k f) count keeps.ended keeps.xid keeps.grant refl refl keeps.outstanding keeps.accesses
+    keeps_live opened (kept_greeted kept (client_agreement opened f)) (with_hello opened k f) count keeps.ended keeps.xid keeps.sends keeps.grant refl refl keeps.outstanding keeps.accesses
     (record { next = memory.next; offered = memory.offered; holds = memory.holds; below = memory.below })
     (record {
-      kept = kept_stay k (with_hello opened k f) kept.calls k.outstanding (record { first = refl; left = left_append k.written k.send_ends (call_ends opened k.due 1 k.outstanding) later }) calls.kept;
+      kept = kept_stay k (with_hello opened k f) kept.calls k.outstanding (left_append k.written k.send_ends (call_ends opened k.due 1 k.outstanding) later) calls.kept;
       rising = calls.rising;
       owned = calls.owned;
       opens = calls.opens;
@@ -245,9 +246,6 @@ calls_submitted opened calls next_xid k count a c keeps below stay next is = rec
 planned : (k : ClientState) (a : AcceptedCall) (plan : Plan) → plan_for k a.xid a.call a.form ≡ Ok plan → (outstanding_of k a).plan ≡ plan
 planned k a plan is = ap (λ (r : Result Plan TooLarge). plan_or (call_payload a.xid a.call) r) is
 
-not_sent : (x first left : ℕ) → left ≤ x - first → ltb (x - first) left ≡ false
-not_sent x first left le = le-ltb (x - first) left le
-
 pub kept_submits : KeptSubmits
 unfolding client_end client_state_after kept_submitted
 kept_submits opened kept k count a plan keeps next is within few =
@@ -265,15 +263,16 @@ kept_submits opened kept k count a plan keeps next is within few =
     subst (λ (n : ℕ). Registers (k.regions ++ map (region_of a.xid count) (buffers k.stag o.plan)) k.accesses_received count (registered_all kept.memory (buffers n plan)) (k.stag + regions_needed o.plan)) (sym memory.next)
     (subst (λ (p : Plan). Registers (k.regions ++ map (region_of a.xid count) (buffers k.stag p)) k.accesses_received count (registered_all kept.memory (buffers k.stag plan)) (k.stag + regions_needed p)) (sym plan_is)
     (subst (λ (n : ℕ). Registers (k.regions ++ map (region_of a.xid count) (buffers k.stag plan)) k.accesses_received count (registered_all kept.memory (buffers k.stag plan)) (k.stag + n)) (buffers_count k.stag plan) registered)) in
-    let own : IsKeptCall after (kept_of kept.next_xid a.call plan kept.memory.next) o = record {
+    let own : IsKeptCall after (kept_of kept.next_xid kept.sends a.call plan kept.memory.next) o = record {
       xid = sym next;
-      sent = sym (ap (λ (n : ℕ). ltb (a.xid - k.first_xid) n) left ∙ not_sent a.xid k.first_xid (ends_written k.written k.send_ends) few);
+      send = keeps.sends;
+      sent = sym (ap (ltb k.sends) left ∙ le-ltb k.sends (ends_written k.written k.send_ends) few);
       revoked = refl;
       call = refl;
       write = λ i. (lists_of (memory.next i) (sym plan_is i)).write;
       reply = λ i. (lists_of (memory.next i) (sym plan_is i)).reply;
       stags = λ i. map (λ (b : Buffer). b.stag) (buffers (memory.next i) (sym plan_is i));
     } in
-    keeps_live opened (kept_submitted kept a.call plan) after count keeps.ended (let e = keeps.xid in omega (arith, e)) keeps.grant keeps.up keeps.down (ap (λ (n : ℕ). n + 1) keeps.outstanding ∙ sym (length-append k.outstanding (o ∷ []))) keeps.accesses
+    keeps_live opened (kept_submitted kept a.call plan) after count keeps.ended (ap (λ (n : ℕ). n + 1) keeps.xid) (ap (λ (n : ℕ). n + 1) keeps.sends) keeps.grant keeps.up keeps.down (ap (λ (n : ℕ). n + 1) keeps.outstanding ∙ sym (length-append k.outstanding (o ∷ []))) keeps.accesses
     (record { next = all.next_is; offered = all.offered; holds = all.holds; below = all.below })
-    (calls_submitted opened kept.calls kept.next_xid k count a (kept_of kept.next_xid a.call plan kept.memory.next) calls memory.below (record { first = refl; left = left }) next own)
+    (calls_submitted opened kept.calls kept.next_xid k count a (kept_of kept.next_xid kept.sends a.call plan kept.memory.next) calls memory.below left next own)

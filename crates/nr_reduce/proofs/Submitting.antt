@@ -16,20 +16,20 @@ use Rattle.nr_reduce.specs.Plans.{TooLarge, regions_needed}
 use Rattle.nr_reduce.specs.ClientState.{ClientState, plan_for}
 use Rattle.nr_reduce.specs.Run.{client}
 use Rattle.nr_reduce.specs.Credits.{calls_outstanding, credits_granted}
-use Rattle.nr_reduce.specs.SubmitAnswer.{next_xid, unless_spent, by_plan, answer_by, submit_answer}
+use Rattle.nr_reduce.specs.SubmitAnswer.{unless_spent, by_plan, answer_by, submit_answer}
 use Rattle.nr_reduce.specs.Asked.{IsAccepted, AskedSoFar}
 use Rattle.nr_reduce.specs.Opening.{IsOpened}
 use Rattle.nr_reduce.proofs.StagsLeft.{stags_left_lem}
 
 -- what an accepted call met
-record Met (opened : LinkParameters) (k : ClientState) (call : Call) (form : Form) (ended : Option Stop) (xid : ℕ) : Type 0 where
+record Met (k : ClientState) (call : Call) (form : Form) (ended : Option Stop) (xid : ℕ) : Type 0 where
   pub stays : ended ≡ None
   pub plan : Plan
-  pub planned : plan_for k (next_xid opened k) call form ≡ Ok plan
+  pub planned : plan_for k k.next_xid call form ≡ Ok plan
   pub granted : length k.outstanding < k.grant
-  pub xids : 1 ≤ numbers_end - next_xid opened k
+  pub xids : 1 ≤ numbers_end - k.next_xid
   pub stags : regions_needed plan ≤ numbers_end - k.stag
-  pub next : xid ≡ next_xid opened k
+  pub next : xid ≡ k.next_xid
 
 abbrev xid_in : Submission → ℕ → ℕ
 xid_in (submissions.Accepted xid) other = xid
@@ -43,19 +43,19 @@ not_spent left need xid answer e = by (ltb left need) refl e
     by true is e = absurd cc
     by false is e = (ltb-false left need is, e)
 
-met : (opened : LinkParameters) (k : ClientState) (call : Call) (form : Form) (ended : Option Stop) (xid : ℕ) → answer_by opened k call form ended ≡ submissions.Accepted xid → Met opened k call form ended xid
-met opened k call form (Some end) xid e = absurd cc
-met opened k call form None xid e = by_result (plan_for k (next_xid opened k) call form) refl e
+met : (k : ClientState) (call : Call) (form : Form) (ended : Option Stop) (xid : ℕ) → answer_by k call form ended ≡ submissions.Accepted xid → Met k call form ended xid
+met k call form (Some end) xid e = absurd cc
+met k call form None xid e = by_result (plan_for k k.next_xid call form) refl e
   where
     accepted : (plan : Plan) → Submission
-    accepted plan = unless_spent (numbers_end - next_xid opened k) 1 (unless_spent (numbers_end - k.stag) (regions_needed plan) (submissions.Accepted (next_xid opened k)))
+    accepted plan = unless_spent (numbers_end - k.next_xid) 1 (unless_spent (numbers_end - k.stag) (regions_needed plan) (submissions.Accepted k.next_xid))
 
-    by_grant : (plan : Plan) → plan_for k (next_xid opened k) call form ≡ Ok plan → (b : Bool) → leb k.grant (length k.outstanding) ≡ b
-        → cond b (submissions.Refused (refusals.NoCredit (length k.outstanding) k.grant)) (accepted plan) ≡ submissions.Accepted xid → Met opened k call form None xid
+    by_grant : (plan : Plan) → plan_for k k.next_xid call form ≡ Ok plan → (b : Bool) → leb k.grant (length k.outstanding) ≡ b
+        → cond b (submissions.Refused (refusals.NoCredit (length k.outstanding) k.grant)) (accepted plan) ≡ submissions.Accepted xid → Met k call form None xid
     by_grant plan planned true is e = absurd cc
     by_grant plan planned false is e =
-        let x = not_spent (numbers_end - next_xid opened k) 1 xid (unless_spent (numbers_end - k.stag) (regions_needed plan) (submissions.Accepted (next_xid opened k))) e in
-        let s = not_spent (numbers_end - k.stag) (regions_needed plan) xid (submissions.Accepted (next_xid opened k)) x.1 in
+        let x = not_spent (numbers_end - k.next_xid) 1 xid (unless_spent (numbers_end - k.stag) (regions_needed plan) (submissions.Accepted k.next_xid)) e in
+        let s = not_spent (numbers_end - k.stag) (regions_needed plan) xid (submissions.Accepted k.next_xid) x.1 in
         record {
           stays = refl;
           plan = plan;
@@ -66,18 +66,18 @@ met opened k call form None xid e = by_result (plan_for k (next_xid opened k) ca
           next = sym (ap (λ (a : Submission). xid_in a xid) s.1);
         }
 
-    by_result : (r : Result Plan TooLarge) → plan_for k (next_xid opened k) call form ≡ r → by_plan opened k r ≡ submissions.Accepted xid → Met opened k call form None xid
+    by_result : (r : Result Plan TooLarge) → plan_for k k.next_xid call form ≡ r → by_plan k r ≡ submissions.Accepted xid → Met k call form None xid
     by_result (Ok plan) is e = by_grant plan is (leb k.grant (length k.outstanding)) refl e
     by_result (Err large) is e = absurd cc
 
 pub accepted_keeps : (opened : LinkParameters) (link : ℕ) (run : List Mark) (call : Call) (form : Form) (xid : ℕ) →
-    submit_answer opened (client opened link run) call form ≡ submissions.Accepted xid → IsOpened opened → AskedSoFar opened link run → CanWriteCred call.cred →
+    submit_answer (client opened link run) call form ≡ submissions.Accepted xid → IsOpened opened → AskedSoFar opened link run → CanWriteCred call.cred →
     IsAccepted opened link run call form xid × (calls_outstanding opened link run < credits_granted opened link run)
 unfolding submit_answer calls_outstanding credits_granted
 accepted_keeps opened link run call form xid e numbers asked writable =
     let below = stags_left_lem opened link run numbers asked in
     let k : ClientState = (client opened link run).state in
-    let m = met opened k call form (client opened link run).ended xid e in (
+    let m = met k call form (client opened link run).ended xid e in (
       record {
         stays = m.stays;
         next = m.next;

@@ -25,10 +25,10 @@ same_keeps opened kept k count received due ends keeps =
     let calls : CallsKeep kept.calls kept.next_xid k = keeps.calls refl in
     let memory : MemoryKeeps kept.memory k count = keeps.memory refl in
     let after : ClientState = record k { received = received; due = due; response_ends = ends } in
-    keeps_live opened kept after count keeps.ended keeps.xid keeps.grant keeps.up keeps.down keeps.outstanding keeps.accesses
+    keeps_live opened kept after count keeps.ended keeps.xid keeps.sends keeps.grant keeps.up keeps.down keeps.outstanding keeps.accesses
     (record { next = memory.next; offered = memory.offered; holds = memory.holds; below = memory.below })
     (record {
-      kept = kept_alike k after kept.calls k.outstanding (record { first = refl; written = refl; ends = refl }) calls.kept;
+      kept = kept_alike k after kept.calls k.outstanding (record { written = refl; ends = refl }) calls.kept;
       rising = calls.rising;
       owned = calls.owned;
       opens = calls.opens;
@@ -84,6 +84,7 @@ kept_ends opened kept k end count event keeps is =
     (record {
       ended = refl;
       xid = keeps.xid;
+      sends = keeps.sends;
       grant = keeps.grant;
       up = keeps.up;
       down = keeps.down;

@@ -1,5 +1,5 @@
 -- Until the server's hello is received, the calls that are outstanding are all that were accepted, in order.
-use Rattle.std.proofs.Common.{◌≡◌, ℕ, ◌+◌, ◌-◌, Bool, true, false, cond, ◌&&◌, eqb, ltb, List, [], ◌∷◌, ◌++◌, length, Option, Some, None, Result, Ok, Err, refl, sym, ap, subst, ◌∙◌, append_assoc, append-nil, arith}
+use Rattle.std.proofs.Common.{◌≡◌, ℕ, ◌+◌, Bool, true, false, cond, ◌&&◌, eqb, ltb, List, [], ◌∷◌, ◌++◌, length, Option, Some, None, Result, Ok, Err, refl, sym, ap, subst, ◌∙◌, append_assoc, append-nil, arith}
 use Rattle.std.specs.Prelude.{map}
 use Rattle.std.specs.List.{find}
 use Rattle.std.proofs.lemmas.Bool.{eqb-true, le-ltb}
@@ -27,7 +27,6 @@ use Rattle.nr_reduce.specs.Events.{RunEvent, if_own, events_at, events}
 use Rattle.nr_reduce.specs.Events.RunEvent.{FrameReceived, CallSubmitted, MemoryRevoked, CallExecuted, QueueWritten}
 use Rattle.nr_reduce.specs.EndRules.{EndState, next_end_state, next_end_state_by, next_end_state_in, end_state_after, output_for, output_for_by, output_for_in}
 use Rattle.nr_reduce.specs.OfferedRegions.{region_grants}
-use Rattle.nr_reduce.specs.Limits.{send_unit}
 use Rattle.nr_reduce.specs.ClientState.{OutstandingCall, ClientState, is_sent, plan_for}
 use Rattle.nr_reduce.specs.Written.{ends_written}
 use Rattle.nr_reduce.specs.ClientMessages.{ReplyVerdict, reply_verdict, reply_by_header, by_call}
@@ -35,35 +34,35 @@ use Rattle.nr_reduce.specs.ClientMessages.ReplyVerdict.{EndsLink, GivesOutcome}
 use Rattle.nr_reduce.specs.Client.{client_rules, client_end, client_output, client_state_after, initial_client, client_readiness, or_message_end, client_message_end, end_of_verdict, segment_message, outstanding_of, call_output, calls_output, response_output, segment_request, revoked_call, submitted_output, with_message, with_request, with_segment, with_hello, due_with_response}
 use Rattle.nr_reduce.specs.Run.{client}
 use Rattle.nr_reduce.specs.Asked.{AskedSoFar, AskedMark}
-use Rattle.nr_reduce.specs.RunLaws.{outstanding_from, as_submitted}
+use Rattle.nr_reduce.specs.RunLaws.{numbered_on, outstanding_from, as_submitted}
 use Rattle.nr_reduce.proofs.Steps.{client_one}
 
 abbrev pub start : LinkParameters → ClientState
 start opened = (initial_client opened).state
 
--- the STag that is next after these calls
-abbrev pub stag_behind : ClientState → ℕ → List AcceptedCall → ℕ
-stag_behind k stag [] = stag
-stag_behind k stag (a ∷ accepted) = stag_behind k (stag + regions_needed (outstanding_of (record k { stag = stag }) a).plan) accepted
+-- the numbers that are next after these calls
+abbrev state_after_calls : ClientState → List AcceptedCall → ClientState
+state_after_calls k [] = k
+state_after_calls k (a ∷ accepted) = state_after_calls (numbered_on k a) accepted
 
 record Waiting (opened : LinkParameters) (accepted : List AcceptedCall) (k : ClientState) : Type 0 where
-  pub calls : map as_submitted k.outstanding ≡ outstanding_from (start opened) opened.first_stag accepted
-  pub stag : k.stag ≡ stag_behind (start opened) opened.first_stag accepted
+  pub calls : map as_submitted k.outstanding ≡ outstanding_from (start opened) accepted
+  pub stag : k.stag ≡ (state_after_calls (start opened) accepted).stag
+  pub sends : k.sends ≡ (state_after_calls (start opened) accepted).sends
   pub ends : k.send_ends ≡ []
-  pub up : k.up_max ≡ send_unit
-  pub down : k.down_max ≡ send_unit
+  pub up : k.up_max ≡ (state_after_calls (start opened) accepted).up_max
+  pub down : k.down_max ≡ (state_after_calls (start opened) accepted).down_max
 
 abbrev Waits : LinkParameters → List AcceptedCall → ClientState → Type 0
 Waits opened accepted k = k.has_hello ≡ false → Waiting opened accepted k
 
-pub from_append : (k : ClientState) (stag : ℕ) (xs : List AcceptedCall) (a : AcceptedCall) → outstanding_from k stag (xs ++ a ∷ []) ≡ outstanding_from k stag xs ++ outstanding_of (record k { stag = stag_behind k stag xs }) a ∷ []
-from_append k stag [] a = refl
-from_append k stag (x ∷ xs) a = ap (λ (os : List OutstandingCall). outstanding_of (record k { stag = stag }) x ∷ os) (from_append k (stag + regions_needed (outstanding_of (record k { stag = stag }) x).plan) xs a)
+from_append : (k : ClientState) (xs : List AcceptedCall) (a : AcceptedCall) → outstanding_from k (xs ++ a ∷ []) ≡ outstanding_from k xs ++ outstanding_of (state_after_calls k xs) a ∷ []
+from_append k [] a = refl
+from_append k (x ∷ xs) a = ap (λ (os : List OutstandingCall). outstanding_of k x ∷ os) (from_append (numbered_on k x) xs a)
 
-pub behind_append : (k : ClientState) (stag : ℕ) (xs : List AcceptedCall) (a : AcceptedCall)
-    → stag_behind k stag (xs ++ a ∷ []) ≡ stag_behind k stag xs + regions_needed (outstanding_of (record k { stag = stag_behind k stag xs }) a).plan
-behind_append k stag [] a = refl
-behind_append k stag (x ∷ xs) a = behind_append k (stag + regions_needed (outstanding_of (record k { stag = stag }) x).plan) xs a
+numbers_append : (k : ClientState) (xs : List AcceptedCall) (a : AcceptedCall) → state_after_calls k (xs ++ a ∷ []) ≡ numbered_on (state_after_calls k xs) a
+numbers_append k [] a = refl
+numbers_append k (x ∷ xs) a = numbers_append (numbered_on k x) xs a
 
 pub submitted_append : (xs ys : List OutstandingCall) → map as_submitted (xs ++ ys) ≡ map as_submitted xs ++ map as_submitted ys
 submitted_append [] ys = refl
@@ -81,7 +80,7 @@ revoked_same xid (o ∷ os) = ap (λ (x : OutstandingCall). x ∷ map as_submitt
 
 -- no Send is due before the hello, so none has left, and no message answers one
 unsent : (k : ClientState) (o : OutstandingCall) → k.send_ends ≡ [] → is_sent k o ≡ false
-unsent k o none = ap (λ (ends : List ℕ). ltb (o.xid - k.first_xid) (ends_written k.written ends)) none ∙ le-ltb (o.xid - k.first_xid) 0 (omega arith)
+unsent k o none = ap (λ (ends : List ℕ). ltb o.send (ends_written k.written ends)) none ∙ le-ltb o.send 0 (omega arith)
 
 and_none : (a b : Bool) → b ≡ false → (a && b) ≡ false
 and_none true b e = e
@@ -117,22 +116,22 @@ or_message k f None e = e
 
 -- a frame that brings no message leaves the calls
 abbrev SameCalls : ClientState → ClientState → Type 0
-SameCalls k after = (after.outstanding ≡ k.outstanding) × (after.stag ≡ k.stag) × (after.has_hello ≡ k.has_hello) × (after.send_ends ≡ k.send_ends) × (after.up_max ≡ k.up_max) × (after.down_max ≡ k.down_max)
+SameCalls k after = (after.outstanding ≡ k.outstanding) × (after.stag ≡ k.stag) × (after.has_hello ≡ k.has_hello) × (after.send_ends ≡ k.send_ends) × (after.up_max ≡ k.up_max) × (after.down_max ≡ k.down_max) × (after.sends ≡ k.sends)
 
 request_same : (k m : ClientState) (due : ℕ) (r : Option ReadRequest) → SameCalls k m → SameCalls k (with_request m due r)
 request_same k m due None h = h
 request_same k m due (Some r) h = h
 
 segment_same : (k : ClientState) (f : Frame) (r : Result Segment ℕ) → segment_message k r ≡ None → SameCalls k (with_segment k f r)
-segment_same k f (Err reason) e = (refl, refl, refl, refl, refl, refl)
+segment_same k f (Err reason) e = (refl, refl, refl, refl, refl, refl, refl)
 segment_same k f (Ok segment) e =
     request_same k (with_message k f.end (message_completed k.received segment)) (due_with_response k f segment) (read_request_of segment)
-    (subst (λ (o : Option (List ℕ)). SameCalls k (with_message k f.end o)) (sym e) (refl, refl, refl, refl, refl, refl))
+    (subst (λ (o : Option (List ℕ)). SameCalls k (with_message k f.end o)) (sym e) (refl, refl, refl, refl, refl, refl, refl))
 
 same_waits : (opened : LinkParameters) (accepted : List AcceptedCall) (k after : ClientState) → SameCalls k after → Waits opened accepted k → Waits opened accepted after
 same_waits opened accepted k after s w hello =
     let h = w (sym s.2 ∙ hello) in
-    record { calls = ap (λ (os : List OutstandingCall). map as_submitted os) s.0 ∙ h.calls; stag = s.1 ∙ h.stag; ends = s.3 ∙ h.ends; up = s.4 ∙ h.up; down = s.5 ∙ h.down }
+    record { calls = ap (λ (os : List OutstandingCall). map as_submitted os) s.0 ∙ h.calls; stag = s.1 ∙ h.stag; sends = s.6 ∙ h.sends; ends = s.3 ∙ h.ends; up = s.4 ∙ h.up; down = s.5 ∙ h.down }
 
 frame_waits : (opened : LinkParameters) (accepted : List AcceptedCall) (k : ClientState) (f : Frame) → client_end k (FrameReceived f) ≡ None → Waits opened accepted k → Waits opened accepted (client_state_after opened k (FrameReceived f))
 unfolding client_end client_state_after
@@ -166,18 +165,19 @@ submit_waits : (opened : LinkParameters) (accepted : List AcceptedCall) (k : Cli
 unfolding client_state_after plan_for
 submit_waits opened accepted k place a w hello =
     let h = w hello in
-    let next : ℕ = stag_behind (start opened) opened.first_stag accepted in
-    let same : outstanding_of k a ≡ outstanding_of (record (start opened) { stag = next }) a = (λ i. outstanding_of (record (start opened) { stag = h.stag i; up_max = h.up i; down_max = h.down i }) a) in
+    let next : ClientState = state_after_calls (start opened) accepted in
+    let same : outstanding_of k a ≡ outstanding_of next a = (λ i. outstanding_of (record k { stag = h.stag i; sends = h.sends i; up_max = h.up i; down_max = h.down i }) a) in
+    let on : numbered_on next a ≡ state_after_calls (start opened) (accepted ++ a ∷ []) = sym (numbers_append (start opened) accepted a) in
     record {
       calls = submitted_append k.outstanding (outstanding_of k a ∷ [])
           ∙ ap (λ (os : List OutstandingCall). os ++ outstanding_of k a ∷ []) h.calls
-          ∙ ap (λ (o : OutstandingCall). outstanding_from (start opened) opened.first_stag accepted ++ o ∷ []) same
-          ∙ sym (from_append (start opened) opened.first_stag accepted a);
-      stag = (λ i. h.stag i + regions_needed (outstanding_of (record (start opened) { stag = h.stag i; up_max = h.up i; down_max = h.down i }) a).plan)
-          ∙ sym (behind_append (start opened) opened.first_stag accepted a);
+          ∙ ap (λ (o : OutstandingCall). outstanding_from (start opened) accepted ++ o ∷ []) same
+          ∙ sym (from_append (start opened) accepted a);
+      stag = (λ i. h.stag i + regions_needed (same i).plan) ∙ ap (λ (x : ClientState). x.stag) on;
+      sends = ap (λ (n : ℕ). n + 1) h.sends ∙ ap (λ (x : ClientState). x.sends) on;
       ends = ap (λ (b : Bool). k.send_ends ++ cond b ((k.due + length (submitted_output opened k a)) ∷ []) []) hello ∙ append-nil k.send_ends ∙ h.ends;
-      up = h.up;
-      down = h.down;
+      up = h.up ∙ ap (λ (x : ClientState). x.up_max) on;
+      down = h.down ∙ ap (λ (x : ClientState). x.down_max) on;
     }
 
 -- the events that submit nothing
@@ -192,9 +192,9 @@ after_waits : (opened : LinkParameters) (accepted : List AcceptedCall) (k : Clie
 unfolding client_state_after
 after_waits opened accepted k (FrameReceived f) s stays w = frame_waits opened accepted k f stays w
 after_waits opened accepted k (CallSubmitted place a) s stays w = absurd s
-after_waits opened accepted k (MemoryRevoked place xid) s stays w = λ hello. (let h = w hello in record { calls = revoked_same xid k.outstanding ∙ h.calls; stag = h.stag; ends = h.ends; up = h.up; down = h.down })
+after_waits opened accepted k (MemoryRevoked place xid) s stays w = λ hello. (let h = w hello in record { calls = revoked_same xid k.outstanding ∙ h.calls; stag = h.stag; sends = h.sends; ends = h.ends; up = h.up; down = h.down })
 after_waits opened accepted k (CallExecuted call) s stays w = w
-after_waits opened accepted k (QueueWritten taken) s stays w = λ hello. (let h = w hello in record { calls = h.calls; stag = h.stag; ends = h.ends; up = h.up; down = h.down })
+after_waits opened accepted k (QueueWritten taken) s stays w = λ hello. (let h = w hello in record { calls = h.calls; stag = h.stag; sends = h.sends; ends = h.ends; up = h.up; down = h.down })
 
 next_waits : (opened : LinkParameters) (accepted : List AcceptedCall) (r : EndState ClientState) (event : RunEvent) → SubmitsNothing event → Waits opened accepted r.state → Waits opened accepted (next_end_state (client_rules opened) r event).state
 next_waits opened accepted r event s w = by_end r.state r.ended w
@@ -290,7 +290,7 @@ waits_from opened link before (mark ∷ run) w h =
 
 begins_waiting : (opened : LinkParameters) (link : ℕ) → Waits opened (accepted_calls link []) (client opened link []).state
 unfolding client events accepted_calls
-begins_waiting opened link hello = record { calls = refl; stag = refl; ends = refl; up = refl; down = refl }
+begins_waiting opened link hello = record { calls = refl; stag = refl; sends = refl; ends = refl; up = refl; down = refl }
 
 -- ---- What the hello sends
 
@@ -309,10 +309,10 @@ hello_output opened k None f hello e = by (client_end k (FrameReceived f)) e
     by (Some end) e = absurd cc
 
 pub accepted_wait : (opened : LinkParameters) (link : ℕ) (run : List Mark) → AskedSoFar opened link run → (client opened link run).state.has_hello ≡ false →
-    (map as_submitted (client opened link run).state.outstanding ≡ outstanding_from (initial_client opened).state opened.first_stag (accepted_calls link run))
+    (map as_submitted (client opened link run).state.outstanding ≡ outstanding_from (initial_client opened).state (accepted_calls link run))
     × ((f : Frame) → is_hello f ≡ true → (next_end_state (client_rules opened) (client opened link run) (FrameReceived f)).ended ≡ None →
     output_for (client_rules opened) (client opened link run) (FrameReceived f)
-    ≡ calls_output opened 1 (outstanding_from (initial_client opened).state opened.first_stag (accepted_calls link run)))
+    ≡ calls_output opened 1 (outstanding_from (initial_client opened).state (accepted_calls link run)))
 accepted_wait opened link run asked hello =
     let w = waits_from opened link [] run (begins_waiting opened link) asked hello in
     let k : ClientState = (client opened link run).state in (

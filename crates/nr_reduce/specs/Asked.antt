@@ -17,7 +17,6 @@ use Rattle.nr_reduce.specs.declared.outline.Plan.{Plan}
 use Rattle.nr_reduce.specs.Plans.{regions_needed}
 use Rattle.nr_reduce.specs.ClientState.{plan_for}
 use Rattle.nr_reduce.specs.Run.{client, output_due, placed_bytes, HasWritten}
-use Rattle.nr_reduce.specs.SubmitAnswer.{next_xid}
 use Rattle.nr_reduce.specs.Matched.{IsPrefixOf}
 use Rattle.nr_reduce.specs.AtEachMark.{AtEachMark}
 
@@ -25,7 +24,7 @@ use Rattle.nr_reduce.specs.AtEachMark.{AtEachMark}
 -- credential can be encoded.
 pub record IsAccepted (opened : LinkParameters) (link : ℕ) (before : List Mark) (call : Call) (form : Form) (xid : ℕ) : Type 0 where
   pub stays : (client opened link before).ended ≡ None
-  pub next : xid ≡ next_xid opened (client opened link before).state
+  pub next : xid ≡ (client opened link before).state.next_xid
   pub plan : Plan
   pub planned : plan_for (client opened link before).state xid call form ≡ Ok plan
   pub xids : xid < numbers_end

@@ -83,7 +83,7 @@ abbrev pub segment_request : Result Segment ℕ → Option ReadRequest
 segment_request (Ok segment) = read_request_of segment
 segment_request (Err reason) = None
 
--- an accepted call as it is outstanding
+-- an accepted call as it is outstanding: its Send has the next number
 abbrev pub plan_or : List ℕ → Result Plan TooLarge → Plan
 plan_or payload (Ok plan) = plan
 plan_or payload (Err large) = inline_plan payload
@@ -91,6 +91,7 @@ plan_or payload (Err large) = inline_plan payload
 abbrev pub outstanding_of : ClientState → AcceptedCall → OutstandingCall
 outstanding_of k a = record {
   xid = a.xid;
+  send = k.sends;
   call = a.call;
   plan = plan_or (call_payload a.xid a.call) (plan_for k a.xid a.call a.form);
   stag = k.stag;
@@ -99,7 +100,7 @@ outstanding_of k a = record {
 
 -- the Send of a call that is accepted, due at once if the server's hello was received
 abbrev pub submitted_output : LinkParameters → ClientState → AcceptedCall → List ℕ
-submitted_output opened k a = if k.has_hello then call_output opened (k.calls_accepted + 1) (outstanding_of k a) else []
+submitted_output opened k a = if k.has_hello then call_output opened (k.sends + 1) (outstanding_of k a) else []
 
 -- The output that is due for an event. A client sends no FPDU before the server's hello; the calls that were accepted before it
 -- are sent then (RFC 5044 section 7.1).
@@ -175,7 +176,8 @@ submitted_ends opened k a = if k.has_hello then (k.due + length (submitted_outpu
 unfoldable pub client_state_after : LinkParameters → ClientState → RunEvent → ClientState
 client_state_after opened k (FrameReceived f) = if is_hello f then with_hello opened k f else with_segment k f (frame_segment f)
 client_state_after opened k (CallSubmitted place a) = record k {
-  calls_accepted = k.calls_accepted + 1;
+  next_xid = k.next_xid + 1;
+  sends = k.sends + 1;
   stag = k.stag + regions_needed (outstanding_of k a).plan;
   outstanding = k.outstanding ++ outstanding_of k a ∷ [];
   regions = k.regions ++ map (region_of a.xid place) (buffers k.stag (outstanding_of k a).plan);

@@ -43,7 +43,7 @@ response_items k place (Some r) = ReadResponseItem r.sink r.sink_to (take r.size
 
 unfoldable pub client_items_at : LinkParameters → ClientState → RunEvent → List OutputItem
 client_items_at opened k (FrameReceived f) = if is_hello f then sent_call_items opened 1 k.outstanding else response_items k f.end (segment_request (frame_segment f))
-client_items_at opened k (CallSubmitted place a) = if k.has_hello then sent_call_item opened (k.calls_accepted + 1) (outstanding_of k a) ∷ [] else []
+client_items_at opened k (CallSubmitted place a) = if k.has_hello then sent_call_item opened (k.sends + 1) (outstanding_of k a) ∷ [] else []
 client_items_at opened k (MemoryRevoked place xid) = []
 client_items_at opened k (CallExecuted call) = []
 client_items_at opened k (QueueWritten taken) = []

@@ -17,10 +17,11 @@ use Rattle.nr_reduce.specs.ClientState.{OutstandingCall, ClientState, is_sent}
 use Rattle.nr_reduce.specs.ClientMessages.{ReplyVerdict, reply_by_payload}
 use Rattle.nr_reduce.specs.ClientMessages.ReplyVerdict.{EndsLink, GivesOutcome}
 
--- A call that is outstanding: whether its Send has completely left; the call, until its memory is revoked; the lists that its reply
+-- A call that is outstanding: the number of its Send on the link, and whether that has completely left; the call, until its memory is revoked; the lists that its reply
 -- has to repeat; the STags of its regions, in the order in which they were offered, and none once they are released.
 pub record KeptCall : Type 0 where
   pub xid : ℕ
+  pub send : ℕ
   pub is_sent : Bool
   pub call : Option Call
   pub offered : ChunkLists
@@ -33,6 +34,7 @@ stags_unless false bs = map (λ b. b.stag) bs
 -- it is kept of this call of a client in this state
 pub record IsKeptCall (k : ClientState) (c : KeptCall) (o : OutstandingCall) : Type 0 where
   pub xid : c.xid ≡ o.xid
+  pub send : c.send ≡ o.send
   pub sent : c.is_sent ≡ is_sent k o
   pub revoked : is_none c.call ≡ o.is_revoked
   pub call : IfSome c.call (λ call. call ≡ o.call)

@@ -1,6 +1,6 @@
 -- What a client keeps, and the state that it is enough for: of regions, accesses and outcomes of the past it keeps nothing but what its
 -- registered memory holds.
-use Rattle.std.specs.Prelude.{◌≡◌, ℕ, ◌+◌, ◌-◌, ◌<◌, ◌⊎◌, ◌==◌, nat_lt, Bool, true, false, not, List, [], ◌∷◌, ◌++◌, length, map, Option, None, Some, IfSome, is_none}
+use Rattle.std.specs.Prelude.{◌≡◌, ℕ, ◌+◌, ◌<◌, ◌⊎◌, ◌==◌, nat_lt, Bool, true, false, not, List, [], ◌∷◌, ◌++◌, length, map, Option, None, Some, IfSome, is_none}
 use Rattle.std.specs.List.{AllByRecursion, filter, find}
 use Rattle.nr_regions.specs.RegisteredMemory.{RegisteredMemory, initial_memory, live_region, after_register, after_release, bytes_in}
 use Rattle.nr_regions.specs.Access.{TaggedSegment}
@@ -22,16 +22,16 @@ use Rattle.nr_reduce.specs.OfferedMemory.{region_at, AreOffered, AreReceived, Ho
 use Rattle.nr_reduce.specs.EndRules.{EndState}
 use Rattle.nr_reduce.specs.ClientState.{OutstandingCall, ClientState, client_memory_at}
 use Rattle.nr_reduce.specs.Client.{credits_of_word}
-use Rattle.nr_reduce.specs.SubmitAnswer.{next_xid}
 use Rattle.nr_xdr.specs.Fields.{word_at}
 use Rattle.nr_reduce.specs.KeptCalls.{KeptCall, AreKept, stags_unless}
 
--- Why the client ended, once it has; the xid that it gives next; the credits that are granted; how many calls are outstanding; the calls
+-- Why the client ended, once it has; the xid that it gives next; how many Sends have a number; the credits that are granted; how many calls are outstanding; the calls
 -- among them that weren't handed back, in the order of their Submits; its registered memory; the maximum length of a Send in bytes,
 -- towards the server and from it.
 pub record KeptClient : Type 0 where
   pub ended : Option End
   pub next_xid : ℕ
+  pub sends : ℕ
   pub grant : ℕ
   pub outstanding : ℕ
   pub calls : List KeptCall
@@ -110,7 +110,8 @@ IsWaiting outstanding c = HasRegionsOf c (find (λ o. o.xid == c.xid) outstandin
 -- were outstanding, and the memory counts by what it holds for them.
 pub record ClientKeeps (opened : LinkParameters) (kept : KeptClient) (e : EndState ClientState) (count : ℕ) : Type 0 where
   pub ended : kept.ended ≡ e.ended
-  pub xid : kept.next_xid ≡ next_xid opened e.state
+  pub xid : kept.next_xid ≡ e.state.next_xid
+  pub sends : kept.sends ≡ e.state.sends
   pub grant : kept.grant ≡ e.state.grant
   pub up : kept.up_max ≡ e.state.up_max
   pub down : kept.down_max ≡ e.state.down_max
@@ -128,6 +129,7 @@ abbrev pub opened_client : LinkParameters → KeptClient
 opened_client opened = record {
   ended = None;
   next_xid = opened.first_xid;
+  sends = 0;
   grant = 1;
   outstanding = 0;
   calls = [];
@@ -155,7 +157,7 @@ without xid calls = filter (λ c. not (c.xid == xid)) calls
 
 -- the memory of a call is revoked: its regions are released, and the call is handed back
 abbrev pub revoked_if : Bool → KeptCall → KeptCall
-revoked_if true c = record { xid = c.xid; is_sent = c.is_sent; call = None; offered = c.offered; stags = [] }
+revoked_if true c = record { xid = c.xid; send = c.send; is_sent = c.is_sent; call = None; offered = c.offered; stags = [] }
 revoked_if false c = c
 
 abbrev pub revoked_kept : ℕ → KeptCall → KeptCall
@@ -202,26 +204,27 @@ abbrev pub kept_received : KeptClient → ReceiveState → Frame → Segment →
 kept_received kept received f segment = kept_by_accesses (kept_by_message kept (message_completed received segment)) (tagged_access f segment)
 
 -- the first `sent` Sends have completely left
-abbrev pub sent_kept : (first sent : ℕ) → KeptCall → KeptCall
-sent_kept first sent c = record c { is_sent = nat_lt (c.xid - first) sent }
+abbrev pub sent_kept : (sent : ℕ) → KeptCall → KeptCall
+sent_kept sent c = record c { is_sent = nat_lt c.send sent }
 
-unfoldable pub kept_sent : (first sent : ℕ) → KeptClient → KeptClient
-kept_sent first sent kept = record kept { calls = map (sent_kept first sent) kept.calls }
+unfoldable pub kept_sent : (sent : ℕ) → KeptClient → KeptClient
+kept_sent sent kept = record kept { calls = map (sent_kept sent) kept.calls }
 
 -- memory with these regions too
 abbrev pub registered_all : RegisteredMemory → List Buffer → RegisteredMemory
 registered_all m [] = m
 registered_all m (b ∷ bs) = registered_all (after_register m b.right b.bytes) bs
 
--- a call is accepted under the next xid, by this plan
-abbrev pub kept_of : ℕ → Call → Plan → ℕ → KeptCall
-kept_of xid call plan stag = record { xid = xid; is_sent = false; call = Some call; offered = lists_of stag plan; stags = map (λ b. b.stag) (buffers stag plan) }
+-- a call is accepted under the next xid, by this plan, and its Send has the next number
+abbrev pub kept_of : (xid send : ℕ) → Call → Plan → (stag : ℕ) → KeptCall
+kept_of xid send call plan stag = record { xid = xid; send = send; is_sent = false; call = Some call; offered = lists_of stag plan; stags = map (λ b. b.stag) (buffers stag plan) }
 
 unfoldable pub kept_submitted : KeptClient → Call → Plan → KeptClient
 kept_submitted kept call plan = record kept {
   next_xid = kept.next_xid + 1;
+  sends = kept.sends + 1;
   outstanding = kept.outstanding + 1;
-  calls = kept.calls ++ kept_of kept.next_xid call plan kept.memory.next ∷ [];
+  calls = kept.calls ++ kept_of kept.next_xid kept.sends call plan kept.memory.next ∷ [];
   memory = registered_all kept.memory (buffers kept.memory.next plan);
 }
 

@@ -16,6 +16,7 @@ pub mod KeepsReplyLimits
 pub mod AtEachMark
 pub mod Matched
 pub mod Events
+pub mod Concerns
 pub mod Hellos
 pub mod EndRules
 pub mod Written

@@ -213,7 +213,7 @@ StagsAreNumbers = (opened : LinkParameters) (link : ℕ) (run : List Mark) → I
 -- A call that a client accepts keeps the law of its side, and fewer calls are outstanding than are granted.
 abbrev pub AcceptedKeepsLaw : Type 0
 AcceptedKeepsLaw = (opened : LinkParameters) (link : ℕ) (run : List Mark) (call : Call) (form : Form) (xid : ℕ) →
-    submit_answer opened (client opened link run) call form ≡ submissions.Accepted xid → IsOpened opened → AskedSoFar opened link run → CanWriteCred call.cred →
+    submit_answer (client opened link run) call form ≡ submissions.Accepted xid → IsOpened opened → AskedSoFar opened link run → CanWriteCred call.cred →
     IsAccepted opened link run call form xid × (calls_outstanding opened link run < credits_granted opened link run)
 
 -- The Send of an accepted call is due at its Submit, by its plan, once the server's hello was received. Before, nothing is due.
@@ -221,7 +221,7 @@ abbrev pub SubmitIsSent : Type 0
 SubmitIsSent = (opened : LinkParameters) (link : ℕ) (run : List Mark) (call : Call) (form : Form) (xid : ℕ) → (h : IsAccepted opened link run call form xid) →
     ((client opened link run).state.has_hello ≡ true →
     output_due opened link Initiator (run ++ marks.Submit link call form (submissions.Accepted xid) ∷ [])
-    ≡ output_due opened link Initiator run ++ send ((client opened link run).state.calls_accepted + 1) (call_message xid opened.wished (client opened link run).state.stag h.plan))
+    ≡ output_due opened link Initiator run ++ send ((client opened link run).state.sends + 1) (call_message xid opened.wished (client opened link run).state.stag h.plan))
     × ((client opened link run).state.has_hello ≡ false →
     output_due opened link Initiator (run ++ marks.Submit link call form (submissions.Accepted xid) ∷ []) ≡ output_due opened link Initiator run)
 
@@ -238,11 +238,15 @@ HelloSendsCalls = (opened : LinkParameters) (k : ClientState) (f : Frame) → is
     (output_for (client_rules opened) (live k) (FrameReceived f) ≡ calls_output opened 1 k.outstanding)
     × ((next_end_state (client_rules opened) (live k) (FrameReceived f)).state.has_hello ≡ true)
 
--- These calls as a client has them outstanding, in their order: each with the plan of its form, and with STags from this one on.
-abbrev pub outstanding_from : ClientState → ℕ → List AcceptedCall → List OutstandingCall
-outstanding_from k stag [] = []
-outstanding_from k stag (a ∷ accepted) =
-    outstanding_of (record k { stag = stag }) a ∷ outstanding_from k (stag + regions_needed (outstanding_of (record k { stag = stag }) a).plan) accepted
+-- a client in this state, with the numbers that it gives next after a call
+abbrev pub numbered_on : ClientState → AcceptedCall → ClientState
+numbered_on k a = record k { sends = k.sends + 1; stag = k.stag + regions_needed (outstanding_of k a).plan }
+
+-- These calls as a client in this state has them outstanding, in their order: each with the plan of its form, and with the numbers of Sends and
+-- the STags from those on that it gives next.
+abbrev pub outstanding_from : ClientState → List AcceptedCall → List OutstandingCall
+outstanding_from k [] = []
+outstanding_from k (a ∷ accepted) = outstanding_of k a ∷ outstanding_from (numbered_on k a) accepted
 
 -- a call that is outstanding, whether or not its memory was revoked
 abbrev pub as_submitted : OutstandingCall → OutstandingCall
@@ -252,10 +256,10 @@ as_submitted o = record o { is_revoked = false }
 -- no Send of them is written. So for the hello, if it doesn't end the client, a Send of each accepted call is due, in this order.
 abbrev pub AcceptedCallsWait : Type 0
 AcceptedCallsWait = (opened : LinkParameters) (link : ℕ) (run : List Mark) → AskedSoFar opened link run → (client opened link run).state.has_hello ≡ false →
-    (map as_submitted (client opened link run).state.outstanding ≡ outstanding_from (initial_client opened).state opened.first_stag (accepted_calls link run))
+    (map as_submitted (client opened link run).state.outstanding ≡ outstanding_from (initial_client opened).state (accepted_calls link run))
     × ((f : Frame) → is_hello f ≡ true → (next_end_state (client_rules opened) (client opened link run) (FrameReceived f)).ended ≡ None →
     output_for (client_rules opened) (client opened link run) (FrameReceived f)
-    ≡ calls_output opened 1 (outstanding_from (initial_client opened).state opened.first_stag (accepted_calls link run)))
+    ≡ calls_output opened 1 (outstanding_from (initial_client opened).state (accepted_calls link run)))
 
 -- An executed call's payload begins with the head of a call under its xid.
 abbrev pub PayloadHasItsXid : Type 0

@@ -1,5 +1,6 @@
 -- The marks that an end stands for, one mark more, and what a client keeps that is enough for it.
 use Rattle.std.specs.Prelude.{◌≡◌, ℕ, ◌+◌, ◌-◌, ◌<◌, ◌≤◌, nat_le, if◌then◌else◌, false, List, [], ◌∷◌, ◌++◌, length, map, take, drop, Option, None, Some, Result, Ok, Err, Contains}
+use Rattle.std.specs.List.{AllByRecursion}
 use Rattle.nr_wire.specs.declared.hello.Side.{Side}
 use Rattle.nr_wire.specs.declared.hello.Side.TheVariants.{Initiator, Responder}
 use Rattle.nr_wire.specs.declared.stream.Awaited.TheVariants.{Hello as HelloFrom}
@@ -31,7 +32,7 @@ use Rattle.nr_reduce.specs.Hellos.{client_hello, client_agreement}
 use Rattle.nr_reduce.specs.Events.{RunEvent, events_at}
 use Rattle.nr_reduce.specs.Events.RunEvent.{FrameReceived, CallSubmitted, MemoryRevoked, QueueWritten}
 use Rattle.nr_reduce.specs.EndRules.{EndMachine, EndState, live, next_end_state, end_state_after, output_for_all}
-use Rattle.nr_reduce.specs.ClientState.{ClientState, call_payload, plan_for}
+use Rattle.nr_reduce.specs.ClientState.{OutstandingCall, ClientState, call_payload, plan_for}
 use Rattle.nr_reduce.specs.OfferedRegions.{Region}
 use Rattle.nr_reduce.specs.Client.{client_rules, client_end, response_output, region_of, with_message, with_hello}
 use Rattle.nr_reduce.specs.ClientMessages.{reply_verdict}
@@ -40,7 +41,7 @@ use Rattle.nr_reduce.specs.Server.{server_rules, initial_server}
 use Rattle.nr_reduce.specs.Run.{client, server, output_due}
 use Rattle.nr_reduce.specs.SubmitAnswer.{unless_spent, submit_answer}
 use Rattle.nr_reduce.specs.Matched.{IsPrefixOf}
-use Rattle.nr_reduce.specs.Asked.{IsAll}
+use Rattle.nr_reduce.specs.Asked.{IsAll, AskedSoFar}
 use Rattle.nr_reduce.specs.Served.{ServedSoFar}
 use Rattle.nr_reduce.specs.KeptCalls.{kept_verdict}
 use Rattle.nr_reduce.specs.KeptClient.{KeptClient, ClientKeeps, bytes_under, opened_client, kept_revoked, kept_handed_back, kept_completed, kept_placed, kept_received, kept_sent, kept_submitted, kept_greeted}
@@ -174,7 +175,7 @@ kept_answer kept call form = kept_answer_if kept call form kept.ended
 
 abbrev pub KeptAnswers : Type 0
 KeptAnswers = (opened : LinkParameters) (kept : KeptClient) (e : EndState ClientState) (count : ℕ) (call : Call) (form : Form) → ClientKeeps opened kept e count →
-    kept_answer kept call form ≡ submit_answer opened e call form
+    kept_answer kept call form ≡ submit_answer e call form
 
 -- It knows how many calls are outstanding, and the credits that are granted, also once it has ended; until then it has all these calls.
 abbrev pub KeptCounts : Type 0
@@ -219,7 +220,7 @@ KeptEnds = (opened : LinkParameters) (kept : KeptClient) (k : ClientState) (end 
 -- after a write, with the number of Sends that have completely left,
 abbrev pub KeptWrites : Type 0
 KeptWrites = (opened : LinkParameters) (kept : KeptClient) (k : ClientState) (count taken : ℕ) → ClientKeeps opened kept (live k) count →
-    ClientKeeps opened (kept_sent k.first_xid (ends_written (k.written + taken) k.send_ends) kept) (next_end_state (client_rules opened) (live k) (QueueWritten taken)) count
+    ClientKeeps opened (kept_sent (ends_written (k.written + taken) k.send_ends) kept) (next_end_state (client_rules opened) (live k) (QueueWritten taken)) count
 
 -- with the server's hello, and what is agreed: no Send has left before it is due, since at most what is due was written,
 abbrev pub KeptGreets : Type 0
@@ -229,14 +230,21 @@ KeptGreets = (opened : LinkParameters) (kept : KeptClient) (k : ClientState) (f 
 -- and after a call that it accepts: its Send hasn't left, since no more Sends have left than calls were accepted before.
 abbrev pub KeptSubmits : Type 0
 KeptSubmits = (opened : LinkParameters) (kept : KeptClient) (k : ClientState) (count : ℕ) (a : AcceptedCall) (plan : Plan) → ClientKeeps opened kept (live k) count → a.xid ≡ kept.next_xid →
-    plan_for k a.xid a.call a.form ≡ Ok plan → k.written ≤ k.due → ends_written k.written k.send_ends ≤ a.xid - k.first_xid →
+    plan_for k a.xid a.call a.form ≡ Ok plan → k.written ≤ k.due → ends_written k.written k.send_ends ≤ k.sends →
     ClientKeeps opened (kept_submitted kept a.call plan) (next_end_state (client_rules opened) (live k) (CallSubmitted count a)) count
 
 -- ---- The client of a run
 
--- Its first xid is that of its opening, and an outcome stays.
-abbrev pub FirstXidStays : Type 0
-FirstXidStays = (opened : LinkParameters) (link : ℕ) (run : List Mark) → (client opened link run).state.first_xid ≡ opened.first_xid
+-- Xids and the numbers of Sends both go by the order of Submits: the next xid is the first one and as many more as Sends have a number;
+abbrev pub NextXidFollows : Type 0
+NextXidFollows = (opened : LinkParameters) (link : ℕ) (run : List Mark) → (client opened link run).state.next_xid ≡ opened.first_xid + (client opened link run).state.sends
+
+-- and if the client keeps its law, the xid of an outstanding call is the first one and as many more as Sends come before its own.
+abbrev pub XidsFollow : Type 0
+XidsFollow = (opened : LinkParameters) (link : ℕ) (run : List Mark) → AskedSoFar opened link run →
+    AllByRecursion (λ (o : OutstandingCall). (o.xid ≡ opened.first_xid + o.send) × (o.send < (client opened link run).state.sends)) (client opened link run).state.outstanding
+
+-- An outcome stays.
 
 abbrev pub OutcomesStay : Type 0
 OutcomesStay = (opened : LinkParameters) (link : ℕ) (run more : List Mark) (c : CompletedCall) →
@@ -253,7 +261,7 @@ RevokeStands = (opened : LinkParameters) (link : ℕ) (kept : KeptClient) (input
 abbrev pub WroteStands : Type 0
 WroteStands = (opened : LinkParameters) (link : ℕ) (kept : KeptClient) (input : InputState) (taken left : List ℕ) (run : List Mark) (sent : ℕ) → ClientRepresents opened link kept input (taken ++ left) run →
     ((client opened link run).ended ≡ None → sent ≡ ends_written ((client opened link run).state.written + length taken) (client opened link run).state.send_ends) →
-    ClientRepresents opened link (kept_sent opened.first_xid sent kept) input left (run ++ marks.Wrote link Initiator taken ∷ [])
+    ClientRepresents opened link (kept_sent sent kept) input left (run ++ marks.Wrote link Initiator taken ∷ [])
 
 -- also of a client that ran out of memory, as if it was revoked when it stopped,
 abbrev pub RevokeStaysOut : Type 0

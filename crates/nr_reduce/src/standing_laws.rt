@@ -1,6 +1,6 @@
 //! Laws of what an end keeps: the marks that it stands for, and that it is enough.
 
-ghost use Rattle.nr_reduce.specs.StandingLaws.{ClientBegins, ServerBegins, EventsOfInput, ClientStandsOn, ServerStandsOn, ClientGoesByInput, ServerGoesByInput, ClientRunsOutAt, ServerRunsOutAt, ClientStaysOut, ServerStaysOut, ClientQueueIsDue, ServerQueueIsDue, KeptJudges, KeptResponds, KeptAnswers, KeptCounts, KeptStays, KeptRevokes, KeptHandsBack, KeptCompletes, KeptPlaces, KeptTakes, KeptEnds, KeptWrites, KeptGreets, KeptSubmits, FirstXidStays, OutcomesStay, RevokeStands, RevokeStaysOut, WroteStands, OtherMarkStands, NoCallBeforeHello, NothingDueBeforeHello, InputInParts, ClientStagsInOrder, ServerStagsInOrder, PlanStagsInOrder};
+ghost use Rattle.nr_reduce.specs.StandingLaws.{ClientBegins, ServerBegins, EventsOfInput, ClientStandsOn, ServerStandsOn, ClientGoesByInput, ServerGoesByInput, ClientRunsOutAt, ServerRunsOutAt, ClientStaysOut, ServerStaysOut, ClientQueueIsDue, ServerQueueIsDue, KeptJudges, KeptResponds, KeptAnswers, KeptCounts, KeptStays, KeptRevokes, KeptHandsBack, KeptCompletes, KeptPlaces, KeptTakes, KeptEnds, KeptWrites, KeptGreets, KeptSubmits, NextXidFollows, XidsFollow, OutcomesStay, RevokeStands, RevokeStaysOut, WroteStands, OtherMarkStands, NoCallBeforeHello, NothingDueBeforeHello, InputInParts, ClientStagsInOrder, ServerStagsInOrder, PlanStagsInOrder};
 
 /// What an end keeps stands for the marks of its link: as it is opened, and from mark to mark. A client keeps its calls and its
 /// registered memory, and of an end that has ended neither input nor calls count. By its input alone an end knows what a mark
@@ -52,10 +52,16 @@ pub fn kept_clients_stand_on()
     ensures other { OtherMarkStands }
 {}
 
-/// The client of a run has the first xid of its opening, and keeps each outcome.
+/// Xids and the numbers of Sends go by the order of Submits: the next xid of a client is the first one and as many more as Sends
+/// have a number, and while it keeps its law the xid of an outstanding call is the first one and as many more as Sends come before its own.
+pub fn xids_follow_sends()
+    ensures next { NextXidFollows }
+    ensures outstanding { XidsFollow }
+{}
+
+/// The client of a run keeps each outcome.
 pub fn clients_keep_outcomes()
-    ensures first_xid { FirstXidStays }
-    ensures outcomes { OutcomesStay }
+    ensures { OutcomesStay }
 {}
 
 /// Until a server has received its client's hello it hasn't ended, no call is pending, read for or ready, and nothing is due

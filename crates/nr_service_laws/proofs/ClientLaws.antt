@@ -22,7 +22,6 @@ use Rattle.nr_reduce.specs.Limits.{numbers_end}
 use Rattle.nr_reduce.specs.Matched.{IsPrefixOf}
 use Rattle.nr_reduce.specs.Plans.{regions_needed}
 use Rattle.nr_reduce.specs.Run.{client, HasWritten, output_due}
-use Rattle.nr_reduce.specs.SubmitAnswer.{next_xid}
 use Rattle.nr_reduce.proofs.Standing.{itself}
 use Rattle.nr_reduce.specs.Hellos.{client_hello}
 use Rattle.nr_client.specs.Steps.{WholeIfWrote}
@@ -118,7 +117,7 @@ module _ (Relates : List ℕ → List ℕ → Type 0) (opened : LinkParameters) 
       let back : client opened link (client_marks link before) ≡ client opened link before = sym (client_same opened link before) in
       record {
         stays = subst (λ (c : EndState ClientState). c.ended ≡ None) back a.stays;
-        next = subst (λ (c : EndState ClientState). xid ≡ next_xid opened c.state) back a.next;
+        next = subst (λ (c : EndState ClientState). xid ≡ c.state.next_xid) back a.next;
         plan = a.plan;
         planned = subst (λ (c : EndState ClientState). plan_for c.state xid call form ≡ Ok a.plan) back a.planned;
         xids = a.xids;

@@ -240,7 +240,7 @@ keeps_answers opened link run h i (xid ∷ xids) call live (j, (forgets, rest)) 
     let more = run ++ marks.Forget link xid ∷ [] in
     keeps_answers opened link more j i xids call next rest
     ∙ answers_as_client opened link j more call forms.Auto next.stands
-    ∙ ap (λ (e : EndState ClientState). submit_answer opened e call forms.Auto) (client_still opened link xid run)
+    ∙ ap (λ (e : EndState ClientState). submit_answer e call forms.Auto) (client_still opened link xid run)
     ∙ sym (answers_as_client opened link h run call forms.Auto live.stands)
 
 -- so a cause stays
