@@ -51,13 +51,13 @@ in_use k waiting is = omega (arith, is)
 pub waiting_is : (k : ServerState) (q : SendQueue) → QueueKeeps k q → length q.send_ends ≡ length (filter (ltb k.written) k.message_ends)
 waiting_is k q h = ap (λ (xs : List ℕ). length xs) h.ends_are ∙ ends_waiting_is k.written (length q.hello) k.message_ends
 
-pub receives_used : (opened : LinkParameters) (k : ServerState) (s : LinkState) → LinkKeeps opened k s → s.receive_queue.free + receives_in_use k ≡ opened.granted
+pub receives_used : (opened : LinkParameters) (k : ServerState) (s : LinkState) → LinkKeeps opened k s → s.receive_queue.free + receives_in_use k ≡ opened.receives
 receives_used opened k s h = rw (in_use k (unsent s) (waiting_is k s.send_queue h.queue)) h.free
 
 pub readiness_alike : (opened : LinkParameters) (k : ServerState) (s : LinkState) (missing : Option Denied) → LinkKeeps opened k s → IsServer k s.place →
     endpoint.readiness s missing ≡ record (server_readiness opened k missing) { received = received_within (receive_length_for opened.server) k.received }
 readiness_alike opened k s missing h is =
-    let free : ltb 0 s.receive_queue.free ≡ ltb (receives_in_use k) opened.granted = free_if s.receive_queue.free (receives_in_use k) opened.granted (receives_used opened k s h) in
+    let free : ltb 0 s.receive_queue.free ≡ ltb (receives_in_use k) opened.receives = free_if s.receive_queue.free (receives_in_use k) opened.receives (receives_used opened k s h) in
     let expected : endpoint.expected_response s.reads ≡ server.expected_read_response k.response_bytes k.reads = ap endpoint.expected_response h.reads ∙ expected_alike k.response_bytes k.reads in
     let responses : length s.send_queue.response_ends ≡ 0 = ap (λ (xs : List ℕ). length xs) h.queue.responses in
     λ i. record {

@@ -92,7 +92,7 @@ pub record TakesLast (k : ServerState) (f : Frame) (a : TaggedSegment) (rest : L
   pub terms : t.terms ≡ opened.server
   pub up : t.agreed.up ≡ k.up_max
   pub down : t.agreed.down ≡ k.down_max
-  pub free : t.receive_queue.free + (unsent t + length k.calls + one_if (is_begun k.received.begun)) ≡ opened.granted
+  pub free : t.receive_queue.free + (unsent t + length k.calls + one_if (is_begun k.received.begun)) ≡ opened.receives
   pub lent : t.receive_queue.lent ≡ length k.calls + unsent t
   pub told : t.receive_queue.deliveries ≡ []
   pub reads : t.reads ≡ later_responses (take 7 rest)

@@ -53,7 +53,7 @@ next_first : (initial_memory 1).next ≡ 1 + 0
 unfolding initial_memory
 next_first = refl
 
-link_first : (opened : LinkParameters) → LinkKeeps opened (server.initial_server_state opened) (initial_state Responder opened.granted 1 opened.server)
+link_first : (opened : LinkParameters) → LinkKeeps opened (server.initial_server_state opened) (initial_state Responder opened.receives 1 opened.server)
 link_first opened = record {
   live = refl;
   side = refl;
@@ -73,7 +73,7 @@ link_first opened = record {
   queue = record { due_is = refl; ends_are = sym (ends_none 0 0); each = tt; sends = refl; requests_are = refl; responses = refl };
 }
 
-keeps_first : (opened : LinkParameters) → Keeps opened (server.initial_server_state opened) (initial_input Initiator) (opened_state opened.granted (initial_link Responder opened.granted 1 opened.server))
+keeps_first : (opened : LinkParameters) → Keeps opened (server.initial_server_state opened) (initial_input Initiator) (opened_state opened.granted (initial_link Responder opened.receives 1 opened.server))
 unfolding initial_link
 keeps_first opened = record {
   link = link_first opened;
@@ -89,21 +89,22 @@ keeps_first opened = record {
   quiet = λ e. (refl, refl);
 }
 
-queue_first : (opened : LinkParameters) → queue (opened_state opened.granted (initial_link Responder opened.granted 1 opened.server)) ≡ []
+queue_first : (opened : LinkParameters) → queue (opened_state opened.granted (initial_link Responder opened.receives 1 opened.server)) ≡ []
 unfolding initial_link
 queue_first opened = refl
 
 pub opened_stands_lem : (opened : LinkParameters) (link : ℕ) (credits : ℕ) (terms : SideTerms) (l : LinkSide) → ServerOpened opened credits terms → l ≡ initial_link Responder credits 1 terms → ResponderRepresents opened link [] (opened_state credits l)
 opened_stands_lem opened link credits terms l same is =
-    let first : RepresentsServer opened link [] (opened_state opened.granted (initial_link Responder opened.granted 1 opened.server)) = record {
+    let first : RepresentsServer opened link [] (opened_state opened.granted (initial_link Responder opened.receives 1 opened.server)) = record {
       end = initial_server opened;
       input = initial_input Initiator;
       stands = subst (λ (bytes : List ℕ). ServerRepresents opened link (initial_server opened) (initial_input Initiator) bytes []) (sym (queue_first opened)) (server_begins_lem opened link);
       keeps = inl (refl, keeps_first opened);
     } in
     subst (λ (x : LinkSide). ResponderRepresents opened link [] (opened_state credits x)) (sym is)
-    (subst (λ (t : SideTerms). ResponderRepresents opened link [] (opened_state credits (initial_link Responder credits 1 t))) same.1
-    (subst (λ (n : ℕ). ResponderRepresents opened link [] (opened_state n (initial_link Responder n 1 opened.server))) same.0 (inl first)))
+    (subst (λ (t : SideTerms). ResponderRepresents opened link [] (opened_state credits (initial_link Responder credits 1 t))) same.2
+    (subst (λ (n : ℕ). ResponderRepresents opened link [] (opened_state credits (initial_link Responder n 1 opened.server))) same.1
+    (subst (λ (n : ℕ). ResponderRepresents opened link [] (opened_state n (initial_link Responder opened.receives 1 opened.server))) same.0 (inl first))))
 
 pub opened_length : (l : LinkSide) (credits : ℕ) (terms : SideTerms) → l ≡ initial_link Responder credits 1 terms → l.state.receive_queue.receive_length ≡ receive_length_for terms
 unfolding initial_link

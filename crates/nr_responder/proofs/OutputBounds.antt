@@ -194,7 +194,7 @@ fed_lives opened k so_far v piece m h (WholeFrame frame w frame_is_taken long li
     by (AfterHello place awaited hello) =
         let now : m.state ≡ with_frame s Fpdu frame = state ∙ ap (λ (a : Awaited). with_frame s a frame) awaited in
         let lives_on : (with_frame s Fpdu frame).ended ≡ None = sym (ap (λ (t : LinkState). t.ended) now) ∙ lives in
-        let queue = ap (λ (t : LinkState). t.send_queue) now ∙ lives_same s frame (frame_is opened k s frame h.link h.server lives_on) lives_on in
+        let queue = ap (λ (t : LinkState). t.send_queue) now ∙ (lives_same s frame (frame_is opened k s frame h.link h.server lives_on) lives_on).queue in
         let at = ap (λ (t : LinkState). t.place) now ∙ frame_place s Fpdu frame lives_on in
         same_lives v m queue (λ e. absurd (omega (arith, at, e, long))) f
 

@@ -60,11 +60,11 @@ message_kept n (Some bytes) payload le = ap (λ (xs : List ℕ). xs ++ payload) 
 pub begun_fine : (opened : LinkParameters) (k : ServerState) (s : LinkState) → LinkKeeps opened k s → is_begun s.receive_queue.received.begun ≡ is_begun k.received.begun
 begun_fine opened k s h = ap (λ (r : ReceiveState). is_begun r.begun) h.received ∙ same_begun (receive_length_for opened.server) k.received.begun
 
-free_less : (b c : Bool) (free rest granted : ℕ) → b ≡ c → free + (rest + one_if c) ≡ granted → (b ≡ false → 0 < free) → cond (not b) (free - 1) free + (rest + 1) ≡ granted
-free_less true true free rest granted same is some = is
-free_less false false free rest granted same is some = (let lt : 0 < free = some refl in omega (arith, is, lt))
-free_less true false free rest granted same is some = absurd (let h : true ≡ false = same in cc)
-free_less false true free rest granted same is some = absurd (let h : false ≡ true = same in cc)
+free_less : (b c : Bool) (free rest receives : ℕ) → b ≡ c → free + (rest + one_if c) ≡ receives → (b ≡ false → 0 < free) → cond (not b) (free - 1) free + (rest + 1) ≡ receives
+free_less true true free rest receives same is some = is
+free_less false false free rest receives same is some = (let lt : 0 < free = some refl in omega (arith, is, lt))
+free_less true false free rest receives same is some = absurd (let h : true ≡ false = same in cc)
+free_less false true free rest receives same is some = absurd (let h : false ≡ true = same in cc)
 
 -- the side after a segment of a Send, with these deliveries
 abbrev pub send_framed : LinkState → List ℕ → ReceiveState → ℕ → ℕ → List DeliveredEvent → LinkState
@@ -114,7 +114,7 @@ part_keeps opened k s bytes payload h is some = record {
   terms = h.terms;
   up = h.up;
   down = h.down;
-  free = free_less (is_begun s.receive_queue.received.begun) (is_begun k.received.begun) s.receive_queue.free (unsent s + length k.calls) opened.granted (begun_fine opened k s h) h.free some;
+  free = free_less (is_begun s.receive_queue.received.begun) (is_begun k.received.begun) s.receive_queue.free (unsent s + length k.calls) opened.receives (begun_fine opened k s h) h.free some;
   lent = h.lent;
   told = append-nil s.receive_queue.deliveries ∙ h.told;
   reads = h.reads;
@@ -131,8 +131,8 @@ pub told_keeps : (opened : LinkParameters) (k : ServerState) (s : LinkState) (by
     (cond (not (is_begun s.receive_queue.received.begun)) (s.receive_queue.free - 1) s.receive_queue.free) (s.receive_queue.lent + 1) [])
 told_keeps opened k s bytes c stream h is some =
     let more : length (k.calls ++ c ∷ []) ≡ length k.calls + 1 = length-append k.calls (c ∷ []) in
-    let free : cond (not (is_begun s.receive_queue.received.begun)) (s.receive_queue.free - 1) s.receive_queue.free + (unsent s + length k.calls + 1) ≡ opened.granted =
-    free_less (is_begun s.receive_queue.received.begun) (is_begun k.received.begun) s.receive_queue.free (unsent s + length k.calls) opened.granted (begun_fine opened k s h) h.free some in
+    let free : cond (not (is_begun s.receive_queue.received.begun)) (s.receive_queue.free - 1) s.receive_queue.free + (unsent s + length k.calls + 1) ≡ opened.receives =
+    free_less (is_begun s.receive_queue.received.begun) (is_begun k.received.begun) s.receive_queue.free (unsent s + length k.calls) opened.receives (begun_fine opened k s h) h.free some in
     record {
       live = h.live;
       side = h.side;

@@ -127,7 +127,7 @@ pub record LinkKeeps (opened : LinkParameters) (k : ServerState) (s : LinkState)
   pub terms : s.terms ≡ opened.server
   pub up : s.agreed.up ≡ k.up_max
   pub down : s.agreed.down ≡ k.down_max
-  pub free : s.receive_queue.free + (unsent s + length k.calls + one_if (is_begun k.received.begun)) ≡ opened.granted
+  pub free : s.receive_queue.free + (unsent s + length k.calls + one_if (is_begun k.received.begun)) ≡ opened.receives
   pub lent : s.receive_queue.lent ≡ length k.calls + unsent s
   pub told : s.receive_queue.deliveries ≡ []
   pub reads : s.reads ≡ open_responses k.response_bytes (open_reads k)

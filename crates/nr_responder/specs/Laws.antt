@@ -1,6 +1,6 @@
 -- A responder keeps the law of its side of a link.
-use Rattle.std.specs.Prelude.{◌≡◌, ◌≢◌, ℕ, ◌≤◌, List, [], ◌∷◌, ◌++◌, length, take}
-use Rattle.nr_wire.specs.declared.hello.Side.TheVariants.{Initiator, Responder}
+use Rattle.std.specs.Prelude.{◌≡◌, ℕ, ◌≤◌, false, List, [], ◌∷◌, ◌++◌, length, take}
+use Rattle.nr_wire.specs.declared.hello.Side.TheVariants.{Responder}
 use Rattle.nr_outside.specs.declared.moment.Moment.{Moment}
 use Rattle.nr_reduce.specs.declared.mark.LinkParameters.{LinkParameters}
 use Rattle.nr_reduce.specs.declared.mark.Mark.{Mark}
@@ -9,24 +9,14 @@ use Rattle.nr_reduce.specs.History.{bytes_sent}
 use Rattle.nr_reduce.specs.Run.{output_due}
 use Rattle.nr_reduce.specs.Asked.{IsAll}
 use Rattle.nr_reduce.specs.AtEachMark.{AtEachMark}
+use Rattle.nr_reduce.specs.Concerns.{concerns}
 use Rattle.nr_reduce.specs.Served.{ServedMark, ServedSoFar, IsExecuted}
 use Rattle.nr_responder.specs.ResponderState.{ResponderSide, queue, may_write}
 use Rattle.nr_responder.specs.Standing.{RepresentsServer, ResponderRepresents}
 
--- A mark that is no event of a link's server, and of which its law asks nothing: of another link, of the client's side, what a caller does,
--- or a drop.
+-- A mark that doesn't concern a link's server: of another link, of the client's side, what a caller does, or a drop.
 abbrev pub IsOfOthers : ℕ → Mark → Type 0
-IsOfOthers link (marks.Submit l call form answer) = Unit {0}
-IsOfOthers link (marks.Wrote l Initiator bytes) = Unit {0}
-IsOfOthers link (marks.Wrote l Responder bytes) = l ≢ link
-IsOfOthers link (marks.Fed l Initiator bytes) = Unit {0}
-IsOfOthers link (marks.Fed l Responder bytes) = l ≢ link
-IsOfOthers link (marks.Execute l xid moment payload place reply) = l ≢ link
-IsOfOthers link (marks.Done l xid outcome) = Unit {0}
-IsOfOthers link (marks.Lost l xid) = Unit {0}
-IsOfOthers link (marks.Forget l xid) = Unit {0}
-IsOfOthers link (marks.Revoke l xid bytes) = Unit {0}
-IsOfOthers link (marks.Drop l) = Unit {0}
+IsOfOthers link mark = concerns link Responder mark ≡ false
 
 -- It leaves a responder as it is.
 abbrev pub OthersLeaveIt : Type 0
