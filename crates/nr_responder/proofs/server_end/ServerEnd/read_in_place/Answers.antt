@@ -95,7 +95,7 @@ returns-in-Ok c =
           windows = λ live.
               begun_windows r.calls.items calls.items (with_around c.args.call.now (c.args.call.now.len - c.args.call.now.stream_at + 3)) c.args.call.now.number r.reads.items c.begin_in_place.new.reads.items
               (reads_from (sinks_from c.args.call.now.number r.endpoint.link.state.memory.next c.args.read.now c.args.chunks.now) c.args.call.now.number [] c.args.read.now)
-              begun.reads pushed.items refl c.requires.chunks.own 
+              begun.reads pushed.items refl c.requires.chunks.own
               (λ some. begun_unread c.args.call.now.number r.endpoint.link.state.memory.next c.args.start c.args.read.now c.args.chunks.now r.reads.items c.begin_in_place.new.reads.items
               (c.requires.chunks.are ∙ ap (λ (read : List ReadSegment). chunk_positions read) (sym new.lists)) c.requires.window.chunks_are begun.reads) old.windows;
           input = started_input c.args.call.now.number c.args.read.now c.args.chunks.now r.reads.items c.begin_in_place.new.reads.items r.sinks.items c.begin_in_place.new.sinks.items r.endpoint.link c.begin_in_place.new.endpoint.link begun;
