@@ -1,6 +1,5 @@
 //! Tests of `nr_shared`: NULL calls of a shared requester, over a source and a sink in memory.
 
-ghost use Rattle.std.specs.Prelude.{◌≡◌, ◌×◌, IfOk};
 ghost use Rattle.nr_rpc.specs.Credential.{CanWriteCred};
 ghost use Rattle.nr_shared.specs.Callers.{IsAsked};
 ghost use Rattle.nr_shared.specs.Sharing.{SharedRests};
@@ -54,8 +53,8 @@ enum Answer {
     Other,
 }
 
-/// How a call is made, how many bytes come, which read and which write fail, the answer; how many bytes the sink then has, how many the
-/// source has left, and how many calls are outstanding.
+/// How a call is made, how many bytes come, which read and which write fail, and the answer. How many bytes the sink then has, how many the
+/// next read of the source gives, and how many calls are outstanding.
 type Row = (
     Way,
     usize,
@@ -67,17 +66,19 @@ type Row = (
     usize,
 );
 
-static ROWS: [Row; 8] = [
+static ROWS: [Row; 9] = [
     (Way::Call, 96, &[], &[], Answer::Reply, 112, 0, 0),
     (Way::Submit, 96, &[], &[], Answer::Reply, 112, 0, 0),
-    // What waits is written before the source is read.
+    // What waits is written before the source is read: a reply to a Send that hasn't left ends the link.
     (Way::TrySubmit, 96, &[], &[], Answer::Reply, 112, 0, 0),
     (Way::Call, 20, &[], &[], Answer::Closed, 112, 0, 1),
     (Way::TrySubmit, 95, &[], &[], Answer::Closed, 112, 0, 1),
-    (Way::Submit, 96, &[0], &[], Answer::LinkRead, 112, 96, 1),
+    // A Send waits for the server's hello.
+    (Way::Submit, 96, &[0], &[], Answer::LinkRead, 20, 96, 1),
+    (Way::Submit, 96, &[1], &[], Answer::LinkRead, 112, 76, 1),
     // The hello isn't written, so the call isn't submitted.
-    (Way::Call, 96, &[], &[0], Answer::LinkWrite, 0, 96, 0),
-    (Way::TrySubmit, 96, &[], &[1], Answer::LinkWrite, 20, 96, 1),
+    (Way::Call, 96, &[], &[0], Answer::LinkWrite, 0, 20, 0),
+    (Way::TrySubmit, 96, &[], &[1], Answer::LinkWrite, 20, 76, 1),
 ];
 
 /// The entry of a requester of 16 credits without marks, whose sink has no bytes.
@@ -116,25 +117,26 @@ fn null(alloc: Global) -> Call
     }
 }
 
-/// A requester that is shared, with a caller's pass. The source has the first bytes of what is received.
-fn shared(
+/// A requester that is shared, with a caller's pass. The source gives the first bytes of what is received, at most 20 by its first read.
+fn share(
     rt: &impl Abort,
     alloc: Global,
     most: usize,
-    failing: (&[usize], &[usize]),
+    reads: &[usize],
+    writes: &[usize],
 ) -> (Shared, Caller)
     ensures { SharedRests result.0 result.1 }
 {
-    let (reads, writes) = failing;
     let reads = reads.to_vec(alloc).expect(rt, "memory");
     let writes = writes.to_vec(alloc).expect(rt, "memory");
+    let sizes = Vec::from_slice(alloc, &[20]).expect(rt, "memory");
     let requester = Requester::open(alloc, 16).expect(rt, "memory");
-    let source = MemSource::new(bytes(rt, alloc, &RECEIVED, most), Vec::new(alloc), reads);
+    let source = MemSource::new(bytes(rt, alloc, &RECEIVED, most), sizes, reads);
     let sink = MemSink::new(alloc, writes);
     SharedRequester::new::<HandedIn<Opened>>(alloc, requester, source, sink).expect(rt, "memory")
 }
 
-/// Ends the test if the sink has other bytes than the first ones of what is sent, the source has another number of bytes left, or other calls
+/// Ends the test if the sink has other bytes than the first ones of what is sent, the next read gives another number of bytes, or other calls
 /// are outstanding.
 fn given_back(
     rt: &(impl Abort + Wait),
@@ -165,7 +167,7 @@ fn outcome(rt: &impl Abort, alloc: Global, outcome: &Outcome) -> Answer {
     }
 }
 
-fn answer(rt: &impl Abort, alloc: Global, got: &Result<Done, CallEnd>) -> Answer {
+fn answer_of(rt: &impl Abort, alloc: Global, got: &Result<Done, CallEnd>) -> Answer {
     match got {
         Ok(done) => outcome(rt, alloc, &done.outcome),
         Err(CallEnd::LinkRead) => Answer::LinkRead,
@@ -226,9 +228,9 @@ fn made(
 /// The call of a row.
 fn answered(rt: &(impl Abort + Wait), alloc: Global, row: usize, case: &Row) {
     let (way, most, reads, writes, want, written, left, outstanding) = *case;
-    let (shared, mut pass) = shared(rt, alloc, most, (reads, writes));
+    let (shared, mut pass) = share(rt, alloc, most, reads, writes);
     let got = made(rt, alloc, &shared, &mut pass, way);
-    same(rt, row, answer(rt, alloc, &got), want);
+    same(rt, row, answer_of(rt, alloc, &got), want);
     let want = (written, left, outstanding);
     given_back(rt, alloc, row, (shared, pass), want);
 }
@@ -242,25 +244,25 @@ fn calls_are_answered(rt: HostRuntime) {
 
 #[test]
 fn a_stream_that_has_ended(rt: HostRuntime) {
-    let (shared, mut first) = shared(&rt, rt.alloc(), 0, (&[], &[]));
+    let (shared, mut first) = share(&rt, rt.alloc(), 20, &[], &[]);
     let mut second = shared.split(&mut first);
     let one = shared.call(&rt, &mut first, null(rt.alloc()), Form::Auto);
     let two = shared.call(&rt, &mut second, null(rt.alloc()), Form::Auto);
-    same(&rt, 1, answer(&rt, rt.alloc(), &one), Answer::Closed);
-    same(&rt, 2, answer(&rt, rt.alloc(), &two), Answer::Closed);
+    same(&rt, 1, answer_of(&rt, rt.alloc(), &one), Answer::Closed);
+    same(&rt, 2, answer_of(&rt, rt.alloc(), &two), Answer::Closed);
     shared.join(&mut first, second);
     given_back(&rt, rt.alloc(), 3, (shared, first), (112, 0, 1));
 }
 
 #[test]
 fn a_call_is_forgotten(rt: HostRuntime) {
-    let (shared, mut pass) = shared(&rt, rt.alloc(), 96, (&[], &[]));
+    let (shared, mut pass) = share(&rt, rt.alloc(), 96, &[], &[]);
     same(&rt, 0, shared.has_credit(&rt, &mut pass), true);
     let ticket = submit(&rt, rt.alloc(), &shared, &mut pass);
     shared.forget(&rt, &mut pass, ticket);
     // Its reply hasn't come.
     same(&rt, 1, shared.has_credit(&rt, &mut pass), false);
-    given_back(&rt, rt.alloc(), 2, (shared, pass), (112, 96, 1));
+    given_back(&rt, rt.alloc(), 2, (shared, pass), (20, 20, 1));
 }
 
 /// Ends the test if no NULL call without buffers came back.
@@ -276,8 +278,8 @@ fn is_revoked(rt: &impl Abort, tried: &TryRevoke) {
 
 #[test]
 fn a_call_is_revoked(rt: HostRuntime) {
-    let (shared, mut pass) = shared(&rt, rt.alloc(), 96, (&[], &[]));
+    let (shared, mut pass) = share(&rt, rt.alloc(), 96, &[], &[]);
     let ticket = try_submit(&rt, rt.alloc(), &shared, &mut pass);
     is_revoked(&rt, &shared.try_revoke(&mut pass, ticket));
-    given_back(&rt, rt.alloc(), 2, (shared, pass), (0, 96, 1));
+    given_back(&rt, rt.alloc(), 2, (shared, pass), (0, 20, 1));
 }
