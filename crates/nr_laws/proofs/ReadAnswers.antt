@@ -10,7 +10,7 @@ use Rattle.nr_header.specs.Reading.{header_of}
 use Rattle.nr_reduce.specs.declared.call.Outcome.TheVariants as outcomes
 use Rattle.nr_reduce.specs.declared.mark.LinkParameters.{LinkParameters}
 use Rattle.nr_reduce.specs.Events.{RunEvent}
-use Rattle.nr_reduce.specs.Events.RunEvent.{FrameReceived, CallSubmitted, MemoryRevoked, CallExecuted, QueueWritten}
+use Rattle.nr_reduce.specs.Events.RunEvent.{FrameReceived, CallSubmitted, MemoryRevoked, CallExecuted, QueueWritten, ServerTold}
 use Rattle.nr_reduce.specs.EndRules.{EndState, next_end_state, next_end_state_by, next_end_state_in, end_state_after}
 use Rattle.nr_reduce.specs.Plans.{lists_of}
 use Rattle.nr_reduce.specs.Chunks.{answers_offer, reply_conveyed}
@@ -60,6 +60,7 @@ credit_after opened k (CallSubmitted p a) = refl
 credit_after opened k (MemoryRevoked p xid) = refl
 credit_after opened k (CallExecuted e) = refl
 credit_after opened k (QueueWritten taken) = refl
+credit_after opened k (ServerTold what) = refl
 
 credit_next : (opened : LinkParameters) (r : EndState ServerState) (e : RunEvent) → (next_end_state (server_rules opened) r e).state.credit ≡ r.state.credit
 credit_next opened r e = by r.ended
