@@ -105,7 +105,7 @@ mark_carries r link side before (marks.Lost l xid) h = tt
 mark_carries r link side before (marks.Forget l xid) h = tt
 mark_carries r link side before (marks.Revoke l xid bytes) h = first_if r _ (MemoryRevoked (length (bytes_received link side before)) xid ∷ []) tt
 mark_carries r link side before (marks.Drop l) h = tt
-mark_carries r link side before (marks.Told l what) h = tt
+mark_carries r link side before (marks.Told l what) h = first_if r _ (ServerTold what ∷ []) tt
 
 -- ===== a fact of states that goes along
 

@@ -159,7 +159,7 @@ connections_are_typed_lem terms link before after end first J left ended is =
     typed_from (setup_in first) (J ++ over.more) opened link is.tree [] ended.run (length J) (record {
       typed = tt;
       own = ended.runs.own;
-      served = ended.runs.served opened (refl, refl, refl);
+      served = ended.runs.served opened (refl, refl, refl, refl);
       fed = IsBytes_left (flat_map (fed_at link Responder) ended.run) ended.ahead all;
       entries = all_bytes (setup_in first) J over.more is.entries over.of_calls;
       placed = over.placed;

@@ -48,7 +48,7 @@ others_no_events link place completed (marks.Lost l xid) is = refl
 others_no_events link place completed (marks.Forget l xid) is = refl
 others_no_events link place completed (marks.Revoke l xid bytes) is = not_own (eqb l link && true) _ (ap (λ (b : Bool). b && true) is)
 others_no_events link place completed (marks.Drop l) is = refl
-others_no_events link place completed (marks.Told l what) is = refl
+others_no_events link place completed (marks.Told l what) is = not_own (eqb l link && false) _ (and_never (eqb l link))
 
 others_not_fed : (link : ℕ) (m : Mark) → is_client_mark link m ≡ false → fed_at link Initiator m ≡ []
 others_not_fed link (marks.Wrote l side bytes) is = refl
