@@ -367,11 +367,11 @@ all_answered all reads (HandedOver xid outcome ∷ rest) later has =
 all_answered all reads (GivenUp xid ∷ rest) later has = all_answered all reads rest later has
 
 some_parameters : (units : ℕ) → LinkParameters
-some_parameters units = record { first_xid = 1; first_stag = 1; wished = 16; granted = 1; receives = 1; client = sized_terms units; server = default_terms }
+some_parameters units = record { first_xid = 1; first_stag = 1; wished = 16; granted = 1; low = 1; receives = 1; client = sized_terms units; server = default_terms }
 
 some_opened : (units : ℕ) → IsOpened (some_parameters units)
 unfolding some_parameters
-some_opened units = record { xid = omega arith; xid_fits = omega arith; stag = omega arith; stag_fits = omega arith; wished = omega arith; wished_fits = omega arith; granted = omega arith; granted_fits = omega arith; receives = omega arith }
+some_opened units = record { xid = omega arith; xid_fits = omega arith; stag = omega arith; stag_fits = omega arith; wished = omega arith; wished_fits = omega arith; granted = omega arith; granted_fits = omega arith; low = omega arith; low_fits = omega arith; receives = omega arith }
 
 -- what a command gives that opened a session
 pub given_by_peer : (c : Client Text) (before dialed : DialerAt) (s s' : SessionAt) (input input' : SourceAt) (out out' : SinkAt) (result : Result (Unit {0}) ClientEnd) → Opens c.addr c.units before dialed s
