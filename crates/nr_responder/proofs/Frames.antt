@@ -162,7 +162,7 @@ ended_takes opened k input later v frame end h some ended =
         why = ended ∙ sym (ap (λ (e : EndState ServerState). e.ended) next);
         calls = h.calls ∙ sym (ap (λ (e : EndState ServerState). e.state.calls) next);
         ready = h.ready ∙ sym (ap (λ (e : EndState ServerState). map (λ (r : ReadyCall). r.xid) e.state.ready) next);
-        credits = h.credits ∙ sym (ap (λ (e : EndState ServerState). e.state.credit) next);
+        credits = h.credits ∙ sym (ap (λ (e : EndState ServerState). grant_of e.state) next);
         agreed =
             subst (λ (e : EndState ServerState). KeepsAgreed e.state (with_frame s v.link.awaited frame).agreed) (sym next)
             (subst (λ (t : LinkState). KeepsAgreed k t.agreed) (sym state) (keeps_agreed opened k s s.place h.link h.server));

@@ -146,11 +146,11 @@ is_open_lem k calls xid found b same is any =
 pub ends_refusal : (k : ServerState) (m : List ℕ) (reason place : ℕ) → verdict k m ≡ EndsLink reason → (by_message k place (Some m)).refusal ≡ Some reason
 ends_refusal k m reason place is = ap (λ (v : Verdict). (message_effect k place m v).refusal) is
 
-pub version_refused : (k : ServerState) (m : List ℕ) (credit place : ℕ) → verdict k m ≡ OtherVersion → k.credit ≡ credit → by_message k place (Some m) ≡ refused_effect k (version_error (word_at 0 m) (word_at 4 m) credit)
+pub version_refused : (k : ServerState) (m : List ℕ) (credit place : ℕ) → verdict k m ≡ OtherVersion → credit_word k ≡ credit → by_message k place (Some m) ≡ refused_effect k (version_error (word_at 0 m) (word_at 4 m) credit)
 version_refused k m credit place is same =
     ap (λ (v : Verdict). message_effect k place m v) is ∙ ap (λ (n : ℕ). refused_effect k (version_error (word_at 0 m) (word_at 4 m) n)) same
 
-pub chunks_refused : (k : ServerState) (m : List ℕ) (credit place : ℕ) → verdict k m ≡ BadChunks → k.credit ≡ credit → by_message k place (Some m) ≡ refused_effect k (chunk_error (word_at 0 m) credit)
+pub chunks_refused : (k : ServerState) (m : List ℕ) (credit place : ℕ) → verdict k m ≡ BadChunks → credit_word k ≡ credit → by_message k place (Some m) ≡ refused_effect k (chunk_error (word_at 0 m) credit)
 chunks_refused k m credit place is same =
     ap (λ (v : Verdict). message_effect k place m v) is ∙ ap (λ (n : ℕ). refused_effect k (chunk_error (word_at 0 m) n)) same
 

@@ -172,7 +172,7 @@ ran_out opened link run v after piece n out r output =
           ∙ ap (λ (bytes : List ℕ). bytes_sent link Responder (run ++ mark ∷ []) ++ bytes) (sym same);
       calls = out.same.calls ∙ both.1.calls ∙ ap (λ (e : EndState ServerState). e.state.calls) s.stands.keeps;
       ready = out.same.ready ∙ both.1.ready ∙ ap (λ (e : EndState ServerState). map (λ (q : ReadyCall). q.xid) e.state.ready) s.stands.keeps;
-      credits = out.same.credits ∙ both.1.credits ∙ ap (λ (e : EndState ServerState). e.state.credit) s.stands.keeps;
+      credits = out.same.credits ∙ both.1.credits ∙ ap (λ (e : EndState ServerState). grant_of e.state) s.stands.keeps;
       agreed =
           subst (λ (e : EndState ServerState). KeepsAgreed e.state after.link.state.agreed) s.stands.keeps
           (subst (λ (a : Agreement). KeepsAgreed s.end.state a) (sym stays.agreed) (keeps_agreed opened s.end.state out.stopped.link.state out.stopped.link.state.place both.1.link both.1.server));

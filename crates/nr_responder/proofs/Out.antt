@@ -194,7 +194,7 @@ out_by_message v after piece m number invalidated message rest live_now p step l
       fed = empty_fed v p;
       live = live_now;
       ended = ap end_of ran.is_out ∙ ended.0;
-      same = record { calls = ap (λ (x : ResponderSide). x.calls) ran.is_out; ready = ap (λ (x : ResponderSide). x.ready) ran.is_out; credits = ap (λ (x : ResponderSide). x.credits) ran.is_out };
+      same = record { calls = ap (λ (x : ResponderSide). x.calls) ran.is_out; ready = ap (λ (x : ResponderSide). x.ready) ran.is_out; credits = ap (λ (x : ResponderSide). grant x.credits) ran.is_out };
       needs = λ opened end so_far keeps. needs opened end so_far keeps (out_output (after_call m NextEvent) after.link (t.live ∙ lives) (ap (λ (x : ResponderSide). x.link) ran.is_out)) step;
     }
   where
@@ -298,7 +298,7 @@ out_by_read v after piece m x rest live_now p step lives one reads ran =
       fed = empty_fed v p;
       live = live_now;
       ended = ap end_of ran.is_out ∙ ended.0;
-      same = record { calls = ap (λ (x : ResponderSide). x.calls) ran.is_out; ready = ap (λ (x : ResponderSide). x.ready) ran.is_out; credits = ap (λ (x : ResponderSide). x.credits) ran.is_out };
+      same = record { calls = ap (λ (x : ResponderSide). x.calls) ran.is_out; ready = ap (λ (x : ResponderSide). x.ready) ran.is_out; credits = ap (λ (x : ResponderSide). grant x.credits) ran.is_out };
       needs = λ opened end so_far keeps. needs opened end so_far keeps (out_output (after_call m NextEvent) after.link (t.live ∙ lives) (ap (λ (x : ResponderSide). x.link) ran.is_out)) step;
     }
   where
@@ -345,7 +345,7 @@ out_by_link v after piece live_now p is whole queues =
       fed = empty_fed v p;
       live = live_now;
       ended = ap end_of is ∙ ended.0;
-      same = record { calls = ap (λ (x : ResponderSide). x.calls) is; ready = ap (λ (x : ResponderSide). x.ready) is; credits = ap (λ (x : ResponderSide). x.credits) is };
+      same = record { calls = ap (λ (x : ResponderSide). x.calls) is; ready = ap (λ (x : ResponderSide). x.ready) is; credits = ap (λ (x : ResponderSide). grant x.credits) is };
       needs = λ opened end so_far keeps.
           (whole, (out_output v.link after.link live_now (ap (λ (x : ResponderSide). x.link) is), inl (needs opened end so_far keeps (step_of v.link (after_call v.link (FeedOne piece)) piece p live_now refl))));
     })

@@ -386,7 +386,7 @@ filter_fewer keep (x ∷ xs) = by (keep x) (filter_fewer keep xs)
     by false rest = omega (arith, rest)
 
 refused_lives : (v : ResponderSide) (n : ℕ) (r : PendingRead) (rest : List PendingRead) (xid : ℕ) → v.fetching.reads ≡ r ∷ rest → OwnNumbers v.calls → SharesFit v → OutputLives v →
-    OutputLives (reading_on v (with_sent v.link.state (chunk_error xid v.credits)) (calls_without n v.calls) (reads_without n (still_open r rest) rest) (still_open r rest) [] [])
+    OutputLives (reading_on v (with_sent v.link.state (chunk_error xid v.credits.word)) (calls_without n v.calls) (reads_without n (still_open r rest) rest) (still_open r rest) [] [])
 refused_lives v n r rest xid reads own g f = record {
   queue = requests_fit opened (with_send message q) (length waiting) (length calls) (length (drop open_reads_max left)) counts sent;
   reads = each;
@@ -398,7 +398,7 @@ refused_lives v n r rest xid reads own g f = record {
     q = v.link.state.send_queue
 
     message : List ℕ
-    message = chunk_error xid v.credits
+    message = chunk_error xid v.credits.word
 
     calls : List PendingCall
     calls = calls_without n v.calls
@@ -437,7 +437,7 @@ refused_lives v n r rest xid reads own g f = record {
 
     sent : QueueFits (with_send message q) (length waiting) (length calls)
     sent =
-        send_fits q message (length (drop open_reads_max (r ∷ rest))) (length v.calls) (length waiting) (length calls) (let small = chunk_short xid v.credits in omega (arith, small))
+        send_fits q message (length (drop open_reads_max (r ∷ rest))) (length v.calls) (length waiting) (length calls) (let small = chunk_short xid v.credits.word in omega (arith, small))
         (omega (arith, filter_fewer (λ (x : PendingRead). not (eqb x.number n)) (drop kept rest), length-drop kept rest, length-drop open_reads_max (r ∷ rest), length-take open_reads_max (r ∷ rest)))
         (one_without n v.calls own) (waiting_most calls waiting pending waiting_few) (subst (λ (rs : List PendingRead). QueueFits q (length (drop open_reads_max rs)) (length v.calls)) reads f.queue)
 

@@ -114,7 +114,7 @@ pub answered_out : (v after : ResponderSide) (xid : ℕ) (reply : List ℕ) (sen
 answered_out v after xid reply sent live limit fit on a = subst OutputFits (sym a.state) (live_out w f)
   where
     message : List ℕ
-    message = message_for xid v.credits a.call.lists (answer_to v.link.state.agreed.down a.call a.stream reply)
+    message = message_for xid (present_word v) a.call.lists (answer_to v.link.state.agreed.down a.call a.stream reply)
 
     w : ResponderSide
     w = answered_by a.at a.writes message v

@@ -276,7 +276,9 @@ refused_state k f stag to payload message a calls reads kept is access =
       written = k.written;
       message_ends = k.message_ends ++ (k.due + length bytes) ∷ [];
       ready = k.ready ++ [];
+      receives = k.receives;
       credit = k.credit;
+      low = k.low;
       up_max = k.up_max;
       down_max = k.down_max;
     })
@@ -350,7 +352,7 @@ pub refused_done : (opened : LinkParameters) (k : ServerState) (so_far : InputSt
     (with_frame v.link.state Fpdu frame).ended ≡ None → (r : IsResponse v.link.state frame) → r.last ≡ true → k.reads ≡ x ∷ rest →
     (c : RefusesCall (on_link v (record { awaited = Fpdu; rest = []; state = done_side v.link.state frame r.stag r.to r.payload })) x rest) →
     TakesFrame opened k (behind so_far frame) (next_frame v.link.state frame) v
-    (reading_on (on_link v (record { awaited = Fpdu; rest = []; state = done_side v.link.state frame r.stag r.to r.payload })) (with_sent (done_side v.link.state frame r.stag r.to r.payload) (chunk_error c.call.xid v.credits))
+    (reading_on (on_link v (record { awaited = Fpdu; rest = []; state = done_side v.link.state frame r.stag r.to r.payload })) (with_sent (done_side v.link.state frame r.stag r.to r.payload) (chunk_error c.call.xid v.credits.word))
     (calls_without c.call.number v.calls) (reads_without c.call.number (still_open x rest) rest) (still_open x rest) [] [])
 unfolding frame_segment
 refused_done opened k so_far v frame x rest h some long lives r is reads c =
@@ -362,7 +364,7 @@ refused_done opened k so_far v frame x rest h some long lives r is reads c =
     let kept : ℕ = still_open x rest in
     let calls : List PendingCall = calls_without n k.calls in
     let left : List PendingRead = reads_without n kept rest in
-    let message : List ℕ = chunk_error c.call.xid k.credit in
+    let message : List ℕ = chunk_error c.call.xid (credit_word k) in
     let k1 : ServerState = with_error k calls message in
     let k' : ServerState = after_done k1 a calls left [] kept in
     let segment : segment_of frame ≡ Ok (Tagged true OPCODE_READ_RESPONSE r.stag r.to r.payload) = response_reads s frame r true is in
@@ -400,8 +402,8 @@ refused_done opened k so_far v frame x rest h some long lives r is reads c =
           (subst (λ (ps : List (Option (List ℕ))). ArePayloads calls k.ready ps) (sym (append-nil v.fetching.payloads)) (payloads_left n k.calls k.ready v.fetching.payloads h.payloads));
       quiet = λ e. absurd (omega (arith, e, some));
     } in
-    let given : ResponderSide = refused_value v (with_sent t (chunk_error c.call.xid v.credits)) (calls_without n v.calls) left v.fetching.sinks kept in
-    let same_value : given ≡ value = λ i. refused_value v (with_sent t (chunk_error c.call.xid (h.credits i))) (calls_without n (h.calls i)) left (h.sinks i) kept in
+    let given : ResponderSide = refused_value v (with_sent t (chunk_error c.call.xid v.credits.word)) (calls_without n v.calls) left v.fetching.sinks kept in
+    let same_value : given ≡ value = λ i. refused_value v (with_sent t (chunk_error c.call.xid (word i))) (calls_without n (h.calls i)) left (h.sinks i) kept in
     record {
       keeps = subst (λ (e : EndState ServerState). KeepsEnd opened e (behind so_far frame) given) (sym next) (inl (refl, subst (λ (w : ResponderSide). Keeps opened k' (behind so_far frame) w) (sym same_value) keeps));
       output =

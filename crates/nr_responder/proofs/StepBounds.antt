@@ -175,7 +175,7 @@ pub answered_fits : (opened : LinkParameters) (link : ℕ) (run : List Mark) (v 
 answered_fits opened link run v after xid reply sent stands live first on fit a = subst SinksFit (sym a.state) (live_fits w (subst LivesOn a.state on) live_now (receives_fit_on _ _ _ fit.receives (receives_same _ _ (ap (λ (l : LinkSide). l.state.receive_queue) link_is))) have (record { shares = f.shares; counts = f.counts; waiting = waiting }))
   where
     message : List ℕ
-    message = message_for xid v.credits a.call.lists (answer_to v.link.state.agreed.down a.call a.stream reply)
+    message = message_for xid (present_word v) a.call.lists (answer_to v.link.state.agreed.down a.call a.stream reply)
 
     w : ResponderSide
     w = answered_by a.at a.writes message v
@@ -249,7 +249,7 @@ regions_most v h = (let sum = h.memory.bytes_are in let most = h.most in omega (
 
 -- All is within the bound: the receives are those of the credits, lent or kept.
 pub held_bound : (v : ResponderState) (result : ℕ) → result ≡ bytes_held_by v → IsBounded v → v.rooms ≤ payload_room * (2 * length v.side.calls) → receives_kept v.side.link.state.receive_queue + v.side.link.state.receive_queue.lent ≡ v.side.link.state.receive_queue.receives →
-    length v.side.calls + unsent v.side.link.state ≤ v.side.link.state.receive_queue.lent → result ≤ held_unit * (v.side.credits + 4)
+    length v.side.calls + unsent v.side.link.state ≤ v.side.link.state.receive_queue.lent → result ≤ held_unit * (v.side.credits.receives + 4)
 held_bound v result is b rooms receives lent =
     let staging = b.1 in
     let output = b.0.output.most 0 in

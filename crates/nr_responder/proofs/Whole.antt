@@ -389,7 +389,7 @@ stopped_takes opened k input later_input v frame w queue_number msn offset paylo
         why = sym (ap (λ (e : EndState ServerState). e.ended) at.next);
         calls = h.calls ∙ sym (ap (λ (e : EndState ServerState). e.state.calls) at.next);
         ready = h.ready ∙ sym (ap (λ (e : EndState ServerState). map (λ (r : ReadyCall). r.xid) e.state.ready) at.next);
-        credits = h.credits ∙ sym (ap (λ (e : EndState ServerState). e.state.credit) at.next);
+        credits = h.credits ∙ sym (ap (λ (e : EndState ServerState). grant_of e.state) at.next);
         agreed =
             subst (λ (e : EndState ServerState). KeepsAgreed e.state (told_link s frame).agreed) (sym at.next)
             (subst (λ (t : LinkState). KeepsAgreed k t.agreed) (sym link) (keeps_agreed opened k s s.place h.link h.server));

@@ -143,7 +143,7 @@ pub record Keeps (opened : LinkParameters) (k : ServerState) (input_now : InputS
   pub server : IsServer k v.link.state.place
   pub calls : v.calls ≡ k.calls
   pub ready : v.ready ≡ map (λ r. r.xid) k.ready
-  pub credits : v.credits ≡ k.credit
+  pub credits : grant v.credits ≡ grant_of k
   pub reads : v.fetching.reads ≡ k.reads
   pub sinks : v.fetching.sinks ≡ open_sinks k.regions
   pub payloads : ArePayloads k.calls k.ready v.fetching.payloads
@@ -162,7 +162,7 @@ pub record KeepsEnded (end : EndState ServerState) (v : ResponderSide) : Type 0 
   pub why : end_of v ≡ end.ended
   pub calls : v.calls ≡ end.state.calls
   pub ready : v.ready ≡ map (λ r. r.xid) end.state.ready
-  pub credits : v.credits ≡ end.state.credit
+  pub credits : grant v.credits ≡ grant_of end.state
   pub agreed : KeepsAgreed end.state v.link.state.agreed
   pub sendable : may_write v ≡ queue v
 

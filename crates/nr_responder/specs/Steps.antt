@@ -59,7 +59,7 @@ frame_by l bytes = next_frame l.state (take (frame_len l.awaited (l.rest ++ byte
 pub record SameCalls (before after : ResponderSide) : Type 0 where
   pub calls : after.calls ≡ before.calls
   pub ready : after.ready ≡ before.ready
-  pub credits : after.credits ≡ before.credits
+  pub credits : grant after.credits ≡ grant before.credits
 
 -- its output and what is agreed are as they were
 pub record KeepsOutput (before after : LinkState) : Type 0 where

@@ -212,7 +212,7 @@ impl Responder {
     /// Lists of calls and their segments aren't counted. Takes no memory.
     pub fn held(&self) -> u128
         ensures is { result ≡ bytes_held_by self.now }
-        ensures bound { result ≤ held_unit * (self.now.side.credits + 4) }
+        ensures bound { result ≤ held_unit * (self.now.side.credits.receives + 4) }
         // The rooms of payloads: at most two for each call that isn't answered.
         ensures rooms { self.now.rooms ≤ payload_room * (2 * length self.now.side.calls) }
         // The regions: the payload of each of these calls, and for each Read Request that may be open.
