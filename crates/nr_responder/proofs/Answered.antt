@@ -42,12 +42,13 @@ use Rattle.nr_responder.proofs.Executed.{executed, with_answer, answered_keeps, 
 use Rattle.nr_responder.proofs.Queues.{answered_queue}
 use Rattle.nr_responder.proofs.Marks.{executed_stands, represents}
 use Rattle.nr_responder.proofs.NextCalls.{next_is_lem}
-use Rattle.nr_responder.specs.ResponderState.{queue, end_of}
-use Rattle.nr_reduce.specs.ServerState.{PendingCall, PendingRead, ReadyCall, ServerState}
+use Rattle.nr_responder.specs.ResponderState.{present_word, queue, end_of}
+use Rattle.nr_reduce.specs.ServerState.{PendingCall, PendingRead, ReadyCall, ServerState, credit_word}
 use Rattle.nr_reduce.specs.ServerReads.{is_read}
 use Rattle.nr_responder.specs.ResponderState.{ResponderSide}
 use Rattle.nr_responder.specs.Keeping.{OwnXids}
 use Rattle.nr_responder.proofs.Executed.{without_call, none_out_lem}
+use Rattle.nr_responder.proofs.Words.{word_is}
 
 abbrev pub has : ℕ → PendingCall → Bool
 has x c = eqb c.xid x
@@ -190,6 +191,7 @@ answered_goes opened end so_far v after e r sent is h next xid payload a =
     let down : ℕ = v.link.state.agreed.down in
     let answer : Option Answer = answer_to down a.call a.stream e.reply in
     let same_answer : answer_of_target a.call.lists down e.reply (target_of (call_of e.payload)) ≡ answer = ap (λ (bytes : List ℕ). answer_of_target a.call.lists down e.reply (target_of (call_of bytes))) (sym stream) in
+    let word : present_word v ≡ credit_word k = word_is opened k so_far v h in
     let message : List ℕ = message_for e.xid (present_word v) a.call.lists answer in
     let writes : List ℕ = writes_output a.writes in
     let due : execution_output k e ≡ writes ++ send (k.messages_queued + 1) message =

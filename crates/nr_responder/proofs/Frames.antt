@@ -34,6 +34,7 @@ use Rattle.nr_reduce.specs.EndRules.{EndState, live, next_end_state, next_end_st
 use Rattle.nr_reduce.specs.ServerState.{ReadyCall, ServerState}
 use Rattle.nr_reduce.specs.Server.{server_rules, server_end, with_own_hello, or_refusal, server_readiness}
 use Rattle.nr_reduce.proofs.MemorySteps.{holds_later, received_later, offered_later}
+use Rattle.nr_responder.specs.Granting.{grant_of}
 use Rattle.nr_responder.specs.ResponderState.{ResponderSide, queue, queued_bytes}
 use Rattle.nr_responder.specs.Keeping.{IsServer, Begins, LinkKeeps, QueueKeeps, Keeps, KeepsAgreed, KeepsEnd}
 use Rattle.nr_responder.specs.Keeping.Begins.{BeforeHello, AfterHello}

@@ -19,7 +19,7 @@ use Rattle.nr_header.specs.Reading.{header_of, header_by, body_by, error_by}
 use Rattle.nr_header.specs.ReadInto.{lists_in}
 use Rattle.nr_xdr.specs.Fields.{word_at}
 use Rattle.nr_reduce.specs.Chunks.{is_read_chunk_of_item, item_position, total_at, positions}
-use Rattle.nr_reduce.specs.ServerState.{PendingCall, ServerState, is_pending, next_stag}
+use Rattle.nr_reduce.specs.ServerState.{PendingCall, ServerState, credit_word, is_pending, next_stag}
 use Rattle.nr_reduce.specs.ServerReads.{chunks_of, is_read}
 use Rattle.nr_reduce.specs.ServerMessages.{Verdict, verdict, by_header, by_body, by_stream, by_need, has_position, no_stream}
 use Rattle.nr_reduce.specs.ServerMessages.Verdict.{EndsLink, OtherVersion, BadChunks, MakesPending}

@@ -477,9 +477,9 @@ drained_out v after n is h =
           };
     })
 
-first_lives : (credits : ℕ) (terms : SideTerms) → OutputLives (opened_side credits terms)
+first_lives : (credits low : ℕ) (terms : SideTerms) → OutputLives (opened_side credits low terms)
 unfolding initial_link
-first_lives credits terms = record { queue = λ n. omega arith; reads = λ n. omega arith; hello = omega arith; none = λ e. refl }
+first_lives credits low terms = record { queue = λ n. omega arith; reads = λ n. omega arith; hello = omega arith; none = λ e. refl }
 
-pub opened_out : (v : ResponderSide) (credits : ℕ) (terms : SideTerms) → v ≡ opened_side credits terms → OutputFits v
-opened_out v credits terms is = subst OutputFits (sym is) (live_out (opened_side credits terms) (first_lives credits terms))
+pub opened_out : (v : ResponderSide) (credits low : ℕ) (terms : SideTerms) → v ≡ opened_side credits low terms → OutputFits v
+opened_out v credits low terms is = subst OutputFits (sym is) (live_out (opened_side credits low terms) (first_lives credits low terms))

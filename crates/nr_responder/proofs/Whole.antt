@@ -44,6 +44,7 @@ use Rattle.nr_reduce.specs.ServerMessages.{verdict, call_xid}
 use Rattle.nr_reduce.specs.ServerMessages.Verdict.{MakesPending}
 use Rattle.nr_reduce.specs.ServerFrames.{FrameEffect, no_effect, by_message, frame_effect}
 use Rattle.nr_reduce.specs.Server.{server_rules, server_end, server_output, server_state_after, with_own_hello, or_refusal, refusal_end, server_readiness, with_effect, effect_output}
+use Rattle.nr_responder.specs.Granting.{grant_of}
 use Rattle.nr_responder.specs.ResponderState.{ResponderSide, queued_bytes, unsent}
 use Rattle.nr_responder.specs.Keeping.{IsServer, Begins, LinkKeeps, Keeps, KeepsEnd, KeepsAgreed}
 use Rattle.nr_responder.specs.Keeping.Begins.{BeforeHello, AfterHello}

@@ -14,7 +14,7 @@ use Rattle.nr_responder.specs.declared.call.Sent.{Sent}
 use Rattle.nr_responder.specs.declared.call.Sent.TheVariants as sents
 use Rattle.nr_responder.specs.Fetching.{payload_taken}
 use Rattle.nr_responder.specs.HeldBytes.{writes_max}
-use Rattle.nr_responder.specs.ResponderState.{ResponderSide}
+use Rattle.nr_responder.specs.ResponderState.{ResponderSide, present_word}
 
 -- the message of an answer, and the bytes of its RDMA Writes: ERR_CHUNK if the offer doesn't hold the reply
 abbrev pub message_for : (xid credits : ℕ) → ChunkLists → Option Answer → List ℕ

@@ -22,6 +22,7 @@ use Rattle.nr_reduce.specs.ServerState.{PendingCall, PendingRead, ReadyCall, Ser
 use Rattle.nr_reduce.specs.ServerReads.{open_reads, is_read, is_over}
 use Rattle.nr_reduce.specs.StandingLaws.{StagsFrom}
 use Rattle.nr_responder.specs.Fetching.{open_sinks}
+use Rattle.nr_responder.specs.Granting.{grant, grant_of}
 use Rattle.nr_responder.specs.ResponderState.{ResponderSide, unsent, end_of, queue, may_write}
 
 -- no two pending calls have one number, or one xid, nor have two calls that are ready one xid

@@ -11,6 +11,7 @@ use Rattle.nr_reduce.specs.EndRules.{EndState}
 use Rattle.nr_reduce.specs.ServerState.{ServerState}
 use Rattle.nr_reduce.specs.Standing.{ServerRepresents, ServerRunsOut}
 use Rattle.nr_responder.specs.ResponderState.{ResponderSide, queue, end_of}
+use Rattle.nr_responder.specs.Granting.{grant, grant_of}
 use Rattle.nr_responder.specs.HeldBytes.{KeptFits}
 use Rattle.nr_responder.specs.Keeping.{KeepsAgreed, KeepsEnd}
 

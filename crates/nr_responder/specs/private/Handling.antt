@@ -145,6 +145,7 @@ pub data Handled (k : ServerState) (message : List ℕ) (before after : Responde
 
 -- what was made of what the link delivered
 pub record IsHandled (k : ServerState) (before after : ResponderSide) : Type 0 where
+  pub credits : credit_word k ≡ before.credits.word
   pub none : before.link.state.receive_queue.deliveries ≡ [] → after ≡ before
   pub some : (number : ℕ) (invalidated : Option ℕ) (m : List ℕ) → before.link.state.receive_queue.deliveries ≡ MessageReceived number invalidated m ∷ [] → number ≡ k.received.sends + 1 → Handled k m before after
   pub read : before.link.state.receive_queue.deliveries ≡ ReadDone ∷ [] → (r : PendingRead) (rest : List PendingRead) → before.fetching.reads ≡ r ∷ rest → ReadHandled (on_link before (after_call before.link NextEvent)) r rest after
