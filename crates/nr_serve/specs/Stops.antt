@@ -147,5 +147,6 @@ LinksStopped stop settings before after spawner spawner' view view' =
 -- the ranges of a configuration
 pub record InRanges (settings : Settings Text) : Type 0 where
   pub credits : settings.credits ≤ credits_max
+  pub low : settings.low_credits ≤ settings.credits
   pub capacity : settings.capacity ≤ capacity_max
   pub connections : settings.connections ≤ connections_max
