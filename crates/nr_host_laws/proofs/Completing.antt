@@ -71,7 +71,7 @@ module _ (credits units : ℕ) (before after : Outside) (first : Opening) (J : L
       subst (λ (l : Option (List ℕ)). Consumes l after.left (bytes_received link Responder run ++ ahead)) known r.handed.from_left
 
   made_by : (read link : ℕ) (failed : Bool) (ahead : List ℕ) (more : List Moment) (run : List Mark) → Runs (terms_of credits units read) link before (with_failed failed after) ahead more run
-      → (opened : LinkParameters) → ServerOpened opened credits (sized_terms units) → MayHaveMade (setup_in first) J opened link stream run
+      → (opened : LinkParameters) → ServerOpened opened credits credits (sized_terms units) → MayHaveMade (setup_in first) J opened link stream run
   made_by read link failed ahead more run r opened same = record {
     own = r.own;
     begins = read_first after.left stream (bytes_received link Responder run) ahead (consumed read link failed ahead more run r);
@@ -85,8 +85,8 @@ module _ (credits units : ℕ) (before after : Outside) (first : Opening) (J : L
   -- a connection that read all of it, and is idle, has closed
   closed : (read link : ℕ) (failed : Bool) (ahead : List ℕ) (more : List Moment) (run : List Mark) → Runs (terms_of credits units read) link before (with_failed failed after) ahead more run
       → ahead ≡ [] → more ≡ [] → failed ≡ false
-      → ((opened : LinkParameters) → ServerOpened opened credits (sized_terms units) → IsIdle opened link run × IsAtEnd after.left)
-      → ((opened : LinkParameters) → ServerOpened opened credits (sized_terms units) → Served opened link run)
+      → ((opened : LinkParameters) → ServerOpened opened credits credits (sized_terms units) → IsIdle opened link run × IsAtEnd after.left)
+      → ((opened : LinkParameters) → ServerOpened opened credits credits (sized_terms units) → Served opened link run)
       → ServesStream credits units first J link before after stream
   closed read link failed ahead more run r none no_more fine idle served =
       let at : IsAtEnd after.left = (idle (with_credits credits units) (refl, refl, refl)).1 in
