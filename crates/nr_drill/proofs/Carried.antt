@@ -8,7 +8,7 @@ use Rattle.nr_wire.specs.declared.hello.Side.{Side}
 use Rattle.nr_wire.specs.declared.hello.Side.TheVariants.{Initiator, Responder}
 use Rattle.nr_reduce.specs.declared.mark.Mark.{Mark}
 use Rattle.nr_reduce.specs.declared.mark.Mark.TheVariants as marks
-use Rattle.nr_reduce.specs.declared.mark.Told.TheVariants as told
+use Rattle.nr_reduce.specs.declared.mark.Told.TheVariants.{Granted}
 use Rattle.nr_reduce.specs.declared.mark.LinkParameters.{LinkParameters}
 use Rattle.nr_link.specs.declared.end.End.{End}
 use Rattle.nr_reduce.specs.declared.call.Call.{Call}
@@ -429,7 +429,7 @@ carries_drop link d c =
     true_false e = absurd cc
 
 carries_grant : (link credits : ℕ) (d : Drill) → Carries link d → Carries link (after_grant link credits d)
-carries_grant link credits d c = carry_mark link (marks.Told link (told.Granted credits)) d refl refl refl refl refl tt c
+carries_grant link credits d c = carry_mark link (marks.Told link (Granted credits)) d refl refl refl refl refl tt c
 
 -- ===== on other links
 

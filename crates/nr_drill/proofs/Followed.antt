@@ -1,7 +1,7 @@
 -- A run that follows a script keeps the laws of each of its links.
 use Rattle.std.specs.Prelude.{slice_get, ◌-◌, ◌&&◌, ◌||◌, slice_index_or, slice_set, replicate}
 use Rattle.std.specs.List.{AllByRecursion, range_with_len}
-use Rattle.std.proofs.Common.{◌≡◌, ◌≢◌, ℕ, ◌+◌, ◌≤◌, ◌<◌, arith, zero, suc, Bool, true, false, eqb, List, [], ◌∷◌, ◌++◌, length, take, drop, Option, None, Some, ◌⊎◌, inl, inr, refl, sym, ap, subst, ◌∙◌, append_assoc, append-nil, eqb-true}
+use Rattle.std.proofs.Common.{◌≡◌, ◌≢◌, ℕ, ◌+◌, ◌≤◌, ◌<◌, arith, zero, suc, Bool, true, false, eqb, leb, List, [], ◌∷◌, ◌++◌, length, take, drop, Option, None, Some, ◌⊎◌, inl, inr, refl, sym, ap, subst, ◌∙◌, append_assoc, append-nil, eqb-true}
 use Rattle.nr_wire.specs.declared.hello.Side.{Side}
 use Rattle.nr_wire.specs.declared.hello.Side.TheVariants.{Initiator, Responder}
 use Rattle.nr_reduce.specs.declared.call.Call.{Call}
@@ -9,9 +9,9 @@ use Rattle.nr_reduce.specs.declared.call.Form.{Form}
 use Rattle.nr_reduce.specs.declared.call.Submission.TheVariants as submissions
 use Rattle.nr_reduce.specs.declared.mark.Mark.{Mark}
 use Rattle.nr_reduce.specs.declared.mark.Mark.TheVariants as marks
-use Rattle.nr_reduce.specs.declared.mark.Told.TheVariants as told
+use Rattle.nr_reduce.specs.declared.mark.Told.TheVariants.{Granted}
 use Rattle.nr_reduce.specs.declared.mark.LinkParameters.{LinkParameters}
-use Rattle.std.proofs.lemmas.Bool.{eq-eqb}
+use Rattle.std.proofs.lemmas.Bool.{eq-eqb, leb-true}
 use Rattle.std.proofs.lemmas.List.{get_or-set_other, length-set}
 use Rattle.nr_reduce.specs.History.{CompletedCall, bytes_sent, written_at, same_side, other, is_dropped}
 use Rattle.nr_reduce.specs.Events.{RunEvent, events_at}
@@ -31,7 +31,7 @@ use Rattle.nr_reduce.specs.AtEachMark.{AtEachMark}
 use Rattle.nr_reduce.specs.Journal.{Journaled, AnsweredByPlainServer, PlacedMark, PlainMark}
 use Rattle.nr_reduce.proofs.Standing.{AtEachMark_more}
 use Rattle.nr_reduce.specs.SubmitAnswer.{submit_answer_after}
-use Rattle.nr_reduce.specs.Served.{Served, ServedMark}
+use Rattle.nr_reduce.specs.Served.{Served, ServedMark, IsGranted}
 use Rattle.nr_laws.specs.Grant.{AcceptedMark, AcceptsByRule}
 use Rattle.nr_script.specs.declared.script.Line.{Line}
 use Rattle.nr_script.specs.declared.script.Line.TheVariants as lines
@@ -269,7 +269,7 @@ pub drop_adds : (link : ℕ) (d : Drill) → Extends link d (after_drop link d)
 drop_adds link d = set_pipes link empty_pipes d (with_mark (marks.Drop link) d) (one_mark link (marks.Drop link) d refl)
 
 pub grant_adds : (link credits : ℕ) (d : Drill) → Extends link d (after_grant link credits d)
-grant_adds link credits d = one_mark link (marks.Told link (told.Granted credits)) d refl
+grant_adds link credits d = one_mark link (marks.Told link (Granted credits)) d refl
 
 pub raw_adds : (link : ℕ) (side : Side) (bytes : List ℕ) (dropped : Bool) (d : Drill) → Extends link d (after_raw link side bytes dropped d)
 raw_adds link side bytes true d = nothing link d
@@ -307,10 +307,10 @@ quiet_mark o link run mark h w up down none_up none_down = record {
 pub keeps_drop : (s : Setting) (link : ℕ) (d : Drill) → Keeps s link d → Keeps s link (after_drop link d)
 keeps_drop s link d h = (lawful_drop s link d h.0, quiet_mark (s.opened link) link d.marks (marks.Drop link) h.0 h.1 refl refl refl refl)
 
-pub keeps_grant : (s : Setting) (link credits : ℕ) (d : Drill) → IsGranted (s.opened link) credits → Keeps s link d → Keeps s link (after_grant link credits d)
+pub keeps_grant : (s : Setting) (link credits : ℕ) (d : Drill) → IsGranted (s.opened link) (Granted credits) → Keeps s link d → Keeps s link (after_grant link credits d)
 keeps_grant s link credits d within h = (
   lawful_grant s link credits d within h.0,
-  quiet_mark (s.opened link) link d.marks (marks.Told link (told.Granted credits)) h.0 h.1 refl refl (quiet_told (s.opened link) link Initiator d.marks (told.Granted credits)) (quiet_told (s.opened link) link Responder d.marks (told.Granted credits)),
+  quiet_mark (s.opened link) link d.marks (marks.Told link (Granted credits)) h.0 h.1 refl refl (quiet_told (s.opened link) link Initiator d.marks (Granted credits)) (quiet_told (s.opened link) link Responder d.marks (Granted credits)),
 )
 
 pub keeps_giving_up : (s : Setting) (link : ℕ) (xid : Option ℕ) (d : Drill) → Keeps s link d → IsWritten (s.opened link) link (after_giving_up link xid d).marks
@@ -353,7 +353,7 @@ holds_by s acted link old new a h = record { keeps = keeps_by s acted link old n
 
 -- what a line has to be for the laws to hold after it: its credential can be encoded, and its credits are within those of the server
 abbrev pub GrantsWithin : Setting → Line → Type 0
-GrantsWithin s (lines.Grant client credits) = IsGranted (s.opened client) credits
+GrantsWithin s (lines.Grant client credits) = IsGranted (s.opened client) (Granted credits)
 GrantsWithin s line = Unit {0}
 
 abbrev pub IsFit : Setting → Line → Type 0
@@ -529,6 +529,8 @@ opened_by_script script is link =
       wished_fits = few;
       granted = omega (arith, some);
       granted_fits = few;
+      low = omega (arith, some);
+      low_fits = omega arith;
       receives = omega arith;
     }
 
@@ -540,7 +542,7 @@ both_so false b e = absurd cc
 grants_within : (server : SerialServer) (opening : Opening) (before : List Line) (line : Line) → may_follow opening before line ≡ true → GrantsWithin (setting_of server opening) line
 grants_within server opening before (lines.Grant client credits) e =
     let within = both_so (leb 1 credits) (leb credits opening.credits) (both_so (is_client opening client) (is_granted opening credits) e).1 in
-    GRANTED
+    (leb-true 1 credits within.0, leb-true credits opening.credits within.1)
 grants_within server opening before (lines.Cred client cred) e = tt
 grants_within server opening before (lines.Call client form prog vers proc args) e = tt
 grants_within server opening before (lines.Up client most) e = tt
@@ -677,7 +679,7 @@ line_plain s (lines.Forget client number) d h = giving_up_plain s client (open_x
 line_plain s (lines.Revoke client number) d h = taking_back_plain s client (open_xid s client d.marks (answer_of_line client number d.marks)) d h
 line_plain s (lines.Drop client) d h = plain_mark s.server d.marks (marks.Drop client) tt tt h
 line_plain s (lines.Raw client side bytes) d h = raw_plain s client side bytes (is_dropped client d.marks) d h
-line_plain s (lines.Grant client credits) d h = plain_mark s.server d.marks (marks.Told client (told.Granted credits)) tt tt h
+line_plain s (lines.Grant client credits) d h = plain_mark s.server d.marks (marks.Told client (Granted credits)) tt tt h
 line_plain s lines.Drain d h = h
 
 pub round_plain : (s : Setting) (links : List ℕ) (d : Drill) → IsPlainRun s.server d.marks → IsPlainRun s.server (after_round s links d).marks

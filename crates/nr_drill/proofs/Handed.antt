@@ -18,7 +18,7 @@ use Rattle.nr_reduce.specs.declared.call.Submission.{Submission}
 use Rattle.nr_reduce.specs.declared.call.Submission.TheVariants as submissions
 use Rattle.nr_reduce.specs.declared.mark.Mark.{Mark}
 use Rattle.nr_reduce.specs.declared.mark.Mark.TheVariants as marks
-use Rattle.nr_reduce.specs.declared.mark.Told.TheVariants as told
+use Rattle.nr_reduce.specs.declared.mark.Told.TheVariants.{Granted}
 use Rattle.nr_reduce.specs.declared.mark.LinkParameters.{LinkParameters}
 use Rattle.nr_reduce.specs.AtEachMark.{AtEachMark}
 use Rattle.nr_reduce.specs.Opening.{IsOpened}
@@ -455,7 +455,7 @@ drop_hands s link d h = none_then (s.opened link) link d.marks (marks.Drop link)
 
 grant_hands : (s : Setting) (link credits : ℕ) (d : Drill) → HandsAll s link d → HandsAll s link (after_grant link credits d)
 grant_hands s link credits d h =
-    none_then (s.opened link) link d.marks (marks.Told link (told.Granted credits)) (record { none = other_side_lem (eqb link link) _; fresh = refl }) h
+    none_then (s.opened link) link d.marks (marks.Told link (Granted credits)) (record { none = other_side_lem (eqb link link) _; fresh = refl }) h
 
 raw_hands : (s : Setting) (link : ℕ) (side : Side) (bytes : List ℕ) (dropped : Bool) (d : Drill) → HandsAll s link d → HandsAll s link (after_raw link side bytes dropped d)
 raw_hands s link side bytes true d h = h

@@ -9,7 +9,7 @@ use Rattle.nr_reduce.specs.declared.call.Call.{Call}
 use Rattle.nr_reduce.specs.declared.call.Form.{Form}
 use Rattle.nr_reduce.specs.declared.mark.Mark.{Mark}
 use Rattle.nr_reduce.specs.declared.mark.Mark.TheVariants as marks
-use Rattle.nr_reduce.specs.declared.mark.Told.TheVariants as told
+use Rattle.nr_reduce.specs.declared.mark.Told.TheVariants.{Granted}
 use Rattle.nr_reduce.specs.PlainJournal.{journal}
 use Rattle.nr_reduce.specs.History.{CompletedCall, bytes_sent, bytes_received, written_at, fed_at, is_drop_of, is_dropped}
 use Rattle.nr_reduce.specs.ServerState.{ReadyCall}
@@ -250,7 +250,7 @@ none_drop link d h = record {
 }
 
 none_grant : (link credits : ℕ) (d : Drill) → NoneLost link d → NoneLost link (after_grant link credits d)
-none_grant link credits d h = none_mark link (marks.Told link (told.Granted credits)) d refl refl refl refl refl h
+none_grant link credits d h = none_mark link (marks.Told link (Granted credits)) d refl refl refl refl refl h
 
 none_raw : (link : ℕ) (side : Side) (bytes : List ℕ) (dropped : Bool) (d : Drill) → NoneLost link d → NoneLost link (after_raw link side bytes dropped d)
 none_raw link side bytes true d h = h

@@ -16,7 +16,7 @@ use Rattle.nr_reduce.specs.declared.call.Submission.{Submission}
 use Rattle.nr_reduce.specs.declared.call.Submission.TheVariants as submissions
 use Rattle.nr_reduce.specs.declared.mark.Mark.{Mark}
 use Rattle.nr_reduce.specs.declared.mark.Mark.TheVariants as marks
-use Rattle.nr_reduce.specs.declared.mark.Told.TheVariants as told
+use Rattle.nr_reduce.specs.declared.mark.Told.TheVariants.{Granted}
 use Rattle.nr_reduce.specs.declared.mark.LinkParameters.{LinkParameters}
 use Rattle.nr_reduce.specs.PlainJournal.{entries_added, journal}
 use Rattle.nr_reduce.specs.History.{CompletedCall, bytes_sent, is_dropped}
@@ -266,7 +266,7 @@ line_keeps s P k (lines.Raw client side bytes) d l h =
     let dropped = is_dropped client d.marks in
     k.quiet d (after_raw client side bytes dropped d) (raw_quiet s client side bytes dropped d) (raw_typed client side bytes dropped d l) h
 line_keeps s P k (lines.Grant client credits) d l h =
-    let mark = marks.Told client (told.Granted credits) in
+    let mark = marks.Told client (Granted credits) in
     k.quiet d (after_grant client credits d) (More mark refl tt refl) (marked mark d tt) h
 line_keeps s P k lines.Drain d l h = h
 
