@@ -79,11 +79,11 @@ module _ (terms : Terms) (link : ℕ) (before now : Outside) (ahead : List ℕ) 
       merged opened link [] [] [] run each (all opened is) (same_behind opened link [] [] first)
 
   same_run : IsSame (with_credits terms.credits terms.units) link run (merge link [] run)
-  same_run = (as_whole (with_credits terms.credits terms.units) (refl, refl, refl)).1
+  same_run = (as_whole (with_credits terms.credits terms.units) (refl, refl, refl, refl)).1
 
   pub merged_runs : Runs terms link before now ahead more (merge link [] run)
   merged_runs = record {
-    own = AtEachMark_each (KeepsTo IsAll (with_credits terms.credits terms.units) link) (λ earlier mark. IsOwn link mark) [] (merge link [] run) (λ b m h. h.0) (as_whole (with_credits terms.credits terms.units) (refl, refl, refl)).0;
+    own = AtEachMark_each (KeepsTo IsAll (with_credits terms.credits terms.units) link) (λ earlier mark. IsOwn link mark) [] (merge link [] run) (λ b m h. h.0) (as_whole (with_credits terms.credits terms.units) (refl, refl, refl, refl)).0;
     handed = subst (λ (l : List ℕ). HandsOut before.left before.given now.left now.given (l ++ ahead)) (sym same_run.received) r.handed;
     taken = subst (λ (l : List ℕ). Takes before.sink now.sink l) (sym same_run.sent) r.taken;
     served = λ opened is. AtEachMark_each (KeepsTo IsAll opened link) (ServedMark IsPrefixOf opened link) [] (merge link [] run) (λ b m h. served_mark opened link b m h.1.0) (as_whole opened is).0;

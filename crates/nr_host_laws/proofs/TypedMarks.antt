@@ -140,6 +140,7 @@ typed_from s J opened link tree front (marks.Lost l xid ∷ run) n g = absurd g.
 typed_from s J opened link tree front (marks.Forget l xid ∷ run) n g = absurd g.own.0
 typed_from s J opened link tree front (marks.Revoke l xid bytes ∷ run) n g = absurd g.own.0
 typed_from s J opened link tree front (marks.Drop l ∷ run) n g = absurd g.own.0
+typed_from s J opened link tree front (marks.Told l what ∷ run) n g = absurd g.own.0
 
 -- ---- A connection
 
@@ -158,7 +159,7 @@ connections_are_typed_lem terms link before after end first J left ended is =
     typed_from (setup_in first) (J ++ over.more) opened link is.tree [] ended.run (length J) (record {
       typed = tt;
       own = ended.runs.own;
-      served = ended.runs.served opened (refl, refl, refl);
+      served = ended.runs.served opened (refl, refl, refl, refl);
       fed = IsBytes_left (flat_map (fed_at link Responder) ended.run) ended.ahead all;
       entries = all_bytes (setup_in first) J over.more is.entries over.of_calls;
       placed = over.placed;
@@ -192,6 +193,7 @@ typed_anywhere before after (marks.Lost l xid) h = h
 typed_anywhere before after (marks.Forget l xid) h = h
 typed_anywhere before after (marks.Revoke l xid bytes) h = h
 typed_anywhere before after (marks.Drop l) h = h
+typed_anywhere before after (marks.Told l what) h = h
 
 typed_parts : (link : ℕ) (front own others run : List Mark) → AtEachMark TypedMark own (own_marks link run) → AtEachMark TypedMark others (other_marks link run) → AtEachMark TypedMark front run
 typed_parts link front own others [] h k = tt

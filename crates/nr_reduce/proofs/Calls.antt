@@ -32,7 +32,7 @@ use Rattle.nr_reduce.specs.Chunks.{is_read_chunk_of_item}
 use Rattle.nr_reduce.specs.Holds.{Answer, answer_writes, answer_message, chunk_error, version_error}
 use Rattle.nr_reduce.specs.ClientState.{ClientState, call_payload, plan_for}
 use Rattle.nr_reduce.specs.Client.{client_rules, client_end, client_output, client_state_after, with_segment, plan_or, outstanding_of, call_output, calls_output, response_output, segment_request, with_hello}
-use Rattle.nr_reduce.specs.ServerState.{ServerState, ReadyCall, PendingCall, PendingRead, credit_word}
+use Rattle.nr_reduce.specs.ServerState.{ServerState, ReadyCall, PendingCall, PendingRead, credit_word, receives_in_use}
 use Rattle.nr_reduce.specs.ServerReads.{open_reads, is_read, regions_of, reads_of}
 use Rattle.nr_reduce.specs.ServerMessages.{Verdict, CallVerdict, verdict, by_payload, by_head, pending_payload, call_xid, chunk_bytes}
 use Rattle.nr_reduce.specs.ServerMessages.Verdict.{EndsLink, OtherVersion, BadChunks, MakesPending}

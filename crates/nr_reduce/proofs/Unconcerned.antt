@@ -15,7 +15,7 @@ use Rattle.nr_reduce.specs.declared.mark.LinkParameters.{LinkParameters}
 use Rattle.nr_reduce.specs.History.{other, written_at, fed_at, bytes_sent, bytes_received, accepted_as, accepted_at, executed_at, completed_at, abandons}
 use Rattle.nr_reduce.specs.Concerns.{is_judged, is_fed, concerns}
 use Rattle.nr_reduce.specs.Events.{RunEvent, if_own, mark_events, events_at}
-use Rattle.nr_reduce.specs.Events.RunEvent.{FrameReceived, CallSubmitted, MemoryRevoked, CallExecuted, QueueWritten}
+use Rattle.nr_reduce.specs.Events.RunEvent.{FrameReceived, CallSubmitted, MemoryRevoked, CallExecuted, QueueWritten, ServerTold}
 use Rattle.nr_reduce.specs.EndRules.{end_state_after}
 use Rattle.nr_reduce.specs.Client.{client_rules}
 use Rattle.nr_reduce.specs.Server.{server_rules}
