@@ -25,6 +25,8 @@ pub mod KeptLists
 pub mod LastResponses
 pub mod ListedReads
 pub mod Marks
+pub mod Words
+pub mod GrantedCredits
 pub mod NextCalls
 pub mod Opened
 pub mod OpenedReads
