@@ -81,6 +81,7 @@ impl ServerEnd {
         requires sound { ServerEndInvariant self.old }
         requires windows { WindowsInvariant self.old }
         ensures is { with_staging self.new ≡ granting credits (with_staging self.old) }
+        ensures endpoint { self.new.endpoint ≡ self.old.endpoint }
         ensures stands { (opened : LinkParameters) (link : ℕ) (run : List Mark) → ResponderRepresents opened link run (state_of self.old) →
             ResponderRepresents opened link (run ++ marks.Told link (Granted credits) ∷ []) (state_of self.new) }
         ensures sound { ServerEndInvariant self.new }

@@ -250,6 +250,8 @@ impl Responder {
         requires some { 1 ≤ credits }
         requires few { credits ≤ self.old.side.credits.receives }
         ensures is { self.new ≡ granting credits self.old }
+        ensures fed { fed_bytes self.new.side.link ≡ fed_bytes self.old.side.link }
+        ensures staging { self.new.staging ≡ self.old.staging }
         ensures stands { (opened : LinkParameters) (link : ℕ) (run : List Mark) → ResponderRepresents opened link run self.old.side →
             ResponderRepresents opened link (run ++ marks.Told link (Granted credits) ∷ []) self.new.side }
     {
