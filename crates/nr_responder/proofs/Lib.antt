@@ -27,6 +27,7 @@ pub mod ListedReads
 pub mod Marks
 pub mod Words
 pub mod GrantedCredits
+pub mod KeptReceives
 pub mod NextCalls
 pub mod Opened
 pub mod OpenedReads

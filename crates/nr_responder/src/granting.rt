@@ -71,7 +71,8 @@ impl ServerEnd {
 
     /// The credits that it was opened with.
     pub fn opened(&self) -> u32
-        ensures { result ≡ (state_of self.now).credits.receives }
+        ensures exact { result ≡ (state_of self.now).credits.receives }
+        ensures of_run { (opened : LinkParameters) (link : ℕ) (run : List Mark) → ResponderRepresents opened link run (state_of self.now) → result ≡ opened.receives }
     {
         self.credits.receives
     }

@@ -238,7 +238,8 @@ impl Responder {
 
     /// The credits that it was opened with: it has a receive for each. Takes no memory.
     pub fn opened(&self) -> u32
-        ensures { result ≡ self.now.side.credits.receives }
+        ensures exact { result ≡ self.now.side.credits.receives }
+        ensures of_run { (opened : LinkParameters) (link : ℕ) (run : List Mark) → ResponderRepresents opened link run self.now.side → result ≡ opened.receives }
     {
         self.end.opened()
     }
@@ -250,6 +251,7 @@ impl Responder {
         requires some { 1 ≤ credits }
         requires few { credits ≤ self.old.side.credits.receives }
         ensures is { self.new ≡ granting credits self.old }
+        ensures end { end_of self.new.side ≡ end_of self.old.side }
         ensures fed { fed_bytes self.new.side.link ≡ fed_bytes self.old.side.link }
         ensures staging { self.new.staging ≡ self.old.staging }
         ensures stands { (opened : LinkParameters) (link : ℕ) (run : List Mark) → ResponderRepresents opened link run self.old.side →
