@@ -1,27 +1,15 @@
 -- A server that is told to grant other credits, and its receives, which stay.
-use Rattle.std.specs.Prelude.{is_some}
-use Rattle.std.proofs.Common.{◌≡◌, ◌≢◌, ℕ, Bool, true, false, cond, List, [], ◌∷◌, ◌++◌, Some, inl, inr, refl, sym, ap, subst, ◌∙◌}
-use Rattle.nr_wire.specs.declared.hello.Side.TheVariants.{Responder}
+use Rattle.std.proofs.Common.{◌≡◌, ◌≢◌, ℕ, List, [], ◌∷◌, ◌++◌, Some, inl, refl, sym, subst, ◌∙◌}
 use Rattle.nr_link.specs.declared.end.End.TheVariants as ends
 use Rattle.nr_reduce.specs.declared.mark.LinkParameters.{LinkParameters}
 use Rattle.nr_reduce.specs.declared.mark.Mark.{Mark}
 use Rattle.nr_reduce.specs.declared.mark.Mark.TheVariants as marks
 use Rattle.nr_reduce.specs.declared.mark.Told.TheVariants.{Granted}
-use Rattle.nr_link.specs.Input.{InputState}
-use Rattle.nr_link.specs.Frames.{is_hello}
-use Rattle.nr_endpoint.specs.FedBytes.{fed_bytes}
-use Rattle.nr_reduce.specs.Events.{RunEvent, events}
-use Rattle.nr_reduce.specs.Events.RunEvent.{FrameReceived, CallSubmitted, MemoryRevoked, CallExecuted, QueueWritten, ServerTold}
-use Rattle.nr_reduce.specs.EndRules.{EndState}
-use Rattle.nr_reduce.specs.ServerState.{ServerState}
-use Rattle.nr_reduce.specs.ServerFrames.{frame_effect}
-use Rattle.nr_reduce.specs.Server.{server_rules, server_state_after, initial_server, with_own_hello, with_effect}
-use Rattle.nr_reduce.specs.Run.{server}
-use Rattle.nr_reduce.proofs.OwnStags.{kept_after}
+use Rattle.nr_reduce.specs.Events.RunEvent.{ServerTold}
 use Rattle.nr_requester.proofs.AllMarks.{others_leave_it}
-use Rattle.nr_responder.specs.ResponderState.{ResponderSide, ResponderState, end_of, with_granted, granting}
-use Rattle.nr_responder.specs.Keeping.{KeepsEnd}
+use Rattle.nr_responder.specs.ResponderState.{ResponderSide, end_of}
 use Rattle.nr_responder.specs.Standing.{ResponderRepresents}
+use Rattle.nr_responder.proofs.KeptReceives.{server_receives}
 use Rattle.nr_drill.specs.Drill.{Setting, Drill, after_grant}
 use Rattle.nr_drill.specs.InBytes.{RepliedInBytes}
 use Rattle.nr_drill_link.specs.DrillLinkState.{DrillLinkState}
@@ -57,17 +45,7 @@ grants v server credits run run2 takes same more s link d at =
       replies = subst RepliedInBytes (sym more) (replied_one run (marks.Told v.number (Granted credits)) (λ before. tt) at.replies);
     }
 
--- as the code has it: nothing but its credits changes, if anything
-pub granting_stays : (credits : ℕ) (before after : ResponderState) → after ≡ granting credits before → (fed_bytes after.side.link ≡ fed_bytes before.side.link) × (end_of after.side ≡ end_of before.side)
-granting_stays credits before after is = (ap (λ (v : ResponderState). fed_bytes v.side.link) is ∙ (by (is_some (end_of before.side))).0, ap (λ (v : ResponderState). end_of v.side) is ∙ (by (is_some (end_of before.side))).1)
-  where
-    granted : ResponderState
-    granted = record before { side = with_granted credits before.side }
-
-    by : (b : Bool) → (fed_bytes (cond b before granted).side.link ≡ fed_bytes before.side.link) × (end_of (cond b before granted).side ≡ end_of before.side)
-    by true = (refl, refl)
-    by false = (refl, refl)
-
+-- as the code has it
 pub grants_to : (v v0 : DrillLinkState) (server : ResponderSide) (credits : ℕ) (run run2 : List Mark) → v ≡ v0 → TakesGrant credits v.server server → end_of server ≡ end_of v.server →
     run2 ≡ run ++ marks.Told v.number (Granted credits) ∷ [] → Goes (λ s link. after_grant link credits) v0 (with_ends v v.client server v.pipes) run run2
 grants_to v v0 server credits run run2 is takes same more =
@@ -75,28 +53,5 @@ grants_to v v0 server credits run run2 is takes same more =
 
 -- ---- Its receives are those that it was opened with
 
-receives_after : (opened : LinkParameters) (k : ServerState) (e : RunEvent) → k.receives ≡ opened.receives → (server_state_after opened k e).receives ≡ opened.receives
-unfolding server_state_after
-receives_after opened k (FrameReceived f) h = by (is_hello f)
-  where
-    by : (b : Bool) → (cond b (with_own_hello opened k f) (with_effect k f (frame_effect k f))).receives ≡ opened.receives
-    by true = h
-    by false = h
-receives_after opened k (CallSubmitted place a) h = h
-receives_after opened k (MemoryRevoked place xid) h = h
-receives_after opened k (CallExecuted e) h = h
-receives_after opened k (QueueWritten taken) h = h
-receives_after opened k (ServerTold what) h = h
-
-server_receives : (opened : LinkParameters) (link : ℕ) (run : List Mark) → (server opened link run).state.receives ≡ opened.receives
-unfolding server
-server_receives opened link run = kept_after (server_rules opened) (λ k. k.receives ≡ opened.receives) (receives_after opened) (initial_server opened) (events link Responder run) refl
-
-receives_by : (opened : LinkParameters) (end : EndState ServerState) (input : InputState) (v : ResponderSide) → KeepsEnd opened end input v → v.credits.receives ≡ end.state.receives
-receives_by opened end input v (inl keeps) = ap (λ (g : ℕ × (ℕ × ℕ)). g.0) keeps.1.credits
-receives_by opened end input v (inr over) = ap (λ (g : ℕ × (ℕ × ℕ)). g.0) over.credits
-
 pub receives_are : (s : Setting) (link : ℕ) (d : Drill) (v : DrillLinkState) → LinkStands s link d v → v.server.credits.receives ≡ (s.opened link).receives
-receives_are s link d v h =
-    let r = h.server in
-    receives_by (s.opened link) r.end r.input v.server r.keeps ∙ ap (λ (x : EndState ServerState). x.state.receives) r.stands.keeps ∙ server_receives (s.opened link) link d.marks
+receives_are s link d v h = server_receives (s.opened link) link d.marks v.server h.server
