@@ -23,7 +23,7 @@ use Rattle.nr_reduce.specs.declared.mark.LinkParameters.{LinkParameters}
 use Rattle.nr_reduce.specs.declared.outline.Plan.{Plan}
 use Rattle.nr_reduce.specs.History.{AcceptedCall}
 use Rattle.nr_reduce.specs.Events.{RunEvent, events}
-use Rattle.nr_reduce.specs.Events.RunEvent.{FrameReceived, CallSubmitted, MemoryRevoked, CallExecuted, QueueWritten}
+use Rattle.nr_reduce.specs.Events.RunEvent.{FrameReceived, CallSubmitted, MemoryRevoked, CallExecuted, QueueWritten, ServerTold}
 use Rattle.nr_reduce.specs.EndRules.{output_for_all}
 use Rattle.nr_reduce.specs.Items.{reducible_item}
 use Rattle.nr_reduce.specs.OfferedRegions.{region_grants}
@@ -181,6 +181,7 @@ client_written_lem o k (CallSubmitted place a) c h = by k.has_hello
 client_written_lem o k (MemoryRevoked place xid) c h = no_bytes_lem
 client_written_lem o k (CallExecuted call) c h = no_bytes_lem
 client_written_lem o k (QueueWritten taken) c h = no_bytes_lem
+client_written_lem o k (ServerTold what) c h = no_bytes_lem
 
 message_after : (k : ClientState) (place : ℕ) (m : Option (List ℕ)) → IfBytes m → ClientOfBytes k → ClientOfBytes (with_message k place m)
 message_after k place None b h = h
@@ -260,6 +261,7 @@ client_after o place k (MemoryRevoked p xid) next c h = record {
 }
 client_after o place k (CallExecuted call) next c h = h
 client_after o place k (QueueWritten taken) next c h = record { begun = h.begun; calls = h.calls; regions = h.regions; accesses = h.accesses; outcomes = h.outcomes }
+client_after o place k (ServerTold what) next c h = record { begun = h.begun; calls = h.calls; regions = h.regions; accesses = h.accesses; outcomes = h.outcomes }
 
 client_keeps : (o : LinkParameters) → KeepsBytes (client_rules o) ClientOfBytes
 client_keeps o = record {

@@ -14,7 +14,7 @@ use Rattle.nr_reduce.specs.declared.mark.Mark.{Mark}
 use Rattle.nr_reduce.specs.declared.mark.Mark.TheVariants as marks
 use Rattle.nr_reduce.specs.History.{other, bytes_received}
 use Rattle.nr_reduce.specs.Events.{RunEvent, events, events_at, if_own}
-use Rattle.nr_reduce.specs.Events.RunEvent.{FrameReceived, CallSubmitted, MemoryRevoked, CallExecuted, QueueWritten}
+use Rattle.nr_reduce.specs.Events.RunEvent.{FrameReceived, CallSubmitted, MemoryRevoked, CallExecuted, QueueWritten, ServerTold}
 use Rattle.nr_reduce.specs.EndRules.{EndMachine, EndState, next_end_state, next_end_state_by, next_end_state_in, end_state_after, output_for_by, output_for_in, output_for_all}
 use Rattle.nr_reduce.specs.ClientState.{call_payload}
 use Rattle.nr_reduce.specs.OfferedRegions.{Region, region_bytes_by, region_bytes, closed_if, regions_closed}
@@ -80,6 +80,7 @@ CarriesBytes r (CallSubmitted place a) = IsBytes (call_payload a.xid a.call)
 CarriesBytes r (MemoryRevoked place xid) = Unit {0}
 CarriesBytes r (CallExecuted e) = IsBytes e.reply
 CarriesBytes r (QueueWritten taken) = Unit {0}
+CarriesBytes r (ServerTold what) = Unit {0}
 
 first_if : {S : Type 0} (r : EndState S) (b : Bool) (es : List RunEvent) → FirstGood CarriesBytes r es → FirstGood CarriesBytes r (if_own b es)
 first_if r true es h = h
@@ -104,6 +105,7 @@ mark_carries r link side before (marks.Lost l xid) h = tt
 mark_carries r link side before (marks.Forget l xid) h = tt
 mark_carries r link side before (marks.Revoke l xid bytes) h = first_if r _ (MemoryRevoked (length (bytes_received link side before)) xid ∷ []) tt
 mark_carries r link side before (marks.Drop l) h = tt
+mark_carries r link side before (marks.Told l what) h = first_if r _ (ServerTold what ∷ []) tt
 
 -- ===== a fact of states that goes along
 
@@ -119,6 +121,7 @@ same_carries r t (CallSubmitted place a) h = h
 same_carries r t (MemoryRevoked place xid) h = h
 same_carries r t (CallExecuted e) h = h
 same_carries r t (QueueWritten taken) h = h
+same_carries r t (ServerTold what) h = h
 
 one_event : {S : Type 0} (rules : EndMachine S) (Q : S → Type 0) → KeepsBytes rules Q → (place : ℕ) (k : S) (ended : Option End) (e : RunEvent) → IsNext place e → CarriesBytes (record { state = k; ended = None }) e → Q k →
     IsBytes (output_for_in rules k e ended) × Q (next_end_state_in rules k e ended).state

@@ -35,7 +35,7 @@ use Rattle.nr_reduce.specs.declared.mark.Mark.{Mark}
 use Rattle.nr_reduce.specs.declared.mark.LinkParameters.{LinkParameters}
 use Rattle.nr_reduce.specs.History.{ExecutedCall}
 use Rattle.nr_reduce.specs.Events.{RunEvent}
-use Rattle.nr_reduce.specs.Events.RunEvent.{FrameReceived, CallSubmitted, MemoryRevoked, CallExecuted, QueueWritten}
+use Rattle.nr_reduce.specs.Events.RunEvent.{FrameReceived, CallSubmitted, MemoryRevoked, CallExecuted, QueueWritten, ServerTold}
 use Rattle.nr_reduce.specs.Items.{reducible_item}
 use Rattle.nr_reduce.specs.Chunks.{total_at, item_position, is_read_chunk_of_item, call_stream, call_moved, call_conveyed}
 use Rattle.nr_reduce.specs.OfferedRegions.{Region, region_grants}
@@ -324,6 +324,7 @@ server_written_lem o place k (CallSubmitted p a) next c h = no_bytes_lem
 server_written_lem o place k (MemoryRevoked p xid) next c h = no_bytes_lem
 server_written_lem o place k (CallExecuted e) next c h = execution_bytes k e c
 server_written_lem o place k (QueueWritten taken) next c h = no_bytes_lem
+server_written_lem o place k (ServerTold what) next c h = no_bytes_lem
 
 rejection_bytes : (end : End) → IsBytes (rejection Responder end)
 rejection_bytes (ends.Bad at reason) = bytes_if (eqb reason REASON_FLAGS) refusing_hello [] refusing_bytes no_bytes_lem
@@ -380,6 +381,7 @@ server_after o place k (CallExecuted e) next c h = record {
   ready = rest_ready k.ready h.ready;
 }
 server_after o place k (QueueWritten taken) next c h = record { begun = h.begun; calls = h.calls; regions = h.regions; accesses = h.accesses; ready = h.ready }
+server_after o place k (ServerTold what) next c h = record { begun = h.begun; calls = h.calls; regions = h.regions; accesses = h.accesses; ready = h.ready }
 
 server_keeps : (o : LinkParameters) → KeepsBytes (server_rules o) ServerOfBytes
 server_keeps o = record {

@@ -128,7 +128,7 @@ empty_pipe = record { waiting = []; kept = 0 }
 
 pub fresh_link : (number : ℕ) (opening : Opening) (client : RequesterSide) (server : ResponderSide) (up down : TransitState) (calls : List AwaitedCall) → client ≡ opened_as 1 1 opening.credits (sized_terms opening.client_units) client.staging → up ≡ empty_pipe → down ≡ empty_pipe → calls ≡ [] →
     ((opened : LinkParameters) (l : ℕ) → opened.first_xid ≡ 1 → opened.first_stag ≡ 1 → ClientOpened opened opening.credits (sized_terms opening.client_units) → RequesterRepresents opened l client []) → end_of server ≡ None →
-    ((opened : LinkParameters) (l : ℕ) → ServerOpened opened opening.credits (sized_terms opening.server_units) → ResponderRepresents opened l [] server) → IsFresh number opening (link_view number client server up down false 0 calls)
+    ((opened : LinkParameters) (l : ℕ) → ServerOpened opened opening.credits opening.credits (sized_terms opening.server_units) → ResponderRepresents opened l [] server) → IsFresh number opening (link_view number client server up down false 0 calls)
 fresh_link number opening client server up down calls opened no_up no_down none asks live serves = record {
   number = refl;
   pipes = (λ i. record { up = (no_up i).waiting; down = (no_down i).waiting });

@@ -73,7 +73,7 @@ pub record IsFresh (link : ℕ) (opening : Opening) (v : DrillLinkState) : Type 
   pub client_live : v.client.state.side.ended ≡ None
   pub server_live : end_of v.server ≡ None
   pub client : (opened : LinkParameters) (l : ℕ) → opened.first_xid ≡ 1 → opened.first_stag ≡ 1 → ClientOpened opened opening.credits (sized_terms opening.client_units) → RequesterRepresents opened l v.client []
-  pub server : (opened : LinkParameters) (l : ℕ) → ServerOpened opened opening.credits (sized_terms opening.server_units) → ResponderRepresents opened l [] v.server
+  pub server : (opened : LinkParameters) (l : ℕ) → ServerOpened opened opening.credits opening.credits (sized_terms opening.server_units) → ResponderRepresents opened l [] v.server
 
 -- a client was drained: these are all bytes that it had to write
 pub record ClientWrites (before after : RequesterSide) (bytes : List ℕ) : Type 0 where

@@ -61,7 +61,7 @@ has_read read some most = (some, most)
 -- nothing more is read, and the connection ends
 pub carried : (credits units : ℕ) (before now : Outside) (v : ResponderSide) (read : ℕ) (end : ConnEnd) → CarriesTo credits units before now v read → AheadAt end [] → MoreAt end []
     → ReadAt end read → FailedAt end now.sink.failed
-    → ((opened : LinkParameters) (link : ℕ) (run : List Mark) → ResponderRepresents opened link run v → AllQuiet (record { credits = credits; units = units; read = read }) link run → ServerOpened opened credits (sized_terms units)
+    → ((opened : LinkParameters) (link : ℕ) (run : List Mark) → ResponderRepresents opened link run v → AllQuiet (record { credits = credits; units = units; read = read }) link run → ServerOpened opened credits credits (sized_terms units)
     → length (bytes_received link Responder run) ≡ read → IsCause opened link run now.left end)
     → IsServed credits units before now end
 carried credits units before now v read end carries ahead more most failed cause link =
@@ -163,7 +163,7 @@ module _ (left given taken : Option (List ℕ)) (faults : ℕ) (gave : Option (L
   }
 
   pub opened : (credits units : ℕ) (v : ResponderSide) → v ≡ opened_side credits (sized_terms units) → end_of v ≡ None
-      → ((opened : LinkParameters) (link : ℕ) → ServerOpened opened credits (sized_terms units) → ResponderRepresents opened link [] v) → CarriesTo credits units first first v 0
+      → ((opened : LinkParameters) (link : ℕ) → ServerOpened opened credits credits (sized_terms units) → ResponderRepresents opened link [] v) → CarriesTo credits units first first v 0
   unfolding initial_link
   opened credits units v is live stands link = (
     [],

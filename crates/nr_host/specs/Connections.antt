@@ -106,9 +106,9 @@ pub record Runs (terms : Terms) (link : ℕ) (before after : Outside) (ahead : L
   pub own : AtEachMark (λ earlier mark. IsOwn link mark) [] run
   pub handed : HandsOut before.left before.given after.left after.given (bytes_received link Responder run ++ ahead)
   pub taken : Takes before.sink after.sink (bytes_sent link Responder run)
-  pub served : (opened : LinkParameters) → ServerOpened opened terms.credits (sized_terms terms.units) → ServedSoFar opened link run
-  pub quiet : (opened : LinkParameters) → ServerOpened opened terms.credits (sized_terms terms.units) → AtEachMark (QuietMark opened link) [] run
-  pub frames : (opened : LinkParameters) → ServerOpened opened terms.credits (sized_terms terms.units) → AtEachMark (FrameMark opened link) [] run
+  pub served : (opened : LinkParameters) → ServerOpened opened terms.credits terms.credits (sized_terms terms.units) → ServedSoFar opened link run
+  pub quiet : (opened : LinkParameters) → ServerOpened opened terms.credits terms.credits (sized_terms terms.units) → AtEachMark (QuietMark opened link) [] run
+  pub frames : (opened : LinkParameters) → ServerOpened opened terms.credits terms.credits (sized_terms terms.units) → AtEachMark (FrameMark opened link) [] run
   pub over : Over before.view (answers_of run) after.view
   pub gave : GivesAll before.gave after.gave (moments run ++ more)
   pub count : length (bytes_received link Responder run) + length ahead ≡ terms.read

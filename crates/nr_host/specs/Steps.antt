@@ -20,10 +20,10 @@ use Rattle.nr_host.specs.declared.conn_end.ConnEnd.{ConnEnd}
 -- it made these marks, and its responder stands for them
 pub record IsLive (terms : Terms) (link : ℕ) (before now : Outside) (ahead : List ℕ) (run : List Mark) (v : ResponderSide) : Type 0 where
   pub runs : Runs terms link before now ahead [] run
-  pub stands : (opened : LinkParameters) → ServerOpened opened terms.credits (sized_terms terms.units) → ResponderRepresents opened link run v
+  pub stands : (opened : LinkParameters) → ServerOpened opened terms.credits terms.credits (sized_terms terms.units) → ResponderRepresents opened link run v
 
 abbrev pub AllQuiet : Terms → ℕ → List Mark → Type 0
-AllQuiet terms link run = (opened : LinkParameters) → ServerOpened opened terms.credits (sized_terms terms.units) → IsQuiet opened link run
+AllQuiet terms link run = (opened : LinkParameters) → ServerOpened opened terms.credits terms.credits (sized_terms terms.units) → IsQuiet opened link run
 
 abbrev pub sink_state : (taken : Option (List ℕ)) → (faults : ℕ) → (failed : Bool) → SinkState
 sink_state taken faults failed = record { taken = taken; faults = faults; failed = failed }
@@ -60,7 +60,7 @@ WritesAll sink sink' v v' =
     (terms : Terms) (link : ℕ) (before : Outside) (left given : Option (List ℕ)) (gave : Option (List Moment)) (view : PassView) (ahead : List ℕ) (run : List Mark) →
     IsLive terms link before (outside left given sink gave view) ahead run v →
     (run' : List Mark) × (IsLive terms link before (outside left given sink' gave view) ahead run' v'
-    × ((opened : LinkParameters) → ServerOpened opened terms.credits (sized_terms terms.units) → (end_of v ≡ Some link_ends.Memory → ⊥) → queue v' ≡ []))
+    × ((opened : LinkParameters) → ServerOpened opened terms.credits terms.credits (sized_terms terms.units) → (end_of v ≡ Some link_ends.Memory → ⊥) → queue v' ≡ []))
 
 -- A step that writes goes on to marks after which nothing is due.
 abbrev pub GoesQuietly : (sink sink' : SinkState) (gave gave' : Option (List Moment)) (view view' : PassView) (v v' : ResponderSide) → Type 0

@@ -71,7 +71,7 @@ module _ (credits units : ℕ) (before after : Outside) (first : Opening) (J : L
       subst (λ (l : Option (List ℕ)). Consumes l after.left (bytes_received link Responder run ++ ahead)) known r.handed.from_left
 
   made_by : (read link : ℕ) (failed : Bool) (ahead : List ℕ) (more : List Moment) (run : List Mark) → Runs (terms_of credits units read) link before (with_failed failed after) ahead more run
-      → (opened : LinkParameters) → ServerOpened opened credits (sized_terms units) → MayHaveMade (setup_in first) J opened link stream run
+      → (opened : LinkParameters) → ServerOpened opened credits credits (sized_terms units) → MayHaveMade (setup_in first) J opened link stream run
   made_by read link failed ahead more run r opened same = record {
     own = r.own;
     begins = read_first after.left stream (bytes_received link Responder run) ahead (consumed read link failed ahead more run r);
@@ -85,11 +85,11 @@ module _ (credits units : ℕ) (before after : Outside) (first : Opening) (J : L
   -- a connection that read all of it, and is idle, has closed
   closed : (read link : ℕ) (failed : Bool) (ahead : List ℕ) (more : List Moment) (run : List Mark) → Runs (terms_of credits units read) link before (with_failed failed after) ahead more run
       → ahead ≡ [] → more ≡ [] → failed ≡ false
-      → ((opened : LinkParameters) → ServerOpened opened credits (sized_terms units) → IsIdle opened link run × IsAtEnd after.left)
-      → ((opened : LinkParameters) → ServerOpened opened credits (sized_terms units) → Served opened link run)
+      → ((opened : LinkParameters) → ServerOpened opened credits credits (sized_terms units) → IsIdle opened link run × IsAtEnd after.left)
+      → ((opened : LinkParameters) → ServerOpened opened credits credits (sized_terms units) → Served opened link run)
       → ServesStream credits units first J link before after stream
   closed read link failed ahead more run r none no_more fine idle served =
-      let at : IsAtEnd after.left = (idle (with_credits credits units) (refl, refl, refl)).1 in
+      let at : IsAtEnd after.left = (idle (with_credits credits units) (refl, refl, refl, refl)).1 in
       let all : (bytes_received link Responder run ≡ stream) × (after.left ≡ Some []) = read_all after.left stream (bytes_received link Responder run) ahead (consumed read link failed ahead more run r) none at in
       record {
         run = run;
@@ -117,17 +117,17 @@ module _ (credits units : ℕ) (before after : Outside) (first : Opening) (J : L
   by_end ends.LinkWrite source source' sc kc quiet fine read failed e = absurd (fine kc)
   by_end (ends.Protocol why) source source' sc kc quiet fine read failed e =
       let opened : LinkParameters = with_credits credits units in
-      absurd (none-some why (sym (complete.stays opened 0 e.run (refl, refl, refl) (made_by read 0 failed e.ahead e.more e.run e.runs opened (refl, refl, refl))) ∙ (e.cause opened (refl, refl, refl)).0))
+      absurd (none-some why (sym (complete.stays opened 0 e.run (refl, refl, refl, refl) (made_by read 0 failed e.ahead e.more e.run e.runs opened (refl, refl, refl, refl))) ∙ (e.cause opened (refl, refl, refl, refl)).0))
   by_end (ends.Budget most) source source' sc kc quiet fine read failed e =
       let opened : LinkParameters = with_credits credits units in
-      absurd (no_longer (bytes_received 0 Responder e.run) stream (made_by read 0 failed e.ahead e.more e.run e.runs opened (refl, refl, refl)).begins complete.within (e.cause opened (refl, refl, refl)).1.1)
+      absurd (no_longer (bytes_received 0 Responder e.run) stream (made_by read 0 failed e.ahead e.more e.run e.runs opened (refl, refl, refl, refl)).begins complete.within (e.cause opened (refl, refl, refl, refl)).1.1)
   by_end (ends.Cut at calls) source source' sc kc quiet fine read failed e =
       let opened : LinkParameters = with_credits credits units in
-      let why : IsCause opened 0 e.run after.left (ends.Cut at calls) = e.cause opened (refl, refl, refl) in
+      let why : IsCause opened 0 e.run after.left (ends.Cut at calls) = e.cause opened (refl, refl, refl, refl) in
       let all : (bytes_received 0 Responder e.run ≡ stream) × (after.left ≡ Some []) =
       read_all after.left stream (bytes_received 0 Responder e.run) e.ahead (consumed read 0 failed e.ahead e.more e.run e.runs) e.ahead_is why.1.0 in
       absurd (by (ap (λ (l : List ℕ). (input_of Initiator l).rest) all.0 ∙ complete.frames)
-      (complete.answered opened 0 e.run (refl, refl, refl) (made_by read 0 failed e.ahead e.more e.run e.runs opened (refl, refl, refl)) all.0 why.0.quiet) why.1.1.1.1)
+      (complete.answered opened 0 e.run (refl, refl, refl, refl) (made_by read 0 failed e.ahead e.more e.run e.runs opened (refl, refl, refl, refl)) all.0 why.0.quiet) why.1.1.1.1)
     where
       by : (input_of Initiator (bytes_received 0 Responder e.run)).rest ≡ [] → (server (with_credits credits units) 0 e.run).state.calls ≡ []
           → (0 < begun_bytes 0 e.run) ⊎ (0 < open_calls (with_credits credits units) 0 e.run) → ⊥

@@ -140,6 +140,7 @@ typed_from s J opened link tree front (marks.Lost l xid ∷ run) n g = absurd g.
 typed_from s J opened link tree front (marks.Forget l xid ∷ run) n g = absurd g.own.0
 typed_from s J opened link tree front (marks.Revoke l xid bytes ∷ run) n g = absurd g.own.0
 typed_from s J opened link tree front (marks.Drop l ∷ run) n g = absurd g.own.0
+typed_from s J opened link tree front (marks.Told l what ∷ run) n g = absurd g.own.0
 
 -- ---- A connection
 
@@ -151,14 +152,14 @@ pub connections_are_typed_lem : ConnectionsAreTyped
 unfolding bytes_received answers_of
 connections_are_typed_lem terms link before after end first J left ended is =
     let over = ended.runs.over first J is.history in
-    let opened : LinkParameters = record { first_xid = 1; first_stag = 1; wished = 1; granted = terms.credits; receives = terms.credits; client = default_terms; server = sized_terms terms.units } in
+    let opened : LinkParameters = record { first_xid = 1; first_stag = 1; wished = 1; granted = terms.credits; low = terms.credits; receives = terms.credits; client = default_terms; server = sized_terms terms.units } in
     let all : IsBytes (flat_map (fed_at link Responder) ended.run ++ ended.ahead) =
     given_bytes left after.left (flat_map (fed_at link Responder) ended.run ++ ended.ahead)
     (subst (λ (o : Option (List ℕ)). Consumes o after.left (flat_map (fed_at link Responder) ended.run ++ ended.ahead)) is.known ended.runs.handed.from_left) is.bytes in
     typed_from (setup_in first) (J ++ over.more) opened link is.tree [] ended.run (length J) (record {
       typed = tt;
       own = ended.runs.own;
-      served = ended.runs.served opened (refl, refl, refl);
+      served = ended.runs.served opened (refl, refl, refl, refl);
       fed = IsBytes_left (flat_map (fed_at link Responder) ended.run) ended.ahead all;
       entries = all_bytes (setup_in first) J over.more is.entries over.of_calls;
       placed = over.placed;
@@ -166,7 +167,7 @@ connections_are_typed_lem terms link before after end first J left ended is =
 
 -- so is the stream of a connection that served all of it
 pub stream_is_typed : (credits units : ℕ) (first : Opening) (J : List Entry) (link : ℕ) (before after : Outside) (stream : List ℕ) (served : ServesStream credits units first J link before after stream) (opened : LinkParameters)
-    → ServerOpened opened credits (sized_terms units) → IsBytes stream → IsInBytes (setup_in first).tree → EntriesInBytes J → IsTyped served.run
+    → ServerOpened opened credits credits (sized_terms units) → IsBytes stream → IsInBytes (setup_in first).tree → EntriesInBytes J → IsTyped served.run
 unfolding bytes_received answers_of
 stream_is_typed credits units first J link before after stream served opened same bytes tree entries =
     (typed_from (setup_in first) (J ++ served.over.more) opened link tree [] served.run (length J) (record {
@@ -192,6 +193,7 @@ typed_anywhere before after (marks.Lost l xid) h = h
 typed_anywhere before after (marks.Forget l xid) h = h
 typed_anywhere before after (marks.Revoke l xid bytes) h = h
 typed_anywhere before after (marks.Drop l) h = h
+typed_anywhere before after (marks.Told l what) h = h
 
 typed_parts : (link : ℕ) (front own others run : List Mark) → AtEachMark TypedMark own (own_marks link run) → AtEachMark TypedMark others (other_marks link run) → AtEachMark TypedMark front run
 typed_parts link front own others [] h k = tt

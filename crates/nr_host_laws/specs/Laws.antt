@@ -47,7 +47,7 @@ abbrev pub ConnectionsKeepTheLaw : Type 0
 ConnectionsKeepTheLaw =
     (credits units : ℕ) (before after : Outside) (end : ConnEnd) → (end ≡ ends.Memory → ⊥) → IsServed credits units before after end → (link : ℕ) →
     (read : ℕ) × ((failed : Bool) × ((ended : Ended (record { credits = credits; units = units; read = read }) link before (with_failed failed after) end)
-    × ((opened : LinkParameters) → ServerOpened opened credits (sized_terms units) → Served opened link ended.run)))
+    × ((opened : LinkParameters) → ServerOpened opened credits credits (sized_terms units) → Served opened link ended.run)))
 
 -- A connection over a source with a complete stream, with the clauses of `serve_connection`. No fault count rises: that
 -- of the source, or of the sink.
@@ -69,7 +69,7 @@ StreamsWithoutCalls = (credits units : ℕ) (s : Setup) (J : List Entry) →
 abbrev pub SendsAreAnswered : Type 0
 SendsAreAnswered =
     (credits units : ℕ) (first : Opening) (J : List Entry) (link : ℕ) (before after : Outside) (stream : List ℕ) (served : ServesStream credits units first J link before after stream) →
-    (opened : LinkParameters) → ServerOpened opened credits (sized_terms units) → IsBytes stream → IsInBytes (setup_in first).tree → EntriesInBytes J →
+    (opened : LinkParameters) → ServerOpened opened credits credits (sized_terms units) → IsBytes stream → IsInBytes (setup_in first).tree → EntriesInBytes J →
     items_written is_send_item (length (hello_due opened link Responder served.run)) (length (bytes_sent link Responder served.run)) (items_due opened link Responder served.run)
     ≡ (server opened link served.run).state.received.sends
 
@@ -82,6 +82,6 @@ MatchedConnectionsStay =
     (credits units : ℕ) (before after : Outside) (why : End) (link read : ℕ) (failed : Bool)
     (ended : Ended (record { credits = credits; units = units; read = read }) link before (with_failed failed after) (ends.Protocol why))
     (first : Opening) (J : List Entry) (left : List ℕ) (reply_to : List Entry → Moment → List ℕ → Option (List ℕ)) (adds : Moment → List ℕ → List ℕ → List Entry) (opened : LinkParameters) (run : List Mark) →
-    ServerOpened opened credits (sized_terms units) → own_marks link run ≡ ended.run → IsOverBytes first J left before → IsTyped (other_marks link run) →
+    ServerOpened opened credits credits (sized_terms units) → own_marks link run ≡ ended.run → IsOverBytes first J left before → IsTyped (other_marks link run) →
     IsOpened opened → KeepLaws opened link run → HasNoRevoke link run → AreConveyedOrRefused opened link run →
     KeepsReplyLimits (server_with reply_to adds) → HasPlainReplies (server_with reply_to adds) link run → ⊥

@@ -10,6 +10,7 @@ abbrev pub is_own : ℕ → Mark → Bool
 is_own link (marks.Fed l Responder bytes) = l == link
 is_own link (marks.Wrote l Responder bytes) = l == link
 is_own link (marks.Execute l xid moment payload place reply) = l == link
+is_own link (marks.Told l what) = l == link
 is_own link mark = false
 
 abbrev pub own_marks : ℕ → List Mark → List Mark

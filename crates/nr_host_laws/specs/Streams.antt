@@ -38,9 +38,9 @@ pub record MayHaveMade (s : Setup) (J : List Entry) (opened : LinkParameters) (l
 pub record IsCompleteStream (credits units : ℕ) (s : Setup) (J : List Entry) (stream : List ℕ) : Type 0 where
   pub within : length stream < read_max
   pub frames : (input_of Initiator stream).rest ≡ []
-  pub stays : (opened : LinkParameters) (link : ℕ) (run : List Mark) → ServerOpened opened credits (sized_terms units) →
+  pub stays : (opened : LinkParameters) (link : ℕ) (run : List Mark) → ServerOpened opened credits credits (sized_terms units) →
       MayHaveMade s J opened link stream run → (server opened link run).ended ≡ None
-  pub answered : (opened : LinkParameters) (link : ℕ) (run : List Mark) → ServerOpened opened credits (sized_terms units) →
+  pub answered : (opened : LinkParameters) (link : ℕ) (run : List Mark) → ServerOpened opened credits credits (sized_terms units) →
       MayHaveMade s J opened link stream run → bytes_received link Responder run ≡ stream → IsQuiet opened link run →
       (server opened link run).state.calls ≡ []
 
@@ -55,7 +55,7 @@ pub record ServesStream (credits units : ℕ) (first : Opening) (J : List Entry)
   pub taken : Appends before.sink.taken after.sink.taken (bytes_sent link Responder run)
   pub gave : GivesAll before.gave after.gave (moments run)
   pub over : OverHistory first J before.view (answers_of run) after.view
-  pub made : (opened : LinkParameters) → ServerOpened opened credits (sized_terms units) → MayHaveMade (setup_in first) J opened link stream run
-  pub served : (opened : LinkParameters) → ServerOpened opened credits (sized_terms units) → Served opened link run
-  pub idle : (opened : LinkParameters) → ServerOpened opened credits (sized_terms units) → IsIdle opened link run
-  pub answered : (opened : LinkParameters) → ServerOpened opened credits (sized_terms units) → (server opened link run).state.calls ≡ []
+  pub made : (opened : LinkParameters) → ServerOpened opened credits credits (sized_terms units) → MayHaveMade (setup_in first) J opened link stream run
+  pub served : (opened : LinkParameters) → ServerOpened opened credits credits (sized_terms units) → Served opened link run
+  pub idle : (opened : LinkParameters) → ServerOpened opened credits credits (sized_terms units) → IsIdle opened link run
+  pub answered : (opened : LinkParameters) → ServerOpened opened credits credits (sized_terms units) → (server opened link run).state.calls ≡ []

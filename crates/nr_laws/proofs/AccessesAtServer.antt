@@ -10,11 +10,12 @@ use Rattle.nr_rpc.specs.Reading.{call_of, target_of}
 use Rattle.nr_link.specs.Frames.{Frame, is_hello}
 use Rattle.nr_link.specs.Limits.{segment_max, open_reads_max}
 use Rattle.nr_link.specs.Output.{segment_count, segment_payload}
+use Rattle.nr_reduce.specs.declared.mark.Told.{Told}
 use Rattle.nr_reduce.specs.declared.mark.LinkParameters.{LinkParameters}
 use Rattle.nr_reduce.specs.History.{ExecutedCall}
 use Rattle.nr_reduce.specs.Plans.{one_if}
 use Rattle.nr_reduce.specs.Holds.{Answer, answer_message, first_chunk, no_segments, chunk_error}
-use Rattle.nr_reduce.specs.Events.RunEvent.{FrameReceived, CallExecuted, QueueWritten}
+use Rattle.nr_reduce.specs.Events.RunEvent.{FrameReceived, CallExecuted, QueueWritten, ServerTold}
 use Rattle.nr_reduce.specs.OfferedRegions.{Region}
 use Rattle.nr_reduce.specs.ClientState.{ClientState}
 use Rattle.nr_reduce.specs.ServerState.{ServerState, PendingCall, PendingRead, ReadyCall, credit_word}
@@ -234,3 +235,10 @@ pub accessed_written_down : (taken : ℕ) (opened : LinkParameters) (k : ClientS
     → AccessesAgree opened k (server_state_after opened s (QueueWritten taken)) d all_up all_down place
 unfolding server_state_after
 accessed_written_down taken opened k s d all_up all_down place h = record { early = h.early; lives = h.lives; up_said = h.up_said; asked = h.asked; calls = h.calls; waiting = h.waiting; down_said = h.down_said }
+
+-- ---- It is told something
+
+pub accessed_told : (opened : LinkParameters) (k : ClientState) (s : ServerState) (d all_up all_down : List FrameContent) (place : ℕ) (what : Told) → AccessesAgree opened k s d all_up all_down place
+    → AccessesAgree opened k (server_state_after opened s (ServerTold what)) d all_up all_down place
+unfolding server_state_after
+accessed_told opened k s d all_up all_down place what h = record { early = h.early; lives = h.lives; up_said = h.up_said; asked = h.asked; calls = h.calls; waiting = h.waiting; down_said = h.down_said }

@@ -11,7 +11,7 @@ use Rattle.nr_reduce.specs.declared.mark.Mark.TheVariants as marks
 use Rattle.nr_reduce.specs.declared.mark.LinkParameters.{LinkParameters}
 use Rattle.nr_reduce.specs.History.{AcceptedCall, accepted_calls, accepted_at, bytes_received, abandons, is_abandoned}
 use Rattle.nr_reduce.specs.Events.{RunEvent, if_own, events_at, events}
-use Rattle.nr_reduce.specs.Events.RunEvent.{FrameReceived, CallSubmitted, MemoryRevoked, QueueWritten}
+use Rattle.nr_reduce.specs.Events.RunEvent.{FrameReceived, CallSubmitted, MemoryRevoked, QueueWritten, ServerTold}
 use Rattle.nr_reduce.specs.EndRules.{EndState, live, end_state_after}
 use Rattle.nr_reduce.specs.ClientState.{ClientState}
 use Rattle.nr_reduce.specs.Client.{client_rules, client_state_after}
@@ -167,6 +167,7 @@ account_mark opened link run (marks.Revoke l xid bytes) k e h = by (eqb l link) 
         (accounts_gone (gone_in link run) (gone_in link (run ++ mark ∷ [])) (xids_in link run) k (gone_more link run mark) h))))
     by false is = nothing opened link run mark k refl (no_events_lem (eqb l link) true _ is) h
 account_mark opened link run (marks.Drop l) k e h = nothing opened link run (marks.Drop l) k refl refl h
+account_mark opened link run (marks.Told l what) k e h = nothing opened link run (marks.Told l what) k refl (other_events (eqb l link) (ServerTold what ∷ [])) h
 
 -- ---- A run
 

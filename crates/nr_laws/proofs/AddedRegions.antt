@@ -12,7 +12,7 @@ use Rattle.nr_regions.specs.declared.right.Right.TheVariants.{Sink}
 use Rattle.nr_reduce.specs.declared.mark.LinkParameters.{LinkParameters}
 use Rattle.nr_reduce.specs.Chunks.{total_at}
 use Rattle.nr_reduce.specs.Events.{RunEvent}
-use Rattle.nr_reduce.specs.Events.RunEvent.{FrameReceived, CallSubmitted, MemoryRevoked, CallExecuted, QueueWritten}
+use Rattle.nr_reduce.specs.Events.RunEvent.{FrameReceived, CallSubmitted, MemoryRevoked, CallExecuted, QueueWritten, ServerTold}
 use Rattle.nr_reduce.specs.EndRules.{EndState, next_end_state, end_state_after}
 use Rattle.nr_reduce.specs.OfferedRegions.{Region, until_at, closed_if, regions_closed}
 use Rattle.nr_reduce.specs.ServerState.{ServerState, PendingCall, next_stag}
@@ -118,6 +118,7 @@ adds_none opened es (CallSubmitted place a) none stays = refl
 adds_none opened es (MemoryRevoked place xid) none stays = refl
 adds_none opened es (CallExecuted e) none stays = refl
 adds_none opened es (QueueWritten taken) none stays = refl
+adds_none opened es (ServerTold what) none stays = refl
 
 pub nothing_else_adds_regions : NothingElseAddsRegions
 nothing_else_adds_regions opened link run es later e is none =
@@ -151,6 +152,7 @@ event_stays opened k (CallSubmitted p a) place r until there = there
 event_stays opened k (MemoryRevoked p xid) place r until there = there
 event_stays opened k (CallExecuted e) place r until there = there
 event_stays opened k (QueueWritten taken) place r until there = there
+event_stays opened k (ServerTold what) place r until there = there
 
 stays_after : (opened : LinkParameters) (place : ℕ) (r : Region) → r.until ≡ Some place → (s : EndState ServerState) (es : List RunEvent) → Contains s.state.regions r → Contains (end_state_after (server_rules opened) s es).state.regions r
 stays_after opened place r until s [] there = there

@@ -15,9 +15,10 @@ use Rattle.nr_outside.specs.declared.moment.Moment.{Moment}
 use Rattle.nr_reduce.specs.declared.mark.Mark.{Mark}
 use Rattle.nr_reduce.specs.declared.mark.Mark.TheVariants as marks
 use Rattle.nr_reduce.specs.declared.mark.LinkParameters.{LinkParameters}
+use Rattle.nr_reduce.specs.declared.mark.Told.{Told}
 use Rattle.nr_reduce.specs.History.{AcceptedCall, ExecutedCall, bytes_sent, bytes_received, written_at, fed_at}
 use Rattle.nr_reduce.specs.Events.{RunEvent, events_at}
-use Rattle.nr_reduce.specs.Events.RunEvent.{FrameReceived, CallSubmitted, MemoryRevoked, CallExecuted, QueueWritten}
+use Rattle.nr_reduce.specs.Events.RunEvent.{FrameReceived, CallSubmitted, MemoryRevoked, CallExecuted, QueueWritten, ServerTold}
 use Rattle.nr_reduce.specs.EndRules.{EndMachine, EndState, live, next_end_state_by, end_state_after, output_for_by, output_for_all}
 use Rattle.nr_reduce.specs.ClientState.{ClientState, plan_for}
 use Rattle.nr_reduce.specs.Limits.{numbers_end}
@@ -31,7 +32,7 @@ use Rattle.nr_reduce.proofs.CountedBytes.{client_bytes_written, client_bytes_due
 use Rattle.nr_reduce.specs.Opening.{IsOpened}
 use Rattle.nr_reduce.specs.Credits.{WithinGrant, calls_outstanding, credits_granted}
 use Rattle.nr_reduce.specs.Asked.{IsAccepted}
-use Rattle.nr_reduce.specs.Served.{IsExecuted, first_ready, next_call}
+use Rattle.nr_reduce.specs.Served.{IsExecuted, IsGranted, first_ready, next_call}
 use Rattle.nr_laws.proofs.FrameContents.{FrameContent, output_bytes, total_of, sends_in, requests_in, hellos_in}
 use Rattle.nr_laws.proofs.FrameContents.FrameContent.{HelloFrame, PartFrame, SendFrame, RequestFrame, TaggedFrame}
 use Rattle.nr_laws.proofs.LinkInvariants.{Transit}
@@ -39,15 +40,15 @@ use Rattle.nr_laws.proofs.PendingExecuted.{executed_there}
 use Rattle.nr_laws.proofs.TotalsAtClient.{up_more}
 use Rattle.nr_laws.proofs.Writable.{IsOutput, stream_left}
 use Rattle.nr_laws.proofs.AgreeingEnds.{EndsAgree}
-use Rattle.nr_laws.proofs.OwnEvents.{submitted, revoked, written_up, executed, written_down, some_calls}
+use Rattle.nr_laws.proofs.OwnEvents.{submitted, revoked, written_up, executed, written_down, told_linked, some_calls}
 use Rattle.nr_laws.proofs.Guards.{Guards}
 use Rattle.nr_laws.specs.Typed.{TypedMark}
 use Rattle.nr_laws.specs.Stays.{NotRevokedMark}
 use Rattle.nr_laws.proofs.OfferedAccesses.{AccessesAgree}
 use Rattle.nr_laws.proofs.AccessesAtClient.{accessed_submit, accessed_written_up}
-use Rattle.nr_laws.proofs.AccessesAtServer.{accessed_execute, accessed_written_down}
+use Rattle.nr_laws.proofs.AccessesAtServer.{accessed_execute, accessed_written_down, accessed_told}
 use Rattle.nr_laws.proofs.AccessSteps.{pending_unanswered}
-use Rattle.nr_laws.proofs.GuardsAtEvents.{guards_submit, guards_revoke, guards_written_up, guards_execute, guards_written_down}
+use Rattle.nr_laws.proofs.GuardsAtEvents.{guards_submit, guards_revoke, guards_written_up, guards_execute, guards_written_down, guards_told}
 use Rattle.nr_laws.proofs.AgreeingRuns.{RunAgrees, MarkAgrees, place_of, guards_up, guards_down, same_up_lem, same_down_lem, accesses_up, accesses_down, own_bytes, other_bytes, own_events, other_events}
 
 pub record OneEvent {S : Type 0} (rules : EndMachine S) (s : S) (event : RunEvent) : Type 0 where
@@ -67,6 +68,7 @@ client_event opened k (CallSubmitted place a) other = one_event (client_rules op
 client_event opened k (MemoryRevoked place xid) other = one_event (client_rules opened) k (MemoryRevoked place xid) refl
 client_event opened k (CallExecuted call) other = one_event (client_rules opened) k (CallExecuted call) refl
 client_event opened k (QueueWritten taken) other = one_event (client_rules opened) k (QueueWritten taken) refl
+client_event opened k (ServerTold what) other = one_event (client_rules opened) k (ServerTold what) refl
 
 pub server_event : (opened : LinkParameters) (s : ServerState) (event : RunEvent) → ((f : Frame) → event ≢ FrameReceived f) → OneEvent (server_rules opened) s event
 unfolding server_end
@@ -75,6 +77,7 @@ server_event opened s (CallSubmitted place a) other = one_event (server_rules op
 server_event opened s (MemoryRevoked place xid) other = one_event (server_rules opened) s (MemoryRevoked place xid) refl
 server_event opened s (CallExecuted call) other = one_event (server_rules opened) s (CallExecuted call) refl
 server_event opened s (QueueWritten taken) other = one_event (server_rules opened) s (QueueWritten taken) refl
+server_event opened s (ServerTold what) other = one_event (server_rules opened) s (ServerTold what) refl
 
 -- ---- A mark of which one side has one event, and that brings no bytes
 
@@ -274,3 +277,18 @@ execute_preserves opened link run xid moment payload place reply j h =
     subst (λ (ps : List FrameContent). AccessesAgree opened j.k (server_state_after opened j.s (CallExecuted e)) j.d j.all_up (j.all_down ++ ps) (length (bytes_received link Initiator run))) (sym m.said_is)
     (accessed_execute opened j.k j.s j.d j.all_up j.all_down (length (bytes_received link Initiator run)) e h.call first.0 agree first.1 h.own j.linked.waits.whole_calls g.numbers
     (pending_unanswered xid j.all_down j.s.calls g.answered.once there)))
+
+pub told_preserves : (opened : LinkParameters) (link : ℕ) (run : List Mark) (what : Told) (j : RunAgrees opened link run) → IsGranted opened what → MarkAgrees opened link run (marks.Told link what) j
+unfolding server_output
+told_preserves opened link run what j granted =
+    let l = subst (λ (ps : List FrameContent). EndsAgree opened j.k (server_state_after opened j.s (ServerTold what)) j.u j.d j.all_up ps j.w) (sym (append-nil j.all_down))
+    (told_linked opened j.k j.s j.u j.d j.all_up j.all_down j.w what j.linked) in
+    server_preserves opened link run (marks.Told link what) j (ServerTold what) [] j.w (λ f e. absurd cc) l refl
+    (other_events (eqb link link) (ServerTold what ∷ [])) (own_events link (ServerTold what ∷ [])) refl refl refl
+    (append-nil (bytes_sent link Responder run) ∙ j.sent_down) refl
+    (λ o g.
+    guards_up opened j.k (server_state_after opened j.s (ServerTold what)) j.u j.d j.all_up j.all_down j.w (place_of opened j.u)
+    (guards_told opened j.k j.s j.u j.d j.all_up j.all_down j.w (place_of opened j.u) what granted g))
+    (λ g agree.
+    accesses_up opened j.k (server_state_after opened j.s (ServerTold what)) j.d j.all_up j.all_down (length (bytes_received link Initiator run))
+    (accessed_told opened j.k j.s j.d j.all_up j.all_down (length (bytes_received link Initiator run)) what agree))

@@ -17,7 +17,7 @@ use Rattle.nr_link.specs.ReceiveState.{ReadRequest, read_request_of, read_reques
 use Rattle.nr_link.specs.Ending.{frame_segment, tagged_access}
 use Rattle.nr_link.specs.Ending as ending
 use Rattle.nr_reduce.specs.Events.{RunEvent, events}
-use Rattle.nr_reduce.specs.Events.RunEvent.{FrameReceived, CallSubmitted, MemoryRevoked, CallExecuted, QueueWritten}
+use Rattle.nr_reduce.specs.Events.RunEvent.{FrameReceived, CallSubmitted, MemoryRevoked, CallExecuted, QueueWritten, ServerTold}
 use Rattle.nr_link.specs.Frames.{Frame, is_hello}
 use Rattle.nr_link.specs.Ending.{final_output}
 use Rattle.nr_reduce.specs.declared.mark.LinkParameters.{LinkParameters}
@@ -275,6 +275,7 @@ nothing_else_is_disclosed opened link run earlier later event is = by_ended befo
     by_event (MemoryRevoked place xid) same live quiet = inl none
     by_event (CallExecuted call) same live quiet = inl none
     by_event (QueueWritten taken) same live quiet = inl none
+    by_event (ServerTold what) same live quiet = inl none
 
     by_why : (o : Option Stop) → client_end k event ≡ o → before.ended ≡ None → IsOwnOutput opened here after (output_for_by (client_rules opened) k event o) ⊎ AnswersRequest opened before event
     by_why None quiet live = by_event event refl live quiet

@@ -23,8 +23,9 @@ use Rattle.nr_reduce.specs.declared.mark.LinkParameters.{LinkParameters}
 use Rattle.nr_reduce.specs.History.{AcceptedCall, ExecutedCall}
 use Rattle.nr_reduce.specs.Plans.{one_if}
 use Rattle.nr_reduce.specs.Written.{ends_waiting}
+use Rattle.nr_reduce.specs.declared.mark.Told.{Told}
 use Rattle.nr_reduce.specs.Events.{RunEvent, events}
-use Rattle.nr_reduce.specs.Events.RunEvent.{FrameReceived, CallSubmitted, MemoryRevoked, CallExecuted, QueueWritten}
+use Rattle.nr_reduce.specs.Events.RunEvent.{FrameReceived, CallSubmitted, MemoryRevoked, CallExecuted, QueueWritten, ServerTold}
 use Rattle.nr_reduce.specs.EndRules.{EndState, next_end_state, next_end_state_by, next_end_state_in, end_state_after}
 use Rattle.nr_reduce.specs.OfferedRegions.{Region, region_grants}
 use Rattle.nr_reduce.specs.ClientState.{ClientState, responses_owed}
@@ -140,6 +141,7 @@ owes_event opened k (CallSubmitted p a) stays h = h
 owes_event opened k (MemoryRevoked p xid) stays h = h
 owes_event opened k (CallExecuted e) stays h = h
 owes_event opened k (QueueWritten taken) stays h = (let less = waiting_later k.written taken k.response_ends in omega (arith, less, h))
+owes_event opened k (ServerTold what) stays h = h
 
 owes_all : (opened : LinkParameters) (r : EndState ClientState) (es : List RunEvent) → responses_owed r.state ≤ open_reads_max → responses_owed (end_state_after (client_rules opened) r es).state ≤ open_reads_max
 owes_all opened r [] h = h
@@ -381,6 +383,10 @@ quiet_revoked : (opened : LinkParameters) (k : ServerState) (p xid : ℕ) → re
 unfolding server_state_after
 quiet_revoked opened k p xid h = h
 
+quiet_told : (opened : LinkParameters) (k : ServerState) (what : Told) → receives_in_use k ≤ opened.receives → receives_in_use (server_state_after opened k (ServerTold what)) ≤ opened.receives
+unfolding server_state_after receives_in_use
+quiet_told opened k what h = h
+
 frame_receives : (opened : LinkParameters) (k : ServerState) (f : Frame) → server_end opened k (FrameReceived f) ≡ None → receives_in_use k ≤ opened.receives → receives_in_use (server_state_after opened k (FrameReceived f)) ≤ opened.receives
 unfolding server_state_after receives_in_use
 frame_receives opened k f stays h = by (is_hello f) refl
@@ -403,6 +409,7 @@ server_step opened k (CallSubmitted p a) stays pending h = quiet_submitted opene
 server_step opened k (MemoryRevoked p xid) stays pending h = quiet_revoked opened k p xid h
 server_step opened k (CallExecuted e) stays pending h = executed_receives opened.receives opened k e (pending e refl) h
 server_step opened k (QueueWritten taken) stays pending h = written_receives opened.receives opened k taken h
+server_step opened k (ServerTold what) stays pending h = quiet_told opened k what h
 
 server_next : (opened : LinkParameters) (r : EndState ServerState) (event : RunEvent) → ((e : ExecutedCall) → event ≡ CallExecuted e → list_any (λ (c : PendingCall). eqb c.xid e.xid) r.state.calls ≡ true)
     → receives_in_use r.state ≤ opened.receives → receives_in_use (next_end_state (server_rules opened) r event).state ≤ opened.receives

@@ -27,7 +27,7 @@ use Rattle.nr_reduce.specs.declared.mark.Mark.{Mark}
 use Rattle.nr_reduce.specs.declared.mark.Mark.TheVariants as marks
 use Rattle.nr_reduce.specs.History.{other, same_side, bytes_received, fed_at}
 use Rattle.nr_reduce.specs.Events.{RunEvent, events, events_at, if_own}
-use Rattle.nr_reduce.specs.Events.RunEvent.{FrameReceived, CallSubmitted, MemoryRevoked, CallExecuted, QueueWritten}
+use Rattle.nr_reduce.specs.Events.RunEvent.{FrameReceived, CallSubmitted, MemoryRevoked, CallExecuted, QueueWritten, ServerTold}
 use Rattle.nr_reduce.specs.Matched.{IsPrefixOf}
 use Rattle.nr_reduce.proofs.Steps.{events_one}
 use Rattle.nr_laws.proofs.Outputs.{Output, bytes_of, bytes_of_all}
@@ -178,6 +178,7 @@ Brings (CallSubmitted p a ∷ es) outs = Brings es outs
 Brings (MemoryRevoked p xid ∷ es) outs = Brings es outs
 Brings (CallExecuted e ∷ es) outs = Brings es outs
 Brings (QueueWritten taken ∷ es) outs = Brings es outs
+Brings (ServerTold what ∷ es) outs = Brings es outs
 
 abbrev frames_in : List RunEvent → List Frame
 frames_in [] = []
@@ -186,6 +187,7 @@ frames_in (CallSubmitted p a ∷ es) = frames_in es
 frames_in (MemoryRevoked p xid ∷ es) = frames_in es
 frames_in (CallExecuted e ∷ es) = frames_in es
 frames_in (QueueWritten taken ∷ es) = frames_in es
+frames_in (ServerTold what ∷ es) = frames_in es
 
 frames_in_append : (es more : List RunEvent) → frames_in (es ++ more) ≡ frames_in es ++ frames_in more
 frames_in_append [] more = refl
@@ -194,6 +196,7 @@ frames_in_append (CallSubmitted p a ∷ es) more = frames_in_append es more
 frames_in_append (MemoryRevoked p xid ∷ es) more = frames_in_append es more
 frames_in_append (CallExecuted e ∷ es) more = frames_in_append es more
 frames_in_append (QueueWritten taken ∷ es) more = frames_in_append es more
+frames_in_append (ServerTold what ∷ es) more = frames_in_append es more
 
 frames_in_map : (fs : List Frame) → frames_in (map FrameReceived fs) ≡ fs
 frames_in_map [] = refl
@@ -245,6 +248,7 @@ mark_frames link side before (marks.Done l xid outcome) = quiet link side before
 mark_frames link side before (marks.Lost l xid) = quiet link side before (marks.Lost l xid) refl refl
 mark_frames link side before (marks.Forget l xid) = quiet link side before (marks.Forget l xid) refl refl
 mark_frames link side before (marks.Drop l) = quiet link side before (marks.Drop l) refl refl
+mark_frames link side before (marks.Told l what) = quiet link side before (marks.Told l what) refl (if_none_lem (eqb l link && same_side Responder side) (ServerTold what) refl)
 
 run_frames : (link : ℕ) (side : Side) (before run : List Mark) → frames_in (events link side before) ≡ frames_by (other side) (bytes_received link side before)
     → frames_in (events link side (before ++ run)) ≡ frames_by (other side) (bytes_received link side (before ++ run))
@@ -278,6 +282,7 @@ brings_each (CallSubmitted p a ∷ es) outs h = brings_each es outs h
 brings_each (MemoryRevoked p xid ∷ es) outs h = brings_each es outs h
 brings_each (CallExecuted e ∷ es) outs h = brings_each es outs h
 brings_each (QueueWritten taken ∷ es) outs h = brings_each es outs h
+brings_each (ServerTold what ∷ es) outs h = brings_each es outs h
 
 later_brought : (place : ℕ) (outs : List Output) → 0 < place → AreFrom Fpdu outs → EachBrought (frames_from place (map bytes_of outs)) outs
 unfolding frame_segment

@@ -11,7 +11,7 @@ use Rattle.nr_link.specs.declared.end.End.{End as Stop}
 use Rattle.nr_link.specs.Frames.{Frame, is_hello}
 use Rattle.nr_link.specs.Ending.{frame_segment, tagged_access}
 use Rattle.nr_reduce.specs.Events.{RunEvent}
-use Rattle.nr_reduce.specs.Events.RunEvent.{FrameReceived, CallSubmitted, MemoryRevoked, CallExecuted, QueueWritten}
+use Rattle.nr_reduce.specs.Events.RunEvent.{FrameReceived, CallSubmitted, MemoryRevoked, CallExecuted, QueueWritten, ServerTold}
 use Rattle.nr_reduce.specs.EndRules.{EndMachine, EndState, next_end_state, next_end_state_by, next_end_state_in, end_state_after}
 use Rattle.nr_reduce.specs.Server.{tagged_accesses}
 use Rattle.nr_reduce.proofs.Steps.{end_state_after_append}
@@ -180,6 +180,7 @@ from_event {S} rules accesses goes r e s h = by_end r.ended refl h
     by_event (MemoryRevoked p xid) is stays h = Old h
     by_event (CallExecuted x) is stays h = Old h
     by_event (QueueWritten taken) is stays h = Old h
+    by_event (ServerTold what) is stays h = Old h
 
     by_why : (o : Option Stop) → r.ended ≡ None → rules.end_at r.state e ≡ o → Has (accesses (next_end_state_by rules r.state e o).state) s → FromEvent rules accesses r e s
     by_why None is none h = by_event e refl (live is none) (subst (λ (xs : List TaggedSegment). Has xs s) (goes r.state e) h)

@@ -12,7 +12,7 @@ use Rattle.nr_reduce.specs.declared.mark.Mark.{Mark}
 use Rattle.nr_reduce.specs.declared.mark.LinkParameters.{LinkParameters}
 use Rattle.nr_reduce.specs.OfferedRegions.{region_grants}
 use Rattle.nr_reduce.specs.Events.{RunEvent, events}
-use Rattle.nr_reduce.specs.Events.RunEvent.{FrameReceived, CallSubmitted, MemoryRevoked, CallExecuted, QueueWritten}
+use Rattle.nr_reduce.specs.Events.RunEvent.{FrameReceived, CallSubmitted, MemoryRevoked, CallExecuted, QueueWritten, ServerTold}
 use Rattle.nr_reduce.specs.EndRules.{end_state_after}
 use Rattle.nr_reduce.specs.ServerState.{ServerState}
 use Rattle.nr_reduce.specs.ServerFrames.{frame_effect}
@@ -98,3 +98,4 @@ refused_at_lem opened link run typed far at reason own e =
     by es (MemoryRevoked p xid) more is live good e = absurd cc
     by es (CallExecuted x) more is live good e = absurd cc
     by es (QueueWritten taken) more is live good e = absurd cc
+    by es (ServerTold what) more is live good e = absurd cc

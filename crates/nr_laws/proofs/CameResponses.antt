@@ -10,7 +10,7 @@ use Rattle.nr_reduce.specs.declared.mark.Mark.{Mark}
 use Rattle.nr_reduce.specs.declared.mark.LinkParameters.{LinkParameters}
 use Rattle.nr_reduce.specs.OfferedRegions.{Region}
 use Rattle.nr_reduce.specs.Events.{RunEvent, events}
-use Rattle.nr_reduce.specs.Events.RunEvent.{FrameReceived, CallSubmitted, MemoryRevoked, CallExecuted, QueueWritten}
+use Rattle.nr_reduce.specs.Events.RunEvent.{FrameReceived, CallSubmitted, MemoryRevoked, CallExecuted, QueueWritten, ServerTold}
 use Rattle.nr_reduce.specs.EndRules.{EndState, next_end_state, end_state_after}
 use Rattle.nr_reduce.specs.Matched.{Matched}
 use Rattle.nr_reduce.specs.Asked.{AskedSoFar}
@@ -63,6 +63,7 @@ lasts_brought (CallSubmitted p a ∷ es) came b = lasts_brought es came b
 lasts_brought (MemoryRevoked p xid ∷ es) came b = lasts_brought es came b
 lasts_brought (CallExecuted e ∷ es) came b = lasts_brought es came b
 lasts_brought (QueueWritten taken ∷ es) came b = lasts_brought es came b
+lasts_brought (ServerTold what ∷ es) came b = lasts_brought es came b
 
 ends_segment : (s : Segment) → ends_response s ≡ true → (tagged_one s ≡ s ∷ []) × (last_in s ≡ 1)
 ends_segment (Tagged last opcode stag to payload) e = (refl, ap (λ (b : Bool). cond b 1 0) e)

@@ -39,6 +39,7 @@ done_is_lem link (marks.Lost l xid) c h = none_there_lem c h
 done_is_lem link (marks.Forget l xid) c h = none_there_lem c h
 done_is_lem link (marks.Revoke l xid bytes) c h = none_there_lem c h
 done_is_lem link (marks.Drop l) c h = none_there_lem c h
+done_is_lem link (marks.Told l what) c h = none_there_lem c h
 
 pub completed_mark : (link : ℕ) (run : List Mark) (c : CompletedCall) → Contains (completed_calls link run) c → (before : List Mark) × MarkAt run before (marks.Done link c.xid c.outcome)
 unfolding completed_calls

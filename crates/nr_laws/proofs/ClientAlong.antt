@@ -13,8 +13,9 @@ use Rattle.nr_reduce.proofs.OwnLimits.{ClientLimits}
 use Rattle.nr_reduce.specs.declared.mark.LinkParameters.{LinkParameters}
 use Rattle.nr_reduce.specs.declared.outline.Plan.{Plan}
 use Rattle.nr_reduce.specs.History.{AcceptedCall}
+use Rattle.nr_reduce.specs.declared.mark.Told.{Told}
 use Rattle.nr_reduce.specs.Events.{RunEvent}
-use Rattle.nr_reduce.specs.Events.RunEvent.{FrameReceived, CallSubmitted, MemoryRevoked, CallExecuted, QueueWritten}
+use Rattle.nr_reduce.specs.Events.RunEvent.{FrameReceived, CallSubmitted, MemoryRevoked, CallExecuted, QueueWritten, ServerTold}
 use Rattle.nr_reduce.specs.EndRules.{next_end_state_by, next_end_state_in}
 use Rattle.nr_reduce.specs.OfferedRegions.{region_grants}
 use Rattle.nr_reduce.specs.ClientState.{ClientState, OutstandingCall, plan_for, client_memory_at}
@@ -249,6 +250,12 @@ executed_says opened es place k outs x p =
     quiet_step opened es (CallExecuted x) place place k k None None outs [] refl
     (record { short = λ h. h; count = refl; hello = refl; greeted = p.greeted; waits = λ h. refl }) quiet_none p
 
+told_says : (opened : LinkParameters) (es : List RunEvent) (place : ℕ) (k : ClientState) (outs : List Output) (what : Told) → ClientSays opened es place k None outs → Next opened es place k None outs (ServerTold what)
+unfolding client_state_after client_says client_end
+told_says opened es place k outs what p =
+    quiet_step opened es (ServerTold what) place place k k None None outs [] refl
+    (record { short = λ h. h; count = refl; hello = refl; greeted = p.greeted; waits = λ h. refl }) quiet_none p
+
 submitted_says : (opened : LinkParameters) (es : List RunEvent) (place : ℕ) (k : ClientState) (outs : List Output) (q : ℕ) (a : AcceptedCall) → k ≡ (client_after opened es).state → IsGoodCall opened (record { state = k; ended = None }) a → ClientSays opened es place k None outs → Next opened es place k None outs (CallSubmitted q a)
 unfolding client_says client_end
 submitted_says opened es place k outs q a at good p = call_step opened es place q k outs a good.plan at good.planned good.limits p
@@ -263,8 +270,10 @@ client_step opened es place k None outs (CallSubmitted q a) at next good p = sub
 client_step opened es place k None outs (MemoryRevoked q xid) at next good p = revoke_says opened es place k outs q xid p
 client_step opened es place k None outs (CallExecuted x) at next good p = executed_says opened es place k outs x p
 client_step opened es place k None outs (QueueWritten taken) at next good p = written_says taken opened es place k outs p
+client_step opened es place k None outs (ServerTold what) at next good p = told_says opened es place k outs what p
 client_step opened es place k (Some end) outs (FrameReceived f) at next good p = ended_says opened es place f.end k outs (FrameReceived f) end refl p
 client_step opened es place k (Some end) outs (CallSubmitted q a) at next good p = absurd (let s = good.stays in cc)
 client_step opened es place k (Some end) outs (MemoryRevoked q xid) at next good p = ended_says opened es place place k outs (MemoryRevoked q xid) end refl p
 client_step opened es place k (Some end) outs (CallExecuted x) at next good p = ended_says opened es place place k outs (CallExecuted x) end refl p
 client_step opened es place k (Some end) outs (QueueWritten taken) at next good p = ended_says opened es place place k outs (QueueWritten taken) end refl p
+client_step opened es place k (Some end) outs (ServerTold what) at next good p = ended_says opened es place place k outs (ServerTold what) end refl p

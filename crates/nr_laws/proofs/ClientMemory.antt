@@ -12,7 +12,7 @@ use Rattle.nr_link.specs.Ending.{frame_segment, tagged_access, missing_access}
 use Rattle.nr_reduce.specs.declared.mark.LinkParameters.{LinkParameters}
 use Rattle.nr_reduce.specs.History.{AcceptedCall}
 use Rattle.nr_reduce.specs.Events.{RunEvent}
-use Rattle.nr_reduce.specs.Events.RunEvent.{FrameReceived, CallSubmitted, MemoryRevoked, CallExecuted, QueueWritten}
+use Rattle.nr_reduce.specs.Events.RunEvent.{FrameReceived, CallSubmitted, MemoryRevoked, CallExecuted, QueueWritten, ServerTold}
 use Rattle.nr_reduce.specs.EndRules.{EndState, next_end_state, next_end_state_by, next_end_state_in, end_state_after}
 use Rattle.nr_reduce.specs.OfferedRegions.{Region, region_grants, closed_if, regions_closed}
 use Rattle.nr_reduce.specs.Plans.{Buffer, buffers}
@@ -295,11 +295,14 @@ keeps_step opened es place k None (MemoryRevoked q xid) next good numbers after 
 keeps_step opened es place k None (CallExecuted x) next good numbers after at p = keeps_same_lem opened es (CallExecuted x) place place k refl (omega arith) p
 keeps_step opened es place k None (QueueWritten taken) next good numbers after at p =
     quiet_keeps opened es (QueueWritten taken) place place k (client_state_after opened k (QueueWritten taken)) refl p.settled (λ h. h) (λ h. h) p
+keeps_step opened es place k None (ServerTold what) next good numbers after at p =
+    quiet_keeps opened es (ServerTold what) place place k (client_state_after opened k (ServerTold what)) refl p.settled (λ h. h) (λ h. h) p
 keeps_step opened es place k (Some end) (FrameReceived f) next good numbers after at p = keeps_same_lem opened es (FrameReceived f) place f.end k refl (let l = next.1 in omega (arith, l)) p
 keeps_step opened es place k (Some end) (CallSubmitted q a) next good numbers after at p = absurd (let s = good.stays in cc)
 keeps_step opened es place k (Some end) (MemoryRevoked q xid) next good numbers after at p = keeps_same_lem opened es (MemoryRevoked q xid) place place k refl (omega arith) p
 keeps_step opened es place k (Some end) (CallExecuted x) next good numbers after at p = keeps_same_lem opened es (CallExecuted x) place place k refl (omega arith) p
 keeps_step opened es place k (Some end) (QueueWritten taken) next good numbers after at p = keeps_same_lem opened es (QueueWritten taken) place place k refl (omega arith) p
+keeps_step opened es place k (Some end) (ServerTold what) next good numbers after at p = keeps_same_lem opened es (ServerTold what) place place k refl (omega arith) p
 
 pub client_gathers : (opened : LinkParameters) → Gathering (client_rules opened) (λ (k : ClientState). k.accesses_received)
 unfolding client_state_after
@@ -313,6 +316,7 @@ client_gathers opened k (CallSubmitted p a) = refl
 client_gathers opened k (MemoryRevoked p xid) = refl
 client_gathers opened k (CallExecuted e) = refl
 client_gathers opened k (QueueWritten taken) = refl
+client_gathers opened k (ServerTold what) = refl
 
 pub keeps_nothing : (opened : LinkParameters) → ClientKeeps opened [] 0 (initial_client opened).state
 keeps_nothing opened = record { settled = tt; owns = tt; backed = tt }

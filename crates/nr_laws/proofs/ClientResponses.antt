@@ -20,7 +20,7 @@ use Rattle.nr_regions.specs.Access.{HaveOwnStags, grant_denial}
 use Rattle.nr_reduce.specs.declared.mark.LinkParameters.{LinkParameters}
 use Rattle.nr_reduce.specs.OfferedRegions.{Region, closed_if, regions_closed, region_grants}
 use Rattle.nr_reduce.specs.Events.{RunEvent}
-use Rattle.nr_reduce.specs.Events.RunEvent.{FrameReceived, CallSubmitted, MemoryRevoked, CallExecuted, QueueWritten}
+use Rattle.nr_reduce.specs.Events.RunEvent.{FrameReceived, CallSubmitted, MemoryRevoked, CallExecuted, QueueWritten, ServerTold}
 use Rattle.nr_reduce.specs.EndRules.{EndState, next_end_state, next_end_state_by, next_end_state_in, end_state_after}
 use Rattle.nr_reduce.specs.ClientState.{ClientState, OutstandingCall, client_memory_at}
 use Rattle.nr_reduce.specs.Client.{client_rules, client_end, client_state_after, initial_client, with_message, with_segment, outstanding_of, region_of, segment_request, with_hello, due_with_response}
@@ -65,6 +65,7 @@ heard_in (CallSubmitted p a ∷ es) = heard_in es
 heard_in (MemoryRevoked p xid ∷ es) = heard_in es
 heard_in (CallExecuted e ∷ es) = heard_in es
 heard_in (QueueWritten taken ∷ es) = heard_in es
+heard_in (ServerTold what ∷ es) = heard_in es
 
 heard_append : (es more : List RunEvent) → heard_in (es ++ more) ≡ heard_in es ++ heard_in more
 heard_append [] more = refl
@@ -75,6 +76,7 @@ heard_append (CallSubmitted p a ∷ es) more = heard_append es more
 heard_append (MemoryRevoked p xid ∷ es) more = heard_append es more
 heard_append (CallExecuted e ∷ es) more = heard_append es more
 heard_append (QueueWritten taken ∷ es) more = heard_append es more
+heard_append (ServerTold what ∷ es) more = heard_append es more
 
 pub heard_brought : (es : List RunEvent) (came : List Output) → Brings es came → heard_in es ≡ requests_in came
 heard_brought [] came b = ap requests_in (sym b)
@@ -85,6 +87,7 @@ heard_brought (CallSubmitted p a ∷ es) came b = heard_brought es came b
 heard_brought (MemoryRevoked p xid ∷ es) came b = heard_brought es came b
 heard_brought (CallExecuted e ∷ es) came b = heard_brought es came b
 heard_brought (QueueWritten taken ∷ es) came b = heard_brought es came b
+heard_brought (ServerTold what ∷ es) came b = heard_brought es came b
 
 -- ---- Answers to Read Requests
 
@@ -288,6 +291,7 @@ answers_event opened es k outs (MemoryRevoked p xid) own h None stays =
     quiet_answers opened es (MemoryRevoked p xid) k (client_state_after opened k (MemoryRevoked p xid)) None None outs [] refl (λ n. (refl, refl)) (data_closed (λ r. eqb r.call xid) p k.regions) h
 answers_event opened es k outs (CallExecuted x) own h None stays = quiet_answers opened es (CallExecuted x) k k None None outs [] refl (λ n. (refl, refl)) (λ a d. d) h
 answers_event opened es k outs (QueueWritten taken) own h None stays = quiet_answers opened es (QueueWritten taken) k (client_state_after opened k (QueueWritten taken)) None None outs [] refl (λ n. (refl, refl)) (λ a d. d) h
+answers_event opened es k outs (ServerTold what) own h None stays = quiet_answers opened es (ServerTold what) k (client_state_after opened k (ServerTold what)) None None outs [] refl (λ n. (refl, refl)) (λ a d. d) h
 
 answers_in : (opened : LinkParameters) (es : List RunEvent) (k : ClientState) (ended : Option Stop) (outs : List Output) (e : RunEvent) → ((place : ℕ) → HaveOwnStags (region_grants place k.regions)) → ClientAnswers opened es k ended outs
     → ClientAnswers opened (es ++ e ∷ []) (next_end_state_in (client_rules opened) k e ended).state (next_end_state_in (client_rules opened) k e ended).ended (outs ++ outputs_in (client_rules opened) (client_says opened) final_outputs k e ended)

@@ -16,7 +16,7 @@ use Rattle.nr_reduce.specs.History.{AcceptedCall, bytes_received, same_side}
 use Rattle.nr_reduce.specs.AtEachMark.{AtEachMark}
 use Rattle.nr_reduce.specs.Matched.{IsPrefixOf}
 use Rattle.nr_reduce.specs.Events.{RunEvent, events, events_at, if_own}
-use Rattle.nr_reduce.specs.Events.RunEvent.{FrameReceived, CallSubmitted, MemoryRevoked, CallExecuted, QueueWritten}
+use Rattle.nr_reduce.specs.Events.RunEvent.{FrameReceived, CallSubmitted, MemoryRevoked, CallExecuted, QueueWritten, ServerTold}
 use Rattle.nr_reduce.specs.EndRules.{EndState, next_end_state, end_state_after, output_for, output_for_by, output_for_in, output_for_all}
 use Rattle.nr_reduce.specs.Plans.{TooLarge, call_message}
 use Rattle.nr_reduce.specs.ClientState.{ClientState, OutstandingCall, call_payload}
@@ -78,6 +78,11 @@ first_good opened link before (marks.Done l xid outcome) h = tt
 first_good opened link before (marks.Lost l xid) h = tt
 first_good opened link before (marks.Forget l xid) h = tt
 first_good opened link before (marks.Drop l) h = tt
+first_good opened link before (marks.Told l what) h = by (eqb l link && false)
+  where
+    by : (b : Bool) → FirstGood (ClientGood opened) (client opened link before) (if_own b (ServerTold what ∷ []))
+    by true = tt
+    by false = tt
 
 pub client_goes : (opened : LinkParameters) (link : ℕ) (run : List Mark) → IsTyped run → AskedSoFar opened link run → Goes (client_rules opened) (ClientGood opened) (initial_client opened) link Initiator run
 unfolding client
@@ -282,6 +287,7 @@ each_mark opened link before (marks.Done l xid outcome) tells h each = quiet_mar
 each_mark opened link before (marks.Lost l xid) tells h each = quiet_mark opened link before (marks.Lost l xid) refl each
 each_mark opened link before (marks.Forget l xid) tells h each = quiet_mark opened link before (marks.Forget l xid) refl each
 each_mark opened link before (marks.Drop l) tells h each = quiet_mark opened link before (marks.Drop l) refl each
+each_mark opened link before (marks.Told l what) tells h each = quiet_mark opened link before (marks.Told l what) (none_if (eqb l link && false) (ServerTold what) refl) each
 
 each_from : (opened : LinkParameters) (link : ℕ) (before run : List Mark) → IsTyped before → AskedSoFar opened link before → AtEachMark (ClientMark opened link) before run → EachSubmitted opened link before → EachSubmitted opened link (before ++ run)
 each_from opened link before [] typed asked all each = subst (λ (b : List Mark). EachSubmitted opened link b) (sym (append-nil before)) each

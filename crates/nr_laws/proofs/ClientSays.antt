@@ -24,7 +24,7 @@ use Rattle.nr_reduce.specs.declared.outline.Plan.{Plan}
 use Rattle.nr_reduce.specs.Limits.{numbers_end}
 use Rattle.nr_reduce.specs.History.{AcceptedCall}
 use Rattle.nr_reduce.specs.Events.{RunEvent}
-use Rattle.nr_reduce.specs.Events.RunEvent.{FrameReceived, CallSubmitted, MemoryRevoked, CallExecuted, QueueWritten}
+use Rattle.nr_reduce.specs.Events.RunEvent.{FrameReceived, CallSubmitted, MemoryRevoked, CallExecuted, QueueWritten, ServerTold}
 use Rattle.nr_reduce.specs.EndRules.{EndState, next_end_state, end_state_after}
 use Rattle.nr_reduce.specs.OfferedRegions.{region_grants}
 use Rattle.nr_reduce.specs.Plans.{regions_needed}
@@ -58,6 +58,7 @@ ClientGood opened r (CallSubmitted p a) = IsGoodCall opened r a
 ClientGood opened r (MemoryRevoked p xid) = Unit {0}
 ClientGood opened r (CallExecuted e) = Unit {0}
 ClientGood opened r (QueueWritten taken) = Unit {0}
+ClientGood opened r (ServerTold what) = Unit {0}
 
 -- ---- The calls that were accepted
 
@@ -68,6 +69,7 @@ accepted_in (CallSubmitted p a ∷ es) = a ∷ accepted_in es
 accepted_in (MemoryRevoked p xid ∷ es) = accepted_in es
 accepted_in (CallExecuted e ∷ es) = accepted_in es
 accepted_in (QueueWritten taken ∷ es) = accepted_in es
+accepted_in (ServerTold what ∷ es) = accepted_in es
 
 pub accepted_append : (es more : List RunEvent) → accepted_in (es ++ more) ≡ accepted_in es ++ accepted_in more
 accepted_append [] more = refl
@@ -76,6 +78,7 @@ accepted_append (CallSubmitted p a ∷ es) more = ap (λ (cs : List AcceptedCall
 accepted_append (MemoryRevoked p xid ∷ es) more = accepted_append es more
 accepted_append (CallExecuted e ∷ es) more = accepted_append es more
 accepted_append (QueueWritten taken ∷ es) more = accepted_append es more
+accepted_append (ServerTold what ∷ es) more = accepted_append es more
 
 -- the calls that were accepted, as they go out: each by what was agreed on as it was accepted
 abbrev pub asked_by : EndState ClientState → RunEvent → List OutstandingCall
@@ -84,6 +87,7 @@ asked_by r (CallSubmitted p a) = outstanding_of r.state a ∷ []
 asked_by r (MemoryRevoked p xid) = []
 asked_by r (CallExecuted e) = []
 asked_by r (QueueWritten taken) = []
+asked_by r (ServerTold what) = []
 
 abbrev pub asked_from : LinkParameters → EndState ClientState → List RunEvent → List OutstandingCall
 asked_from opened r [] = []
@@ -117,6 +121,7 @@ asked_none opened r (CallSubmitted p a ∷ es) none = absurd cc
 asked_none opened r (MemoryRevoked p xid ∷ es) none = asked_none opened (next_end_state (client_rules opened) r (MemoryRevoked p xid)) es none
 asked_none opened r (CallExecuted e ∷ es) none = asked_none opened (next_end_state (client_rules opened) r (CallExecuted e)) es none
 asked_none opened r (QueueWritten taken ∷ es) none = asked_none opened (next_end_state (client_rules opened) r (QueueWritten taken)) es none
+asked_none opened r (ServerTold what ∷ es) none = asked_none opened (next_end_state (client_rules opened) r (ServerTold what)) es none
 
 -- no call is accepted by these events
 pub asked_quiet : (opened : LinkParameters) (es more : List RunEvent) → accepted_in more ≡ [] → asked opened (es ++ more) ≡ asked opened es
@@ -130,6 +135,7 @@ from_count opened r (CallSubmitted p a ∷ es) = ap (λ (n : ℕ). suc n) (from_
 from_count opened r (MemoryRevoked p xid ∷ es) = from_count opened (next_end_state (client_rules opened) r (MemoryRevoked p xid)) es
 from_count opened r (CallExecuted e ∷ es) = from_count opened (next_end_state (client_rules opened) r (CallExecuted e)) es
 from_count opened r (QueueWritten taken ∷ es) = from_count opened (next_end_state (client_rules opened) r (QueueWritten taken)) es
+from_count opened r (ServerTold what ∷ es) = from_count opened (next_end_state (client_rules opened) r (ServerTold what)) es
 
 pub asked_count : (opened : LinkParameters) (es : List RunEvent) → length (asked opened es) ≡ length (accepted_in es)
 asked_count opened es = from_count opened (initial_client opened) es

@@ -13,7 +13,7 @@ use Rattle.nr_link.specs.ReceiveState.{message_completed, read_request_of}
 use Rattle.nr_reduce.specs.declared.mark.LinkParameters.{LinkParameters}
 use Rattle.nr_reduce.specs.Plans.{Buffer, buffers}
 use Rattle.nr_reduce.specs.Events.{RunEvent, events}
-use Rattle.nr_reduce.specs.Events.RunEvent.{FrameReceived, CallSubmitted, MemoryRevoked, CallExecuted, QueueWritten}
+use Rattle.nr_reduce.specs.Events.RunEvent.{FrameReceived, CallSubmitted, MemoryRevoked, CallExecuted, QueueWritten, ServerTold}
 use Rattle.nr_reduce.specs.EndRules.{EndState, next_end_state, next_end_state_by, next_end_state_in}
 use Rattle.nr_reduce.specs.OfferedRegions.{Region, until_at, closed_if, regions_closed}
 use Rattle.nr_reduce.specs.ClientState.{ClientState}
@@ -115,6 +115,7 @@ one_event opened es e h = by_ended (client_by opened es).ended refl
     by_event stays (MemoryRevoked place xid) is = close_all opened es e place xid stays (inr is) k.regions same all
     by_event stays (CallExecuted call) is = same
     by_event stays (QueueWritten taken) is = same
+    by_event stays (ServerTold what) is = same
 
     by_why : (client_by opened es).ended ≡ None → (o : Option Stop) → client_end k e ≡ o → AllByRecursion P (next_end_state_by (client_rules opened) k e o).state.regions
     by_why live None why =

@@ -14,7 +14,7 @@ use Rattle.nr_reduce.specs.declared.mark.Mark.{Mark}
 use Rattle.nr_reduce.specs.declared.mark.LinkParameters.{LinkParameters}
 use Rattle.nr_reduce.specs.History.{ExecutedCall}
 use Rattle.nr_reduce.specs.Events.{RunEvent, events}
-use Rattle.nr_reduce.specs.Events.RunEvent.{FrameReceived, CallSubmitted, MemoryRevoked, CallExecuted, QueueWritten}
+use Rattle.nr_reduce.specs.Events.RunEvent.{FrameReceived, CallSubmitted, MemoryRevoked, CallExecuted, QueueWritten, ServerTold}
 use Rattle.nr_reduce.specs.EndRules.{EndState, next_end_state, next_end_state_by, next_end_state_in, end_state_after}
 use Rattle.nr_reduce.specs.ServerState.{ServerState, PendingCall, receives_in_use}
 use Rattle.nr_reduce.specs.ServerMessages.{Verdict, verdict}
@@ -171,6 +171,7 @@ counted_step opened k (CallExecuted e) stays numbers xids pending h =
     let more : length t.message_ends ≡ length k.message_ends + 1 = length-append k.message_ends _ in
     record { calls = omega (arith, less, calls); ends = omega (arith, ends, more) }
 counted_step opened k (QueueWritten taken) stays numbers xids pending h = record { calls = h.calls; ends = h.ends }
+counted_step opened k (ServerTold what) stays numbers xids pending h = record { calls = h.calls; ends = h.ends }
 
 counted_next : (opened : LinkParameters) (r : EndState ServerState) (event : RunEvent) → PendingAgree r.state → ((e : ExecutedCall) → event ≡ CallExecuted e → list_any (λ (c : PendingCall). eqb c.xid e.xid) r.state.calls ≡ true)
     → AreCounted r.state → AreCounted (next_end_state (server_rules opened) r event).state

@@ -15,7 +15,7 @@ use Rattle.nr_reduce.specs.declared.mark.LinkParameters.{LinkParameters}
 use Rattle.nr_reduce.specs.History.{CompletedCall, is_abandoned}
 use Rattle.nr_reduce.specs.Plans.{Buffer, buffers}
 use Rattle.nr_reduce.specs.Events.{RunEvent, events}
-use Rattle.nr_reduce.specs.Events.RunEvent.{FrameReceived, CallSubmitted, MemoryRevoked, CallExecuted, QueueWritten}
+use Rattle.nr_reduce.specs.Events.RunEvent.{FrameReceived, CallSubmitted, MemoryRevoked, CallExecuted, QueueWritten, ServerTold}
 use Rattle.nr_reduce.specs.EndRules.{EndState, next_end_state, next_end_state_by, next_end_state_in, end_state_after}
 use Rattle.nr_reduce.specs.OfferedRegions.{Region, until_at, closed_if, regions_closed}
 use Rattle.nr_reduce.specs.ClientState.{ClientState, OutstandingCall, client_memory_at}
@@ -66,6 +66,7 @@ own_event opened k ended (CallSubmitted p a) good h = own_xids_accepts opened k 
 own_event opened k ended (MemoryRevoked p xid) good h = record { apart = apart_revoked xid k.outstanding h.apart; follow = both_after opened k (MemoryRevoked p xid) tt h.follow }
 own_event opened k ended (CallExecuted e) good h = h
 own_event opened k ended (QueueWritten taken) good h = own_xids_writes taken opened k h
+own_event opened k ended (ServerTold what) good h = h
 
 -- a fact that each event keeps
 keeps_next : (opened : LinkParameters) (P : ClientState → Type 0) → ((k : ClientState) (ended : Option Stop) (e : RunEvent) → ClientGood opened (record { state = k; ended = ended }) e → P k → P (client_state_after opened k e))
@@ -155,6 +156,7 @@ closed_event opened x k ended (CallSubmitted p a) good h =
 closed_event opened x k ended (MemoryRevoked p xid) good h = record { regions = closed_again (λ r. eqb r.call xid) p x k.regions h.regions; low = h.low }
 closed_event opened x k ended (CallExecuted e) good h = h
 closed_event opened x k ended (QueueWritten taken) good h = record { regions = h.regions; low = h.low }
+closed_event opened x k ended (ServerTold what) good h = record { regions = h.regions; low = h.low }
 
 closed_message : (k : ClientState) (f : Frame) (s : Segment) (message : List ℕ) (x : ℕ) → message_completed k.received s ≡ Some message → x ≡ word_at 0 message → AreClosed x (with_segment k f (Ok s)).regions
 closed_message k f s message x whole own =

@@ -16,7 +16,7 @@ use Rattle.nr_link.specs.ReceiveState.{message_completed, begun_bytes}
 use Rattle.nr_reduce.specs.Chunks.{is_read_chunk_of_item}
 use Rattle.nr_reduce.specs.Holds.{chunk_error, version_error}
 use Rattle.nr_reduce.specs.RunLaws.{ends_response}
-use Rattle.nr_reduce.specs.ServerState.{ServerState, PendingCall, PendingRead, credit_word, next_stag, is_pending}
+use Rattle.nr_reduce.specs.ServerState.{ServerState, PendingCall, PendingRead, credit_word, next_stag, is_pending, receives_in_use}
 use Rattle.nr_reduce.specs.ServerReads.{open_reads, is_read, reads_of, regions_of, chunks_of}
 use Rattle.nr_reduce.specs.ServerMessages.{Verdict, CallVerdict, verdict, by_need, by_stream, by_body, by_header, by_payload, has_position, no_stream, chunk_bytes, pending_payload}
 use Rattle.nr_reduce.specs.ServerMessages.CallVerdict.{Refuses, IsReady}
@@ -84,6 +84,11 @@ pub data EffectCase (k : ServerState) (f : Frame) (segment : Segment) (e : Frame
   OfCall : (r : PendingRead) (reads : List PendingRead) (c : PendingCall) → ends_response segment ≡ true → k.reads ≡ r ∷ reads → call_of_number k r.number ≡ Some c → e ≡ ready_if_whole (with_access k f segment) f.end c (read_over k reads)
       → EffectCase k f segment e
 
+-- the access of the frame's own segment changes nothing in what is answered
+refused_same : (k : ServerState) (f : Frame) (segment : Segment) (c : PendingCall) (s : FrameEffect) → with_refused_call (with_access k f segment) c s ≡ with_refused_call k c s
+unfolding credit_word receives_in_use
+refused_same k f segment c s = refl
+
 response_case : (k : ServerState) (f : Frame) (segment : Segment) → ends_response segment ≡ true → (reads : List PendingRead) → k.reads ≡ reads → EffectCase k f segment (response_effect (with_access k f segment) f.end reads)
 response_case k f segment last [] is = Unchanged refl
 response_case k f segment last (r ∷ reads) is = by_call (call_of_number k r.number) refl
@@ -92,7 +97,7 @@ response_case k f segment last (r ∷ reads) is = by_call (call_of_number k r.nu
     t = with_access k f segment
 
     by_test : (c : PendingCall) → call_of_number k r.number ≡ Some c → (b : Bool) → stream_refused k f segment r reads c ≡ b → EffectCase k f segment (cond b (with_refused_call t c (read_over k reads)) (ready_if_whole t f.end c (read_over k reads)))
-    by_test c found true test = OfRefusal r reads c last is found test refl
+    by_test c found true test = OfRefusal r reads c last is found test (refused_same k f segment c (read_over k reads))
     by_test c found false test = OfCall r reads c last is found refl
 
     by_call : (o : Option PendingCall) → call_of_number k r.number ≡ o → EffectCase k f segment (read_effect t f.end r o (read_over k reads))

@@ -29,7 +29,7 @@ use Rattle.nr_reduce.specs.Opening.{IsOpened}
 use Rattle.nr_laws.proofs.Guards.{Guards}
 use Rattle.nr_laws.proofs.OfferedAccesses.{AccessesAgree}
 use Rattle.nr_laws.proofs.AgreeingRuns.{place_of, RunAgrees, MarkAgrees, preserved, none_preserve, fed_up_preserves, fed_down_preserves}
-use Rattle.nr_laws.proofs.AgreeingMarks.{submit_preserves, wrote_up_preserves, wrote_down_preserves, execute_preserves, revoke_preserves}
+use Rattle.nr_laws.proofs.AgreeingMarks.{submit_preserves, wrote_up_preserves, wrote_down_preserves, execute_preserves, revoke_preserves, told_preserves}
 use Rattle.nr_laws.proofs.ReceivedMessages.{was_live_lem}
 
 -- ---- A side that has ended stays so
@@ -110,7 +110,7 @@ starts opened link = record {
     window = record { window = omega arith; grant = omega (arith, o.granted); receives = o.receives };
     up_said = (tt, tt);
     down_said = tt;
-    credit = refl;
+    credit = omega arith;
     calls = tt;
     within = record { fit = tt; few = lit< tt; small = tt };
     sinks = omega arith;
@@ -190,6 +190,13 @@ mark_preserves opened link run (marks.Revoke l xid bytes) j asked served matched
     by true e = subst (λ (n : ℕ). MarkAgrees opened link run (marks.Revoke n xid bytes) j) (sym (eqb-true l link e)) (revoke_preserves opened link run xid bytes j)
     by false e = none_preserve opened link run (marks.Revoke l xid bytes) j (no_events_lem (eqb l link) true _ e) (no_events_lem (eqb l link) false _ e) refl refl refl refl
 mark_preserves opened link run (marks.Drop l) j asked served matched typed up down = none_preserve opened link run (marks.Drop l) j refl refl refl refl refl refl
+mark_preserves opened link run (marks.Told l what) j asked served matched typed up down = by (eqb l link) refl
+  where
+    by : (b : Bool) → eqb l link ≡ b → MarkAgrees opened link run (marks.Told l what) j
+    by true e =
+        let same = eqb-true l link e in
+        subst (λ (n : ℕ). MarkAgrees opened link run (marks.Told n what) j) (sym same) (told_preserves opened link run what j (served same))
+    by false e = none_preserve opened link run (marks.Told l what) j (no_events_lem (eqb l link) false _ e) (no_events_lem (eqb l link) true _ e) refl refl refl refl
 
 -- ---- Each run
 

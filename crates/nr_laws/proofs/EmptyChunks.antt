@@ -10,7 +10,7 @@ use Rattle.nr_reduce.specs.declared.mark.LinkParameters.{LinkParameters}
 use Rattle.nr_reduce.specs.Chunks.{total_at, positions}
 use Rattle.nr_reduce.specs.OfferedRegions.{Region, region_grants, region_bytes, region_bytes_by, regions_closed}
 use Rattle.nr_reduce.specs.Events.{RunEvent}
-use Rattle.nr_reduce.specs.Events.RunEvent.{FrameReceived, CallSubmitted, MemoryRevoked, CallExecuted, QueueWritten}
+use Rattle.nr_reduce.specs.Events.RunEvent.{FrameReceived, CallSubmitted, MemoryRevoked, CallExecuted, QueueWritten, ServerTold}
 use Rattle.nr_reduce.specs.ServerState.{ServerState, PendingCall, next_stag}
 use Rattle.nr_reduce.specs.ServerReads.{chunks_of, regions_from, regions_of, stag_by, sink_of, is_over}
 use Rattle.nr_reduce.specs.ServerMessages.{chunk_bytes, Verdict, verdict}
@@ -174,6 +174,7 @@ after_known opened k (CallSubmitted place a) h = h
 after_known opened k (MemoryRevoked place xid) h = h
 after_known opened k (CallExecuted e) h = record { owners = h.owners; none = none_kept k.received.sends k.regions (λ c. not (eqb c.xid e.xid)) k.calls h.none }
 after_known opened k (QueueWritten taken) h = record { owners = h.owners; none = h.none }
+after_known opened k (ServerTold what) h = record { owners = h.owners; none = h.none }
 
 known_along : (opened : LinkParameters) (es : List RunEvent) → KnowsSinks (server_by opened es)
 known_along opened es = kept_after (server_rules opened) KnowsSinks (after_known opened) (initial_server opened) es (record { owners = tt; none = tt })

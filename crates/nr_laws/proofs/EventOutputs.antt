@@ -19,7 +19,7 @@ use Rattle.nr_reduce.specs.declared.mark.Mark.TheVariants as marks
 use Rattle.nr_reduce.specs.History.{other, same_side, bytes_received, fed_at}
 use Rattle.nr_reduce.specs.AtEachMark.{AtEachMark}
 use Rattle.nr_reduce.specs.Events.{RunEvent, events, events_at, if_own}
-use Rattle.nr_reduce.specs.Events.RunEvent.{FrameReceived, CallSubmitted, MemoryRevoked, CallExecuted, QueueWritten}
+use Rattle.nr_reduce.specs.Events.RunEvent.{FrameReceived, CallSubmitted, MemoryRevoked, CallExecuted, QueueWritten, ServerTold}
 use Rattle.nr_reduce.specs.EndRules.{EndMachine, EndState, next_end_state, end_state_after}
 use Rattle.nr_reduce.proofs.Steps.{events_one}
 use Rattle.nr_laws.specs.Typed.{TypedMark}
@@ -54,6 +54,7 @@ IsNext place (CallSubmitted p a) = place ≤ p
 IsNext place (MemoryRevoked p xid) = place ≤ p
 IsNext place (CallExecuted e) = Unit {0}
 IsNext place (QueueWritten taken) = Unit {0}
+IsNext place (ServerTold what) = Unit {0}
 
 abbrev pub place_after : ℕ → RunEvent → ℕ
 place_after place (FrameReceived f) = f.end
@@ -61,6 +62,7 @@ place_after place (CallSubmitted p a) = place
 place_after place (MemoryRevoked p xid) = place
 place_after place (CallExecuted e) = place
 place_after place (QueueWritten taken) = place
+place_after place (ServerTold what) = place
 
 abbrev pub places_after : ℕ → List RunEvent → ℕ
 places_after place [] = place
@@ -168,6 +170,7 @@ fed_bytes_lem link side before (marks.Lost l xid) h = λ i. omega arith
 fed_bytes_lem link side before (marks.Forget l xid) h = λ i. omega arith
 fed_bytes_lem link side before (marks.Revoke l xid bytes) h = λ i. omega arith
 fed_bytes_lem link side before (marks.Drop l) h = λ i. omega arith
+fed_bytes_lem link side before (marks.Told l what) h = λ i. omega arith
 
 abbrev pub FirstGood : {S : Type 0} → (EndState S → RunEvent → Type 0) → EndState S → List RunEvent → Type 0
 FirstGood Good r [] = Unit {0}
@@ -176,6 +179,7 @@ FirstGood Good r (CallSubmitted p a ∷ es) = Good r (CallSubmitted p a)
 FirstGood Good r (MemoryRevoked p xid ∷ es) = Good r (MemoryRevoked p xid)
 FirstGood Good r (CallExecuted e ∷ es) = Good r (CallExecuted e)
 FirstGood Good r (QueueWritten taken ∷ es) = Good r (QueueWritten taken)
+FirstGood Good r (ServerTold what ∷ es) = Good r (ServerTold what)
 
 -- what a run shows of one of its sides: its events go on, and its frames are placed by the bytes that were received
 pub record Goes {S : Type 0} (rules : EndMachine S) (Good : EndState S → RunEvent → Type 0) (start : EndState S) (link : ℕ) (side : Side) (run : List Mark) : Type 0 where
@@ -258,6 +262,8 @@ mark_goes rules Good good r link side before (marks.Done l xid outcome) old new 
 mark_goes rules Good good r link side before (marks.Lost l xid) old new h = quiet_goes rules Good r link side before (marks.Lost l xid) refl (tt, refl)
 mark_goes rules Good good r link side before (marks.Forget l xid) old new h = quiet_goes rules Good r link side before (marks.Forget l xid) refl (tt, refl)
 mark_goes rules Good good r link side before (marks.Drop l) old new h = quiet_goes rules Good r link side before (marks.Drop l) refl (tt, refl)
+mark_goes rules Good good r link side before (marks.Told l what) old new h =
+    quiet_goes rules Good r link side before (marks.Told l what) refl (if_goes rules Good (whole_bytes link side before) r (ServerTold what) tt refl (λ g. g) (eqb l link && same_side Responder side) h)
 
 pub each_preserves : {S : Type 0} (rules : EndMachine S) (Good : EndState S → RunEvent → Type 0) → ((r : EndState S) (f : Frame) → IsBytes f.bytes → Good r (FrameReceived f))
     → (start : EndState S) (link : ℕ) (side : Side) (P : List Mark → Mark → Type 0)

@@ -7,7 +7,7 @@ use Rattle.nr_reduce.specs.declared.mark.Mark.{Mark}
 use Rattle.nr_reduce.specs.declared.mark.Mark.TheVariants as marks
 use Rattle.nr_reduce.specs.History.{ExecutedCall, bytes_received, same_side}
 use Rattle.nr_reduce.specs.Events.{RunEvent, events, events_at, if_own}
-use Rattle.nr_reduce.specs.Events.RunEvent.{FrameReceived, CallSubmitted, MemoryRevoked, CallExecuted, QueueWritten}
+use Rattle.nr_reduce.specs.Events.RunEvent.{FrameReceived, CallSubmitted, MemoryRevoked, CallExecuted, QueueWritten, ServerTold}
 use Rattle.nr_reduce.proofs.Steps.{events_one}
 use Rattle.nr_laws.proofs.Basics.{first_is_lem, PartedTwo, parted_two}
 use Rattle.nr_laws.proofs.Basics.PartedTwo.{InFirst, InSecond}
@@ -29,6 +29,7 @@ NoExecutes (CallSubmitted p a ∷ es) = NoExecutes es
 NoExecutes (MemoryRevoked p xid ∷ es) = NoExecutes es
 NoExecutes (CallExecuted e ∷ es) = ⊥
 NoExecutes (QueueWritten taken ∷ es) = NoExecutes es
+NoExecutes (ServerTold what ∷ es) = NoExecutes es
 
 no_frames : (fs : List Frame) → NoExecutes (map FrameReceived fs)
 no_frames [] = tt
@@ -45,6 +46,7 @@ no_at (CallSubmitted p a ∷ pre) e post h = no_at pre e post h
 no_at (MemoryRevoked p xid ∷ pre) e post h = no_at pre e post h
 no_at (CallExecuted x ∷ pre) e post h = h
 no_at (QueueWritten taken ∷ pre) e post h = no_at pre e post h
+no_at (ServerTold what ∷ pre) e post h = no_at pre e post h
 
 abbrev HasMarks : ℕ → List Mark → Type 0
 HasMarks link run = (pre : List RunEvent) (e : ExecutedCall) (post : List RunEvent) → events link Responder run ≡ pre ++ CallExecuted e ∷ post → ExecuteMark link run pre e
@@ -109,6 +111,7 @@ mark_marks link before (marks.Done l xid outcome) has = quiet_marks link before 
 mark_marks link before (marks.Lost l xid) has = quiet_marks link before (marks.Lost l xid) tt has
 mark_marks link before (marks.Forget l xid) has = quiet_marks link before (marks.Forget l xid) tt has
 mark_marks link before (marks.Drop l) has = quiet_marks link before (marks.Drop l) tt has
+mark_marks link before (marks.Told l what) has = quiet_marks link before (marks.Told l what) (no_if (eqb l link && true) (ServerTold what ∷ []) tt) has
 
 marks_from : (link : ℕ) (before run : List Mark) → HasMarks link before → HasMarks link (before ++ run)
 marks_from link before [] has = subst (λ (b : List Mark). HasMarks link b) (sym (append-nil before)) has

@@ -4,7 +4,7 @@ use Rattle.nr_link.specs.Frames.{Frame, is_hello}
 use Rattle.nr_reduce.specs.declared.mark.LinkParameters.{LinkParameters}
 use Rattle.nr_reduce.specs.OfferedRegions.{Region}
 use Rattle.nr_reduce.specs.Events.{RunEvent}
-use Rattle.nr_reduce.specs.Events.RunEvent.{FrameReceived, CallSubmitted, MemoryRevoked, CallExecuted, QueueWritten}
+use Rattle.nr_reduce.specs.Events.RunEvent.{FrameReceived, CallSubmitted, MemoryRevoked, CallExecuted, QueueWritten, ServerTold}
 use Rattle.nr_reduce.specs.EndRules.{end_state_after}
 use Rattle.nr_reduce.specs.ServerState.{ServerState, next_stag}
 use Rattle.nr_reduce.specs.ServerReads.{regions_of, chunks_of, is_over}
@@ -39,6 +39,7 @@ few_after opened k (CallSubmitted place a) h = h
 few_after opened k (MemoryRevoked place xid) h = h
 few_after opened k (CallExecuted call) h = h
 few_after opened k (QueueWritten taken) h = h
+few_after opened k (ServerTold what) h = h
 
 pub few_regions : (opened : LinkParameters) (es : List RunEvent) → 1 + length (end_state_after (server_rules opened) (initial_server opened) es).state.regions ≤ 4294967296
 few_regions opened es = kept_after (server_rules opened) (λ (k : ServerState). AreFew k.regions) (few_after opened) (initial_server opened) es (omega arith)

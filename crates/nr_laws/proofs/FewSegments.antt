@@ -15,7 +15,7 @@ use Rattle.nr_reduce.specs.ClientState.{ClientState, OutstandingCall, call_paylo
 use Rattle.nr_reduce.specs.Client.{client_rules, client_end, client_state_after, due_with_response, initial_client, outstanding_of, plan_or, revoked_call, with_hello, with_message, with_request, with_segment}
 use Rattle.nr_reduce.specs.EndRules.{next_end_state_by, next_end_state_in}
 use Rattle.nr_reduce.specs.Events.{RunEvent, events}
-use Rattle.nr_reduce.specs.Events.RunEvent.{FrameReceived, CallSubmitted, MemoryRevoked, CallExecuted, QueueWritten}
+use Rattle.nr_reduce.specs.Events.RunEvent.{FrameReceived, CallSubmitted, MemoryRevoked, CallExecuted, QueueWritten, ServerTold}
 use Rattle.nr_reduce.specs.Hellos.{client_private, private_of, client_agreement}
 use Rattle.nr_reduce.specs.History.{AcceptedCall}
 use Rattle.nr_reduce.specs.Limits.{send_unit}
@@ -119,11 +119,13 @@ few_step opened place k None (CallSubmitted q a) next good h = few_call opened p
 few_step opened place k None (MemoryRevoked q xid) next good h = record { least = h.least; first = h.first; fit = fit_revoked k.up_max xid k.outstanding h.fit }
 few_step opened place k None (CallExecuted x) next good h = h
 few_step opened place k None (QueueWritten taken) next good h = record { least = h.least; first = h.first; fit = h.fit }
+few_step opened place k None (ServerTold what) next good h = record { least = h.least; first = h.first; fit = h.fit }
 few_step opened place k (Some end) (FrameReceived f) next good h = few_later place f.end k (let l = next.1 in omega (arith, l)) h
 few_step opened place k (Some end) (CallSubmitted q a) next good h = h
 few_step opened place k (Some end) (MemoryRevoked q xid) next good h = h
 few_step opened place k (Some end) (CallExecuted x) next good h = h
 few_step opened place k (Some end) (QueueWritten taken) next good h = h
+few_step opened place k (Some end) (ServerTold what) next good h = h
 
 pub client_offers_few_segments : ClientOffersFewSegments
 unfolding client

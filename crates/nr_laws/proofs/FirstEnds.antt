@@ -14,7 +14,7 @@ use Rattle.nr_reduce.specs.Opening.{IsOpened}
 use Rattle.nr_reduce.specs.Credits.{WithinGrant}
 use Rattle.nr_reduce.specs.History.{bytes_sent, bytes_received}
 use Rattle.nr_reduce.specs.Events.{RunEvent, if_own, events_at}
-use Rattle.nr_reduce.specs.Events.RunEvent.{FrameReceived, CallSubmitted, MemoryRevoked, CallExecuted, QueueWritten}
+use Rattle.nr_reduce.specs.Events.RunEvent.{FrameReceived, CallSubmitted, MemoryRevoked, CallExecuted, QueueWritten, ServerTold}
 use Rattle.nr_reduce.specs.EndRules.{EndState, EndMachine, live, end_state_after}
 use Rattle.nr_reduce.specs.ClientState.{ClientState}
 use Rattle.nr_reduce.specs.ServerState.{ServerState}
@@ -112,6 +112,7 @@ server_mark opened link run (marks.Lost l xid) g o matched typed end e = not_by_
 server_mark opened link run (marks.Forget l xid) g o matched typed end e = not_by_none opened g.joined.s _ end refl e
 server_mark opened link run (marks.Revoke l xid bytes) g o matched typed end e = not_by_none opened g.joined.s _ end (other_events (eqb l link) _) e
 server_mark opened link run (marks.Drop l) g o matched typed end e = not_by_none opened g.joined.s _ end refl e
+server_mark opened link run (marks.Told l what) g o matched typed end e = not_by_one opened g.joined.s _ (ServerTold what) (eqb l link && true) end (λ f x. absurd cc) refl e
 
 server_from : (opened : LinkParameters) (link : ℕ) (o : IsOpened opened) (end : End) (run before : List Mark) → Guarded opened link before → AtEachMark (AskedMark IsAll opened link) before run → AtEachMark (ServedMark IsAll opened link) before run → AtEachMark (MatchedMark link) before run
     → AtEachMark (WithinGrant opened link) before run → AtEachMark TypedMark before run → (client opened link (before ++ run)).ended ≡ None → (server opened link (before ++ run)).ended ≡ Some end → EndsForCall end
@@ -189,6 +190,7 @@ fed_ends opened link run (marks.Forget l xid) k end Lasting matched typed fed e 
 fed_ends opened link run (marks.Revoke l xid bytes) k end Lasting matched typed fed e =
     absurd (one_ends opened k _ (MemoryRevoked (length (bytes_received link Initiator run)) xid) (eqb l link && true) end (λ f x. absurd cc) refl e)
 fed_ends opened link run (marks.Drop l) k end Lasting matched typed fed e = absurd (none_ends opened k _ end refl e)
+fed_ends opened link run (marks.Told l what) k end Lasting matched typed fed e = absurd (none_ends opened k _ end (other_events (eqb l link) _) e)
 
 client_fed : (opened : LinkParameters) (link : ℕ) (run : List Mark) (bytes : List ℕ) (g : Guarded opened link run) → IsOpened opened → IsPrefixOf (bytes_received link Initiator run ++ bytes) (bytes_sent link Responder run) → IsBytes bytes
     → (end : End) → (end_state_after (client_rules opened) (live g.joined.k) (map FrameReceived (frames_completed Responder (bytes_received link Initiator run) bytes))).ended ≡ Some end → IsClientEnd end

@@ -72,6 +72,7 @@ asks_right opened link before (marks.Lost l xid) h = inl refl
 asks_right opened link before (marks.Forget l xid) h = inl refl
 asks_right opened link before (marks.Revoke l xid bytes) h = inl refl
 asks_right opened link before (marks.Drop l) h = inl refl
+asks_right opened link before (marks.Told l what) h = inl refl
 
 serves_right : (opened : LinkParameters) (link : ℕ) (before : List Mark) (mark : Mark) → ServedMark IsPrefixOf opened link before mark
     → (written_at link Responder mark ≡ []) ⊎ IsPrefixOf (bytes_sent link Responder before ++ written_at link Responder mark) (output_due opened link Responder before)
@@ -85,6 +86,7 @@ serves_right opened link before (marks.Lost l xid) h = inl refl
 serves_right opened link before (marks.Forget l xid) h = inl refl
 serves_right opened link before (marks.Revoke l xid bytes) h = inl refl
 serves_right opened link before (marks.Drop l) h = inl refl
+serves_right opened link before (marks.Told l what) h = inl refl
 
 feeds_right : (link : ℕ) (side : Side) (before : List Mark) (mark : Mark) → MatchedMark link before mark
     → (fed_at link side mark ≡ []) ⊎ IsPrefixOf (bytes_received link side before ++ fed_at link side mark) (bytes_sent link (other side) before)
@@ -100,6 +102,7 @@ feeds_right link side before (marks.Lost l xid) h = inl refl
 feeds_right link side before (marks.Forget l xid) h = inl refl
 feeds_right link side before (marks.Revoke l xid bytes) h = inl refl
 feeds_right link side before (marks.Drop l) h = inl refl
+feeds_right link side before (marks.Told l what) h = inl refl
 
 nothing_sent : (link : ℕ) (side : Side) → bytes_sent link side [] ≡ []
 unfolding bytes_sent

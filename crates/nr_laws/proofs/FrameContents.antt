@@ -17,7 +17,7 @@ use Rattle.nr_link.specs.ReceiveState.{ReceiveState, ReadRequest, begun_bytes}
 use Rattle.nr_link.specs.Ending.{frame_segment}
 use Rattle.nr_reduce.specs.Holds.{Answer, answer_message, chunk_error, first_chunk, no_segments}
 use Rattle.nr_reduce.specs.Events.{RunEvent}
-use Rattle.nr_reduce.specs.Events.RunEvent.{FrameReceived, CallSubmitted, MemoryRevoked, CallExecuted, QueueWritten}
+use Rattle.nr_reduce.specs.Events.RunEvent.{FrameReceived, CallSubmitted, MemoryRevoked, CallExecuted, QueueWritten, ServerTold}
 use Rattle.nr_reduce.specs.ClientState.{ClientState, OutstandingCall, client_memory_at}
 use Rattle.nr_reduce.specs.Client.{outstanding_of, segment_request}
 use Rattle.nr_reduce.specs.ServerState.{ServerState, PendingRead, credit_word}
@@ -156,6 +156,7 @@ client_frames opened k (CallSubmitted place a) = if k.has_hello then send_frames
 client_frames opened k (MemoryRevoked place xid) = []
 client_frames opened k (CallExecuted call) = []
 client_frames opened k (QueueWritten taken) = []
+client_frames opened k (ServerTold what) = []
 
 abbrev pub request_frame : PendingRead → FrameContent
 request_frame r = RequestFrame r.sink r.at r.size r.stag r.to
@@ -184,3 +185,4 @@ server_frames opened k (MemoryRevoked place xid) = []
 server_frames opened k (CallExecuted e) =
     answer_frames k e.xid (offer_of k e.xid) (answer_of_target (offer_of k e.xid) k.down_max e.reply (target_of (call_of e.payload)))
 server_frames opened k (QueueWritten taken) = []
+server_frames opened k (ServerTold what) = []

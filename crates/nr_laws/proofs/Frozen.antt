@@ -17,7 +17,7 @@ use Rattle.nr_reduce.specs.declared.mark.Mark.TheVariants as marks
 use Rattle.nr_reduce.specs.declared.mark.LinkParameters.{LinkParameters}
 use Rattle.nr_reduce.specs.History.{bytes_received, same_side, fed_at}
 use Rattle.nr_reduce.specs.Events.{RunEvent, events, events_at, if_own}
-use Rattle.nr_reduce.specs.Events.RunEvent.{FrameReceived, CallSubmitted, MemoryRevoked, CallExecuted, QueueWritten}
+use Rattle.nr_reduce.specs.Events.RunEvent.{FrameReceived, CallSubmitted, MemoryRevoked, CallExecuted, QueueWritten, ServerTold}
 use Rattle.nr_reduce.specs.EndRules.{EndState, next_end_state, next_end_state_by, next_end_state_in, end_state_after}
 use Rattle.nr_reduce.specs.OfferedRegions.{Region, region_grant, region_grants, closed_if, regions_closed}
 use Rattle.nr_reduce.specs.Plans.{buffers}
@@ -108,6 +108,7 @@ EventBehind p (CallSubmitted q a) = Unit {0}
 EventBehind p (MemoryRevoked q xid) = Unit {0}
 EventBehind p (CallExecuted e) = Unit {0}
 EventBehind p (QueueWritten taken) = Unit {0}
+EventBehind p (ServerTold what) = Unit {0}
 
 abbrev pub EventsBehind : ℕ → List RunEvent → Type 0
 EventsBehind p [] = Unit {0}
@@ -136,6 +137,7 @@ frozen_event opened stag p bytes old k (MemoryRevoked q xid) by stays h =
     record { only = only_closed (λ r. eqb r.call xid) q stag p k.regions h.only; low = h.low; has = has_closed (λ r. eqb r.call xid) q k.regions stag bytes h.has; more = h.more; accesses = h.accesses; none = h.none }
 frozen_event opened stag p bytes old k (CallExecuted e) by stays h = h
 frozen_event opened stag p bytes old k (QueueWritten taken) by stays h = record { only = h.only; low = h.low; has = h.has; more = h.more; accesses = h.accesses; none = h.none }
+frozen_event opened stag p bytes old k (ServerTold what) by stays h = record { only = h.only; low = h.low; has = h.has; more = h.more; accesses = h.accesses; none = h.none }
 
 frozen_next : (opened : LinkParameters) (stag p : ℕ) (bytes : List ℕ) (old : List TaggedSegment) (k : ClientState) (ended : Option Stop) (e : RunEvent) → EventBehind p e → Frozen stag p bytes old k → Frozen stag p bytes old (next_end_state_in (client_rules opened) k e ended).state
 frozen_next opened stag p bytes old k (Some end) e by h = h
@@ -175,6 +177,7 @@ mark_behind p link before (marks.Done l xid outcome) le = tt
 mark_behind p link before (marks.Lost l xid) le = tt
 mark_behind p link before (marks.Forget l xid) le = tt
 mark_behind p link before (marks.Drop l) le = tt
+mark_behind p link before (marks.Told l what) le = if_behind p (eqb l link && false) (ServerTold what ∷ []) (tt, tt)
 
 pub frozen_from : (opened : LinkParameters) (link stag p : ℕ) (bytes : List ℕ) (old : List TaggedSegment) (before run : List Mark) → p ≤ length (bytes_received link Initiator before)
     → Frozen stag p bytes old (client opened link before).state → Frozen stag p bytes old (client opened link (before ++ run)).state

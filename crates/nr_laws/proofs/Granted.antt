@@ -57,6 +57,7 @@ mark_within opened link before (marks.Lost l xid) a = tt
 mark_within opened link before (marks.Forget l xid) a = tt
 mark_within opened link before (marks.Revoke l xid bytes) a = tt
 mark_within opened link before (marks.Drop l) a = tt
+mark_within opened link before (marks.Told l what) a = tt
 
 within_from : (opened : LinkParameters) (link : ℕ) (before run : List Mark) → AtEachMark (AcceptedMark opened link) before run → AtEachMark (WithinGrant opened link) before run
 within_from opened link before [] a = tt

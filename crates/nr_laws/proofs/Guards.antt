@@ -1,6 +1,7 @@
 -- What keeps both ends of a matched link from ending by a rule of the link: receives, requests, sinks, sizes, numbers.
 use Rattle.nr_laws.proofs.OneChunk.{OneChunk}
 use Rattle.std.proofs.Common.{◌≡◌, ℕ, ◌≤◌, ◌<◌, ◌^◌, min, Bool, true, false, cond, eqb, List, [], ◌∷◌, ◌++◌, length, map, take, drop, Option, Some, None, refl, arith}
+use Rattle.std.proofs.Math.Nat.{min-le_right}
 use Rattle.std.specs.List.{AllByRecursion, range_with_len}
 use Rattle.nr_xdr.specs.Fields.{word_at}
 use Rattle.nr_wire.specs.Constants.{OPCODE_WRITE}
@@ -11,13 +12,16 @@ use Rattle.nr_rpc.specs.Reading.{call_of, target_of}
 use Rattle.nr_link.specs.Output.{segment_count}
 use Rattle.nr_reduce.proofs.OwnLimits.{ServerLimits}
 use Rattle.nr_reduce.specs.declared.mark.LinkParameters.{LinkParameters}
+use Rattle.nr_reduce.specs.declared.mark.Told.{Told}
+use Rattle.nr_reduce.specs.declared.mark.Told.TheVariants.{Granted}
+use Rattle.nr_reduce.specs.Served.{IsGranted}
 use Rattle.nr_reduce.specs.Holds.{Answer, answer_message, first_chunk, no_segments, chunk_error}
 use Rattle.nr_reduce.specs.History.{ExecutedCall}
 use Rattle.nr_reduce.specs.Events.{RunEvent}
 use Rattle.nr_reduce.specs.EndRules.{live, end_state_after}
 use Rattle.nr_reduce.specs.ClientState.{ClientState, OutstandingCall}
 use Rattle.nr_reduce.specs.Client.{client_rules, initial_client}
-use Rattle.nr_reduce.specs.ServerState.{ServerState, PendingRead, credit_word}
+use Rattle.nr_reduce.specs.ServerState.{ServerState, PendingRead, credit_word, credit_told, is_busy}
 use Rattle.nr_reduce.specs.ServerFrames.{FrameEffect}
 use Rattle.nr_reduce.specs.Server.{newly_open_reads, offer_of, answer_of_target}
 use Rattle.nr_laws.proofs.FrameContents.{FrameContent, request_frame, effect_frames, write_frames, answer_frames, tagged_frames, send_frames, errors_frames}
@@ -47,7 +51,7 @@ ClientContent opened (SendFrame message) = ClientMessage opened message.bytes
 ClientContent opened (RequestFrame sink at size stag to) = Unit {0}
 ClientContent opened (TaggedFrame last opcode stag to payload) = Unit {0}
 
--- a message of a server too, and it grants what the server grants; its tagged segments are of Writes
+-- a message of a server too, and it grants at most `credit`; its tagged segments are of Writes
 abbrev pub ServerContent : (most credit : ℕ) → FrameContent → Type 0
 ServerContent most credit HelloFrame = Unit {0}
 ServerContent most credit (PartFrame offset payload) = Unit {0}
@@ -68,7 +72,7 @@ pub record Guards (opened : LinkParameters) (k : ClientState) (s : ServerState) 
   pub sizes : SizesAgree opened k s u
   pub up_said : AllByRecursion (ClientContent opened) all_up
   pub down_said : AllByRecursion (ServerContent (matched_down opened) opened.granted) all_down
-  pub credit : s.credit ≡ opened.granted
+  pub credit : s.credit ≤ opened.granted
   pub calls : AreSized opened k.outstanding
   pub within : AreWithin s.reads s.regions
   pub sinks : length s.regions ≤ s.received.sends
@@ -77,6 +81,31 @@ pub record Guards (opened : LinkParameters) (k : ClientState) (s : ServerState) 
   pub numbers : AllByRecursion (IsNumbered opened.first_xid) s.calls
   pub answered : Answered opened.first_xid k s u d all_down w
   pub reached : (es : List RunEvent) × (end_state_after (client_rules opened) (initial_client opened) es ≡ live k)
+
+-- ---- What is granted
+
+-- its credit word is at most what it was told to grant
+pub word_most : (k : ServerState) → credit_word k ≤ k.credit
+unfolding credit_word
+word_most k = by (is_busy k)
+  where
+    by : (b : Bool) → cond b (min k.low k.credit) k.credit ≤ k.credit
+    by true = min-le_right k.low k.credit
+    by false = omega arith
+
+pub told_most : (opened : LinkParameters) (what : Told) → IsGranted opened what → credit_told what ≤ opened.granted
+told_most opened (Granted credits) h = h.1
+
+one_less : (most n m : ℕ) → n ≤ m → (p : FrameContent) → ServerContent most n p → ServerContent most m p
+one_less most n m le HelloFrame h = tt
+one_less most n m le (PartFrame offset payload) h = tt
+one_less most n m le (SendFrame message) h = (let credits = h.credits in record { least = h.least; size = h.size; credits = omega (arith, credits, le); read = h.read })
+one_less most n m le (RequestFrame sink at size stag to) h = tt
+one_less most n m le (TaggedFrame last opcode stag to payload) h = h
+
+pub credit_down : (most n m : ℕ) → n ≤ m → (ps : List FrameContent) → AllByRecursion (ServerContent most n) ps → AllByRecursion (ServerContent most m) ps
+credit_down most n m le [] h = tt
+credit_down most n m le (p ∷ ps) h = (one_less most n m le p h.0, credit_down most n m le ps h.1)
 
 -- ---- What is sent
 
@@ -109,20 +138,20 @@ fills_down most credit (p ∷ chunk) bytes =
     by true = tt
     by false = cuts_down most credit p.handle _ _ _ (range_with_len 0 (segment_count (take p.length bytes)))
 
-answer_down : (most : ℕ) (k : ServerState) → ServerLimits k → k.down_max ≤ most → (xid : ℕ) (offer : ChunkLists) (reply : List ℕ) (t : Option CallTarget) (o : Option Answer) → xid < 2 ^ 32 → k.credit < 2 ^ 32 → answer_of_target offer k.down_max reply t ≡ o → OfferFits offer → AllByRecursion (ServerContent most k.credit) (answer_frames k xid offer o)
+answer_down : (most : ℕ) (k : ServerState) → ServerLimits k → k.down_max ≤ most → (xid : ℕ) (offer : ChunkLists) (reply : List ℕ) (t : Option CallTarget) (o : Option Answer) → xid < 2 ^ 32 → credit_word k < 2 ^ 32 → answer_of_target offer k.down_max reply t ≡ o → OfferFits offer → AllByRecursion (ServerContent most (credit_word k)) (answer_frames k xid offer o)
 answer_down most k l room xid offer reply t None word lt e fits =
     let down = l.down.0 in
-    send_down most k.credit (chunk_error xid (credit_word k)) (chunk_error_reply most xid k.credit (omega (arith, down, room)) word lt)
+    send_down most (credit_word k) (chunk_error xid (credit_word k)) (chunk_error_reply most xid (credit_word k) (omega (arith, down, room)) word lt)
 answer_down most k l room xid offer reply t (Some a) word lt e fits =
     let target = for_target offer k.down_max reply t a e in
-    let one = answer_reply offer most k.down_max target.0 target.1 target.2 xid k.credit reply a l.down room word lt fits target.3 in
-    each_append (ServerContent most k.credit) (write_frames (first_chunk offer.write) a.moved) (cond a.long (write_frames (no_segments offer.reply) a.stream) [] ++ send_frames (answer_message xid k.credit offer a))
-    (fills_down most k.credit (first_chunk offer.write) a.moved)
-    (each_append (ServerContent most k.credit) (cond a.long (write_frames (no_segments offer.reply) a.stream) []) (send_frames (answer_message xid k.credit offer a)) (by a.long) (send_down most k.credit (answer_message xid k.credit offer a) one))
+    let one = answer_reply offer most k.down_max target.0 target.1 target.2 xid (credit_word k) reply a l.down room word lt fits target.3 in
+    each_append (ServerContent most (credit_word k)) (write_frames (first_chunk offer.write) a.moved) (cond a.long (write_frames (no_segments offer.reply) a.stream) [] ++ send_frames (answer_message xid (credit_word k) offer a))
+    (fills_down most (credit_word k) (first_chunk offer.write) a.moved)
+    (each_append (ServerContent most (credit_word k)) (cond a.long (write_frames (no_segments offer.reply) a.stream) []) (send_frames (answer_message xid (credit_word k) offer a)) (by a.long) (send_down most (credit_word k) (answer_message xid (credit_word k) offer a) one))
   where
-    by : (b : Bool) → AllByRecursion (ServerContent most k.credit) (cond b (write_frames (no_segments offer.reply) a.stream) [])
-    by true = fills_down most k.credit (no_segments offer.reply) a.stream
+    by : (b : Bool) → AllByRecursion (ServerContent most (credit_word k)) (cond b (write_frames (no_segments offer.reply) a.stream) [])
+    by true = fills_down most (credit_word k) (no_segments offer.reply) a.stream
     by false = tt
 
-pub execution_down : (most : ℕ) (k : ServerState) (e : ExecutedCall) → ServerLimits k → k.down_max ≤ most → e.xid < 2 ^ 32 → k.credit < 2 ^ 32 → CallsFit k.calls → AllByRecursion (ServerContent most k.credit) (execution_frames k e)
+pub execution_down : (most : ℕ) (k : ServerState) (e : ExecutedCall) → ServerLimits k → k.down_max ≤ most → e.xid < 2 ^ 32 → credit_word k < 2 ^ 32 → CallsFit k.calls → AllByRecursion (ServerContent most (credit_word k)) (execution_frames k e)
 execution_down most k e l room word lt h = answer_down most k l room e.xid (offer_of k e.xid) e.reply (target_of (call_of e.payload)) _ word lt refl (found_fits e.xid k.calls h)

@@ -1,7 +1,7 @@
 -- A client of a matched link that a frame doesn't end keeps the guards of both ends.
-use Rattle.std.proofs.Common.{◌≡◌, ℕ, ◌+◌, ◌≤◌, ◌<◌, ◌^◌, Bool, true, false, cond, not, eqb, List, [], ◌∷◌, ◌++◌, length, map, take, drop, filter, Option, Some, None, Result, Ok, Err, refl, sym, ap, subst, ◌∙◌, arith, ◌⊎◌, inl, inr}
+use Rattle.std.proofs.Common.{◌≡◌, ℕ, ◌+◌, ◌≤◌, ◌<◌, ◌^◌, Bool, true, false, cond, not, eqb, ltb, List, [], ◌∷◌, ◌++◌, length, map, take, drop, filter, Option, Some, None, Result, Ok, Err, refl, sym, ap, subst, ◌∙◌, arith, ◌⊎◌, inl, inr}
 use Rattle.std.specs.List.{AllByRecursion, range_with_len}
-use Rattle.std.proofs.lemmas.Bool.{ne_eqb, le-ltb}
+use Rattle.std.proofs.lemmas.Bool.{ltb-true}
 use Rattle.nr_xdr.specs.Fields.{word_at}
 use Rattle.nr_header.specs.Constants.{PAYLOAD_MAX}
 use Rattle.nr_wire.specs.Constants.{OPCODE_READ_REQUEST, OPCODE_READ_RESPONSE, QUEUE_READ_REQUEST}
@@ -163,10 +163,17 @@ behind_hello_lem opened k t s u d all_up all_down w f r is hello = ap (λ (x : C
     by (Err reason) = hello
     by (Ok segment) = with (message_completed k.received segment) (due_with_response k f segment) (read_request_of segment)
 
-credits_same : (n : ℕ) → 0 < n → n ≤ credits_max → credits_of_word n ≤ n
-credits_same n some most =
-    let same : credits_of_word n ≡ n = (λ i. cond (ne_eqb n 0 (λ e. omega (arith, e, some)) i) 1 (cond (le-ltb credits_max n most i) credits_max n)) in
-    omega (arith, same)
+-- a credit word grants no more than this number of credits if it is at most that number
+credits_most : (n most : ℕ) → 0 < most → n ≤ most → credits_of_word n ≤ most
+credits_most n most some le = by (eqb n 0)
+  where
+    by_max : (b : Bool) → ltb credits_max n ≡ b → cond b credits_max n ≤ most
+    by_max true e = (let above = ltb-true credits_max n e in omega (arith, above, le))
+    by_max false e = le
+
+    by : (b : Bool) → cond b 1 (cond (ltb credits_max n) credits_max n) ≤ most
+    by true = omega (arith, some)
+    by false = by_max (ltb credits_max n) refl
 
 asks_up : (opened : LinkParameters) (os : List OutstandingCall) → AreSized opened os → AllByRecursion (ClientContent opened) (calls_frames opened os)
 asks_up opened os h = each_sends (ClientContent opened) (λ offset payload. tt) (message_of_call opened) os (each_all (IsAsked opened) (λ o. ClientMessage opened (message_of_call opened o)) os (λ o asked. asked.0) h)
@@ -213,10 +220,11 @@ guards_send_down opened k s u d all_up all_down w place message rest f o l g fir
     let same : whole ≡ message.bytes = (at_front k.received.begun w.down w.queued_down (SendFrame message) rest first l.counts.whole_down).1 in
     let reply : IsReply (matched_down opened) opened.granted message.bytes = front_down opened k s u d all_up all_down w place (SendFrame message) rest l g first in
     let fewer : length (filter (λ (x : OutstandingCall). not (eqb x.xid (word_at 0 whole))) k.outstanding) ≤ length k.outstanding = filter_less (λ (x : OutstandingCall). not (eqb x.xid (word_at 0 whole))) k.outstanding in
-    let grant : credits_of_word (word_at 8 whole) ≡ credits_of_word opened.granted = ap credits_of_word (ap (λ (xs : List ℕ). word_at 8 xs) same ∙ reply.credits) in
+    let credits = reply.credits in
+    let grant : credits_of_word (word_at 8 whole) ≤ opened.granted = credits_most (word_at 8 whole) opened.granted o.granted (omega (arith, ap (λ (xs : List ℕ). word_at 8 xs) same, credits)) in
     let window : WithinWindow opened (with_segment k f (Ok segment)) = record {
       window = omega (arith, fewer, g.window.window);
-      grant = omega (arith, grant, credits_same opened.granted o.granted o.granted_fits);
+      grant = grant;
       receives = g.window.receives;
     } in
     let server : ServerAgrees opened t s (down_one w [] rest) place = record {

@@ -7,16 +7,18 @@ use Rattle.std.specs.List.{AllByRecursion}
 use Rattle.std.proofs.lemmas.List.{length-map}
 use Rattle.nr_link.specs.declared.end.End.{End}
 use Rattle.nr_reduce.specs.declared.mark.LinkParameters.{LinkParameters}
+use Rattle.nr_reduce.specs.declared.mark.Told.{Told}
+use Rattle.nr_reduce.specs.Served.{IsGranted}
 use Rattle.nr_reduce.specs.declared.outline.Plan.{Plan}
 use Rattle.nr_reduce.specs.Opening.{IsOpened}
 use Rattle.nr_reduce.specs.Limits.{numbers_end}
 use Rattle.nr_reduce.specs.Plans.{call_message}
 use Rattle.nr_reduce.specs.History.{AcceptedCall, ExecutedCall}
 use Rattle.nr_reduce.specs.Events.{RunEvent}
-use Rattle.nr_reduce.specs.Events.RunEvent.{CallSubmitted, MemoryRevoked, CallExecuted, QueueWritten}
+use Rattle.nr_reduce.specs.Events.RunEvent.{CallSubmitted, MemoryRevoked, CallExecuted, QueueWritten, ServerTold}
 use Rattle.nr_reduce.specs.EndRules.{EndState, live, next_end_state_by, end_state_after}
 use Rattle.nr_reduce.specs.ClientState.{ClientState, OutstandingCall, call_payload, plan_for}
-use Rattle.nr_reduce.specs.ServerState.{ServerState, ReadyCall}
+use Rattle.nr_reduce.specs.ServerState.{ServerState, ReadyCall, credit_word}
 use Rattle.nr_reduce.specs.Client.{client_rules, client_end, client_state_after, initial_client, outstanding_of, revoked_call}
 use Rattle.nr_reduce.specs.Server.{server_state_after}
 use Rattle.nr_reduce.proofs.Steps.{end_state_after_append}
@@ -24,7 +26,7 @@ use Rattle.nr_laws.proofs.FrameContents.{FrameContent, client_frames, server_fra
 use Rattle.nr_laws.proofs.LinkInvariants.{Transit}
 use Rattle.nr_laws.proofs.TotalsAtClient.{up_more, totals_accepts, totals_writes_up}
 use Rattle.nr_laws.proofs.ReadsAtClient.{AnswersNone, reads_says_up, reads_writes_up}
-use Rattle.nr_laws.proofs.EventsAtServer.{server_executes, server_writes}
+use Rattle.nr_laws.proofs.EventsAtServer.{server_executes, server_writes, server_told}
 use Rattle.nr_laws.proofs.ServerOutputs.{CallsFit}
 use Rattle.nr_laws.proofs.OwnEvents.{planned, totals_revoked, xid_revoked}
 use Rattle.nr_laws.proofs.AgreeingEnds.{EndsAgree}
@@ -38,7 +40,7 @@ use Rattle.nr_laws.proofs.AnsweredCalls.{times, answer_xids, executed_less}
 use Rattle.nr_laws.proofs.AnsweredSteps.{Answered, answered_submit, answered_map, answered_server}
 use Rattle.nr_laws.proofs.GuardsAtServer.{pending_word}
 use Rattle.nr_laws.proofs.AgreedSizes.{matched_up, matched_down}
-use Rattle.nr_laws.proofs.Guards.{ClientContent, ServerContent, IsAsked, AreSized, Guards, execution_down, ClientMessage}
+use Rattle.nr_laws.proofs.Guards.{ClientContent, ServerContent, IsAsked, AreSized, Guards, execution_down, ClientMessage, credit_down, word_most, told_most}
 use Rattle.nr_laws.proofs.Basics.{each_append, each_kept}
 use Rattle.nr_reduce.proofs.WholeWrotes.{ClientEnds, ServerEnds}
 use Rattle.nr_laws.proofs.SendFrames.{each_send}
@@ -180,7 +182,7 @@ pub guards_execute : (opened : LinkParameters) (k : ClientState) (s : ServerStat
     → Guards opened k (server_state_after opened s (CallExecuted e)) u d all_up (all_down ++ server_frames opened s (CallExecuted e)) (record { queued_up = w.queued_up; up = w.up; queued_down = w.queued_down ++ server_frames opened s (CallExecuted e); down = w.down }) up
 unfolding server_state_after server_frames
 guards_execute opened k s u d all_up all_down w up e r rest o l g fits first own =
-    let small : s.credit < 2 ^ 32 = omega (arith, g.credit, o.granted_fits) in
+    let small : credit_word s < 2 ^ 32 = omega (arith, word_most s, g.credit, o.granted_fits) in
     let there = executed_there s e.xid r rest l.waits first own in
     let xid_word = pending_word opened k s u d all_up all_down w up e.xid l g there in
     record {
@@ -189,7 +191,7 @@ guards_execute opened k s u d all_up all_down w up e r rest o l g fits first own
       window = g.window;
       up_said = g.up_said;
       down_said = each_append (ServerContent (matched_down opened) opened.granted) all_down (server_frames opened s (CallExecuted e)) g.down_said
-          (subst (λ (n : ℕ). AllByRecursion (ServerContent (matched_down opened) n) (server_frames opened s (CallExecuted e))) g.credit (execution_down (matched_down opened) s e g.server.limits g.sizes.server_down xid_word small fits));
+          (credit_down (matched_down opened) (credit_word s) opened.granted (omega (arith, word_most s, g.credit)) (server_frames opened s (CallExecuted e)) (execution_down (matched_down opened) s e g.server.limits g.sizes.server_down xid_word small fits));
       credit = g.credit;
       calls = g.calls;
       within = g.within;
@@ -220,5 +222,25 @@ guards_written_down opened k s u d all_up all_down w up taken all ends g = recor
   numbers = g.numbers;
   answered = subst (λ (ps : List FrameContent). Answered opened.first_xid k (server_state_after opened s (QueueWritten taken)) u d ps (record { queued_up = w.queued_up; up = w.up; queued_down = []; down = w.down ++ w.queued_down })) (append-nil all_down)
       (answered_server opened.first_xid k s (server_state_after opened s (QueueWritten taken)) u d all_down w (record { queued_up = w.queued_up; up = w.up; queued_down = []; down = w.down ++ w.queued_down }) [] refl (λ x. omega arith) g.answered);
+  reached = g.reached;
+}
+
+pub guards_told : (opened : LinkParameters) (k : ClientState) (s : ServerState) (u d all_up all_down : List FrameContent) (w : Transit) (up : ℕ) (what : Told) → IsGranted opened what → Guards opened k s u d all_up all_down w up
+    → Guards opened k (server_state_after opened s (ServerTold what)) u d all_up all_down w up
+unfolding server_state_after
+guards_told opened k s u d all_up all_down w up what granted g = record {
+  server = server_told opened k s w up what g.server;
+  sizes = record { client_up = g.sizes.client_up; client_down = g.sizes.client_down; server_up = g.sizes.server_up; server_down = g.sizes.server_down };
+  window = g.window;
+  up_said = g.up_said;
+  down_said = g.down_said;
+  credit = told_most opened what granted;
+  calls = g.calls;
+  within = g.within;
+  sinks = g.sinks;
+  xids = g.xids;
+  no_hello_numbered = g.no_hello_numbered;
+  numbers = g.numbers;
+  answered = record { once = g.answered.once; later = g.answered.later; earlier = g.answered.earlier; open_calls = g.answered.open_calls; room = g.answered.room };
   reached = g.reached;
 }

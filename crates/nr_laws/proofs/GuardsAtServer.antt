@@ -14,7 +14,7 @@ use Rattle.nr_reduce.specs.declared.mark.LinkParameters.{LinkParameters}
 use Rattle.nr_reduce.specs.Opening.{IsOpened}
 use Rattle.nr_reduce.specs.Events.RunEvent.{FrameReceived}
 use Rattle.nr_reduce.specs.ClientState.{ClientState}
-use Rattle.nr_reduce.specs.ServerState.{ServerState}
+use Rattle.nr_reduce.specs.ServerState.{ServerState, credit_word}
 use Rattle.nr_reduce.specs.ServerReads.{is_over}
 use Rattle.nr_reduce.specs.ServerFrames.{FrameEffect, effect_in, frame_effect}
 use Rattle.nr_reduce.specs.Server.{server_end, server_state_after, refusal_end, with_own_hello}
@@ -41,7 +41,7 @@ use Rattle.nr_laws.proofs.AnsweredSteps.{Answered, answered_send, answered_other
 use Rattle.nr_reduce.proofs.OwnLimits.{ServerLimits, server_event}
 use Rattle.nr_laws.proofs.FirstHellos.{first_hello}
 use Rattle.nr_laws.proofs.AgreedSizes.{SizesAgree, matched_down, down_limited, server_keeps_sizes, server_takes_sizes}
-use Rattle.nr_laws.proofs.Guards.{ClientContent, ServerContent, Guards, step_down}
+use Rattle.nr_laws.proofs.Guards.{ClientContent, ServerContent, Guards, step_down, credit_down, word_most}
 use Rattle.nr_laws.proofs.Basics.{each_append}
 use Rattle.nr_laws.proofs.Words.{word_below_lem}
 use Rattle.nr_laws.proofs.PendingFrames.{later_sinks}
@@ -73,7 +73,7 @@ guards_up opened k s t u d all_up all_down w place end p rest said g server down
   sizes = sizes;
   up_said = g.up_said;
   down_said = each_append (ServerContent (matched_down opened) opened.granted) all_down said g.down_said down;
-  credit = credit ∙ g.credit;
+  credit = omega (arith, credit, g.credit);
   calls = g.calls;
   within = within;
   sinks = sinks;
@@ -134,9 +134,6 @@ pub record ServerTakes (opened : LinkParameters) (k : ClientState) (s : ServerSt
   pub ends : server_end opened s (FrameReceived f) ≡ refusal_end f (frame_effect s f).refusal
   pub kept : server_end opened s (FrameReceived f) ≡ None → Guards opened k (server_state_after opened s (FrameReceived f)) (u ++ p ∷ []) d all_up (all_down ++ server_frames opened s (FrameReceived f)) (taken_up w rest (server_frames opened s (FrameReceived f))) f.end
 
-credit_down : (opened : LinkParameters) (credit : ℕ) (ps : List FrameContent) → credit ≡ opened.granted → AllByRecursion (ServerContent (matched_down opened) credit) ps → AllByRecursion (ServerContent (matched_down opened) opened.granted) ps
-credit_down opened credit ps is h = subst (λ (n : ℕ). AllByRecursion (ServerContent (matched_down opened) n) ps) is h
-
 within_after : (s : ServerState) (f : Frame) (r : Result Segment ℕ) → frame_segment f ≡ r → AreWithin (frame_effect s f).reads (frame_effect s f).regions → AreWithin (with_by s f r (effect_in s f r)).reads (with_by s f r (effect_in s f r)).regions
 within_after s f r is h =
     let e = subst (λ (x : FrameEffect). AreWithin x.reads x.regions) (step_is s f r is) h in
@@ -158,7 +155,7 @@ takes_send opened k s u d all_up all_down w place message rest f o l g received 
     let t = server_takes_send opened k s w place f message rest g.server g.window first piece size.0 (omega (arith, size.1, g.sizes.server_up received)) lt in
     let says = says_frame opened s f piece.behind in
     let after = after_is_lem opened s f (Ok segment) piece.behind reads in
-    let small : s.credit < 2 ^ 32 = omega (arith, g.credit, o.granted_fits) in
+    let small : credit_word s < 2 ^ 32 = omega (arith, word_most s, g.credit, o.granted_fits) in
     let own = front_xid opened k s u d all_up all_down w place message rest l g first in
     let some : 0 < total_of sends_in w.up = omega (arith, ap (total_of sends_in) first) in
     let sent = calls_said opened k s u d all_up all_down w l in
@@ -179,7 +176,7 @@ takes_send opened k s u d all_up all_down w place message rest f o l g received 
       kept = λ stays.
           subst (λ (said : List FrameContent). Guards opened k (server_state_after opened s (FrameReceived f)) (u ++ SendFrame message ∷ []) d all_up (all_down ++ said) (taken_up w rest said) f.end) (sym says)
           (guards_up opened k s (server_state_after opened s (FrameReceived f)) u d all_up all_down w place f.end (SendFrame message) rest (effect_frames (frame_effect s f)) g
-          (t.1 (not_refused_lem opened s f piece.behind stays)) (credit_down opened s.credit (effect_frames (frame_effect s f)) g.credit (step_down (matched_down opened) s.credit (frame_effect s f) (replies_send (matched_down opened) (down_limited opened).0 s f message completes small_xid (word_below_lem 4 message.bytes are_bytes) small reads)))
+          (t.1 (not_refused_lem opened s f piece.behind stays)) (credit_down (matched_down opened) (credit_word s) opened.granted (omega (arith, word_most s, g.credit)) (effect_frames (frame_effect s f)) (step_down (matched_down opened) (credit_word s) (frame_effect s f) (replies_send (matched_down opened) (down_limited opened).0 s f message completes small_xid (word_below_lem 4 message.bytes are_bytes) small reads)))
           (server_keeps_sizes opened k s (server_state_after opened s (FrameReceived f)) u (SendFrame message) received (ap (λ (x : ServerState). x.up_max) after) (ap (λ (x : ServerState). x.down_max) after) g.sizes) (ap (λ (x : ServerState). x.credit) after) (subst (λ (x : ServerState). AreWithin x.reads x.regions) (sym after) within) (subst (λ (x : ServerState). length x.regions ≤ x.received.sends) (sym after) sinks) numbers answered);
     }
 
@@ -205,7 +202,7 @@ takes_part opened k s u d all_up all_down w place offset payload rest f o g rece
       kept = λ stays.
           subst (λ (said : List FrameContent). Guards opened k (server_state_after opened s (FrameReceived f)) (u ++ PartFrame offset payload ∷ []) d all_up (all_down ++ said) (taken_up w rest said) f.end) (sym says)
           (guards_up opened k s (server_state_after opened s (FrameReceived f)) u d all_up all_down w place f.end (PartFrame offset payload) rest (effect_frames (frame_effect s f)) g
-          t.1 (credit_down opened s.credit (effect_frames (frame_effect s f)) g.credit (step_down (matched_down opened) s.credit (frame_effect s f) (part_effect s (λ e. AreReplies (matched_down opened) s.credit e.errors) tt f offset payload reads)))
+          t.1 (credit_down (matched_down opened) (credit_word s) opened.granted (omega (arith, word_most s, g.credit)) (effect_frames (frame_effect s f)) (step_down (matched_down opened) (credit_word s) (frame_effect s f) (part_effect s (λ e. AreReplies (matched_down opened) (credit_word s) e.errors) tt f offset payload reads)))
           (server_keeps_sizes opened k s (server_state_after opened s (FrameReceived f)) u (PartFrame offset payload) received (ap (λ (x : ServerState). x.up_max) after) (ap (λ (x : ServerState). x.down_max) after) g.sizes) (ap (λ (x : ServerState). x.credit) after) (subst (λ (x : ServerState). AreWithin x.reads x.regions) (sym after) within) (subst (λ (x : ServerState). length x.regions ≤ x.received.sends) (sym after) sinks) numbers answered);
     }
 
@@ -217,7 +214,7 @@ takes_tagged opened k s u d all_up all_down w place last opcode stag to payload 
     let t = server_takes_response opened k s w place f last opcode stag to payload rest g.server first piece lt in
     let says = says_frame opened s f piece.behind in
     let after = after_is_lem opened s f (Ok segment) piece.behind reads in
-    let small : s.credit < 2 ^ 32 = omega (arith, g.credit, o.granted_fits) in
+    let small : credit_word s < 2 ^ 32 = omega (arith, word_most s, g.credit, o.granted_fits) in
     let pending = pending_tagged s f last opcode stag to payload (λ n c found. small_xid_lem opened k s u d all_up all_down w place n c l g found) reads in
     let effect = step_is s f (Ok segment) reads in
     let calls_are : call_xids (server_state_after opened s (FrameReceived f)).calls ≡ call_xids (frame_effect s f).calls = ap (λ (x : ServerState). call_xids x.calls) after ∙ ap (λ (e : FrameEffect). call_xids e.calls) (sym effect) in
@@ -232,7 +229,7 @@ takes_tagged opened k s u d all_up all_down w place last opcode stag to payload 
       kept = λ stays.
           subst (λ (said : List FrameContent). Guards opened k (server_state_after opened s (FrameReceived f)) (u ++ TaggedFrame last opcode stag to payload ∷ []) d all_up (all_down ++ said) (taken_up w rest said) f.end) (sym says)
           (guards_up opened k s (server_state_after opened s (FrameReceived f)) u d all_up all_down w place f.end (TaggedFrame last opcode stag to payload) rest (effect_frames (frame_effect s f)) g
-          (t.1 (not_refused_lem opened s f piece.behind stays)) (credit_down opened s.credit (effect_frames (frame_effect s f)) g.credit (step_down (matched_down opened) s.credit (frame_effect s f) (replies_tagged (matched_down opened) (down_limited opened).0 s f last opcode stag to payload (λ n c found. small_xid_lem opened k s u d all_up all_down w place n c l g found) small reads)))
+          (t.1 (not_refused_lem opened s f piece.behind stays)) (credit_down (matched_down opened) (credit_word s) opened.granted (omega (arith, word_most s, g.credit)) (effect_frames (frame_effect s f)) (step_down (matched_down opened) (credit_word s) (frame_effect s f) (replies_tagged (matched_down opened) (down_limited opened).0 s f last opcode stag to payload (λ n c found. small_xid_lem opened k s u d all_up all_down w place n c l g found) small reads)))
           (server_keeps_sizes opened k s (server_state_after opened s (FrameReceived f)) u (TaggedFrame last opcode stag to payload) received (ap (λ (x : ServerState). x.up_max) after) (ap (λ (x : ServerState). x.down_max) after) g.sizes) (ap (λ (x : ServerState). x.credit) after) (subst (λ (x : ServerState). AreWithin x.reads x.regions) (sym after) within) (subst (λ (x : ServerState). length x.regions ≤ x.received.sends) (sym after) sinks) numbers answered);
     }
 

@@ -16,7 +16,7 @@ use Rattle.nr_reduce.specs.declared.mark.Mark.TheVariants as marks
 use Rattle.nr_reduce.specs.declared.mark.LinkParameters.{LinkParameters}
 use Rattle.nr_reduce.specs.History.{bytes_received}
 use Rattle.nr_reduce.specs.Events.{RunEvent, events}
-use Rattle.nr_reduce.specs.Events.RunEvent.{FrameReceived, CallSubmitted, MemoryRevoked, CallExecuted, QueueWritten}
+use Rattle.nr_reduce.specs.Events.RunEvent.{FrameReceived, CallSubmitted, MemoryRevoked, CallExecuted, QueueWritten, ServerTold}
 use Rattle.nr_reduce.specs.EndRules.{EndState, next_end_state, next_end_state_by, next_end_state_in, end_state_after}
 use Rattle.nr_reduce.specs.OfferedRegions.{Region, until_at, closed_if, regions_closed}
 use Rattle.nr_reduce.specs.ClientState.{ClientState}
@@ -148,6 +148,7 @@ behind_all opened p place r (CallSubmitted q a ∷ es) le g = (tt, behind_all op
 behind_all opened p place r (MemoryRevoked q xid ∷ es) le g = (tt, behind_all opened p place (next_end_state (client_rules opened) r (MemoryRevoked q xid)) es le g.2)
 behind_all opened p place r (CallExecuted e ∷ es) le g = (tt, behind_all opened p place (next_end_state (client_rules opened) r (CallExecuted e)) es le g.2)
 behind_all opened p place r (QueueWritten taken ∷ es) le g = (tt, behind_all opened p place (next_end_state (client_rules opened) r (QueueWritten taken)) es le g.2)
+behind_all opened p place r (ServerTold what ∷ es) le g = (tt, behind_all opened p place (next_end_state (client_rules opened) r (ServerTold what)) es le g.2)
 
 -- an event that doesn't end a client goes to the state after it
 goes_to : (opened : LinkParameters) (r : EndState ClientState) (e : RunEvent) → (next_end_state (client_rules opened) r e).ended ≡ None → next_end_state (client_rules opened) r e ≡ record { state = client_state_after opened r.state e; ended = None }

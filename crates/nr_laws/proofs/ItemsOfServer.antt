@@ -18,9 +18,9 @@ use Rattle.nr_reduce.specs.History.{bytes_sent}
 use Rattle.nr_reduce.specs.Written.{ends_written, ends_waiting}
 use Rattle.nr_reduce.specs.OfferedRegions.{region_grants}
 use Rattle.nr_reduce.specs.Events.{RunEvent, events}
-use Rattle.nr_reduce.specs.Events.RunEvent.{FrameReceived, CallSubmitted, MemoryRevoked, CallExecuted, QueueWritten}
+use Rattle.nr_reduce.specs.Events.RunEvent.{FrameReceived, CallSubmitted, MemoryRevoked, CallExecuted, QueueWritten, ServerTold}
 use Rattle.nr_reduce.specs.EndRules.{EndState, live, next_end_state, next_end_state_by, end_state_after, output_for_by, output_for, output_for_in, output_for_all}
-use Rattle.nr_reduce.specs.ServerState.{ServerState, ReadyCall}
+use Rattle.nr_reduce.specs.ServerState.{ServerState, ReadyCall, credit_told}
 use Rattle.nr_reduce.specs.Server.{server_rules, server_end, server_output, server_state_after, initial_server, server_readiness, or_refusal}
 use Rattle.nr_reduce.specs.Run.{server, output_due}
 use Rattle.nr_reduce.specs.DueItems.{server_items_at, server_hello_at, due_for_by, due_for_in, due_for, due_for_all, items_due, hello_due}
@@ -101,6 +101,7 @@ hello_none opened place (CallSubmitted p a) next some = refl
 hello_none opened place (MemoryRevoked p xid) next some = refl
 hello_none opened place (CallExecuted e) next some = refl
 hello_none opened place (QueueWritten taken) next some = refl
+hello_none opened place (ServerTold what) next some = refl
 
 event_big : (opened : LinkParameters) (place : ℕ) (k : ServerState) (e : RunEvent) → IsNext place e → 0 < place → BigEnd (server_end opened k e)
 unfolding server_end
@@ -109,6 +110,7 @@ event_big opened place k (CallSubmitted p a) next some = tt
 event_big opened place k (MemoryRevoked p xid) next some = tt
 event_big opened place k (CallExecuted e) next some = tt
 event_big opened place k (QueueWritten taken) next some = tt
+event_big opened place k (ServerTold what) next some = tt
 
 place_some : (place : ℕ) (e : RunEvent) → IsNext place e → 0 < place → 0 < place_after place e
 place_some place (FrameReceived f) next some = omega (arith, next.1)
@@ -116,6 +118,7 @@ place_some place (CallSubmitted p a) next some = some
 place_some place (MemoryRevoked p xid) next some = some
 place_some place (CallExecuted e) next some = some
 place_some place (QueueWritten taken) next some = some
+place_some place (ServerTold what) next some = some
 
 behind_one : (opened : LinkParameters) (place : ℕ) (r : EndState ServerState) (e : RunEvent) → IsNext place e → 0 < place
     → (due_for (server_rules opened) (λ k event. server_hello_at opened event) (rejection Responder) r e ≡ [])
@@ -211,6 +214,7 @@ start_output opened k (CallSubmitted p a ∷ es) g none = start_output opened k 
 start_output opened k (MemoryRevoked p xid ∷ es) g none = start_output opened k es g.2 none
 start_output opened k (CallExecuted e ∷ es) g none = absurd (none_ready k g.1.call g.1.others none g.1.is_next)
 start_output opened k (QueueWritten taken ∷ es) g none = start_output opened (record k { written = k.written + taken }) es g.2 none
+start_output opened k (ServerTold what ∷ es) g none = start_output opened (record k { credit = credit_told what }) es g.2 none
 start_output opened k (FrameReceived f ∷ es) g none = frame_output opened k f es g.0.1 g.2
 
 frame_ends : (opened : LinkParameters) (k : ServerState) (f : Frame) (es : List RunEvent) → f.at ≡ 0 → 0 < f.end → GoesOn (server_rules opened) ServerPlain f.end (next_end_state (server_rules opened) (live k) (FrameReceived f)) es → k.due ≡ 0 → k.message_ends ≡ []
@@ -251,6 +255,7 @@ start_ends opened k (CallSubmitted p a ∷ es) g none zero empty stays = start_e
 start_ends opened k (MemoryRevoked p xid ∷ es) g none zero empty stays = start_ends opened k es g.2 none zero empty stays
 start_ends opened k (CallExecuted e ∷ es) g none zero empty stays = absurd (none_ready k g.1.call g.1.others none g.1.is_next)
 start_ends opened k (QueueWritten taken ∷ es) g none zero empty stays = start_ends opened (record k { written = k.written + taken }) es g.2 none zero empty stays
+start_ends opened k (ServerTold what ∷ es) g none zero empty stays = start_ends opened (record k { credit = credit_told what }) es g.2 none zero empty stays
 start_ends opened k (FrameReceived f ∷ es) g none zero empty stays = frame_ends opened k f es g.0.0 g.0.1 g.2 zero empty stays
 
 -- ---- The laws

@@ -41,6 +41,7 @@ use Rattle.nr_reduce.proofs.AnswerMessages.{answer_again}
 use Rattle.nr_reduce.proofs.Answering.{answered, suits_offer}
 use Rattle.nr_reduce.proofs.Calls.{executed_head}
 use Rattle.nr_reduce.proofs.OwnStags.{ClientNumbers, client_numbers}
+use Rattle.nr_reduce.specs.Served.{ServedSoFar}
 use Rattle.nr_laws.specs.MatchedSoFar.{MatchedSoFar}
 use Rattle.nr_laws.specs.Typed.{TypedMark, IsTyped}
 use Rattle.nr_laws.specs.Payloads.{HasPlan}
@@ -62,7 +63,9 @@ use Rattle.nr_laws.proofs.Replied.{same_body_lem}
 use Rattle.nr_laws.proofs.SubmittedPlans.{AnsweredCall, answered_submit}
 use Rattle.nr_laws.proofs.KeptOffers.{PendingOffer, pending_offer}
 use Rattle.nr_laws.proofs.ReplyMemory.{memory_conveys}
-use Rattle.nr_laws.proofs.ReadAnswers.{own_credit}
+use Rattle.nr_laws.proofs.ServerCredits.{credits_by}
+use Rattle.nr_laws.proofs.Guards.{word_most}
+use Rattle.nr_reduce.proofs.Steps.{AtEachMark_first}
 use Rattle.nr_laws.proofs.PendingRuns.{executes_pending}
 use Rattle.nr_laws.proofs.OwnExecutes.{IsOwnPayload, own_executes}
 use Rattle.nr_laws.proofs.JudgedMessages.{EndsFor}
@@ -129,7 +132,12 @@ answer_judges opened link run reason opens typed far d j s = record {
     word = x.fits
 
     credit : credit_word server < 4294967296
-    credit = (let c = own_credit opened s.earlier in let f = opens.granted_fits in omega (arith, c, f))
+    credit =
+        let served : ServedSoFar opened link m.earlier = AtEachMark_first _ [] m.earlier (execute_mark link e ∷ m.later) (subst (ServedSoFar opened link) m.is far.served) in
+        let c = (credits_by opened link m.earlier s.earlier m.before opens served).most in
+        let w = word_most server in
+        let f = opens.granted_fits in
+        omega (arith, c, w, f)
 
     bytes : IsBytes e.reply
     bytes = at_mark TypedMark run m.earlier (execute_mark link e) m.later m.is typed

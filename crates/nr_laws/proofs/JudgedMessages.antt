@@ -18,7 +18,7 @@ use Rattle.nr_reduce.specs.declared.mark.Mark.{Mark}
 use Rattle.nr_reduce.specs.declared.mark.LinkParameters.{LinkParameters}
 use Rattle.nr_reduce.specs.OfferedRegions.{region_grants}
 use Rattle.nr_reduce.specs.Events.{RunEvent, events}
-use Rattle.nr_reduce.specs.Events.RunEvent.{FrameReceived, CallSubmitted, MemoryRevoked, CallExecuted, QueueWritten}
+use Rattle.nr_reduce.specs.Events.RunEvent.{FrameReceived, CallSubmitted, MemoryRevoked, CallExecuted, QueueWritten, ServerTold}
 use Rattle.nr_reduce.specs.ClientState.{ClientState}
 use Rattle.nr_reduce.specs.ClientMessages.{ReplyVerdict, reply_verdict}
 use Rattle.nr_reduce.specs.ClientMessages.ReplyVerdict.{EndsLink, GivesOutcome}
@@ -99,6 +99,7 @@ NoFrame (CallSubmitted place a) = Unit {0}
 NoFrame (MemoryRevoked place xid) = Unit {0}
 NoFrame (CallExecuted call) = Unit {0}
 NoFrame (QueueWritten taken) = Unit {0}
+NoFrame (ServerTold what) = Unit {0}
 
 only_frames : (k : ClientState) (e : RunEvent) → NoFrame e → client_end k e ≡ None
 unfolding client_end
@@ -107,6 +108,7 @@ only_frames k (CallSubmitted place a) h = refl
 only_frames k (MemoryRevoked place xid) h = refl
 only_frames k (CallExecuted call) h = refl
 only_frames k (QueueWritten taken) h = refl
+only_frames k (ServerTold what) h = refl
 
 none_some_lem : {o : Option Stop} (end : Stop) → o ≡ None → o ≡ Some end → ⊥
 none_some_lem end none some = (let wrong : None ≡ Some end = sym none ∙ some in cc)
@@ -192,3 +194,4 @@ ends_for opened link run at reason typed far bad e = by a.event a.is a.ends
     by (MemoryRevoked place xid) is why = absurd (none_some_lem (ends.Bad at reason) (only_frames k (MemoryRevoked place xid) tt) why)
     by (CallExecuted call) is why = absurd (none_some_lem (ends.Bad at reason) (only_frames k (CallExecuted call) tt) why)
     by (QueueWritten taken) is why = absurd (none_some_lem (ends.Bad at reason) (only_frames k (QueueWritten taken) tt) why)
+    by (ServerTold what) is why = absurd (none_some_lem (ends.Bad at reason) (only_frames k (ServerTold what) tt) why)

@@ -12,7 +12,7 @@ use Rattle.nr_link.specs.Ending.{frame_segment}
 use Rattle.nr_reduce.specs.declared.mark.Mark.{Mark}
 use Rattle.nr_reduce.specs.declared.mark.LinkParameters.{LinkParameters}
 use Rattle.nr_reduce.specs.Events.{RunEvent, events}
-use Rattle.nr_reduce.specs.Events.RunEvent.{FrameReceived, CallSubmitted, MemoryRevoked, CallExecuted, QueueWritten}
+use Rattle.nr_reduce.specs.Events.RunEvent.{FrameReceived, CallSubmitted, MemoryRevoked, CallExecuted, QueueWritten, ServerTold}
 use Rattle.nr_reduce.specs.EndRules.{EndState, next_end_state, next_end_state_by, next_end_state_in, end_state_after}
 use Rattle.nr_reduce.specs.ServerState.{ServerState, PendingCall}
 use Rattle.nr_reduce.specs.ServerMessages.{verdict}
@@ -110,6 +110,12 @@ live_holds opened place s (CallExecuted e) next good stays h = record {
 }
 live_holds opened place s (QueueWritten taken) next good stays h = record {
   agree = pending_agree_same s (server_state_after opened s (QueueWritten taken)) h.agree refl refl refl (omega arith);
+  own = h.own;
+  begun = h.begun;
+  fit = h.fit;
+}
+live_holds opened place s (ServerTold what) next good stays h = record {
+  agree = pending_agree_same s (server_state_after opened s (ServerTold what)) h.agree refl refl refl (omega arith);
   own = h.own;
   begun = h.begun;
   fit = h.fit;

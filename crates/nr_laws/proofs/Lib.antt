@@ -125,6 +125,7 @@ pub mod OfferedLists
 pub mod KeptOffers
 pub mod RegionLengths
 pub mod ReplyMemory
+pub mod ServerCredits
 pub mod ReadAnswers
 pub mod HandedOver
 pub mod ConveyedReplies

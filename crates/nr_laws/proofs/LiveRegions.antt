@@ -8,11 +8,11 @@ use Rattle.nr_link.specs.Frames.{is_hello}
 use Rattle.nr_reduce.specs.declared.mark.Mark.{Mark}
 use Rattle.nr_reduce.specs.declared.mark.LinkParameters.{LinkParameters}
 use Rattle.nr_reduce.specs.Events.{RunEvent, events}
-use Rattle.nr_reduce.specs.Events.RunEvent.{FrameReceived, CallSubmitted, MemoryRevoked, CallExecuted, QueueWritten}
+use Rattle.nr_reduce.specs.Events.RunEvent.{FrameReceived, CallSubmitted, MemoryRevoked, CallExecuted, QueueWritten, ServerTold}
 use Rattle.nr_reduce.specs.EndRules.{EndState, next_end_state, end_state_after}
 use Rattle.nr_reduce.specs.History.{ExecutedCall}
 use Rattle.nr_reduce.specs.OfferedRegions.{Region, until_at, closed_if, regions_closed}
-use Rattle.nr_reduce.specs.ServerState.{ServerState, PendingCall, PendingRead, ReadyCall}
+use Rattle.nr_reduce.specs.ServerState.{ServerState, PendingCall, PendingRead, ReadyCall, credit_told}
 use Rattle.nr_reduce.specs.ServerReads.{is_read, is_read_at, is_over}
 use Rattle.nr_reduce.specs.ServerFrames.{frame_effect}
 use Rattle.nr_reduce.specs.Server.{server_rules, server_state_after, initial_server, with_effect, with_own_hello}
@@ -197,6 +197,7 @@ live_event opened s (MemoryRevoked place xid) agree good h = h
 live_event opened s (CallExecuted e) agree good h =
     each_all (IsLive s.state) (IsLive (server_state_after opened s.state (CallExecuted e))) s.state.regions (λ r live none. executed_left opened s.state e good.call good.others agree good.is_next good.xid r (live none)) h
 live_event opened s (QueueWritten taken) agree good h = each_all (IsLive s.state) (IsLive (server_state_after opened s.state (QueueWritten taken))) s.state.regions (λ r live none. left_of_same s.state (record s.state { written = s.state.written + taken }) r refl refl (live none)) h
+live_event opened s (ServerTold what) agree good h = each_all (IsLive s.state) (IsLive (server_state_after opened s.state (ServerTold what))) s.state.regions (λ r live none. left_of_same s.state (record s.state { credit = credit_told what }) r refl refl (live none)) h
 
 -- ---- A run
 

@@ -7,7 +7,7 @@ use Rattle.nr_link.specs.Frames.{is_hello, Frame}
 use Rattle.nr_reduce.specs.declared.mark.Mark.{Mark}
 use Rattle.nr_reduce.specs.declared.mark.LinkParameters.{LinkParameters}
 use Rattle.nr_reduce.specs.Events.{RunEvent, events}
-use Rattle.nr_reduce.specs.Events.RunEvent.{FrameReceived, CallSubmitted, MemoryRevoked, CallExecuted, QueueWritten}
+use Rattle.nr_reduce.specs.Events.RunEvent.{FrameReceived, CallSubmitted, MemoryRevoked, CallExecuted, QueueWritten, ServerTold}
 use Rattle.nr_reduce.specs.EndRules.{EndMachine, EndState, next_end_state}
 use Rattle.nr_wire.specs.declared.hello.Side.TheVariants.{Responder}
 use Rattle.nr_laws.specs.Typed.{IsTyped}
@@ -26,6 +26,7 @@ HearsHello bytes (CallSubmitted p a) = Unit {0}
 HearsHello bytes (MemoryRevoked p xid) = Unit {0}
 HearsHello bytes (CallExecuted e) = Unit {0}
 HearsHello bytes (QueueWritten taken) = Unit {0}
+HearsHello bytes (ServerTold what) = Unit {0}
 
 abbrev pub HearHello : List ℕ → List RunEvent → Type 0
 HearHello bytes [] = Unit {0}
@@ -56,6 +57,7 @@ later_hear bytes (CallSubmitted p a ∷ es) came b from = (tt, later_hear bytes 
 later_hear bytes (MemoryRevoked p xid ∷ es) came b from = (tt, later_hear bytes es came b from)
 later_hear bytes (CallExecuted e ∷ es) came b from = (tt, later_hear bytes es came b from)
 later_hear bytes (QueueWritten taken ∷ es) came b from = (tt, later_hear bytes es came b from)
+later_hear bytes (ServerTold what ∷ es) came b from = (tt, later_hear bytes es came b from)
 
 pub brought_hello : (side : Side) (bytes : List ℕ) (es : List RunEvent) (came : List Output) → Brings es came → AreFrom (HelloFrom side) came → FirstIs bytes came → HearHello bytes es
 brought_hello side bytes [] came b from first = tt
@@ -66,6 +68,7 @@ brought_hello side bytes (CallSubmitted p a ∷ es) came b from first = (tt, bro
 brought_hello side bytes (MemoryRevoked p xid ∷ es) came b from first = (tt, brought_hello side bytes es came b from first)
 brought_hello side bytes (CallExecuted e ∷ es) came b from first = (tt, brought_hello side bytes es came b from first)
 brought_hello side bytes (QueueWritten taken ∷ es) came b from first = (tt, brought_hello side bytes es came b from first)
+brought_hello side bytes (ServerTold what ∷ es) came b from first = (tt, brought_hello side bytes es came b from first)
 
 -- ---- At one frame, and along the events
 

@@ -9,7 +9,7 @@ use Rattle.nr_link.specs.Ending.{frame_segment, frame_end, hello_end}
 use Rattle.nr_reduce.specs.declared.mark.Mark.{Mark}
 use Rattle.nr_reduce.specs.declared.mark.LinkParameters.{LinkParameters}
 use Rattle.nr_reduce.specs.Events.{RunEvent, events}
-use Rattle.nr_reduce.specs.Events.RunEvent.{FrameReceived, CallSubmitted, MemoryRevoked, CallExecuted, QueueWritten}
+use Rattle.nr_reduce.specs.Events.RunEvent.{FrameReceived, CallSubmitted, MemoryRevoked, CallExecuted, QueueWritten, ServerTold}
 use Rattle.nr_reduce.specs.EndRules.{EndMachine, EndState, next_end_state_by, next_end_state_in}
 use Rattle.nr_reduce.specs.OfferedRegions.{region_grants}
 use Rattle.nr_reduce.specs.ClientState.{ClientState}
@@ -116,12 +116,15 @@ server_step opened place k None outs (CallExecuted e) next good h =
     server_later opened place place (record { state = k; ended = None }) (record { state = server_state_after opened k (CallExecuted e); ended = None }) outs (server_says opened k (CallExecuted e)) some some refl refl h
 server_step opened place k None outs (QueueWritten taken) next good h =
     server_quiet opened place (record { state = k; ended = None }) (record { state = server_state_after opened k (QueueWritten taken); ended = None }) outs refl refl refl refl h
+server_step opened place k None outs (ServerTold what) next good h =
+    server_quiet opened place (record { state = k; ended = None }) (record { state = server_state_after opened k (ServerTold what); ended = None }) outs refl refl refl refl h
 server_step opened place k (Some end) outs (FrameReceived f) next good h =
     server_later opened place f.end (record { state = k; ended = Some end }) (record { state = k; ended = Some end }) outs [] (ended_place opened place k end outs h) (let l = next.1 in omega (arith, l)) refl refl h
 server_step opened place k (Some end) outs (CallSubmitted p a) next good h = server_quiet opened place (record { state = k; ended = Some end }) (record { state = k; ended = Some end }) outs refl refl refl refl h
 server_step opened place k (Some end) outs (MemoryRevoked p xid) next good h = server_quiet opened place (record { state = k; ended = Some end }) (record { state = k; ended = Some end }) outs refl refl refl refl h
 server_step opened place k (Some end) outs (CallExecuted e) next good h = server_quiet opened place (record { state = k; ended = Some end }) (record { state = k; ended = Some end }) outs refl refl refl refl h
 server_step opened place k (Some end) outs (QueueWritten taken) next good h = server_quiet opened place (record { state = k; ended = Some end }) (record { state = k; ended = Some end }) outs refl refl refl refl h
+server_step opened place k (Some end) outs (ServerTold what) next good h = server_quiet opened place (record { state = k; ended = Some end }) (record { state = k; ended = Some end }) outs refl refl refl refl h
 
 server_matched : (opened : LinkParameters) (link : ℕ) (run : List Mark) → IsTyped run → MatchedSoFar opened link run
     → ServerMatched opened (places_after 0 (events link Responder run)) (server opened link run) (outs_of opened (events link Responder run))
@@ -202,12 +205,14 @@ client_step opened place k None (CallSubmitted p a) next good h = client_quiet o
 client_step opened place k None (MemoryRevoked p xid) next good h = client_quiet opened place (record { state = k; ended = None }) (record { state = client_state_after opened k (MemoryRevoked p xid); ended = None }) refl refl refl h
 client_step opened place k None (CallExecuted e) next good h = h
 client_step opened place k None (QueueWritten taken) next good h = client_quiet opened place (record { state = k; ended = None }) (record { state = client_state_after opened k (QueueWritten taken); ended = None }) refl refl refl h
+client_step opened place k None (ServerTold what) next good h = client_quiet opened place (record { state = k; ended = None }) (record { state = client_state_after opened k (ServerTold what); ended = None }) refl refl refl h
 client_step opened place k (Some end) (FrameReceived f) next good h =
     client_later opened place f.end (record { state = k; ended = Some end }) (record { state = k; ended = Some end }) (some_place place (λ e. (let wrong : Some end ≡ None = h.first e in cc))) (let l = next.1 in omega (arith, l)) refl refl h
 client_step opened place k (Some end) (CallSubmitted p a) next good h = h
 client_step opened place k (Some end) (MemoryRevoked p xid) next good h = h
 client_step opened place k (Some end) (CallExecuted e) next good h = h
 client_step opened place k (Some end) (QueueWritten taken) next good h = h
+client_step opened place k (Some end) (ServerTold what) next good h = h
 
 client_matched : (opened : LinkParameters) (link : ℕ) (run : List Mark) → IsTyped run → MatchedSoFar opened link run → ClientMatched opened (places_after 0 (events link Initiator run)) (client opened link run)
 unfolding client
@@ -245,6 +250,7 @@ places_grow rules Good place r (e ∷ es) g =
     grows (MemoryRevoked p xid) next = omega arith
     grows (CallExecuted e) next = omega arith
     grows (QueueWritten taken) next = omega arith
+    grows (ServerTold what) next = omega arith
 
 -- the place after some events with a frame among them
 place_some : {S : Type 0} (rules : EndMachine S) (Good : EndState S → RunEvent → Type 0) (place : ℕ) (r : EndState S) (before : List RunEvent) (f : Frame) (after : List RunEvent) → GoesOn rules Good place r (before ++ FrameReceived f ∷ after)

@@ -12,7 +12,7 @@ use Rattle.nr_link.specs.declared.end.End.{End as Stop}
 use Rattle.nr_link.specs.Frames.{Frame, is_hello}
 use Rattle.nr_link.specs.Ending.{frame_segment, tagged_access}
 use Rattle.nr_reduce.specs.Events.{RunEvent}
-use Rattle.nr_reduce.specs.Events.RunEvent.{FrameReceived, CallSubmitted, MemoryRevoked, CallExecuted, QueueWritten}
+use Rattle.nr_reduce.specs.Events.RunEvent.{FrameReceived, CallSubmitted, MemoryRevoked, CallExecuted, QueueWritten, ServerTold}
 use Rattle.nr_reduce.specs.EndRules.{EndMachine, EndState, next_end_state, next_end_state_by, next_end_state_in, end_state_after}
 use Rattle.nr_reduce.specs.OfferedRegions.{Region, until_or, region_grant, region_grants, closed_if, regions_closed, region_bytes, region_bytes_by}
 use Rattle.nr_reduce.specs.Server.{tagged_accesses}
@@ -79,6 +79,7 @@ accesses_event a (CallSubmitted p c) = a
 accesses_event a (MemoryRevoked p xid) = a
 accesses_event a (CallExecuted e) = a
 accesses_event a (QueueWritten taken) = a
+accesses_event a (ServerTold what) = a
 
 abbrev pub Gathering : {S : Type 0} → EndMachine S → (S → List TaggedSegment) → Type 0
 Gathering rules accesses = (s : _) (e : RunEvent) → accesses (rules.state_after s e) ≡ accesses_event (accesses s) e
@@ -126,6 +127,9 @@ gathers rules accesses goes r (CallExecuted e ∷ es) outs b live =
 gathers rules accesses goes r (QueueWritten taken ∷ es) outs b live =
     let t = next_end_state rules r (QueueWritten taken) in
     gathers rules accesses goes t es outs b live ∙ ap (λ (a : List TaggedSegment). parts_of a ++ parts_out outs) (one_gather rules accesses goes r (QueueWritten taken) (was_live_lem rules t es live))
+gathers rules accesses goes r (ServerTold what ∷ es) outs b live =
+    let t = next_end_state rules r (ServerTold what) in
+    gathers rules accesses goes t es outs b live ∙ ap (λ (a : List TaggedSegment). parts_of a ++ parts_out outs) (one_gather rules accesses goes r (ServerTold what) (was_live_lem rules t es live))
 
 -- ---- Accesses that are allowed
 

@@ -47,6 +47,7 @@ one_side link before (marks.Lost l xid) = inl refl
 one_side link before (marks.Forget l xid) = inl refl
 one_side link before (marks.Revoke l xid bytes) = inr (other_events (eqb l link) _)
 one_side link before (marks.Drop l) = inl refl
+one_side link before (marks.Told l what) = inl (other_events (eqb l link) _)
 
 client_same : (opened : LinkParameters) (link : ℕ) (before : List Mark) (mark : Mark) → events_at link Initiator before mark ≡ [] → (client opened link (before ++ mark ∷ [])).ended ≡ (client opened link before).ended
 client_same opened link before mark none =

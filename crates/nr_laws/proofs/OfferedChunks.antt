@@ -8,7 +8,7 @@ use Rattle.nr_link.specs.Ending.{frame_segment}
 use Rattle.nr_reduce.specs.declared.mark.LinkParameters.{LinkParameters}
 use Rattle.nr_reduce.specs.Plans.{Buffer, buffers}
 use Rattle.nr_reduce.specs.Events.{RunEvent, events}
-use Rattle.nr_reduce.specs.Events.RunEvent.{FrameReceived, CallSubmitted, MemoryRevoked, CallExecuted, QueueWritten}
+use Rattle.nr_reduce.specs.Events.RunEvent.{FrameReceived, CallSubmitted, MemoryRevoked, CallExecuted, QueueWritten, ServerTold}
 use Rattle.nr_reduce.specs.EndRules.{EndState, next_end_state, next_end_state_by, next_end_state_in, end_state_after}
 use Rattle.nr_reduce.specs.OfferedRegions.{Region, closed_if, regions_closed}
 use Rattle.nr_reduce.specs.ClientState.{ClientState}
@@ -106,6 +106,7 @@ one_event opened es e h = by_ended (state_at opened es).ended
     by_event (MemoryRevoked place xid) is = all_closed_lem P (chunk_closed opened (es ++ e ∷ [])) _ place k.regions same
     by_event (CallExecuted call) is = same
     by_event (QueueWritten taken) is = same
+    by_event (ServerTold what) is = same
 
     by_why : (o : Option Stop) → AllOf P (next_end_state_by (client_rules opened) k e o).state.regions
     by_why None = by_event e refl
@@ -213,6 +214,7 @@ lives_after opened k (CallSubmitted place a) h =
 lives_after opened k (MemoryRevoked place xid) h = lives_closed k.outstanding (map (revoked_call xid) k.outstanding) xid place (λ x other g. has_revoked xid x k.outstanding other g) k.regions h
 lives_after opened k (CallExecuted call) h = h
 lives_after opened k (QueueWritten taken) h = h
+lives_after opened k (ServerTold what) h = h
 
 of_outstanding : (xid : ℕ) (os : List OutstandingCall) → HasCall xid os → (o : OutstandingCall) × (Contains os o × ((o.xid ≡ xid) × (o.is_revoked ≡ false)))
 of_outstanding xid [] h = absurd h

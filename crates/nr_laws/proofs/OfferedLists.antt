@@ -19,7 +19,7 @@ use Rattle.nr_reduce.specs.declared.mark.Mark.{Mark}
 use Rattle.nr_reduce.specs.declared.mark.LinkParameters.{LinkParameters}
 use Rattle.nr_reduce.specs.Matched.{Matched}
 use Rattle.nr_reduce.specs.Events.{RunEvent, events}
-use Rattle.nr_reduce.specs.Events.RunEvent.{FrameReceived, CallSubmitted, MemoryRevoked, CallExecuted, QueueWritten}
+use Rattle.nr_reduce.specs.Events.RunEvent.{FrameReceived, CallSubmitted, MemoryRevoked, CallExecuted, QueueWritten, ServerTold}
 use Rattle.nr_reduce.specs.EndRules.{EndState, end_state_after, next_end_state}
 use Rattle.nr_reduce.specs.ChunkBytes.{IsOffer, lists_by}
 use Rattle.nr_reduce.specs.Asked.{AskedSoFar}
@@ -79,6 +79,7 @@ begun_event h place (CallSubmitted p a) next b = b
 begun_event h place (MemoryRevoked p xid) next b = b
 begun_event h place (CallExecuted e) next b = b
 begun_event h place (QueueWritten taken) next b = b
+begun_event h place (ServerTold what) next b = b
 
 -- so are those of a Send that has begun
 begun_along : (opened : LinkParameters) (place : ℕ) (r : EndState ServerState) (es rest : List RunEvent) → GoesOn (server_rules opened) ServerPlain place r (es ++ rest) → (end_state_after (server_rules opened) r es).ended ≡ None

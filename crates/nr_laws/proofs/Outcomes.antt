@@ -14,7 +14,7 @@ use Rattle.nr_reduce.specs.declared.mark.LinkParameters.{LinkParameters}
 use Rattle.nr_reduce.specs.History.{CompletedCall}
 use Rattle.nr_reduce.specs.Matched.{Matched}
 use Rattle.nr_reduce.specs.Events.{RunEvent, events}
-use Rattle.nr_reduce.specs.Events.RunEvent.{FrameReceived, CallSubmitted, MemoryRevoked, CallExecuted, QueueWritten}
+use Rattle.nr_reduce.specs.Events.RunEvent.{FrameReceived, CallSubmitted, MemoryRevoked, CallExecuted, QueueWritten, ServerTold}
 use Rattle.nr_reduce.specs.EndRules.{EndState, next_end_state_by, next_end_state_in, end_state_after}
 use Rattle.nr_reduce.specs.ClientState.{ClientState}
 use Rattle.nr_reduce.specs.ClientMessages.{ReplyVerdict, reply_verdict}
@@ -108,6 +108,7 @@ after_each opened es (CallSubmitted p a) h live stays = each_all (WasGiven opene
 after_each opened es (MemoryRevoked p xid) h live stays = each_all (WasGiven opened es) (WasGiven opened (es ++ MemoryRevoked p xid ∷ [])) (client_by opened es).state.outcomes (given_later opened es (MemoryRevoked p xid)) h
 after_each opened es (CallExecuted e) h live stays = each_all (WasGiven opened es) (WasGiven opened (es ++ CallExecuted e ∷ [])) (client_by opened es).state.outcomes (given_later opened es (CallExecuted e)) h
 after_each opened es (QueueWritten taken) h live stays = each_all (WasGiven opened es) (WasGiven opened (es ++ QueueWritten taken ∷ [])) (client_by opened es).state.outcomes (given_later opened es (QueueWritten taken)) h
+after_each opened es (ServerTold what) h live stays = each_all (WasGiven opened es) (WasGiven opened (es ++ ServerTold what ∷ [])) (client_by opened es).state.outcomes (given_later opened es (ServerTold what)) h
 
 next_each : (opened : LinkParameters) (es : List RunEvent) (e : RunEvent) → AllByRecursion (WasGiven opened es) (client_by opened es).state.outcomes → AllByRecursion (WasGiven opened (es ++ e ∷ [])) (client_by opened (es ++ e ∷ [])).state.outcomes
 next_each opened es e h =

@@ -20,7 +20,7 @@ use Rattle.nr_reduce.specs.Hellos.{server_hello}
 use Rattle.nr_reduce.specs.declared.mark.LinkParameters.{LinkParameters}
 use Rattle.nr_reduce.specs.History.{ExecutedCall}
 use Rattle.nr_reduce.specs.Events.{RunEvent}
-use Rattle.nr_reduce.specs.Events.RunEvent.{FrameReceived, CallSubmitted, MemoryRevoked, CallExecuted, QueueWritten}
+use Rattle.nr_reduce.specs.Events.RunEvent.{FrameReceived, CallSubmitted, MemoryRevoked, CallExecuted, QueueWritten, ServerTold}
 use Rattle.nr_header.specs.declared.header.ChunkLists.{ChunkLists}
 use Rattle.nr_rpc.specs.Reading.{call_of, target_of}
 use Rattle.nr_reduce.specs.Plans.{call_message}
@@ -193,6 +193,7 @@ client_says opened k (CallSubmitted place a) = cond k.has_hello (message_outputs
 client_says opened k (MemoryRevoked place xid) = []
 client_says opened k (CallExecuted call) = []
 client_says opened k (QueueWritten taken) = []
+client_says opened k (ServerTold what) = []
 
 pub client_said : (opened : LinkParameters) (k : ClientState) (event : RunEvent) → client_output opened k event ≡ bytes_of_all (client_says opened k event)
 unfolding client_output client_says
@@ -213,6 +214,7 @@ client_said opened k (CallSubmitted place a) = by k.has_hello
 client_said opened k (MemoryRevoked place xid) = refl
 client_said opened k (CallExecuted call) = refl
 client_said opened k (QueueWritten taken) = refl
+client_said opened k (ServerTold what) = refl
 
 abbrev pub effect_outputs : ServerState → FrameEffect → List Output
 effect_outputs k s = message_sends (k.messages_queued + 1) s.errors ++ request_outputs (k.requests_sent + 1) (newly_open_reads s)
@@ -230,6 +232,7 @@ server_says opened k (CallSubmitted place a) = []
 server_says opened k (MemoryRevoked place xid) = []
 server_says opened k (CallExecuted e) = answer_outputs k e.xid (offer_of k e.xid) (answer_of_call k e)
 server_says opened k (QueueWritten taken) = []
+server_says opened k (ServerTold what) = []
 
 abbrev pub AnswerShort : ServerState → ℕ → ChunkLists → Option Answer → Type 0
 AnswerShort k xid offer None = IsShort (chunk_error xid (credit_word k))
@@ -257,3 +260,4 @@ server_said opened k (CallSubmitted place a) = refl
 server_said opened k (MemoryRevoked place xid) = refl
 server_said opened k (CallExecuted e) = answer_said k e.xid (offer_of k e.xid) (answer_of_call k e)
 server_said opened k (QueueWritten taken) = refl
+server_said opened k (ServerTold what) = refl

@@ -1,4 +1,5 @@
--- What holds between both ends of a link is kept when a call is submitted or executed, memory is revoked, and a queue is written.
+-- What holds between both ends of a link is kept when a call is submitted or executed, memory is revoked, a queue is written, and the server
+-- is told something.
 use Rattle.std.proofs.Common.{◌≡◌, ℕ, ◌+◌, ◌<◌, Bool, true, false, cond, not, eqb, List, [], ◌∷◌, ◌++◌, length, map, Result, Ok, refl, sym, ap, subst, ◌∙◌, arith, append_assoc, append-nil}
 use Rattle.std.specs.List.{list_any}
 use Rattle.std.proofs.lemmas.List.{length-map}
@@ -6,11 +7,12 @@ use Rattle.nr_wire.specs.declared.hello.Side.TheVariants.{Initiator, Responder}
 use Rattle.nr_rpc.specs.Reading.{call_of, target_of}
 use Rattle.nr_link.specs.ReceiveState.{ReceiveState}
 use Rattle.nr_reduce.proofs.OwnLimits.{ClientLimits, ServerLimits}
+use Rattle.nr_reduce.specs.declared.mark.Told.{Told}
 use Rattle.nr_reduce.specs.declared.mark.LinkParameters.{LinkParameters}
 use Rattle.nr_reduce.specs.declared.outline.Plan.{Plan}
 use Rattle.nr_reduce.specs.Plans.{TooLarge, call_message}
 use Rattle.nr_reduce.specs.History.{AcceptedCall, ExecutedCall}
-use Rattle.nr_reduce.specs.Events.RunEvent.{CallSubmitted, MemoryRevoked, CallExecuted, QueueWritten}
+use Rattle.nr_reduce.specs.Events.RunEvent.{CallSubmitted, MemoryRevoked, CallExecuted, QueueWritten, ServerTold}
 use Rattle.nr_reduce.specs.ClientState.{ClientState, OutstandingCall, plan_for}
 use Rattle.nr_reduce.specs.ServerState.{ServerState, PendingCall, ReadyCall}
 use Rattle.nr_reduce.specs.Client.{client_state_after, client_output, call_output, outstanding_of, plan_or, revoked_call}
@@ -22,6 +24,7 @@ use Rattle.nr_laws.proofs.LinkInvariants.{Transit, TotalsAgree, AreDistinct, IsU
 use Rattle.nr_laws.proofs.Totals.{total_append}
 use Rattle.nr_laws.proofs.TotalsAtClient.{totals_accepts, totals_writes_up, up_more}
 use Rattle.nr_laws.proofs.TotalsAtServer.{totals_executes, totals_writes_down, answer_counts}
+use Rattle.nr_laws.proofs.EventsAtServer.{totals_told, pending_told}
 use Rattle.nr_laws.proofs.PendingExecuted.{pending_agree_executes, executed_there}
 use Rattle.nr_laws.proofs.OwnXids.{OwnXids, own_xids_accepts, own_xids_writes}
 use Rattle.nr_laws.proofs.Writable.{AreWritable, stream_more}
@@ -242,6 +245,31 @@ written_down opened k s u d all_up all_down w taken all ends l = record {
   parts_down = ap (λ (ps : List FrameContent). d ++ ps) (append-nil (w.down ++ w.queued_down)) ∙ l.parts_down;
   counts = totals_writes_down opened k s w taken all ends l.counts;
   waits = record { numbers = l.waits.numbers; xids = l.waits.xids; calls_below = l.waits.calls_below; reads_below = l.waits.reads_below; ready_apart = l.waits.ready_apart; ready_calls = l.waits.ready_calls; whole_calls = l.waits.whole_calls };
+  outs = l.outs;
+  fits = l.fits;
+  short = l.short;
+  stream_up = l.stream_up;
+  begins_up = l.begins_up;
+  stream_down = l.stream_down;
+  hellos_down = l.hellos_down;
+  no_reads = l.no_reads;
+  sends_up = l.sends_up;
+  requests_up = l.requests_up;
+  sends_down = l.sends_down;
+  requests_down = l.requests_down;
+  requests_sent = l.requests_sent;
+  bytes_up = l.bytes_up;
+}
+
+-- what it is told changes nothing in what both ends agree on
+pub told_linked : (opened : LinkParameters) (k : ClientState) (s : ServerState) (u d all_up all_down : List FrameContent) (w : Transit) (what : Told) → EndsAgree opened k s u d all_up all_down w
+    → EndsAgree opened k (server_state_after opened s (ServerTold what)) u d all_up all_down w
+unfolding server_state_after
+told_linked opened k s u d all_up all_down w what l = record {
+  parts_up = l.parts_up;
+  parts_down = l.parts_down;
+  counts = totals_told opened k s w what l.counts;
+  waits = pending_told opened s what l.waits;
   outs = l.outs;
   fits = l.fits;
   short = l.short;

@@ -26,6 +26,7 @@ placed_mark plain J link run before (marks.Lost l xid) after journaled is plain_
 placed_mark plain J link run before (marks.Forget l xid) after journaled is plain_replies = tt
 placed_mark plain J link run before (marks.Revoke l xid bytes) after journaled is plain_replies = tt
 placed_mark plain J link run before (marks.Drop l) after journaled is plain_replies = tt
+placed_mark plain J link run before (marks.Told l what) after journaled is plain_replies = tt
 
 pub at_places_on : (plain : PlainServer) (J : List Entry) (link : ℕ) (run : List Mark) → Journaled plain J run → AnsweredByPlainServerOn plain link run → AtPlacesOn plain J link run
 at_places_on plain J link run journaled plain_replies =
@@ -41,6 +42,7 @@ reply_at_place plain J link before (marks.Lost l xid) placed = tt
 reply_at_place plain J link before (marks.Forget l xid) placed = tt
 reply_at_place plain J link before (marks.Revoke l xid bytes) placed = tt
 reply_at_place plain J link before (marks.Drop l) placed = tt
+reply_at_place plain J link before (marks.Told l what) placed = tt
 
 reply_by_journal : (plain : PlainServer) (link : ℕ) (before : List Mark) (mark : Mark) → PlainOnMark plain link before mark → PlainReplyMark plain link before mark
 reply_by_journal plain link before (marks.Submit l call form answer) plain_replies = tt
@@ -52,6 +54,7 @@ reply_by_journal plain link before (marks.Lost l xid) plain_replies = tt
 reply_by_journal plain link before (marks.Forget l xid) plain_replies = tt
 reply_by_journal plain link before (marks.Revoke l xid bytes) plain_replies = tt
 reply_by_journal plain link before (marks.Drop l) plain_replies = tt
+reply_by_journal plain link before (marks.Told l what) plain_replies = tt
 
 pub journaled_links_are_at_places : JournaledLinksAreAtPlaces
 journaled_links_are_at_places reply_to adds = at_places_on (server_with reply_to adds)

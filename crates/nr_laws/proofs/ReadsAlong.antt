@@ -16,7 +16,7 @@ use Rattle.nr_wire.specs.declared.hello.Side.TheVariants.{Initiator}
 use Rattle.nr_reduce.specs.declared.mark.LinkParameters.{LinkParameters}
 use Rattle.nr_reduce.specs.OfferedRegions.{Region, region_grants, regions_closed}
 use Rattle.nr_reduce.specs.Events.{RunEvent}
-use Rattle.nr_reduce.specs.Events.RunEvent.{FrameReceived, CallSubmitted, MemoryRevoked, CallExecuted, QueueWritten}
+use Rattle.nr_reduce.specs.Events.RunEvent.{FrameReceived, CallSubmitted, MemoryRevoked, CallExecuted, QueueWritten, ServerTold}
 use Rattle.nr_reduce.specs.ServerState.{ServerState, PendingCall, PendingRead, credit_word}
 use Rattle.nr_reduce.specs.ServerReads.{expected_read_response, reads_of, regions_of, is_over}
 use Rattle.nr_reduce.specs.ServerMessages.{Verdict, verdict}
@@ -104,6 +104,7 @@ lasts_in (CallSubmitted p a ∷ es) = lasts_in es
 lasts_in (MemoryRevoked p xid ∷ es) = lasts_in es
 lasts_in (CallExecuted e ∷ es) = lasts_in es
 lasts_in (QueueWritten taken ∷ es) = lasts_in es
+lasts_in (ServerTold what ∷ es) = lasts_in es
 
 lasts_append : (es more : List RunEvent) → lasts_in (es ++ more) ≡ lasts_in es + lasts_in more
 lasts_append [] more = omega arith
@@ -112,6 +113,7 @@ lasts_append (CallSubmitted p a ∷ es) more = lasts_append es more
 lasts_append (MemoryRevoked p xid ∷ es) more = lasts_append es more
 lasts_append (CallExecuted e ∷ es) more = lasts_append es more
 lasts_append (QueueWritten taken ∷ es) more = lasts_append es more
+lasts_append (ServerTold what ∷ es) more = lasts_append es more
 
 -- ---- What is kept
 

@@ -11,7 +11,7 @@ use Rattle.nr_link.specs.Ending.{frame_segment}
 use Rattle.nr_reduce.specs.declared.mark.Mark.{Mark}
 use Rattle.nr_reduce.specs.declared.mark.LinkParameters.{LinkParameters}
 use Rattle.nr_reduce.specs.Events.{RunEvent, events}
-use Rattle.nr_reduce.specs.Events.RunEvent.{FrameReceived, CallSubmitted, MemoryRevoked, CallExecuted, QueueWritten}
+use Rattle.nr_reduce.specs.Events.RunEvent.{FrameReceived, CallSubmitted, MemoryRevoked, CallExecuted, QueueWritten, ServerTold}
 use Rattle.nr_reduce.specs.EndRules.{EndState, next_end_state_by, next_end_state_in, end_state_after}
 use Rattle.nr_reduce.specs.ServerState.{ServerState, PendingCall, PendingRead, ReadyCall}
 use Rattle.nr_reduce.specs.ServerReads.{is_read, reads_of, regions_of}
@@ -158,6 +158,7 @@ after_each opened es (CallSubmitted p a) h = each_later opened es (CallSubmitted
 after_each opened es (MemoryRevoked p xid) h = each_later opened es (MemoryRevoked p xid) (server_by opened es).ready h
 after_each opened es (CallExecuted e) h = each_drop (ReadyAt opened (es ++ CallExecuted e ∷ [])) (server_by opened es).ready (each_later opened es (CallExecuted e) (server_by opened es).ready h)
 after_each opened es (QueueWritten taken) h = each_later opened es (QueueWritten taken) (server_by opened es).ready h
+after_each opened es (ServerTold what) h = each_later opened es (ServerTold what) (server_by opened es).ready h
 
 next_each : (opened : LinkParameters) (es : List RunEvent) (e : RunEvent) → Each (ReadyAt opened es) (server_by opened es).ready → Each (ReadyAt opened (es ++ e ∷ [])) (server_by opened (es ++ e ∷ [])).ready
 next_each opened es e h =

@@ -8,7 +8,7 @@ use Rattle.nr_link.specs.ReceiveState.{ReceiveState, received_after, message_com
 use Rattle.nr_link.specs.Ending.{frame_segment}
 use Rattle.nr_reduce.specs.declared.mark.LinkParameters.{LinkParameters}
 use Rattle.nr_reduce.specs.Events.{RunEvent}
-use Rattle.nr_reduce.specs.Events.RunEvent.{FrameReceived, CallSubmitted, MemoryRevoked, CallExecuted, QueueWritten}
+use Rattle.nr_reduce.specs.Events.RunEvent.{FrameReceived, CallSubmitted, MemoryRevoked, CallExecuted, QueueWritten, ServerTold}
 use Rattle.nr_reduce.specs.EndRules.{EndMachine, EndState, next_end_state, next_end_state_by, next_end_state_in, end_state_after}
 use Rattle.nr_reduce.specs.ClientState.{ClientState}
 use Rattle.nr_reduce.specs.Client.{client_rules, client_state_after, with_segment, with_hello}
@@ -40,6 +40,7 @@ received_event h (CallSubmitted p a) = h
 received_event h (MemoryRevoked p xid) = h
 received_event h (CallExecuted e) = h
 received_event h (QueueWritten taken) = h
+received_event h (ServerTold what) = h
 
 -- a machine that receives so
 abbrev pub Receiving : {S : Type 0} → EndMachine S → (S → ReceiveState) → Type 0
@@ -129,6 +130,11 @@ hears rules received goes r (QueueWritten taken ∷ es) outs b live =
     let same = one_step_lem rules received goes r (QueueWritten taken) (was_live_lem rules t es live) in
     subst (λ (h : ReceiveState). Count h (received (end_state_after rules t es).state) (length (completed_from h.begun outs)) (begun_from h.begun outs)) same
     (hears rules received goes t es outs b live)
+hears rules received goes r (ServerTold what ∷ es) outs b live =
+    let t = next_end_state rules r (ServerTold what) in
+    let same = one_step_lem rules received goes r (ServerTold what) (was_live_lem rules t es live) in
+    subst (λ (h : ReceiveState). Count h (received (end_state_after rules t es).state) (length (completed_from h.begun outs)) (begun_from h.begun outs)) same
+    (hears rules received goes t es outs b live)
 
 -- ---- The two machines receive so
 
@@ -143,6 +149,7 @@ server_receives opened k (CallSubmitted p a) = refl
 server_receives opened k (MemoryRevoked p xid) = refl
 server_receives opened k (CallExecuted e) = refl
 server_receives opened k (QueueWritten taken) = refl
+server_receives opened k (ServerTold what) = refl
 
 pub client_receives : (opened : LinkParameters) → Receiving (client_rules opened) (λ (k : ClientState). k.received)
 unfolding client_state_after
@@ -156,6 +163,7 @@ client_receives opened k (CallSubmitted p a) = refl
 client_receives opened k (MemoryRevoked p xid) = refl
 client_receives opened k (CallExecuted e) = refl
 client_receives opened k (QueueWritten taken) = refl
+client_receives opened k (ServerTold what) = refl
 
 -- ---- At one frame
 
@@ -179,6 +187,7 @@ brings_at (CallSubmitted p a ∷ es) f more outs b = (let r = brings_at es f mor
 brings_at (MemoryRevoked p xid ∷ es) f more outs b = (let r = brings_at es f more outs b in record { earlier = r.earlier; own = r.own; later = r.later; parts = r.parts; brings = r.brings; brought = r.brought; behind = r.behind })
 brings_at (CallExecuted e ∷ es) f more outs b = (let r = brings_at es f more outs b in record { earlier = r.earlier; own = r.own; later = r.later; parts = r.parts; brings = r.brings; brought = r.brought; behind = r.behind })
 brings_at (QueueWritten taken ∷ es) f more outs b = (let r = brings_at es f more outs b in record { earlier = r.earlier; own = r.own; later = r.later; parts = r.parts; brings = r.brings; brought = r.brought; behind = r.behind })
+brings_at (ServerTold what ∷ es) f more outs b = (let r = brings_at es f more outs b in record { earlier = r.earlier; own = r.own; later = r.later; parts = r.parts; brings = r.brings; brought = r.brought; behind = r.behind })
 
 -- the output that brought a segment
 pub own_segment : (o : Output) (f : Frame) (s : Segment) → Brought o f → is_hello f ≡ false → frame_segment f ≡ Ok s → o ≡ ASegment s

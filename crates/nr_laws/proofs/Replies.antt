@@ -20,7 +20,7 @@ use Rattle.nr_link.specs.Ending.{frame_segment}
 use Rattle.nr_link.specs.Agreement.{IsSendLimit}
 use Rattle.nr_reduce.specs.Limits.{send_unit}
 use Rattle.nr_reduce.specs.Holds.{Answer, answer_for, answer_message, answer_lists, answer_size, chunk_error, version_error, no_segments}
-use Rattle.nr_reduce.specs.ServerState.{PendingCall, ServerState}
+use Rattle.nr_reduce.specs.ServerState.{PendingCall, ServerState, credit_word}
 use Rattle.nr_reduce.specs.ServerMessages.{CallVerdict, by_payload, pending_payload}
 use Rattle.nr_reduce.specs.ServerMessages.CallVerdict.{Refuses, IsReady}
 use Rattle.nr_reduce.specs.ServerFrames.{FrameEffect, with_verdict, frame_effect}
@@ -29,11 +29,11 @@ use Rattle.nr_laws.proofs.WritableOffers.{OfferFits}
 use Rattle.nr_laws.proofs.EachEffect.{send_effect, tagged_effect_lem}
 use Rattle.nr_header.proofs.Lengths.{word_len}
 
--- a message of at most `most` bytes, with this credit word
+-- a message of at most `most` bytes, whose credit word is at most `credit`
 pub record IsReply (most credit : ℕ) (message : List ℕ) : Type 0 where
   pub least : 16 ≤ length message
   pub size : length message ≤ most
-  pub credits : word_at 8 message ≡ credit
+  pub credits : word_at 8 message ≤ credit
   pub read : IsRead message
 
 abbrev pub AreReplies : (most credit : ℕ) → List (List ℕ) → Type 0
@@ -58,7 +58,7 @@ chunk_error_reply most xid credit room small lt =
     let c = word_len credit (word 4 ++ (word 2 ++ [])) in
     let d = word_len 4 (word 2 ++ []) in
     let e = word_len 2 [] in
-    record { least = omega (arith, a, b, c, d, e); size = omega (arith, a, b, c, d, e, room); credits = third_word xid 1 credit (word 4 ++ (word 2 ++ [])) lt; read = read_chunk_error xid credit small lt }
+    record { least = omega (arith, a, b, c, d, e); size = omega (arith, a, b, c, d, e, room); credits = omega (arith, third_word xid 1 credit (word 4 ++ (word 2 ++ [])) lt); read = read_chunk_error xid credit small lt }
 
 version_error_reply : (most xid version credit : ℕ) → send_unit ≤ most → xid < 2 ^ 32 → version < 2 ^ 32 → credit < 2 ^ 32 → IsReply most credit (version_error xid version credit)
 unfolding version_error
@@ -71,7 +71,7 @@ version_error_reply most xid version credit room small other lt =
     let e = word_len 1 (word 1 ++ (word 1 ++ [])) in
     let f = word_len 1 (word 1 ++ []) in
     let g = word_len 1 [] in
-    record { least = omega (arith, a, b, c, d, e, f, g); size = omega (arith, a, b, c, d, e, f, g, room); credits = third_word xid version credit rest lt; read = read_version_error xid version credit small other lt }
+    record { least = omega (arith, a, b, c, d, e, f, g); size = omega (arith, a, b, c, d, e, f, g, room); credits = omega (arith, third_word xid version credit rest lt); read = read_version_error xid version credit small other lt }
 
 -- ---- Of a frame's effect
 
@@ -79,25 +79,25 @@ replies_verdict : (most credit : ℕ) (o : CallVerdict) (s : FrameEffect) → Ar
 replies_verdict most credit (Refuses reason) s h = h
 replies_verdict most credit (IsReady r) s h = h
 
-pub replies_send : (most : ℕ) → send_unit ≤ most → (k : ServerState) (f : Frame) (message : SentMessage) → CompletesMessage k.received message → word_at 0 message.bytes < 2 ^ 32 → word_at 4 message.bytes < 2 ^ 32 → k.credit < 2 ^ 32
-    → frame_segment f ≡ Ok (last_segment k.received.sends message) → AreReplies most k.credit (frame_effect k f).errors
+pub replies_send : (most : ℕ) → send_unit ≤ most → (k : ServerState) (f : Frame) (message : SentMessage) → CompletesMessage k.received message → word_at 0 message.bytes < 2 ^ 32 → word_at 4 message.bytes < 2 ^ 32 → credit_word k < 2 ^ 32
+    → frame_segment f ≡ Ok (last_segment k.received.sends message) → AreReplies most (credit_word k) (frame_effect k f).errors
 replies_send most room k f message completes xid version lt is =
-    send_effect k (λ m. (word_at 0 m < 2 ^ 32) × (word_at 4 m < 2 ^ 32)) (λ s. AreReplies most k.credit s.errors) (record {
-      judged = λ t place c s h. replies_verdict most k.credit (by_payload c (pending_payload t place c)) s h;
+    send_effect k (λ m. (word_at 0 m < 2 ^ 32) × (word_at 4 m < 2 ^ 32)) (λ s. AreReplies most (credit_word k) s.errors) (record {
+      judged = λ t place c s h. replies_verdict most (credit_word k) (by_payload c (pending_payload t place c)) s h;
       ends = λ m reason fit is. tt;
-      version = λ m fit. (version_error_reply most (word_at 0 m) (word_at 4 m) k.credit room fit.0 fit.1 lt, tt);
-      chunks = λ m fit. (chunk_error_reply most (word_at 0 m) k.credit room fit.0 lt, tt);
+      version = λ m fit. (version_error_reply most (word_at 0 m) (word_at 4 m) (credit_word k) room fit.0 fit.1 lt, tt);
+      chunks = λ m fit. (chunk_error_reply most (word_at 0 m) (credit_word k) room fit.0 lt, tt);
       pending = λ place m c fit is. tt;
     }) f message completes (xid, version) is
 
-pub replies_tagged : (most : ℕ) → send_unit ≤ most → (k : ServerState) (f : Frame) (last : Bool) (opcode stag to : ℕ) (payload : List ℕ) → ((n : ℕ) (c : PendingCall) → find (λ (y : PendingCall). eqb y.number n) k.calls ≡ Some c → c.xid < 2 ^ 32) → k.credit < 2 ^ 32
-    → frame_segment f ≡ Ok (Tagged last opcode stag to payload) → AreReplies most k.credit (frame_effect k f).errors
+pub replies_tagged : (most : ℕ) → send_unit ≤ most → (k : ServerState) (f : Frame) (last : Bool) (opcode stag to : ℕ) (payload : List ℕ) → ((n : ℕ) (c : PendingCall) → find (λ (y : PendingCall). eqb y.number n) k.calls ≡ Some c → c.xid < 2 ^ 32) → credit_word k < 2 ^ 32
+    → frame_segment f ≡ Ok (Tagged last opcode stag to payload) → AreReplies most (credit_word k) (frame_effect k f).errors
 replies_tagged most room k f last opcode stag to payload small lt is =
-    tagged_effect_lem k (λ s. AreReplies most k.credit s.errors) (record {
+    tagged_effect_lem k (λ s. AreReplies most (credit_word k) s.errors) (record {
       unchanged = tt;
-      judged = λ t place c s h. replies_verdict most k.credit (by_payload c (pending_payload t place c)) s h;
+      judged = λ t place c s h. replies_verdict most (credit_word k) (by_payload c (pending_payload t place c)) s h;
       read = λ r reads is. tt;
-      refused = λ r reads c is found. (chunk_error_reply most c.xid k.credit room (small r.number c found) lt, tt);
+      refused = λ r reads c is found. (chunk_error_reply most c.xid (credit_word k) room (small r.number c found) lt, tt);
     }) f last opcode stag to payload is
 
 -- ---- Of an executed call
@@ -130,5 +130,5 @@ answer_reply offer most down prog vers proc xid credit reply a limit room word l
         → (a.long ≡ false → (length (answer_message xid credit offer a) ≡ answer_size offer.write + length a.stream) × (length (answer_message xid credit offer a) ≤ down))
         → (a.long ≡ true → length (answer_message xid credit offer a) ≡ answer_size offer.write + reply_chunk_len (length (no_segments offer.reply)))
         → word_at 8 (answer_message xid credit offer a) ≡ credit → IsRead (answer_message xid credit offer a) → IsReply most credit (answer_message xid credit offer a)
-    by true is short long words back = record { least = omega (arith, long is); size = omega (arith, long is, fits.size, limit.0, room); credits = words; read = back }
-    by false is short long words back = record { least = omega (arith, (short is).0); size = omega (arith, (short is).1, room); credits = words; read = back }
+    by true is short long words back = record { least = omega (arith, long is); size = omega (arith, long is, fits.size, limit.0, room); credits = omega (arith, words); read = back }
+    by false is short long words back = record { least = omega (arith, (short is).0); size = omega (arith, (short is).1, room); credits = omega (arith, words); read = back }

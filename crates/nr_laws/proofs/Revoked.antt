@@ -15,7 +15,7 @@ use Rattle.nr_reduce.specs.declared.mark.Mark.TheVariants as marks
 use Rattle.nr_reduce.specs.declared.mark.LinkParameters.{LinkParameters}
 use Rattle.nr_reduce.specs.History.{bytes_received, same_side, fed_at}
 use Rattle.nr_reduce.specs.Events.{RunEvent, events, events_at, if_own}
-use Rattle.nr_reduce.specs.Events.RunEvent.{FrameReceived, CallSubmitted, MemoryRevoked, CallExecuted, QueueWritten}
+use Rattle.nr_reduce.specs.Events.RunEvent.{FrameReceived, CallSubmitted, MemoryRevoked, CallExecuted, QueueWritten, ServerTold}
 use Rattle.nr_reduce.specs.EndRules.{EndState, next_end_state, next_end_state_by, next_end_state_in, end_state_after}
 use Rattle.nr_reduce.specs.OfferedRegions.{Region, until_or, until_at, region_grant, closed_if, regions_closed}
 use Rattle.nr_reduce.specs.Plans.{Buffer, buffers}
@@ -131,6 +131,7 @@ EventBy n (CallSubmitted q a) = Unit {0}
 EventBy n (MemoryRevoked q xid) = q ≤ n
 EventBy n (CallExecuted e) = Unit {0}
 EventBy n (QueueWritten taken) = Unit {0}
+EventBy n (ServerTold what) = Unit {0}
 
 abbrev EventsBy : ℕ → List RunEvent → Type 0
 EventsBy n [] = Unit {0}
@@ -147,6 +148,7 @@ until_event opened n k (CallSubmitted q a) by h = until_append n k.regions (map 
 until_event opened n k (MemoryRevoked q xid) by h = until_closed (λ r. eqb r.call xid) q n k.regions by h
 until_event opened n k (CallExecuted e) by h = h
 until_event opened n k (QueueWritten taken) by h = h
+until_event opened n k (ServerTold what) by h = h
 
 until_next : (opened : LinkParameters) (n : ℕ) (k : ClientState) (ended : Option Stop) (e : RunEvent) → EventBy n e → UntilBy n k.regions → UntilBy n (next_end_state_in (client_rules opened) k e ended).state.regions
 until_next opened n k (Some end) e by h = h
@@ -193,6 +195,7 @@ mark_by link before mark = subst (λ (n : ℕ). EventsBy n (events_at link Initi
     by (marks.Lost l xid) = tt
     by (marks.Forget l xid) = tt
     by (marks.Drop l) = tt
+    by (marks.Told l what) = if_by (length (old ++ [])) (eqb l link && false) (ServerTold what ∷ []) (tt, tt)
 
 until_from : (opened : LinkParameters) (link : ℕ) (before run : List Mark) → UntilBy (length (bytes_received link Initiator before)) (client opened link before).state.regions → UntilBy (length (bytes_received link Initiator (before ++ run))) (client opened link (before ++ run)).state.regions
 until_from opened link before [] h = subst (λ (b : List Mark). UntilBy (length (bytes_received link Initiator b)) (client opened link b).state.regions) (sym (append-nil before)) h

@@ -8,7 +8,7 @@ use Rattle.nr_reduce.specs.declared.mark.Mark.{Mark}
 use Rattle.nr_reduce.specs.declared.mark.Mark.TheVariants as marks
 use Rattle.nr_reduce.specs.History.{same_side, bytes_received, abandons, is_abandoned}
 use Rattle.nr_reduce.specs.Events.{RunEvent, if_own, events_at, events_from, events}
-use Rattle.nr_reduce.specs.Events.RunEvent.{FrameReceived, CallSubmitted, MemoryRevoked, CallExecuted, QueueWritten}
+use Rattle.nr_reduce.specs.Events.RunEvent.{FrameReceived, CallSubmitted, MemoryRevoked, CallExecuted, QueueWritten, ServerTold}
 
 abbrev pub NotRevoke : ℕ → RunEvent → Type 0
 NotRevoke x (FrameReceived f) = Unit {0}
@@ -16,6 +16,7 @@ NotRevoke x (CallSubmitted p a) = Unit {0}
 NotRevoke x (MemoryRevoked p xid) = xid ≢ x
 NotRevoke x (CallExecuted e) = Unit {0}
 NotRevoke x (QueueWritten taken) = Unit {0}
+NotRevoke x (ServerTold what) = Unit {0}
 
 abbrev pub NoRevoke : ℕ → List RunEvent → Type 0
 NoRevoke x [] = Unit {0}
@@ -51,6 +52,7 @@ none_mark link x before (marks.Done l xid outcome) e = tt
 none_mark link x before (marks.Lost l xid) e = tt
 none_mark link x before (marks.Forget l xid) e = tt
 none_mark link x before (marks.Drop l) e = tt
+none_mark link x before (marks.Told l what) e = none_if x (eqb l link && false) (ServerTold what ∷ []) (tt, tt)
 
 both_false : (a b : Bool) → (a || b) ≡ false → (a ≡ false) × (b ≡ false)
 both_false true b e = absurd (let wrong : true ≡ false = e in cc)

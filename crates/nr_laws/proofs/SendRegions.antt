@@ -16,7 +16,7 @@ use Rattle.nr_header.specs.declared.header.ChunkLists.{ChunkLists}
 use Rattle.nr_regions.specs.declared.right.Right.TheVariants.{Sink}
 use Rattle.nr_reduce.specs.Chunks.{total_at, is_read_chunk_of_item}
 use Rattle.nr_reduce.specs.Events.{RunEvent, events}
-use Rattle.nr_reduce.specs.Events.RunEvent.{FrameReceived, CallSubmitted, MemoryRevoked, CallExecuted, QueueWritten}
+use Rattle.nr_reduce.specs.Events.RunEvent.{FrameReceived, CallSubmitted, MemoryRevoked, CallExecuted, QueueWritten, ServerTold}
 use Rattle.nr_reduce.specs.EndRules.{EndState, next_end_state, next_end_state_by, next_end_state_in, end_state_after}
 use Rattle.nr_reduce.specs.OfferedRegions.{Region, closed_if, regions_closed}
 use Rattle.nr_reduce.specs.ServerState.{ServerState, PendingCall, PendingRead, next_stag}
@@ -226,6 +226,7 @@ regions_along opened P more frames front (e ∷ es) h =
     by (MemoryRevoked place xid) stays = same (MemoryRevoked place xid)
     by (CallExecuted call) stays = same (CallExecuted call)
     by (QueueWritten taken) stays = same (QueueWritten taken)
+    by (ServerTold what) stays = same (ServerTold what)
 
 pub region_of_list : (P : Region → Type 0) (xs : List Region) (r : Region) → AllByRecursion P xs → Contains xs r → P r
 region_of_list P xs r h there = All-contains P xs r (All-from_recursion P xs h) there

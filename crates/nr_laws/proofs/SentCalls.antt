@@ -18,7 +18,7 @@ use Rattle.nr_reduce.specs.declared.mark.LinkParameters.{LinkParameters}
 use Rattle.nr_reduce.specs.History.{AcceptedCall, bytes_sent}
 use Rattle.nr_reduce.specs.Written.{ends_written}
 use Rattle.nr_reduce.specs.Events.{RunEvent, events}
-use Rattle.nr_reduce.specs.Events.RunEvent.{FrameReceived, CallSubmitted, MemoryRevoked, CallExecuted, QueueWritten}
+use Rattle.nr_reduce.specs.Events.RunEvent.{FrameReceived, CallSubmitted, MemoryRevoked, CallExecuted, QueueWritten, ServerTold}
 use Rattle.nr_reduce.specs.EndRules.{EndState, live, next_end_state_by, end_state_after}
 use Rattle.nr_reduce.specs.ClientState.{ClientState, OutstandingCall, is_sent}
 use Rattle.nr_reduce.specs.Client.{client_rules, client_end, client_state_after, initial_client, outstanding_of, revoked_call, segment_request, with_hello, with_segment, with_message, with_request, due_with_response}
@@ -291,6 +291,9 @@ event_step opened place k (MemoryRevoked p xid) items next good h =
 event_step opened place k (CallExecuted c) items next good h = subst (SendsAreDue opened place k) (sym (append-nil (send_items items))) h
 event_step opened place k (QueueWritten taken) items next good h =
     subst (SendsAreDue opened place (client_state_after opened k (QueueWritten taken))) (sym (append-nil (send_items items)))
+    (record { greeted = h.greeted; silent = h.silent; waiting = h.waiting; count = h.count; own = h.own })
+event_step opened place k (ServerTold what) items next good h =
+    subst (SendsAreDue opened place (client_state_after opened k (ServerTold what))) (sym (append-nil (send_items items)))
     (record { greeted = h.greeted; silent = h.silent; waiting = h.waiting; count = h.count; own = h.own })
 
 abbrev items_of : LinkParameters → EndState ClientState → List RunEvent → List OutputItem

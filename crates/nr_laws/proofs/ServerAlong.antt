@@ -10,7 +10,7 @@ use Rattle.nr_link.specs.Ending.{frame_segment}
 use Rattle.nr_reduce.specs.declared.mark.LinkParameters.{LinkParameters}
 use Rattle.nr_reduce.specs.History.{ExecutedCall}
 use Rattle.nr_reduce.specs.Events.{RunEvent}
-use Rattle.nr_reduce.specs.Events.RunEvent.{FrameReceived, CallSubmitted, MemoryRevoked, CallExecuted, QueueWritten}
+use Rattle.nr_reduce.specs.Events.RunEvent.{FrameReceived, CallSubmitted, MemoryRevoked, CallExecuted, QueueWritten, ServerTold}
 use Rattle.nr_reduce.specs.EndRules.{EndState, next_end_state, end_state_after, output_for, output_for_all}
 use Rattle.nr_reduce.specs.Holds.{Answer, answer_message, chunk_error}
 use Rattle.nr_reduce.specs.ChunkBytes.{answer_segments}
@@ -52,6 +52,7 @@ ServerGood r (CallSubmitted p a) = Unit {0}
 ServerGood r (MemoryRevoked p xid) = Unit {0}
 ServerGood r (CallExecuted e) = IsGoodExecution r e
 ServerGood r (QueueWritten taken) = Unit {0}
+ServerGood r (ServerTold what) = Unit {0}
 
 -- without what is known of frames
 abbrev pub ServerPlain : EndState ServerState → RunEvent → Type 0
@@ -60,6 +61,7 @@ ServerPlain r (CallSubmitted p a) = Unit {0}
 ServerPlain r (MemoryRevoked p xid) = Unit {0}
 ServerPlain r (CallExecuted e) = IsGoodExecution r e
 ServerPlain r (QueueWritten taken) = Unit {0}
+ServerPlain r (ServerTold what) = Unit {0}
 
 fpdus_preserve : (opened : LinkParameters) (place : ℕ) (r : EndState ServerState) (es : List RunEvent) (came : List Output) → GoesOn (server_rules opened) ServerPlain place r es → Brings es came → AreFrom Fpdu came → GoesOn (server_rules opened) ServerGood place r es
 fpdus_preserve opened place r [] came g b from = tt
@@ -70,6 +72,7 @@ fpdus_preserve opened place r (CallSubmitted p a ∷ es) came g b from = (g.0, g
 fpdus_preserve opened place r (MemoryRevoked p xid ∷ es) came g b from = (g.0, g.1, fpdus_preserve opened place (next_end_state (server_rules opened) r (MemoryRevoked p xid)) es came g.2 b from)
 fpdus_preserve opened place r (CallExecuted e ∷ es) came g b from = (g.0, g.1, fpdus_preserve opened place (next_end_state (server_rules opened) r (CallExecuted e)) es came g.2 b from)
 fpdus_preserve opened place r (QueueWritten taken ∷ es) came g b from = (g.0, g.1, fpdus_preserve opened place (next_end_state (server_rules opened) r (QueueWritten taken)) es came g.2 b from)
+fpdus_preserve opened place r (ServerTold what ∷ es) came g b from = (g.0, g.1, fpdus_preserve opened place (next_end_state (server_rules opened) r (ServerTold what)) es came g.2 b from)
 
 pub hello_preserves : (opened : LinkParameters) (place : ℕ) (r : EndState ServerState) (es : List RunEvent) (came : List Output) → GoesOn (server_rules opened) ServerPlain place r es → Brings es came → AreFrom (HelloFrom Initiator) came → GoesOn (server_rules opened) ServerGood place r es
 hello_preserves opened place r [] came g b from = tt
@@ -80,6 +83,7 @@ hello_preserves opened place r (CallSubmitted p a ∷ es) came g b from = (g.0, 
 hello_preserves opened place r (MemoryRevoked p xid ∷ es) came g b from = (g.0, g.1, hello_preserves opened place (next_end_state (server_rules opened) r (MemoryRevoked p xid)) es came g.2 b from)
 hello_preserves opened place r (CallExecuted e ∷ es) came g b from = (g.0, g.1, hello_preserves opened place (next_end_state (server_rules opened) r (CallExecuted e)) es came g.2 b from)
 hello_preserves opened place r (QueueWritten taken ∷ es) came g b from = (g.0, g.1, hello_preserves opened place (next_end_state (server_rules opened) r (QueueWritten taken)) es came g.2 b from)
+hello_preserves opened place r (ServerTold what ∷ es) came g b from = (g.0, g.1, hello_preserves opened place (next_end_state (server_rules opened) r (ServerTold what)) es came g.2 b from)
 
 -- ---- Why a message is said
 

@@ -17,7 +17,7 @@ use Rattle.nr_reduce.proofs.OwnLimits.{ServerLimits, server_limits}
 use Rattle.nr_reduce.specs.declared.mark.LinkParameters.{LinkParameters}
 use Rattle.nr_reduce.specs.History.{ExecutedCall}
 use Rattle.nr_reduce.specs.Events.{RunEvent}
-use Rattle.nr_reduce.specs.Events.RunEvent.{FrameReceived, CallSubmitted, MemoryRevoked, CallExecuted, QueueWritten}
+use Rattle.nr_reduce.specs.Events.RunEvent.{FrameReceived, CallSubmitted, MemoryRevoked, CallExecuted, QueueWritten, ServerTold}
 use Rattle.nr_reduce.specs.EndRules.{EndState, next_end_state, next_end_state_by, output_for_by}
 use Rattle.nr_reduce.specs.Holds.{Answer, answer_message, chunk_error}
 use Rattle.nr_reduce.specs.ChunkBytes.{answer_segments}
@@ -300,6 +300,8 @@ server_step opened es place k None outs (CallExecuted e) next good t =
     grown opened es place (record { state = k; ended = None }) outs (CallExecuted e) (answer_outputs k e.xid (offer_of k e.xid) (answer_of_call k e)) t (executed_step opened es place k outs e good t (answer_of_call k e) refl)
 server_step opened es place k None outs (QueueWritten taken) next good t = grown opened es place (record { state = k; ended = None }) outs (QueueWritten taken) [] t
     (record { outputs = refl; said = refl; begun = t.begun; fit = t.fit; shape = same_shape place (record { state = k; ended = None }) (record { state = server_state_after opened k (QueueWritten taken); ended = None }) outs refl refl t.shape; none_begun = refl; cause = λ pre s post m is one. no_cause_lem [] pre s post m refl is one })
+server_step opened es place k None outs (ServerTold what) next good t = grown opened es place (record { state = k; ended = None }) outs (ServerTold what) [] t
+    (record { outputs = refl; said = refl; begun = t.begun; fit = t.fit; shape = same_shape place (record { state = k; ended = None }) (record { state = server_state_after opened k (ServerTold what); ended = None }) outs refl refl t.shape; none_begun = refl; cause = λ pre s post m is one. no_cause_lem [] pre s post m refl is one })
 server_step opened es place k (Some end) outs (FrameReceived f) next good t = grown opened es place (record { state = k; ended = Some end }) outs (FrameReceived f) [] t
     (record { outputs = refl; said = refl; begun = t.begun; fit = t.fit; shape = ended_shape place f.end k end outs (let l = next.1 in omega (arith, l)) t.shape; none_begun = refl; cause = λ pre s post m is one. no_cause_lem [] pre s post m refl is one })
 server_step opened es place k (Some end) outs (CallSubmitted p a) next good t = grown opened es place (record { state = k; ended = Some end }) outs (CallSubmitted p a) [] t
@@ -308,4 +310,6 @@ server_step opened es place k (Some end) outs (MemoryRevoked p xid) next good t 
     (record { outputs = refl; said = refl; begun = t.begun; fit = t.fit; shape = ended_shape place place k end outs (omega arith) t.shape; none_begun = refl; cause = λ pre s post m is one. no_cause_lem [] pre s post m refl is one })
 server_step opened es place k (Some end) outs (CallExecuted e) next good t = absurd (let s = good.stays in cc)
 server_step opened es place k (Some end) outs (QueueWritten taken) next good t = grown opened es place (record { state = k; ended = Some end }) outs (QueueWritten taken) [] t
+    (record { outputs = refl; said = refl; begun = t.begun; fit = t.fit; shape = ended_shape place place k end outs (omega arith) t.shape; none_begun = refl; cause = λ pre s post m is one. no_cause_lem [] pre s post m refl is one })
+server_step opened es place k (Some end) outs (ServerTold what) next good t = grown opened es place (record { state = k; ended = Some end }) outs (ServerTold what) [] t
     (record { outputs = refl; said = refl; begun = t.begun; fit = t.fit; shape = ended_shape place place k end outs (omega arith) t.shape; none_begun = refl; cause = λ pre s post m is one. no_cause_lem [] pre s post m refl is one })

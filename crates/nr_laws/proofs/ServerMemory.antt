@@ -9,7 +9,7 @@ use Rattle.nr_link.specs.Ending.{frame_segment, tagged_access, missing_access}
 use Rattle.nr_reduce.specs.declared.mark.LinkParameters.{LinkParameters}
 use Rattle.nr_reduce.specs.OfferedRegions.{Region, region_grants, regions_closed}
 use Rattle.nr_reduce.specs.Events.{RunEvent}
-use Rattle.nr_reduce.specs.Events.RunEvent.{FrameReceived, CallSubmitted, MemoryRevoked, CallExecuted, QueueWritten}
+use Rattle.nr_reduce.specs.Events.RunEvent.{FrameReceived, CallSubmitted, MemoryRevoked, CallExecuted, QueueWritten, ServerTold}
 use Rattle.nr_reduce.specs.EndRules.{next_end_state_by, next_end_state_in, end_state_after}
 use Rattle.nr_reduce.specs.ServerState.{ServerState, PendingCall}
 use Rattle.nr_reduce.specs.ServerReads.{regions_of, is_over}
@@ -88,11 +88,13 @@ settled_step opened place k None (CallSubmitted q a) next good h = h
 settled_step opened place k None (MemoryRevoked q xid) next good h = h
 settled_step opened place k None (CallExecuted x) next good h = h
 settled_step opened place k None (QueueWritten taken) next good h = h
+settled_step opened place k None (ServerTold what) next good h = h
 settled_step opened place k (Some end) (FrameReceived f) next good h = settled_later place f.end k.regions k.accesses_received (let l = next.1 in omega (arith, l)) h
 settled_step opened place k (Some end) (CallSubmitted q a) next good h = h
 settled_step opened place k (Some end) (MemoryRevoked q xid) next good h = h
 settled_step opened place k (Some end) (CallExecuted x) next good h = h
 settled_step opened place k (Some end) (QueueWritten taken) next good h = h
+settled_step opened place k (Some end) (ServerTold what) next good h = h
 
 pub settled_along : (opened : LinkParameters) (es : List RunEvent) → GoesOn (server_rules opened) ServerGood 0 (initial_server opened) es
     → Settled (places_after 0 es) (end_state_after (server_rules opened) (initial_server opened) es).state.regions (end_state_after (server_rules opened) (initial_server opened) es).state.accesses_received
@@ -111,3 +113,4 @@ server_gathers opened k (CallSubmitted p a) = refl
 server_gathers opened k (MemoryRevoked p xid) = refl
 server_gathers opened k (CallExecuted e) = refl
 server_gathers opened k (QueueWritten taken) = refl
+server_gathers opened k (ServerTold what) = refl

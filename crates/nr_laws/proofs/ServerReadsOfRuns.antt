@@ -17,12 +17,12 @@ use Rattle.nr_reduce.specs.declared.outline.Plan.{Plan}
 use Rattle.nr_reduce.specs.Plans.{read_list, read_stag, lists_of}
 use Rattle.nr_reduce.specs.ClientState.{call_payload}
 use Rattle.nr_reduce.specs.Events.{RunEvent, events}
-use Rattle.nr_reduce.specs.Events.RunEvent.{FrameReceived, CallSubmitted, MemoryRevoked, CallExecuted, QueueWritten}
+use Rattle.nr_reduce.specs.Events.RunEvent.{FrameReceived, CallSubmitted, MemoryRevoked, CallExecuted, QueueWritten, ServerTold}
 use Rattle.nr_reduce.specs.EndRules.{EndState, next_end_state, next_end_state_by, next_end_state_in, end_state_after}
 use Rattle.nr_reduce.specs.Matched.{Matched}
 use Rattle.nr_reduce.specs.Asked.{AskedSoFar}
 use Rattle.nr_reduce.specs.Served.{ServedSoFar}
-use Rattle.nr_reduce.specs.ServerState.{ServerState, PendingCall}
+use Rattle.nr_reduce.specs.ServerState.{ServerState, PendingCall, credit_told}
 use Rattle.nr_reduce.specs.ServerMessages.{verdict}
 use Rattle.nr_reduce.specs.ServerMessages.Verdict.{MakesPending}
 use Rattle.nr_reduce.specs.ServerFrames.{frame_effect}
@@ -86,6 +86,7 @@ ServerOwn r (CallSubmitted p a) = Unit {0}
 ServerOwn r (MemoryRevoked p xid) = Unit {0}
 ServerOwn r (CallExecuted e) = Unit {0}
 ServerOwn r (QueueWritten taken) = Unit {0}
+ServerOwn r (ServerTold what) = Unit {0}
 
 abbrev pub ServerFine : EndState ServerState → RunEvent → Type 0
 ServerFine r e = ServerGood r e × ServerOwn r e
@@ -98,6 +99,7 @@ own_event opened link run typed asked matched es (CallSubmitted p a) more all = 
 own_event opened link run typed asked matched es (MemoryRevoked p xid) more all = tt
 own_event opened link run typed asked matched es (CallExecuted e) more all = tt
 own_event opened link run typed asked matched es (QueueWritten taken) more all = tt
+own_event opened link run typed asked matched es (ServerTold what) more all = tt
 
 runs_preserve : (opened : LinkParameters) (link : ℕ) (run : List Mark) → IsTyped run → AskedSoFar opened link run → Matched link run
     → (es more : List RunEvent) (place : ℕ) (r : EndState ServerState) → events link Responder run ≡ es ++ more → r ≡ end_state_after (server_rules opened) (initial_server opened) es → GoesOn (server_rules opened) ServerGood place r more → GoesOn (server_rules opened) ServerFine place r more
@@ -144,6 +146,7 @@ reads_event opened es k outs (CallSubmitted p a) fine numbered None stays reads 
 reads_event opened es k outs (MemoryRevoked p xid) fine numbered None stays reads = λ live. other_reads opened es (MemoryRevoked p xid) k k outs [] refl refl refl refl refl refl reads
 reads_event opened es k outs (CallExecuted e) fine numbered None stays reads = λ live. executed_reads opened es k outs e reads
 reads_event opened es k outs (QueueWritten taken) fine numbered None stays reads = λ live. other_reads opened es (QueueWritten taken) k (record k { written = k.written + taken }) outs [] refl refl refl refl refl refl reads
+reads_event opened es k outs (ServerTold what) fine numbered None stays reads = λ live. other_reads opened es (ServerTold what) k (record k { credit = credit_told what }) outs [] refl refl refl refl refl refl reads
 
 reads_in : (opened : LinkParameters) (es : List RunEvent) (k : ServerState) (ended : Option Stop) (outs : List Output) (e : RunEvent) → ServerFine (record { state = k; ended = ended }) e → AreNumbered 1 k.regions → (ended ≡ None → ReadsAt opened es k outs)
     → (next_end_state_in (server_rules opened) k e ended).ended ≡ None → ReadsAt opened (es ++ e ∷ []) (next_end_state_in (server_rules opened) k e ended).state (outs ++ outputs_in (server_rules opened) (server_says opened) server_final_outputs k e ended)

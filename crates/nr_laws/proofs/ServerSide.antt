@@ -11,7 +11,7 @@ use Rattle.nr_reduce.specs.declared.mark.LinkParameters.{LinkParameters}
 use Rattle.nr_reduce.specs.History.{bytes_received, same_side}
 use Rattle.nr_reduce.specs.Matched.{Matched, IsPrefixOf}
 use Rattle.nr_reduce.specs.Events.{events, events_at, if_own}
-use Rattle.nr_reduce.specs.Events.RunEvent.{FrameReceived, CallSubmitted, MemoryRevoked, CallExecuted, QueueWritten}
+use Rattle.nr_reduce.specs.Events.RunEvent.{FrameReceived, CallSubmitted, MemoryRevoked, CallExecuted, QueueWritten, ServerTold}
 use Rattle.nr_reduce.specs.EndRules.{EndState, end_state_after}
 use Rattle.nr_reduce.specs.ServerState.{ServerState, ReadyCall}
 use Rattle.nr_reduce.specs.Server.{server_rules, initial_server}
@@ -79,6 +79,11 @@ first_good opened link before (marks.Done l xid outcome) h = tt
 first_good opened link before (marks.Lost l xid) h = tt
 first_good opened link before (marks.Forget l xid) h = tt
 first_good opened link before (marks.Drop l) h = tt
+first_good opened link before (marks.Told l what) h = by (eqb l link && true)
+  where
+    by : (b : Bool) → FirstGood ServerPlain (server opened link before) (if_own b (ServerTold what ∷ []))
+    by true = tt
+    by false = tt
 
 pub server_goes : (opened : LinkParameters) (link : ℕ) (run : List Mark) → IsTyped run → ServedSoFar opened link run → Goes (server_rules opened) ServerPlain (initial_server opened) link Responder run
 unfolding server

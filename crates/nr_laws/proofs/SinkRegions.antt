@@ -12,7 +12,7 @@ use Rattle.nr_link.specs.ReceiveState.{message_completed}
 use Rattle.nr_reduce.specs.declared.mark.LinkParameters.{LinkParameters}
 use Rattle.nr_reduce.specs.OfferedRegions.{Region, region_grant, region_grants, closed_if, regions_closed}
 use Rattle.nr_reduce.specs.Events.{RunEvent}
-use Rattle.nr_reduce.specs.Events.RunEvent.{FrameReceived, CallSubmitted, MemoryRevoked, CallExecuted, QueueWritten}
+use Rattle.nr_reduce.specs.Events.RunEvent.{FrameReceived, CallSubmitted, MemoryRevoked, CallExecuted, QueueWritten, ServerTold}
 use Rattle.nr_reduce.specs.EndRules.{EndState, end_state_after}
 use Rattle.nr_reduce.specs.ServerState.{ServerState, PendingCall, PendingRead, next_stag}
 use Rattle.nr_reduce.specs.ServerReads.{regions_from, regions_of, chunks_of, is_read, is_over}
@@ -105,6 +105,7 @@ server_after opened k (CallSubmitted place a) h = h
 server_after opened k (MemoryRevoked place xid) h = h
 server_after opened k (CallExecuted e) h = h
 server_after opened k (QueueWritten taken) h = h
+server_after opened k (ServerTold what) h = h
 
 sinks : (opened : LinkParameters) (es : List RunEvent) → AreSinks (end_state_after (server_rules opened) (initial_server opened) es).state.regions
 sinks opened es = kept_after (server_rules opened) (λ (k : ServerState). AreSinks k.regions) (server_after opened) (initial_server opened) es tt

@@ -10,7 +10,7 @@ use Rattle.nr_link.specs.Ending.{frame_segment}
 use Rattle.nr_link.specs.ReceiveState.{ReadRequest, message_completed, read_request_of}
 use Rattle.nr_reduce.specs.declared.mark.LinkParameters.{LinkParameters}
 use Rattle.nr_reduce.specs.Events.{RunEvent}
-use Rattle.nr_reduce.specs.Events.RunEvent.{FrameReceived, CallSubmitted, MemoryRevoked, CallExecuted, QueueWritten}
+use Rattle.nr_reduce.specs.Events.RunEvent.{FrameReceived, CallSubmitted, MemoryRevoked, CallExecuted, QueueWritten, ServerTold}
 use Rattle.nr_reduce.specs.EndRules.{EndState, next_end_state, next_end_state_by, next_end_state_in}
 use Rattle.nr_reduce.specs.ClientState.{ClientState, OutstandingCall}
 use Rattle.nr_reduce.specs.Client.{client_rules, client_end, client_state_after, initial_client, outstanding_of, with_segment, with_message, with_request, revoked_call, with_hello, due_with_response}
@@ -102,6 +102,7 @@ one_event opened es e h = by_ended (client_by opened es).ended
     by_event (MemoryRevoked place xid) is = each_map P (revoked_call xid) (revoked xid) k.outstanding same
     by_event (CallExecuted call) is = same
     by_event (QueueWritten taken) is = same
+    by_event (ServerTold what) is = same
 
     by_why : (o : Option Stop) → Each P (next_end_state_by (client_rules opened) k e o).state.outstanding
     by_why None = by_event e refl

@@ -24,7 +24,7 @@ use Rattle.nr_reduce.specs.Plans.{TooLarge, Buffer, buffers, buffer_if, has_segm
 use Rattle.nr_reduce.specs.Chunks.{Bytes, at_position, entry_bytes, read_bytes, call_conveyed}
 use Rattle.nr_reduce.specs.ChunkBytes.{ChunkHolds}
 use Rattle.nr_reduce.specs.Events.{RunEvent, events_at, if_own}
-use Rattle.nr_reduce.specs.Events.RunEvent.{FrameReceived, CallSubmitted, MemoryRevoked, CallExecuted, QueueWritten}
+use Rattle.nr_reduce.specs.Events.RunEvent.{FrameReceived, CallSubmitted, MemoryRevoked, CallExecuted, QueueWritten, ServerTold}
 use Rattle.nr_reduce.specs.EndRules.{EndState, end_state_after, next_end_state_in}
 use Rattle.nr_reduce.specs.OfferedRegions.{Region, closed_if, regions_closed}
 use Rattle.nr_reduce.specs.ClientState.{ClientState, call_payload, plan_for}
@@ -79,6 +79,7 @@ offers_event opened stag bytes k (CallSubmitted p a) h = offers_left stag bytes 
 offers_event opened stag bytes k (MemoryRevoked p xid) h = offers_closed (λ r. eqb r.call xid) p stag bytes k.regions h
 offers_event opened stag bytes k (CallExecuted e) h = h
 offers_event opened stag bytes k (QueueWritten taken) h = h
+offers_event opened stag bytes k (ServerTold what) h = h
 
 offers_from : (opened : LinkParameters) (link stag : ℕ) (bytes : List ℕ) (before run : List Mark) → Offers stag bytes (client opened link before).state.regions → Offers stag bytes (client opened link (before ++ run)).state.regions
 offers_from opened link stag bytes before [] h = subst (λ (b : List Mark). Offers stag bytes (client opened link b).state.regions) (sym (append-nil before)) h

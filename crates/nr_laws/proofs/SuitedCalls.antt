@@ -10,7 +10,7 @@ use Rattle.nr_reduce.specs.declared.mark.LinkParameters.{LinkParameters}
 use Rattle.nr_reduce.specs.Chunks.{total_at}
 use Rattle.nr_reduce.specs.OfferedRegions.{Region}
 use Rattle.nr_reduce.specs.Events.{RunEvent}
-use Rattle.nr_reduce.specs.Events.RunEvent.{FrameReceived, CallSubmitted, MemoryRevoked, CallExecuted, QueueWritten}
+use Rattle.nr_reduce.specs.Events.RunEvent.{FrameReceived, CallSubmitted, MemoryRevoked, CallExecuted, QueueWritten, ServerTold}
 use Rattle.nr_reduce.specs.ServerState.{ServerState, PendingCall, PendingRead}
 use Rattle.nr_reduce.specs.ServerReads.{read_of, reads_of, reads_from, regions_of}
 use Rattle.nr_reduce.specs.ServerMessages.{Verdict, verdict}
@@ -180,6 +180,7 @@ suited_after opened k (CallSubmitted place a) h = h
 suited_after opened k (MemoryRevoked place xid) h = h
 suited_after opened k (CallExecuted e) h = record { calls_suit = suited_kept k.received.sends k.reads (λ c. not (eqb c.xid e.xid)) k.calls h.calls_suit; reads_below = h.reads_below }
 suited_after opened k (QueueWritten taken) h = h
+suited_after opened k (ServerTold what) h = h
 
 -- whatever the client sends
 pub calls_suit_lem : (opened : LinkParameters) (es : List RunEvent) → AreSuited (server_by opened es).received.sends (server_by opened es).calls (server_by opened es).reads

@@ -191,7 +191,9 @@ with_by k f r st = record {
   written = k.written;
   message_ends = k.message_ends ++ send_ends_from k.due (k.messages_queued + 1) st.errors;
   ready = k.ready ++ st.ready;
+  receives = k.receives;
   credit = k.credit;
+  low = k.low;
   up_max = k.up_max;
   down_max = k.down_max;
 }

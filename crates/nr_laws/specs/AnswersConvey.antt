@@ -20,6 +20,7 @@ use Rattle.nr_reduce.specs.declared.mark.LinkParameters.{LinkParameters}
 use Rattle.nr_reduce.specs.Chunks.{chunk_total, whole, some_bytes}
 use Rattle.nr_reduce.specs.Holds.{Answer, answer_lists, answer_message, first_chunk, no_segments}
 use Rattle.nr_reduce.specs.ChunkBytes.{answer_segments}
+use Rattle.nr_reduce.specs.ServerState.{credit_word}
 use Rattle.nr_reduce.specs.Server.{offer_of}
 use Rattle.nr_reduce.specs.Served.{ServedSoFar}
 use Rattle.nr_reduce.specs.Run.{server}
@@ -71,7 +72,7 @@ pub record ConveysItsReply (opened : LinkParameters) (link : ℕ) (before : List
       items_due opened link Responder (before ++ marks.Execute link xid moment payload place reply ∷ [])
       ≡ items_due opened link Responder before
       ++ (segment_writes (returned_segments offer answered.answer) (payloads_of (answer_segments offer answered.answer))
-      ++ SendItem (msn_word ((server opened link before).state.messages_queued + 1)) (answer_message xid (server opened link before).state.credit offer answered.answer) ∷ []))
+      ++ SendItem (msn_word ((server opened link before).state.messages_queued + 1)) (answer_message xid (credit_word (server opened link before).state) offer answered.answer) ∷ []))
   pub all : (let offer : ChunkLists = offer_of (server opened link before).state xid in
       length (payloads_of (answer_segments offer answered.answer)) ≡ moved_returned offer answered.answer + (if answered.answer.long then stream_returned offer answered.answer else 0))
   pub conveys : (let offer : ChunkLists = offer_of (server opened link before).state xid in

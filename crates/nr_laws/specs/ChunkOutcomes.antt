@@ -18,6 +18,7 @@ use Rattle.nr_reduce.specs.History.{AcceptedCall, completed_calls}
 use Rattle.nr_reduce.specs.Plans.{lists_of}
 use Rattle.nr_reduce.specs.ChunkBytes.{IsNotGiven}
 use Rattle.nr_reduce.specs.Holds.{Answer, answer_writes, answer_message}
+use Rattle.nr_reduce.specs.ServerState.{credit_word}
 use Rattle.nr_reduce.specs.Server.{offer_of, answer_of_target}
 use Rattle.nr_reduce.specs.Run.{client, server, output_due}
 use Rattle.nr_reduce.specs.OutcomesDue.{outcomes_due}
@@ -110,7 +111,7 @@ pub record IsAnswered (opened : LinkParameters) (link : ℕ) (before : List Mark
   pub due : output_due opened link Responder (before ++ marks.Execute link xid moment payload place reply ∷ [])
       ≡ output_due opened link Responder before
       ++ (answer_writes (offer_of (server opened link before).state xid) answer
-      ++ send ((server opened link before).state.messages_queued + 1) (answer_message xid (server opened link before).state.credit (offer_of (server opened link before).state xid) answer))
+      ++ send ((server opened link before).state.messages_queued + 1) (answer_message xid (credit_word (server opened link before).state) (offer_of (server opened link before).state xid) answer))
 
 -- On every link, whatever its client sends, the reply to each executed call that adds an entry to the journal goes out.
 abbrev pub ChangesAreAnswered : Type 0

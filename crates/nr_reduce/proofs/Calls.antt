@@ -24,7 +24,7 @@ use Rattle.nr_reduce.specs.declared.mark.Mark.TheVariants as marks
 use Rattle.nr_reduce.specs.declared.mark.LinkParameters.{LinkParameters}
 use Rattle.nr_reduce.specs.History.{AcceptedCall, ExecutedCall, bytes_received}
 use Rattle.nr_reduce.specs.Events.{RunEvent, if_own, events}
-use Rattle.nr_reduce.specs.Events.RunEvent.{FrameReceived, CallSubmitted, MemoryRevoked, CallExecuted, QueueWritten}
+use Rattle.nr_reduce.specs.Events.RunEvent.{FrameReceived, CallSubmitted, MemoryRevoked, CallExecuted, QueueWritten, ServerTold}
 use Rattle.nr_reduce.specs.EndRules.{EndState, next_end_state, next_end_state_by, next_end_state_in, end_state_after, output_for, output_for_by, output_for_all, live}
 use Rattle.nr_reduce.specs.declared.outline.Plan.{Plan}
 use Rattle.nr_reduce.specs.Plans.{TooLarge, call_message}
@@ -32,7 +32,7 @@ use Rattle.nr_reduce.specs.Chunks.{is_read_chunk_of_item}
 use Rattle.nr_reduce.specs.Holds.{Answer, answer_writes, answer_message, chunk_error, version_error}
 use Rattle.nr_reduce.specs.ClientState.{ClientState, call_payload, plan_for}
 use Rattle.nr_reduce.specs.Client.{client_rules, client_end, client_output, client_state_after, with_segment, plan_or, outstanding_of, call_output, calls_output, response_output, segment_request, with_hello}
-use Rattle.nr_reduce.specs.ServerState.{ServerState, ReadyCall, PendingCall, PendingRead}
+use Rattle.nr_reduce.specs.ServerState.{ServerState, ReadyCall, PendingCall, PendingRead, credit_word, receives_in_use}
 use Rattle.nr_reduce.specs.ServerReads.{open_reads, is_read, regions_of, reads_of}
 use Rattle.nr_reduce.specs.ServerMessages.{Verdict, CallVerdict, verdict, by_payload, by_head, pending_payload, call_xid, chunk_bytes}
 use Rattle.nr_reduce.specs.ServerMessages.Verdict.{EndsLink, OtherVersion, BadChunks, MakesPending}
@@ -125,11 +125,11 @@ pub execute_answered : (opened : LinkParameters) (link : ℕ) (run : List Mark) 
     output_due opened link Responder (run ++ marks.Execute link xid moment payload place reply ∷ [])
     ≡ output_due opened link Responder run
     ++ (answer_writes (offer_of (server opened link run).state xid) a
-    ++ send ((server opened link run).state.messages_queued + 1) (answer_message xid (server opened link run).state.credit (offer_of (server opened link run).state xid) a)))
+    ++ send ((server opened link run).state.messages_queued + 1) (answer_message xid (credit_word (server opened link run).state) (offer_of (server opened link run).state xid) a)))
     × (answer_of_target (offer_of (server opened link run).state xid) (server opened link run).state.down_max reply (target_of (call_of payload)) ≡ None →
     output_due opened link Responder (run ++ marks.Execute link xid moment payload place reply ∷ [])
     ≡ output_due opened link Responder run
-    ++ send ((server opened link run).state.messages_queued + 1) (chunk_error xid (server opened link run).state.credit))
+    ++ send ((server opened link run).state.messages_queued + 1) (chunk_error xid (credit_word (server opened link run).state)))
 unfolding execution_output
 execute_answered opened link run xid moment payload place reply h =
     let k : ServerState = (server opened link run).state in
@@ -219,6 +219,7 @@ after_heads opened k (CallSubmitted place a) h = h
 after_heads opened k (MemoryRevoked place xid) h = h
 after_heads opened k (CallExecuted e) h = heads_drop k.ready h
 after_heads opened k (QueueWritten taken) h = h
+after_heads opened k (ServerTold what) h = h
 
 events_heads : (opened : LinkParameters) (r : EndState ServerState) (es : List RunEvent) → AreHeads r.state.ready → AreHeads (end_state_after (server_rules opened) r es).state.ready
 events_heads opened r [] h = h
@@ -284,11 +285,11 @@ refused_effect k f (Untagged last opcode w queue msn offset payload) message v i
 
 pub refused_answered : (opened : LinkParameters) (k : ServerState) (f : Frame) (segment : Segment) (message : List ℕ) → is_hello f ≡ false → frame_segment f ≡ Ok segment →
     message_completed k.received segment ≡ Some message → server_end opened k (FrameReceived f) ≡ None →
-    (verdict k message ≡ BadChunks → IsOnlyAnswered opened k f (chunk_error (word_at 0 message) k.credit))
-    × (verdict k message ≡ OtherVersion → IsOnlyAnswered opened k f (version_error (word_at 0 message) (word_at 4 message) k.credit))
+    (verdict k message ≡ BadChunks → IsOnlyAnswered opened k f (chunk_error (word_at 0 message) (credit_word k)))
+    × (verdict k message ≡ OtherVersion → IsOnlyAnswered opened k f (version_error (word_at 0 message) (word_at 4 message) (credit_word k)))
 refused_answered opened k f segment message later is whole none = (
-  (λ e. only_answered opened k f (chunk_error (word_at 0 message) k.credit) later none (refused_effect k f segment message BadChunks is whole e)),
-  λ e. only_answered opened k f (version_error (word_at 0 message) (word_at 4 message) k.credit) later none (refused_effect k f segment message OtherVersion is whole e),
+  (λ e. only_answered opened k f (chunk_error (word_at 0 message) (credit_word k)) later none (refused_effect k f segment message BadChunks is whole e)),
+  λ e. only_answered opened k f (version_error (word_at 0 message) (word_at 4 message) (credit_word k)) later none (refused_effect k f segment message OtherVersion is whole e),
 )
 
 -- ---- A refused call
@@ -300,6 +301,11 @@ tagged_effect_is k f (Tagged last opcode stag to payload) is e =
     ap (λ (r : Result Segment ℕ). effect_in k f r) is
     ∙ ap (λ (b : Bool). cond b (response_effect t f.end k.reads) (no_effect t)) e
 tagged_effect_is k f (Untagged last opcode w queue msn offset payload) is e = absurd cc
+
+-- the access of its own segment changes nothing in the credit word
+pub access_credit : (k : ServerState) (f : Frame) (segment : Segment) → credit_word (with_access k f segment) ≡ credit_word k
+unfolding credit_word receives_in_use
+access_credit k f segment = refl
 
 pub refused_call_effect : (k : ServerState) (f : Frame) (segment : Segment) (c : PendingCall) → frame_segment f ≡ Ok segment → (h : IsStreamRefused k f segment c) →
     frame_effect k f ≡ with_refused_call (with_access k f segment) c (record (no_effect (with_access k f segment)) { reads = h.others; kept = length (open_reads k) - 1 })
@@ -323,7 +329,8 @@ refused_call_lem opened k f segment c later is h none =
           stays_output opened k (FrameReceived f) none
           ∙ ap (λ (b : Bool). cond b (server_hello opened f) (effect_output k (frame_effect k f))) later
           ∙ ap (λ (s : FrameEffect). sends_from (k.messages_queued + 1) s.errors ++ requests_from (k.requests_sent + 1) (newly_open_reads (frame_effect k f))) effect
-          ∙ ap (λ (xs : List ℕ). xs ++ requests_from (k.requests_sent + 1) (newly_open_reads (frame_effect k f))) (append-nil (send (k.messages_queued + 1) (chunk_error c.xid k.credit)));
+          ∙ ap (λ (n : ℕ). (send (k.messages_queued + 1) (chunk_error c.xid n) ++ []) ++ requests_from (k.requests_sent + 1) (newly_open_reads (frame_effect k f))) (access_credit k f segment)
+          ∙ ap (λ (xs : List ℕ). xs ++ requests_from (k.requests_sent + 1) (newly_open_reads (frame_effect k f))) (append-nil (send (k.messages_queued + 1) (chunk_error c.xid (credit_word k))));
       stays = ap (λ (r : EndState ServerState). r.ended) after;
       calls = ap (λ (r : EndState ServerState). r.state.calls) after ∙ (λ i. (cond (later i) (with_own_hello opened k f) (with_effect k f (effect i))).calls);
       ready = ap (λ (r : EndState ServerState). r.state.ready) after ∙ (λ i. (cond (later i) (with_own_hello opened k f) (with_effect k f (effect i))).ready) ∙ append-nil k.ready;

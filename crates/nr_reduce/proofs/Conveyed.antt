@@ -18,7 +18,7 @@ use Rattle.nr_link.specs.Ending.{frame_segment}
 use Rattle.nr_reduce.specs.declared.mark.Mark.{Mark}
 use Rattle.nr_reduce.specs.declared.mark.LinkParameters.{LinkParameters}
 use Rattle.nr_reduce.specs.Events.{RunEvent, events}
-use Rattle.nr_reduce.specs.Events.RunEvent.{FrameReceived, CallSubmitted, MemoryRevoked, CallExecuted, QueueWritten}
+use Rattle.nr_reduce.specs.Events.RunEvent.{FrameReceived, CallSubmitted, MemoryRevoked, CallExecuted, QueueWritten, ServerTold}
 use Rattle.nr_reduce.specs.EndRules.{EndState, end_state_after, next_end_state_by, next_end_state_in}
 use Rattle.nr_reduce.specs.ServerState.{ServerState, ReadyCall, PendingRead, PendingCall, next_stag, is_pending}
 use Rattle.nr_reduce.specs.ServerReads.{is_read, chunks_of}
@@ -288,6 +288,7 @@ after_known opened es (CallExecuted e) h =
       ready = each_drop (WasConveyed opened (es ++ CallExecuted e ∷ [])) k.ready g.ready;
     }
 after_known opened es (QueueWritten taken) h = (let g = known_later opened es (QueueWritten taken) (server_by opened es) h in record { calls = g.calls; ready = g.ready })
+after_known opened es (ServerTold what) h = (let g = known_later opened es (ServerTold what) (server_by opened es) h in record { calls = g.calls; ready = g.ready })
 
 next_known : (opened : LinkParameters) (es : List RunEvent) (event : RunEvent) → Known opened es (server_by opened es) → Known opened (es ++ event ∷ []) (server_by opened (es ++ event ∷ []))
 next_known opened es event h =

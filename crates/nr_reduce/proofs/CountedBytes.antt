@@ -15,7 +15,7 @@ use Rattle.nr_reduce.specs.declared.mark.Mark.TheVariants as marks
 use Rattle.nr_reduce.specs.declared.mark.LinkParameters.{LinkParameters}
 use Rattle.nr_reduce.specs.History.{other, same_side, written_at, bytes_sent, bytes_received}
 use Rattle.nr_reduce.specs.Events.{RunEvent, if_own, events_at, events_from, events}
-use Rattle.nr_reduce.specs.Events.RunEvent.{FrameReceived, CallSubmitted, MemoryRevoked, CallExecuted, QueueWritten}
+use Rattle.nr_reduce.specs.Events.RunEvent.{FrameReceived, CallSubmitted, MemoryRevoked, CallExecuted, QueueWritten, ServerTold}
 use Rattle.nr_reduce.specs.EndRules.{EndMachine, EndState, live, next_end_state_by, end_state_after, output_for_by, output_for_all}
 use Rattle.nr_reduce.specs.ClientState.{ClientState}
 use Rattle.nr_reduce.specs.Client.{client_rules, client_state_after, initial_client, due_with_response, with_hello, with_message, with_request, with_segment}
@@ -54,6 +54,7 @@ taken_by (CallSubmitted place a) = 0
 taken_by (MemoryRevoked place xid) = 0
 taken_by (CallExecuted call) = 0
 taken_by (QueueWritten taken) = taken
+taken_by (ServerTold what) = 0
 
 abbrev taken_in : List RunEvent → ℕ
 taken_in [] = 0
@@ -105,6 +106,7 @@ taken_at link side before (marks.Done l xid outcome) = refl
 taken_at link side before (marks.Lost l xid) = refl
 taken_at link side before (marks.Forget l xid) = refl
 taken_at link side before (marks.Drop l) = refl
+taken_at link side before (marks.Told l what) = none_taken_lem (eqb l link && same_side Responder side) (ServerTold what ∷ []) refl
 
 taken_from : (link : ℕ) (side : Side) (before run : List Mark) → taken_in (events_from link side before run) ≡ length (flat_map (written_at link side) run)
 taken_from link side before [] = refl
@@ -139,6 +141,7 @@ client_writes opened k (CallSubmitted place a) = omega arith
 client_writes opened k (MemoryRevoked place xid) = omega arith
 client_writes opened k (CallExecuted call) = omega arith
 client_writes opened k (QueueWritten taken) = refl
+client_writes opened k (ServerTold what) = omega arith
 
 pub client_bytes_written : (opened : LinkParameters) (link : ℕ) (run : List Mark) → (client opened link run).ended ≡ None → (client opened link run).state.written ≡ length (bytes_sent link Initiator run)
 unfolding client
@@ -169,6 +172,7 @@ server_writes opened k (CallSubmitted place a) = omega arith
 server_writes opened k (MemoryRevoked place xid) = omega arith
 server_writes opened k (CallExecuted e) = omega arith
 server_writes opened k (QueueWritten taken) = refl
+server_writes opened k (ServerTold what) = omega arith
 
 pub server_bytes_written : (opened : LinkParameters) (link : ℕ) (run : List Mark) → (server opened link run).ended ≡ None → (server opened link run).state.written ≡ length (bytes_sent link Responder run)
 unfolding server

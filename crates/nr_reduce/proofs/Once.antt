@@ -30,7 +30,7 @@ use Rattle.nr_link.specs.Ending.{frame_segment}
 use Rattle.nr_reduce.specs.OfferedRegions.{Region}
 use Rattle.nr_reduce.specs.Events.{RunEvent, if_own, events_at, events}
 use Rattle.nr_reduce.specs.EndRules.{EndState, end_state_after, next_end_state, next_end_state_by, next_end_state_in}
-use Rattle.nr_reduce.specs.Events.RunEvent.{FrameReceived, CallSubmitted, MemoryRevoked, CallExecuted, QueueWritten}
+use Rattle.nr_reduce.specs.Events.RunEvent.{FrameReceived, CallSubmitted, MemoryRevoked, CallExecuted, QueueWritten, ServerTold}
 use Rattle.nr_reduce.specs.Plans.{one_if}
 use Rattle.nr_reduce.specs.ServerState.{ServerState, ReadyCall, PendingRead, PendingCall, next_stag, is_pending}
 use Rattle.nr_reduce.specs.ServerReads.{is_read, reads_of, reads_from, read_of, chunks_of, regions_of}
@@ -391,6 +391,7 @@ after_goes opened k (CallSubmitted place a) = stays k k refl (λ n. omega arith)
 after_goes opened k (MemoryRevoked place xid) = stays k k refl (λ n. omega arith)
 after_goes opened k (CallExecuted e) = stays k _ refl (λ n. (let a = times_ready_drop n k.ready in omega (arith, a)))
 after_goes opened k (QueueWritten taken) = stays k _ refl (λ n. omega arith)
+after_goes opened k (ServerTold what) = stays k _ refl (λ n. omega arith)
 
 -- ---- What holds along a run
 

@@ -11,7 +11,7 @@ use Rattle.nr_reduce.specs.declared.mark.Mark.{Mark}
 use Rattle.nr_reduce.specs.declared.mark.LinkParameters.{LinkParameters}
 use Rattle.nr_reduce.specs.History.{CompletedCall}
 use Rattle.nr_reduce.specs.Events.{RunEvent, events_at}
-use Rattle.nr_reduce.specs.Events.RunEvent.{FrameReceived, CallSubmitted, MemoryRevoked, CallExecuted, QueueWritten}
+use Rattle.nr_reduce.specs.Events.RunEvent.{FrameReceived, CallSubmitted, MemoryRevoked, CallExecuted, QueueWritten, ServerTold}
 use Rattle.nr_reduce.specs.EndRules.{EndState}
 use Rattle.nr_reduce.specs.ClientState.{ClientState}
 use Rattle.nr_reduce.specs.Client.{client_rules, client_state_after, outcomes_of, with_message, with_request, with_segment, with_hello, due_with_response}
@@ -42,6 +42,7 @@ outcome_kept opened c k (CallSubmitted place a) h = h
 outcome_kept opened c k (MemoryRevoked place xid) h = h
 outcome_kept opened c k (CallExecuted call) h = h
 outcome_kept opened c k (QueueWritten taken) h = h
+outcome_kept opened c k (ServerTold what) h = h
 
 outcome_one : (opened : LinkParameters) (link : ℕ) (run : List Mark) (mark : Mark) (c : CompletedCall) → Contains (client opened link run).state.outcomes c → Contains (client opened link (run ++ mark ∷ [])).state.outcomes c
 outcome_one opened link run mark c h =

@@ -17,7 +17,7 @@ use Rattle.nr_link.specs.ReceiveState.{ReadRequest, message_completed, read_requ
 use Rattle.nr_reduce.specs.Hellos.{client_hello}
 use Rattle.nr_reduce.specs.declared.mark.LinkParameters.{LinkParameters}
 use Rattle.nr_reduce.specs.Events.{RunEvent, events}
-use Rattle.nr_reduce.specs.Events.RunEvent.{FrameReceived, CallSubmitted, MemoryRevoked, CallExecuted, QueueWritten}
+use Rattle.nr_reduce.specs.Events.RunEvent.{FrameReceived, CallSubmitted, MemoryRevoked, CallExecuted, QueueWritten, ServerTold}
 use Rattle.nr_reduce.specs.EndRules.{EndMachine, EndState, live, next_end_state, next_end_state_by, end_state_after, output_for_by, output_for_in, output_for_all}
 use Rattle.nr_reduce.specs.Written.{ends_written, ends_waiting}
 use Rattle.nr_reduce.specs.Plans.{call_message}
@@ -161,6 +161,7 @@ client_encoded opened k (CallSubmitted place a) = by k.has_hello
 client_encoded opened k (MemoryRevoked place xid) = refl
 client_encoded opened k (CallExecuted call) = refl
 client_encoded opened k (QueueWritten taken) = refl
+client_encoded opened k (ServerTold what) = refl
 
 client_more : (opened : LinkParameters) (k : ClientState) (e : RunEvent) → (client_state_after opened k e).due ≡ k.due + length (items_encoding (client_items_at opened k e))
 client_more opened k e = client_due opened k e ∙ ap (λ (xs : List ℕ). k.due + length xs) (client_encoded opened k e)
@@ -204,6 +205,7 @@ client_sends opened k (CallSubmitted place a) = by k.has_hello
 client_sends opened k (MemoryRevoked place xid) = sym (append-nil k.send_ends)
 client_sends opened k (CallExecuted call) = sym (append-nil k.send_ends)
 client_sends opened k (QueueWritten taken) = sym (append-nil k.send_ends)
+client_sends opened k (ServerTold what) = sym (append-nil k.send_ends)
 
 client_responses : (opened : LinkParameters) (k : ClientState) (e : RunEvent) → (client_state_after opened k e).response_ends ≡ k.response_ends ++ item_ends is_response_item k.due (client_items_at opened k e)
 unfolding client_state_after client_items_at
@@ -231,6 +233,7 @@ client_responses opened k (CallSubmitted place a) = by k.has_hello
 client_responses opened k (MemoryRevoked place xid) = sym (append-nil k.response_ends)
 client_responses opened k (CallExecuted call) = sym (append-nil k.response_ends)
 client_responses opened k (QueueWritten taken) = sym (append-nil k.response_ends)
+client_responses opened k (ServerTold what) = sym (append-nil k.response_ends)
 
 pub client_output_items : ClientOutputIsItems
 unfolding output_due items_due hello_due

@@ -16,7 +16,7 @@ use Rattle.nr_reduce.specs.Hellos.{client_private, private_of, server_private, c
 use Rattle.nr_reduce.specs.Limits.{send_unit}
 use Rattle.nr_reduce.specs.Plans.{TooLarge, plan_of}
 use Rattle.nr_reduce.specs.Events.{RunEvent, events}
-use Rattle.nr_reduce.specs.Events.RunEvent.{FrameReceived, CallSubmitted, MemoryRevoked, CallExecuted, QueueWritten}
+use Rattle.nr_reduce.specs.Events.RunEvent.{FrameReceived, CallSubmitted, MemoryRevoked, CallExecuted, QueueWritten, ServerTold}
 use Rattle.nr_reduce.specs.EndRules.{end_state_after}
 use Rattle.nr_reduce.specs.ClientState.{ClientState, call_payload, plan_for}
 use Rattle.nr_reduce.specs.Client.{client_rules, client_state_after, initial_client, with_hello, with_message, with_request, with_segment, due_with_response}
@@ -62,6 +62,7 @@ client_event opened k (CallSubmitted p a) h = record { up = h.up; down = h.down 
 client_event opened k (MemoryRevoked p xid) h = record { up = h.up; down = h.down }
 client_event opened k (CallExecuted e) h = h
 client_event opened k (QueueWritten taken) h = record { up = h.up; down = h.down }
+client_event opened k (ServerTold what) h = record { up = h.up; down = h.down }
 
 pub client_limits : (opened : LinkParameters) (es : List RunEvent) → ClientLimits (end_state_after (client_rules opened) (initial_client opened) es).state
 client_limits opened es = kept_after (client_rules opened) ClientLimits (client_event opened) (initial_client opened) es (record { up = one_unit; down = one_unit })
@@ -81,6 +82,7 @@ server_event opened k (CallSubmitted p a) h = h
 server_event opened k (MemoryRevoked p xid) h = h
 server_event opened k (CallExecuted e) h = record { up = h.up; down = h.down }
 server_event opened k (QueueWritten taken) h = record { up = h.up; down = h.down }
+server_event opened k (ServerTold what) h = record { up = h.up; down = h.down }
 
 pub server_limits : (opened : LinkParameters) (es : List RunEvent) → ServerLimits (end_state_after (server_rules opened) (initial_server opened) es).state
 server_limits opened es = kept_after (server_rules opened) ServerLimits (server_event opened) (initial_server opened) es (record { up = one_unit; down = one_unit })

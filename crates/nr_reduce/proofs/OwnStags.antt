@@ -19,7 +19,7 @@ use Rattle.nr_reduce.specs.declared.outline.Plan.{Plan}
 use Rattle.nr_reduce.specs.Plans.{Buffer, buffer_if, buffers, one_if, has_segment, read_stag, write_stag, reply_stag, regions_needed, total}
 use Rattle.nr_reduce.specs.OfferedRegions.{Region, region_grant, region_grants, closed_if, regions_closed}
 use Rattle.nr_reduce.specs.Events.{RunEvent, events}
-use Rattle.nr_reduce.specs.Events.RunEvent.{FrameReceived, CallSubmitted, MemoryRevoked, CallExecuted, QueueWritten}
+use Rattle.nr_reduce.specs.Events.RunEvent.{FrameReceived, CallSubmitted, MemoryRevoked, CallExecuted, QueueWritten, ServerTold}
 use Rattle.nr_reduce.specs.EndRules.{EndMachine, EndState, next_end_state, next_end_state_by, next_end_state_in, end_state_after}
 use Rattle.nr_reduce.specs.ClientState.{ClientState}
 use Rattle.nr_reduce.specs.Client.{client_rules, client_state_after, initial_client, outstanding_of, region_of, with_message, with_request, with_segment, with_hello, due_with_response}
@@ -154,6 +154,7 @@ numbers_after opened k (CallSubmitted place a) h =
 numbers_after opened k (MemoryRevoked place xid) h = numbers_closed opened k (client_state_after opened k (MemoryRevoked place xid)) _ place refl refl h
 numbers_after opened k (CallExecuted call) h = h
 numbers_after opened k (QueueWritten taken) h = numbers_same opened k (client_state_after opened k (QueueWritten taken)) refl refl h
+numbers_after opened k (ServerTold what) h = numbers_same opened k (client_state_after opened k (ServerTold what)) refl refl h
 
 -- what each event keeps of a state stands after all of them
 kept_next : {S : Type 0} (rules : EndMachine S) (P : S → Type 0) → ((s : S) (event : RunEvent) → P s → P (rules.state_after s event)) → (r : EndState S) (event : RunEvent) → P r.state → P (next_end_state rules r event).state
@@ -240,6 +241,7 @@ server_after opened k (CallSubmitted place a) h = h
 server_after opened k (MemoryRevoked place xid) h = h
 server_after opened k (CallExecuted e) h = h
 server_after opened k (QueueWritten taken) h = h
+server_after opened k (ServerTold what) h = h
 
 pub server_numbers : (opened : LinkParameters) (es : List RunEvent) → ServerNumbers (end_state_after (server_rules opened) (initial_server opened) es).state
 server_numbers opened es = kept_after (server_rules opened) ServerNumbers (server_after opened) (initial_server opened) es tt

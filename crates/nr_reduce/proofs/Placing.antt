@@ -23,7 +23,7 @@ use Rattle.nr_link.specs.ReceiveState.{ReadRequest, message_completed, read_requ
 use Rattle.nr_link.specs.Ending.{frame_segment}
 use Rattle.nr_reduce.specs.Events.{RunEvent, if_own, events_at}
 use Rattle.nr_reduce.specs.EndRules.{EndState, end_state_after, next_end_state, next_end_state_by, next_end_state_in}
-use Rattle.nr_reduce.specs.Events.RunEvent.{FrameReceived, CallSubmitted, MemoryRevoked, CallExecuted, QueueWritten}
+use Rattle.nr_reduce.specs.Events.RunEvent.{FrameReceived, CallSubmitted, MemoryRevoked, CallExecuted, QueueWritten, ServerTold}
 use Rattle.nr_reduce.specs.ClientState.{ClientState}
 use Rattle.nr_reduce.specs.Client.{client_state_after, client_end, client_rules, with_message, with_request, with_segment, with_hello, due_with_response}
 use Rattle.nr_reduce.specs.Run.{client}
@@ -119,6 +119,7 @@ next_after opened k (CallSubmitted place a) = omega arith
 next_after opened k (MemoryRevoked place xid) = omega arith
 next_after opened k (CallExecuted call) = omega arith
 next_after opened k (QueueWritten taken) = omega arith
+next_after opened k (ServerTold what) = omega arith
 
 next_after_event : (opened : LinkParameters) (r : EndState ClientState) (event : RunEvent) → r.state.next_xid ≤ (next_end_state (client_rules opened) r event).state.next_xid
 next_after_event opened r event = by_end r.state r.ended

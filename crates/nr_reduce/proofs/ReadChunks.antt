@@ -27,7 +27,7 @@ use Rattle.nr_reduce.specs.Plans.{TooLarge, Buffer, one_if, buffer_if, buffers, 
 use Rattle.nr_reduce.specs.History.{AcceptedCall, bytes_received}
 use Rattle.nr_reduce.specs.OfferedRegions.{Region, region_grants, closed_if, regions_closed, region_bytes, region_bytes_by}
 use Rattle.nr_reduce.specs.Events.{RunEvent, if_own, events_at}
-use Rattle.nr_reduce.specs.Events.RunEvent.{FrameReceived, CallSubmitted, MemoryRevoked, CallExecuted, QueueWritten}
+use Rattle.nr_reduce.specs.Events.RunEvent.{FrameReceived, CallSubmitted, MemoryRevoked, CallExecuted, QueueWritten, ServerTold}
 use Rattle.nr_reduce.specs.EndRules.{EndState, next_end_state_in, end_state_after}
 use Rattle.nr_reduce.specs.ClientState.{ClientState, call_payload, plan_for}
 use Rattle.nr_reduce.specs.Client.{client_rules, client_end, client_state_after, plan_or, outstanding_of, region_of, with_message, with_request, with_segment, with_hello, due_with_response}
@@ -140,6 +140,7 @@ chunk_after opened stag bytes k (CallSubmitted place a) h =
 chunk_after opened stag bytes k (MemoryRevoked place xid) h = chunk_closed stag bytes k (client_state_after opened k (MemoryRevoked place xid)) _ place refl refl h
 chunk_after opened stag bytes k (CallExecuted call) h = h
 chunk_after opened stag bytes k (QueueWritten taken) h = chunk_same stag bytes k (client_state_after opened k (QueueWritten taken)) refl refl h
+chunk_after opened stag bytes k (ServerTold what) h = chunk_same stag bytes k (client_state_after opened k (ServerTold what)) refl refl h
 
 chunk_more : (opened : LinkParameters) (link stag : ℕ) (bytes : List ℕ) (run more : List Mark) → KeepsChunk stag bytes (client opened link run).state → KeepsChunk stag bytes (client opened link (run ++ more)).state
 chunk_more opened link stag bytes run [] h = subst (λ (r : List Mark). KeepsChunk stag bytes (client opened link r).state) (sym (append-nil run)) h

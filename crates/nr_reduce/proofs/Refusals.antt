@@ -13,7 +13,7 @@ use Rattle.nr_link.specs.Ending.{frame_segment}
 use Rattle.nr_reduce.specs.declared.mark.Mark.{Mark}
 use Rattle.nr_reduce.specs.declared.mark.LinkParameters.{LinkParameters}
 use Rattle.nr_reduce.specs.Events.{RunEvent, events}
-use Rattle.nr_reduce.specs.Events.RunEvent.{FrameReceived, CallSubmitted, MemoryRevoked, CallExecuted, QueueWritten}
+use Rattle.nr_reduce.specs.Events.RunEvent.{FrameReceived, CallSubmitted, MemoryRevoked, CallExecuted, QueueWritten, ServerTold}
 use Rattle.nr_reduce.specs.EndRules.{EndState, end_state_after, next_end_state, next_end_state_by, next_end_state_in}
 use Rattle.nr_reduce.specs.Plans.{one_if}
 use Rattle.nr_reduce.specs.ServerState.{ServerState, ReadyCall, PendingRead, PendingCall}
@@ -164,6 +164,7 @@ after_dropped opened n k event d = record {
     by_ready (MemoryRevoked place xid) = d.ready
     by_ready (CallExecuted e) = (let a = times_ready_drop n k.ready in let b = d.ready in omega (arith, a, b))
     by_ready (QueueWritten taken) = d.ready
+    by_ready (ServerTold what) = d.ready
 
     by_calls : (event : RunEvent) → pending_of n (server_state_after opened k event).calls ≡ false
     by_calls (FrameReceived f) = by (is_hello f)
@@ -175,6 +176,7 @@ after_dropped opened n k event d = record {
     by_calls (MemoryRevoked place xid) = d.calls
     by_calls (CallExecuted e) = pending_filter n (λ c. not (eqb c.xid e.xid)) k.calls d.calls
     by_calls (QueueWritten taken) = d.calls
+    by_calls (ServerTold what) = d.calls
 
 events_dropped : (opened : LinkParameters) (n : ℕ) (r : EndState ServerState) (es : List RunEvent) → Dropped n r.state → Dropped n (end_state_after (server_rules opened) r es).state
 events_dropped opened n r [] d = d

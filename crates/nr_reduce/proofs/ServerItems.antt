@@ -16,7 +16,7 @@ use Rattle.nr_reduce.specs.declared.mark.LinkParameters.{LinkParameters}
 use Rattle.nr_reduce.specs.History.{ExecutedCall}
 use Rattle.nr_reduce.specs.Holds.{Answer, answer_writes, answer_message, chunk_error, writes_into, first_chunk, no_segments}
 use Rattle.nr_reduce.specs.Events.{RunEvent}
-use Rattle.nr_reduce.specs.Events.RunEvent.{FrameReceived, CallSubmitted, MemoryRevoked, CallExecuted, QueueWritten}
+use Rattle.nr_reduce.specs.Events.RunEvent.{FrameReceived, CallSubmitted, MemoryRevoked, CallExecuted, QueueWritten, ServerTold}
 use Rattle.nr_reduce.specs.ServerState.{PendingRead, ServerState, credit_word}
 use Rattle.nr_reduce.specs.ServerFrames.{frame_effect}
 use Rattle.nr_reduce.specs.Server.{server_state_after, server_output, sends_from, send_ends_from, requests_from, newly_open_reads, effect_output, offer_of, answer_of_target, answer_output, execution_output, with_effect, with_own_hello}
@@ -92,6 +92,7 @@ server_encoded opened k (CallSubmitted place a) = refl
 server_encoded opened k (MemoryRevoked place xid) = refl
 server_encoded opened k (CallExecuted e) = execution_encoded k e
 server_encoded opened k (QueueWritten taken) = refl
+server_encoded opened k (ServerTold what) = refl
 
 pub server_last : (end : End) → last_output Responder end ≡ rejection Responder end ++ items_encoding (LastItem end ∷ [])
 server_last end = ap (λ (bs : List ℕ). rejection Responder end ++ bs) (sym (append-nil (final_output end)))
@@ -178,6 +179,7 @@ server_sends opened k (CallSubmitted place a) = sym (append-nil k.message_ends)
 server_sends opened k (MemoryRevoked place xid) = sym (append-nil k.message_ends)
 server_sends opened k (CallExecuted e) = ap (λ (ends : List ℕ). k.message_ends ++ ends) (execution_ends k e)
 server_sends opened k (QueueWritten taken) = sym (append-nil k.message_ends)
+server_sends opened k (ServerTold what) = sym (append-nil k.message_ends)
 
 pub server_more : (opened : LinkParameters) (k : ServerState) (e : RunEvent) → (server_state_after opened k e).due ≡ k.due + (length (server_hello_at opened e) + length (items_encoding (server_items_at opened k e)))
 server_more opened k e =

@@ -32,6 +32,7 @@ asked_mark opened link before (marks.Lost l xid) h = h
 asked_mark opened link before (marks.Forget l xid) h = h
 asked_mark opened link before (marks.Revoke l xid bytes) h = h
 asked_mark opened link before (marks.Drop l) h = h
+asked_mark opened link before (marks.Told l what) h = h
 
 pub served_mark : (opened : LinkParameters) (link : ℕ) (before : List Mark) (mark : Mark) → ServedMark IsAll opened link before mark → ServedMark IsPrefixOf opened link before mark
 served_mark opened link before (marks.Submit l call form answer) h = h
@@ -44,6 +45,7 @@ served_mark opened link before (marks.Lost l xid) h = h
 served_mark opened link before (marks.Forget l xid) h = h
 served_mark opened link before (marks.Revoke l xid bytes) h = h
 served_mark opened link before (marks.Drop l) h = h
+served_mark opened link before (marks.Told l what) h = h
 
 pub so_far : (opened : LinkParameters) (link : ℕ) (run more : List Mark) → InFull opened link (run ++ more) → SoFar opened link run
 so_far opened link run more full = record {

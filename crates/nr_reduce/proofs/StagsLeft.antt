@@ -20,7 +20,7 @@ use Rattle.nr_reduce.specs.AtEachMark.{AtEachMark}
 use Rattle.nr_reduce.specs.Opening.{IsOpened}
 use Rattle.nr_reduce.specs.Matched.{IsPrefixOf}
 use Rattle.nr_reduce.specs.Events.{RunEvent, if_own, events_at, events}
-use Rattle.nr_reduce.specs.Events.RunEvent.{FrameReceived, CallSubmitted, MemoryRevoked, CallExecuted, QueueWritten}
+use Rattle.nr_reduce.specs.Events.RunEvent.{FrameReceived, CallSubmitted, MemoryRevoked, CallExecuted, QueueWritten, ServerTold}
 use Rattle.nr_reduce.specs.EndRules.{EndState, next_end_state, next_end_state_by, next_end_state_in, end_state_after}
 use Rattle.nr_reduce.specs.ClientState.{ClientState, call_payload, plan_for}
 use Rattle.nr_reduce.specs.Client.{client_rules, client_end, client_state_after, plan_or, with_message, with_request, with_segment, with_hello, due_with_response}
@@ -39,6 +39,7 @@ OffersNothing (CallSubmitted place a) = ⊥
 OffersNothing (MemoryRevoked place xid) = Unit {0}
 OffersNothing (CallExecuted call) = Unit {0}
 OffersNothing (QueueWritten taken) = Unit {0}
+OffersNothing (ServerTold what) = Unit {0}
 
 abbrev OfferNothing : List RunEvent → Type 0
 OfferNothing [] = Unit {0}
@@ -68,6 +69,7 @@ stag_after opened k (CallSubmitted place a) h = absurd h
 stag_after opened k (MemoryRevoked place xid) h = refl
 stag_after opened k (CallExecuted call) h = refl
 stag_after opened k (QueueWritten taken) h = refl
+stag_after opened k (ServerTold what) h = refl
 
 stag_next : (opened : LinkParameters) (r : EndState ClientState) (event : RunEvent) → OffersNothing event → (next_end_state (client_rules opened) r event).state.stag ≡ r.state.stag
 stag_next opened r event h = by_end r.state r.ended
@@ -133,6 +135,7 @@ left_mark opened link before (marks.Lost l xid) low h = low
 left_mark opened link before (marks.Forget l xid) low h = low
 left_mark opened link before (marks.Revoke l xid bytes) low h = left_nothing opened link before (marks.Revoke l xid bytes) low (nothing_if _ (MemoryRevoked (length (bytes_received link Initiator before)) xid ∷ []) (tt, tt))
 left_mark opened link before (marks.Drop l) low h = low
+left_mark opened link before (marks.Told l what) low h = left_nothing opened link before (marks.Told l what) low (nothing_if _ (ServerTold what ∷ []) (tt, tt))
 
 left_from : (opened : LinkParameters) (link : ℕ) (before run : List Mark) → next_stag_after opened link before ≤ numbers_end → AtEachMark (AskedMark IsPrefixOf opened link) before run → next_stag_after opened link (before ++ run) ≤ numbers_end
 left_from opened link before [] low h = subst (λ (r : List Mark). next_stag_after opened link r ≤ numbers_end) (sym (append-nil before)) low

@@ -17,7 +17,7 @@ use Rattle.nr_reduce.specs.declared.mark.Mark.TheVariants as marks
 use Rattle.nr_reduce.specs.declared.mark.LinkParameters.{LinkParameters}
 use Rattle.nr_reduce.specs.History.{bytes_received, fed_at, same_side}
 use Rattle.nr_reduce.specs.Events.{RunEvent, if_own, events_at, events}
-use Rattle.nr_reduce.specs.Events.RunEvent.{FrameReceived, CallSubmitted, MemoryRevoked, CallExecuted, QueueWritten}
+use Rattle.nr_reduce.specs.Events.RunEvent.{FrameReceived, CallSubmitted, MemoryRevoked, CallExecuted, QueueWritten, ServerTold}
 use Rattle.nr_link.specs.declared.end.End.{End}
 use Rattle.nr_reduce.specs.AtEachMark.{AtEachMark}
 use Rattle.nr_reduce.specs.Matched.{IsPrefixOf}
@@ -59,6 +59,7 @@ BringsNoFrame (CallSubmitted place a) = Unit {0}
 BringsNoFrame (MemoryRevoked place xid) = Unit {0}
 BringsNoFrame (CallExecuted call) = Unit {0}
 BringsNoFrame (QueueWritten taken) = Unit {0}
+BringsNoFrame (ServerTold what) = Unit {0}
 
 unasked_after : (opened : LinkParameters) (k : ServerState) (event : RunEvent) → BringsNoFrame event → IsUnasked k → IsUnasked (server_state_after opened k event)
 unfolding server_state_after
@@ -73,6 +74,7 @@ unasked_after opened k (CallExecuted call) none u = record {
   regions = u.regions;
 }
 unasked_after opened k (QueueWritten taken) none u = record { received = u.received; calls = u.calls; reads = u.reads; ready = u.ready; regions = u.regions }
+unasked_after opened k (ServerTold what) none u = record { received = u.received; calls = u.calls; reads = u.reads; ready = u.ready; regions = u.regions }
 
 lives_after : (opened : LinkParameters) (k : ServerState) (event : RunEvent) → BringsNoFrame event → server_end opened k event ≡ None
 unfolding server_end
@@ -81,6 +83,7 @@ lives_after opened k (CallSubmitted place a) none = refl
 lives_after opened k (MemoryRevoked place xid) none = refl
 lives_after opened k (CallExecuted call) none = refl
 lives_after opened k (QueueWritten taken) none = refl
+lives_after opened k (ServerTold what) none = refl
 
 quiet_event : (opened : LinkParameters) (e : EndState ServerState) (event : RunEvent) → BringsNoFrame event → IsQuiet e → IsQuiet (next_end_state (server_rules opened) e event)
 quiet_event opened e event none q =
@@ -118,6 +121,7 @@ mark_brings link run (marks.Done l xid outcome) none = tt
 mark_brings link run (marks.Lost l xid) none = tt
 mark_brings link run (marks.Forget l xid) none = tt
 mark_brings link run (marks.Drop l) none = tt
+mark_brings link run (marks.Told l what) none = own_none (eqb l link && same_side Responder Responder) _ (tt, tt)
 
 quiet_mark : (opened : LinkParameters) (link : ℕ) (run : List Mark) (mark : Mark) → (input_of Initiator (bytes_received link Responder (run ++ mark ∷ []))).awaited ≡ HelloFrom Initiator →
     IsQuiet (server opened link run) → IsQuiet (server opened link (run ++ mark ∷ []))
@@ -157,6 +161,7 @@ IsSilent (CallSubmitted place a) = Unit {0}
 IsSilent (MemoryRevoked place xid) = Unit {0}
 IsSilent (CallExecuted call) = ⊥
 IsSilent (QueueWritten taken) = Unit {0}
+IsSilent (ServerTold what) = Unit {0}
 
 brings_no_frame : (event : RunEvent) → IsSilent event → BringsNoFrame event
 brings_no_frame (FrameReceived f) silent = silent
@@ -164,6 +169,7 @@ brings_no_frame (CallSubmitted place a) silent = tt
 brings_no_frame (MemoryRevoked place xid) silent = tt
 brings_no_frame (CallExecuted call) silent = tt
 brings_no_frame (QueueWritten taken) silent = tt
+brings_no_frame (ServerTold what) silent = tt
 
 silent_output : (opened : LinkParameters) (k : ServerState) (event : RunEvent) → IsSilent event → server_output opened k event ≡ []
 unfolding server_output
@@ -172,6 +178,7 @@ silent_output opened k (CallSubmitted place a) silent = refl
 silent_output opened k (MemoryRevoked place xid) silent = refl
 silent_output opened k (CallExecuted call) silent = absurd silent
 silent_output opened k (QueueWritten taken) silent = refl
+silent_output opened k (ServerTold what) silent = refl
 
 silent_event : (opened : LinkParameters) (e : EndState ServerState) (event : RunEvent) → IsSilent event → IsQuiet e → output_for (server_rules opened) e event ≡ []
 silent_event opened e event silent q =
@@ -222,6 +229,7 @@ mark_silent opened link run (marks.Done l xid outcome) none q h = tt
 mark_silent opened link run (marks.Lost l xid) none q h = tt
 mark_silent opened link run (marks.Forget l xid) none q h = tt
 mark_silent opened link run (marks.Drop l) none q h = tt
+mark_silent opened link run (marks.Told l what) none q h = own_silent (eqb l link && same_side Responder Responder) _ (tt, tt)
 
 due_from : (opened : LinkParameters) (link : ℕ) (before run : List Mark) → (input_of Initiator (bytes_received link Responder (before ++ run))).awaited ≡ HelloFrom Initiator →
     IsQuiet (server opened link before) → output_due opened link Responder before ≡ [] → AtEachMark (ServedMark IsPrefixOf opened link) before run → output_due opened link Responder (before ++ run) ≡ []

@@ -15,7 +15,7 @@ use Rattle.nr_reduce.specs.declared.mark.LinkParameters.{LinkParameters}
 use Rattle.nr_reduce.specs.History.{other, written_at, fed_at, bytes_sent, bytes_received, accepted_as, accepted_at, executed_at, completed_at, abandons}
 use Rattle.nr_reduce.specs.Concerns.{is_judged, is_fed, concerns}
 use Rattle.nr_reduce.specs.Events.{RunEvent, if_own, mark_events, events_at}
-use Rattle.nr_reduce.specs.Events.RunEvent.{FrameReceived, CallSubmitted, MemoryRevoked, CallExecuted, QueueWritten}
+use Rattle.nr_reduce.specs.Events.RunEvent.{FrameReceived, CallSubmitted, MemoryRevoked, CallExecuted, QueueWritten, ServerTold}
 use Rattle.nr_reduce.specs.EndRules.{end_state_after}
 use Rattle.nr_reduce.specs.Client.{client_rules}
 use Rattle.nr_reduce.specs.Server.{server_rules}
@@ -78,6 +78,7 @@ no_mark_events link side place completed (marks.Lost l xid) e fed = refl
 no_mark_events link side place completed (marks.Forget l xid) e fed = refl
 no_mark_events link side place completed (marks.Revoke l xid bytes) e fed = ap (λ (b : Bool). if_own b (MemoryRevoked place xid ∷ [])) e
 no_mark_events link side place completed (marks.Drop l) e fed = refl
+no_mark_events link side place completed (marks.Told l what) e fed = ap (λ (b : Bool). if_own b (ServerTold what ∷ [])) e
 
 pub no_events : (link : ℕ) (side : Side) (before : List Mark) (mark : Mark) → concerns link side mark ≡ false → events_at link side before mark ≡ []
 no_events link side before mark e =
@@ -93,6 +94,7 @@ none_written link side (marks.Lost l xid) e = refl
 none_written link side (marks.Forget l xid) e = refl
 none_written link side (marks.Revoke l xid bytes) e = refl
 none_written link side (marks.Drop l) e = refl
+none_written link side (marks.Told l what) e = refl
 
 pub none_fed : (link : ℕ) (side : Side) (mark : Mark) → is_fed link side mark ≡ false → fed_at link side mark ≡ []
 none_fed link side (marks.Submit l call form answer) e = refl
@@ -104,6 +106,7 @@ none_fed link side (marks.Lost l xid) e = refl
 none_fed link side (marks.Forget l xid) e = refl
 none_fed link side (marks.Revoke l xid bytes) e = refl
 none_fed link side (marks.Drop l) e = refl
+none_fed link side (marks.Told l what) e = refl
 
 pub sent_stays : (link : ℕ) (side : Side) (run : List Mark) (mark : Mark) → is_judged link side mark ≡ false → bytes_sent link side (run ++ mark ∷ []) ≡ bytes_sent link side run
 sent_stays link side run mark e = sent_one link side run mark ∙ ap (λ (xs : List ℕ). bytes_sent link side run ++ xs) (none_written link side mark e) ∙ append-nil (bytes_sent link side run)
@@ -143,6 +146,7 @@ none_accepted link (marks.Lost l xid) e = refl
 none_accepted link (marks.Forget l xid) e = refl
 none_accepted link (marks.Revoke l xid bytes) e = refl
 none_accepted link (marks.Drop l) e = refl
+none_accepted link (marks.Told l what) e = refl
 
 pub none_completed : (link : ℕ) (mark : Mark) → is_judged link Initiator mark ≡ false → completed_at link mark ≡ []
 none_completed link (marks.Submit l call form answer) e = refl
@@ -154,6 +158,7 @@ none_completed link (marks.Lost l xid) e = refl
 none_completed link (marks.Forget l xid) e = refl
 none_completed link (marks.Revoke l xid bytes) e = refl
 none_completed link (marks.Drop l) e = refl
+none_completed link (marks.Told l what) e = refl
 
 pub none_abandoned : (link xid : ℕ) (mark : Mark) → is_judged link Initiator mark ≡ false → abandons link xid mark ≡ false
 none_abandoned link xid (marks.Submit l call form answer) e = refl
@@ -165,6 +170,7 @@ none_abandoned link xid (marks.Lost l x) e = ap (λ (b : Bool). b && eqb x xid) 
 none_abandoned link xid (marks.Forget l x) e = ap (λ (b : Bool). b && eqb x xid) (other_link (eqb l link) e)
 none_abandoned link xid (marks.Revoke l x bytes) e = ap (λ (b : Bool). b && eqb x xid) (other_link (eqb l link) e)
 none_abandoned link xid (marks.Drop l) e = refl
+none_abandoned link xid (marks.Told l what) e = refl
 
 pub none_executed : (link : ℕ) (mark : Mark) → is_judged link Responder mark ≡ false → executed_at link mark ≡ []
 none_executed link (marks.Submit l call form answer) e = refl
@@ -177,6 +183,7 @@ none_executed link (marks.Lost l xid) e = refl
 none_executed link (marks.Forget l xid) e = refl
 none_executed link (marks.Revoke l xid bytes) e = refl
 none_executed link (marks.Drop l) e = refl
+none_executed link (marks.Told l what) e = refl
 
 -- ---- The laws
 
@@ -193,6 +200,7 @@ none_asked Relates opened link before (marks.Lost l xid) e = λ same. absurd (no
 none_asked Relates opened link before (marks.Forget l xid) e = λ same. absurd (not_own l link e same)
 none_asked Relates opened link before (marks.Revoke l xid bytes) e = λ same. absurd (not_own l link e same)
 none_asked Relates opened link before (marks.Drop l) e = tt
+none_asked Relates opened link before (marks.Told l what) e = tt
 
 pub none_granted : (opened : LinkParameters) (link : ℕ) (before : List Mark) (mark : Mark) → is_judged link Initiator mark ≡ false → WithinGrant opened link before mark
 none_granted opened link before (marks.Submit l call form (submissions.Accepted xid)) e = λ same. absurd (not_own l link e same)
@@ -206,6 +214,7 @@ none_granted opened link before (marks.Lost l xid) e = tt
 none_granted opened link before (marks.Forget l xid) e = tt
 none_granted opened link before (marks.Revoke l xid bytes) e = tt
 none_granted opened link before (marks.Drop l) e = tt
+none_granted opened link before (marks.Told l what) e = tt
 
 pub none_served : (Relates : List ℕ → List ℕ → Type 0) (opened : LinkParameters) (link : ℕ) (before : List Mark) (mark : Mark) → is_judged link Responder mark ≡ false → ServedMark Relates opened link before mark
 none_served Relates opened link before (marks.Submit l call form answer) e = tt
@@ -218,3 +227,4 @@ none_served Relates opened link before (marks.Lost l xid) e = tt
 none_served Relates opened link before (marks.Forget l xid) e = tt
 none_served Relates opened link before (marks.Revoke l xid bytes) e = tt
 none_served Relates opened link before (marks.Drop l) e = tt
+none_served Relates opened link before (marks.Told l what) e = λ same. absurd (not_own l link e same)

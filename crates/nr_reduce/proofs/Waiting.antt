@@ -24,7 +24,7 @@ use Rattle.nr_reduce.specs.History.{AcceptedCall, accepted_calls, accepted_at, b
 use Rattle.nr_reduce.specs.AtEachMark.{AtEachMark}
 use Rattle.nr_reduce.specs.Matched.{IsPrefixOf}
 use Rattle.nr_reduce.specs.Events.{RunEvent, if_own, events_at, events}
-use Rattle.nr_reduce.specs.Events.RunEvent.{FrameReceived, CallSubmitted, MemoryRevoked, CallExecuted, QueueWritten}
+use Rattle.nr_reduce.specs.Events.RunEvent.{FrameReceived, CallSubmitted, MemoryRevoked, CallExecuted, QueueWritten, ServerTold}
 use Rattle.nr_reduce.specs.EndRules.{EndState, next_end_state, next_end_state_by, next_end_state_in, end_state_after, output_for, output_for_by, output_for_in}
 use Rattle.nr_reduce.specs.OfferedRegions.{region_grants}
 use Rattle.nr_reduce.specs.ClientState.{OutstandingCall, ClientState, is_sent, plan_for}
@@ -187,6 +187,7 @@ SubmitsNothing (CallSubmitted place a) = ⊥
 SubmitsNothing (MemoryRevoked place xid) = Unit {0}
 SubmitsNothing (CallExecuted call) = Unit {0}
 SubmitsNothing (QueueWritten taken) = Unit {0}
+SubmitsNothing (ServerTold what) = Unit {0}
 
 after_waits : (opened : LinkParameters) (accepted : List AcceptedCall) (k : ClientState) (event : RunEvent) → SubmitsNothing event → client_end k event ≡ None → Waits opened accepted k → Waits opened accepted (client_state_after opened k event)
 unfolding client_state_after
@@ -195,6 +196,7 @@ after_waits opened accepted k (CallSubmitted place a) s stays w = absurd s
 after_waits opened accepted k (MemoryRevoked place xid) s stays w = λ hello. (let h = w hello in record { calls = revoked_same xid k.outstanding ∙ h.calls; stag = h.stag; sends = h.sends; ends = h.ends; up = h.up; down = h.down })
 after_waits opened accepted k (CallExecuted call) s stays w = w
 after_waits opened accepted k (QueueWritten taken) s stays w = λ hello. (let h = w hello in record { calls = h.calls; stag = h.stag; sends = h.sends; ends = h.ends; up = h.up; down = h.down })
+after_waits opened accepted k (ServerTold what) s stays w = λ hello. (let h = w hello in record { calls = h.calls; stag = h.stag; sends = h.sends; ends = h.ends; up = h.up; down = h.down })
 
 next_waits : (opened : LinkParameters) (accepted : List AcceptedCall) (r : EndState ClientState) (event : RunEvent) → SubmitsNothing event → Waits opened accepted r.state → Waits opened accepted (next_end_state (client_rules opened) r event).state
 next_waits opened accepted r event s w = by_end r.state r.ended w
@@ -272,6 +274,7 @@ waits_mark opened link before (marks.Lost l xid) accepted w h = waits_nothing op
 waits_mark opened link before (marks.Forget l xid) accepted w h = waits_nothing opened link before (marks.Forget l xid) accepted w tt
 waits_mark opened link before (marks.Revoke l xid bytes) accepted w h = waits_nothing opened link before (marks.Revoke l xid bytes) accepted w (nothing_if _ (MemoryRevoked (length (bytes_received link Initiator before)) xid ∷ []) (tt, tt))
 waits_mark opened link before (marks.Drop l) accepted w h = waits_nothing opened link before (marks.Drop l) accepted w tt
+waits_mark opened link before (marks.Told l what) accepted w h = waits_nothing opened link before (marks.Told l what) accepted w (nothing_if _ (ServerTold what ∷ []) (tt, tt))
 
 pub accepted_one : (link : ℕ) (before : List Mark) (mark : Mark) → accepted_calls link (before ++ mark ∷ []) ≡ accepted_calls link before ++ accepted_at link mark
 unfolding accepted_calls

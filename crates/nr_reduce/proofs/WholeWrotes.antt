@@ -13,7 +13,7 @@ use Rattle.nr_reduce.specs.Hellos.{server_hello}
 use Rattle.nr_reduce.specs.declared.mark.LinkParameters.{LinkParameters}
 use Rattle.nr_reduce.specs.Plans.{one_if}
 use Rattle.nr_reduce.specs.Events.{RunEvent}
-use Rattle.nr_reduce.specs.Events.RunEvent.{FrameReceived, CallSubmitted, MemoryRevoked, CallExecuted, QueueWritten}
+use Rattle.nr_reduce.specs.Events.RunEvent.{FrameReceived, CallSubmitted, MemoryRevoked, CallExecuted, QueueWritten, ServerTold}
 use Rattle.nr_reduce.specs.Written.{ends_written, ends_waiting}
 use Rattle.nr_reduce.specs.ClientState.{OutstandingCall, ClientState, responses_owed}
 use Rattle.nr_reduce.specs.Client.{client_state_after, client_output, segment_request, response_output, calls_output, call_output, call_ends, submitted_output, submitted_ends, due_with_response, with_hello, with_message, with_request, with_segment}
@@ -113,6 +113,7 @@ client_ends opened k (CallSubmitted place a) h = record {
 client_ends opened k (MemoryRevoked place xid) h = record { sends = h.sends; responses = h.responses }
 client_ends opened k (CallExecuted call) h = h
 client_ends opened k (QueueWritten taken) h = record { sends = h.sends; responses = h.responses }
+client_ends opened k (ServerTold what) h = record { sends = h.sends; responses = h.responses }
 
 pub server_ends : (opened : LinkParameters) (k : ServerState) (event : RunEvent) → ServerEnds k → ServerEnds (server_state_after opened k event)
 unfolding server_state_after
@@ -140,6 +141,7 @@ server_ends opened k (CallExecuted e) h =
     let after : ℕ = (server_state_after opened k (CallExecuted e)).due in
     record { messages = within_append after k.message_ends (after ∷ []) (within_more k.due after k.message_ends (omega arith) h.messages) (omega arith, tt) }
 server_ends opened k (QueueWritten taken) h = record { messages = h.messages }
+server_ends opened k (ServerTold what) h = record { messages = h.messages }
 
 -- ---- A Wrote of everything
 
@@ -181,6 +183,7 @@ client_due opened k (CallSubmitted place a) = refl
 client_due opened k (MemoryRevoked place xid) = omega arith
 client_due opened k (CallExecuted call) = omega arith
 client_due opened k (QueueWritten taken) = omega arith
+client_due opened k (ServerTold what) = omega arith
 
 pub server_due : (opened : LinkParameters) (k : ServerState) (event : RunEvent) → (server_state_after opened k event).due ≡ k.due + length (server_output opened k event)
 unfolding server_state_after server_output
@@ -193,3 +196,4 @@ server_due opened k (CallSubmitted place a) = omega arith
 server_due opened k (MemoryRevoked place xid) = omega arith
 server_due opened k (CallExecuted e) = refl
 server_due opened k (QueueWritten taken) = omega arith
+server_due opened k (ServerTold what) = omega arith

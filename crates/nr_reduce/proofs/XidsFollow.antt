@@ -19,7 +19,7 @@ use Rattle.nr_reduce.specs.History.{bytes_received}
 use Rattle.nr_reduce.specs.AtEachMark.{AtEachMark}
 use Rattle.nr_reduce.specs.Matched.{IsPrefixOf}
 use Rattle.nr_reduce.specs.Events.{RunEvent, if_own, events_at, events}
-use Rattle.nr_reduce.specs.Events.RunEvent.{FrameReceived, CallSubmitted, MemoryRevoked, CallExecuted, QueueWritten}
+use Rattle.nr_reduce.specs.Events.RunEvent.{FrameReceived, CallSubmitted, MemoryRevoked, CallExecuted, QueueWritten, ServerTold}
 use Rattle.nr_reduce.specs.EndRules.{EndState, next_end_state, next_end_state_by, next_end_state_in, end_state_after}
 use Rattle.nr_reduce.specs.ClientState.{OutstandingCall, ClientState}
 use Rattle.nr_reduce.specs.Client.{client_rules, client_end, client_state_after, initial_client, outstanding_of, revoked_call, with_message, with_request, with_segment, with_hello, due_with_response}
@@ -49,6 +49,7 @@ next_after opened k (CallSubmitted place a) h = omega (arith, h)
 next_after opened k (MemoryRevoked place xid) h = h
 next_after opened k (CallExecuted call) h = h
 next_after opened k (QueueWritten taken) h = h
+next_after opened k (ServerTold what) h = h
 
 pub next_follows : (opened : LinkParameters) (es : List RunEvent) → NextFollows opened (end_state_after (client_rules opened) (initial_client opened) es).state
 next_follows opened es = kept_after (client_rules opened) (NextFollows opened) (next_after opened) (initial_client opened) es (let none : opened.first_xid ≡ opened.first_xid + 0 = omega arith in none)
@@ -107,6 +108,7 @@ GivesNext k (CallSubmitted place a) = a.xid ≡ k.next_xid
 GivesNext k (MemoryRevoked place xid) = Unit {0}
 GivesNext k (CallExecuted call) = Unit {0}
 GivesNext k (QueueWritten taken) = Unit {0}
+GivesNext k (ServerTold what) = Unit {0}
 
 abbrev pub BothFollow : LinkParameters → ClientState → Type 0
 BothFollow opened k = NextFollows opened k × AllFollow opened k
@@ -127,6 +129,7 @@ both_after opened k (CallSubmitted place a) own h =
 both_after opened k (MemoryRevoked place xid) own h = (h.0, follow_revoked opened.first_xid k.sends xid k.outstanding h.1)
 both_after opened k (CallExecuted call) own h = h
 both_after opened k (QueueWritten taken) own h = h
+both_after opened k (ServerTold what) own h = h
 
 both_next : (opened : LinkParameters) (r : EndState ClientState) (e : RunEvent) → GivesNext r.state e → BothFollow opened r.state → BothFollow opened (next_end_state (client_rules opened) r e).state
 both_next opened r e own h = by_end r.state r.ended own h
@@ -173,6 +176,7 @@ both_mark opened link before (marks.Lost l xid) h asked = h
 both_mark opened link before (marks.Forget l xid) h asked = h
 both_mark opened link before (marks.Revoke l xid bytes) h asked = both_one opened (client opened link before) (MemoryRevoked (length (bytes_received link Initiator before)) xid) _ (λ own. tt) h
 both_mark opened link before (marks.Drop l) h asked = h
+both_mark opened link before (marks.Told l what) h asked = both_one opened (client opened link before) (ServerTold what) _ (λ own. tt) h
 
 both_from : (opened : LinkParameters) (link : ℕ) (before run : List Mark) → BothFollow opened (client opened link before).state → AtEachMark (AskedMark IsPrefixOf opened link) before run → BothFollow opened (client opened link (before ++ run)).state
 both_from opened link before [] h asked = subst (λ (r : List Mark). BothFollow opened (client opened link r).state) (sym (append-nil before)) h

@@ -74,6 +74,7 @@ AskedMark Relates opened link before (marks.Lost l xid) = l ≡ link → IsLost 
 AskedMark Relates opened link before (marks.Forget l xid) = l ≡ link → IsAwaited link before xid
 AskedMark Relates opened link before (marks.Revoke l xid bytes) = l ≡ link → IsRevoked opened link before xid bytes
 AskedMark Relates opened link before (marks.Drop l) = Unit {0}
+AskedMark Relates opened link before (marks.Told l what) = Unit {0}
 
 -- in full: each Wrote writes all output that is due by then, and in the end all is written
 abbrev pub IsAll : List ℕ → List ℕ → Type 0

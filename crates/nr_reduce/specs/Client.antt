@@ -21,7 +21,7 @@ use Rattle.nr_reduce.specs.OfferedRegions.{Region, region_grants, regions_closed
 use Rattle.nr_reduce.specs.Events.{RunEvent}
 use Rattle.nr_reduce.specs.Hellos.{client_agreement}
 use Rattle.nr_reduce.specs.EndRules.{EndMachine, EndState}
-use Rattle.nr_reduce.specs.Events.RunEvent.{FrameReceived, CallSubmitted, MemoryRevoked, CallExecuted, QueueWritten}
+use Rattle.nr_reduce.specs.Events.RunEvent.{FrameReceived, CallSubmitted, MemoryRevoked, CallExecuted, QueueWritten, ServerTold}
 use Rattle.nr_reduce.specs.ClientState.{OutstandingCall, ClientState, initial_client_state, responses_owed, call_payload, plan_for, client_memory_at}
 use Rattle.nr_reduce.specs.ClientMessages.{ReplyVerdict, reply_verdict}
 use Rattle.nr_reduce.specs.ClientMessages.ReplyVerdict.{EndsLink, GivesOutcome}
@@ -63,6 +63,7 @@ client_end k (CallSubmitted place a) = None
 client_end k (MemoryRevoked place xid) = None
 client_end k (CallExecuted call) = None
 client_end k (QueueWritten taken) = None
+client_end k (ServerTold what) = None
 
 -- ---- What the client writes
 
@@ -110,6 +111,7 @@ client_output opened k (CallSubmitted place a) = submitted_output opened k a
 client_output opened k (MemoryRevoked place xid) = []
 client_output opened k (CallExecuted call) = []
 client_output opened k (QueueWritten taken) = []
+client_output opened k (ServerTold what) = []
 
 -- ---- What the client knows after each
 
@@ -190,6 +192,7 @@ client_state_after opened k (MemoryRevoked place xid) = record k {
 }
 client_state_after opened k (CallExecuted call) = k
 client_state_after opened k (QueueWritten taken) = record k { written = k.written + taken }
+client_state_after opened k (ServerTold what) = k
 
 abbrev pub client_rules : LinkParameters → EndMachine ClientState
 client_rules opened = record {

@@ -9,7 +9,7 @@ use Rattle.nr_reduce.specs.declared.mark.Mark.TheVariants as marks
 use Rattle.nr_reduce.specs.History.{same_side}
 
 -- Whether the law of a side asks something of a mark: a client's of a call that it accepts, hands over, loses or gives up, a server's of a call
--- that it executes, and either of what the side writes.
+-- that it executes and of what it is told, and either of what the side writes.
 abbrev pub is_judged : ℕ → Side → Mark → Bool
 is_judged link side (marks.Submit l call form (submissions.Accepted xid)) = l == link && same_side Initiator side
 is_judged link side (marks.Submit l call form (submissions.Refused why)) = false
@@ -22,6 +22,7 @@ is_judged link side (marks.Lost l xid) = l == link && same_side Initiator side
 is_judged link side (marks.Forget l xid) = l == link && same_side Initiator side
 is_judged link side (marks.Revoke l xid bytes) = l == link && same_side Initiator side
 is_judged link side (marks.Drop l) = false
+is_judged link side (marks.Told l what) = l == link && same_side Responder side
 
 -- whether the side is fed at a mark
 abbrev pub is_fed : ℕ → Side → Mark → Bool

@@ -19,7 +19,7 @@ use Rattle.nr_reduce.specs.History.{ExecutedCall}
 use Rattle.nr_reduce.specs.Plans.{call_message}
 use Rattle.nr_reduce.specs.Holds.{Answer, answer_message, chunk_error, first_chunk, no_segments}
 use Rattle.nr_reduce.specs.Events.{RunEvent, events}
-use Rattle.nr_reduce.specs.Events.RunEvent.{FrameReceived, CallSubmitted, MemoryRevoked, CallExecuted, QueueWritten}
+use Rattle.nr_reduce.specs.Events.RunEvent.{FrameReceived, CallSubmitted, MemoryRevoked, CallExecuted, QueueWritten, ServerTold}
 use Rattle.nr_reduce.specs.Hellos.{client_hello, server_hello}
 use Rattle.nr_reduce.specs.EndRules.{EndMachine, EndState, next_end_state}
 use Rattle.nr_reduce.specs.ClientState.{OutstandingCall, ClientState, client_memory_at}
@@ -47,6 +47,7 @@ client_items_at opened k (CallSubmitted place a) = if k.has_hello then sent_call
 client_items_at opened k (MemoryRevoked place xid) = []
 client_items_at opened k (CallExecuted call) = []
 client_items_at opened k (QueueWritten taken) = []
+client_items_at opened k (ServerTold what) = []
 
 -- ---- Of a server
 
@@ -83,6 +84,7 @@ server_items_at opened k (CallSubmitted place a) = []
 server_items_at opened k (MemoryRevoked place xid) = []
 server_items_at opened k (CallExecuted e) = execution_items k e
 server_items_at opened k (QueueWritten taken) = []
+server_items_at opened k (ServerTold what) = []
 
 -- the hello that is due for an event that doesn't end the server
 abbrev pub server_hello_at : LinkParameters → RunEvent → List ℕ
@@ -91,6 +93,7 @@ server_hello_at opened (CallSubmitted place a) = []
 server_hello_at opened (MemoryRevoked place xid) = []
 server_hello_at opened (CallExecuted e) = []
 server_hello_at opened (QueueWritten taken) = []
+server_hello_at opened (ServerTold what) = []
 
 -- ---- Of the marks of a run
 

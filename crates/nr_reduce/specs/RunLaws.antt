@@ -42,7 +42,7 @@ use Rattle.nr_reduce.specs.declared.outline.Plan.{Plan}
 use Rattle.nr_reduce.specs.Plans.{regions_needed, call_message, lists_of, inline_stream, has_segment, read_stag}
 use Rattle.nr_reduce.specs.ClientState.{OutstandingCall, ClientState}
 use Rattle.nr_reduce.specs.Client.{client_rules, client_end, outstanding_of, calls_output, initial_client}
-use Rattle.nr_reduce.specs.ServerState.{ServerState, ReadyCall, PendingCall, PendingRead, is_pending}
+use Rattle.nr_reduce.specs.ServerState.{ServerState, ReadyCall, PendingCall, PendingRead, is_pending, credit_word}
 use Rattle.nr_reduce.specs.ServerReads.{open_reads}
 use Rattle.nr_reduce.specs.ServerMessages.{verdict, by_need, no_stream, call_xid, chunk_bytes, pending_payload}
 use Rattle.nr_reduce.specs.ServerFrames.{frame_effect, call_of_number, is_stream_read, with_access}
@@ -119,7 +119,7 @@ pub record IsStreamRefused (k : ServerState) (f : Frame) (segment : Segment) (c 
 -- ERR_CHUNK is due for it, before the Read Requests of reads that are newly open; the call is no longer pending, and isn't ready.
 pub record IsRefusedCall (opened : LinkParameters) (k : ServerState) (f : Frame) (c : PendingCall) : Type 0 where
   pub output : output_for (server_rules opened) (live k) (FrameReceived f)
-      ≡ send (k.messages_queued + 1) (chunk_error c.xid k.credit) ++ requests_from (k.requests_sent + 1) (newly_open_reads (frame_effect k f))
+      ≡ send (k.messages_queued + 1) (chunk_error c.xid (credit_word k)) ++ requests_from (k.requests_sent + 1) (newly_open_reads (frame_effect k f))
   pub stays : (next_end_state (server_rules opened) (live k) (FrameReceived f)).ended ≡ None
   pub calls : (next_end_state (server_rules opened) (live k) (FrameReceived f)).state.calls ≡ filter (λ other. not (other.number == c.number)) k.calls
   pub ready : (next_end_state (server_rules opened) (live k) (FrameReceived f)).state.ready ≡ k.ready
@@ -322,18 +322,18 @@ ExecuteIsAnswered = (opened : LinkParameters) (link : ℕ) (run : List Mark) (xi
     output_due opened link Responder (run ++ marks.Execute link xid moment payload place reply ∷ [])
     ≡ output_due opened link Responder run
     ++ (answer_writes (offer_of (server opened link run).state xid) a
-    ++ send ((server opened link run).state.messages_queued + 1) (answer_message xid (server opened link run).state.credit (offer_of (server opened link run).state xid) a)))
+    ++ send ((server opened link run).state.messages_queued + 1) (answer_message xid (credit_word (server opened link run).state) (offer_of (server opened link run).state xid) a)))
     × (answer_of_target (offer_of (server opened link run).state xid) (server opened link run).state.down_max reply (target_of (call_of payload)) ≡ None →
     output_due opened link Responder (run ++ marks.Execute link xid moment payload place reply ∷ [])
     ≡ output_due opened link Responder run
-    ++ send ((server opened link run).state.messages_queued + 1) (chunk_error xid (server opened link run).state.credit))
+    ++ send ((server opened link run).state.messages_queued + 1) (chunk_error xid (credit_word (server opened link run).state)))
 
 -- A Send that is refused is answered by one error message, if its frame doesn't end the server, and makes no call pending or ready.
 abbrev pub RefusedSendIsAnswered : Type 0
 RefusedSendIsAnswered = (opened : LinkParameters) (k : ServerState) (f : Frame) (segment : Segment) (message : List ℕ) → is_hello f ≡ false → frame_segment f ≡ Ok segment →
     message_completed k.received segment ≡ Some message → server_end opened k (FrameReceived f) ≡ None →
-    (verdict k message ≡ BadChunks → IsOnlyAnswered opened k f (chunk_error (word_at 0 message) k.credit))
-    × (verdict k message ≡ OtherVersion → IsOnlyAnswered opened k f (version_error (word_at 0 message) (word_at 4 message) k.credit))
+    (verdict k message ≡ BadChunks → IsOnlyAnswered opened k f (chunk_error (word_at 0 message) (credit_word k)))
+    × (verdict k message ≡ OtherVersion → IsOnlyAnswered opened k f (version_error (word_at 0 message) (word_at 4 message) (credit_word k)))
 
 -- Of a message with the fixed words, version 1 and another kind than RDMA_DONE and RDMA_ERROR, whose xid isn't pending, ERR_CHUNK is
 -- due if and only if its header is bad, or its stream is there and its read chunk isn't that of its item.

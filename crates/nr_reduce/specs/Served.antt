@@ -1,10 +1,12 @@
--- The law of a link's server: which calls it executes, and what it writes.
-use Rattle.std.specs.Prelude.{◌≡◌, ℕ, List, [], ◌++◌, Option, None, Some, slice_get}
+-- The law of a link's server: which calls it executes, what it may be told, and what it writes.
+use Rattle.std.specs.Prelude.{◌≡◌, ℕ, ◌<◌, ◌≤◌, List, [], ◌++◌, Option, None, Some, slice_get}
 use Rattle.nr_wire.specs.declared.hello.Side.TheVariants.{Initiator, Responder}
 use Rattle.nr_link.specs.declared.end.End.{End}
 use Rattle.nr_reduce.specs.declared.mark.Mark.{Mark}
 use Rattle.nr_reduce.specs.declared.mark.Mark.TheVariants as marks
 use Rattle.nr_reduce.specs.declared.mark.LinkParameters.{LinkParameters}
+use Rattle.nr_reduce.specs.declared.mark.Told.{Told}
+use Rattle.nr_reduce.specs.declared.mark.Told.TheVariants.{Granted}
 use Rattle.nr_reduce.specs.History.{bytes_sent}
 use Rattle.nr_reduce.specs.ServerState.{ReadyCall}
 use Rattle.nr_reduce.specs.Run.{server, output_due, HasWritten}
@@ -27,7 +29,12 @@ pub record IsExecuted (opened : LinkParameters) (link : ℕ) (before : List Mark
   pub own : xid ≡ call.xid
   pub conveyed : payload ≡ call.payload
 
--- The law of each mark: calls are executed in the order in which they became complete, none twice and none passed over.
+-- It is told to grant from 1 to all of the credits that the link was opened with: it has a receive for each of these.
+abbrev pub IsGranted : LinkParameters → Told → Type 0
+IsGranted opened (Granted credits) = (1 ≤ credits) × (credits ≤ opened.granted)
+
+-- The law of each mark: calls are executed in the order in which they became complete, none twice and none passed over; what the server is
+-- told is in range.
 abbrev pub ServedMark : (List ℕ → List ℕ → Type 0) → LinkParameters → ℕ → List Mark → Mark → Type 0
 ServedMark Relates opened link before (marks.Submit l call form answer) = Unit {0}
 ServedMark Relates opened link before (marks.Wrote l Initiator bytes) = Unit {0}
@@ -41,6 +48,7 @@ ServedMark Relates opened link before (marks.Lost l xid) = Unit {0}
 ServedMark Relates opened link before (marks.Forget l xid) = Unit {0}
 ServedMark Relates opened link before (marks.Revoke l xid bytes) = Unit {0}
 ServedMark Relates opened link before (marks.Drop l) = Unit {0}
+ServedMark Relates opened link before (marks.Told l what) = l ≡ link → IsGranted opened what
 
 pub record Served (opened : LinkParameters) (link : ℕ) (run : List Mark) : Type 0 where
   pub each : AtEachMark (ServedMark IsAll opened link) [] run

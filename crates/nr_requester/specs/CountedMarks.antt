@@ -25,6 +25,7 @@ is_counted link (marks.Lost l xid) = l == link
 is_counted link (marks.Forget l xid) = l == link
 is_counted link (marks.Revoke l xid bytes) = l == link
 is_counted link (marks.Drop l) = false
+is_counted link (marks.Told l what) = false
 
 unfoldable pub marks_of : ℕ → List Mark → ℕ
 marks_of link run = length (filter (is_counted link) run)

@@ -93,7 +93,7 @@ queue_first : (opened : LinkParameters) → queue (opened_state opened.granted (
 unfolding initial_link
 queue_first opened = refl
 
-pub opened_stands_lem : (opened : LinkParameters) (link : ℕ) (credits : ℕ) (terms : SideTerms) (l : LinkSide) → ServerOpened opened credits terms → l ≡ initial_link Responder credits 1 terms → ResponderRepresents opened link [] (opened_state credits l)
+pub opened_stands_lem : (opened : LinkParameters) (link : ℕ) (credits : ℕ) (terms : SideTerms) (l : LinkSide) → ServerOpened opened credits credits terms → l ≡ initial_link Responder credits 1 terms → ResponderRepresents opened link [] (opened_state credits l)
 opened_stands_lem opened link credits terms l same is =
     let first : RepresentsServer opened link [] (opened_state opened.granted (initial_link Responder opened.receives 1 opened.server)) = record {
       end = initial_server opened;

@@ -74,7 +74,7 @@ impl Responder {
         ensures live { IfOk result (λ r. end_of r.side ≡ None) }
         ensures fed { IfOk result (λ r. fed_bytes r.side.link ≡ 0) }
         ensures staging { IfOk result (λ r. length r.staging ≡ FPDU_MAX) }
-        ensures stands { IfOk result (λ r. (opened : LinkParameters) (link : ℕ) → ServerOpened opened credits default_terms → ResponderRepresents opened link [] r.side) }
+        ensures stands { IfOk result (λ r. (opened : LinkParameters) (link : ℕ) → ServerOpened opened credits credits default_terms → ResponderRepresents opened link [] r.side) }
     {
         Responder::open_sized(alloc, credits, 1)
     }
@@ -88,7 +88,7 @@ impl Responder {
         ensures live { IfOk result (λ r. end_of r.side ≡ None) }
         ensures fed { IfOk result (λ r. fed_bytes r.side.link ≡ 0) }
         ensures staging { IfOk result (λ r. length r.staging ≡ FPDU_MAX) }
-        ensures stands { IfOk result (λ r. (opened : LinkParameters) (link : ℕ) → ServerOpened opened credits (sized_terms units) → ResponderRepresents opened link [] r.side) }
+        ensures stands { IfOk result (λ r. (opened : LinkParameters) (link : ℕ) → ServerOpened opened credits credits (sized_terms units) → ResponderRepresents opened link [] r.side) }
     {
         Ok(Responder {
             end: ServerEnd::open(alloc, credits, SideTerms::sized(units))?,

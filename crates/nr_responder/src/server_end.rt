@@ -166,7 +166,7 @@ impl ServerEnd {
         ensures live { IfOk result (λ r. end_of (state_of r) ≡ None) }
         ensures fed { IfOk result (λ r. fed_bytes r.endpoint.link ≡ 0) }
         ensures staging { IfOk result (λ r. length r.endpoint.staging ≡ FPDU_MAX) }
-        ensures stands { IfOk result (λ r. (opened : LinkParameters) (link : ℕ) → ServerOpened opened credits terms → ResponderRepresents opened link [] (state_of r)) }
+        ensures stands { IfOk result (λ r. (opened : LinkParameters) (link : ℕ) → ServerOpened opened credits credits terms → ResponderRepresents opened link [] (state_of r)) }
         ensures bounded { IfOk result (λ r. KeptFits (state_of r)) }
     {
         let ready = VecDeque::with_capacity(alloc, credits as usize)?;

@@ -24,6 +24,7 @@ bytes_none link (marks.Lost l xid) is = absurd cc
 bytes_none link (marks.Forget l xid) is = absurd cc
 bytes_none link (marks.Revoke l xid bytes) is = absurd cc
 bytes_none link (marks.Drop l) is = absurd cc
+bytes_none link (marks.Told l what) is = absurd cc
 
 flat_without : {A : Type 0} (f : Mark → List A) (run : List Mark) → ((m : Mark) → moves_bytes m ≡ true → f m ≡ []) → flat_map f run ≡ flat_map f (without_bytes run)
 flat_without f [] none = refl

@@ -42,6 +42,7 @@ others_not_written link (marks.Lost l xid) is = refl
 others_not_written link (marks.Forget l xid) is = refl
 others_not_written link (marks.Revoke l xid bytes) is = refl
 others_not_written link (marks.Drop l) is = refl
+others_not_written link (marks.Told l what) is = refl
 
 others_not_accepted : (link : ℕ) (m : Mark) → is_client_mark link m ≡ false → accepted_at link m ≡ []
 others_not_accepted link (marks.Wrote l side bytes) is = refl
@@ -53,6 +54,7 @@ others_not_accepted link (marks.Lost l xid) is = refl
 others_not_accepted link (marks.Forget l xid) is = refl
 others_not_accepted link (marks.Revoke l xid bytes) is = refl
 others_not_accepted link (marks.Drop l) is = refl
+others_not_accepted link (marks.Told l what) is = refl
 
 others_not_abandoned : (link xid : ℕ) (m : Mark) → is_client_mark link m ≡ false → abandons link xid m ≡ false
 others_not_abandoned link xid (marks.Wrote l side bytes) is = refl
@@ -64,6 +66,7 @@ others_not_abandoned link xid (marks.Lost l x) is = ap (λ (b : Bool). b && eqb 
 others_not_abandoned link xid (marks.Forget l x) is = ap (λ (b : Bool). b && eqb x xid) is
 others_not_abandoned link xid (marks.Revoke l x bytes) is = ap (λ (b : Bool). b && eqb x xid) is
 others_not_abandoned link xid (marks.Drop l) is = refl
+others_not_abandoned link xid (marks.Told l what) is = refl
 
 events_same : (link : ℕ) (both : List Mark) → events link Initiator both ≡ events link Initiator (client_marks link both)
 unfolding events
@@ -141,6 +144,7 @@ module _ (Relates : List ℕ → List ℕ → Type 0) (opened : LinkParameters) 
   asked_back (marks.Forget l xid) own h = λ same. awaited_back xid (h same)
   asked_back (marks.Revoke l xid bytes) own h = absurd own
   asked_back (marks.Drop l) own h = tt
+  asked_back (marks.Told l what) own h = tt
 
   not_here : (l : ℕ) → eqb l link ≡ false → l ≡ link → ⊥
   not_here l is same = absurd (let wrong : true ≡ false = sym (itself link) ∙ ap (λ (k : ℕ). eqb k link) (sym same) ∙ is in cc)
@@ -162,6 +166,7 @@ module _ (Relates : List ℕ → List ℕ → Type 0) (opened : LinkParameters) 
   asked_others (marks.Forget l xid) is = λ same. absurd (not_here l is same)
   asked_others (marks.Revoke l xid bytes) is = λ same. absurd (not_here l is same)
   asked_others (marks.Drop l) is = tt
+  asked_others (marks.Told l what) is = tt
 
   grant_back : (m : Mark) → IsOwn link m → WithinGrant opened link (client_marks link before) m → WithinGrant opened link before m
   unfolding calls_outstanding credits_granted
@@ -177,6 +182,7 @@ module _ (Relates : List ℕ → List ℕ → Type 0) (opened : LinkParameters) 
   grant_back (marks.Forget l xid) own h = tt
   grant_back (marks.Revoke l xid bytes) own h = tt
   grant_back (marks.Drop l) own h = tt
+  grant_back (marks.Told l what) own h = tt
 
   grant_others : (m : Mark) → is_client_mark link m ≡ false → WithinGrant opened link before m
   grant_others (marks.Submit l call form (submissions.Accepted xid)) is = λ same. absurd (not_here l is same)
@@ -190,6 +196,7 @@ module _ (Relates : List ℕ → List ℕ → Type 0) (opened : LinkParameters) 
   grant_others (marks.Forget l xid) is = tt
   grant_others (marks.Revoke l xid bytes) is = tt
   grant_others (marks.Drop l) is = tt
+  grant_others (marks.Told l what) is = tt
 
 -- ---- The law of all marks
 
@@ -244,6 +251,7 @@ whole_mark opened link before (marks.Lost l xid) asked whole = asked
 whole_mark opened link before (marks.Forget l xid) asked whole = asked
 whole_mark opened link before (marks.Revoke l xid bytes) asked whole = asked
 whole_mark opened link before (marks.Drop l) asked whole = tt
+whole_mark opened link before (marks.Told l what) asked whole = tt
 
 pub whole_each : (opened : LinkParameters) (link : ℕ) (before run : List Mark) → AtEachMark (AskedMark IsPrefixOf opened link) before run → AtEachMark (WholeIfWrote opened link) before run
     → AtEachMark (AskedMark IsAll opened link) before run

@@ -61,6 +61,7 @@ transfer_is link (marks.Lost l xid) own = absurd own
 transfer_is link (marks.Forget l xid) own = absurd own
 transfer_is link (marks.Revoke l xid bytes) own = absurd own
 transfer_is link (marks.Drop l) own = absurd own
+transfer_is link (marks.Told l what) own = absurd own
 
 pub transfers_own : (link : ℕ) (moved : List Mark) → AllByRecursion (IsTransfer link) moved → AllByRecursion (IsOwn link) moved
 transfers_own link [] own = tt

@@ -48,6 +48,7 @@ others_no_events link place completed (marks.Lost l xid) is = refl
 others_no_events link place completed (marks.Forget l xid) is = refl
 others_no_events link place completed (marks.Revoke l xid bytes) is = not_own (eqb l link && true) _ (ap (λ (b : Bool). b && true) is)
 others_no_events link place completed (marks.Drop l) is = refl
+others_no_events link place completed (marks.Told l what) is = not_own (eqb l link && false) _ (and_never (eqb l link))
 
 others_not_fed : (link : ℕ) (m : Mark) → is_client_mark link m ≡ false → fed_at link Initiator m ≡ []
 others_not_fed link (marks.Wrote l side bytes) is = refl
@@ -59,6 +60,7 @@ others_not_fed link (marks.Lost l xid) is = refl
 others_not_fed link (marks.Forget l xid) is = refl
 others_not_fed link (marks.Revoke l xid bytes) is = refl
 others_not_fed link (marks.Drop l) is = refl
+others_not_fed link (marks.Told l what) is = refl
 
 received_more : (link : ℕ) (run : List Mark) (m : Mark) → bytes_received link Initiator (run ++ m ∷ []) ≡ bytes_received link Initiator run ++ fed_at link Initiator m
 unfolding bytes_received
@@ -119,6 +121,7 @@ not_revoked link before (marks.Done l xid outcome) own = tt
 not_revoked link before (marks.Lost l xid) own = tt
 not_revoked link before (marks.Forget l xid) own = tt
 not_revoked link before (marks.Drop l) own = tt
+not_revoked link before (marks.Told l what) own = tt
 
 pub conveyed : (opened : LinkParameters) (link : ℕ) (before : List Mark) (m : Mark) → (is_client_mark link m ≡ true → IsOwn link m) → ConveyedMark opened link before m
 conveyed opened link before (marks.Submit l call forms.Auto (submissions.Accepted xid)) own = λ same plan is. tt
@@ -136,6 +139,7 @@ conveyed opened link before (marks.Lost l xid) own = tt
 conveyed opened link before (marks.Forget l xid) own = tt
 conveyed opened link before (marks.Revoke l xid bytes) own = tt
 conveyed opened link before (marks.Drop l) own = tt
+conveyed opened link before (marks.Told l what) own = tt
 
 -- ---- The link stays open
 

@@ -58,6 +58,7 @@ others_none link (marks.Lost l xid) is = refl
 others_none link (marks.Forget l xid) is = refl
 others_none link (marks.Revoke l xid bytes) is = refl
 others_none link (marks.Drop l) is = refl
+others_none link (marks.Told l what) is = refl
 
 pub kept_all : {A : Type 0} (f : Mark → List A) (p : Mark → Bool) (run : List Mark) → ((m : Mark) → p m ≡ false → f m ≡ []) → flat_map f run ≡ flat_map f (filter p run)
 kept_all f p [] none = refl
@@ -132,6 +133,7 @@ each_reply reply_to adds opened link run both own served before (m ∷ rest) is 
     by (marks.Forget l xid) is later = later
     by (marks.Revoke l xid bytes) is later = later
     by (marks.Drop l) is later = later
+    by (marks.Told l what) is later = later
 
 pub served_clients_have_replies_lem : ServedClientsHaveReplies
 unfolding completed_calls

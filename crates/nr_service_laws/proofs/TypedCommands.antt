@@ -65,6 +65,7 @@ with_bytes (marks.Lost l xid ∷ run) h = with_bytes run h
 with_bytes (marks.Forget l xid ∷ run) h = with_bytes run h
 with_bytes (marks.Revoke l xid bytes ∷ run) h = with_bytes run h
 with_bytes (marks.Drop l ∷ run) h = with_bytes run h
+with_bytes (marks.Told l what ∷ run) h = with_bytes run h
 
 -- an outcome that is handed over is one that messages brought to a client that was fed bytes
 handed_over : (opened : LinkParameters) (link : ℕ) (front : List Mark) (xid : ℕ) (outcome : Outcome) → IsTyped front → IsCompleted opened link front xid outcome → OutcomeIsBytes outcome
@@ -109,6 +110,7 @@ typed_from opened link front (marks.Execute l xid moment payload place reply ∷
 typed_from opened link front (marks.Lost l xid ∷ run) h own fed asked calls = absurd own.0
 typed_from opened link front (marks.Revoke l xid bytes ∷ run) h own fed asked calls = absurd own.0
 typed_from opened link front (marks.Drop l ∷ run) h own fed asked calls = absurd own.0
+typed_from opened link front (marks.Told l what ∷ run) h own fed asked calls = absurd own.0
 
 given_bytes : (left : List ℕ) (after : Option (List ℕ)) (bytes : List ℕ) → Consumes (Some left) after bytes → IsBytes left → IsBytes bytes
 given_bytes left None bytes takes h = absurd takes
@@ -128,6 +130,7 @@ typed_anywhere before after (marks.Lost l xid) h = h
 typed_anywhere before after (marks.Forget l xid) h = h
 typed_anywhere before after (marks.Revoke l xid bytes) h = h
 typed_anywhere before after (marks.Drop l) h = h
+typed_anywhere before after (marks.Told l what) h = h
 
 typed_parts : (link : ℕ) (front own others run : List Mark) → AtEachMark TypedMark own (client_marks link run) → AtEachMark TypedMark others (other_marks link run) → AtEachMark TypedMark front run
 typed_parts link front own others [] h k = tt
