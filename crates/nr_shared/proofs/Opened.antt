@@ -80,7 +80,7 @@ module _ {O : Type 0} (taken : O → Option (List ℕ)) (faults : O → ℕ) whe
         is_handed = refl;
         entries = count;
         follows = subst (λ (s : Option Stop). Follows c m.requester s (e ∷ [])) (sym going) (o.has_memory, λ opened link before fits. live_first opened link before c m.requester o.requester_is fits);
-        calls = λ xid k call asked open. absurd (not_asked e xid k call refl asked);
+        calls = λ xid k call asked unclosed. absurd (not_asked e xid k call refl asked);
         took = subst (λ (t : Option (List ℕ)). Appends t (taken m.sink) []) (sym o.sink_taken) (Appends-nil (taken m.sink));
         never_falls = (let f = o.sink_faults in omega (arith, f));
         is_cut = whole;

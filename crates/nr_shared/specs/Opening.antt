@@ -7,12 +7,9 @@ use Rattle.nr_link.specs.declared.end.End.TheVariants as ends
 use Rattle.nr_requester.specs.RequesterState.{RequesterSide}
 use Rattle.nr_requester.specs.Fed.{fed_bytes}
 use Rattle.nr_turnstile.specs.Rule.{Begins, Earlier, Lies}
-use Rattle.nr_turnstile.specs.Passes.{seen_by, mine_of}
 use Rattle.nr_shared.specs.declared.entry.Entry.{Entry}
 use Rattle.nr_shared.specs.declared.entry.Entry.TheVariants as entries
 use Rattle.nr_shared.specs.declared.entry.Handing.{Handing}
-use Rattle.nr_shared.specs.declared.feeder.Beside.{Beside}
-use Rattle.nr_shared.specs.declared.shared.Pass.{Pass}
 use Rattle.nr_shared.specs.Histories.{ArePlaced, closes_of, handed, bytes_written, bytes_fed, has_cut, stop_of}
 use Rattle.nr_shared.specs.Standing.{Follows, KeepsCalls, bytes_before}
 use Rattle.nr_shared.specs.Feeding.{StopHolds}
@@ -27,13 +24,13 @@ pub record HandsIn {O : Type 0} (taken : O → Option (List ℕ)) (faults : O �
   pub sink_taken : handing.taken ≡ taken sink
   pub sink_faults : handing.faults ≡ faults sink
 
--- What is given back stands for a history that begins with what the pass has seen, and has the pass's places. The requester follows it, and has
--- each call whose place isn't closed. Since the handing in the sink took the bytes that it says were written, and the source gave those that it
--- says were fed. The fault counts, and what the source has left, are as it says why bytes don't move any more.
-pub record GivesBack {I O : Type 0} (left given : I → Option (List ℕ)) (source_faults : I → ℕ) (taken : O → Option (List ℕ)) (sink_faults : O → ℕ) (p : Pass I O) (r : RequesterSide) (source : I) (sink : O) : Type 0 where
+-- What is given back, by a caller that has seen this history and has these places, stands for a history that begins so and has the places. The
+-- requester follows it, and has each call whose place isn't closed. Since the handing in the sink took the bytes that it says were written, and the
+-- source gave those that it says were fed. The fault counts, and what the source has left, are as it says why bytes don't move any more.
+pub record GivesBack {I O : Type 0} (left given : I → Option (List ℕ)) (source_faults : I → ℕ) (taken : O → Option (List ℕ)) (sink_faults : O → ℕ) (seen : List Entry) (mine : List ℕ) (first : I) (r : RequesterSide) (source : I) (sink : O) : Type 0 where
   pub history : List Entry
-  pub begins : Begins (seen_by p.main) history
-  pub lies : Lies history (mine_of p.main)
+  pub begins : Begins seen history
+  pub lies : Lies history mine
   pub earlier : Earlier closes_of history
   pub handing : Handing
   pub is_handed : handed history ≡ Some handing
@@ -42,9 +39,7 @@ pub record GivesBack {I O : Type 0} (left given : I → Option (List ℕ)) (sour
   pub took : Appends handing.taken (taken sink) (bytes_written history)
   pub sink_count : handing.faults ≤ sink_faults sink
   pub cut : has_cut history ≡ true → Rises handing.faults (sink_faults sink)
-  pub beside : Beside I O
-  pub has_seen : seen_by p.source ≡ beside ∷ []
   pub placed : ArePlaced history
-  pub gave : HandsOut (left beside.source.value) (given beside.source.value) (left source) (given source) (bytes_fed history)
-  pub source_count : source_faults beside.source.value ≤ source_faults source
-  pub stop : StopHolds (stop_of history) (source_faults beside.source.value) (source_faults source) (left source) (length (bytes_fed history))
+  pub gave : HandsOut (left first) (given first) (left source) (given source) (bytes_fed history)
+  pub source_count : source_faults first ≤ source_faults source
+  pub stop : StopHolds (stop_of history) (source_faults first) (source_faults source) (left source) (length (bytes_fed history))
