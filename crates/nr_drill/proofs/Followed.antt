@@ -529,8 +529,6 @@ opened_by_script script is link =
       wished_fits = few;
       granted = omega (arith, some);
       granted_fits = few;
-      low = omega (arith, some);
-      low_fits = omega arith;
       receives = omega arith;
     }
 
