@@ -13,6 +13,8 @@ mod chunks;
 #[cfg(test)]
 mod compare;
 #[cfg(test)]
+mod credits;
+#[cfg(test)]
 mod given;
 #[cfg(test)]
 mod given_up;

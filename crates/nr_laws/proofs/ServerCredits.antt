@@ -140,7 +140,7 @@ word_range opened k low h = by (is_busy k)
     by false = (h.least, h.most)
 
 pub server_grants_in_range : ServerGrantsInRange
-server_grants_in_range opened link run o served = word_range opened (server opened link run).state o.low (keeps_credits opened link run o served)
+server_grants_in_range opened link run o low served = word_range opened (server opened link run).state low (keeps_credits opened link run o served)
 
 -- while no fewer are granted in a busy moment, it is what was set
 word_is_credit : (k : ServerState) → k.credit ≤ k.low → credit_word k ≡ k.credit

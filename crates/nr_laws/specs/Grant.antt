@@ -28,7 +28,7 @@ SubmitsWithinGrant = (opened : LinkParameters) (link : ℕ) (run : List Mark) �
 
 -- On every link whose server keeps its law so far, whatever its client sends: it grants from 1 to the credits that the link was opened with.
 abbrev pub ServerGrantsInRange : Type 0
-ServerGrantsInRange = (opened : LinkParameters) (link : ℕ) (run : List Mark) → IsOpened opened → ServedSoFar opened link run →
+ServerGrantsInRange = (opened : LinkParameters) (link : ℕ) (run : List Mark) → IsOpened opened → 1 ≤ opened.low → ServedSoFar opened link run →
     (1 ≤ credit_word (server opened link run).state) × (credit_word (server opened link run).state ≤ opened.granted)
 
 -- the credits that the owner of a link's server set last, at first these
