@@ -371,7 +371,7 @@ some_parameters units = record { first_xid = 1; first_stag = 1; wished = 16; gra
 
 some_opened : (units : ℕ) → IsOpened (some_parameters units)
 unfolding some_parameters
-some_opened units = record { xid = omega arith; xid_fits = omega arith; stag = omega arith; stag_fits = omega arith; wished = omega arith; wished_fits = omega arith; granted = omega arith; granted_fits = omega arith; low = omega arith; low_fits = omega arith; receives = omega arith }
+some_opened units = record { xid = omega arith; xid_fits = omega arith; stag = omega arith; stag_fits = omega arith; wished = omega arith; wished_fits = omega arith; granted = omega arith; granted_fits = omega arith; receives = omega arith }
 
 -- what a command gives that opened a session
 pub given_by_peer : (c : Client Text) (before dialed : DialerAt) (s s' : SessionAt) (input input' : SourceAt) (out out' : SinkAt) (result : Result (Unit {0}) ClientEnd) → Opens c.addr c.units before dialed s
