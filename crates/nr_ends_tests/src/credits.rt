@@ -94,7 +94,14 @@ fn writes(rt: &impl Abort, alloc: Global, row: usize, link: &mut TestLink, words
 }
 
 /// A server end with this many pending calls, which has written its hello.
-fn with_calls(rt: &impl Abort, alloc: Global, row: usize, credits: u32, low: u32, calls: u32) -> TestLink {
+fn with_calls(
+    rt: &impl Abort,
+    alloc: Global,
+    row: usize,
+    credits: u32,
+    low: u32,
+    calls: u32,
+) -> TestLink {
     let mut link = TestLink::open_low(rt, alloc, credits, low);
     feed(rt, alloc, row, &mut link, &HELLO);
     for number in 0..calls {
@@ -110,7 +117,14 @@ fn refused(rt: &impl Abort, alloc: Global, row: usize, link: &mut TestLink, call
     writes(rt, alloc, row, link, &error(calls + 1, word));
 }
 
-fn refused_in_parts(rt: &impl Abort, alloc: Global, row: usize, link: &mut TestLink, calls: u32, word: u32) {
+fn refused_in_parts(
+    rt: &impl Abort,
+    alloc: Global,
+    row: usize,
+    link: &mut TestLink,
+    calls: u32,
+    word: u32,
+) {
     let (first, last) = in_parts(calls + 1);
     feed(rt, alloc, row, link, &first);
     feed(rt, alloc, row, link, &last);

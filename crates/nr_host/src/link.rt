@@ -48,7 +48,9 @@ fn serve_by_byte<I: Source, L: Look, O: Sink, C: Clock, R: Wait>(
     ensures sink_count { LinkSinkCount result (O.faults sink.old) (O.faults sink.new) }
 {
     if byte == HELLO_BYTE {
-        let end = serve_connection(rt, alloc, source, sink, shared, pass, clock, credits, low, units);
+        let end = serve_connection(
+            rt, alloc, source, sink, shared, pass, clock, credits, low, units,
+        );
         return LinkEnd::Rdma(end);
     }
     let end = serve_records(rt, alloc, source, sink, shared, pass, clock);
@@ -155,7 +157,9 @@ pub fn serve_link<I: Source, O: Sink, C: Clock, R: Wait>(
     ensures sink_count { LinkSinkCount result.1 (O.faults sink.old) (O.faults sink.new) }
 {
     if records {
-        return look_and_serve(rt, alloc, source, sink, shared, pass, clock, credits, low, units);
+        return look_and_serve(
+            rt, alloc, source, sink, shared, pass, clock, credits, low, units,
+        );
     }
     let mut source = source;
     let end = serve_connection(

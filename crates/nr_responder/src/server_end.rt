@@ -160,7 +160,12 @@ fn taken_at(end: Option<End>, all: usize, part: usize) -> usize
 
 impl ServerEnd {
     /// The server end of a link that grants this number of credits, at most `low` while more than half of its receives are in use, with these terms.
-    pub fn open(alloc: Global, credits: u32, low: u32, terms: SideTerms) -> Result<ServerEnd, Memory>
+    pub fn open(
+        alloc: Global,
+        credits: u32,
+        low: u32,
+        terms: SideTerms,
+    ) -> Result<ServerEnd, Memory>
         ensures sound { IfOk result ServerEndInvariant }
         ensures windows { IfOk result WindowsInvariant }
         ensures state { IfOk result (λ r. state_of r ≡ opened_side credits low terms) }

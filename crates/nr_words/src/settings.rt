@@ -172,9 +172,7 @@ fn present_at(table: &Table, key: &str) -> usize
 fn keys_of(table: &Table) -> usize
     ensures { result ≡ keys_of (table_view table.now) }
 {
-    6 + present_at(table, "record")
-        + present_at(table, "inline")
-        + present_at(table, "low_credits")
+    6 + present_at(table, "record") + present_at(table, "inline") + present_at(table, "low_credits")
 }
 
 /// The boolean at a key, `false` if that is not there.

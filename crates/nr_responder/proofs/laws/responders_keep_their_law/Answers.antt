@@ -1,16 +1,4 @@
 use Rattle.nr_responder.proofs.OwnLaw.{others_leave_it, law_begins, others_keep_law, piece_keeps_law, execute_keeps_law, told_keeps_law, drain_keeps_law}
-use Rattle.nr_responder.proofs.GrantedCredits.{staging_as}
-use Rattle.nr_responder.proofs.KeptReceives.{opened_receives}
-use Rattle.nr_responder.proofs.Answered.{answered_stands}
-use Rattle.nr_responder.proofs.Stepped.{step_done}
-use Rattle.nr_responder.proofs.FirstFrames.{first_done}
-use Rattle.nr_responder.proofs.OutputSteps.{step_out}
-use Rattle.nr_responder.proofs.StepBounds.{step_fits}
-use Rattle.nr_responder.proofs.Opened.{opened_stands_lem}
-use Rattle.nr_responder.proofs.OutputBounds.{opened_out}
-use Rattle.nr_responder.proofs.BegunReads.{started_is}
-use Rattle.nr_responder.proofs.PlacedReads.{placed_read}
-use Rattle.nr_responder.proofs.Counts.{in_use_of_run}
 use Rattle.nr_responder.proofs.laws.responders_keep_their_law.Goals as goal
 
 pub returns-clause-begins : goal.returns-clause-begins
