@@ -33,6 +33,7 @@ use Rattle.nr_reduce.proofs.Standing.{AtEachMark_more}
 use Rattle.nr_reduce.specs.SubmitAnswer.{submit_answer_after}
 use Rattle.nr_reduce.specs.Served.{Served, ServedMark, ToldInRange}
 use Rattle.nr_laws.specs.Grant.{AcceptedMark, AcceptsByRule}
+use Rattle.nr_texts.specs.declared.opening.Opening.{Opening}
 use Rattle.nr_script.specs.declared.script.Line.{Line}
 use Rattle.nr_script.specs.declared.script.Line.TheVariants as lines
 use Rattle.nr_script.specs.Script.{ScriptLines, HasWritableCred, IsScript, FollowOn, is_client, is_granted, may_follow}
