@@ -4,11 +4,13 @@ use Rattle.std.specs.Prelude.{◌&&◌}
 use Rattle.std.proofs.Math.Nat.{min-le_left, min-le_right}
 use Rattle.std.proofs.lemmas.Bool.{eqb-true, leb-true, le-leb}
 use Rattle.std.proofs.lemmas.List.{length-take}
+use Rattle.std.proofs.lemmas.List.Sums.{sum_by-cons}
 use Rattle.nr_xdr.specs.Item.{IsBytes}
 use Rattle.nr_xdr.proofs.Chains.{standing}
 use Rattle.nr_xdr.proofs.SequencingSteps.{chosen}
 use Rattle.nr_xdr.proofs.WordBytes.{IsBytes_drop}
 use Rattle.nr_header.specs.Constants.{HEADER_LEN_MIN, PAYLOAD_MAX}
+use Rattle.nr_header.specs.Length.{write_chunk_len}
 use Rattle.nr_header.specs.declared.header.ChunkLists.{ChunkLists}
 use Rattle.nr_header.specs.declared.header.RdmaSegment.{RdmaSegment}
 use Rattle.nr_rpc.specs.Reading.{call_of, target_of, head_xid}
@@ -36,8 +38,11 @@ use Rattle.nr_reduce.specs.Chunks.{chunk_total}
 use Rattle.nr_reduce.specs.Holds.{Parts, parts_by, parts_in, answer_size, fits_reply, answer_with, answer_for}
 use Rattle.nr_reduce.specs.Items.{is_nfs, from_place, reducible_item}
 use Rattle.nr_reduce.specs.Largest.{largest_reply, read_count}
-use Rattle.nr_reduce.specs.Plans.{TooLarge, inline_plan, moved_offer, argument_offer, target_offer, write_offer, reduced_plan_by, reduced_plan, long_plan, offering, auto_offer, auto_plan, within, plan_size, plan_of, write_list, reply_chunk, write_stag, reply_stag, lists_of}
+use Rattle.nr_reduce.specs.Plans.{TooLarge, inline_plan, moved_offer, argument_offer, target_offer, write_offer, reduced_plan_by, reduced_plan, long_plan, offering, auto_offer, auto_plan, within, plan_size, plan_of, segments_for, segments_from, write_list, reply_chunk, write_stag, reply_stag, lists_of}
 use Rattle.nr_reduce.specs.Server.{answer_of_target}
+use Rattle.nr_reduce.proofs.Segments.{count_is, own_added}
+use Rattle.nr_reduce.proofs.Sizes.{segments_count}
+use Rattle.nr_reduce.proofs.WrittenChunks.{chunk_added}
 use Rattle.nr_tree.specs.Rules.{answer, first}
 use Rattle.nr_tree.specs.Sane.{IsSane}
 use Rattle.nr_ops_file.specs.Bytes.{read_rules, read_done, bytes_at}
@@ -126,22 +131,33 @@ module _ (s : Parameters) (st : State) (sane : IsSane st.tree) (m : Moment) (pay
 -- ===== offers that hold
 
 module _ (reply : List ℕ) (down : ℕ) (room : send_unit ≤ down) where
-  -- one chunk with one segment of this length
-  total_one : (g : RdmaSegment) → chunk_total (g ∷ []) ≡ g.length
-  unfolding chunk_total
-  total_one g = omega arith
+  -- the segments of a chunk of n bytes have n bytes
+  total_own : (stag n : ℕ) → chunk_total (segments_from stag 0 (segments_for n)) ≡ n
+  total_own stag n = chunk_added stag 0 (segments_for n) ∙ own_added n
 
-  chunk_held : (offer : ChunkLists) (g : RdmaSegment) (n proc : ℕ) → offer.write ≡ (g ∷ []) ∷ [] → g.length ≡ n → IsSuited n proc reply → answer_for offer down 100003 3 proc reply ≢ None
+  -- a header that gives a chunk of a READ or a READLINK back
+  size_own : (stag n : ℕ) → n ≤ transfer_max → answer_size (segments_from stag 0 (segments_for n) ∷ []) ≤ 292
+  size_own stag n small =
+      let a = sum_by-cons (λ (chunk : List RdmaSegment). write_chunk_len (length chunk)) (segments_from stag 0 (segments_for n)) [] in
+      let b = segments_count stag 0 (segments_for n) in
+      let c = count_is n in
+      omega (arith, a, b, c, small)
+
+  chunk_held : (offer : ChunkLists) (stag n proc : ℕ) → offer.write ≡ segments_from stag 0 (segments_for n) ∷ [] → n ≤ transfer_max → IsSuited n proc reply → answer_for offer down 100003 3 proc reply ≢ None
   unfolding answer_for
-  chunk_held offer g n proc is len (None, none, short) =
-      subst (λ (o : Option Parts). answer_with offer down o ≢ None) (sym (ap (λ (w : List (List RdmaSegment)). parts_in (Reply 100003 3 proc) w reply) is ∙ ap (parts_by (g ∷ []) reply) none))
-      (inline_held offer down (record { stream = reply; moved = [] }) (omega (arith, short, room, ap (λ (w : List (List RdmaSegment)). answer_size w) is)))
-  chunk_held offer g n proc is len (Some i, some, suits) =
-      let fits : leb i.len (chunk_total (g ∷ [])) ≡ true = le-leb i.len (chunk_total (g ∷ [])) (omega (arith, total_one g, len, suits.0)) in
+  chunk_held offer stag n proc is small (None, none, short) =
+      let chunk : List RdmaSegment = segments_from stag 0 (segments_for n) in
+      let size : answer_size offer.write ≤ 292 = subst (λ (w : List (List RdmaSegment)). answer_size w ≤ 292) (sym is) (size_own stag n small) in
+      subst (λ (o : Option Parts). answer_with offer down o ≢ None) (sym (ap (λ (w : List (List RdmaSegment)). parts_in (Reply 100003 3 proc) w reply) is ∙ ap (parts_by chunk reply) none))
+      (inline_held offer down (record { stream = reply; moved = [] }) (omega (arith, short, room, size)))
+  chunk_held offer stag n proc is small (Some i, some, suits) =
+      let chunk : List RdmaSegment = segments_from stag 0 (segments_for n) in
+      let size : answer_size offer.write ≤ 292 = subst (λ (w : List (List RdmaSegment)). answer_size w ≤ 292) (sym is) (size_own stag n small) in
+      let fits : leb i.len (chunk_total chunk) ≡ true = le-leb i.len (chunk_total chunk) (omega (arith, total_own stag n, suits.0)) in
       let p : Parts = record { stream = take i.pos reply; moved = take i.len (drop i.pos reply) } in
       subst (λ (o : Option Parts). answer_with offer down o ≢ None)
-      (sym (ap (λ (w : List (List RdmaSegment)). parts_in (Reply 100003 3 proc) w reply) is ∙ ap (parts_by (g ∷ []) reply) some ∙ ap (λ (b : Bool). cond b (Some p) None) fits))
-      (inline_held offer down p (omega (arith, suits.1, room, ap (λ (w : List (List RdmaSegment)). answer_size w) is, length-take i.pos reply, min-le_left i.pos (length reply))))
+      (sym (ap (λ (w : List (List RdmaSegment)). parts_in (Reply 100003 3 proc) w reply) is ∙ ap (parts_by chunk reply) some ∙ ap (λ (b : Bool). cond b (Some p) None) fits))
+      (inline_held offer down p (omega (arith, suits.1, room, size, length-take i.pos reply, min-le_left i.pos (length reply))))
 
   -- no write chunk, and a reply that goes inline or fills the reply chunk
   none_held : (offer : ChunkLists) (prog vers proc : ℕ) → offer.write ≡ [] → HEADER_LEN_MIN + length reply ≤ down → answer_for offer down prog vers proc reply ≢ None
@@ -154,12 +170,12 @@ module _ (reply : List ℕ) (down : ℕ) (room : send_unit ≤ down) where
   filled_by true c x y full none = absurd cc
   filled_by false c x y full none = let some : Some y ≡ None = sym (ap (λ (b : Bool). cond b (Some y) None) full) ∙ none in absurd cc
 
-  long_held : (offer : ChunkLists) (g : RdmaSegment) (prog vers proc : ℕ) → offer.write ≡ [] → offer.reply ≡ Some (g ∷ []) → length reply ≤ g.length → answer_for offer down prog vers proc reply ≢ None
+  long_held : (offer : ChunkLists) (stag n prog vers proc : ℕ) → offer.write ≡ [] → offer.reply ≡ Some (segments_from stag 0 (segments_for n)) → length reply ≤ n → answer_for offer down prog vers proc reply ≢ None
   unfolding answer_for
-  long_held offer g prog vers proc is chunk le =
+  long_held offer stag n prog vers proc is chunk le =
       subst (λ (o : Option Parts). answer_with offer down o ≢ None) (sym (ap (λ (w : List (List RdmaSegment)). parts_in (Reply prog vers proc) w reply) is))
       (filled_by (leb (answer_size offer.write + length reply) down) (fits_reply offer.reply (length reply)) _ _
-      (ap (λ (r : Option (List RdmaSegment)). fits_reply r (length reply)) chunk ∙ le-leb (length reply) (chunk_total (g ∷ [])) (omega (arith, total_one g, le))))
+      (ap (λ (r : Option (List RdmaSegment)). fits_reply r (length reply)) chunk ∙ le-leb (length reply) (chunk_total (segments_from stag 0 (segments_for n))) (omega (arith, total_own stag n, le))))
 
   any_target : (offer : ChunkLists) (o : Option CallTarget) → ((prog vers proc : ℕ) → answer_for offer down prog vers proc reply ≢ None) → answer_of_target offer down reply o ≢ None
   any_target offer None held = held 0 0 0
@@ -219,7 +235,7 @@ same_number : (x y : ℕ) → Some x ≡ Some y → x ≡ y
 same_number x y e = cc
 
 module _ (s : Parameters) (st : State) (m : Moment) (payload : List ℕ) (bytes : IsBytes payload) (sane : IsSane st.tree) (down : ℕ) (room : send_unit ≤ down) where
-  module _ (offer : ChunkLists) (g : RdmaSegment) (n : ℕ) (is : offer.write ≡ (g ∷ []) ∷ []) (len : g.length ≡ n) where
+  module _ (offer : ChunkLists) (stag n : ℕ) (is : offer.write ≡ segments_from stag 0 (segments_for n) ∷ []) where
     module _ (xid : ℕ) (fits : xid < 2 ^ 32) (cred : Cred) (args_at : ℕ) where
       abbrev Goal : ℕ → ℕ → ℕ → Type 0
       Goal prog vers proc = answer_for offer down prog vers proc (answer_to s st m payload (calls.Version2 xid prog vers proc cred args_at)).reply ≢ None
@@ -230,12 +246,13 @@ module _ (s : Parameters) (st : State) (m : Moment) (payload : List ℕ) (bytes 
       read_held : (o : Option ℕ) → read_count (from_place args_at payload) ≡ o → moved_offer o ≡ Some n → Goal 100003 3 6
       read_held None asked e = absurd cc
       read_held (Some count) asked e =
-          chunk_held (answer_to s st m payload (calls.Version2 xid 100003 3 6 cred args_at)).reply down room offer g n 6 is len
+          chunk_held (answer_to s st m payload (calls.Version2 xid 100003 3 6 cred args_at)).reply down room offer stag n 6 is
+          (let most = min-le_right count transfer_max in omega (arith, most, same_number (min count transfer_max) n e))
           (subst (λ (k : ℕ). IsSuited k 6 (answer_to s st m payload (calls.Version2 xid 100003 3 6 cred args_at)).reply) (same_number (min count transfer_max) n e) (read_call_suited s st sane m payload bytes xid fits cred args_at count asked))
 
       readlink_held : link_target_max ≡ n → Goal 100003 3 5
       readlink_held e =
-          chunk_held (answer_to s st m payload (calls.Version2 xid 100003 3 5 cred args_at)).reply down room offer g n 5 is len
+          chunk_held (answer_to s st m payload (calls.Version2 xid 100003 3 5 cred args_at)).reply down room offer stag n 5 is (omega (arith, e))
           (subst (λ (k : ℕ). IsSuited k 5 (answer_to s st m payload (calls.Version2 xid 100003 3 5 cred args_at)).reply) e (readlink_call_suited s st sane m payload bytes xid fits cred args_at))
 
       argument_held : (prog vers proc : ℕ) → argument_offer prog vers proc (from_place args_at payload) ≡ Some n → Goal prog vers proc
@@ -271,9 +288,9 @@ module _ (s : Parameters) (st : State) (m : Moment) (payload : List ℕ) (bytes 
 
     offering_holds : (o : Option ℕ) → target_offer payload (target_of (Ok head)) ≡ o → Holding (offering payload o (inline_plan payload))
     offering_holds None e offer ws rs w r =
-        any_target reply down room offer (target_of (Ok head)) (λ prog vers proc. long_held reply down room offer (record { handle = rs; length = largest_reply payload; offset = 0 }) prog vers proc w r short)
+        any_target reply down room offer (target_of (Ok head)) (λ prog vers proc. long_held reply down room offer rs (largest_reply payload) prog vers proc w r short)
     offering_holds (Some n) e offer ws rs w r =
-        write_held offer (record { handle = ws; length = n; offset = 0 }) n w refl head (xid_fits payload head bytes found) e
+        write_held offer ws n w head (xid_fits payload head bytes found) e
 
     write_offer_is : write_offer payload ≡ target_offer payload (target_of (Ok head))
     unfolding write_offer
