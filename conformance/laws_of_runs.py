@@ -54,7 +54,7 @@ USES = [
     'use Rattle.nr_laws.specs.Payloads.{form_conveyed}',
     'use Rattle.nr_reduce.specs.Served.{first_ready}',
     'use Rattle.nr_reduce.specs.Hellos.{client_agreement, server_agreement}',
-    'use Rattle.nr_reduce.specs.ServerState.{credit_word}',
+    'use Rattle.nr_reduce.specs.ServerState.{credit_word, is_busy}',
     'use Rattle.nr_laws.specs.Grant.{last_granted}',
 ]
 ROLES: dict[str, str] = {
@@ -105,6 +105,7 @@ ROLES: dict[str, str] = {
     'answer_brings': 'λ offer answer payload. whole (replied_by (target_of (call_of payload))) '
                      '(stream_brought offer answer) (some_bytes (moved_brought offer answer))',
     'word': 'λ state. credit_word state',
+    'busy': 'λ state. is_busy state',
     'last_granted': 'λ link credits run. last_granted link credits run',
 }
 LAWS = (
@@ -320,14 +321,15 @@ class Link:
                 self.note('offered_memory: %s_bytes' % side, holds, ('brought',) if here else ())
 
     def credits(self) -> None:
-        """What the server grants is in range, and what was set last, if it grants no less while it is busy."""
-        server, granted = self.ends['server'], self.opened['granted']
+        """What the server grants is in range, and what was set last, but at most `low` while it is busy."""
+        server, granted, low = self.ends['server'], self.opened['granted'], self.opened['low']
         word = self.names.ask('word', server['state'])
-        steady = self.opened['low'] == granted
-        self.note('server_credits: range', 1 <= word <= granted, () if steady else ('low',))
-        if steady and server['ended'].n == 'None':
+        self.note('server_credits: range', 1 <= word <= granted)
+        if server['ended'].n == 'None':
             last = self.names.ask('last_granted', self.number, granted, list(self.marks))
-            self.note('server_credits: set', word == last, () if last == granted else ('set',))
+            busy = self.names.ask('busy', server['state'])
+            kinds = [k for k, so in (('set', last != granted), ('low', busy and low < last)) if so]
+            self.note('server_credits: set', word == (min(low, last) if busy else last), kinds)
 
     def mark(self, m: Recorded) -> None:
         made = self.names.mark(m)

@@ -31,7 +31,7 @@ use Rattle.nr_reduce.specs.AtEachMark.{AtEachMark}
 use Rattle.nr_reduce.specs.Journal.{Journaled, AnsweredByPlainServer, PlacedMark, PlainMark}
 use Rattle.nr_reduce.proofs.Standing.{AtEachMark_more}
 use Rattle.nr_reduce.specs.SubmitAnswer.{submit_answer_after}
-use Rattle.nr_reduce.specs.Served.{Served, ServedMark, IsGranted}
+use Rattle.nr_reduce.specs.Served.{Served, ServedMark, ToldInRange}
 use Rattle.nr_laws.specs.Grant.{AcceptedMark, AcceptsByRule}
 use Rattle.nr_texts.specs.declared.opening.Opening.{Opening}
 use Rattle.nr_script.specs.declared.script.Line.{Line}
@@ -308,7 +308,7 @@ quiet_mark o link run mark h w up down none_up none_down = record {
 pub keeps_drop : (s : Setting) (link : ℕ) (d : Drill) → Keeps s link d → Keeps s link (after_drop link d)
 keeps_drop s link d h = (lawful_drop s link d h.0, quiet_mark (s.opened link) link d.marks (marks.Drop link) h.0 h.1 refl refl refl refl)
 
-pub keeps_grant : (s : Setting) (link credits : ℕ) (d : Drill) → IsGranted (s.opened link) (Granted credits) → Keeps s link d → Keeps s link (after_grant link credits d)
+pub keeps_grant : (s : Setting) (link credits : ℕ) (d : Drill) → ToldInRange (s.opened link) (Granted credits) → Keeps s link d → Keeps s link (after_grant link credits d)
 keeps_grant s link credits d within h = (
   lawful_grant s link credits d within h.0,
   quiet_mark (s.opened link) link d.marks (marks.Told link (Granted credits)) h.0 h.1 refl refl (quiet_told (s.opened link) link Initiator d.marks (Granted credits)) (quiet_told (s.opened link) link Responder d.marks (Granted credits)),
@@ -354,7 +354,7 @@ holds_by s acted link old new a h = record { keeps = keeps_by s acted link old n
 
 -- what a line has to be for the laws to hold after it: its credential can be encoded, and its credits are within those of the server
 abbrev pub GrantsWithin : Setting → Line → Type 0
-GrantsWithin s (lines.Grant client credits) = IsGranted (s.opened client) (Granted credits)
+GrantsWithin s (lines.Grant client credits) = ToldInRange (s.opened client) (Granted credits)
 GrantsWithin s line = Unit {0}
 
 abbrev pub IsFit : Setting → Line → Type 0
@@ -530,8 +530,6 @@ opened_by_script script is link =
       wished_fits = few;
       granted = omega (arith, some);
       granted_fits = few;
-      low = omega (arith, some);
-      low_fits = omega arith;
       receives = omega arith;
     }
 

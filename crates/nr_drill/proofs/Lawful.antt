@@ -34,7 +34,7 @@ use Rattle.nr_reduce.specs.Client.{client_rules, client_end, client_output}
 use Rattle.nr_reduce.specs.Server.{server_rules, server_end, server_output}
 use Rattle.nr_reduce.specs.Run.{client, server, output_due}
 use Rattle.nr_reduce.specs.Asked.{AskedMark, AskedSoFar, IsAll, IsCompleted, IsAwaited, revoked_bytes}
-use Rattle.nr_reduce.specs.Served.{ServedMark, next_call, IsGranted}
+use Rattle.nr_reduce.specs.Served.{ServedMark, next_call, ToldInRange}
 use Rattle.nr_reduce.proofs.Steps.{output_due_up_one, output_due_down_one}
 use Rattle.nr_reduce.proofs.SoFarLaws.{AtEachMark_each, asked_mark}
 use Rattle.nr_reduce.proofs.Submitting.{accepted_keeps}
@@ -312,7 +312,7 @@ pub lawful_drop : (s : Setting) (link : ℕ) (d : Drill) → IsLawful (s.opened 
 lawful_drop s link d h = lawful_mark (s.opened link) link d.marks (marks.Drop link) h refl refl tt tt tt
 
 -- a server is told to grant from 1 to as many credits as it was opened with
-pub lawful_grant : (s : Setting) (link credits : ℕ) (d : Drill) → IsGranted (s.opened link) (Granted credits) → IsLawful (s.opened link) link d.marks → IsLawful (s.opened link) link (after_grant link credits d).marks
+pub lawful_grant : (s : Setting) (link credits : ℕ) (d : Drill) → ToldInRange (s.opened link) (Granted credits) → IsLawful (s.opened link) link d.marks → IsLawful (s.opened link) link (after_grant link credits d).marks
 lawful_grant s link credits d within h = lawful_mark (s.opened link) link d.marks (marks.Told link (Granted credits)) h refl refl tt (λ same. within) tt
 
 -- ===== lists

@@ -18,6 +18,7 @@ use Rattle.nr_reduce.specs.ServerState.{PendingCall}
 use Rattle.nr_reduce.specs.PayloadLaws.{moved_by, given_conveyed}
 use Rattle.nr_reduce.specs.ChunkBytes.{IsNotGiven, ChunkHolds}
 use Rattle.nr_reduce.proofs.WrittenChunks.{added_up, sum_added}
+use Rattle.nr_reduce.proofs.Segments.{own_added}
 use Rattle.nr_reduce.proofs.PlanKinds.{MessageKind, IsKind, offered, shape, is_plan}
 use Rattle.nr_reduce.proofs.PlanKinds.MessageKind.{Short, Chunked, Long}
 use Rattle.nr_reduce.proofs.Asking.{asks}
@@ -43,8 +44,8 @@ chunk_given payload offer (Some ns) = record { size = region_length payload offe
 
 chunk_shape : (payload : List ℕ) (kind : MessageKind) (w r : Option (List ℕ)) → IsKind payload kind → HasChunk (shape payload kind w r)
 chunk_shape payload Short w r is = record { size = refl; apart = λ e. refl }
-chunk_shape payload (Chunked i) w r is = record { size = (let l = moved_length Call payload i (reducible Call payload i is) in omega (arith, l)); apart = λ e. absurd cc }
-chunk_shape payload Long w r is = record { size = omega arith; apart = λ e. absurd cc }
+chunk_shape payload (Chunked i) w r is = record { size = (let l = moved_length Call payload i (reducible Call payload i is) in omega (arith, l, own_added i.len)); apart = λ e. absurd cc }
+chunk_shape payload Long w r is = record { size = omega (arith, own_added (length payload)); apart = λ e. absurd cc }
 
 own_chunk : (payload : List ℕ) (form : Form) (up down : ℕ) (p : Plan) → IsNotGiven form → plan_of payload form up down ≡ Ok p → HasChunk p
 own_chunk payload form up down p own e = (let s = (is_plan payload form up down p own e).shaped in subst HasChunk (sym s.is) (chunk_shape payload s.kind (offered s.write) (offered s.reply) s.is_kind))

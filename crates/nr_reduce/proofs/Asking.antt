@@ -1,9 +1,10 @@
 -- The message of a plan reads back as its header and its stream, and with its memory it conveys the payload.
-use Rattle.std.proofs.Common.{◌≡◌, ◌≢◌, ℕ, ◌+◌, ◌^◌, ◌<◌, ◌≤◌, Bool, false, cond, eqb, not, List, [], ◌∷◌, ◌++◌, length, take, drop, sum_by, All, IfSome, Some, None, Ok, refl, sym, ap, subst, ◌∙◌, arith, append-nil}
+use Rattle.std.proofs.Common.{◌≡◌, ◌≢◌, ℕ, ◌+◌, ◌^◌, ◌<◌, ◌≤◌, Bool, false, cond, eqb, not, List, [], ◌∷◌, ◌++◌, length, take, drop, sum_by, All, IfSome, Option, Some, None, Ok, refl, sym, ap, subst, ◌∙◌, arith, append-nil}
 use Rattle.std.proofs.lemmas.Bool.{eq-eqb, ne_eqb}
 use Rattle.std.proofs.lemmas.List.{take_all, drop_at, length-take-le}
 use Rattle.std.proofs.lemmas.List.Elements.{All-nil, All-cons}
-use Rattle.std.specs.List.{flat_map}
+use Rattle.std.specs.Prelude.{sum}
+use Rattle.std.proofs.lemmas.List.Sums.{sum_by-cons}
 use Rattle.nr_xdr.specs.Item.{Item as XdrItem, IsBytes}
 use Rattle.nr_xdr.specs.Items.{AllFit}
 use Rattle.nr_header.specs.Constants.{PAYLOAD_MAX, WRITE_CHUNKS_MAX, CHUNK_SEGMENTS_MAX, WRITE_SEGMENTS_MAX, REPLY_SEGMENTS_MAX, READ_SEGMENTS_MAX}
@@ -23,10 +24,14 @@ use Rattle.nr_reduce.specs.declared.item.Item.{Item}
 use Rattle.nr_reduce.specs.Items.{stream_of, moved_of}
 use Rattle.nr_reduce.specs.declared.item.Of.TheVariants.{Call}
 use Rattle.nr_reduce.specs.declared.outline.Plan.{Plan}
-use Rattle.nr_reduce.specs.Plans.{has_segment, one_if, read_stag, regions_needed, write_list, reply_chunk, lists_of, body_by, call_message, plan_of}
-use Rattle.nr_reduce.specs.Chunks.{Bytes, item_position, position_of, call_moved, whole, call_conveyed, read_bytes}
+use Rattle.nr_reduce.specs.Plans.{segments_for, has_segment, one_if, segments_from, entries_from, read_stag, regions_needed, write_list, reply_chunk, lists_of, body_by, call_message, plan_of}
+use Rattle.nr_reduce.specs.Chunks.{Bytes, item_position, call_moved, whole, call_conveyed, read_bytes}
 use Rattle.nr_reduce.proofs.ItemSearch.{item_stands}
 use Rattle.nr_reduce.proofs.Rebuilding.{reducible, moved_length, rebuilt}
+use Rattle.nr_reduce.proofs.WrittenChunks.{added_up}
+use Rattle.nr_reduce.proofs.Offers.{joined_at, no_item}
+use Rattle.nr_reduce.proofs.Segments.{segments_sum, count_is, some_segment, own_added, entries_fit, segments_fit, segments_end, entries_end, entries_at, entries_total, item_at}
+use Rattle.nr_reduce.proofs.Sizes.{entries_count, segments_count}
 use Rattle.nr_reduce.proofs.PlanKinds.{Offering, offered, IsSmall, MessageKind, shape, IsKind, is_plan}
 use Rattle.nr_reduce.proofs.PlanKinds.Offering.{Nothing, One}
 use Rattle.nr_reduce.proofs.PlanKinds.MessageKind.{Short, Chunked, Long}
@@ -35,13 +40,13 @@ use Rattle.nr_reduce.proofs.PlanKinds.MessageKind.{Short, Chunked, Long}
 
 abbrev pub entries : List ℕ → MessageKind → ℕ → List ReadSegment
 entries payload Short stag = []
-entries payload (Chunked i) stag = record { position = i.pos; handle = stag; length = i.len; offset = 0 } ∷ []
-entries payload Long stag = record { position = 0; handle = stag; length = length payload; offset = 0 } ∷ []
+entries payload (Chunked i) stag = entries_from i.pos stag 0 (segments_for i.len)
+entries payload Long stag = entries_from 0 stag 0 (segments_for (length payload))
 
 abbrev pub read_lengths : List ℕ → MessageKind → List ℕ
 read_lengths payload Short = []
-read_lengths payload (Chunked i) = i.len ∷ []
-read_lengths payload Long = length payload ∷ []
+read_lengths payload (Chunked i) = segments_for i.len
+read_lengths payload Long = segments_for (length payload)
 
 abbrev pub write_from : List ℕ → MessageKind → ℕ → ℕ
 write_from payload way stag = stag + one_if (has_segment (Some (read_lengths payload way)))
@@ -103,21 +108,43 @@ body_shape payload Long w r ls fits is = refl
 
 -- ---- Its numbers fit, and it is within the limits
 
+-- the segments of a chunk that is not too large
+record OwnSegments (stag n : ℕ) : Type 0 where
+  few : length (segments_from stag 0 (segments_for n)) ≤ 16
+  total : added_up (segments_for n) ≡ n
+  ends : SegmentsEnd (segments_from stag 0 (segments_for n))
+
+own_segments : (stag n : ℕ) → n ≤ PAYLOAD_MAX → OwnSegments stag n
+own_segments stag n small =
+    let total = own_added n in record {
+      few = (let a = count_is n in let b = segments_count stag 0 (segments_for n) in omega (arith, a, b, small));
+      total = total;
+      ends = segments_end stag 0 (segments_for n) (omega (arith, total, small));
+    }
+
+stag_fits : (n stag : ℕ) → stag + one_if (has_segment (Some (segments_for n))) ≤ 2 ^ 32 → stag < 2 ^ 32
+stag_fits n stag room = (let some = ap one_if (some_segment n) in omega (arith, some, room))
+
 write_fit : (w : Offering) (stag : ℕ) (more : List XdrItem) → IsSmall w → stag + one_if (has_segment (offered w)) ≤ 2 ^ 32 → AllFit more → AllFit (write_items (write_list stag (offered w)) more)
 write_fit Nothing stag more small room k = (tt, k)
-write_fit (One n) stag more small room k = (tt, (omega arith, (omega (arith, room), (omega (arith, small), (omega arith, (tt, k))))))
+write_fit (One n) stag more small room k =
+    let s = own_segments stag n (omega (arith, small)) in
+    (tt, (omega (arith, s.few), segments_fit stag 0 (segments_for n) (write_items [] more) (λ some. stag_fits n stag room) (omega (arith, s.total, small)) (tt, k)))
 
 reply_fit : (r : Offering) (stag : ℕ) → IsSmall r → stag + one_if (has_segment (offered r)) ≤ 2 ^ 32 → AllFit (reply_items (reply_chunk stag (offered r)) [])
 reply_fit Nothing stag small room = (tt, tt)
-reply_fit (One n) stag small room = (tt, (omega arith, (omega (arith, room), (omega (arith, small), (omega arith, tt)))))
+reply_fit (One n) stag small room =
+    let s = own_segments stag n (omega (arith, small)) in
+    (tt, (omega (arith, s.few), segments_fit stag 0 (segments_for n) [] (λ some. stag_fits n stag room) (omega (arith, s.total, small)) tt))
 
 read_fit : (payload : List ℕ) (way : MessageKind) (stag : ℕ) (more : List XdrItem) → IsBytes payload → IsKind payload way → length payload ≤ PAYLOAD_MAX → write_from payload way stag ≤ 2 ^ 32 → AllFit more
     → AllFit (read_items (entries payload way stag) more)
 read_fit payload Short stag more fits is size room k = (tt, k)
 read_fit payload (Chunked i) stag more fits is size room k =
     let p = placed payload (Chunked i) i fits is refl in
-    (tt, (omega (arith, p.size, size), (omega (arith, room), (omega (arith, p.size, size), (omega arith, (tt, k))))))
-read_fit payload Long stag more fits is size room k = (tt, (omega arith, (omega (arith, room), (omega (arith, size), (omega arith, (tt, k))))))
+    entries_fit i.pos stag 0 (segments_for i.len) more (omega (arith, p.size, size)) (λ some. stag_fits i.len stag room) (let total = own_added i.len in omega (arith, total, p.size, size)) k
+read_fit payload Long stag more fits is size room k =
+    entries_fit 0 stag 0 (segments_for (length payload)) more (omega arith) (λ some. stag_fits (length payload) stag room) (let total = own_added (length payload) in omega (arith, total, size)) k
 
 lists_fit : (payload : List ℕ) (way : MessageKind) (w r : Offering) (stag : ℕ) → IsBytes payload → IsKind payload way → length payload ≤ PAYLOAD_MAX → IsSmall w → IsSmall r
     → reply_from payload way w stag + one_if (has_segment (offered r)) ≤ 2 ^ 32 → AllFit (lists_items (lists payload way w r stag))
@@ -138,26 +165,36 @@ record WriteWithin (chunks : List (List RdmaSegment)) : Type 0 where
 
 write_within : (w : Offering) (stag : ℕ) → IsSmall w → WriteWithin (write_list stag (offered w))
 write_within Nothing stag small = record { count = omega arith; each = All-nil _; segments = omega arith; ends = All-nil _ }
-write_within (One n) stag small = record {
-  count = omega arith;
-  each = all_one (λ (chunk : List RdmaSegment). length chunk ≤ CHUNK_SEGMENTS_MAX) _ (omega arith);
-  segments = omega arith;
-  ends = all_one SegmentsEnd _ (all_one (λ (s : RdmaSegment). Ends s.offset s.length) _ (omega (arith, small)));
-}
+write_within (One n) stag small =
+    let s = own_segments stag n (omega (arith, small)) in record {
+      count = omega arith;
+      each = all_one (λ (chunk : List RdmaSegment). length chunk ≤ CHUNK_SEGMENTS_MAX) _ (omega (arith, s.few));
+      segments = (let a = sum_by-cons (λ (chunk : List RdmaSegment). length chunk) (segments_from stag 0 (segments_for n)) [] in omega (arith, a, s.few));
+      ends = all_one SegmentsEnd _ s.ends;
+    }
 
-reply_segments : (r : Offering) (stag : ℕ) → IfSome (reply_chunk stag (offered r)) (λ chunk. length chunk ≤ REPLY_SEGMENTS_MAX)
-reply_segments Nothing stag = tt
-reply_segments (One n) stag = omega arith
+reply_segments : (r : Offering) (stag : ℕ) → IsSmall r → IfSome (reply_chunk stag (offered r)) (λ chunk. length chunk ≤ REPLY_SEGMENTS_MAX)
+reply_segments Nothing stag small = tt
+reply_segments (One n) stag small = (let s = own_segments stag n (omega (arith, small)) in omega (arith, s.few))
 
 reply_ends : (r : Offering) (stag : ℕ) → IsSmall r → IfSome (reply_chunk stag (offered r)) SegmentsEnd
 reply_ends Nothing stag small = tt
-reply_ends (One n) stag small = all_one (λ (s : RdmaSegment). Ends s.offset s.length) _ (omega (arith, small))
+reply_ends (One n) stag small = (own_segments stag n (omega (arith, small))).ends
 
 record ReadWithin (read : List ReadSegment) (total : ℕ) : Type 0 where
   entries : length read ≤ READ_SEGMENTS_MAX
   ends : All (λ r. Ends r.offset r.length) read
   one : OnePosition read
   total_is : read_total read ≡ total
+
+own_entries : (position stag n : ℕ) → n ≤ PAYLOAD_MAX → ReadWithin (entries_from position stag 0 (segments_for n)) n
+own_entries position stag n small =
+    let total = own_added n in record {
+      entries = (let a = count_is n in let b = entries_count position stag 0 (segments_for n) in omega (arith, a, b, small));
+      ends = entries_end position stag 0 (segments_for n) (omega (arith, total, small));
+      one = (position, entries_at (λ (at : ℕ). at ≢ 0 → at ≡ position) position stag 0 (segments_for n) (λ h. refl));
+      total_is = entries_total position stag 0 (segments_for n) ∙ total;
+    }
 
 abbrev moved_total : List ℕ → MessageKind → ℕ
 moved_total payload Short = 0
@@ -167,18 +204,8 @@ moved_total payload Long = length payload
 read_within : (payload : List ℕ) (way : MessageKind) (stag : ℕ) → IsBytes payload → IsKind payload way → length payload ≤ PAYLOAD_MAX → ReadWithin (entries payload way stag) (moved_total payload way)
 read_within payload Short stag fits is size = record { entries = omega arith; ends = All-nil _; one = (0, All-nil _); total_is = refl }
 read_within payload (Chunked i) stag fits is size =
-    let p = placed payload (Chunked i) i fits is refl in record {
-      entries = omega arith;
-      ends = all_one (λ (r : ReadSegment). Ends r.offset r.length) _ (omega (arith, p.size, size));
-      one = (i.pos, all_one (λ (r : ReadSegment). r.position ≢ 0 → r.position ≡ i.pos) _ (λ h. refl));
-      total_is = omega arith;
-    }
-read_within payload Long stag fits is size = record {
-  entries = omega arith;
-  ends = all_one (λ (r : ReadSegment). Ends r.offset r.length) _ (omega (arith, size));
-  one = (0, all_one (λ (r : ReadSegment). r.position ≢ 0 → r.position ≡ 0) _ (λ h. refl));
-  total_is = omega arith;
-}
+    (let p = placed payload (Chunked i) i fits is refl in own_entries i.pos stag i.len (omega (arith, p.size, size)))
+read_within payload Long stag fits is size = own_entries 0 stag (length payload) size
 
 lists_within : (payload : List ℕ) (way : MessageKind) (w r : Offering) (stag : ℕ) → IsBytes payload → IsKind payload way → length payload ≤ PAYLOAD_MAX → IsSmall w → IsSmall r → ListsWithin (lists payload way w r stag)
 lists_within payload way w r stag fits is size small_w small_r =
@@ -191,7 +218,7 @@ lists_within payload way w r stag fits is size small_w small_r =
       chunk_segments = wr.each;
       write_segments = wr.segments;
       write_ends = wr.ends;
-      reply_segments = reply_segments r (reply_from payload way w stag);
+      reply_segments = reply_segments r (reply_from payload way w stag) small_r;
       reply_ends = reply_ends r (reply_from payload way w stag) small_r;
     }
 
@@ -201,13 +228,15 @@ can_read payload Short w r stag fits is size small_w small_r =
     (lists_within payload Short w r stag fits is size small_w small_r, All-nil _, omega (arith, size))
 can_read payload (Chunked i) w r stag fits is size small_w small_r =
     let p = placed payload (Chunked i) i fits is refl in
-    let len = length-take-le i.pos payload (omega (arith, p.size)) in (
+    let len = length-take-le i.pos payload (omega (arith, p.size)) in
+    let total = (read_within payload (Chunked i) stag fits is size).total_is in (
       lists_within payload (Chunked i) w r stag fits is size small_w small_r,
-      all_one (λ (r : ReadSegment). r.position ≢ 0) _ (λ e. omega (arith, e, p.least)),
-      omega (arith, size, p.size, len),
+      entries_at (λ (at : ℕ). at ≢ 0) i.pos stag 0 (segments_for i.len) (λ e. omega (arith, e, p.least)),
+      omega (arith, size, p.size, len, total),
     )
 can_read payload Long w r stag fits is size small_w small_r =
-    (refl, lists_within payload Long w r stag fits is size small_w small_r, omega (arith, size))
+    let total = (read_within payload Long stag fits is size).total_is in
+    (refl, lists_within payload Long w r stag fits is size small_w small_r, omega (arith, size, total))
 
 head_fits : (xid credit : ℕ) (way : MessageKind) (ls : ChunkLists) → xid < 2 ^ 32 → credit < 2 ^ 32 → AllFit (lists_items ls) → HeaderFits (record { xid = xid; credit = credit; body = body_of way ls })
 head_fits xid credit Short ls x c k = (x, (omega arith, (c, (omega arith, k))))
@@ -223,10 +252,10 @@ unfolding call_conveyed item_position
 conveys_way payload Short stag head ls chunk w r fits is brings = ap Some (drop_at head payload (length head) refl)
 conveys_way payload (Chunked i) stag head ls chunk w r fits is brings =
     let p = placed payload (Chunked i) i fits is refl in
-    ap (λ (b : Bool). whole Call (drop (length head) (head ++ stream_of payload i)) (call_moved (position_of (cond (not b) (Some (record { position = i.pos; handle = stag; length = i.len; offset = 0 })) None)) chunk)) (positive i.pos p.least)
+    ap (λ (o : Option ℕ). whole Call (drop (length head) (head ++ stream_of payload i)) (call_moved o chunk)) (item_at i.pos stag 0 (segments_for i.len) (some_segment i.len) (positive i.pos p.least))
     ∙ (λ k. whole Call (drop_at head (stream_of payload i) (length head) refl k) (Some (brings k)))
     ∙ rebuilt Call payload i fits is
-conveys_way payload Long stag head ls chunk w r fits is brings = ap Some brings
+conveys_way payload Long stag head ls chunk w r fits is brings = (λ k. whole Call (brings k) (call_moved (no_item stag 0 (segments_for (length payload)) k) chunk))
 
 -- the message of a shape is its header and its stream, and reads so
 pub reads_shape : (payload : List ℕ) (way : MessageKind) (w r : Offering) (xid credit stag : ℕ) → IsBytes payload → IsKind payload way → length payload ≤ PAYLOAD_MAX → IsSmall w → IsSmall r → xid < 2 ^ 32 → credit < 2 ^ 32
@@ -293,19 +322,20 @@ asks payload form up down xid credit stag p fits own e fits_x fits_c room =
     let law = λ (q : Plan). stag + regions_needed q ≤ 2 ^ 32 → MessageConveys payload q xid credit stag (call_message xid credit stag q) in
     subst law (sym s.is) (λ room. asks_shape payload s.kind s.write s.reply xid credit stag fits s.is_kind is.payload_fits s.write_small s.reply_small fits_x fits_c room) room
 
+-- the entries of a chunk of n bytes bring a region of that many bytes
+brings_region : (memory : Bytes) (position stag n : ℕ) (region : List ℕ) → memory stag ≡ region → length region ≡ n → read_bytes memory (entries_from position stag 0 (segments_for n)) position ≡ region
+brings_region memory position stag n region holds size =
+    joined_at memory position stag (segments_for n)
+    ∙ ap (λ (xs : List ℕ). take (sum (segments_for n)) xs) holds
+    ∙ take_all (sum (segments_for n)) region (let s = segments_sum n in omega (arith, s, size))
+
 brings_way : (payload : List ℕ) (memory : Bytes) (stag : ℕ) (way : MessageKind) (w r : Offering) → IsKind payload way → memory (read_stag stag (shape payload way (offered w) (offered r))) ≡ (shape payload way (offered w) (offered r)).region
     → ChunkHolds (read_bytes memory (lists_of stag (shape payload way (offered w) (offered r))).read) (shape payload way (offered w) (offered r))
-unfolding lists_of read_bytes
+unfolding lists_of
 brings_way payload memory stag Short w r is holds = tt
 brings_way payload memory stag (Chunked i) w r is holds =
-    ap (λ (b : Bool). flat_map (λ (e : ReadSegment). take e.length (drop e.offset (memory e.handle))) (cond b (record { position = i.pos; handle = stag; length = i.len; offset = 0 } ∷ []) [])) (eq-eqb i.pos i.pos refl)
-    ∙ append-nil (take i.len (memory stag))
-    ∙ ap (λ (xs : List ℕ). take i.len xs) holds
-    ∙ take_all i.len (moved_of payload i) (let l = moved_length Call payload i (reducible Call payload i is) in omega (arith, l))
-brings_way payload memory stag Long w r is holds =
-    append-nil (take (length payload) (memory stag))
-    ∙ ap (λ (xs : List ℕ). take (length payload) xs) holds
-    ∙ take_all (length payload) payload (omega arith)
+    brings_region memory i.pos stag i.len (moved_of payload i) holds (let l = moved_length Call payload i (reducible Call payload i is) in omega (arith, l))
+brings_way payload memory stag Long w r is holds = brings_region memory 0 stag (length payload) payload holds refl
 
 -- The same by its own memory: if the STag of its read chunk holds its region.
 pub asks_from : (payload : List ℕ) (form : Form) (up down stag : ℕ) (p : Plan) (memory : Bytes) → IsBytes payload → IsNotGiven form → plan_of payload form up down ≡ Ok p → memory (read_stag stag p) ≡ p.region

@@ -44,6 +44,7 @@ pub mod Conveyed
 pub mod Refusals
 pub mod Touches
 pub mod Sizes
+pub mod Segments
 pub mod OwnStags
 pub mod OwnLimits
 pub mod StagsLeft

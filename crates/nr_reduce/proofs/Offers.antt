@@ -42,7 +42,7 @@ is_given payload offer up down p e =
 
 -- ---- What the entries of one chunk bring
 
-at_all : (position handle offset : ℕ) (lengths : List ℕ) → at_position position (entries_from position handle offset lengths) ≡ entries_from position handle offset lengths
+pub at_all : (position handle offset : ℕ) (lengths : List ℕ) → at_position position (entries_from position handle offset lengths) ≡ entries_from position handle offset lengths
 at_all position handle offset [] = refl
 at_all position handle offset (n ∷ lengths) =
     let entry : ReadSegment = record { position = position; handle = handle; length = n; offset = offset } in
@@ -61,12 +61,15 @@ pub region_length : (payload : List ℕ) (at size : ℕ) → length (given_regio
 region_length payload at size =
     omega (arith, length-append (take size (drop at payload)) (replicate (size - length (take size (drop at payload))) 0), length-replicate {A = ℕ} (size - length (take size (drop at payload))) 0, length-take size (drop at payload))
 
+-- what the entries of one chunk bring
+pub joined_at : (memory : Bytes) (at stag : ℕ) (lengths : List ℕ) → read_bytes memory (entries_from at stag 0 lengths) at ≡ take (sum lengths) (memory stag)
+unfolding read_bytes
+joined_at memory at stag lengths = ap (λ (es : List ReadSegment). flat_map (entry_bytes memory) es) (at_all at stag 0 lengths) ∙ joined_entries memory at stag 0 lengths
+
 brought : (payload : List ℕ) (memory : Bytes) (at stag : ℕ) (lengths : List ℕ) → memory stag ≡ given_region payload at (sum lengths)
     → read_bytes memory (entries_from at stag 0 lengths) at ≡ given_region payload at (sum lengths)
-unfolding read_bytes
 brought payload memory at stag lengths holds =
-    ap (λ (es : List ReadSegment). flat_map (entry_bytes memory) es) (at_all at stag 0 lengths)
-    ∙ joined_entries memory at stag 0 lengths
+    joined_at memory at stag lengths
     ∙ ap (λ (xs : List ℕ). take (sum lengths) xs) holds
     ∙ take_all (sum lengths) (given_region payload at (sum lengths)) (let l = region_length payload at (sum lengths) in omega (arith, l))
 

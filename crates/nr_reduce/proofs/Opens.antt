@@ -8,11 +8,9 @@ use Rattle.nr_header.specs.declared.header.Header.{Header}
 use Rattle.nr_header.specs.declared.fault.HeaderFault.{HeaderFault}
 use Rattle.nr_header.specs.declared.fault.HeaderFault.TheVariants as faults
 use Rattle.nr_header.specs.Reading.{header_of, body_by, error_by, version1_of, header_by}
-use Rattle.std.proofs.Common.{sum_by}
 use Rattle.std.proofs.lemmas.List.{drop_at}
 use Rattle.nr_xdr.specs.Item.{IsBytes, pad_len}
 use Rattle.nr_header.specs.Constants.{PAYLOAD_MAX}
-use Rattle.nr_header.specs.declared.header.ReadSegment.{ReadSegment}
 use Rattle.nr_header.specs.Header.{header_encoding}
 use Rattle.nr_header.specs.WithinLimits.{body_again, header_again}
 use Rattle.nr_reduce.specs.declared.call.Form.{Form}
@@ -20,16 +18,17 @@ use Rattle.nr_reduce.specs.declared.item.Item.{Item}
 use Rattle.nr_reduce.specs.Items.{stream_of}
 use Rattle.nr_reduce.specs.declared.item.Of.TheVariants.{Call}
 use Rattle.nr_reduce.specs.declared.outline.Plan.{Plan}
-use Rattle.nr_reduce.specs.Plans.{plan_of, regions_needed, lists_of, inline_stream, call_message}
-use Rattle.nr_reduce.specs.Chunks.{is_read_chunk_of_item, is_read_chunk_at, is_item, item_position, position_of, total_at}
+use Rattle.nr_reduce.specs.Plans.{segments_for, plan_of, regions_needed, lists_of, inline_stream, call_message}
+use Rattle.nr_reduce.specs.Chunks.{is_read_chunk_of_item, is_read_chunk_at, is_item, item_position, total_at}
 use Rattle.nr_reduce.specs.ChunkBytes.{IsNotGiven}
 use Rattle.nr_reduce.specs.ServerState.{ServerState, is_pending}
-use Rattle.nr_reduce.specs.ServerMessages.{Verdict, verdict, by_header, by_body, by_stream, by_need}
+use Rattle.nr_reduce.specs.ServerMessages.{Verdict, verdict, by_header, by_body, by_stream, by_need, no_stream}
 use Rattle.nr_reduce.specs.ServerMessages.Verdict.{BadChunks}
 use Rattle.nr_reduce.proofs.ItemSearch.{item_stands}
 use Rattle.nr_reduce.proofs.Rebuilding.{reducible}
 use Rattle.nr_reduce.proofs.PlanKinds.{Offering, offered, IsSmall, MessageKind, shape, IsKind, is_plan}
 use Rattle.nr_reduce.proofs.PlanKinds.MessageKind.{Short, Chunked, Long}
+use Rattle.nr_reduce.proofs.Segments.{some_segment, own_added, item_at, total_own, is_at_zero}
 use Rattle.nr_reduce.proofs.Asking.{lists, lists_shape, body_of, stream_in, reads_shape}
 use Rattle.nr_xdr.specs.Fields.{word_at}
 
@@ -131,25 +130,28 @@ inline_shape payload Long w r fits is = refl
 opens_way : (k : ServerState) (xid : ℕ) (payload : List ℕ) (way : MessageKind) (w r : Offering) (stag : ℕ) (head : List ℕ) → IsBytes payload → IsKind payload way → 0 < length payload
     → by_body k xid (head ++ stream_in payload way) (body_again (body_of way (lists payload way w r stag)) (length head))
     ≡ by_need k (record { number = k.received.sends + 1; xid = xid; lists = lists payload way w r stag; inline = inline_of payload way })
-unfolding is_read_chunk_of_item item_position total_at
+unfolding is_read_chunk_of_item item_position
 opens_way k xid payload Short w r stag head fits is some =
     ap (λ (xs : List ℕ). by_need k (record { number = k.received.sends + 1; xid = xid; lists = lists payload Short w r stag; inline = Some xs })) (drop_at head payload (length head) refl)
 opens_way k xid payload (Chunked i) w r stag head fits is some =
     let red = reducible Call payload i is in
     let stands = item_stands Call payload i fits red.item in
     let ls : ChunkLists = lists payload (Chunked i) w r stag in
-    let entry : ReadSegment = record { position = i.pos; handle = stag; length = i.len; offset = 0 } in
     let least = stands.least in
     let here : eqb i.pos 0 ≡ false = ne_eqb i.pos 0 (λ e. omega (arith, e, least)) in
     let stream : drop (length head) (head ++ stream_of payload i) ≡ stream_of payload i = drop_at head (stream_of payload i) (length head) refl in
     let whole : Verdict = by_need k (record { number = k.received.sends + 1; xid = xid; lists = ls; inline = Some (stream_of payload i) }) in
     (λ j. by_stream k ls xid (Some (stream j)))
-    ∙ ap (λ (b : Bool). cond (is_read_chunk_at (stream_of payload i) (entry ∷ []) (position_of (cond (not b) (Some entry) None))) whole BadChunks) here
-    ∙ ap (λ (o : Option Item). cond (is_item o i.pos (sum_by (λ r. r.length) (cond (eqb i.pos i.pos) (entry ∷ []) []))) whole BadChunks) stands.again
-    ∙ ap (λ (b : Bool). cond (b && (eqb (sum_by (λ r. r.length) (cond b (entry ∷ []) [])) i.len || eqb (sum_by (λ r. r.length) (cond b (entry ∷ []) [])) (i.len + pad_len i.len))) whole BadChunks) (eq-eqb i.pos i.pos refl)
-    ∙ ap (λ (b : Bool). cond (b || eqb (0 + i.len) (i.len + pad_len i.len)) whole BadChunks) (eq-eqb (0 + i.len) i.len (omega arith))
+    ∙ ap (λ (o : Option ℕ). cond (is_read_chunk_at (stream_of payload i) ls.read o) whole BadChunks) (item_at i.pos stag 0 (segments_for i.len) (some_segment i.len) here)
+    ∙ ap (λ (o : Option Item). cond (is_item o i.pos (total_at i.pos ls.read)) whole BadChunks) stands.again
+    ∙ ap (λ (n : ℕ). cond (is_item (Some i) i.pos n) whole BadChunks) (total_own i.pos stag 0 (segments_for i.len) ∙ own_added i.len)
+    ∙ ap (λ (b : Bool). cond (b && (eqb i.len i.len || eqb i.len (i.len + pad_len i.len))) whole BadChunks) (eq-eqb i.pos i.pos refl)
+    ∙ ap (λ (b : Bool). cond (b || eqb i.len (i.len + pad_len i.len)) whole BadChunks) (eq-eqb i.len i.len refl)
 opens_way k xid payload Long w r stag head fits is some =
-    ap (λ (b : Bool). by_stream k (lists payload Long w r stag) xid (cond b (Some []) None)) (ne_eqb (0 + length payload) 0 (λ e. omega (arith, e, some)))
+    let ls : ChunkLists = lists payload Long w r stag in
+    let total : total_at 0 ls.read ≡ length payload = total_own 0 stag 0 (segments_for (length payload)) ∙ own_added (length payload) in
+    ap (λ (b : Bool). cond b (by_stream k ls xid (no_stream ls.read)) BadChunks) (is_at_zero stag 0 (segments_for (length payload)) (some_segment (length payload)))
+    ∙ ap (λ (b : Bool). by_stream k ls xid (cond b (Some []) None)) (ne_eqb (total_at 0 ls.read) 0 (λ e. omega (arith, e, total, some)))
 
 -- A server gets the message of a plan whose form isn't given as a call, with the plan's lists and stream: it is never refused.
 pub opens_call : (k : ServerState) (payload : List ℕ) (form : Form) (up down xid credit stag : ℕ) (p : Plan) → IsBytes payload → IsNotGiven form → plan_of payload form up down ≡ Ok p → 0 < length payload → xid < 2 ^ 32 → credit < 2 ^ 32

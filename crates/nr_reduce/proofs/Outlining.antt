@@ -11,6 +11,7 @@ use Rattle.nr_reduce.specs.declared.call.Offer.{Offer}
 use Rattle.nr_reduce.specs.declared.fault.TooLarge.{TooLarge as CodeTooLarge}
 use Rattle.nr_reduce.specs.declared.item.Item.{Item}
 use Rattle.nr_reduce.specs.declared.item.Of.TheVariants.{Call}
+use Rattle.nr_reduce.specs.declared.outline.ChunkLengths.TheVariants.{Own}
 use Rattle.nr_reduce.specs.declared.outline.MessageKind.{MessageKind}
 use Rattle.nr_reduce.specs.declared.outline.MessageKind.TheVariants.{Short, Chunked, Long}
 use Rattle.nr_reduce.specs.declared.outline.Outline.{Outline}
@@ -21,8 +22,9 @@ use Rattle.nr_reduce.specs.Items.{reducible_item}
 use Rattle.nr_reduce.specs.Largest.{largest_reply}
 use Rattle.nr_reduce.specs.Limits.{given_max}
 use Rattle.nr_reduce.specs.CallOutlines.{chunk_lengths, outline_plan, outline_plan_by, OutlineAnswers}
-use Rattle.nr_reduce.specs.Plans.{TooLarge, chunk_for, inline_plan, given_region, given_plan, given_total, given_within, plan_size, plan_in_form, plan_of, reduced_plan_by, reduced_plan, long_plan, first_within, offering, auto_offer, auto_plan, within, write_offer}
-use Rattle.nr_reduce.specs.PlanSizes.{facts_of, plan_by, plan_of_sizes, ItemFits, KindFits, send_size, sizes_by, offer_sizes_by, auto_offer_sizes, item_kind_within, auto_kind, item_kind, sizes_in_form, one_segment, own_outline, kind_outline, outline_within}
+use Rattle.nr_reduce.specs.Plans.{TooLarge, segments_for, chunk_for, inline_plan, given_region, given_plan, given_total, given_within, plan_size, plan_in_form, plan_of, reduced_plan_by, reduced_plan, long_plan, first_within, offering, auto_offer, auto_plan, within, write_offer}
+use Rattle.nr_reduce.proofs.Segments.{no_zero_count}
+use Rattle.nr_reduce.specs.PlanSizes.{facts_of, plan_by, plan_of_sizes, ItemFits, KindFits, send_size, sizes_by, offer_sizes_by, auto_offer_sizes, item_kind_within, auto_kind, item_kind, sizes_in_form, own_outline, kind_outline, outline_within}
 
 -- ---- Sizes
 
@@ -64,14 +66,17 @@ kind_by payload up w r None false b fits e =
     (ap (λ (n : ℕ). leb n up) (sym (size_is_by payload Short w r tt)) ∙ e) refl
 kind_by payload up w r (Some i) false b fits e = by (leb (send_size (length payload) (sizes_by (Chunked i) w r)) up) refl
   where
+    within : (not (eqb (length (segments_for i.len)) 0) && leb (plan_size (plan_by payload (Chunked i) w r)) up) ≡ leb (send_size (length payload) (sizes_by (Chunked i) w r)) up
+    within = (λ j. not (no_zero_count i.len j) && leb (sym (size_is_by payload (Chunked i) w r fits) j) up)
+
     by : (d : Bool) → leb (send_size (length payload) (sizes_by (Chunked i) w r)) up ≡ d → plan_by payload (cond d (Chunked i) Long) w r
         ≡ first_within up (plan_by payload Short w r) (plan_by payload (Chunked i) w r) (plan_by payload Long w r)
     by true f =
         picked up (plan_by payload Short w r) (plan_by payload (Chunked i) w r) (plan_by payload Long w r) false true
-        (ap (λ (n : ℕ). leb n up) (sym (size_is_by payload Short w r tt)) ∙ e) (ap (λ (n : ℕ). leb n up) (sym (size_is_by payload (Chunked i) w r fits)) ∙ f)
+        (ap (λ (n : ℕ). leb n up) (sym (size_is_by payload Short w r tt)) ∙ e) (within ∙ f)
     by false f =
         picked up (plan_by payload Short w r) (plan_by payload (Chunked i) w r) (plan_by payload Long w r) false false
-        (ap (λ (n : ℕ). leb n up) (sym (size_is_by payload Short w r tt)) ∙ e) (ap (λ (n : ℕ). leb n up) (sym (size_is_by payload (Chunked i) w r fits)) ∙ f)
+        (ap (λ (n : ℕ). leb n up) (sym (size_is_by payload Short w r tt)) ∙ e) (within ∙ f)
 
 auto_kind_is : (payload : List ℕ) (up : ℕ) (w r : Option ℕ) → ItemFits (length payload) (reducible_item Call payload) → plan_by payload (auto_kind (facts_of payload) w r up) w r ≡ auto_plan payload up (plan_by payload Short w r)
 auto_kind_is payload up w r fits =
@@ -100,7 +105,7 @@ own_is payload (forms.Given offer) up down own fits = absurd own
 
 -- ---- The outline of these sizes
 
-chunk_lengths_are : (o : Option ℕ) → chunk_lengths (option_map one_segment o) ≡ chunk_for o
+chunk_lengths_are : (o : Option ℕ) → chunk_lengths (option_map Own o) ≡ chunk_for o
 chunk_lengths_are None = refl
 chunk_lengths_are (Some n) = refl
 
@@ -114,9 +119,9 @@ region_inside payload at n le =
 kind_plan_is : (payload : List ℕ) (kind : MessageKind) (w r : Option (List ℕ)) → KindFits (length payload) kind → outline_plan_by payload (kind_outline (length payload) kind) w r ≡ record (plan_by payload kind None None) { write = w; reply = r }
 kind_plan_is payload Short w r fits = refl
 kind_plan_is payload (Chunked i) w r fits =
-    ap (λ (bytes : List ℕ). record { inline = take i.pos payload; read_at = Some i.pos; read = i.len ∷ []; region = bytes; write = w; reply = r }) (region_inside payload i.pos i.len fits)
+    ap (λ (bytes : List ℕ). record { inline = take i.pos payload; read_at = Some i.pos; read = segments_for i.len; region = bytes; write = w; reply = r }) (region_inside payload i.pos i.len fits)
 kind_plan_is payload Long w r fits =
-    ap (λ (bytes : List ℕ). record { inline = []; read_at = Some 0; read = length payload ∷ []; region = bytes; write = w; reply = r })
+    ap (λ (bytes : List ℕ). record { inline = []; read_at = Some 0; read = segments_for (length payload); region = bytes; write = w; reply = r })
     (region_inside payload 0 (length payload) (omega arith) ∙ take_all (length payload) payload (omega arith))
 
 written : (payload : List ℕ) (kind : MessageKind) (w r : Option ℕ) → record (plan_by payload kind None None) { write = chunk_for w; reply = chunk_for r } ≡ plan_by payload kind w r
@@ -126,7 +131,7 @@ written payload Long w r = refl
 
 outline_is : (payload : List ℕ) (o : PlanSizes) → KindFits (length payload) o.kind → outline_plan payload (own_outline (length payload) o) ≡ plan_of_sizes payload o
 outline_is payload o fits =
-    kind_plan_is payload o.kind (chunk_lengths (option_map one_segment o.write)) (chunk_lengths (option_map one_segment o.reply)) fits
+    kind_plan_is payload o.kind (chunk_lengths (option_map Own o.write)) (chunk_lengths (option_map Own o.reply)) fits
     ∙ (λ i. record (plan_by payload o.kind None None) { write = chunk_lengths_are o.write i; reply = chunk_lengths_are o.reply i })
     ∙ written payload o.kind o.write o.reply
 

@@ -1,5 +1,5 @@
 -- The plans of the forms that aren't given have three shapes: all inline, the item in a chunk, all in a chunk; and they offer one
--- segment at most for each way back.
+-- chunk at most for each way back.
 use Rattle.std.proofs.Common.{◌≡◌, ℕ, ◌+◌, ◌≤◌, min, Bool, true, false, cond, ◌&&◌, eqb, ltb, leb, not, List, [], ◌∷◌, length, Option, Some, None, Result, Ok, Err, refl, sym, ap, subst, ◌∙◌, arith, inl, inr}
 use Rattle.std.specs.Prelude.{find, option_map, unwrap_or}
 use Rattle.std.specs.List.{list_all}
@@ -18,7 +18,7 @@ use Rattle.nr_reduce.specs.Items.{reducible_item, stream_of, moved_of, READ, REA
 use Rattle.nr_reduce.specs.declared.item.Of.TheVariants.{Call}
 use Rattle.nr_reduce.specs.Largest.{largest_reply, reply_limit_min, target_reply_max, by_count, nfs_reply_max, read_reply_max, readdir_reply_max, limit_of, reply_limits, read_count, readdir_count, readdirplus_count, READDIR, READDIRPLUS, MOUNT_PROGRAM, MOUNT_VERSION, MNT}
 use Rattle.nr_reduce.specs.declared.outline.Plan.{Plan}
-use Rattle.nr_reduce.specs.Plans.{TooLarge, inline_plan, moved_offer, target_offer, write_offer, chunk_for, plan_size, reduced_plan_by, reduced_plan, long_plan, offering, auto_offer, plan_in_form, within, given_within, plan_of}
+use Rattle.nr_reduce.specs.Plans.{TooLarge, segments_for, inline_plan, moved_offer, target_offer, write_offer, chunk_for, plan_size, reduced_plan_by, reduced_plan, long_plan, offering, auto_offer, plan_in_form, within, given_within, plan_of}
 
 -- ---- How long a reply may be
 
@@ -74,7 +74,7 @@ pub data Offering : Type 0 where
 
 abbrev pub offered : Offering → Option (List ℕ)
 offered Nothing = None
-offered (One n) = Some (n ∷ [])
+offered (One n) = Some (segments_for n)
 
 abbrev pub IsSmall : Offering → Type 0
 IsSmall Nothing = Unit {0}
@@ -114,8 +114,8 @@ pub data MessageKind : Type 0 where
 
 abbrev pub shape : List ℕ → MessageKind → Option (List ℕ) → Option (List ℕ) → Plan
 shape payload Short w r = record { inline = payload; read_at = None; read = []; region = []; write = w; reply = r }
-shape payload (Chunked i) w r = record { inline = stream_of payload i; read_at = Some i.pos; read = i.len ∷ []; region = moved_of payload i; write = w; reply = r }
-shape payload Long w r = record { inline = []; read_at = Some 0; read = length payload ∷ []; region = payload; write = w; reply = r }
+shape payload (Chunked i) w r = record { inline = stream_of payload i; read_at = Some i.pos; read = segments_for i.len; region = moved_of payload i; write = w; reply = r }
+shape payload Long w r = record { inline = []; read_at = Some 0; read = segments_for (length payload); region = payload; write = w; reply = r }
 
 abbrev pub IsKind : List ℕ → MessageKind → Type 0
 IsKind payload Short = Unit {0}
@@ -177,7 +177,7 @@ shaped_if payload false p q h k = k
 plain_none : (payload : List ℕ) → AnsweredByPlainServer payload (inline_plan payload)
 plain_none payload = record { write = Nothing; write_small = tt; reply = Nothing; reply_small = tt; is = refl }
 
-plain_reply : (payload : List ℕ) → AnsweredByPlainServer payload (record { inline = payload; read_at = None; read = []; region = []; write = None; reply = Some (largest_reply payload ∷ []) })
+plain_reply : (payload : List ℕ) → AnsweredByPlainServer payload (record { inline = payload; read_at = None; read = []; region = []; write = None; reply = Some (segments_for (largest_reply payload)) })
 plain_reply payload = record { write = Nothing; write_small = tt; reply = One (largest_reply payload); reply_small = largest_small payload; is = refl }
 
 plain_write : (payload : List ℕ) → AnsweredByPlainServer payload (record { inline = payload; read_at = None; read = []; region = []; write = chunk_for (write_offer payload); reply = None })

@@ -19,7 +19,7 @@ use Rattle.nr_reduce.proofs.PlanKinds.MessageKind.{Short, Chunked, Long}
 
 -- ---- The message of a plan
 
-entries_count : (position handle offset : ℕ) (lengths : List ℕ) → length (entries_from position handle offset lengths) ≡ length lengths
+pub entries_count : (position handle offset : ℕ) (lengths : List ℕ) → length (entries_from position handle offset lengths) ≡ length lengths
 entries_count position handle offset [] = refl
 entries_count position handle offset (n ∷ lengths) = (let a = entries_count position handle (offset + n) lengths in omega (arith, a))
 

@@ -4,11 +4,11 @@ use Rattle.nr_rpc.specs.Reading.{call_of, target_of}
 use Rattle.nr_reduce.specs.declared.fault.TooLarge.{TooLarge as CodeTooLarge}
 use Rattle.nr_reduce.specs.declared.outline.Plan.{Plan}
 use Rattle.nr_reduce.specs.declared.outline.ChunkLengths.{ChunkLengths}
-use Rattle.nr_reduce.specs.declared.outline.ChunkLengths.TheVariants.{One, Given}
+use Rattle.nr_reduce.specs.declared.outline.ChunkLengths.TheVariants.{Own, Given}
 use Rattle.nr_reduce.specs.declared.outline.ReadOutline.{ReadOutline}
 use Rattle.nr_reduce.specs.declared.outline.Outline.{Outline}
 use Rattle.nr_reduce.specs.declared.parts.CallParts.{CallParts}
-use Rattle.nr_reduce.specs.Plans.{TooLarge, given_region}
+use Rattle.nr_reduce.specs.Plans.{TooLarge, segments_for, given_region}
 
 -- the payload of a call
 abbrev pub parts_payload : CallParts → List ℕ
@@ -25,7 +25,7 @@ ArePartsOf (Some p) payload = IsCall p × (parts_payload p ≡ payload)
 
 -- the lengths of the segments of a chunk
 abbrev pub lengths_of : ChunkLengths → List ℕ
-lengths_of (One lengths) = lengths
+lengths_of (Own len) = segments_for len
 lengths_of (Given lengths) = lengths.now
 
 abbrev pub chunk_lengths : Option ChunkLengths → Option (List ℕ)

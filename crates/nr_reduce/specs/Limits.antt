@@ -15,6 +15,10 @@ send_unit = link_send_unit
 abbrev pub given_max : ℕ
 given_max = 65536
 
+-- the maximum length of a segment of a chunk whose offer isn't given, in bytes
+abbrev pub chunk_segment_max : ℕ
+chunk_segment_max = 66048
+
 -- how many STags and xids there are: the last one is below this
 abbrev pub numbers_end : ℕ
 numbers_end = 4294967296

@@ -7,8 +7,7 @@ use Rattle.nr_reduce.specs.declared.call.Form.TheVariants as forms
 use Rattle.nr_reduce.specs.declared.item.Item.{Item}
 use Rattle.nr_reduce.specs.declared.item.Of.TheVariants.{Call}
 use Rattle.nr_reduce.specs.declared.outline.Plan.{Plan}
-use Rattle.nr_reduce.specs.declared.outline.ChunkLengths.{ChunkLengths}
-use Rattle.nr_reduce.specs.declared.outline.ChunkLengths.TheVariants.{One}
+use Rattle.nr_reduce.specs.declared.outline.ChunkLengths.TheVariants.{Own}
 use Rattle.nr_reduce.specs.declared.outline.ReadOutline.{ReadOutline}
 use Rattle.nr_reduce.specs.declared.outline.Outline.{Outline}
 use Rattle.nr_reduce.specs.declared.outline.MessageKind.{MessageKind}
@@ -49,10 +48,10 @@ KindFits len Long = Unit {0}
 
 -- ---- The sizes of a plan of a payload of this many bytes
 
-abbrev pub entries_of : MessageKind → ℕ
-entries_of Short = 0
-entries_of (Chunked i) = 1
-entries_of Long = 1
+abbrev pub entries_of : ℕ → MessageKind → ℕ
+entries_of len Short = 0
+entries_of len (Chunked i) = length (segments_for i.len)
+entries_of len Long = length (segments_for len)
 
 abbrev pub inline_len : ℕ → MessageKind → ℕ
 inline_len len Short = len
@@ -60,7 +59,7 @@ inline_len len (Chunked i) = i.pos
 inline_len len Long = 0
 
 abbrev pub send_size : ℕ → PlanSizes → ℕ
-send_size len o = HEADER_LEN_MIN + read_list_len (entries_of o.kind) + write_size (chunk_for o.write) + reply_size (chunk_for o.reply) + inline_len len o.kind
+send_size len o = HEADER_LEN_MIN + read_list_len (entries_of len o.kind) + write_size (chunk_for o.write) + reply_size (chunk_for o.reply) + inline_len len o.kind
 
 -- what is offered if the form is left open
 abbrev pub offer_sizes_by : ℕ → Option ℕ → Option ℕ × Option ℕ
@@ -101,11 +100,8 @@ sizes_in_form facts (forms.Given offer) up down = sizes_by Short None None
 
 -- ---- The outline of these sizes
 
-abbrev pub one_segment : ℕ → ChunkLengths
-one_segment len = One (len ∷ [])
-
 abbrev pub read_outline : ℕ → ℕ → ReadOutline
-read_outline position len = record { position = position; lengths = one_segment len; len = len }
+read_outline position len = record { position = position; lengths = Own len; len = len }
 
 abbrev pub kind_outline : ℕ → MessageKind → Option ReadOutline
 kind_outline len Short = None
@@ -113,7 +109,7 @@ kind_outline len (Chunked i) = Some (read_outline i.pos i.len)
 kind_outline len Long = Some (read_outline 0 len)
 
 abbrev pub own_outline : ℕ → PlanSizes → Outline
-own_outline len o = record { read = kind_outline len o.kind; write = option_map one_segment o.write; reply = option_map one_segment o.reply }
+own_outline len o = record { read = kind_outline len o.kind; write = option_map Own o.write; reply = option_map Own o.reply }
 
 abbrev pub outline_within : (len up : ℕ) → PlanSizes → Result Outline CodeTooLarge
 outline_within len up o =

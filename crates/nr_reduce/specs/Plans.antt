@@ -1,5 +1,5 @@
 -- How a call is sent (RFC 8166 section 3.5): what goes inline, what is offered to be read, and what is offered to be filled.
-use Rattle.std.specs.Prelude.{◌≡◌, ℕ, ◌+◌, ◌-◌, min, Bool, true, false, nat_lt, nat_le, ◌&&◌, ◌==◌, not, if◌then◌else◌, List, [], ◌∷◌, ◌++◌, length, take, drop, replicate, sum, Option, None, Some, Result, Ok, Err}
+use Rattle.std.specs.Prelude.{◌≡◌, ℕ, zero, suc, ◌+◌, ◌-◌, ◌/◌, min, Bool, true, false, nat_lt, nat_le, ◌&&◌, ◌==◌, not, if◌then◌else◌, List, [], ◌∷◌, ◌++◌, length, take, drop, replicate, sum, Option, None, Some, Result, Ok, Err}
 use Rattle.nr_header.specs.Constants.{HEADER_LEN_MIN, PAYLOAD_MAX}
 use Rattle.nr_header.specs.Length.{read_list_len, write_chunk_len, reply_chunk_len}
 use Rattle.nr_header.specs.declared.header.RdmaSegment.{RdmaSegment}
@@ -17,7 +17,7 @@ use Rattle.nr_rpc.specs.Reading.{call_of, target_of}
 use Rattle.nr_reduce.specs.declared.call.Form.{Form}
 use Rattle.nr_reduce.specs.declared.call.Form.TheVariants as forms
 use Rattle.nr_reduce.specs.declared.call.Offer.{Offer}
-use Rattle.nr_reduce.specs.Limits.{given_max}
+use Rattle.nr_reduce.specs.Limits.{given_max, chunk_segment_max}
 use Rattle.nr_nfs_base.specs.Limits.{link_target_max, transfer_max}
 use Rattle.nr_reduce.specs.declared.outline.Plan.{Plan}
 use Rattle.nr_reduce.specs.declared.item.Item.{Item}
@@ -30,9 +30,14 @@ pub record TooLarge : Type 0 where
   pub need : ℕ
   pub room : ℕ
 
--- the segments of a chunk that isn't given: one
-abbrev pub segments_for : ℕ → List ℕ
-segments_for n = n ∷ []
+-- The lengths of the segments of a chunk of n bytes that isn't given: full ones, and then one with the rest. At most `more` follow
+-- the first.
+abbrev pub segments_within : (more n : ℕ) → List ℕ
+segments_within zero n = n ∷ []
+segments_within (suc more) n = if nat_le n chunk_segment_max then n ∷ [] else chunk_segment_max ∷ segments_within more (n - chunk_segment_max)
+
+unfoldable pub segments_for : ℕ → List ℕ
+segments_for n = segments_within (n / chunk_segment_max) n
 
 abbrev pub inline_plan : List ℕ → Plan
 inline_plan payload = record { inline = payload; read_at = None; read = []; region = []; write = None; reply = None }

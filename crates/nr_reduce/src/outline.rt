@@ -1,14 +1,15 @@
 //! How a call is sent: which of its bytes go in a chunk, and what it offers for the reply.
 
-ghost use Rattle.std.specs.Prelude.{◌≡◌, ℕ, List, ◌+◌, ◌*◌, ◌^◌, ◌<◌, ◌≤◌, ◌++◌, Option, None, Some, length, take, option_map, IfOk};
+ghost use Rattle.std.specs.Prelude.{◌≡◌, ℕ, List, ◌+◌, ◌*◌, ◌^◌, ◌<◌, ◌≤◌, ◌++◌, Option, None, Some, length, take, option_map, slice_index, IfOk};
 ghost use Rattle.nr_reduce.specs.Plans.{segments_for, chunk_for, moved_offer, argument_offer, write_size, reply_size, given_region};
-ghost use Rattle.nr_reduce.specs.PlanSizes.{ItemFits, KindFits, send_size, auto_offer_sizes, auto_kind, auto_sizes, item_kind, sizes_by, one_segment, read_outline, kind_outline, own_outline};
+ghost use Rattle.nr_reduce.specs.PlanSizes.{ItemFits, KindFits, send_size, auto_offer_sizes, auto_kind, auto_sizes, item_kind, sizes_by, read_outline, kind_outline, own_outline};
 ghost use Rattle.nr_reduce.specs.CallOutlines.{lengths_of, outline_plan};
+ghost use Rattle.nr_reduce.specs.declared.outline.ChunkLengths.TheVariants.{Own};
 
 use crate::call::Lengths;
 use crate::item::{Item, is_nfs};
 use crate::largest::number_after;
-use crate::limits::{READ, READLINK};
+use crate::limits::{CHUNK_SEGMENT_MAX, READ, READLINK};
 use crate::parts::PayloadFacts;
 use crate::two_slices::{from_offset, up_to, with_zeros};
 use nr_header::{HEADER_LEN_MIN, read_list_len, reply_chunk_len, write_chunk_len};
@@ -34,23 +35,34 @@ pub struct Plan {
     pub reply: Option<Lengths>,
 }
 
-/// The lengths, in bytes, of the segments of a chunk: of its one segment, or those that an offer gives.
+/// The lengths, in bytes, of the segments of a chunk. Contracts see the list.
 #[derive(Clone, Copy)]
 pub enum ChunkLengths<'a> {
-    /// Of its one segment.
-    One([u32; 1]),
+    /// Those of a chunk of this many bytes: as many full segments as there are, and then one with the rest.
+    Own(u32),
     /// Those that an offer gives.
     Given(&'a [u32]),
 }
 
 impl<'a> ChunkLengths<'a> {
-    /// The lengths as a list.
-    pub fn as_slice(&self) -> &[u32]
-        ensures { result.now ≡ lengths_of self.now }
+    /// How many segments there are.
+    pub fn count(&self) -> usize
+        ensures { result ≡ length (lengths_of self.now) }
     {
         match self {
-            ChunkLengths::One(lengths) => lengths.as_slice(),
-            ChunkLengths::Given(lengths) => lengths,
+            ChunkLengths::Own(len) => segment_count(*len as usize),
+            ChunkLengths::Given(lengths) => lengths.len(),
+        }
+    }
+
+    /// The length of the segment after the first `index`.
+    pub fn length(&self, index: usize) -> u32
+        requires { index < length (lengths_of self.now) }
+        ensures { result ≡ slice_index (lengths_of self.now) index }
+    {
+        match self {
+            ChunkLengths::Own(len) => own_length(*len, index),
+            ChunkLengths::Given(lengths) => given_length(lengths, index),
         }
     }
 }
@@ -95,11 +107,28 @@ pub(crate) struct PlanSizes {
 }
 
 /// How many segments a chunk of `len` bytes has.
-fn segment_count(len: u32) -> usize
+#[tactic(auto, using(crate::proofs::Segments::count_is))]
+fn segment_count(len: usize) -> usize
     ensures { result ≡ length (segments_for len) }
 {
-    let _ = len;
-    1
+    len.saturating_sub(1) / CHUNK_SEGMENT_MAX as usize + 1
+}
+
+/// The length of the segment after the first `index` of a chunk of `len` bytes.
+#[tactic(auto, using(crate::proofs::Segments::length_at, crate::proofs::Segments::begins_within))]
+fn own_length(len: u32, index: usize) -> u32
+    requires { index < length (segments_for len) }
+    ensures { result ≡ slice_index (segments_for len) index }
+{
+    let before = index as u32 * CHUNK_SEGMENT_MAX;
+    (len - before).min(CHUNK_SEGMENT_MAX)
+}
+
+fn given_length(lengths: &[u32], index: usize) -> u32
+    requires { index < length lengths.now }
+    ensures { result ≡ slice_index lengths.now index }
+{
+    lengths[index]
 }
 
 /// The size of a write chunk in a header.
@@ -108,7 +137,7 @@ fn write_size(len: Option<u32>) -> u128
     ensures small { result < 2 ^ 100 }
 {
     match len {
-        Some(len) => write_chunk_len(segment_count(len)),
+        Some(len) => write_chunk_len(segment_count(len as usize)),
         None => 0,
     }
 }
@@ -119,7 +148,7 @@ fn reply_size(len: Option<u32>) -> u128
     ensures small { result < 2 ^ 100 }
 {
     match len {
-        Some(len) => reply_chunk_len(segment_count(len)),
+        Some(len) => reply_chunk_len(segment_count(len as usize)),
         None => 0,
     }
 }
@@ -130,8 +159,8 @@ pub(crate) fn send_size(len: usize, sizes: PlanSizes) -> u128
 {
     let (entries, inline) = match sizes.kind {
         MessageKind::Short => (0, len),
-        MessageKind::Chunked(item) => (1, item.pos),
-        MessageKind::Long => (1, 0),
+        MessageKind::Chunked(item) => (segment_count(item.len as usize), item.pos),
+        MessageKind::Long => (segment_count(len), 0),
     };
     let lists = read_list_len(entries) + write_size(sizes.write) + reply_size(sizes.reply);
     HEADER_LEN_MIN as u128 + lists + inline as u128
@@ -245,17 +274,11 @@ pub(crate) fn long_sizes(facts: PayloadFacts) -> PlanSizes
 
 // ---- The outline of these sizes
 
-fn one_segment<'a>(len: u32) -> ChunkLengths<'a>
-    ensures { result ≡ one_segment len }
-{
-    ChunkLengths::One([len])
-}
-
-fn one_chunk<'a>(len: Option<u32>) -> Option<ChunkLengths<'a>>
-    ensures { result ≡ option_map one_segment len }
+fn own_chunk<'a>(len: Option<u32>) -> Option<ChunkLengths<'a>>
+    ensures { result ≡ option_map Own len }
 {
     match len {
-        Some(len) => Some(one_segment(len)),
+        Some(len) => Some(ChunkLengths::Own(len)),
         None => None,
     }
 }
@@ -265,7 +288,7 @@ fn read_outline<'a>(position: u32, len: u32) -> ReadOutline<'a>
 {
     ReadOutline {
         position,
-        lengths: one_segment(len),
+        lengths: ChunkLengths::Own(len),
         len,
     }
 }
@@ -290,8 +313,8 @@ pub(crate) fn own_outline<'a>(len: usize, sizes: PlanSizes) -> Outline<'a>
 {
     Outline {
         read: kind_outline(len, sizes.kind),
-        write: one_chunk(sizes.write),
-        reply: one_chunk(sizes.reply),
+        write: own_chunk(sizes.write),
+        reply: own_chunk(sizes.reply),
     }
 }
 

@@ -1,6 +1,6 @@
 //! The plan of a call (RFC 8166 section 3.5).
 
-ghost use Rattle.std.specs.Prelude.{◌≡◌, ℕ, List, ◌+◌, ◌*◌, ◌^◌, ◌<◌, ◌≤◌, [], Ok, None, Some, length, sum, option_map, IfOk};
+ghost use Rattle.std.specs.Prelude.{◌≡◌, ℕ, List, ◌+◌, ◌*◌, ◌^◌, ◌<◌, ◌≤◌, ◌++◌, [], Ok, None, Some, length, sum, option_map, IfOk};
 ghost use Rattle.nr_reduce.specs.Plans.{total, given_total, given_region, given_plan, write_size, reply_size, plan_size, within, plan_of};
 ghost use Rattle.nr_reduce.specs.Limits.{given_max};
 ghost use Rattle.nr_reduce.specs.PlanSizes.{facts_of, ItemFits, KindFits, PlanAnswers, outline_within};
@@ -210,10 +210,21 @@ struct ReplyChunks {
     reply: Option<Lengths>,
 }
 
+fn push_lengths(list: &mut Vec<u32>, lengths: ChunkLengths<'_>) -> Result<(), Memory>
+    ensures { IfOk result (λ _. list.new.items ≡ list.old.items ++ lengths_of lengths.entry) }
+{
+    for index in 0..lengths.count() {
+        list.push(lengths.length(index))?;
+    }
+    Ok(())
+}
+
 fn copied(alloc: Global, lengths: ChunkLengths<'_>) -> Result<Lengths, Memory>
     ensures { IfOk result (λ l. l ≡ lengths_of lengths.entry) }
 {
-    Ok(Lengths::from_vec(Vec::from_slice(alloc, lengths.as_slice())?))
+    let mut list = Vec::with_capacity(alloc, lengths.count())?;
+    push_lengths(&mut list, lengths)?;
+    Ok(Lengths::from_vec(list))
 }
 
 fn copied_chunk(alloc: Global, lengths: Option<ChunkLengths<'_>>) -> Result<Option<Lengths>, Memory>

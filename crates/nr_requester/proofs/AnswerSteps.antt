@@ -15,7 +15,7 @@ use Rattle.nr_reduce.specs.declared.mark.Mark.{Mark}
 use Rattle.nr_reduce.specs.declared.mark.Mark.TheVariants as marks
 use Rattle.nr_reduce.specs.History.{AcceptedCall, CompletedCall, abandons, is_abandoned, completed_at, completed_calls, accepted_at, accepted_calls, bytes_received}
 use Rattle.nr_reduce.specs.Events.{RunEvent, if_own, events_at, events}
-use Rattle.nr_reduce.specs.Events.RunEvent.{FrameReceived, CallSubmitted, MemoryRevoked, CallExecuted, QueueWritten}
+use Rattle.nr_reduce.specs.Events.RunEvent.{FrameReceived, CallSubmitted, MemoryRevoked, CallExecuted, QueueWritten, ServerTold}
 use Rattle.nr_reduce.specs.EndRules.{EndState, next_end_state, next_end_state_by, next_end_state_in, end_state_after}
 use Rattle.nr_reduce.specs.ClientState.{ClientState}
 use Rattle.nr_reduce.specs.Client.{client_rules, client_end, client_state_after, initial_client}
@@ -127,6 +127,7 @@ IsNoFrame (CallSubmitted place a) = Unit {0}
 IsNoFrame (MemoryRevoked place xid) = Unit {0}
 IsNoFrame (CallExecuted call) = Unit {0}
 IsNoFrame (QueueWritten taken) = Unit {0}
+IsNoFrame (ServerTold what) = Unit {0}
 
 state_outcomes : (opened : LinkParameters) (k : ClientState) (event : RunEvent) → IsNoFrame event → (client_state_after opened k event).outcomes ≡ k.outcomes
 unfolding client_state_after
@@ -135,6 +136,7 @@ state_outcomes opened k (CallSubmitted place a) none = refl
 state_outcomes opened k (MemoryRevoked place xid) none = refl
 state_outcomes opened k (CallExecuted call) none = refl
 state_outcomes opened k (QueueWritten taken) none = refl
+state_outcomes opened k (ServerTold what) none = refl
 
 pub next_outcomes : (opened : LinkParameters) (e : EndState ClientState) (event : RunEvent) → IsNoFrame event → (next_end_state (client_rules opened) e event).state.outcomes ≡ e.state.outcomes
 next_outcomes opened e event none = by_end e.state e.ended
@@ -240,6 +242,7 @@ are_silent (event ∷ es) frames submits = (by event frames.0 submits.0, are_sil
     by (MemoryRevoked place xid) frame submit = tt
     by (CallExecuted call) frame submit = tt
     by (QueueWritten taken) frame submit = tt
+    by (ServerTold what) frame submit = tt
 
 quiet_still : (opened : LinkParameters) (es more : List RunEvent) → AreNoFrames more → SubmitNothing more → (a : AnsweredCall) → Still opened es a → Still opened (es ++ more) a
 quiet_still opened es more frames submits a h =
@@ -273,6 +276,7 @@ none_accepted link run (marks.Lost l xid) none = refl
 none_accepted link run (marks.Forget l xid) none = refl
 none_accepted link run (marks.Revoke l xid bytes) none = refl
 none_accepted link run (marks.Drop l) none = refl
+none_accepted link run (marks.Told l what) none = refl
 
 -- a mark that gives up nothing, and has no frame
 pub quiet_mark : (opened : LinkParameters) (link : ℕ) (h h2 : RequesterSide) (run : List Mark) (mark : Mark) → IsQuiet link run mark → GivesUpNothing link mark → AnswersAfter opened link h run →

@@ -18,7 +18,7 @@ use Rattle.nr_reduce.specs.Plans.{Buffer, buffers}
 use Rattle.nr_reduce.specs.OfferedRegions.{Region, until_or, until_at, region_grant, region_grants, closed_if, regions_closed, region_bytes, region_bytes_by}
 use Rattle.nr_reduce.specs.OfferedMemory.{region_at, AreOffered, AreReceived}
 use Rattle.nr_reduce.specs.Events.{RunEvent}
-use Rattle.nr_reduce.specs.Events.RunEvent.{FrameReceived, CallSubmitted, MemoryRevoked, CallExecuted, QueueWritten}
+use Rattle.nr_reduce.specs.Events.RunEvent.{FrameReceived, CallSubmitted, MemoryRevoked, CallExecuted, QueueWritten, ServerTold}
 use Rattle.nr_reduce.specs.EndRules.{EndState, live, next_end_state, next_end_state_by, next_end_state_in, end_state_after}
 use Rattle.nr_reduce.specs.ClientState.{ClientState, client_memory_at}
 use Rattle.nr_reduce.specs.Client.{client_rules, client_end, client_state_after, outstanding_of, region_of, with_message, with_request, with_segment, with_hello, due_with_response}
@@ -286,6 +286,7 @@ IsSilent (CallSubmitted place a) = ⊥
 IsSilent (MemoryRevoked place xid) = Unit {0}
 IsSilent (CallExecuted call) = Unit {0}
 IsSilent (QueueWritten taken) = Unit {0}
+IsSilent (ServerTold what) = Unit {0}
 
 silent_state : (opened : LinkParameters) (k : ClientState) (event : RunEvent) (a : AnsweredCall) → IsSilent event → StillHolds k.next_xid k a → StillHolds (client_state_after opened k event).next_xid (client_state_after opened k event) a
 unfolding client_state_after
@@ -295,6 +296,7 @@ silent_state opened k (MemoryRevoked place xid) a none h =
     still_by k.next_xid k.next_xid k (client_state_after opened k (MemoryRevoked place xid)) a (omega arith) (stay_closed (λ r. eqb r.call xid) place a.xid k.regions h.closed) refl h
 silent_state opened k (CallExecuted call) a none h = h
 silent_state opened k (QueueWritten taken) a none h = still_by k.next_xid k.next_xid k (client_state_after opened k (QueueWritten taken)) a (omega arith) refl refl h
+silent_state opened k (ServerTold what) a none h = h
 
 silent_next : (opened : LinkParameters) (e : EndState ClientState) (event : RunEvent) (a : AnsweredCall) → IsSilent event → StillHolds e.state.next_xid e.state a →
     StillHolds (next_end_state (client_rules opened) e event).state.next_xid (next_end_state (client_rules opened) e event).state a

@@ -19,7 +19,7 @@ use Rattle.nr_reduce.specs.History.{AcceptedCall, bytes_received}
 use Rattle.nr_reduce.specs.AtEachMark.{AtEachMark}
 use Rattle.nr_reduce.specs.Matched.{IsPrefixOf}
 use Rattle.nr_reduce.specs.Events.{RunEvent, if_own, events_at, events}
-use Rattle.nr_reduce.specs.Events.RunEvent.{FrameReceived, CallSubmitted, MemoryRevoked, CallExecuted, QueueWritten}
+use Rattle.nr_reduce.specs.Events.RunEvent.{FrameReceived, CallSubmitted, MemoryRevoked, CallExecuted, QueueWritten, ServerTold}
 use Rattle.nr_reduce.specs.EndRules.{EndState, next_end_state, next_end_state_by, next_end_state_in, end_state_after}
 use Rattle.nr_reduce.specs.ClientState.{ClientState, OutstandingCall}
 use Rattle.nr_reduce.specs.Client.{client_rules, client_end, client_state_after, outstanding_of, region_of, revoked_call, with_message, with_request, with_segment, with_hello, due_with_response}
@@ -184,6 +184,7 @@ SubmitsNothing (CallSubmitted place a) = ⊥
 SubmitsNothing (MemoryRevoked place xid) = Unit {0}
 SubmitsNothing (CallExecuted call) = Unit {0}
 SubmitsNothing (QueueWritten taken) = Unit {0}
+SubmitsNothing (ServerTold what) = Unit {0}
 
 abbrev pub SubmitNothing : List RunEvent → Type 0
 SubmitNothing [] = Unit {0}
@@ -209,6 +210,7 @@ event_offers opened k (MemoryRevoked place xid) none h = record {
 }
 event_offers opened k (CallExecuted call) none h = h
 event_offers opened k (QueueWritten taken) none h = record { before = h.before; calls = h.calls }
+event_offers opened k (ServerTold what) none h = h
 
 pub next_offers : (opened : LinkParameters) (r : EndState ClientState) (event : RunEvent) → SubmitsNothing event → Offers opened r.state → Offers opened (next_end_state (client_rules opened) r event).state
 next_offers opened r event none h = by_end r.state r.ended h
@@ -282,6 +284,7 @@ mark_offers opened link before (marks.Forget l xid) h asked = h
 mark_offers opened link before (marks.Revoke l xid bytes) h asked =
     none_offers opened link before (marks.Revoke l xid bytes) h (none_if _ (MemoryRevoked (length (bytes_received link Initiator before)) xid ∷ []) (tt, tt))
 mark_offers opened link before (marks.Drop l) h asked = h
+mark_offers opened link before (marks.Told l what) h asked = none_offers opened link before (marks.Told l what) h (none_if _ (ServerTold what ∷ []) (tt, tt))
 
 offers_from : (opened : LinkParameters) (link : ℕ) (before run : List Mark) → Offers opened (client opened link before).state → AtEachMark (AskedMark IsPrefixOf opened link) before run → Offers opened (client opened link (before ++ run)).state
 offers_from opened link before [] h asked = subst (λ (r : List Mark). Offers opened (client opened link r).state) (sym (append-nil before)) h

@@ -80,6 +80,7 @@ others_uncounted link run (marks.Lost l xid) events writes feeds none = one_of_l
 others_uncounted link run (marks.Forget l xid) events writes feeds none = one_of_link (eqb l link) (eqb xid xid) (itself xid) (none xid)
 others_uncounted link run (marks.Revoke l xid bytes) events writes feeds none = one_of_link (eqb l link) (eqb xid xid) (itself xid) (none xid)
 others_uncounted link run (marks.Drop l) events writes feeds none = refl
+others_uncounted link run (marks.Told l what) events writes feeds none = refl
 
 -- ---- A drain that moved bytes
 

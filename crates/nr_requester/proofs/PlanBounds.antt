@@ -19,12 +19,13 @@ use Rattle.nr_reduce.specs.Plans.{TooLarge, total, inline_plan, chunk_for, write
 use Rattle.nr_reduce.proofs.PlanKinds.{Offering, offered, IsSmall, largest_small, write_offering, MessageKind, shape, IsPlan, is_plan, within_ok_lem}
 use Rattle.nr_reduce.proofs.PlanKinds.Offering.{Nothing, One}
 use Rattle.nr_reduce.proofs.PlanKinds.MessageKind.{Short, Chunked, Long}
+use Rattle.nr_reduce.proofs.Segments.{segments_sum}
 use Rattle.nr_reduce.proofs.Sizes.{segments_count, is_formed}
 use Rattle.nr_requester.specs.HeldBytes.{PlanFits, receive_max, reply_segments, segments_offered, offered_segments_max}
 
 small_total : (o : Offering) → IsSmall o → total (offered o) ≤ 40000
 small_total Nothing h = omega arith
-small_total (One n) h = omega (arith, h)
+small_total (One n) h = omega (arith, h, segments_sum n)
 
 kind_region : (payload : List ℕ) (kind : MessageKind) (w r : Option (List ℕ)) → length payload ≤ PAYLOAD_MAX → length (shape payload kind w r).region ≤ PAYLOAD_MAX
 kind_region payload Short w r h = omega arith
@@ -54,7 +55,7 @@ offering_back : (payload : List ℕ) → IsBack (offering payload (write_offer p
 offering_back payload = by (write_offer payload) refl
   where
     by : (o : Option ℕ) → write_offer payload ≡ o → IsBack (offering payload o (inline_plan payload))
-    by None e = omega (arith, largest_small payload)
+    by None e = omega (arith, largest_small payload, segments_sum (largest_reply payload))
     by (Some n) e = (let same : total (chunk_for (write_offer payload)) ≡ total (chunk_for (Some n)) = ap (λ (w : Option ℕ). total (chunk_for w)) e in omega (arith, same, write_small payload))
 
 inline_back : (payload : List ℕ) → IsBack (inline_plan payload)
@@ -71,7 +72,7 @@ form_back payload forms.Auto up down own =
 form_back payload forms.Inline up down own = inline_back payload
 form_back payload forms.Chunk up down own =
     reduced_back payload (record (inline_plan payload) { write = chunk_for (write_offer payload) }) (omega (arith, write_small payload))
-form_back payload forms.Long up down own = omega (arith, largest_small payload)
+form_back payload forms.Long up down own = omega (arith, largest_small payload, segments_sum (largest_reply payload))
 form_back payload (forms.Given offer) up down own = absurd own
 
 shape_fits : (payload : List ℕ) (kind : MessageKind) (w r : Offering) → length payload ≤ PAYLOAD_MAX → IsBack (shape payload kind (offered w) (offered r)) → PlanFits (shape payload kind (offered w) (offered r))

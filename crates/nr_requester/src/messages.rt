@@ -1,7 +1,7 @@
 //! The message of a call, and what it offers.
 
 ghost use Rattle.std.specs.Prelude.{◌≡◌, ℕ, ◌+◌, ◌^◌, ◌<◌, ◌≤◌, [], ◌∷◌, ◌++◌, length, sum, replicate, option_map, Some, if◌then◌else◌, IfOk, IfSome};
-ghost use Rattle.nr_reduce.specs.CallOutlines.{chunk_lengths};
+ghost use Rattle.nr_reduce.specs.CallOutlines.{lengths_of, chunk_lengths};
 ghost use Rattle.nr_reduce.specs.Plans.{segments_from, entries_from, has_segment, one_if, read_list, write_list, reply_chunk, lists_of, read_stag, write_stag, reply_stag, regions_needed, call_message, total, body_by};
 ghost use Rattle.nr_header.specs.declared.header.ChunkLists.{ChunkLists};
 ghost use Rattle.nr_header.specs.Header.{header_encoding, lists_body, ChunksFit};
@@ -35,29 +35,34 @@ pub struct PlannedCall<'a> {
 fn push_segments(
     segments: &mut Vec<RdmaSegment>,
     handle: u32,
-    lengths: &[u32],
+    lengths: ChunkLengths<'_>,
 ) -> Result<(), Memory>
-    requires { length lengths.now < 2 ^ 31 }
-    ensures { IfOk result (λ _. segments.new.items ≡ segments.old.items ++ segments_from handle 0 lengths.now) }
+    requires { length (lengths_of lengths) < 2 ^ 31 }
+    ensures { IfOk result (λ _. segments.new.items ≡ segments.old.items ++ segments_from handle 0 (lengths_of lengths.entry)) }
 {
     let mut offset: u64 = 0;
-    for length in lengths {
+    for index in 0..lengths.count() {
+        let length = lengths.length(index);
         segments.push(RdmaSegment {
             handle,
-            length: *length,
+            length,
             offset,
         })?;
-        offset += u64::from(*length);
+        offset += u64::from(length);
     }
     Ok(())
 }
 
 /// Segments of one region, one after the other.
-fn segments_of(alloc: Global, handle: u32, lengths: &[u32]) -> Result<Vec<RdmaSegment>, Memory>
-    requires { length lengths.now < 2 ^ 31 }
-    ensures { IfOk result (λ c. c.items ≡ segments_from handle 0 lengths.now) }
+fn segments_of(
+    alloc: Global,
+    handle: u32,
+    lengths: ChunkLengths<'_>,
+) -> Result<Vec<RdmaSegment>, Memory>
+    requires { length (lengths_of lengths) < 2 ^ 31 }
+    ensures { IfOk result (λ c. c.items ≡ segments_from handle 0 (lengths_of lengths.entry)) }
 {
-    let mut segments = Vec::with_capacity(alloc, lengths.len())?;
+    let mut segments = Vec::with_capacity(alloc, lengths.count())?;
     push_segments(&mut segments, handle, lengths)?;
     Ok(segments)
 }
@@ -66,20 +71,21 @@ fn push_entries(
     entries: &mut Vec<ReadSegment>,
     position: u32,
     handle: u32,
-    lengths: &[u32],
+    lengths: ChunkLengths<'_>,
 ) -> Result<(), Memory>
-    requires { length lengths.now < 2 ^ 31 }
-    ensures { IfOk result (λ _. entries.new.items ≡ entries.old.items ++ entries_from position handle 0 lengths.now) }
+    requires { length (lengths_of lengths) < 2 ^ 31 }
+    ensures { IfOk result (λ _. entries.new.items ≡ entries.old.items ++ entries_from position handle 0 (lengths_of lengths.entry)) }
 {
     let mut offset: u64 = 0;
-    for length in lengths {
+    for index in 0..lengths.count() {
+        let length = lengths.length(index);
         entries.push(ReadSegment {
             position,
             handle,
-            length: *length,
+            length,
             offset,
         })?;
-        offset += u64::from(*length);
+        offset += u64::from(length);
     }
     Ok(())
 }
@@ -88,28 +94,28 @@ fn entries_of(
     alloc: Global,
     position: u32,
     handle: u32,
-    lengths: &[u32],
+    lengths: ChunkLengths<'_>,
 ) -> Result<Vec<ReadSegment>, Memory>
-    requires { length lengths.now < 2 ^ 31 }
-    ensures { IfOk result (λ c. c.items ≡ entries_from position handle 0 lengths.now) }
+    requires { length (lengths_of lengths) < 2 ^ 31 }
+    ensures { IfOk result (λ c. c.items ≡ entries_from position handle 0 (lengths_of lengths.entry)) }
 {
-    let mut entries = Vec::with_capacity(alloc, lengths.len())?;
+    let mut entries = Vec::with_capacity(alloc, lengths.count())?;
     push_entries(&mut entries, position, handle, lengths)?;
     Ok(entries)
 }
 
 /// How many regions a chunk with these segments has.
-fn region_count(lengths: &[u32]) -> u64
-    ensures { result ≡ one_if (has_segment (Some lengths.now)) }
+fn region_count(lengths: ChunkLengths<'_>) -> u64
+    ensures { result ≡ one_if (has_segment (Some (lengths_of lengths.entry))) }
 {
-    if lengths.is_empty() { 0 } else { 1 }
+    if lengths.count() == 0 { 0 } else { 1 }
 }
 
 fn region_count_of(lengths: Option<ChunkLengths<'_>>) -> u64
     ensures { result ≡ one_if (has_segment (chunk_lengths lengths.entry)) }
 {
     match lengths {
-        Some(lengths) => region_count(lengths.as_slice()),
+        Some(lengths) => region_count(lengths),
         None => 0,
     }
 }
@@ -118,7 +124,7 @@ fn read_region_count(plan: PlannedCall<'_>) -> u64
     ensures { result ≡ one_if (has_segment (Some (call_plan plan.entry).read)) }
 {
     match plan.outline.read {
-        Some(chunk) => region_count(chunk.lengths.as_slice()),
+        Some(chunk) => region_count(chunk.lengths),
         None => 0,
     }
 }
@@ -134,12 +140,16 @@ pub fn regions_needed(plan: PlannedCall<'_>) -> u64
 }
 
 /// The segments of the region under an STag, if it has one.
-fn segments_at(alloc: Global, stag: u64, lengths: &[u32]) -> Result<Vec<RdmaSegment>, Memory>
-    requires few { length lengths.now < 2 ^ 31 }
-    requires stags { stag + one_if (has_segment (Some lengths.now)) ≤ 2 ^ 32 }
-    ensures { IfOk result (λ c. c.items ≡ segments_from stag 0 lengths.now) }
+fn segments_at(
+    alloc: Global,
+    stag: u64,
+    lengths: ChunkLengths<'_>,
+) -> Result<Vec<RdmaSegment>, Memory>
+    requires few { length (lengths_of lengths) < 2 ^ 31 }
+    requires stags { stag + one_if (has_segment (Some (lengths_of lengths))) ≤ 2 ^ 32 }
+    ensures { IfOk result (λ c. c.items ≡ segments_from stag 0 (lengths_of lengths.entry)) }
 {
-    if lengths.is_empty() {
+    if lengths.count() == 0 {
         return Ok(Vec::new(alloc));
     }
     segments_of(alloc, stag as u32, lengths)
@@ -149,13 +159,13 @@ fn entries_at(
     alloc: Global,
     position: u32,
     stag: u64,
-    lengths: &[u32],
+    lengths: ChunkLengths<'_>,
 ) -> Result<Vec<ReadSegment>, Memory>
-    requires few { length lengths.now < 2 ^ 31 }
-    requires stags { stag + one_if (has_segment (Some lengths.now)) ≤ 2 ^ 32 }
-    ensures { IfOk result (λ c. c.items ≡ entries_from position stag 0 lengths.now) }
+    requires few { length (lengths_of lengths) < 2 ^ 31 }
+    requires stags { stag + one_if (has_segment (Some (lengths_of lengths))) ≤ 2 ^ 32 }
+    ensures { IfOk result (λ c. c.items ≡ entries_from position stag 0 (lengths_of lengths.entry)) }
 {
-    if lengths.is_empty() {
+    if lengths.count() == 0 {
         return Ok(Vec::new(alloc));
     }
     entries_of(alloc, position, stag as u32, lengths)
@@ -167,7 +177,7 @@ fn read_list_of(alloc: Global, stag: u64, plan: PlannedCall<'_>) -> Result<Vec<R
     ensures { IfOk result (λ l. l.items ≡ read_list stag (call_plan plan.entry) (call_plan plan.entry).read_at) }
 {
     match plan.outline.read {
-        Some(chunk) => entries_at(alloc, chunk.position, stag, chunk.lengths.as_slice()),
+        Some(chunk) => entries_at(alloc, chunk.position, stag, chunk.lengths),
         None => Ok(Vec::new(alloc)),
     }
 }
@@ -183,7 +193,7 @@ fn write_list_of(
 {
     match write {
         Some(lengths) => {
-            let segments = segments_at(alloc, stag, lengths.as_slice())?;
+            let segments = segments_at(alloc, stag, lengths)?;
             Ok(vec![in alloc; Chunk::from_vec(segments)]?)
         }
         None => Ok(Vec::new(alloc)),
@@ -200,7 +210,7 @@ fn reply_chunk_of(
     ensures { IfOk result (λ l. option_map (λ v. v.items) l ≡ reply_chunk stag (chunk_lengths reply.entry)) }
 {
     match reply {
-        Some(lengths) => Ok(Some(segments_at(alloc, stag, lengths.as_slice())?)),
+        Some(lengths) => Ok(Some(segments_at(alloc, stag, lengths)?)),
         None => Ok(None),
     }
 }
@@ -280,25 +290,37 @@ fn sum_of(lengths: &[u32]) -> u64
     sum
 }
 
+/// How many bytes a chunk has.
+#[tactic(auto, using(nr_reduce::proofs::Segments::segments_sum))]
+fn chunk_len(lengths: ChunkLengths<'_>) -> u64
+    requires { length (lengths_of lengths) < 2 ^ 31 }
+    ensures { result ≡ sum (lengths_of lengths.entry) }
+{
+    match lengths {
+        ChunkLengths::Own(len) => u64::from(len),
+        ChunkLengths::Given(lengths) => sum_of(lengths),
+    }
+}
+
 /// A buffer of zeros for a chunk, if it has a segment.
 fn zeros(alloc: Global, lengths: Option<ChunkLengths<'_>>) -> Result<Option<Octets>, Memory>
     requires few { IfSome (chunk_lengths lengths) (λ lengths. length lengths < 2 ^ 31) }
     ensures { IfOk result (λ o. o ≡ some_if (has_segment (chunk_lengths lengths.entry)) (replicate (total (chunk_lengths lengths.entry)) 0)) }
 {
     match lengths {
-        Some(lengths) => zeros_for(alloc, lengths.as_slice()),
+        Some(lengths) => zeros_for(alloc, lengths),
         None => Ok(None),
     }
 }
 
-fn zeros_for(alloc: Global, lengths: &[u32]) -> Result<Option<Octets>, Memory>
-    requires few { length lengths.now < 2 ^ 31 }
-    ensures { IfOk result (λ o. o ≡ some_if (has_segment (Some lengths.now)) (replicate (sum lengths.now) 0)) }
+fn zeros_for(alloc: Global, lengths: ChunkLengths<'_>) -> Result<Option<Octets>, Memory>
+    requires few { length (lengths_of lengths) < 2 ^ 31 }
+    ensures { IfOk result (λ o. o ≡ some_if (has_segment (Some (lengths_of lengths.entry))) (replicate (sum (lengths_of lengths.entry)) 0)) }
 {
-    if lengths.is_empty() {
+    if lengths.count() == 0 {
         return Ok(None);
     }
-    let len = sum_of(lengths) as usize;
+    let len = chunk_len(lengths) as usize;
     Ok(Some(Octets::from_vec(vec![in alloc; 0u8; len]?)))
 }
 
@@ -310,7 +332,7 @@ fn region_of(alloc: Global, plan: PlannedCall<'_>) -> Result<Option<Octets>, Mem
         Some(chunk) => chunk,
         None => return Ok(None),
     };
-    if chunk.lengths.as_slice().is_empty() {
+    if chunk.lengths.count() == 0 {
         return Ok(None);
     }
     Ok(Some(plan.outline.region(alloc, plan.head, plan.args)?))
@@ -339,7 +361,7 @@ fn total_of(lengths: Option<ChunkLengths<'_>>) -> u64
     ensures { result ≡ total (chunk_lengths lengths.entry) }
 {
     match lengths {
-        Some(lengths) => sum_of(lengths.as_slice()),
+        Some(lengths) => chunk_len(lengths),
         None => 0,
     }
 }

@@ -26,7 +26,8 @@ use Rattle.nr_drill_link.specs.Steps.{ServerStands}
 use Rattle.nr_drill_link.proofs.Granting.{receives_are}
 use Rattle.nr_world.specs.declared.world.World.{World}
 use Rattle.nr_world.specs.private.Stands.{drill_setting, WorldStands, Steps, MakesLine, MakesLines}
-use Rattle.nr_world.specs.private.Within.{IsClient, AreCredits, MayGrant, IsLineWithin, AreWithin, CanMake, CanMakeAll}
+use Rattle.nr_reduce.specs.Served.{CreditsInRange}
+use Rattle.nr_world.specs.private.Within.{IsClient, MayGrant, IsLineWithin, AreWithin, CanMake, CanMakeAll}
 use Rattle.nr_world.proofs.Others.{link_stays}
 use Rattle.nr_world.proofs.Progress.{round_more}
 use Rattle.nr_world.proofs.SameServer.{up_leaves, down_leaves, submit_leaves, forget_leaves, revoke_leaves, drop_leaves, raw_leaves, work_clock, moves_clock}
@@ -83,7 +84,7 @@ client_of w line is client e names (tree, opening, d, stands, within) =
 pub may_grant : (w : World) (line : Line) (client credits : ℕ) → line ≡ lines.Grant client credits → CanMake line w → MayGrant w client credits
 may_grant w line client credits e (tree, opening, d, stands, within) v =
     let h : IsLineWithin opening d.seconds (lines.Grant client credits) = subst (IsLineWithin opening d.seconds) e within in
-    subst (λ (most : ℕ). AreCredits most credits) (sym (receives_are (drill_setting tree opening) client d (slice_index_or w.links.items (client - 1) v) (stands.links client v h.0.0 h.0.1))) h.1
+    subst (λ (most : ℕ). CreditsInRange most credits) (sym (receives_are (drill_setting tree opening) client d (slice_index_or w.links.items (client - 1) v) (stands.links client v h.0.0 h.0.1))) h.1
 
 pub clock_of : (w : World) (line : Line) (more : ℕ) → line ≡ lines.Tick more → CanMake line w → w.seconds + more ≤ number_max
 clock_of w line more e (tree, opening, d, stands, within) =

@@ -7,6 +7,7 @@ use Rattle.nr_script.specs.declared.script.Line.{Line}
 use Rattle.nr_script.specs.declared.script.Line.TheVariants as lines
 use Rattle.nr_texts.specs.Limits.{number_max}
 use Rattle.nr_script.specs.Script.{seconds_in}
+use Rattle.nr_reduce.specs.Served.{CreditsInRange}
 use Rattle.nr_drill.specs.Drill.{Drill}
 use Rattle.nr_drill_link.specs.DrillLinkState.{DrillLinkState}
 use Rattle.nr_world.specs.declared.world.World.{World}
@@ -16,13 +17,9 @@ use Rattle.nr_world.specs.private.Stands.{WorldStands}
 abbrev pub IsClient : ℕ → ℕ → Type 0
 IsClient clients client = (1 ≤ client) × (client ≤ clients)
 
--- from 1 to this many credits
-abbrev pub AreCredits : ℕ → ℕ → Type 0
-AreCredits most credits = (1 ≤ credits) × (credits ≤ most)
-
--- the server of a client's link may be told to grant this many credits
+-- the owner of the server of a client's link may set this many credits
 abbrev pub MayGrant : World → ℕ → ℕ → Type 0
-MayGrant w client credits = (v : DrillLinkState) → AreCredits (slice_index_or w.links.items (client - 1) v).server.credits.receives credits
+MayGrant w client credits = (v : DrillLinkState) → CreditsInRange (slice_index_or w.links.items (client - 1) v).server.credits.receives credits
 
 -- a line names a client of the script, its credential can be encoded, its credits are at most those of the first line, and the clock doesn't
 -- pass its end
@@ -36,7 +33,7 @@ IsLineWithin opening seconds (lines.Tick more) = seconds + more ≤ number_max
 IsLineWithin opening seconds (lines.Forget client number) = IsClient opening.clients client
 IsLineWithin opening seconds (lines.Revoke client number) = IsClient opening.clients client
 IsLineWithin opening seconds (lines.Drop client) = IsClient opening.clients client
-IsLineWithin opening seconds (lines.Grant client credits) = IsClient opening.clients client × AreCredits opening.credits credits
+IsLineWithin opening seconds (lines.Grant client credits) = IsClient opening.clients client × CreditsInRange opening.credits credits
 IsLineWithin opening seconds (lines.Raw client side bytes) = IsClient opening.clients client
 IsLineWithin opening seconds lines.Drain = Unit {0}
 
