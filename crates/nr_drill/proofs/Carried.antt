@@ -33,7 +33,7 @@ use Rattle.nr_laws.proofs.DistinctKeys.{any_append}
 use Rattle.nr_reduce.proofs.Unconcerned.{not_fed as is_unfed, none_fed}
 use Rattle.nr_drill.specs.Drill.{link_of, Setting, Drill, Pipes, empty_pipes, plain_of, now, unwritten, appended, after_output, after_all_output, settled, pipes_of, with_mark, with_pipes, after_feeding, after_feeding_up, after_feeding_down, after_up, after_down, after_handing, after_done, after_dones, after_outcomes, after_submit, if_standing, waiting_call, after_answer, after_execution, after_work, after_calls, after_all_up, after_all_work, after_all_down, after_moves, answer_of_line, open_xid, after_giving_up, after_forget, after_taking_back, after_revoke, after_drop, after_raw, after_round, after_opening, after_openings, SerialServer, start, links_of, cred_of, with_cred, after_grant}
 use Rattle.nr_texts.specs.declared.opening.Opening.{Opening}
-use Rattle.nr_script.specs.Script.{ScriptLines, IsScript, FollowOn, may_follow, is_client, is_call_line, is_granted}
+use Rattle.nr_script.specs.Script.{ScriptLines, IsScript, FollowOn, may_follow, is_client, is_call_line, credits_in_range}
 use Rattle.nr_drill.specs.Follows.{after_line, Drains, Makes, MakeAll, Follows, parameters_of, setting_of, opened_drill}
 use Rattle.nr_drill.specs.Headline.{KeepsLaws}
 use Rattle.nr_drill.specs.Lines.{is_raw_of, HasNoRaw, IsLink}
@@ -759,7 +759,7 @@ names_client opening before (lines.Forget client number) e = from_one opening cl
 names_client opening before (lines.Revoke client number) e = from_one opening client (both_true (is_client opening client) (is_call_line client number before) e).0
 names_client opening before (lines.Drop client) e = from_one opening client e
 names_client opening before (lines.Raw client side bytes) e = from_one opening client e
-names_client opening before (lines.Grant client credits) e = from_one opening client (both_true (is_client opening client) (is_granted opening credits) e).0
+names_client opening before (lines.Grant client credits) e = from_one opening client (both_true (is_client opening client) (credits_in_range opening credits) e).0
 names_client opening before lines.Drain e = tt
 
 pub all_name : (opening : Opening) (before all : List Line) → FollowOn opening before all → AllByRecursion NamesClient all

@@ -33,9 +33,10 @@ use Rattle.nr_reduce.proofs.Standing.{AtEachMark_more}
 use Rattle.nr_reduce.specs.SubmitAnswer.{submit_answer_after}
 use Rattle.nr_reduce.specs.Served.{Served, ServedMark, ToldInRange}
 use Rattle.nr_laws.specs.Grant.{AcceptedMark, AcceptsByRule}
+use Rattle.nr_texts.specs.declared.opening.Opening.{Opening}
 use Rattle.nr_script.specs.declared.script.Line.{Line}
 use Rattle.nr_script.specs.declared.script.Line.TheVariants as lines
-use Rattle.nr_script.specs.Script.{ScriptLines, HasWritableCred, IsScript, FollowOn, is_client, is_granted, may_follow}
+use Rattle.nr_script.specs.Script.{ScriptLines, HasWritableCred, IsScript, FollowOn, is_client, credits_in_range, may_follow}
 use Rattle.nr_reduce.specs.Concerns.{concerns}
 use Rattle.nr_reduce.proofs.Unconcerned.{not_judged, none_written, no_events, none_asked, none_served}
 use Rattle.nr_drill.specs.Follows.{after_line, Drains, Makes, MakeAll, Follows, parameters_of, setting_of, opened_drill}
@@ -539,7 +540,7 @@ both_so false b e = absurd cc
 
 grants_within : (server : SerialServer) (opening : Opening) (before : List Line) (line : Line) → may_follow opening before line ≡ true → GrantsWithin (setting_of server opening) line
 grants_within server opening before (lines.Grant client credits) e =
-    let within = both_so (leb 1 credits) (leb credits opening.credits) (both_so (is_client opening client) (is_granted opening credits) e).1 in
+    let within = both_so (leb 1 credits) (leb credits opening.credits) (both_so (is_client opening client) (credits_in_range opening credits) e).1 in
     (leb-true 1 credits within.0, leb-true credits opening.credits within.1)
 grants_within server opening before (lines.Cred client cred) e = tt
 grants_within server opening before (lines.Call client form prog vers proc args) e = tt

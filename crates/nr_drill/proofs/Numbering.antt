@@ -27,7 +27,7 @@ use Rattle.nr_reduce.proofs.Steps.{client_one}
 use Rattle.nr_texts.specs.declared.opening.Opening.{Opening}
 use Rattle.nr_script.specs.declared.script.Line.{Line}
 use Rattle.nr_script.specs.declared.script.Line.TheVariants as lines
-use Rattle.nr_script.specs.Script.{ScriptLines, IsScript, FollowOn, may_follow, is_client, is_call_line, is_granted}
+use Rattle.nr_script.specs.Script.{ScriptLines, IsScript, FollowOn, may_follow, is_client, is_call_line, credits_in_range}
 use Rattle.nr_drill.specs.Drill.{link_of, SerialServer, Setting, Drill, links_of, start, after_openings, after_opening, after_round, after_moves}
 use Rattle.nr_drill.specs.Follows.{after_line, Drains, Makes, MakeAll, Follows, parameters_of, setting_of, opened_drill}
 use Rattle.nr_drill.specs.Headline.{IsDrillRun}
@@ -80,7 +80,7 @@ module _ (opening : Opening) (s : Setting) where
   line_within before (lines.Raw client side bytes) d e h =
       added_within opening.clients client d.marks _ (client_within opening client e) (raw_adds client side bytes (is_dropped client d.marks) d).marks h
   line_within before (lines.Grant client credits) d e h =
-      added_within opening.clients client d.marks _ (client_within opening client (both_true (is_client opening client) (is_granted opening credits) e).0) (grant_adds client credits d).marks h
+      added_within opening.clients client d.marks _ (client_within opening client (both_true (is_client opening client) (credits_in_range opening credits) e).0) (grant_adds client credits d).marks h
   line_within before lines.Drain d e h = h
 
   -- for each of these links

@@ -35,6 +35,8 @@ mod refused;
 #[cfg(test)]
 mod replies;
 #[cfg(test)]
+mod segments;
+#[cfg(test)]
 mod sizes;
 #[cfg(test)]
 mod vectors;

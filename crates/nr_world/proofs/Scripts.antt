@@ -7,7 +7,7 @@ use Rattle.nr_texts.specs.declared.opening.Opening.{Opening}
 use Rattle.nr_script.specs.declared.script.Line.{Line}
 use Rattle.nr_script.specs.declared.script.Line.TheVariants as lines
 use Rattle.nr_texts.specs.Limits.{number_max, clients_max}
-use Rattle.nr_script.specs.Script.{ScriptLines, IsScript, FollowOn, HasWritableCred, is_client, is_call_line, is_granted, may_follow, seconds_in, seconds_after}
+use Rattle.nr_script.specs.Script.{ScriptLines, IsScript, FollowOn, HasWritableCred, is_client, is_call_line, credits_in_range, may_follow, seconds_in, seconds_after}
 use Rattle.nr_drill.specs.declared.report.Report.{Report}
 use Rattle.nr_drill.specs.Drill.{start, links_of}
 use Rattle.nr_drill.specs.DrillSetup.{drill_setup, server_of, GivesReport}
@@ -37,7 +37,7 @@ within opening before (lines.Forget client number) e w = client_is opening clien
 within opening before (lines.Revoke client number) e w = client_is opening client (both_true (is_client opening client) (is_call_line client number before) e).0
 within opening before (lines.Drop client) e w = client_is opening client e
 within opening before (lines.Grant client credits) e w =
-    let both = both_true (is_client opening client) (is_granted opening credits) e in
+    let both = both_true (is_client opening client) (credits_in_range opening credits) e in
     let credits_fit = both_true (leb 1 credits) (leb credits opening.credits) both.1 in
     (client_is opening client both.0, (leb-true 1 credits credits_fit.0, leb-true credits opening.credits credits_fit.1))
 within opening before (lines.Raw client side bytes) e w = client_is opening client e
