@@ -1,5 +1,5 @@
 -- The marks of a connection that memory didn't end, with one Wrote before each piece: the law of a link's server holds of them in full.
-use Rattle.std.proofs.Common.{◌≡◌, ℕ, ◌+◌, ◌<◌, ◌⊎◌, inl, inr, List, [], ◌++◌, length, Option, refl, sym, ap, subst, ◌∙◌}
+use Rattle.std.proofs.Common.{◌≡◌, ℕ, ◌+◌, ◌<◌, ◌≤◌, ◌⊎◌, arith, inl, inr, List, [], ◌++◌, length, Option, refl, sym, ap, subst, ◌∙◌}
 use Rattle.nr_outside.specs.Content.{HandsOut}
 use Rattle.nr_outside.specs.declared.moment.Moment.{Moment}
 use Rattle.nr_wire.specs.declared.hello.Side.TheVariants.{Initiator, Responder}
@@ -24,7 +24,7 @@ use Rattle.nr_host.specs.declared.conn_end.ConnEnd.{ConnEnd}
 use Rattle.nr_host.specs.declared.conn_end.ConnEnd.TheVariants as ends
 use Rattle.nr_host_laws.specs.Laws.{ConnectionsKeepTheLaw}
 use Rattle.nr_host_laws.proofs.Merged.{KeepsTo, both, merge, merged, quiet_same}
-use Rattle.nr_host_laws.proofs.WholeWrites.{IsSame, same_behind}
+use Rattle.nr_host_laws.proofs.WholeWrites.{IsSame, same_behind, steady_first}
 
 -- ---- The causes
 
@@ -68,7 +68,7 @@ abbrev pub with_credits : ℕ → ℕ → ℕ → LinkParameters
 with_credits credits low units = record { first_xid = 1; first_stag = 1; wished = 1; granted = credits; low = low; receives = credits; client = default_terms; server = sized_terms units }
 
 module _ (terms : Terms) (link : ℕ) (before now : Outside) (ahead : List ℕ) (more : List Moment) (run : List Mark) (r : Runs terms link before now ahead more run)
-    (all : (opened : LinkParameters) → ServerOpened opened terms.credits terms.low (sized_terms terms.units) → HasWritten opened link Responder run) where
+    (all : (opened : LinkParameters) → ServerOpened opened terms.credits terms.low (sized_terms terms.units) → HasWritten opened link Responder run) (even : terms.credits ≤ terms.low) where
   as_whole : (opened : LinkParameters) → ServerOpened opened terms.credits terms.low (sized_terms terms.units) → AtEachMark (KeepsTo IsAll opened link) [] (merge link [] run) × IsSame opened link run (merge link [] run)
   as_whole opened is =
       let each : AtEachMark (KeepsTo IsPrefixOf opened link) [] run =
@@ -76,7 +76,9 @@ module _ (terms : Terms) (link : ℕ) (before now : Outside) (ahead : List ℕ) 
       (both (ServedMark IsPrefixOf opened link) (λ b m. QuietMark opened link b m × FrameMark opened link b m) [] run (r.served opened is)
       (both (QuietMark opened link) (FrameMark opened link) [] run (r.quiet opened is) (r.frames opened is))) in
       let first : IsSame opened link [] [] = record { state = refl; due = refl; sent = refl; received = refl; answers = refl; times = refl } in
-      merged opened link [] [] [] run each (all opened is) (same_behind opened link [] [] first)
+      let granted = is.0 in
+      let low = is.3 in
+      merged opened link [] [] [] run each (all opened is) (same_behind opened link [] [] first) (steady_first opened link (omega (arith, granted, low, even)))
 
   same_run : IsSame (with_credits terms.credits terms.low terms.units) link run (merge link [] run)
   same_run = (as_whole (with_credits terms.credits terms.low terms.units) (refl, refl, refl, refl)).1
@@ -105,7 +107,7 @@ module _ (terms : Terms) (link : ℕ) (before now : Outside) (ahead : List ℕ) 
   merged_cause left end cause opened is = cause_same opened link run (merge link [] run) left end (as_whole opened is).1 (cause opened is)
 
 pub keep_the_law : ConnectionsKeepTheLaw
-keep_the_law credits low units before after end other served link =
+keep_the_law credits low units before after end even other served link =
     let (read, (failed, e)) = served link in
     let terms : Terms = record { credits = credits; low = low; units = units; read = read } in
     let now : Outside = with_failed failed after in
@@ -119,14 +121,14 @@ keep_the_law credits low units before after end other served link =
             run = merge link [] e.run;
             ahead = e.ahead;
             more = e.more;
-            runs = merged_runs terms link before now e.ahead e.more e.run e.runs all;
+            runs = merged_runs terms link before now e.ahead e.more e.run e.runs all even;
             ahead_is = e.ahead_is;
             more_is = e.more_is;
             read_is = e.read_is;
             failed_is = e.failed_is;
-            cause = merged_cause terms link before now e.ahead e.more e.run e.runs all after.left end e.cause;
+            cause = merged_cause terms link before now e.ahead e.more e.run e.runs all even after.left end e.cause;
           },
-          merged_served terms link before now e.ahead e.more e.run e.runs all,
+          merged_served terms link before now e.ahead e.more e.run e.runs all even,
         ),
       ),
     )

@@ -59,7 +59,7 @@ low_all : (opened : LinkParameters) (r : EndState ServerState) (es : List RunEve
 low_all opened r [] = refl
 low_all opened r (e ∷ es) = low_all opened (next_end_state (server_rules opened) r e) es ∙ low_next opened r e
 
-low_of : (opened : LinkParameters) (link : ℕ) (run : List Mark) → (server opened link run).state.low ≡ opened.low
+pub low_of : (opened : LinkParameters) (link : ℕ) (run : List Mark) → (server opened link run).state.low ≡ opened.low
 unfolding server
 low_of opened link run = low_all opened (initial_server opened) (events link Responder run)
 
@@ -178,7 +178,7 @@ server_grants_in_range opened link run o low served =
 -- ---- What its owner set
 
 -- the credits stay as they are
-abbrev OnlyOthers : RunEvent → Type 0
+abbrev pub OnlyOthers : RunEvent → Type 0
 OnlyOthers (FrameReceived f) = Unit {0}
 OnlyOthers (CallSubmitted place a) = Unit {0}
 OnlyOthers (MemoryRevoked place xid) = Unit {0}
@@ -210,15 +210,15 @@ same_next opened r e other = by r.ended
     by None = by_why (server_end opened r.state e)
     by (Some end) = refl
 
-same_all : (opened : LinkParameters) (r : EndState ServerState) (es : List RunEvent) → AllByRecursion OnlyOthers es → (end_state_after (server_rules opened) r es).state.credit ≡ r.state.credit
+pub same_all : (opened : LinkParameters) (r : EndState ServerState) (es : List RunEvent) → AllByRecursion OnlyOthers es → (end_state_after (server_rules opened) r es).state.credit ≡ r.state.credit
 same_all opened r [] others = refl
 same_all opened r (e ∷ es) others = same_all opened (next_end_state (server_rules opened) r e) es others.1 ∙ same_next opened r e others.0
 
-own_others : (b : Bool) (es : List RunEvent) → AllByRecursion OnlyOthers es → AllByRecursion OnlyOthers (if_own b es)
+pub own_others : (b : Bool) (es : List RunEvent) → AllByRecursion OnlyOthers es → AllByRecursion OnlyOthers (if_own b es)
 own_others true es h = h
 own_others false es h = tt
 
-frames_others : (fs : List Frame) → AllByRecursion OnlyOthers (map FrameReceived fs)
+pub frames_others : (fs : List Frame) → AllByRecursion OnlyOthers (map FrameReceived fs)
 frames_others [] = tt
 frames_others (f ∷ fs) = (tt, frames_others fs)
 
