@@ -63,7 +63,7 @@ use Rattle.nr_laws.proofs.Replied.{same_body_lem}
 use Rattle.nr_laws.proofs.SubmittedPlans.{AnsweredCall, answered_submit}
 use Rattle.nr_laws.proofs.KeptOffers.{PendingOffer, pending_offer}
 use Rattle.nr_laws.proofs.ReplyMemory.{memory_conveys}
-use Rattle.nr_laws.proofs.ServerCredits.{credit_by}
+use Rattle.nr_laws.proofs.ServerCredits.{credits_by}
 use Rattle.nr_laws.proofs.Guards.{word_most}
 use Rattle.nr_reduce.proofs.Steps.{AtEachMark_first}
 use Rattle.nr_laws.proofs.PendingRuns.{executes_pending}
@@ -134,7 +134,7 @@ answer_judges opened link run reason opens typed far d j s = record {
     credit : credit_word server < 4294967296
     credit =
         let served : ServedSoFar opened link m.earlier = AtEachMark_first _ [] m.earlier (execute_mark link e ∷ m.later) (subst (ServedSoFar opened link) m.is far.served) in
-        let c = credit_by opened link m.earlier s.earlier m.before served in
+        let c = (credits_by opened link m.earlier s.earlier m.before opens served).most in
         let w = word_most server in
         let f = opens.granted_fits in
         omega (arith, c, w, f)

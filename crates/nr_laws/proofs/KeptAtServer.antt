@@ -113,6 +113,7 @@ live_holds opened place s (QueueWritten taken) next good stays h = record {
   own = h.own;
   begun = h.begun;
   fit = h.fit;
+}
 live_holds opened place s (ServerTold what) next good stays h = record {
   agree = pending_agree_same s (server_state_after opened s (ServerTold what)) h.agree refl refl refl (omega arith);
   own = h.own;

@@ -79,6 +79,7 @@ accesses_event a (CallSubmitted p c) = a
 accesses_event a (MemoryRevoked p xid) = a
 accesses_event a (CallExecuted e) = a
 accesses_event a (QueueWritten taken) = a
+accesses_event a (ServerTold what) = a
 
 abbrev pub Gathering : {S : Type 0} → EndMachine S → (S → List TaggedSegment) → Type 0
 Gathering rules accesses = (s : _) (e : RunEvent) → accesses (rules.state_after s e) ≡ accesses_event (accesses s) e

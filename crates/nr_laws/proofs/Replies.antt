@@ -130,5 +130,5 @@ answer_reply offer most down prog vers proc xid credit reply a limit room word l
         → (a.long ≡ false → (length (answer_message xid credit offer a) ≡ answer_size offer.write + length a.stream) × (length (answer_message xid credit offer a) ≤ down))
         → (a.long ≡ true → length (answer_message xid credit offer a) ≡ answer_size offer.write + reply_chunk_len (length (no_segments offer.reply)))
         → word_at 8 (answer_message xid credit offer a) ≡ credit → IsRead (answer_message xid credit offer a) → IsReply most credit (answer_message xid credit offer a)
-    by true is short long words back = record { least = omega (arith, long is); size = omega (arith, long is, fits.size, limit.0, room); credits = words; read = back }
-    by false is short long words back = record { least = omega (arith, (short is).0); size = omega (arith, (short is).1, room); credits = words; read = back }
+    by true is short long words back = record { least = omega (arith, long is); size = omega (arith, long is, fits.size, limit.0, room); credits = omega (arith, words); read = back }
+    by false is short long words back = record { least = omega (arith, (short is).0); size = omega (arith, (short is).1, room); credits = omega (arith, words); read = back }

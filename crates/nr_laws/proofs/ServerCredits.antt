@@ -1,28 +1,39 @@
--- A server that is told what its law allows grants at most the credits that the link was opened with.
-use Rattle.std.proofs.Common.{◌≡◌, ℕ, ◌≤◌, Bool, true, false, cond, eqb, eqb-true, List, [], ◌∷◌, ◌++◌, map, Option, None, Some, refl, sym, subst, arith, append_assoc, append-nil}
+-- What a server grants, on every link: from 1 to the credits that it was opened with, while what its owner sets is in range.
+use Rattle.std.proofs.Common.{◌≡◌, ℕ, ◌≤◌, Bool, true, false, cond, eqb, eqb-true, min, List, [], ◌∷◌, ◌++◌, map, Option, None, Some, refl, sym, ap, subst, ◌∙◌, arith, append_assoc, append-nil}
 use Rattle.std.specs.Prelude.{◌&&◌}
 use Rattle.std.specs.List.{AllByRecursion}
+use Rattle.std.proofs.Math.Nat.{le-min, min-eq_right, min-le_right}
 use Rattle.nr_wire.specs.declared.hello.Side.TheVariants.{Initiator, Responder}
 use Rattle.nr_link.specs.declared.end.End.{End}
 use Rattle.nr_link.specs.Frames.{Frame, frames_completed, is_hello}
 use Rattle.nr_reduce.specs.declared.call.Submission.TheVariants as submissions
 use Rattle.nr_reduce.specs.declared.mark.Mark.{Mark}
 use Rattle.nr_reduce.specs.declared.mark.Mark.TheVariants as marks
+use Rattle.nr_reduce.specs.declared.mark.Told.{Told}
+use Rattle.nr_reduce.specs.declared.mark.Told.TheVariants.{Granted}
 use Rattle.nr_reduce.specs.declared.mark.LinkParameters.{LinkParameters}
 use Rattle.nr_reduce.specs.History.{bytes_received, same_side}
 use Rattle.nr_reduce.specs.AtEachMark.{AtEachMark}
 use Rattle.nr_reduce.specs.Matched.{IsPrefixOf}
+use Rattle.nr_reduce.specs.Opening.{IsOpened}
 use Rattle.nr_reduce.specs.Events.{RunEvent, events, events_at, if_own}
 use Rattle.nr_reduce.specs.Events.RunEvent.{FrameReceived, CallSubmitted, MemoryRevoked, CallExecuted, QueueWritten, ServerTold}
-use Rattle.nr_reduce.specs.EndRules.{EndState, next_end_state, next_end_state_by, next_end_state_in, end_state_after}
-use Rattle.nr_reduce.specs.ServerState.{ServerState}
+use Rattle.nr_reduce.specs.EndRules.{EndState, live, next_end_state, next_end_state_by, next_end_state_in, end_state_after}
+use Rattle.nr_reduce.specs.ServerState.{ServerState, is_busy, credit_word, credit_told}
 use Rattle.nr_reduce.specs.ServerFrames.{frame_effect}
 use Rattle.nr_reduce.specs.Server.{server_rules, server_end, server_state_after, initial_server, with_effect, with_own_hello}
 use Rattle.nr_reduce.specs.Served.{IsGranted, ServedMark, ServedSoFar}
 use Rattle.nr_reduce.specs.Run.{server}
 use Rattle.nr_reduce.specs.RunLaws.{server_by}
 use Rattle.nr_reduce.proofs.Steps.{server_one}
-use Rattle.nr_laws.proofs.Guards.{told_most}
+use Rattle.nr_laws.specs.Grant.{granted_at, last_granted, ServerGrantsInRange, ServerGrantsWhatIsSet}
+use Rattle.nr_laws.proofs.EachRun.{server_unended}
+
+-- what a server keeps of its credits
+pub record KeepsCredits (opened : LinkParameters) (k : ServerState) : Type 0 where
+  pub low : k.low ≡ opened.low
+  pub least : 1 ≤ k.credit
+  pub most : k.credit ≤ opened.granted
 
 -- ---- An event
 
@@ -34,33 +45,36 @@ GrantsWithin opened (CallExecuted e) = Unit {0}
 GrantsWithin opened (QueueWritten taken) = Unit {0}
 GrantsWithin opened (ServerTold what) = IsGranted opened what
 
-credit_after : (opened : LinkParameters) (k : ServerState) (e : RunEvent) → GrantsWithin opened e → k.credit ≤ opened.granted → (server_state_after opened k e).credit ≤ opened.granted
+told_range : (opened : LinkParameters) (what : Told) → IsGranted opened what → (1 ≤ credit_told what) × (credit_told what ≤ opened.granted)
+told_range opened (Granted credits) h = h
+
+credits_after : (opened : LinkParameters) (k : ServerState) (e : RunEvent) → GrantsWithin opened e → KeepsCredits opened k → KeepsCredits opened (server_state_after opened k e)
 unfolding server_state_after
-credit_after opened k (FrameReceived f) within le = by (is_hello f)
+credits_after opened k (FrameReceived f) within h = by (is_hello f)
   where
-    by : (b : Bool) → (cond b (with_own_hello opened k f) (with_effect k f (frame_effect k f))).credit ≤ opened.granted
-    by true = le
-    by false = le
-credit_after opened k (CallSubmitted p a) within le = le
-credit_after opened k (MemoryRevoked p xid) within le = le
-credit_after opened k (CallExecuted e) within le = le
-credit_after opened k (QueueWritten taken) within le = le
-credit_after opened k (ServerTold what) within le = told_most opened what within
+    by : (b : Bool) → KeepsCredits opened (cond b (with_own_hello opened k f) (with_effect k f (frame_effect k f)))
+    by true = record { low = h.low; least = h.least; most = h.most }
+    by false = record { low = h.low; least = h.least; most = h.most }
+credits_after opened k (CallSubmitted p a) within h = h
+credits_after opened k (MemoryRevoked p xid) within h = h
+credits_after opened k (CallExecuted e) within h = record { low = h.low; least = h.least; most = h.most }
+credits_after opened k (QueueWritten taken) within h = record { low = h.low; least = h.least; most = h.most }
+credits_after opened k (ServerTold what) within h = (let range = told_range opened what within in record { low = h.low; least = range.0; most = range.1 })
 
-credit_next : (opened : LinkParameters) (r : EndState ServerState) (e : RunEvent) → GrantsWithin opened e → r.state.credit ≤ opened.granted → (next_end_state (server_rules opened) r e).state.credit ≤ opened.granted
-credit_next opened r e within le = by r.ended
+credits_next : (opened : LinkParameters) (r : EndState ServerState) (e : RunEvent) → GrantsWithin opened e → KeepsCredits opened r.state → KeepsCredits opened (next_end_state (server_rules opened) r e).state
+credits_next opened r e within h = by r.ended
   where
-    by_why : (o : Option End) → (next_end_state_by (server_rules opened) r.state e o).state.credit ≤ opened.granted
-    by_why None = credit_after opened r.state e within le
-    by_why (Some end) = le
+    by_why : (o : Option End) → KeepsCredits opened (next_end_state_by (server_rules opened) r.state e o).state
+    by_why None = credits_after opened r.state e within h
+    by_why (Some end) = h
 
-    by : (o : Option End) → (next_end_state_in (server_rules opened) r.state e o).state.credit ≤ opened.granted
+    by : (o : Option End) → KeepsCredits opened (next_end_state_in (server_rules opened) r.state e o).state
     by None = by_why (server_end opened r.state e)
-    by (Some end) = le
+    by (Some end) = h
 
-credit_all : (opened : LinkParameters) (r : EndState ServerState) (es : List RunEvent) → AllByRecursion (GrantsWithin opened) es → r.state.credit ≤ opened.granted → (end_state_after (server_rules opened) r es).state.credit ≤ opened.granted
-credit_all opened r [] within le = le
-credit_all opened r (e ∷ es) within le = credit_all opened (next_end_state (server_rules opened) r e) es within.1 (credit_next opened r e within.0 le)
+credits_all : (opened : LinkParameters) (r : EndState ServerState) (es : List RunEvent) → AllByRecursion (GrantsWithin opened) es → KeepsCredits opened r.state → KeepsCredits opened (end_state_after (server_rules opened) r es).state
+credits_all opened r [] within h = h
+credits_all opened r (e ∷ es) within h = credits_all opened (next_end_state (server_rules opened) r e) es within.1 (credits_next opened r e within.0 h)
 
 -- ---- A mark
 
@@ -92,19 +106,141 @@ mark_within opened link before (marks.Told l what) h = by (eqb l link) refl
 
 -- ---- A run
 
-credit_from : (opened : LinkParameters) (link : ℕ) (before run : List Mark) → (server opened link before).state.credit ≤ opened.granted → AtEachMark (ServedMark IsPrefixOf opened link) before run → (server opened link (before ++ run)).state.credit ≤ opened.granted
-credit_from opened link before [] le served = subst (λ (r : List Mark). (server opened link r).state.credit ≤ opened.granted) (sym (append-nil before)) le
-credit_from opened link before (mark ∷ run) le served =
-    let next : (server opened link (before ++ mark ∷ [])).state.credit ≤ opened.granted =
-    subst (λ (r : EndState ServerState). r.state.credit ≤ opened.granted) (sym (server_one opened link before mark))
-    (credit_all opened (server opened link before) (events_at link Responder before mark) (mark_within opened link before mark served.0) le) in
-    subst (λ (r : List Mark). (server opened link r).state.credit ≤ opened.granted) (append_assoc before (mark ∷ []) run) (credit_from opened link (before ++ mark ∷ []) run next served.1)
+credits_from : (opened : LinkParameters) (link : ℕ) (before run : List Mark) → KeepsCredits opened (server opened link before).state → AtEachMark (ServedMark IsPrefixOf opened link) before run → KeepsCredits opened (server opened link (before ++ run)).state
+credits_from opened link before [] h served = subst (λ (r : List Mark). KeepsCredits opened (server opened link r).state) (sym (append-nil before)) h
+credits_from opened link before (mark ∷ run) h served =
+    let next : KeepsCredits opened (server opened link (before ++ mark ∷ [])).state =
+    subst (λ (r : EndState ServerState). KeepsCredits opened r.state) (sym (server_one opened link before mark))
+    (credits_all opened (server opened link before) (events_at link Responder before mark) (mark_within opened link before mark served.0) h) in
+    subst (λ (r : List Mark). KeepsCredits opened (server opened link r).state) (append_assoc before (mark ∷ []) run) (credits_from opened link (before ++ mark ∷ []) run next served.1)
 
-pub credit_granted : (opened : LinkParameters) (link : ℕ) (run : List Mark) → ServedSoFar opened link run → (server opened link run).state.credit ≤ opened.granted
+pub keeps_credits : (opened : LinkParameters) (link : ℕ) (run : List Mark) → IsOpened opened → ServedSoFar opened link run → KeepsCredits opened (server opened link run).state
 unfolding server events
-credit_granted opened link run served = credit_from opened link [] run (omega arith) served
+keeps_credits opened link run o served = credits_from opened link [] run (record { low = refl; least = o.granted; most = omega arith }) served
 
 -- so it does once these events were
-pub credit_by : (opened : LinkParameters) (link : ℕ) (run : List Mark) (es : List RunEvent) → events link Responder run ≡ es → ServedSoFar opened link run → (server_by opened es).credit ≤ opened.granted
+pub credits_by : (opened : LinkParameters) (link : ℕ) (run : List Mark) (es : List RunEvent) → events link Responder run ≡ es → IsOpened opened → ServedSoFar opened link run → KeepsCredits opened (server_by opened es)
 unfolding server
-credit_by opened link run es is served = subst (λ (es : List RunEvent). (server_by opened es).credit ≤ opened.granted) is (credit_granted opened link run served)
+credits_by opened link run es is o served = subst (λ (es : List RunEvent). KeepsCredits opened (server_by opened es)) is (keeps_credits opened link run o served)
+
+-- ---- What it grants
+
+word_range : (opened : LinkParameters) (k : ServerState) → 1 ≤ opened.low → KeepsCredits opened k → (1 ≤ credit_word k) × (credit_word k ≤ opened.granted)
+unfolding credit_word
+word_range opened k low h = by (is_busy k)
+  where
+    some : 1 ≤ k.low
+    some = omega (arith, low, h.low)
+
+    less : min k.low k.credit ≤ k.credit
+    less = min-le_right k.low k.credit
+
+    by : (b : Bool) → (1 ≤ cond b (min k.low k.credit) k.credit) × (cond b (min k.low k.credit) k.credit ≤ opened.granted)
+    by true = (le-min some h.least, omega (arith, less, h.most))
+    by false = (h.least, h.most)
+
+pub server_grants_in_range : ServerGrantsInRange
+server_grants_in_range opened link run o served = word_range opened (server opened link run).state o.low (keeps_credits opened link run o served)
+
+-- while no fewer are granted in a busy moment, it is what was set
+word_is_credit : (k : ServerState) → k.credit ≤ k.low → credit_word k ≡ k.credit
+unfolding credit_word
+word_is_credit k le = by (is_busy k)
+  where
+    by : (b : Bool) → cond b (min k.low k.credit) k.credit ≡ k.credit
+    by true = min-eq_right le
+    by false = refl
+
+-- ---- What its owner set
+
+-- the credits stay as they are
+abbrev OnlyOthers : RunEvent → Type 0
+OnlyOthers (FrameReceived f) = Unit {0}
+OnlyOthers (CallSubmitted place a) = Unit {0}
+OnlyOthers (MemoryRevoked place xid) = Unit {0}
+OnlyOthers (CallExecuted e) = Unit {0}
+OnlyOthers (QueueWritten taken) = Unit {0}
+OnlyOthers (ServerTold what) = ⊥
+
+same_after : (opened : LinkParameters) (k : ServerState) (e : RunEvent) → OnlyOthers e → (server_state_after opened k e).credit ≡ k.credit
+unfolding server_state_after
+same_after opened k (FrameReceived f) other = by (is_hello f)
+  where
+    by : (b : Bool) → (cond b (with_own_hello opened k f) (with_effect k f (frame_effect k f))).credit ≡ k.credit
+    by true = refl
+    by false = refl
+same_after opened k (CallSubmitted p a) other = refl
+same_after opened k (MemoryRevoked p xid) other = refl
+same_after opened k (CallExecuted e) other = refl
+same_after opened k (QueueWritten taken) other = refl
+same_after opened k (ServerTold what) other = absurd other
+
+same_next : (opened : LinkParameters) (r : EndState ServerState) (e : RunEvent) → OnlyOthers e → (next_end_state (server_rules opened) r e).state.credit ≡ r.state.credit
+same_next opened r e other = by r.ended
+  where
+    by_why : (o : Option End) → (next_end_state_by (server_rules opened) r.state e o).state.credit ≡ r.state.credit
+    by_why None = same_after opened r.state e other
+    by_why (Some end) = refl
+
+    by : (o : Option End) → (next_end_state_in (server_rules opened) r.state e o).state.credit ≡ r.state.credit
+    by None = by_why (server_end opened r.state e)
+    by (Some end) = refl
+
+same_all : (opened : LinkParameters) (r : EndState ServerState) (es : List RunEvent) → AllByRecursion OnlyOthers es → (end_state_after (server_rules opened) r es).state.credit ≡ r.state.credit
+same_all opened r [] others = refl
+same_all opened r (e ∷ es) others = same_all opened (next_end_state (server_rules opened) r e) es others.1 ∙ same_next opened r e others.0
+
+own_others : (b : Bool) (es : List RunEvent) → AllByRecursion OnlyOthers es → AllByRecursion OnlyOthers (if_own b es)
+own_others true es h = h
+own_others false es h = tt
+
+frames_others : (fs : List Frame) → AllByRecursion OnlyOthers (map FrameReceived fs)
+frames_others [] = tt
+frames_others (f ∷ fs) = (tt, frames_others fs)
+
+told_one : (opened : LinkParameters) (r : EndState ServerState) (n : ℕ) → r.ended ≡ None → (end_state_after (server_rules opened) r (ServerTold (Granted n) ∷ [])).state.credit ≡ n
+unfolding server_end server_state_after
+told_one opened r n stays = ap (λ (o : Option End). (next_end_state_in (server_rules opened) r.state (ServerTold (Granted n)) o).state.credit) stays
+
+set_mark : (opened : LinkParameters) (link : ℕ) (before : List Mark) (mark : Mark) → (server opened link before).ended ≡ None → (server opened link (before ++ mark ∷ [])).state.credit ≡ granted_at link (server opened link before).state.credit mark
+set_mark opened link before mark stays = ap (λ (r : EndState ServerState). r.state.credit) (server_one opened link before mark) ∙ by mark
+  where
+    r : EndState ServerState
+    r = server opened link before
+
+    by_link : (n : ℕ) (b : Bool) → (end_state_after (server_rules opened) r (if_own (b && true) (ServerTold (Granted n) ∷ []))).state.credit ≡ cond b n r.state.credit
+    by_link n true = told_one opened r n stays
+    by_link n false = refl
+
+    by : (m : Mark) → (end_state_after (server_rules opened) r (events_at link Responder before m)).state.credit ≡ granted_at link r.state.credit m
+    by (marks.Fed l s bytes) = same_all opened r _ (own_others (eqb l link && same_side s Responder) _ (frames_others (frames_completed Initiator (bytes_received link Responder before) bytes)))
+    by (marks.Wrote l s bytes) = same_all opened r _ (own_others (eqb l link && same_side s Responder) _ (tt, tt))
+    by (marks.Submit l call form (submissions.Accepted xid)) = same_all opened r _ (own_others (eqb l link && same_side Initiator Responder) _ (tt, tt))
+    by (marks.Submit l call form (submissions.Refused why)) = refl
+    by (marks.Submit l call form submissions.Dropped) = refl
+    by (marks.Execute l xid moment payload place reply) = same_all opened r _ (own_others (eqb l link && same_side Responder Responder) _ (tt, tt))
+    by (marks.Revoke l xid bytes) = same_all opened r _ (own_others (eqb l link && same_side Initiator Responder) _ (tt, tt))
+    by (marks.Done l xid outcome) = refl
+    by (marks.Lost l xid) = refl
+    by (marks.Forget l xid) = refl
+    by (marks.Drop l) = refl
+    by (marks.Told l (Granted n)) = by_link n (eqb l link)
+
+set_from : (opened : LinkParameters) (link : ℕ) (before run : List Mark) (credits : ℕ) → (server opened link (before ++ run)).ended ≡ None → (server opened link before).state.credit ≡ credits → (server opened link (before ++ run)).state.credit ≡ last_granted link credits run
+set_from opened link before [] credits stays is = ap (λ (r : List Mark). (server opened link r).state.credit) (append-nil before) ∙ is
+set_from opened link before (mark ∷ run) credits stays is =
+    let assoc : (before ++ mark ∷ []) ++ run ≡ before ++ mark ∷ run = append_assoc before (mark ∷ []) run in
+    let all : (server opened link ((before ++ mark ∷ []) ++ run)).ended ≡ None = ap (λ (r : List Mark). (server opened link r).ended) assoc ∙ stays in
+    let one : (server opened link (before ++ mark ∷ [])).state.credit ≡ granted_at link credits mark =
+    set_mark opened link before mark (server_unended opened link before (mark ∷ run) stays) ∙ ap (λ (n : ℕ). granted_at link n mark) is in
+    ap (λ (r : List Mark). (server opened link r).state.credit) (sym assoc) ∙ set_from opened link (before ++ mark ∷ []) run (granted_at link credits mark) all one
+
+set_last : (opened : LinkParameters) (link : ℕ) (run : List Mark) → (server opened link run).ended ≡ None → (server opened link run).state.credit ≡ last_granted link opened.granted run
+unfolding server events
+set_last opened link run stays = set_from opened link [] run opened.granted stays refl
+
+pub server_grants_what_is_set : ServerGrantsWhatIsSet
+server_grants_what_is_set opened link run o all served stays =
+    let k = (server opened link run).state in
+    let keeps = keeps_credits opened link run o served in
+    word_is_credit k (let low = keeps.low in let most = keeps.most in omega (arith, low, most, all)) ∙ set_last opened link run stays

@@ -1,9 +1,14 @@
--- No call is sent past the last grant (RFC 8166 section 3.3).
-use Rattle.std.specs.Prelude.{◌≡◌, ℕ, List, []}
+-- No call is sent past the last grant, and what a server grants (RFC 8166 section 3.3).
+use Rattle.std.specs.Prelude.{◌≡◌, ℕ, ◌≤◌, ◌==◌, if◌then◌else◌, List, [], ◌∷◌, None}
 use Rattle.nr_reduce.specs.declared.call.Submission.TheVariants as submissions
 use Rattle.nr_reduce.specs.declared.mark.Mark.{Mark}
 use Rattle.nr_reduce.specs.declared.mark.Mark.TheVariants as marks
+use Rattle.nr_reduce.specs.declared.mark.Told.TheVariants.{Granted}
 use Rattle.nr_reduce.specs.declared.mark.LinkParameters.{LinkParameters}
+use Rattle.nr_reduce.specs.Opening.{IsOpened}
+use Rattle.nr_reduce.specs.ServerState.{credit_word}
+use Rattle.nr_reduce.specs.Served.{ServedSoFar}
+use Rattle.nr_reduce.specs.Run.{server}
 use Rattle.nr_reduce.specs.AtEachMark.{AtEachMark}
 use Rattle.nr_reduce.specs.SubmitAnswer.{submit_answer_after}
 use Rattle.nr_reduce.specs.Credits.{KeepsGrant}
@@ -20,3 +25,22 @@ AcceptsByRule opened link run = AtEachMark (AcceptedMark opened link) [] run
 -- outstanding than are granted.
 abbrev pub SubmitsWithinGrant : Type 0
 SubmitsWithinGrant = (opened : LinkParameters) (link : ℕ) (run : List Mark) → AcceptsByRule opened link run → KeepsGrant opened link run
+
+-- On every link whose server keeps its law so far, whatever its client sends: it grants from 1 to the credits that the link was opened with.
+abbrev pub ServerGrantsInRange : Type 0
+ServerGrantsInRange = (opened : LinkParameters) (link : ℕ) (run : List Mark) → IsOpened opened → ServedSoFar opened link run →
+    (1 ≤ credit_word (server opened link run).state) × (credit_word (server opened link run).state ≤ opened.granted)
+
+-- the credits that the owner of a link's server set last, at first these
+abbrev pub granted_at : ℕ → ℕ → Mark → ℕ
+granted_at link credits (marks.Told l (Granted n)) = if l == link then n else credits
+granted_at link credits mark = credits
+
+abbrev pub last_granted : ℕ → ℕ → List Mark → ℕ
+last_granted link credits [] = credits
+last_granted link credits (mark ∷ run) = last_granted link (granted_at link credits mark) run
+
+-- If it was opened so that it grants no less while it is busy, it grants these until it ends.
+abbrev pub ServerGrantsWhatIsSet : Type 0
+ServerGrantsWhatIsSet = (opened : LinkParameters) (link : ℕ) (run : List Mark) → IsOpened opened → opened.low ≡ opened.granted → ServedSoFar opened link run → (server opened link run).ended ≡ None →
+    credit_word (server opened link run).state ≡ last_granted link opened.granted run

@@ -1,7 +1,7 @@
 //! The laws, each by its statement in `specs/`.
 
 ghost use Rattle.nr_laws.specs.Touches.{ClientAccessesAreAllowed, ServerAccessesAreAllowed, ServerRefusesRequests, RevokedMemoryIsFinal};
-ghost use Rattle.nr_laws.specs.Grant.{SubmitsWithinGrant};
+ghost use Rattle.nr_laws.specs.Grant.{SubmitsWithinGrant, ServerGrantsInRange, ServerGrantsWhatIsSet};
 ghost use Rattle.nr_laws.specs.Agreed.{SidesAgree, ClientGoesByAgreement, ServerGoesByAgreement};
 ghost use Rattle.nr_laws.specs.Bounds.{ClientOffersFewSegments, ClientOwesFewResponses, ServerReadsFew, ServerUsesItsReceives};
 ghost use Rattle.nr_laws.specs.Places.{PlacesFollow};
@@ -33,6 +33,13 @@ pub fn touches()
 /// On every link whose client accepts by its rule each accepted call is submitted while fewer calls are outstanding than are granted.
 pub fn grant()
     ensures { SubmitsWithinGrant }
+{}
+
+/// On every link a server grants from 1 to the credits that the link was opened with (RFC 8166 section 3.3). If it grants no less while it is busy,
+/// it grants what its owner set last.
+pub fn server_credits()
+    ensures range { ServerGrantsInRange }
+    ensures set { ServerGrantsWhatIsSet }
 {}
 
 /// On a matched link a call completes with Chunk (ERR_CHUNK, RFC 8166 section 4.5) if and only if its Send is refused, or it was executed before
