@@ -143,12 +143,20 @@ module _ (reply : List ℕ) (down : ℕ) (room : send_unit ≤ down) where
       let c = count_is n in
       omega (arith, a, b, c, small)
 
+  -- a chunk has a segment, so the reply is split for it
+  parts_some : (chunk : List RdmaSegment) (proc : ℕ) → 0 < length chunk → parts_in (Reply 100003 3 proc) (chunk ∷ []) reply ≡ parts_by chunk reply (reducible_item (Reply 100003 3 proc) reply)
+  parts_some [] proc some = absurd (omega (arith, some))
+  parts_some (s ∷ chunk) proc some = refl
+
+  parts_own : (stag n proc : ℕ) → parts_in (Reply 100003 3 proc) (segments_from stag 0 (segments_for n) ∷ []) reply ≡ parts_by (segments_from stag 0 (segments_for n)) reply (reducible_item (Reply 100003 3 proc) reply)
+  parts_own stag n proc = (let b = segments_count stag 0 (segments_for n) in let c = count_is n in parts_some (segments_from stag 0 (segments_for n)) proc (omega (arith, b, c)))
+
   chunk_held : (offer : ChunkLists) (stag n proc : ℕ) → offer.write ≡ segments_from stag 0 (segments_for n) ∷ [] → n ≤ transfer_max → IsSuited n proc reply → answer_for offer down 100003 3 proc reply ≢ None
   unfolding answer_for
   chunk_held offer stag n proc is small (None, none, short) =
       let chunk : List RdmaSegment = segments_from stag 0 (segments_for n) in
       let size : answer_size offer.write ≤ 292 = subst (λ (w : List (List RdmaSegment)). answer_size w ≤ 292) (sym is) (size_own stag n small) in
-      subst (λ (o : Option Parts). answer_with offer down o ≢ None) (sym (ap (λ (w : List (List RdmaSegment)). parts_in (Reply 100003 3 proc) w reply) is ∙ ap (parts_by chunk reply) none))
+      subst (λ (o : Option Parts). answer_with offer down o ≢ None) (sym (ap (λ (w : List (List RdmaSegment)). parts_in (Reply 100003 3 proc) w reply) is ∙ parts_own stag n proc ∙ ap (parts_by chunk reply) none))
       (inline_held offer down (record { stream = reply; moved = [] }) (omega (arith, short, room, size)))
   chunk_held offer stag n proc is small (Some i, some, suits) =
       let chunk : List RdmaSegment = segments_from stag 0 (segments_for n) in
@@ -156,7 +164,7 @@ module _ (reply : List ℕ) (down : ℕ) (room : send_unit ≤ down) where
       let fits : leb i.len (chunk_total chunk) ≡ true = le-leb i.len (chunk_total chunk) (omega (arith, total_own stag n, suits.0)) in
       let p : Parts = record { stream = take i.pos reply; moved = take i.len (drop i.pos reply) } in
       subst (λ (o : Option Parts). answer_with offer down o ≢ None)
-      (sym (ap (λ (w : List (List RdmaSegment)). parts_in (Reply 100003 3 proc) w reply) is ∙ ap (parts_by chunk reply) some ∙ ap (λ (b : Bool). cond b (Some p) None) fits))
+      (sym (ap (λ (w : List (List RdmaSegment)). parts_in (Reply 100003 3 proc) w reply) is ∙ parts_own stag n proc ∙ ap (parts_by chunk reply) some ∙ ap (λ (b : Bool). cond b (Some p) None) fits))
       (inline_held offer down p (omega (arith, suits.1, room, size, length-take i.pos reply, min-le_left i.pos (length reply))))
 
   -- no write chunk, and a reply that goes inline or fills the reply chunk
