@@ -130,7 +130,7 @@ module _ (credits low units : ℕ) (left given left' given' taken : Option (List
   begun : CarriesTo credits low units (first_outside left given taken faults gave view) (first_outside left' given' taken faults gave view) (opened_side credits low (sized_terms units)) (0 + 0)
   begun =
       nothing_read credits low units (first_outside left given taken faults gave view) left given left' given' (sink_state taken faults false) gave view (opened_side credits low (sized_terms units)) 0
-      (opened left given taken faults gave view credits low units (opened_side credits low (sized_terms units)) refl lives (λ o link same. opened_stands_lem o link credits (sized_terms units) (initial_link Responder credits 1 (sized_terms units)) same refl))
+      (opened left given taken faults gave view credits low units (opened_side credits low (sized_terms units)) refl lives (λ o link same. opened_stands_lem o link credits low (sized_terms units) (initial_link Responder credits 1 (sized_terms units)) same refl))
       (hands_none left given left' given' kept told)
 
   less : 0 + 0 < read_max

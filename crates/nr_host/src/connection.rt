@@ -120,8 +120,10 @@ fn carry<I: Source, O: Sink, C: Clock, R: Wait>(
 
 /// Serves one connection to its end: reads the client's stream, feeds it frame by frame, and before the next frame
 /// executes each call that is complete and writes what is due. If a write fails, it still executes each call that was
-/// read, and reads no more. Grants this many credits, and has this many units for its Sends in each direction, of 1,024
-/// bytes each, 1 to 16 (0 counts as 1, and more than 16 as 16).
+/// read, and reads no more. Grants `credits`, but at most `low` (from 1 to `credits`) in a message that is due while
+/// more than half of the receives are in use (RFC 8166 section 3.3): nothing is required of `low`, so that with 0 the
+/// credit word is 0 then, and with more than `credits` it plays no part. Has this many units for its Sends in each
+/// direction, of 1,024 bytes each, 1 to 16 (0 counts as 1, and more than 16 as 16).
 pub fn serve_connection<I: Source, O: Sink, C: Clock, R: Wait>(
     rt: &R,
     alloc: Global,

@@ -133,8 +133,8 @@ fn look_and_serve<I: Source, O: Sink, C: Clock, R: Wait>(
 }
 
 /// Serves one link to its end. With `records` it may carry RPC over RDMA or RPC over TCP with record marks, as its
-/// first byte says; without, it carries RPC over RDMA, with these credits and units (see [`serve_connection`]). Gives the
-/// source back.
+/// first byte says; without, it carries RPC over RDMA, with these credits, at most `low` while more than half of the
+/// receives are in use, and these units (see [`serve_connection`]). Gives the source back.
 pub fn serve_link<I: Source, O: Sink, C: Clock, R: Wait>(
     rt: &R,
     alloc: Global,

@@ -259,7 +259,8 @@ where
 }
 
 /// Accepts `connections` links. Each is served to its end, whatever its end is: in a job that the spawner starts, or,
-/// if the spawner hands it back, here. Each is granted `credits` (RFC 8166 section 3.3), and the server has `units` of
+/// if the spawner hands it back, here. Each is granted `credits`, but at most `low` (from 1 to `credits`) in a message
+/// that is due while more than half of its receives are in use (RFC 8166 section 3.3), and the server has `units` of
 /// 1,024 bytes for its Sends in each direction (1 to 16). Waits until all jobs have ended.
 ///
 /// # Errors

@@ -1,6 +1,5 @@
 -- A responder that grants other credits, or has another credit word for its messages.
 use Rattle.std.proofs.Common.{◌≡◌, ℕ, List, [], ◌∷◌, ◌++◌, true, false, Bool, Option, None, Some, refl, sym, ap, subst, ◌∙◌, inl, inr, is_some}
-use Rattle.std.specs.Prelude.{if◌then◌else◌}
 use Rattle.std.proofs.lemmas.List.{append-nil}
 use Rattle.nr_link.specs.declared.end.End.{End}
 use Rattle.nr_link.specs.Input.{InputState}
@@ -19,7 +18,7 @@ use Rattle.nr_responder.specs.declared.granting.Credits.{Credits}
 use Rattle.nr_responder.specs.Granting.{grant}
 use Rattle.nr_responder.specs.HeldBytes.{KeptFits, OutputFits, OutputLives, SharesFit, SinksFit}
 use Rattle.nr_responder.specs.Keeping.{IsServer, Keeps, KeepsEnd, LinkKeeps}
-use Rattle.nr_responder.specs.ResponderState.{ResponderSide, ResponderState, KeepsStaging, end_of, granting, queue, with_granted}
+use Rattle.nr_responder.specs.ResponderState.{ResponderSide, end_of, queue, with_granted}
 use Rattle.nr_responder.specs.Standing.{ResponderRepresents, RepresentsServer}
 use Rattle.nr_responder.specs.Steps.{Fed, FedOn, GoesOn}
 use Rattle.nr_responder.specs.Steps.Fed.{WentOn, RanOut}
@@ -86,9 +85,6 @@ fits_as v c same h =
         each = λ live_now. (let f : OutputLives v = o.each live_now in record { queue = f.queue; reads = f.reads; hello = f.hello; none = f.none });
       };
     }
-
-pub staging_as : (before after : ResponderState) (piece : List ℕ) (c : Credits) → KeepsStaging (record before { side = with_credits c before.side }) after piece → KeepsStaging before after piece
-staging_as before after piece c h = record { others = h.others; len = h.len }
 
 -- ---- Other credits
 
@@ -185,10 +181,3 @@ granted_stands opened link run v credits live_now stands =
 pub ended_granted : (opened : LinkParameters) (link : ℕ) (run : List Mark) (v : ResponderSide) (credits : ℕ) → is_some (end_of v) ≡ true → ResponderRepresents opened link run v → ResponderRepresents opened link (run ++ marks.Told link (Granted credits) ∷ []) v
 ended_granted opened link run v credits over (inl h) = inl (told_represents opened link run v v (Granted credits) h (ended_told opened h.end h.input v (Granted credits) over h.keeps))
 ended_granted opened link run v credits over (inr out) = inr (stays_out opened link run v v (marks.Told link (Granted credits)) out refl (record { calls = refl; ready = refl; credits = refl }) refl refl)
-
--- what it is, as it has ended or not
-pub granting_lives : (v : ResponderState) (credits : ℕ) → end_of v.side ≡ None → record v { side = with_granted credits v.side } ≡ granting credits v
-granting_lives v credits live_now = ap (λ (o : Option End). if is_some o then v else record v { side = with_granted credits v.side }) (sym live_now)
-
-pub granting_ended : (v : ResponderState) (credits : ℕ) → is_some (end_of v.side) ≡ true → v ≡ granting credits v
-granting_ended v credits over = ap (λ (b : Bool). if b then v else record v { side = with_granted credits v.side }) (sym over)

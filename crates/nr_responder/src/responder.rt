@@ -80,7 +80,7 @@ impl Responder {
         Responder::open_sized(alloc, credits, 1)
     }
 
-    /// The server end of a link that always grants this many credits, until it is told other ones: [`Responder::open_low`].
+    /// The server end of a link that grants this many credits, until others are set: [`Responder::open_low`].
     pub fn open_sized(alloc: Global, credits: u32, units: u8) -> Result<Responder, Memory>
         ensures state { IfOk result (λ r. r.side ≡ opened_side credits credits (sized_terms units)) }
         ensures live { IfOk result (λ r. end_of r.side ≡ None) }
@@ -92,10 +92,11 @@ impl Responder {
     }
 
     /// The server end of a link that grants this many credits, and at most `low` in a message that is due while more than half of its receives
-    /// are in use, by the frame or the answer for which it is due. It writes and takes Sends of at most this many units of 1,024 bytes, from 1 to 16
-    /// (0 counts as 1, and more than 16 as 16): if the client's hello says its terms, so does its own, and the lesser of both is agreed for each
-    /// direction ([`Responder::agreed`]). Takes the staging buffer, a receive of these units for each credit, and room for a call of each; not
-    /// its hello, whose room is taken when the client's is accepted. `Err`: memory ran out, and nothing was made.
+    /// are in use, as it is before the frame or the answer for which the message is due (RFC 8166 section 3.3). It writes and takes Sends of at
+    /// most this many units of 1,024 bytes, from 1 to 16 (0 counts as 1, and more than 16 as 16): if the client's hello says its terms, so does
+    /// its own, and the lesser of both is agreed for each direction ([`Responder::agreed`]). Takes the staging buffer, a receive of these units
+    /// for each credit, and room for a call of each; not its hello, whose room is taken when the client's is accepted. `Err`: memory ran out,
+    /// and nothing was made.
     pub fn open_low(alloc: Global, credits: u32, low: u32, units: u8) -> Result<Responder, Memory>
         ensures state { IfOk result (λ r. r.side ≡ opened_side credits low (sized_terms units)) }
         ensures live { IfOk result (λ r. end_of r.side ≡ None) }

@@ -107,7 +107,8 @@ static ROWS: [Row; 14] = [
     (204, &[20, 92, 92], &[], &[1], "LinkWrite", 20, 1),
 ];
 
-/// Serves a connection with these credits, the second while more than half of its receives are in use, and Sends of two units, and compares how it ends, what its sink takes, and how many calls are executed.
+/// Serves a connection with these credits, of which the second are for messages while more than half of its receives are in use, and with
+/// Sends of two units; and compares how it ends, what its sink takes, and how many calls are executed.
 fn same_end(
     rt: &(impl Abort + Wait),
     alloc: Global,

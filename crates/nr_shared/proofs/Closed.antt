@@ -80,6 +80,7 @@ module _ {I O : Type 0} (left given : I → Option (List ℕ)) (source_faults : 
         sink_count = st.never_falls;
         cut = λ is. st.cut (st.is_cut ∙ is);
         placed = st.placed;
+        output = st.output;
         gave = subst (λ (l : List ℕ). HandsOut (left b.source.value) (given b.source.value) (left s.source) (given s.source) l) (sym bytes) f.gave;
         source_count = f.never_falls;
         stop = subst (λ (n : ℕ). StopHolds (stop_of h) (source_faults b.source.value) (source_faults s.source) (left s.source) n) read
@@ -102,6 +103,7 @@ module _ {I O : Type 0} (left given : I → Option (List ℕ)) (source_faults : 
     sink_count = st.never_falls;
     cut = λ is. st.cut (st.is_cut ∙ is);
     placed = st.placed;
+    output = st.output;
     gave = subst (λ (l : List ℕ). HandsOut (left source) (given source) (left source) (given source) l) (sym none) (HandsOut_nil (left source) (given source));
     source_count = omega arith;
     stop = subst (λ (o : Option Stop). StopHolds o (source_faults source) (source_faults source) (left source) (length (bytes_fed h))) (sym going) tt;

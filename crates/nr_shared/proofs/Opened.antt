@@ -34,6 +34,7 @@ use Rattle.nr_shared.specs.Standing.{Follows, Stands, one_if}
 use Rattle.nr_shared.proofs.Asking.{none_closed}
 use Rattle.nr_shared.proofs.Calls.{none_some}
 use Rattle.nr_shared.proofs.Lists.{at_below, at_end, in_places, place_in, places_len}
+use Rattle.nr_shared.proofs.Output.{output_none}
 use Rattle.nr_shared.proofs.Steps.{false_true}
 
 -- ---- The handing in
@@ -88,6 +89,7 @@ module _ {O : Type 0} (taken : O → Option (List ℕ)) (faults : O → ℕ) whe
         stopped = going;
         in_order = ((λ is. refl), tt);
         placed = tt;
+        output = output_none (e ∷ []) (refl, tt);
         due = λ is. absurd (false_true (sym is ∙ due));
         within = (let none : length (bytes_fed (e ∷ [])) ≡ 0 = refl in record {
           asked = places m.requester.state.next_xid;

@@ -13,6 +13,7 @@ use Rattle.nr_shared.specs.declared.entry.Handing.{Handing}
 use Rattle.nr_shared.specs.Histories.{ArePlaced, closes_of, handed, bytes_written, bytes_fed, has_cut, stop_of}
 use Rattle.nr_shared.specs.Standing.{Follows, KeepsCalls, bytes_before}
 use Rattle.nr_shared.specs.Feeding.{StopHolds}
+use Rattle.nr_shared.specs.Output.{OutputBeforeInput}
 
 -- The history that is named has the handing in of this requester and this sink, and nothing before it. The requester hasn't run out of memory.
 pub record HandsIn {O : Type 0} (taken : O → Option (List ℕ)) (faults : O → ℕ) (r : RequesterSide) (sink : O) (history : List Entry) : Type 0 where
@@ -40,6 +41,7 @@ pub record GivesBack {I O : Type 0} (left given : I → Option (List ℕ)) (sour
   pub sink_count : handing.faults ≤ sink_faults sink
   pub cut : has_cut history ≡ true → Rises handing.faults (sink_faults sink)
   pub placed : ArePlaced history
+  pub output : OutputBeforeInput history
   pub gave : HandsOut (left first) (given first) (left source) (given source) (bytes_fed history)
   pub source_count : source_faults first ≤ source_faults source
   pub stop : StopHolds (stop_of history) (source_faults first) (source_faults source) (left source) (length (bytes_fed history))
