@@ -3,11 +3,11 @@
     python3 docs/check_pages.py [--only WORD]
 
 A page docs/crates/NAME.md has to name, in backticks or in a code block, each public call of the crate NAME: each
-function that its lib.rt makes public, and each public method; and each edit of its must-fail/. "Stands on" has the
-crates of crates.txt; a source file in backticks is one of the crate, and a name before "(FILE; .." stands in that file
-of its specs/. Tests and benchmarks have a heading each in tests.md and benches.md; the page of nr_laws is LAWS.md. Each
-name in backticks on any page has to be there: a word of the code (on a crate's page of that crate, of those that it
-stands on or that stand on it), a file, a crate, a script.
+function that its lib.rt makes public, and each public method; and each edit of its must-fail/, whose old text stands
+once in the file that it names. "Stands on" has the crates of crates.txt; a source file in backticks is one of the
+crate, and a name before "(FILE; .." stands in that file of its specs/. Tests and benchmarks have a heading each in
+tests.md and benches.md; the page of nr_laws is LAWS.md. Each name in backticks on any page has to be there: a word of
+the code (on a crate's page of that crate, of those that it stands on or that stand on it), a file, a crate, a script.
 Lines have at most 160 characters, prose 120, table cells 40 words; links lead to a file; the words of CONTRIBUTING's
 house list stand in no prose, at the beginning of a sentence neither. WIRE.md has a row for each reason and each other
 word of a Terminate. A page that sends its reader to measured.csv has a row there, or says that there is none.
@@ -254,6 +254,19 @@ def check_files(page: str, crate: str, text: str) -> list[str]:
     return out
 
 
+def check_edits(crate: str) -> list[str]:
+    """The edits of a crate whose old text doesn't stand exactly once in their file."""
+    out = []
+    for path in sorted(glob.glob(os.path.join(ROOT, 'crates', crate, 'must-fail', '*.edit'))):
+        text = ''
+        for word, rest in re.findall(r'^(file|old): (.*)$', read(path), re.M):
+            if word == 'file':
+                text = read(os.path.join(ROOT, 'crates', crate, rest))
+            elif text.count(rest) != 1:
+                out.append('%s: its old text stands %d times' % (os.path.relpath(path, ROOT), text.count(rest)))
+    return out
+
+
 def check_crates(crates: list[str]) -> list[str]:
     out: list[str] = []
     shared = {'_tests': 'tests.md', '_bench': 'benches.md'}
@@ -274,7 +287,7 @@ def check_crates(crates: list[str]) -> list[str]:
         stands = re.search(r'^Stands on ([^.]*)\.', text, re.M)
         if stands is None or set(WORD.findall(stands.group(1))) & set(crates) != below(crate):
             out.append('%s: "Stands on" has other crates than crates.txt: %s' % (page, ' '.join(sorted(below(crate)))))
-        out += check_files(page, crate, text)
+        out += check_files(page, crate, text) + check_edits(crate)
     pages = {os.path.basename(p)[:-3] for p in glob.glob(os.path.join(ROOT, 'docs', 'crates', '*.md'))}
     out += ['docs/crates/%s.md: no such crate' % p for p in sorted(pages - set(crates) - {'tests', 'benches'})]
     return out
