@@ -105,7 +105,13 @@ fn with_calls(
     let mut link = TestLink::open_low(rt, alloc, credits, low);
     feed(rt, alloc, row, &mut link, &HELLO);
     for number in 0..calls {
-        feed(rt, alloc, row, &mut link, &null_call(number + 1, 1));
+        feed(
+            rt,
+            alloc,
+            row,
+            &mut link,
+            &null_call(number.saturating_add(1), 1),
+        );
     }
     writes(rt, alloc, row, &mut link, &HELLO_BACK);
     link
@@ -113,8 +119,8 @@ fn with_calls(
 
 /// The message of another version comes, after this many calls, and is answered with this credit word.
 fn refused(rt: &impl Abort, alloc: Global, row: usize, link: &mut TestLink, calls: u32, word: u32) {
-    feed(rt, alloc, row, link, &null_call(calls + 1, 2));
-    writes(rt, alloc, row, link, &error(calls + 1, word));
+    feed(rt, alloc, row, link, &null_call(calls.saturating_add(1), 2));
+    writes(rt, alloc, row, link, &error(calls.saturating_add(1), word));
 }
 
 fn refused_in_parts(
@@ -125,10 +131,10 @@ fn refused_in_parts(
     calls: u32,
     word: u32,
 ) {
-    let (first, last) = in_parts(calls + 1);
+    let (first, last) = in_parts(calls.saturating_add(1));
     feed(rt, alloc, row, link, &first);
     feed(rt, alloc, row, link, &last);
-    writes(rt, alloc, row, link, &error(calls + 1, word));
+    writes(rt, alloc, row, link, &error(calls.saturating_add(1), word));
 }
 
 fn word_is(rt: &impl Abort, alloc: Global, row: usize, cells: Row) {
