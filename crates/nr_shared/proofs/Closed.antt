@@ -82,6 +82,7 @@ module _ {I O : Type 0} (left given : I → Option (List ℕ)) (source_faults : 
         beside = b';
         has_seen = one ∙ ap (λ (x : Beside I O). x ∷ []) (sym same);
         placed = st.placed;
+        output = st.output;
         gave = subst (λ (l : List ℕ). HandsOut (left b'.source.value) (given b'.source.value) (left s.source) (given s.source) l) (sym bytes) f.gave;
         source_count = f.never_falls;
         stop = subst (λ (n : ℕ). StopHolds (stop_of h) (source_faults b'.source.value) (source_faults s.source) (left s.source) n) read

@@ -18,6 +18,9 @@ use Rattle.nr_reduce.specs.SubmitAnswer.{unless_spent}
 use Rattle.nr_requester.specs.RequesterState.{RequesterSide, RequesterState}
 use Rattle.nr_requester.specs.Answers.{answer_by_plan, answer_if, answer_of, plan_under}
 use Rattle.nr_requester.proofs.Accepting.{answers_as_client, counts_as_client}
+use Rattle.nr_reduce.specs.ClientState.{ClientState}
+use Rattle.nr_reduce.specs.EndRules.{EndState, live}
+use Rattle.nr_reduce.specs.Run.{client}
 use Rattle.nr_shared.specs.declared.entry.Entry.{Entry}
 use Rattle.nr_shared.specs.declared.entry.Stop.{Stop}
 use Rattle.nr_shared.specs.declared.entry.Stop.TheVariants as causes
@@ -31,7 +34,9 @@ use Rattle.nr_turnstile.specs.Rule.{longer}
 use Rattle.nr_turnstile.specs.Passes.{seen_by}
 use Rattle.nr_turnstile.specs.Turns.{pass_of}
 use Rattle.nr_shared.specs.Callers.{IsReady, KeepsLaw}
-use Rattle.nr_shared.specs.Sharing.{SaysCredit}
+use Rattle.nr_shared.specs.Sharing.{SaysCredit, SaysCreditOut}
+use Rattle.nr_shared.specs.Marks.{IsOut}
+use Rattle.nr_reduce.specs.declared.mark.Mark.{Mark}
 use Rattle.nr_shared.specs.Standing.{is_out, Follows, FollowsIf, Stands}
 use Rattle.nr_reduce.specs.declared.mark.LinkParameters.{LinkParameters}
 
@@ -41,7 +46,7 @@ true_false : true ≡ false → ⊥
 true_false e = absurd cc
 
 -- a link that fits the history was opened as its handing says
-fits_handing : (h : List Entry) (c : Handing) (opened : LinkParameters) → handed h ≡ Some c → FitsHistory h opened → FitsHanding c opened
+pub fits_handing : (h : List Entry) (c : Handing) (opened : LinkParameters) → handed h ≡ Some c → FitsHistory h opened → FitsHanding c opened
 fits_handing h c opened is (d, has, fits) = subst (λ (x : Handing). FitsHanding x opened) (ap (λ (o : Option Handing). unwrap_or o c) (sym has ∙ is)) fits
 
 client_ended : (c : Handing) (r : RequesterSide) (h : List Entry) (end : End) → handed h ≡ Some c → FollowsIf false c r h → r.state.side.ended ≡ Some end → ClientEnded end h
@@ -55,7 +60,7 @@ abbrev IsMemory : End → Type 0
 IsMemory ends.Memory = ⊤
 IsMemory end = ⊥
 
-out_is : (o : Option Stop) → is_out o ≡ true → o ≡ Some causes.Memory
+pub out_is : (o : Option Stop) → is_out o ≡ true → o ≡ Some causes.Memory
 out_is None is = absurd cc
 out_is (Some causes.LinkRead) is = absurd cc
 out_is (Some causes.Closed) is = absurd cc
@@ -170,6 +175,15 @@ credit_left r call form (refusals.NoCredit out grant) credit says = subst Credit
 none_memory : None ≡ Some ends.Memory → ⊥
 none_memory e = absurd cc
 
+-- the calls that are outstanding, and the credits, of one that ran out of memory
+out_counts : (opened : LinkParameters) (link : ℕ) (r : RequesterSide) (run : List Mark) → IsOut opened link r run → (length r.state.outstanding ≡ calls_outstanding opened link run) × (r.state.grant ≡ credits_granted opened link run)
+unfolding calls_outstanding credits_granted
+out_counts opened link r run out =
+    let same : client opened link run ≡ live (record (client opened link out.stopped).state { written = out.stands.written }) = out.stands.same in (
+      out.stands.out.keeps.outstanding ∙ sym (ap (λ (e : EndState ClientState). length e.state.outstanding) same),
+      out.stands.out.keeps.grant ∙ sym (ap (λ (e : EndState ClientState). e.state.grant) same),
+    )
+
 module _ {O : Type 0} (taken : O → Option (List ℕ)) (faults : O → ℕ) where
   client_refuses : (m : Line O) (h : List Entry) (call : Call) (form : Form) (why : Refused) → Stands taken faults m h → end_in_refused why ≡ None → NotMemory why → SaysSo m.requester.state call form why → ClientRefuses why call form h
   client_refuses m h call form why st no_end other says =
@@ -199,12 +213,21 @@ module _ {O : Type 0} (taken : O → Option (List ℕ)) (faults : O → ℕ) whe
         let counts = counts_as_client opened link m.requester (run_of 0 link h) l.stands in
         ap (λ (n : ℕ). nat_lt n m.requester.state.grant) counts.0 ∙ ap (λ (n : ℕ). nat_lt (calls_outstanding opened link (run_of 0 link h)) n) counts.1
 
+  pub says_credit_out : (m : Line O) (h : List Entry) → Stands taken faults m h → SaysCreditOut (nat_lt (length m.requester.state.outstanding) m.requester.state.grant) h
+  says_credit_out m h st memory =
+      let f = subst (λ b. FollowsIf b st.handing m.requester h) (ap is_out (st.stopped ∙ memory)) st.follows in (
+        f.1.0,
+        λ opened link fits.
+            (let counts = out_counts opened link m.requester (run_of f.1.0 link h) (f.1.1 opened link (fits_handing h st.handing opened st.is_handed fits)) in
+            ap (λ (n : ℕ). nat_lt n m.requester.state.grant) counts.0 ∙ ap (λ (n : ℕ). nat_lt (calls_outstanding opened link (run_of f.1.0 link h)) n) counts.1),
+      )
+
   -- the history keeps the law
   pub law_of : (m : Line O) (h : List Entry) → Stands taken faults m h → KeepsLaw h
   law_of m h st = by_out (is_out m.stopped) st.follows where
     by_out : (b : Bool) → FollowsIf b st.handing m.requester h → KeepsLaw h
-    by_out false f = record { n = 0; law = λ opened link fits. (let l = f.1 opened link (fits_handing h st.handing opened st.is_handed fits) in (l.asked, l.granted)) }
-    by_out true f = record { n = f.1.0; law = λ opened link fits. (let l = f.1.1 opened link (fits_handing h st.handing opened st.is_handed fits) in (l.asked, l.granted)) }
+    by_out false f = record { n = 0; law = λ opened link fits. (let l = f.1 opened link (fits_handing h st.handing opened st.is_handed fits) in (l.asked, l.granted)); output = st.output }
+    by_out true f = record { n = f.1.0; law = λ opened link fits. (let l = f.1.1 opened link (fits_handing h st.handing opened st.is_handed fits) in (l.asked, l.granted)); output = st.output }
 
   -- told of the pass after its turn
   pub law_put_back : (t : Turn (Line O) Entry) (s : Pass (Line O) Entry) → IsReady taken faults t → seen_by s ≡ seen_by (pass_of t) → KeepsLaw (seen_by s)

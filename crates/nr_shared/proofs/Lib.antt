@@ -3,6 +3,8 @@ pub mod Chains
 pub mod Adding
 pub mod Histories
 pub mod Calls
+pub mod Ends
+pub mod Output
 pub mod Steps
 pub mod Asking
 pub mod Moving
@@ -12,7 +14,6 @@ pub mod NextXid
 pub mod Pieces
 pub mod Givings
 pub mod Alone
-pub mod Ends
 pub mod Submitting
 pub mod Opened
 pub mod Closed

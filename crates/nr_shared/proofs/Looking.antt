@@ -42,7 +42,7 @@ module _ {O : Type 0} where
   pub takes_after : (p q r s : Pass (Line O) Entry) (xid : ℕ) (done : Done) → Adds p q [] → KeepsOpen p q → TakesAnswer q r xid done → seen_by s ≡ seen_by r → mine_of s ≡ mine_of r → TakesAnswer p s xid done
   takes_after p q r s xid done a keeps b seen mine k call asked o =
       let t = b k call (asked_on (seen_by p) (seen_by q) xid k call a.seen asked) (keeps k o) in
-      record { own = t.own; adds = adds_same p r s (entries.Done xid done.outcome k ∷ []) (adds_both p q r [] (entries.Done xid done.outcome k ∷ []) a t.adds) seen mine; keeps = others_after p q r s k keeps t.keeps seen mine }
+      record { own = t.own; adds = adds_same p r s (entries.Done xid done.outcome k ∷ []) (adds_both p q r [] (entries.Done xid done.outcome k ∷ []) a t.adds) seen mine; keeps = others_after p q r s k keeps t.keeps seen mine; before = t.before; seen = seen ∙ t.seen; buffers = t.buffers }
 
   pub forgets_after : (p q r s : Pass (Line O) Entry) (xid : ℕ) → Adds p q [] → KeepsOpen p q → ForgetsCall q r xid → seen_by s ≡ seen_by r → mine_of s ≡ mine_of r → ForgetsCall p s xid
   forgets_after p q r s xid a keeps b seen mine k call asked o =

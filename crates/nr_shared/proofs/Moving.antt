@@ -29,6 +29,7 @@ use Rattle.nr_shared.specs.declared.entry.Handing.{Handing}
 use Rattle.nr_shared.specs.Marks.{IsLive, IsOut}
 use Rattle.nr_reduce.specs.declared.mark.Mark.{Mark}
 use Rattle.nr_reduce.specs.declared.mark.LinkParameters.{LinkParameters}
+use Rattle.nr_shared.proofs.Output.{output_same}
 use Rattle.nr_shared.proofs.Steps.{follows_on, false_true}
 
 drained_ended : (r s : RequesterSide) (n : ℕ) → s ≡ after_drain n r → s.state.side.ended ≡ r.state.side.ended
@@ -138,6 +139,7 @@ module _ {O : Type 0} (taken : O → Option (List ℕ)) (faults : O → ℕ) whe
         stopped = d.stopped ∙ (st.stopped ∙ sym (stop_same h e refl));
         in_order = chained_end closes_of is_feeding 0 None h e st.in_order (λ is. absurd (false_true is));
         placed = placed_end h e c st.is_handed refl st.placed;
+        output = output_same h e refl st.output;
         due = λ is. drained_all m.requester m'.requester n d.after all;
         within = subst (λ b. IsWithin m'.requester m'.due b m'.stopped (h ++ e ∷ [])) (sym cut)
             (subst (λ b. IsWithin m'.requester b false m'.stopped (h ++ e ∷ [])) (sym due)
@@ -171,6 +173,7 @@ module _ {O : Type 0} (taken : O → Option (List ℕ)) (faults : O → ℕ) whe
         stopped = d.stopped ∙ (st.stopped ∙ (sym (stop_same h e refl) ∙ sym (stop_same l f refl)));
         in_order = chained_end closes_of is_feeding 0 None l f (chained_end closes_of is_feeding 0 None h e st.in_order (λ is. absurd (false_true is))) (λ is. absurd (false_true is));
         placed = placed_end l f c handed_l refl (placed_end h e c st.is_handed refl st.placed);
+        output = output_same l f refl (output_same h e refl st.output);
         due = λ is. absurd (false_true (sym is ∙ due));
         within = subst (λ b. IsWithin m'.requester m'.due b m'.stopped (l ++ f ∷ [])) (sym cut)
             (subst (λ b. IsWithin m'.requester b true m'.stopped (l ++ f ∷ [])) (sym due)

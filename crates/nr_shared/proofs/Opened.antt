@@ -34,6 +34,8 @@ use Rattle.nr_shared.proofs.Calls.{calls_kept}
 use Rattle.nr_shared.proofs.Chains.{chained_end, last_end, last_none, unchained}
 use Rattle.nr_shared.proofs.Lists.{all_map, at_below, at_end, in_places, place_in, places_len}
 use Rattle.nr_shared.proofs.Moving.{follows_same}
+use Rattle.nr_shared.proofs.Output.{no_piece, output_none, output_same}
+use Rattle.nr_shared.specs.Output.{is_piece}
 use Rattle.nr_shared.proofs.Steps.{false_true}
 
 -- ---- The marks before the handing in
@@ -133,6 +135,7 @@ module _ {O : Type 0} (taken : O → Option (List ℕ)) (faults : O → ℕ) whe
         stopped = going ∙ sym (stop_new es c all);
         in_order = chained_end closes_of is_feeding 0 None es e (unchained closes_of is_feeding 0 None es quiet) (λ is. sym (last_none is_feeding 0 None es quiet));
         placed = subst (λ (l : List Entry). AllByRecursion (λ (x : Entry). has_place x ≡ true) l) (sym (since_new es c all)) tt;
+        output = output_same es e refl (output_none es (all_map IsEarly (λ (x : Entry). is_piece x ≡ false) es (λ x y. no_piece x y.feeding) all));
         due = λ is. absurd (false_true (sym is ∙ due));
         within = record {
           asked = places m.requester.state.next_xid;

@@ -23,6 +23,7 @@ use Rattle.nr_shared.specs.Callers.{IsAsked, IsCaller, KeepsOpen, Writes}
 use Rattle.nr_shared.specs.Draining.{AreWrites}
 use Rattle.nr_shared.specs.Ending.{IsCause, LinkEnded}
 use Rattle.nr_shared.specs.Histories.{closes_of}
+use Rattle.nr_shared.specs.Output.{HasWrittenDue}
 use Rattle.nr_shared.specs.Waiting.{Attempts, Calls, GivesUp, LacksCredit, NoAnswer, OwnAnswer, Sends, SendsNone, Submits, TakesAnswer, Waits}
 use Rattle.nr_shared.proofs.Adding.{adds_both, adds_none, adds_same}
 use Rattle.nr_shared.proofs.Alone.{open_writes}
@@ -59,8 +60,8 @@ link_cause calls.Memory call form h is = absurd is
 module _ {O : Type 0} where
   -- A call is submitted in a turn: bytes are written, the Submit is added, and bytes are written.
   pub sends : (p q r s : Pass (Line O) Entry) (call : Call) (form : Form) (xid : ℕ) → Writes p q → Adds q r (entries.Submit call form xid ∷ []) → seen_by r ≡ seen_by q ++ entries.Submit call form xid ∷ [] → KeepsOpen q r
-      → IsOpen closes_of (seen_by r) (mine_of r) (length (seen_by q)) → Writes r s → Sends p s call form xid
-  sends p q r s call form xid one adds seen keeps opened two =
+      → IsOpen closes_of (seen_by r) (mine_of r) (length (seen_by q)) → Writes r s → HasWrittenDue (seen_by s) → Sends p s call form xid
+  sends p q r s call form xid one adds seen keeps opened two due =
       let e : Entry = entries.Submit call form xid in
       let n = length (seen_by q) in
       let there : get_elem? (seen_by r) n ≡ some e = subst (λ (l : List Entry). get_elem? l n ≡ some e) (sym seen) (at_last (seen_by q) e n refl) in
@@ -75,13 +76,14 @@ module _ {O : Type 0} where
         stands = subst (λ (l : List Entry). get_elem? l n ≡ some e) (sym two.seen) (at_longer (seen_by r) two.es n e there);
         new = (let l = ap length one.seen ∙ length-append (seen_by p) one.es in omega (arith, l));
         opened = open_writes r s n two opened;
+        written = due;
       }
 
   -- a turn in which the call is submitted: what keeps calls from being submitted is looked for between
   pub attempt_sends : (p q r u s : Pass (Line O) Entry) (call : Call) (form : Form) (xid : ℕ) → Writes p q → seen_by r ≡ seen_by q → mine_of r ≡ mine_of q → Adds r u (entries.Submit call form xid ∷ []) → seen_by u ≡ seen_by r ++ entries.Submit call form xid ∷ [] → KeepsOpen r u
-      → IsOpen closes_of (seen_by u) (mine_of u) (length (seen_by r)) → Writes u s → Sends p s call form xid
-  attempt_sends p q r u s call form xid w seen mine adds longer keeps opened two =
-      sends p r u s call form xid (record { es = w.es; are = w.are; seen = seen ∙ w.seen; adds = adds_same p q r w.es w.adds seen mine }) adds longer keeps opened two
+      → IsOpen closes_of (seen_by u) (mine_of u) (length (seen_by r)) → Writes u s → HasWrittenDue (seen_by s) → Sends p s call form xid
+  attempt_sends p q r u s call form xid w seen mine adds longer keeps opened two due =
+      sends p r u s call form xid (record { es = w.es; are = w.are; seen = seen ∙ w.seen; adds = adds_same p q r w.es w.adds seen mine }) adds longer keeps opened two due
 
   -- the same told of the pass before, and after turns that added nothing
   sends_from : (p q r : Pass (Line O) Entry) (call : Call) (form : Form) (xid : ℕ) (es : List Entry) → AreWrites es → Adds p q es → KeepsOpen p q → Sends q r call form xid → Sends p r call form xid
@@ -96,6 +98,7 @@ module _ {O : Type 0} where
     stands = s.stands;
     new = (let l = ap length a.seen.1 ∙ length-append (seen_by p) a.seen.0 in let n = s.new in omega (arith, l, n));
     opened = s.opened;
+    written = s.written;
   }
 
   sends_to : (p r s : Pass (Line O) Entry) (call : Call) (form : Form) (xid : ℕ) → Sends p r call form xid → seen_by s ≡ seen_by r → mine_of s ≡ mine_of r → Sends p s call form xid
@@ -110,6 +113,7 @@ module _ {O : Type 0} where
     stands = subst (λ (l : List Entry). get_elem? l t.at ≡ some (entries.Submit call form xid)) (sym seen) t.stands;
     new = t.new;
     opened = subst (λ (l : List Entry). IsOpen closes_of l (mine_of s) t.at) (sym seen) (subst (λ (m : List ℕ). IsOpen closes_of (seen_by r) m t.at) (sym mine) t.opened);
+    written = subst HasWrittenDue (sym seen) t.written;
   }
 
   none_from : (p q r : Pass (Line O) Entry) (call : Call) (form : Form) (end : CallEnd) (es : List Entry) → AreWrites es → Adds p q es → KeepsOpen p q → SendsNone q r call form end → SendsNone p r call form end
@@ -202,6 +206,9 @@ module _ {O : Type 0} where
         own = own_on q r s.at (entries.Done xid done.outcome s.at ∷ []) t.adds s.opened.0;
         keeps = λ k o. t.keeps k (not_new p s.at k lies s.new o.0) (s.keeps k o);
         call = t.own;
+        before = t.before;
+        seen = t.seen;
+        buffers = t.buffers;
       }
 
   pub no_answer : (p q r : Pass (Line O) Entry) (call : Call) (form : Form) (xid : ℕ) (end : CallEnd) → Lies (seen_by p) (mine_of p) → Sends p q call form xid → GivesUp q r xid end → NoAnswer p r call form end

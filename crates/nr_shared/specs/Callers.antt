@@ -17,6 +17,7 @@ use Rattle.nr_shared.specs.declared.line.Line.{Line}
 use Rattle.nr_shared.specs.Histories.{FitsHistory, IsAskedAt, closes_of, handed, is_feeding, last_feeding, run_of}
 use Rattle.nr_shared.specs.Adding.{Adds}
 use Rattle.nr_shared.specs.Draining.{AreWrites}
+use Rattle.nr_shared.specs.Output.{OutputBeforeInput}
 use Rattle.nr_shared.specs.Standing.{Stands}
 
 -- The turn has the value, which stands for the history that its pass has seen. The pass's places lie in it, and an entry closes only an earlier place.
@@ -42,9 +43,11 @@ pub record IsCaller {O : Type 0} (p : Pass (Line O) Entry) : Type 0 where
   pub feeds_none : (k : ℕ) (e : Entry) → IsIn k (mine_of p) → get_elem? (seen_by p) k ≡ some e → is_feeding e ≡ false
 
 -- The marks of the history keep the law of the client's side, and the last grant; `n` is how many bytes were fed of the piece at which memory ran out.
+-- Output is written before more is fed.
 pub record KeepsLaw (history : List Entry) : Type 0 where
   pub n : ℕ
   pub law : (opened : LinkParameters) (link : ℕ) → FitsHistory history opened → AskedSoFar opened link (run_of n link history) × KeepsGrant opened link (run_of n link history)
+  pub output : OutputBeforeInput history
 
 -- A call of this xid stands at a place of the pass's own, which is open. All places of the pass lie in what it has seen.
 pub record IsAsked {O : Type 0} (p : Pass (Line O) Entry) (xid : ℕ) : Type 0 where

@@ -2,6 +2,8 @@ pub mod Chains
 pub mod Adding
 pub mod Histories
 pub mod Marks
+pub mod Output
+pub mod HandedBack
 pub mod Standing
 pub mod Callers
 pub mod Feeding

@@ -17,6 +17,7 @@ use Rattle.nr_shared.specs.declared.shared.Pass.{Pass}
 use Rattle.nr_shared.specs.Histories.{ArePlaced, FitsHanding, closes_of, handed, bytes_written, bytes_fed, has_cut, stop_of}
 use Rattle.nr_shared.specs.Standing.{Follows, FollowsIf, KeepsCalls, bytes_before, marks_before}
 use Rattle.nr_shared.specs.Feeding.{StopHolds}
+use Rattle.nr_shared.specs.Output.{OutputBeforeInput}
 
 -- a mark of the requester before it was handed in
 abbrev pub IsEarlyMark : Entry → Type 0
@@ -64,6 +65,7 @@ pub record GivesBack {I O : Type 0} (left given : I → Option (List ℕ)) (sour
   pub beside : Beside I O
   pub has_seen : seen_by p.source ≡ beside ∷ []
   pub placed : ArePlaced history
+  pub output : OutputBeforeInput history
   pub gave : HandsOut (left beside.source.value) (given beside.source.value) (left source) (given source) (bytes_fed history)
   pub source_count : source_faults beside.source.value ≤ source_faults source
   pub stop : StopHolds (stop_of history) (source_faults beside.source.value) (source_faults source) (left source) (length (bytes_fed history))

@@ -27,6 +27,11 @@ abbrev pub SaysCredit : Bool → List Entry → Type 0
 SaysCredit has history = stop_of history ≢ Some causes.Memory → (opened : LinkParameters) (link : ℕ) → FitsHistory history opened →
     has ≡ nat_lt (calls_outstanding opened link (run_of 0 link history)) (credits_granted opened link (run_of 0 link history))
 
+-- the same if memory ran out: by what was fed before, of which `n` bytes are of the piece at which it ran out
+abbrev pub SaysCreditOut : Bool → List Entry → Type 0
+SaysCreditOut has history = stop_of history ≡ Some causes.Memory → (n : ℕ) × ((opened : LinkParameters) (link : ℕ) → FitsHistory history opened →
+    has ≡ nat_lt (calls_outstanding opened link (run_of n link history)) (credits_granted opened link (run_of n link history)))
+
 module _ {I O : Type 0} where
   -- The pass is a caller's, of this shared requester, and outside of both turns. Its source stands beside this requester. What it has seen keeps
   -- the law of a client.

@@ -21,13 +21,18 @@ use Rattle.nr_shared.specs.Adding.{Adds}
 use Rattle.nr_shared.specs.Callers.{KeepsOpen, KeepsOthers}
 use Rattle.nr_shared.specs.Draining.{AreWrites}
 use Rattle.nr_shared.specs.Ending.{IsCause, LinkEnded}
+use Rattle.nr_shared.specs.HandedBack.{HavePlaced}
+use Rattle.nr_shared.specs.Output.{HasWrittenDue}
 
 module _ {O : Type 0} where
-  -- the outcome of the call that stands at this place is handed over
+  -- the outcome of the call that stands at this place is handed over, with what its regions hold by the history before
   pub record TakesAt (p q : Pass (Line O) Entry) (xid k : ℕ) (call : Call) (done : Done) : Type 0 where
     pub own : done.call ≡ call
     pub adds : Adds p q (entries.Done xid done.outcome k ∷ [])
     pub keeps : KeepsOthers k p q
+    pub before : List Entry
+    pub seen : seen_by q ≡ before ++ entries.Done xid done.outcome k ∷ []
+    pub buffers : HavePlaced xid done.buffers before
 
   -- the call that stands at this place is forgotten
   pub record ForgetsAt (p q : Pass (Line O) Entry) (xid k : ℕ) : Type 0 where
@@ -66,7 +71,7 @@ module _ {O : Type 0} where
   Waits p q xid (Ok done) = TakesAnswer p q xid done
   Waits p q xid (Err end) = GivesUp p q xid end
 
-  -- The call is submitted. Before that and after it bytes are written.
+  -- The call is submitted. Before that and after it bytes are written: all that is due.
   pub record Sends (p q : Pass (Line O) Entry) (call : Call) (form : Form) (xid : ℕ) : Type 0 where
     pub waits : List Entry
     pub are_waits : AreWrites waits
@@ -78,6 +83,7 @@ module _ {O : Type 0} where
     pub stands : get_elem? (seen_by q) at ≡ some (entries.Submit call form xid)
     pub new : length (seen_by p) ≤ at
     pub opened : IsOpen closes_of (seen_by q) (mine_of q) at
+    pub written : HasWrittenDue (seen_by q)
 
   -- the call is not submitted, since the history says so; bytes are written
   pub record SendsNone (p q : Pass (Line O) Entry) (call : Call) (form : Form) (end : CallEnd) : Type 0 where
@@ -106,6 +112,7 @@ module _ {O : Type 0} where
   Submits p q call form (Err end) = SendsNone p q call form end
 
   -- The call has its own answer: a Submit of it, and the Done that closes the Submit's place, with bytes that are written before and between.
+  -- Its buffers have what its regions hold by the history before.
   pub record OwnAnswer (p q : Pass (Line O) Entry) (asked : Call) (form : Form) (done : Done) : Type 0 where
     pub waits : List Entry
     pub are_waits : AreWrites waits
@@ -119,6 +126,9 @@ module _ {O : Type 0} where
     pub own : IsIn at (mine_of q)
     pub keeps : KeepsOpen p q
     pub call : done.call ≡ asked
+    pub before : List Entry
+    pub seen : seen_by q ≡ before ++ entries.Done xid done.outcome at ∷ []
+    pub buffers : HavePlaced xid done.buffers before
 
   -- The call was submitted and forgotten, since the link had ended so by the history before.
   pub record NoAnswer (p q : Pass (Line O) Entry) (call : Call) (form : Form) (end : CallEnd) : Type 0 where

@@ -6,7 +6,7 @@ ghost use Rattle.nr_turnstile.specs.Passes.{Rests, mine_of, seen_by};
 ghost use Rattle.nr_turnstile.specs.Rule.{Lies};
 ghost use Rattle.nr_shared.specs.Adding.{Adds};
 ghost use Rattle.nr_shared.specs.Callers.{IsAsked, KeepsLaw, KeepsOpen};
-ghost use Rattle.nr_shared.specs.Sharing.{SaysCredit, SharedRests};
+ghost use Rattle.nr_shared.specs.Sharing.{SaysCredit, SaysCreditOut, SharedRests};
 ghost use Rattle.nr_shared.specs.Waiting.{Attempts, Calls, ForgetsCall, LooksUp, Submits, Waits};
 
 use crate::call_end::CallEnd;
@@ -119,6 +119,7 @@ impl<I: Source, O: Sink> SharedRequester<I, O> {
         ensures added { Adds pass.old.main pass.new.main [] }
         ensures keeps { KeepsOpen pass.old.main pass.new.main }
         ensures credit { SaysCredit result (seen_by pass.new.main) }
+        ensures credit_out { SaysCreditOut result (seen_by pass.new.main) }
     {
         self.sees_credit(rt, &mut pass.main)
     }
@@ -166,6 +167,7 @@ impl<I: Source, O: Sink> SharedRequester<I, O> {
         ensures added { Adds main.old main.new [] }
         ensures keeps { KeepsOpen main.old main.new }
         ensures credit { SaysCredit result (seen_by main.new) }
+        ensures credit_out { SaysCreditOut result (seen_by main.new) }
     {
         let mut turn = self.main.take_turn(rt, main);
         let has = credit_at(&mut turn);

@@ -9,7 +9,7 @@ ghost use Rattle.nr_shared.specs.Callers.{IsAsked, IsReady};
 ghost use Rattle.nr_shared.specs.Ending.{LinkEnded};
 ghost use Rattle.nr_shared.specs.private.Finding.{Finds};
 ghost use Rattle.nr_shared.specs.Histories.{stop_of};
-ghost use Rattle.nr_shared.specs.Sharing.{SaysCredit};
+ghost use Rattle.nr_shared.specs.Sharing.{SaysCredit, SaysCreditOut};
 ghost use Rattle.nr_shared.specs.Waiting.{Attempts, LooksUp};
 
 use crate::call_end::CallEnd;
@@ -149,6 +149,7 @@ pub(crate) fn credit_at<O: Sink>(turn: &mut Turn<'_, Line<O>>) -> bool
     ensures seen { seen_by (pass_of turn.new) ≡ seen_by (pass_of turn.old) }
     ensures mine { mine_of (pass_of turn.new) ≡ mine_of (pass_of turn.old) }
     ensures credit { SaysCredit result (seen_by (pass_of turn.old)) }
+    ensures credit_out { SaysCreditOut result (seen_by (pass_of turn.old)) }
 {
     let line = turn.value();
     line.has_credit()

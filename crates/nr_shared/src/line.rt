@@ -64,6 +64,8 @@ impl<O: Sink> Line<O> {
     ghost use Rattle.nr_shared.specs.Standing.{Stands, Becomes, marks_before};
     ghost use Rattle.nr_shared.specs.Histories.{IsAskedAt, IsUnclosed, bytes_fed, last_feeding};
     ghost use Rattle.nr_shared.specs.Draining.{drained_entries, fed_entry};
+    ghost use Rattle.nr_shared.specs.HandedBack.{HavePlaced};
+    ghost use Rattle.nr_shared.specs.private.Emptied.{IsEmptied};
     ghost use Rattle.nr_shared.specs.declared.entry.Stop.TheVariants as causes;
     ghost use Rattle.nr_links.specs.Limits.{read_max};
     ghost use Rattle.nr_requester.specs.Buffers.{bytes_of_buffers};
@@ -140,6 +142,7 @@ impl<O: Sink> Line<O> {
         ensures drained { Becomes O.taken O.faults self.old self.new (drained_entries self.old.requester.state self.new.requester.state result) }
         ensures tickets { KeepsTickets self.old.requester.state self.new.requester.state }
         ensures stopped { self.new.stopped ≡ self.old.stopped }
+        ensures emptied { IsEmptied self.new }
     {
         if self.is_cut {
             return Drained::Nothing;
@@ -161,10 +164,11 @@ impl<O: Sink> Line<O> {
         }
     }
 
-    /// Feeds a piece that was read. Answers whether memory ran out for a frame of it.
+    /// Feeds a piece that was read, after a drain. Answers whether memory ran out for a frame of it.
     pub(crate) fn feed(&mut self, piece: &[u8]) -> bool
         requires some { 0 < length piece.now }
         requires goes { self.old.stopped ≡ None }
+        requires emptied { IsEmptied self.old }
         requires stands { (history : List Entry) × (Stands O.taken O.faults self.old history × (length (bytes_fed history) + length piece.now ≤ read_max)) }
         ensures fed { (history : List Entry) (last : ℕ) → Stands O.taken O.faults self.old history → last_feeding history ≡ Some last → length (bytes_fed history) + length piece.now ≤ read_max →
             Stands O.taken O.faults self.new (history ++ fed_entry result piece.now last ∷ []) }
@@ -209,7 +213,7 @@ impl<O: Sink> Line<O> {
         requires there { is_some (found_answer ticket self.old.requester.state) ≡ true }
         requires asked { (history : List Entry) × (k : ℕ) × (call : Call) × (Stands O.taken O.faults self.old history × (IsAskedAt history ticket k call × IsUnclosed history k)) }
         ensures taken { (history : List Entry) (k : ℕ) (call : Call) → Stands O.taken O.faults self.old history → IsAskedAt history ticket k call → IsUnclosed history k →
-            Stands O.taken O.faults self.new (history ++ entries.Done ticket result.outcome k ∷ []) × (result.call ≡ call) }
+            Stands O.taken O.faults self.new (history ++ entries.Done ticket result.outcome k ∷ []) × ((result.call ≡ call) × HavePlaced ticket result.buffers history) }
     {
         match self.requester.try_take(ticket) {
             Take::Done(done) => {

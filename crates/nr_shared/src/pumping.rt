@@ -80,7 +80,7 @@ impl<I: Source, O: Sink> SharedRequester<I, O> {
         wants
     }
 
-    // A piece is fed by the pass that feeds, and what is then due is written. Answers whether memory ran out for a frame of it.
+    // A piece is fed by the pass that feeds. What is due is written before, and what is then due after it. Answers whether memory ran out for a frame of it.
     fn feed<R: Wait>(&self, rt: &R, feeding: &mut nr_turnstile::Pass<Line<O>>, piece: &[u8]) -> bool
         requires rests { Rests self.now.main feeding.old }
         requires feeding { IsFeeding feeding.old }
@@ -95,6 +95,7 @@ impl<I: Source, O: Sink> SharedRequester<I, O> {
         ensures stop { MatchBool result (stop_of (seen_by feeding.new) ≡ Some causes.Memory) (stop_of (seen_by feeding.new) ≡ None) }
     {
         let mut turn = self.main.take_turn(rt, feeding);
+        drain_at(&mut turn);
         let out = feed_at(&mut turn, piece);
         drain_at(&mut turn);
         turn.put_back();

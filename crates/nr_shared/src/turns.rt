@@ -10,6 +10,7 @@ ghost use Rattle.nr_shared.specs.declared.line.Line.{Line};
 ghost use Rattle.nr_shared.specs.Histories.{bytes_fed, closes_of, forget_by};
 ghost use Rattle.nr_shared.specs.Ending.{HasCredit, IsRefused};
 ghost use Rattle.nr_shared.specs.private.Finding.{LeavesCredit};
+ghost use Rattle.nr_shared.specs.private.Emptied.{HasEmptied};
 ghost use Rattle.nr_shared.specs.declared.entry.Entry.TheVariants as entries;
 ghost use Rattle.nr_shared.specs.Callers.{IsAsked, IsFeeding, IsReady, KeepsOpen, KeepsOthers};
 ghost use Rattle.nr_shared.specs.Adding.{Adds};
@@ -102,6 +103,7 @@ pub(crate) fn drain_at<O: Sink>(turn: &mut Turn<'_, Line<O>>)
     ensures same { IsSameTurn turn.old turn.new }
     ensures ready { IsReady O.taken O.faults turn.new }
     ensures wrote { Writes (pass_of turn.old) (pass_of turn.new) }
+    ensures emptied { HasEmptied turn.new }
 {
     let line = turn.value();
     let before = Snapshot::of(&line.requester);
@@ -133,11 +135,12 @@ pub(crate) fn revoke_at<O: Sink>(turn: &mut Turn<'_, Line<O>>, ticket: Ticket) -
     given
 }
 
-/// Feeds a piece that was read. Answers whether memory ran out for a frame of it.
+/// Feeds a piece that was read, after a drain. Answers whether memory ran out for a frame of it.
 pub(crate) fn feed_at<O: Sink>(turn: &mut Turn<'_, Line<O>>, piece: &[u8]) -> bool
     requires ready { IsReady O.taken O.faults turn.old }
     requires feeding { IsFeeding (pass_of turn.old) }
     requires goes { (y : Line O) → Has turn.old y → y.stopped ≡ None }
+    requires emptied { HasEmptied turn.old }
     requires some { 0 < length piece.now }
     requires room { length (bytes_fed (seen_by (pass_of turn.old))) + length piece.now ≤ read_max }
     ensures same { IsSameTurn turn.old turn.new }

@@ -7,6 +7,7 @@ use Rattle.nr_shared.specs.declared.entry.Entry.TheVariants as entries
 use Rattle.nr_shared.specs.declared.line.Line.{Line}
 use Rattle.nr_shared.specs.Callers.{IsReady}
 use Rattle.nr_shared.specs.Ending.{IsCause, IsRefused}
+use Rattle.nr_shared.proofs.Output.{turn_written}
 use Rattle.nr_shared.proofs.Submitting.{attempt_sends, lacks, link_cause, refused_none, sends_none}
 use Rattle.nr_shared.proofs.finding.attempt_at.Goals as goal
 
@@ -27,6 +28,7 @@ returns-in-Ok-clause-attempted g c = let p = pass_of c.args.turn.now in let q = 
     let a = c.in-Ok.ensures.accepted in
     attempt_sends p q r (pass_of c.submit_at.new.turn) (pass_of c.drain_at-in-Ok.new.turn) c.args.call c.args.form c.in-Ok.ticket c.drain_at.ensures.wrote c.obstacle_at.ensures.seen c.obstacle_at.ensures.mine
     a.0 c.in-Ok.ensures.seen c.in-Ok.ensures.keeps c.in-Ok.ensures.opened c.drain_at-in-Ok.ensures.wrote
+    (turn_written g.O.Sink.taken g.O.Sink.faults c.drain_at-in-Ok.new.turn c.drain_at-in-Ok.ensures.ready c.drain_at-in-Ok.ensures.emptied)
 
 pub returns-in-Err-clause-attempted : goal.returns-in-Err-clause-attempted
 returns-in-Err-clause-attempted g c = let p = pass_of c.args.turn.now in let q = pass_of c.drain_at.new.turn in let r = pass_of c.obstacle_at.new.turn in let u = pass_of c.submit_at.new.turn in

@@ -4,8 +4,8 @@ use Rattle.nr_turnstile.specs.Turns.{pass_of}
 use Rattle.nr_turnstile.proofs.Held.{same_value, written}
 use Rattle.nr_shared.specs.declared.line.Line.{Line}
 use Rattle.nr_shared.specs.Standing.{Stands}
-use Rattle.nr_shared.specs.Sharing.{SaysCredit}
-use Rattle.nr_shared.proofs.Ends.{says_credit}
+use Rattle.nr_shared.specs.Sharing.{SaysCredit, SaysCreditOut}
+use Rattle.nr_shared.proofs.Ends.{says_credit, says_credit_out}
 use Rattle.nr_shared.proofs.finding.credit_at.Goals as goal
 
 pub returns-clause-ready : goal.returns-clause-ready
@@ -24,3 +24,9 @@ returns-clause-credit g c =
     let r = c.requires.ready in let f = c.value-line.result.now in let seen = seen_by (pass_of c.args.turn.now) in
     let st : Stands g.O.Sink.taken g.O.Sink.faults f seen = subst (λ (z : Line g.row.O.Denot). Stands g.O.Sink.taken g.O.Sink.faults z seen) (same_value _ r.value f r.has.1 c.value-line.ensures.value) r.stands in
     subst (λ b. SaysCredit b seen) (sym c.has_credit.ensures) (says_credit g.O.Sink.taken g.O.Sink.faults f seen st)
+
+pub returns-clause-credit_out : goal.returns-clause-credit_out
+returns-clause-credit_out g c =
+    let r = c.requires.ready in let f = c.value-line.result.now in let seen = seen_by (pass_of c.args.turn.now) in
+    let st : Stands g.O.Sink.taken g.O.Sink.faults f seen = subst (λ (z : Line g.row.O.Denot). Stands g.O.Sink.taken g.O.Sink.faults z seen) (same_value _ r.value f r.has.1 c.value-line.ensures.value) r.stands in
+    subst (λ b. SaysCreditOut b seen) (sym c.has_credit.ensures) (says_credit_out g.O.Sink.taken g.O.Sink.faults f seen st)

@@ -7,7 +7,7 @@ use Rattle.nr_shared.specs.declared.line.Line.{Line}
 use Rattle.nr_shared.specs.Histories.{closes_of}
 use Rattle.nr_shared.specs.Standing.{Stands}
 use Rattle.nr_shared.specs.Adding.{Adds}
-use Rattle.nr_shared.specs.Sharing.{SaysCredit}
+use Rattle.nr_shared.specs.Sharing.{SaysCredit, SaysCreditOut}
 use Rattle.nr_shared.specs.Callers.{KeepsLaw, KeepsOpen}
 use Rattle.nr_shared.proofs.Adding.{adds_same, got}
 use Rattle.nr_shared.proofs.Asking.{keeps_got}
@@ -34,3 +34,8 @@ pub returns-clause-law : goal.returns-clause-law
 returns-clause-law g c =
     subst (λ (z : Pass (Line g.row.O.Denot) Entry). KeepsLaw (seen_by z)) (sym (c.main-1.given.1 (sym (c.credit_at-has.ensures.same.1 ∙ c.take_turn-turn.ensures.borrow))))
     (law_put_back g.O.Sink.taken g.O.Sink.faults c.credit_at-has.new.turn c.put_back.new.self.1.0 c.credit_at-has.ensures.ready c.put_back.ensures.1)
+
+pub returns-clause-credit_out : goal.returns-clause-credit_out
+returns-clause-credit_out g c =
+    subst (λ (z : Pass (Line g.row.O.Denot) Entry). SaysCreditOut c.credit_at-has.result (seen_by z)) (sym (c.main-1.given.1 (sym (c.credit_at-has.ensures.same.1 ∙ c.take_turn-turn.ensures.borrow))))
+    (subst (λ (l : List Entry). SaysCreditOut c.credit_at-has.result l) (sym (c.put_back.ensures.1 ∙ c.credit_at-has.ensures.seen)) c.credit_at-has.ensures.credit_out)

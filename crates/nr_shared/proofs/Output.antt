@@ -1,0 +1,149 @@
+-- Output that is due is written before more is fed, and the buffers of an answer have what its regions hold.
+use Rattle.std.proofs.Common.{◌≡◌, ◌≢◌, ◌⊎◌, ℕ, Bool, true, false, List, [], ◌∷◌, ◌++◌, length, map, Option, Some, None, inl, inr, refl, sym, ap, subst, ◌∙◌, ⊎_elim, append-nil}
+use Rattle.std.specs.List.{AllByRecursion}
+use mathlib.Core.Option.{some-injective}
+use lib.ListN.{get_elem?}
+use Rattle.nr_link.specs.declared.end.End.TheVariants as ends
+use Rattle.nr_wire.specs.declared.hello.Side.TheVariants.{Initiator}
+use Rattle.nr_reduce.specs.declared.mark.LinkParameters.{LinkParameters}
+use Rattle.nr_reduce.specs.declared.mark.Mark.{Mark}
+use Rattle.nr_reduce.specs.OfferedRegions.{Region}
+use Rattle.nr_reduce.specs.OfferedMemory.{AreReceived}
+use Rattle.nr_reduce.specs.ClientState.{ClientState, client_memory_at}
+use Rattle.nr_reduce.specs.EndRules.{EndState}
+use Rattle.nr_reduce.specs.History.{bytes_received, bytes_sent}
+use Rattle.nr_reduce.specs.Run.{HasWritten, client, grants_of, placed_bytes}
+use Rattle.nr_reduce.proofs.OwnStags.{client_known}
+use Rattle.nr_requester.specs.declared.answer.AnsweredCall.{AnsweredCall}
+use Rattle.nr_requester.specs.KeptAnswers.{buffers_in, regions_of}
+use Rattle.nr_requester.specs.OpenCalls.{found_answer}
+use Rattle.nr_requester.specs.RequesterState.{RequesterSide, queue_of}
+use Rattle.nr_requester.specs.Standing.{AnswersAfter}
+use Rattle.nr_requester.proofs.AnsweredRegions.{own_of_numbered, still_placed}
+use Rattle.nr_requester.proofs.FoundAnswers.{found_own}
+use Rattle.nr_requester.proofs.OpenTickets.{answer_one}
+use Rattle.nr_turnstile.specs.declared.turn.Turn.{Turn}
+use Rattle.nr_turnstile.specs.Passes.{seen_by}
+use Rattle.nr_turnstile.specs.Turns.{pass_of}
+use Rattle.nr_shared.specs.declared.entry.Entry.{Entry}
+use Rattle.nr_shared.specs.declared.entry.Entry.TheVariants as entries
+use Rattle.nr_shared.specs.declared.line.Line.{Line}
+use Rattle.nr_shared.specs.Callers.{IsReady}
+use Rattle.nr_shared.specs.HandedBack.{HavePlaced, regions_placed}
+use Rattle.nr_shared.specs.Histories.{handed, has_cut, is_feeding, run_of, stop_of}
+use Rattle.nr_shared.specs.Marks.{IsLive, IsOut}
+use Rattle.nr_shared.specs.Output.{HasWrittenDue, OutputBeforeInput, is_piece}
+use Rattle.nr_shared.specs.private.Emptied.{HasEmptied, IsEmptied}
+use Rattle.nr_shared.specs.Standing.{FollowsIf, Stands, is_out}
+use Rattle.nr_shared.proofs.Ends.{fits_handing, out_is}
+
+true_false : true ≡ false → ⊥
+true_false e = absurd cc
+
+-- ---- One entry more
+
+abbrev after_first : {A : Type 0} → List A → List A
+after_first [] = []
+after_first (x ∷ xs) = xs
+
+first_same : {A : Type 0} (x y : A) (xs ys : List A) → x ∷ xs ≡ y ∷ ys → x ≡ y
+first_same x y xs ys is = some-injective x y (ap (λ l. get_elem? l 0) is)
+
+rest_same : {A : Type 0} (x y : A) (xs ys : List A) → x ∷ xs ≡ y ∷ ys → xs ≡ ys
+rest_same x y xs ys is = ap after_first is
+
+none_left : {A : Type 0} (bs later : List A) (e : A) → [] ≡ bs ++ e ∷ later → ⊥
+none_left [] later e is = absurd cc
+none_left (b ∷ bs) later e is = absurd cc
+
+-- an element of a list with one more is that one, or it is among those before
+split_end : {A : Type 0} (h before later : List A) (e f : A) → h ++ f ∷ [] ≡ before ++ e ∷ later → ((h ≡ before) × (f ≡ e)) ⊎ ((rest : List A) × (h ≡ before ++ e ∷ rest))
+split_end [] [] later e f is = inl (refl, first_same f e [] later is)
+split_end [] (b ∷ bs) later e f is = absurd (none_left bs later e (rest_same f b [] (bs ++ e ∷ later) is))
+split_end {A} (x ∷ xs) [] later e f is = inr (xs, ap (λ (y : A). y ∷ xs) (first_same x e (xs ++ f ∷ []) later is))
+split_end {A} (x ∷ xs) (b ∷ bs) later e f is =
+    let head : x ≡ b = first_same x b (xs ++ f ∷ []) (bs ++ e ∷ later) is in
+    ⊎_elim
+    (λ (last : (xs ≡ bs) × (f ≡ e)). inl ((λ i. head i ∷ last.0 i), last.1))
+    (λ (more : (rest : List A) × (xs ≡ bs ++ e ∷ rest)). inr (more.0, λ i. head i ∷ more.1 i))
+    (split_end xs bs later e f (rest_same x b (xs ++ f ∷ []) (bs ++ e ∷ later) is))
+
+pub output_end : (h : List Entry) (e : Entry) → (is_piece e ≡ true → HasWrittenDue h) → OutputBeforeInput h → OutputBeforeInput (h ++ e ∷ [])
+output_end h e own all before later f is piece = ⊎_elim
+    (λ (last : (h ≡ before) × (e ≡ f)). subst HasWrittenDue last.0 (own (ap is_piece last.1 ∙ piece)))
+    (λ (more : (rest : List Entry) × (h ≡ before ++ f ∷ rest)). all before more.0 f more.1 piece)
+    (split_end h before later f e is)
+
+false_true : false ≡ true → ⊥
+false_true e = absurd cc
+
+-- an entry that is no piece
+pub output_same : (h : List Entry) (e : Entry) → is_piece e ≡ false → OutputBeforeInput h → OutputBeforeInput (h ++ e ∷ [])
+output_same h e none all = output_end h e (λ is. absurd (false_true (sym none ∙ is))) all
+
+pub no_piece : (e : Entry) → is_feeding e ≡ false → is_piece e ≡ false
+no_piece (entries.Handed handing) none = refl
+no_piece (entries.Submit call form xid) none = refl
+no_piece (entries.Wrote bytes) none = refl
+no_piece (entries.Fed bytes before) none = none
+no_piece (entries.Done xid outcome asked) none = refl
+no_piece (entries.Lost xid asked) none = refl
+no_piece (entries.Forget xid asked) none = refl
+no_piece (entries.Revoke xid bytes asked) none = refl
+no_piece entries.Cut none = refl
+no_piece (entries.Stopped cause before) none = refl
+no_piece (entries.Out piece before) none = absurd (true_false none)
+
+-- before anything was fed
+at_middle : (before later : List Entry) (e : Entry) → AllByRecursion (λ (x : Entry). is_piece x ≡ false) (before ++ e ∷ later) → is_piece e ≡ false
+at_middle [] later e all = all.0
+at_middle (b ∷ bs) later e all = at_middle bs later e all.1
+
+pub output_none : (h : List Entry) → AllByRecursion (λ (x : Entry). is_piece x ≡ false) h → OutputBeforeInput h
+output_none h all before later e is piece = absurd (true_false (sym piece ∙ at_middle before later e (subst (λ (l : List Entry). AllByRecursion (λ (x : Entry). is_piece x ≡ false) l) is all)))
+
+-- ---- What is written
+
+written_now : (opened : LinkParameters) (link : ℕ) (run : List Mark) (r : RequesterSide) → queue_of r.state ≡ [] → IsLive opened link r run → HasWritten opened link Initiator run
+written_now opened link run r none live =
+    sym (append-nil (bytes_sent link Initiator run)) ∙ ap (λ (l : List ℕ). bytes_sent link Initiator run ++ l) (sym none) ∙ live.stands.keeps.kept.output
+
+module _ {O : Type 0} (taken : O → Option (List ℕ)) (faults : O → ℕ) where
+  pub written_due : (m : Line O) (h : List Entry) → IsEmptied m → Stands taken faults m h → HasWrittenDue h
+  written_due m h (inl cut) st whole going opened link fits = absurd (true_false (sym cut ∙ (st.is_cut ∙ whole)))
+  written_due m h (inr none) st whole going opened link fits = by_out (is_out m.stopped) refl where
+    by_out : (b : Bool) → is_out m.stopped ≡ b → HasWritten opened link Initiator (run_of 0 link h)
+    by_out true out = absurd (going (sym st.stopped ∙ out_is m.stopped out))
+    by_out false out =
+        let f = subst (λ b. FollowsIf b st.handing m.requester h) out st.follows in
+        written_now opened link (run_of 0 link h) m.requester (st.due none) (f.1 opened link (fits_handing h st.handing opened st.is_handed fits))
+
+  pub turn_written : (t : Turn (Line O) Entry) → IsReady taken faults t → HasEmptied t → HasWrittenDue (seen_by (pass_of t))
+  turn_written t r emptied = written_due r.value (seen_by (pass_of t)) (emptied r.value r.has) r.stands
+
+-- ---- The buffers of an answer
+
+answer_placed : (opened : LinkParameters) (link : ℕ) (r : RequesterSide) (run : List Mark) (xid count : ℕ) (a : AnsweredCall) → AnswersAfter opened link r run → AreReceived count (client opened link run).state.accesses_received
+    → found_answer xid r.state ≡ Some a → buffers_in a.buffers ≡ regions_placed opened link run xid
+unfolding client placed_bytes grants_of
+answer_placed opened link r run xid count a k received there =
+    let s : ClientState = (client opened link run).state in
+    let place : ℕ = length (bytes_received link Initiator run) in
+    let own : a.xid ≡ xid = found_own xid r.state.answered a there in
+    still_placed s place count _ a (own_of_numbered opened.first_stag s.regions (client_known opened link run).regions) received (answer_one _ xid a r.state.answered k.holds there)
+    ∙ ap (λ (x : ℕ). map (λ (g : Region). client_memory_at s place g.stag) (regions_of x s)) own
+
+live_placed : (opened : LinkParameters) (link : ℕ) (r : RequesterSide) (run : List Mark) (xid : ℕ) (a : AnsweredCall) → IsLive opened link r run → found_answer xid r.state ≡ Some a → buffers_in a.buffers ≡ regions_placed opened link run xid
+live_placed opened link r run xid a live there = answer_placed opened link r run xid _ a live.stands.answers live.stands.keeps.kept.keeps.accesses there
+
+out_placed : (opened : LinkParameters) (link : ℕ) (r : RequesterSide) (run : List Mark) (xid : ℕ) (a : AnsweredCall) → IsOut opened link r run → found_answer xid r.state ≡ Some a → buffers_in a.buffers ≡ regions_placed opened link run xid
+out_placed opened link r run xid a out there = answer_placed opened link r run xid _ a out.stands.answers
+    (subst (λ (e : EndState ClientState). AreReceived (length (bytes_received link Initiator out.stopped)) e.state.accesses_received) (sym out.stands.same) out.stands.out.keeps.accesses) there
+
+module _ {O : Type 0} (taken : O → Option (List ℕ)) (faults : O → ℕ) where
+  -- an answer that the requester has
+  pub have_placed : (m : Line O) (h : List Entry) (xid : ℕ) (a : AnsweredCall) → found_answer xid m.requester.state ≡ Some a → Stands taken faults m h → HavePlaced xid a.buffers h
+  have_placed m h xid a there st = by_out (is_out m.stopped) st.follows where
+    by_out : (b : Bool) → FollowsIf b st.handing m.requester h → HavePlaced xid a.buffers h
+    by_out false f = record { n = 0; placed = λ opened link fits. live_placed opened link m.requester (run_of 0 link h) xid a (f.1 opened link (fits_handing h st.handing opened st.is_handed fits)) there }
+    by_out true f = record { n = f.1.0; placed = λ opened link fits. out_placed opened link m.requester (run_of f.1.0 link h) xid a (f.1.1 opened link (fits_handing h st.handing opened st.is_handed fits)) there }

@@ -1,0 +1,24 @@
+-- Output that is due is written before more of the server's stream is fed.
+use Rattle.std.specs.Prelude.{◌≡◌, ◌≢◌, ℕ, Bool, true, false, List, ◌∷◌, ◌++◌, Option, Some}
+use Rattle.nr_wire.specs.declared.hello.Side.TheVariants.{Initiator}
+use Rattle.nr_reduce.specs.declared.mark.LinkParameters.{LinkParameters}
+use Rattle.nr_reduce.specs.Run.{HasWritten}
+use Rattle.nr_shared.specs.declared.entry.Stop.TheVariants as causes
+use Rattle.nr_shared.specs.declared.entry.Entry.{Entry}
+use Rattle.nr_shared.specs.declared.entry.Entry.TheVariants as entries
+use Rattle.nr_shared.specs.Histories.{FitsHistory, has_cut, has_some, run_of, stop_of}
+
+-- All output that is due by this history is written, unless a write failed or memory ran out.
+abbrev pub HasWrittenDue : List Entry → Type 0
+HasWrittenDue history = has_cut history ≡ false → stop_of history ≢ Some causes.Memory → (opened : LinkParameters) (link : ℕ) → FitsHistory history opened →
+    HasWritten opened link Initiator (run_of 0 link history)
+
+-- a piece of the server's stream that was fed since the handing in
+abbrev pub is_piece : Entry → Bool
+is_piece (entries.Fed bytes before) = has_some before
+is_piece (entries.Out piece before) = true
+is_piece entry = false
+
+-- Each such piece was fed after all output was written that was due by then.
+abbrev pub OutputBeforeInput : List Entry → Type 0
+OutputBeforeInput history = (before later : List Entry) (e : Entry) → history ≡ before ++ e ∷ later → is_piece e ≡ true → HasWrittenDue before
