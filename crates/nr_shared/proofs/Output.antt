@@ -110,13 +110,13 @@ written_now opened link run r none live =
 
 module _ {O : Type 0} (taken : O → Option (List ℕ)) (faults : O → ℕ) where
   pub written_due : (m : Line O) (h : List Entry) → IsEmptied m → Stands taken faults m h → HasWrittenDue h
-  written_due m h (inl cut) st whole going opened link fits = absurd (true_false (sym cut ∙ (st.is_cut ∙ whole)))
-  written_due m h (inr none) st whole going opened link fits = by_out (is_out m.stopped) refl where
-    by_out : (b : Bool) → is_out m.stopped ≡ b → HasWritten opened link Initiator (run_of 0 link h)
+  written_due m h (inl cut) st whole going opened link before fits = absurd (true_false (sym cut ∙ (st.is_cut ∙ whole)))
+  written_due m h (inr none) st whole going opened link before fits = by_out (is_out m.stopped) refl where
+    by_out : (b : Bool) → is_out m.stopped ≡ b → HasWritten opened link Initiator (run_of before 0 link h)
     by_out true out = absurd (going (sym st.stopped ∙ out_is m.stopped out))
     by_out false out =
         let f = subst (λ b. FollowsIf b st.handing m.requester h) out st.follows in
-        written_now opened link (run_of 0 link h) m.requester (st.due none) (f.1 opened link (fits_handing h st.handing opened st.is_handed fits))
+        written_now opened link (run_of before 0 link h) m.requester (st.due none) (f.1 opened link before (fits_handing h st.handing opened link before st.is_handed fits))
 
   pub turn_written : (t : Turn (Line O) Entry) → IsReady taken faults t → HasEmptied t → HasWrittenDue (seen_by (pass_of t))
   turn_written t r emptied = written_due r.value (seen_by (pass_of t)) (emptied r.value r.has) r.stands
@@ -145,5 +145,5 @@ module _ {O : Type 0} (taken : O → Option (List ℕ)) (faults : O → ℕ) whe
   pub have_placed : (m : Line O) (h : List Entry) (xid : ℕ) (a : AnsweredCall) → found_answer xid m.requester.state ≡ Some a → Stands taken faults m h → HavePlaced xid a.buffers h
   have_placed m h xid a there st = by_out (is_out m.stopped) st.follows where
     by_out : (b : Bool) → FollowsIf b st.handing m.requester h → HavePlaced xid a.buffers h
-    by_out false f = record { n = 0; placed = λ opened link fits. live_placed opened link m.requester (run_of 0 link h) xid a (f.1 opened link (fits_handing h st.handing opened st.is_handed fits)) there }
-    by_out true f = record { n = f.1.0; placed = λ opened link fits. out_placed opened link m.requester (run_of f.1.0 link h) xid a (f.1.1 opened link (fits_handing h st.handing opened st.is_handed fits)) there }
+    by_out false f = record { n = 0; placed = λ opened link before fits. live_placed opened link m.requester (run_of before 0 link h) xid a (f.1 opened link before (fits_handing h st.handing opened link before st.is_handed fits)) there }
+    by_out true f = record { n = f.1.0; placed = λ opened link before fits. out_placed opened link m.requester (run_of before f.1.0 link h) xid a (f.1.1 opened link before (fits_handing h st.handing opened link before st.is_handed fits)) there }

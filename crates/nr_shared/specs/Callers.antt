@@ -4,6 +4,7 @@ use mathlib.Core.Option.{some}
 use lib.ListN.{get_elem?}
 use Rattle.nr_reduce.specs.declared.call.Call.{Call}
 use Rattle.nr_reduce.specs.declared.mark.LinkParameters.{LinkParameters}
+use Rattle.nr_reduce.specs.declared.mark.Mark.{Mark}
 use Rattle.nr_reduce.specs.Asked.{AskedSoFar}
 use Rattle.nr_reduce.specs.Credits.{KeepsGrant}
 use Rattle.nr_turnstile.specs.declared.turn.Turn.{Turn}
@@ -46,7 +47,7 @@ pub record IsCaller {O : Type 0} (p : Pass (Line O) Entry) : Type 0 where
 -- Output is written before more is fed.
 pub record KeepsLaw (history : List Entry) : Type 0 where
   pub n : ℕ
-  pub law : (opened : LinkParameters) (link : ℕ) → FitsHistory history opened → AskedSoFar opened link (run_of n link history) × KeepsGrant opened link (run_of n link history)
+  pub law : (opened : LinkParameters) (link : ℕ) (before : List Mark) → FitsHistory history opened link before → AskedSoFar opened link (run_of before n link history) × KeepsGrant opened link (run_of before n link history)
   pub output : OutputBeforeInput history
 
 -- A call of this xid stands at a place of the pass's own, which is open. All places of the pass lie in what it has seen.

@@ -17,4 +17,4 @@ regions_placed opened link run xid = map (λ r. placed_bytes opened link Initiat
 -- The buffers of a call have what its regions hold by this history; `n` is how many bytes were fed of the piece at which memory ran out.
 pub record HavePlaced (xid : ℕ) (buffers : Buffers) (history : List Entry) : Type 0 where
   pub n : ℕ
-  pub placed : (opened : LinkParameters) (link : ℕ) → FitsHistory history opened → buffers_in buffers ≡ regions_placed opened link (run_of n link history) xid
+  pub placed : (opened : LinkParameters) (link : ℕ) (before : List Mark) → FitsHistory history opened link before → buffers_in buffers ≡ regions_placed opened link (run_of before n link history) xid

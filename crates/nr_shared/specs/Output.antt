@@ -2,6 +2,7 @@
 use Rattle.std.specs.Prelude.{◌≡◌, ◌≢◌, ℕ, Bool, true, false, List, ◌∷◌, ◌++◌, Option, Some}
 use Rattle.nr_wire.specs.declared.hello.Side.TheVariants.{Initiator}
 use Rattle.nr_reduce.specs.declared.mark.LinkParameters.{LinkParameters}
+use Rattle.nr_reduce.specs.declared.mark.Mark.{Mark}
 use Rattle.nr_reduce.specs.Run.{HasWritten}
 use Rattle.nr_shared.specs.declared.entry.Stop.TheVariants as causes
 use Rattle.nr_shared.specs.declared.entry.Entry.{Entry}
@@ -10,8 +11,8 @@ use Rattle.nr_shared.specs.Histories.{FitsHistory, has_cut, has_some, run_of, st
 
 -- All output that is due by this history is written, unless a write failed or memory ran out.
 abbrev pub HasWrittenDue : List Entry → Type 0
-HasWrittenDue history = has_cut history ≡ false → stop_of history ≢ Some causes.Memory → (opened : LinkParameters) (link : ℕ) → FitsHistory history opened →
-    HasWritten opened link Initiator (run_of 0 link history)
+HasWrittenDue history = has_cut history ≡ false → stop_of history ≢ Some causes.Memory → (opened : LinkParameters) (link : ℕ) (before : List Mark) → FitsHistory history opened link before →
+    HasWritten opened link Initiator (run_of before 0 link history)
 
 -- a piece of the server's stream that was fed since the handing in
 abbrev pub is_piece : Entry → Bool

@@ -9,11 +9,11 @@ use Rattle.nr_shared.proofs.Opened.{earlier_opened, first_feeder, first_feeds, f
 use Rattle.nr_shared.proofs.Resting.{new_caller}
 use Rattle.nr_shared.proofs.shared.SharedRequester.new.Goals as goal
 
-pub new-requires-clause-stands : goal.new-requires-clause-stands
-new-requires-clause-stands g c = c.handed_in.ensures g.H.OpeningHistory.history c.requires
+pub new_or_value-requires-clause-stands : goal.new_or_value-requires-clause-stands
+new_or_value-requires-clause-stands g c = c.handed_in.ensures g.H.OpeningHistory.history c.requires
 
-pub new-requires-clause-earlier : goal.new-requires-clause-earlier
-new-requires-clause-earlier g c = earlier_opened g.O.Sink.taken g.O.Sink.faults c.args.requester c.args.sink g.H.OpeningHistory.history c.requires
+pub new_or_value-requires-clause-earlier : goal.new_or_value-requires-clause-earlier
+new_or_value-requires-clause-earlier g c = earlier_opened g.O.Sink.taken g.O.Sink.faults c.args.requester c.args.sink g.H.OpeningHistory.history c.requires
 
 pub place-requires-clause-feeds : goal.place-requires-clause-feeds
 place-requires-clause-feeds g c =
