@@ -56,7 +56,7 @@ client_ended c r h end is follows ended opened link before fits = let live = fol
 end_is : (end : End) (o : Option End) → o ≡ Some end → o ≡ Some ends.Memory → end ≡ ends.Memory
 end_is end o is memory = ap (λ (p : Option End). unwrap_or p end) (sym is ∙ memory)
 
-abbrev IsMemory : End → Type 0
+abbrev pub IsMemory : End → Type 0
 IsMemory ends.Memory = ⊤
 IsMemory end = ⊥
 
@@ -74,7 +74,7 @@ not_out o c r h P other follows next = by_out (is_out o) follows where
   by_out false f = next f
   by_out true f = absurd (other f.0)
 
-other_end : (r : RequesterSide) (end : End) → r.state.side.ended ≡ Some end → (IsMemory end → ⊥) → r.state.side.ended ≡ Some ends.Memory → ⊥
+pub other_end : (r : RequesterSide) (end : End) → r.state.side.ended ≡ Some end → (IsMemory end → ⊥) → r.state.side.ended ≡ Some ends.Memory → ⊥
 other_end r end is other memory = other (subst IsMemory (sym (end_is end r.state.side.ended is memory)) tt)
 
 module _ {O : Type 0} (taken : O → Option (List ℕ)) (faults : O → ℕ) where

@@ -13,6 +13,7 @@ pub mod Resting
 pub mod NextXid
 pub mod Pieces
 pub mod Givings
+pub mod Taking
 pub mod Alone
 pub mod Submitting
 pub mod Opened

@@ -5,6 +5,8 @@ use Rattle.nr_turnstile.specs.Rule.{Begins, IsOpen, Lies}
 use Rattle.nr_turnstile.specs.Passes.{seen_by, mine_of}
 use Rattle.nr_reduce.specs.declared.call.Call.{Call}
 use Rattle.nr_requester.specs.declared.taking.Done.{Done}
+use Rattle.nr_requester.specs.declared.taking.Take.{Take}
+use Rattle.nr_requester.specs.declared.taking.Take.TheVariants as takes
 use Rattle.nr_shared.specs.declared.call_end.CallEnd.{CallEnd}
 use Rattle.nr_shared.specs.declared.finding.Look.{Look}
 use Rattle.nr_shared.specs.declared.finding.Look.TheVariants as looks
@@ -14,10 +16,12 @@ use Rattle.nr_shared.specs.declared.line.Line.{Line}
 use Rattle.nr_shared.specs.Adding.{Adds}
 use Rattle.nr_shared.specs.Callers.{IsAsked, IsCaller, KeepsOpen, KeepsOthers}
 use Rattle.nr_shared.specs.Histories.{closes_of, IsAskedAt}
-use Rattle.nr_shared.specs.Waiting.{ForgetsAt, ForgetsCall, GivesUp, GivesUpAt, LooksUp, TakesAnswer, TakesAt}
+use Rattle.nr_shared.specs.HandedBack.{IsAwaitedStill, lost_entry}
+use Rattle.nr_shared.specs.Waiting.{ForgetsAt, ForgetsCall, GivesUp, GivesUpAt, LooksUp, LosesAt, TakesAnswer, TakesAt, TakesUp}
 use Rattle.nr_shared.proofs.Adding.{adds_both, adds_same}
 use Rattle.nr_shared.proofs.Asking.{asked_on, closes_own}
 use Rattle.nr_shared.proofs.Resting.{caller_on}
+use Rattle.nr_shared.proofs.Taking.{lost_closes, lost_quiet}
 
 module _ {O : Type 0} where
   pub asked_same : (r s : Pass (Line O) Entry) (xid : ℕ) → seen_by s ≡ seen_by r → mine_of s ≡ mine_of r → IsAsked r xid → IsAsked s xid
@@ -60,6 +64,22 @@ module _ {O : Type 0} where
         ended = t.ended;
       }
 
+  pub tries_after : (p q r s : Pass (Line O) Entry) (xid : ℕ) (take : Take) → Adds p q [] → KeepsOpen p q → TakesUp q r xid take → seen_by s ≡ seen_by r → mine_of s ≡ mine_of r → TakesUp p s xid take
+  tries_after p q r s xid (takes.Done done) a keeps b seen mine = takes_after p q r s xid done a keeps b seen mine
+  tries_after p q r s xid (takes.NotYet ticket) a keeps (is, (still, (b, kept))) seen mine =
+      (is, (subst (λ (l : List Entry). IsAwaitedStill xid l) (sym seen) still, (adds_same p r s [] (adds_both p q r [] [] a b) seen mine, λ k o. keeps_same r s seen mine k (kept k (keeps k o)))))
+  tries_after p q r s xid (takes.Failed d buffers end) a keeps b seen mine k call asked o =
+      let t = b k call (asked_on (seen_by p) (seen_by q) xid k call a.seen asked) (keeps k o) in
+      record {
+        own = t.own;
+        adds = adds_same p r s (lost_entry end xid buffers k ∷ []) (adds_both p q r [] (lost_entry end xid buffers k ∷ []) a t.adds) seen mine;
+        keeps = others_after p q r s k keeps t.keeps seen mine;
+        before = t.before;
+        seen = seen ∙ t.seen;
+        ended = t.ended;
+        lost = t.lost;
+      }
+
   pub looks_after : (p q r s : Pass (Line O) Entry) (xid : ℕ) (look : Look) → Adds p q [] → KeepsOpen p q → LooksUp q r xid look → seen_by s ≡ seen_by r → mine_of s ≡ mine_of r → LooksUp p s xid look
   looks_after p q r s xid (looks.Answered done) a keeps b seen mine = takes_after p q r s xid done a keeps b seen mine
   looks_after p q r s xid (looks.NotYet ticket) a keeps (is, (b, kept)) seen mine = (is, (adds_same p r s [] (adds_both p q r [] [] a b) seen mine, λ k o. keeps_same r s seen mine k (kept k (keeps k o))))
@@ -75,3 +95,9 @@ module _ {O : Type 0} where
 
   pub caller_forgets : (p q : Pass (Line O) Entry) (xid : ℕ) → IsCaller p → IsAsked p xid → ForgetsCall p q xid → IsCaller q
   caller_forgets p q xid c a t = caller_on p q (entries.Forget xid a.at ∷ []) c (t a.at a.call a.asked a.stays).adds ((refl, λ k is. closes_own (mine_of p) a.at a.stays.0 k is), tt)
+
+  pub caller_tries : (p q : Pass (Line O) Entry) (xid : ℕ) (take : Take) → IsCaller p → IsAsked p xid → TakesUp p q xid take → IsCaller q
+  caller_tries p q xid (takes.Done done) c a t = caller_takes p q xid done c a t
+  caller_tries p q xid (takes.NotYet ticket) c a t = caller_on p q [] c t.1.1.0 tt
+  caller_tries p q xid (takes.Failed d buffers end) c a t = caller_on p q (lost_entry end xid buffers a.at ∷ []) c (t a.at a.call a.asked a.stays).adds
+      ((lost_quiet end xid buffers a.at, λ k is. closes_own (mine_of p) a.at a.stays.0 k (sym (lost_closes end xid buffers a.at) ∙ is)), tt)

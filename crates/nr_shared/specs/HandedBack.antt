@@ -1,14 +1,20 @@
--- What the buffers of a call have that go back to its caller.
-use Rattle.std.specs.Prelude.{◌≡◌, ℕ, ◌==◌, List, map}
+-- What goes back to a caller that takes its answer, and what the buffers have.
+use Rattle.std.specs.Prelude.{◌≡◌, ◌≢◌, ℕ, ◌==◌, List, None, map, Contains}
 use Rattle.std.specs.List.{filter}
 use Rattle.nr_wire.specs.declared.hello.Side.TheVariants.{Initiator}
 use Rattle.nr_reduce.specs.declared.mark.LinkParameters.{LinkParameters}
 use Rattle.nr_reduce.specs.declared.mark.Mark.{Mark}
+use Rattle.nr_reduce.specs.Asked.{revoked_bytes}
+use Rattle.nr_reduce.specs.History.{CompletedCall}
 use Rattle.nr_reduce.specs.Run.{client, placed_bytes}
+use Rattle.nr_link.specs.declared.end.End.{End}
+use Rattle.nr_link.specs.declared.end.End.TheVariants as ends
 use Rattle.nr_requester.specs.declared.answer.Buffers.{Buffers}
+use Rattle.nr_requester.specs.Buffers.{bytes_of_buffers}
 use Rattle.nr_requester.specs.KeptAnswers.{buffers_in}
 use Rattle.nr_shared.specs.declared.entry.Entry.{Entry}
-use Rattle.nr_shared.specs.Histories.{FitsHistory, run_of}
+use Rattle.nr_shared.specs.declared.entry.Entry.TheVariants as entries
+use Rattle.nr_shared.specs.Histories.{FitsHistory, place_of, place_or_none, run_of}
 
 -- what each region of a call holds by these marks, in the order read chunk, write chunk, reply chunk
 abbrev pub regions_placed : LinkParameters → (link : ℕ) → List Mark → (xid : ℕ) → List (List ℕ)
@@ -18,3 +24,22 @@ regions_placed opened link run xid = map (λ r. placed_bytes opened link Initiat
 pub record HavePlaced (xid : ℕ) (buffers : Buffers) (history : List Entry) : Type 0 where
   pub n : ℕ
   pub placed : (opened : LinkParameters) (link : ℕ) (before : List Mark) → FitsHistory history opened link before → buffers_in buffers ≡ regions_placed opened link (run_of before n link history) xid
+
+-- The same of the buffers of a call that is lost, one after the other; and no message brought an outcome of it.
+pub record IsLostWith (xid : ℕ) (buffers : Buffers) (history : List Entry) : Type 0 where
+  pub n : ℕ
+  pub placed : (opened : LinkParameters) (link : ℕ) (before : List Mark) → FitsHistory history opened link before → bytes_of_buffers buffers ≡ revoked_bytes opened link (run_of before n link history) xid
+  pub none : (opened : LinkParameters) (link : ℕ) (before : List Mark) → FitsHistory history opened link before → (c : CompletedCall) → Contains (client opened link (run_of before n link history)).state.outcomes c → c.xid ≢ xid
+
+-- The client of the run hasn't ended, and no message brought an outcome of the call.
+abbrev pub IsAwaitedStill : (xid : ℕ) → List Entry → Type 0
+IsAwaitedStill xid history = (opened : LinkParameters) (link : ℕ) (before : List Mark) → FitsHistory history opened link before →
+    ((client opened link (run_of before 0 link history)).ended ≡ None) × ((c : CompletedCall) → Contains (client opened link (run_of before 0 link history)).state.outcomes c → c.xid ≢ xid)
+
+-- A call that stands at this place is lost; or, if memory ran out for a frame, so that the client of the run hasn't ended, its memory is revoked.
+abbrev pub lost_entry : End → (xid : ℕ) → Buffers → (asked : ℕ) → Entry
+lost_entry ends.Memory xid buffers asked = entries.Revoke xid (bytes_of_buffers buffers) asked
+lost_entry end xid buffers asked = entries.Lost xid asked
+
+abbrev pub lost_by : List Entry → End → (xid : ℕ) → Buffers → Entry
+lost_by history end xid buffers = lost_entry end xid buffers (place_or_none (place_of xid history))

@@ -15,13 +15,15 @@ use Rattle.nr_shared.specs.declared.shared.SharedRequester.{SharedRequester}
 use Rattle.nr_shared.specs.declared.shared.Pass.{Pass}
 use Rattle.nr_shared.specs.declared.shared.TrySubmit.{TrySubmit}
 use Rattle.nr_shared.specs.declared.shared.TrySubmit.TheVariants as submits
+use Rattle.nr_shared.specs.declared.shared.TryTake.{TryTake}
+use Rattle.nr_shared.specs.declared.shared.TryTake.TheVariants as tries
 use Rattle.nr_shared.specs.declared.shared.TryRevoke.{TryRevoke}
 use Rattle.nr_shared.specs.declared.shared.TryRevoke.TheVariants as revokes
 use Rattle.nr_shared.specs.Histories.{FitsHistory, run_of, stop_of}
 use Rattle.nr_shared.specs.Adding.{Adds}
 use Rattle.nr_shared.specs.Callers.{IsAsked, IsCaller, KeepsLaw, KeepsOpen, KeepsOthers}
 use Rattle.nr_shared.specs.Ending.{IsRefused}
-use Rattle.nr_shared.specs.Waiting.{AtCall}
+use Rattle.nr_shared.specs.Waiting.{AtCall, TakesUp}
 
 -- whether a credit is left, by the run of a history at which memory didn't run out
 abbrev pub SaysCredit : Bool → List Entry → Type 0
@@ -50,6 +52,11 @@ module _ {I O : Type 0} where
   TrySubmits p q call form (submits.Submitted xid) = Adds p.main q.main (entries.Submit call form xid ∷ []) × (IsAsked q.main xid × KeepsOpen p.main q.main)
   TrySubmits p q call form (submits.Refused c why) = Adds p.main q.main [] × (KeepsOpen p.main q.main × ((c ≡ call) × IsRefused why call form (seen_by q.main)))
   TrySubmits p q call form (submits.Busy c f) = Misses p.main q.main × ((c ≡ call) × (f ≡ form))
+
+  -- the same of a take
+  abbrev pub TryTakes : Pass I O → Pass I O → (xid : ℕ) → TryTake → Type 0
+  TryTakes p q xid (tries.Taken take) = TakesUp p.main q.main xid take
+  TryTakes p q xid (tries.Busy ticket) = Misses p.main q.main × (ticket ≡ xid)
 
   -- the same of a revoke: the Revoke closes the place of the call, which comes back
   abbrev pub TryRevokes : Pass I O → Pass I O → (xid : ℕ) → TryRevoke → Type 0

@@ -4,7 +4,11 @@ use mathlib.Core.Option.{some}
 use lib.ListN.{get_elem?}
 use Rattle.nr_reduce.specs.declared.call.Call.{Call}
 use Rattle.nr_reduce.specs.declared.call.Form.{Form}
+use Rattle.nr_link.specs.declared.end.End.{End}
+use Rattle.nr_requester.specs.declared.answer.Buffers.{Buffers}
 use Rattle.nr_requester.specs.declared.taking.Done.{Done}
+use Rattle.nr_requester.specs.declared.taking.Take.{Take}
+use Rattle.nr_requester.specs.declared.taking.Take.TheVariants as takes
 use Rattle.nr_turnstile.specs.declared.turnstile.Pass.{Pass}
 use Rattle.nr_turnstile.specs.Rule.{IsIn, IsOpen}
 use Rattle.nr_turnstile.specs.Passes.{mine_of, seen_by}
@@ -20,8 +24,8 @@ use Rattle.nr_shared.specs.declared.line.Line.{Line}
 use Rattle.nr_shared.specs.Adding.{Adds}
 use Rattle.nr_shared.specs.Callers.{KeepsOpen, KeepsOthers}
 use Rattle.nr_shared.specs.Draining.{AreWrites}
-use Rattle.nr_shared.specs.Ending.{IsCause, LinkEnded}
-use Rattle.nr_shared.specs.HandedBack.{HavePlaced}
+use Rattle.nr_shared.specs.Ending.{HasEnded, IsCause, LinkEnded}
+use Rattle.nr_shared.specs.HandedBack.{HavePlaced, IsAwaitedStill, IsLostWith, lost_entry}
 use Rattle.nr_shared.specs.Output.{HasWrittenDue}
 
 module _ {O : Type 0} where
@@ -59,6 +63,22 @@ module _ {O : Type 0} where
 
   abbrev pub GivesUp : Pass (Line O) Entry → Pass (Line O) Entry → ℕ → CallEnd → Type 0
   GivesUp p q xid end = AtCall p xid (λ k call. GivesUpAt p q xid k end)
+
+  -- the call that stands at this place comes back with its buffers, since the requester had ended so by the history before
+  pub record LosesAt (p q : Pass (Line O) Entry) (xid k : ℕ) (call c : Call) (buffers : Buffers) (end : End) : Type 0 where
+    pub own : c ≡ call
+    pub adds : Adds p q (lost_entry end xid buffers k ∷ [])
+    pub keeps : KeepsOthers k p q
+    pub before : List Entry
+    pub seen : seen_by q ≡ before ++ lost_entry end xid buffers k ∷ []
+    pub ended : HasEnded end before
+    pub lost : IsLostWith xid buffers before
+
+  -- What a ticket is answered: the outcome is handed over; or neither it nor an end has come, and nothing is added; or the call is lost.
+  abbrev pub TakesUp : Pass (Line O) Entry → Pass (Line O) Entry → ℕ → Take → Type 0
+  TakesUp p q xid (takes.Done done) = TakesAnswer p q xid done
+  TakesUp p q xid (takes.NotYet ticket) = (ticket ≡ xid) × (IsAwaitedStill xid (seen_by q) × (Adds p q [] × KeepsOpen p q))
+  TakesUp p q xid (takes.Failed c buffers end) = AtCall p xid (λ k call. LosesAt p q xid k call c buffers end)
 
   -- The answer is handed over; or it isn't there, and nothing is added; or none comes, and the call is forgotten.
   abbrev pub LooksUp : Pass (Line O) Entry → Pass (Line O) Entry → ℕ → Look → Type 0

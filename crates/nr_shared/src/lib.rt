@@ -26,4 +26,4 @@ pub use feeder::{Beside, Feeder};
 pub use line::Line;
 pub use notes::Noted;
 pub use opening::HandedIn;
-pub use shared::{Pass, SharedRequester, TryRevoke, TrySubmit};
+pub use shared::{Pass, SharedRequester, TryRevoke, TrySubmit, TryTake};

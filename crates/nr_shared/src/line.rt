@@ -66,6 +66,7 @@ impl<O: Sink> Line<O> {
     ghost use Rattle.nr_shared.specs.Draining.{drained_entries, fed_entry};
     ghost use Rattle.nr_shared.specs.HandedBack.{HavePlaced};
     ghost use Rattle.nr_shared.specs.private.Emptied.{IsEmptied};
+    ghost use Rattle.nr_shared.specs.private.Taking.{TakenBy};
     ghost use Rattle.nr_shared.specs.declared.entry.Stop.TheVariants as causes;
     ghost use Rattle.nr_links.specs.Limits.{read_max};
     ghost use Rattle.nr_requester.specs.Buffers.{bytes_of_buffers};
@@ -220,6 +221,25 @@ impl<O: Sink> Line<O> {
             }
             Take::NotYet(_) => unreachable!(),
             Take::Failed { .. } => unreachable!(),
+        }
+    }
+
+    /// Takes the answer of a call; or the call comes back with its buffers, if the requester has ended before.
+    pub(crate) fn try_take(&mut self, ticket: Ticket) -> Take
+        requires asked { (history : List Entry) × (k : ℕ) × (call : Call) × (Stands O.taken O.faults self.old history × (IsAskedAt history ticket k call × IsUnclosed history k)) }
+        ensures taken { (history : List Entry) (k : ℕ) (call : Call) → Stands O.taken O.faults self.old history → IsAskedAt history ticket k call → IsUnclosed history k →
+            TakenBy O.taken O.faults history ticket k call result self.new }
+    {
+        match self.requester.try_take(ticket) {
+            Take::NotYet(ticket) => Take::NotYet(ticket),
+            Take::Done(done) => {
+                self.entries += 1;
+                Take::Done(done)
+            }
+            Take::Failed { call, buffers, end } => {
+                self.entries += 1;
+                Take::Failed { call, buffers, end }
+            }
         }
     }
 

@@ -15,7 +15,7 @@ ghost use Rattle.nr_shared.specs.declared.entry.Entry.TheVariants as entries;
 ghost use Rattle.nr_shared.specs.Callers.{IsAsked, IsFeeding, IsReady, KeepsOpen, KeepsOthers};
 ghost use Rattle.nr_shared.specs.Adding.{Adds};
 ghost use Rattle.nr_shared.specs.Callers.{Writes};
-ghost use Rattle.nr_shared.specs.Waiting.{AtCall, ForgetsCall, TakesAnswer};
+ghost use Rattle.nr_shared.specs.Waiting.{AtCall, ForgetsCall, TakesAnswer, TakesUp};
 ghost use Rattle.nr_shared.specs.Draining.{fed_after, stopped_after};
 ghost use Rattle.nr_shared.specs.declared.entry.Stop.TheVariants as causes;
 ghost use Rattle.nr_requester.specs.Buffers.{bytes_of_buffers};
@@ -24,11 +24,12 @@ ghost use Rattle.nr_links.specs.Limits.{read_max};
 use crate::entry::Stop;
 use crate::line::{Drained, Line};
 use crate::notes::{
-    note_cut, note_done, note_fed, note_forget, note_revoke, note_stopped, note_submit, note_wrote,
+    note_cut, note_done, note_fed, note_forget, note_lost, note_revoke, note_stopped, note_submit,
+    note_wrote,
 };
 use nr_outside::Sink;
 use nr_reduce::{Call, Form, Refused};
-use nr_requester::{Buffers, Done, Ticket};
+use nr_requester::{Buffers, Done, Take, Ticket};
 use nr_turnstile::Turn;
 use std::marker::Brand;
 use std::snapshot::Snapshot;
@@ -80,6 +81,31 @@ pub(crate) fn take_at<O: Sink>(turn: &mut Turn<'_, Line<O>>, ticket: Ticket) -> 
     let outcome = Snapshot::of(&done.outcome);
     note_done::<O, Brand>(turn, xid, &outcome);
     done
+}
+
+/// Takes the answer of a call of the pass's own; or the call comes back with its buffers, if the requester has ended before.
+pub(crate) fn try_take_at<O: Sink>(turn: &mut Turn<'_, Line<O>>, ticket: Ticket) -> Take
+    requires ready { IsReady O.taken O.faults turn.old }
+    requires asked { IsAsked (pass_of turn.old) ticket }
+    ensures same { IsSameTurn turn.old turn.new }
+    ensures ready { IsReady O.taken O.faults turn.new }
+    ensures taken { TakesUp (pass_of turn.old) (pass_of turn.new) ticket result }
+{
+    let xid = ticket.xid();
+    let line = turn.value();
+    match line.try_take(ticket) {
+        Take::NotYet(ticket) => Take::NotYet(ticket),
+        Take::Done(done) => {
+            let outcome = Snapshot::of(&done.outcome);
+            note_done::<O, Brand>(turn, xid, &outcome);
+            Take::Done(done)
+        }
+        Take::Failed { call, buffers, end } => {
+            let held = Snapshot::of(&buffers);
+            note_lost::<O, Brand>(turn, end, xid, &held);
+            Take::Failed { call, buffers, end }
+        }
+    }
 }
 
 /// Forgets a call of the pass's own.

@@ -5,17 +5,23 @@
 mod additions;
 mod asks;
 #[cfg(test)]
+mod callers;
+#[cfg(test)]
 mod cache;
 #[cfg(test)]
 mod compare;
 mod counter;
 mod feeder;
+#[cfg(test)]
+mod held;
 mod jobs;
 mod log;
 mod open;
 mod pumping;
 #[cfg(test)]
 mod shared;
+#[cfg(test)]
+mod sharing;
 #[cfg(test)]
 mod turns;
 

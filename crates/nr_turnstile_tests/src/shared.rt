@@ -1,23 +1,20 @@
 //! Tests of `nr_shared`: NULL calls of a shared requester, over a source and a sink in memory.
 
-ghost use Rattle.nr_rpc.specs.Credential.{CanWriteCred};
 ghost use Rattle.nr_shared.specs.Callers.{IsAsked};
 ghost use Rattle.nr_shared.specs.Sharing.{SharedRests};
 
+use crate::callers::Job;
 use crate::compare::same;
-use nr_outside::{MemSink, MemSource, Source};
-use nr_reduce::{Call, Form, Outcome};
-use nr_requester::{Done, Requester, Ticket};
-use nr_rpc::Cred;
-use nr_shared::{CallEnd, HandedIn, Noted, Pass, SharedRequester, TryRevoke, TrySubmit};
-use nr_xdr::Octets;
+use crate::sharing::{Answer, Caller, Link, Shared, answer_of, append_words, good, null, share};
+use nr_outside::Source;
+use nr_reduce::Form;
+use nr_requester::{Done, Ticket};
+use nr_shared::{CallEnd, TryRevoke, TrySubmit};
 use std::alloc::Global;
 use std::process::Abort;
-use std::sync::Wait;
-
-type Shared = SharedRequester<MemSource, MemSink>;
-
-type Caller = Pass<MemSource, MemSink>;
+use std::sync::{Arc, Wait};
+use std::test::Fail;
+use std::thread::{self, Threads};
 
 /// The client's hello (RFC 5044 section 7.1), and the FPDU of a NULL call with XID 1 and 16 credits: a Send (RFC 5040 section 4.2) of an
 /// RDMA_MSG without chunks (RFC 8166 section 4.1).
@@ -26,14 +23,9 @@ static SENT: [u32; 28] = [
     0, 0, 0, 0, 1, 0, 2, 100003, 3, 0, 0, 0, 0, 0, 0,
 ];
 
-/// The server's hello, and the FPDU of the reply.
-static RECEIVED: [u32; 24] = [
-    0x4d504120, 0x49442052, 0x65702046, 0x72616d65, 0x00010000, 0x00464143, 0, 0, 1, 0, 1, 1, 16,
-    0, 0, 0, 0, 1, 1, 0, 0, 0, 0, 0,
-];
-
-/// The payload of the reply (RFC 5531 section 9).
-static REPLY: [u32; 6] = [1, 1, 0, 0, 0, 0];
+/// NFS and MOUNT.
+const NFS: u32 = 100003;
+const MOUNT: u32 = 100005;
 
 /// The calls by which a call is made.
 #[derive(Clone, Copy)]
@@ -41,16 +33,6 @@ enum Way {
     Call,
     Submit,
     TrySubmit,
-}
-
-/// What a call was answered.
-#[derive(Clone, Copy, Debug, PartialEq, Drop)]
-enum Answer {
-    Reply,
-    LinkRead,
-    LinkWrite,
-    Closed,
-    Other,
 }
 
 /// How a call is made, how many bytes come, which read and which write fail, and the answer. How many bytes the sink then has, how many the
@@ -74,67 +56,12 @@ static ROWS: [Row; 9] = [
     (Way::Call, 20, &[], &[], Answer::Closed, 112, 0, 1),
     (Way::TrySubmit, 95, &[], &[], Answer::Closed, 112, 0, 1),
     // A Send waits for the server's hello.
-    (Way::Submit, 96, &[0], &[], Answer::LinkRead, 20, 96, 1),
+    (Way::Submit, 96, &[0], &[], Answer::LinkRead, 20, 76, 1),
     (Way::Submit, 96, &[1], &[], Answer::LinkRead, 112, 76, 1),
     // The hello isn't written, so the call isn't submitted.
     (Way::Call, 96, &[], &[0], Answer::LinkWrite, 0, 20, 0),
     (Way::TrySubmit, 96, &[], &[1], Answer::LinkWrite, 20, 76, 1),
 ];
-
-/// The entry of a requester of 16 credits without marks, whose sink has no bytes.
-struct Opened;
-
-impl Noted for Opened {
-    ghost use Rattle.std.specs.Prelude.{[], Some};
-    ghost use Rattle.nr_link.specs.Agreement.{default_terms};
-    ghost use Rattle.nr_shared.specs.declared.entry.Entry.TheVariants as entries;
-
-    ghost entry = { entries.Handed (record { first_xid = 1; first_stag = 1; wished = 16; terms = default_terms; faults = 0; taken = Some [] }) };
-}
-
-/// The first bytes of some words, at most this many (RFC 4506 section 4.1).
-fn bytes(rt: &impl Abort, alloc: Global, words: &[u32], most: usize) -> Vec<u8> {
-    let mut bytes = Vec::new(alloc);
-    for word in words {
-        bytes
-            .extend_from_slice(&word.to_be_bytes())
-            .expect(rt, "memory");
-    }
-    bytes.truncate(most);
-    bytes
-}
-
-/// A NULL call of NFS version 3 without a credential.
-fn null(alloc: Global) -> Call
-    ensures { CanWriteCred result.cred }
-{
-    Call {
-        prog: 100003,
-        vers: 3,
-        proc: 0,
-        cred: Cred::None,
-        args: Octets::new(alloc),
-    }
-}
-
-/// A requester that is shared, with a caller's pass. The source gives the first bytes of what is received, at most 20 by its first read.
-fn share(
-    rt: &impl Abort,
-    alloc: Global,
-    most: usize,
-    reads: &[usize],
-    writes: &[usize],
-) -> (Shared, Caller)
-    ensures { SharedRests result.0 result.1 }
-{
-    let reads = reads.to_vec(alloc).expect(rt, "memory");
-    let writes = writes.to_vec(alloc).expect(rt, "memory");
-    let sizes = Vec::from_slice(alloc, &[20]).expect(rt, "memory");
-    let requester = Requester::open(alloc, 16).expect(rt, "memory");
-    let source = MemSource::new(bytes(rt, alloc, &RECEIVED, most), sizes, reads);
-    let sink = MemSink::new(alloc, writes);
-    SharedRequester::new::<HandedIn<Opened>>(alloc, requester, source, sink).expect(rt, "memory")
-}
 
 /// Ends the test if the sink has other bytes than the first ones of what is sent, the next read gives another number of bytes, or other calls
 /// are outstanding.
@@ -150,31 +77,12 @@ fn given_back(
     let (shared, pass) = lent;
     let (written, left, outstanding) = want;
     let (requester, mut source, sink) = shared.close(rt, pass);
-    let sent = bytes(rt, alloc, &SENT, written);
-    same(rt, row, sink.bytes() == sent.as_slice(), true);
+    let mut sent = Vec::new(alloc);
+    append_words(rt, &mut sent, &SENT);
+    sent.truncate(written);
+    same(rt, row, sink.inner.bytes() == sent.as_slice(), true);
     same(rt, row, requester.outstanding(), outstanding);
     same(rt, row, source.read(&mut [0; 128]).ok(), Some(left));
-}
-
-fn outcome(rt: &impl Abort, alloc: Global, outcome: &Outcome) -> Answer {
-    let reply = bytes(rt, alloc, &REPLY, 24);
-    match outcome {
-        Outcome::Reply(bytes) => {
-            same(rt, 0, bytes.as_slice() == reply.as_slice(), true);
-            Answer::Reply
-        }
-        _ => Answer::Other,
-    }
-}
-
-fn answer_of(rt: &impl Abort, alloc: Global, got: &Result<Done, CallEnd>) -> Answer {
-    match got {
-        Ok(done) => outcome(rt, alloc, &done.outcome),
-        Err(CallEnd::LinkRead) => Answer::LinkRead,
-        Err(CallEnd::LinkWrite) => Answer::LinkWrite,
-        Err(CallEnd::Closed) => Answer::Closed,
-        Err(_) => Answer::Other,
-    }
 }
 
 /// Submits a NULL call.
@@ -183,7 +91,7 @@ fn submit(rt: &(impl Abort + Wait), alloc: Global, shared: &Shared, pass: &mut C
     ensures rests { SharedRests shared.now pass.new }
     ensures asked { IsAsked pass.new.main result }
 {
-    match shared.submit(rt, pass, null(alloc), Form::Auto) {
+    match shared.submit(rt, pass, null(alloc, NFS), Form::Auto) {
         Ok(ticket) => ticket,
         Err(_) => panic!(rt; "not submitted"),
     }
@@ -195,7 +103,7 @@ fn try_submit(rt: &impl Abort, alloc: Global, shared: &Shared, pass: &mut Caller
     ensures rests { SharedRests shared.now pass.new }
     ensures asked { IsAsked pass.new.main result }
 {
-    match shared.try_submit(pass, null(alloc), Form::Auto) {
+    match shared.try_submit(pass, null(alloc, NFS), Form::Auto) {
         TrySubmit::Submitted(ticket) => ticket,
         _ => panic!(rt; "not submitted"),
     }
@@ -213,7 +121,7 @@ fn made(
     ensures { SharedRests shared.now pass.new }
 {
     match way {
-        Way::Call => shared.call(rt, pass, null(alloc), Form::Auto),
+        Way::Call => shared.call(rt, pass, null(alloc, NFS), Form::Auto),
         Way::Submit => {
             let ticket = submit(rt, alloc, shared, pass);
             shared.wait(rt, pass, ticket)
@@ -228,9 +136,10 @@ fn made(
 /// The call of a row.
 fn answered(rt: &(impl Abort + Wait), alloc: Global, row: usize, case: &Row) {
     let (way, most, reads, writes, want, written, left, outstanding) = *case;
-    let (shared, mut pass) = share(rt, alloc, most, reads, writes);
+    let link = Link { most, reads, writes, ..good(&[1]) };
+    let (shared, mut pass) = share(rt, alloc, &link);
     let got = made(rt, alloc, &shared, &mut pass, way);
-    same(rt, row, answer_of(rt, alloc, &got), want);
+    same(rt, row, answer_of(&got, NFS, 1), want);
     let want = (written, left, outstanding);
     given_back(rt, alloc, row, (shared, pass), want);
 }
@@ -244,19 +153,19 @@ fn calls_are_answered(rt: HostRuntime) {
 
 #[test]
 fn a_stream_that_has_ended(rt: HostRuntime) {
-    let (shared, mut first) = share(&rt, rt.alloc(), 20, &[], &[]);
+    let (shared, mut first) = share(&rt, rt.alloc(), &Link { most: 20, ..good(&[1]) });
     let mut second = shared.split(&mut first);
-    let one = shared.call(&rt, &mut first, null(rt.alloc()), Form::Auto);
-    let two = shared.call(&rt, &mut second, null(rt.alloc()), Form::Auto);
-    same(&rt, 1, answer_of(&rt, rt.alloc(), &one), Answer::Closed);
-    same(&rt, 2, answer_of(&rt, rt.alloc(), &two), Answer::Closed);
+    let one = shared.call(&rt, &mut first, null(rt.alloc(), NFS), Form::Auto);
+    let two = shared.call(&rt, &mut second, null(rt.alloc(), NFS), Form::Auto);
+    same(&rt, 1, answer_of(&one, NFS, 1), Answer::Closed);
+    same(&rt, 2, answer_of(&two, NFS, 1), Answer::Closed);
     shared.join(&mut first, second);
     given_back(&rt, rt.alloc(), 3, (shared, first), (112, 0, 1));
 }
 
 #[test]
 fn a_call_is_forgotten(rt: HostRuntime) {
-    let (shared, mut pass) = share(&rt, rt.alloc(), 96, &[], &[]);
+    let (shared, mut pass) = share(&rt, rt.alloc(), &good(&[1]));
     same(&rt, 0, shared.has_credit(&rt, &mut pass), true);
     let ticket = submit(&rt, rt.alloc(), &shared, &mut pass);
     shared.forget(&rt, &mut pass, ticket);
@@ -278,8 +187,111 @@ fn is_revoked(rt: &impl Abort, tried: &TryRevoke) {
 
 #[test]
 fn a_call_is_revoked(rt: HostRuntime) {
-    let (shared, mut pass) = share(&rt, rt.alloc(), 96, &[], &[]);
+    let (shared, mut pass) = share(&rt, rt.alloc(), &good(&[1]));
     let ticket = try_submit(&rt, rt.alloc(), &shared, &mut pass);
     is_revoked(&rt, &shared.try_revoke(&mut pass, ticket));
     given_back(&rt, rt.alloc(), 2, (shared, pass), (0, 20, 1));
+}
+
+#[test]
+fn a_revoke_beside_another_call(rt: HostRuntime) {
+    let (shared, mut first) = share(&rt, rt.alloc(), &good(&[1, 2]));
+    let mut second = shared.split(&mut first);
+    let ticket = try_submit(&rt, rt.alloc(), &shared, &mut first);
+    is_revoked(&rt, &shared.try_revoke(&mut first, ticket));
+    // It is sent once the reply to the call that was revoked has come, which is dropped.
+    let got = shared.call(&rt, &mut second, null(rt.alloc(), NFS), Form::Auto);
+    same(&rt, 2, answer_of(&got, NFS, 2), Answer::Reply);
+}
+
+/// What two callers in a thread each are answered.
+fn both<R: Abort + Threads + Wait + Copy + Send + 'static>(
+    rt: R,
+    alloc: Global,
+    shared: Shared,
+    mut pass: Caller,
+) -> Result<(Answer, Answer), Fail>
+    requires { SharedRests shared pass }
+{
+    let first = shared.split(&mut pass);
+    let second = shared.split(&mut pass);
+    let shared = Arc::new(alloc, shared)?;
+    let one = Job::new(rt, alloc, Arc::try_clone(&shared)?, first);
+    let two = Job::new(rt, alloc, Arc::try_clone(&shared)?, second);
+    let Ok(one) = thread::spawn(&rt, move || one.run(NFS)) else {
+        panic!(rt; "no thread")
+    };
+    let Ok(two) = thread::spawn(&rt, move || two.run(MOUNT)) else {
+        panic!(rt; "no thread")
+    };
+    Ok((one.join(&rt), two.join(&rt)))
+}
+
+/// After a call was answered there are 16 credits. Then the reply to the first of two calls is held until both were sent, and comes after that
+/// to the second.
+#[test]
+fn two_callers(rt: HostRuntime) -> Result<(), Fail> {
+    let link = Link { from: 2, until: 296, ..good(&[1, 3, 2]) };
+    let (shared, mut pass) = share(&rt, rt.alloc(), &link);
+    let got = shared.call(&rt, &mut pass, null(rt.alloc(), NFS), Form::Auto);
+    same(&rt, 0, answer_of(&got, NFS, 1), Answer::Reply);
+    same(&rt, 1, both(rt, rt.alloc(), shared, pass)?, (Answer::Reply, Answer::Reply));
+    Ok(())
+}
+
+/// The first word that comes, how many bytes come, which read and which write fail; the end that is reported to whom gets no reply, and how
+/// many of two callers get theirs.
+type End = (
+    u32,
+    usize,
+    &'static [usize],
+    &'static [usize],
+    Answer,
+    usize,
+);
+
+static ENDS: [End; 11] = [
+    (0x4d504120, 172, &[0], &[], Answer::LinkRead, 0),
+    (0x4d504120, 172, &[1], &[], Answer::LinkRead, 0),
+    (0x4d504120, 172, &[2], &[], Answer::LinkRead, 1),
+    (0x4d504120, 172, &[3], &[], Answer::Other, 2),
+    (0x4d504120, 172, &[], &[0], Answer::LinkWrite, 0),
+    (0x4d504120, 172, &[], &[1], Answer::LinkWrite, 0),
+    (0x4d504120, 172, &[], &[2], Answer::LinkWrite, 1),
+    (0x4d504120, 172, &[], &[3], Answer::Other, 2),
+    (0x4d504120, 95, &[], &[], Answer::Closed, 0),
+    (0x4d504120, 96, &[], &[], Answer::Closed, 1),
+    // The hello has another key.
+    (0x4d504121, 172, &[], &[], Answer::Ended, 0),
+];
+
+fn met<R: Abort + Threads + Wait + Copy + Send + 'static>(
+    rt: R,
+    alloc: Global,
+    row: usize,
+    case: &End,
+) -> Result<(), Fail> {
+    let (first, most, reads, writes, end, replies) = *case;
+    let link = Link { first, most, reads, writes, ..good(&[1, 2]) };
+    let (shared, pass) = share(&rt, alloc, &link);
+    let (one, two) = both(rt, alloc, shared, pass)?;
+    let mut got = 0;
+    for answer in [one, two] {
+        if answer == Answer::Reply {
+            got += 1;
+        } else {
+            same(&rt, row, answer, end);
+        }
+    }
+    same(&rt, row, got, replies);
+    Ok(())
+}
+
+/// Two callers meet an end of the link, and it is reported to each that gets no reply.
+#[test]
+fn ends_are_met_by_two(rt: HostRuntime) -> Result<(), Fail> {
+    for (row, case) in ENDS.iter().enumerate() {
+        met(rt, rt.alloc(), row, case)?;
+    }
+    Ok(())
 }
