@@ -47,8 +47,8 @@ earlier_first c p q f at is = ⊎_elim
     (at_end [] (entries.Handed c) f q at)
 
 not_asked : (e : Entry) (xid k : ℕ) (call : Call) → asked_of xid e ≡ None → IsAskedAt (e ∷ []) xid k call → ⊥
-not_asked e xid zero call none (f, (at, is)) = none_some call (sym none ∙ (ap (λ (x : Entry). asked_of xid x) (some-injective e f at) ∙ is))
-not_asked e xid (suc k) call none (f, (at, is)) = some-ne-none f (sym at)
+not_asked e xid zero call none (f, at, is) = none_some call (sym none ∙ (ap (λ (x : Entry). asked_of xid x) (some-injective e f at) ∙ is))
+not_asked e xid (suc k) call none (f, at, is) = some-ne-none f (sym at)
 
 -- ---- The requester
 

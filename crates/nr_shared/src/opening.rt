@@ -64,9 +64,12 @@ where
     requires placed { record { source = _source.now; pass = _pass.now } ∷ [] ≡ K.placed }
     requires feeds { FeedsFor I.left I.given I.faults (record { source = _source.now; pass = _pass.now }) feeder }
     ensures ok { IfOk result (λ t. Rests t.0 t.1 × (seen_by t.1 ≡ record { source = _source.now; pass = _pass.now } ∷ [])) }
-    ensures err { IfErr result (λ f. f ≡ feeder) }
+    ensures err { IfErr result (FeedsFor I.left I.given I.faults (record { source = _source.now; pass = _pass.now })) }
 {
-    Turnstile::new_or_value::<PlacedBy<K>>(alloc, feeder)
+    match Turnstile::new_or_value::<PlacedBy<K>>(alloc, feeder) {
+        Ok(placed) => Ok(placed),
+        Err(feeder) => Err(feeder),
+    }
 }
 
 /// Takes the requester and the sink out of their turnstile, with the pass of a caller and the one that feeds.
@@ -114,10 +117,15 @@ impl<I: Source, O: Sink> SharedRequester<I, O> {
         ensures source { IfOk result (λ t. (b : Beside I O) × ((seen_by t.1.source ≡ b ∷ []) × (b.source.value ≡ source))) }
         ensures err { IfErr result (λ back. GivesBack I.left I.given I.faults O.taken O.faults H.history [] source back.0 back.1 back.2) }
     {
+        let line = Line::handed_in(requester, sink);
         let Ok(buf) = vec![in alloc; 0u8; PIECE_MAX] else {
+            let Line {
+                requester,
+                sink,
+                ..
+            } = line;
             return Err((requester, source, sink));
         };
-        let line = Line::handed_in(requester, sink);
         let (main, mut feeding) = match Turnstile::new_or_value::<H>(alloc, line) {
             Ok(opened) => opened,
             Err(line) => {
