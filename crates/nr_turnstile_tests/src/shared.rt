@@ -8,8 +8,8 @@ use crate::compare::same;
 use crate::sharing::{Answer, Caller, Link, Shared, answer_of, append_words, good, null, share};
 use nr_outside::Source;
 use nr_reduce::Form;
-use nr_requester::{Done, Ticket};
-use nr_shared::{CallEnd, TryRevoke, TrySubmit};
+use nr_requester::{Done, Take, Ticket};
+use nr_shared::{CallEnd, TryRevoke, TrySubmit, TryTake};
 use std::alloc::Global;
 use std::process::Abort;
 use std::sync::{Arc, Wait};
@@ -174,6 +174,39 @@ fn a_call_is_forgotten(rt: HostRuntime) {
     given_back(&rt, rt.alloc(), 2, (shared, pass), (20, 20, 1));
 }
 
+/// A take that finds neither the answer nor an end.
+fn not_yet(rt: &impl Abort, shared: &Shared, pass: &mut Caller, ticket: Ticket) -> Ticket
+    requires rests { SharedRests shared.now pass.old }
+    requires asked { IsAsked pass.old.main ticket }
+    ensures rests { SharedRests shared.now pass.new }
+    ensures asked { IsAsked pass.new.main result }
+{
+    match shared.try_take(pass, ticket) {
+        TryTake::Taken(Take::NotYet(ticket)) => ticket,
+        _ => panic!(rt; "taken"),
+    }
+}
+
+fn is_done(tried: &TryTake) -> bool {
+    matches!(tried, TryTake::Taken(Take::Done(_)))
+}
+
+fn is_failed(tried: &TryTake) -> bool {
+    matches!(tried, TryTake::Taken(Take::Failed { .. }))
+}
+
+/// An answer that isn't there yet, and one that has come while another caller waited.
+#[test]
+fn answers_are_taken(rt: HostRuntime) {
+    let (shared, mut first) = share(&rt, rt.alloc(), &good(&[1, 2]));
+    let mut second = shared.split(&mut first);
+    let ticket = try_submit(&rt, rt.alloc(), &shared, &mut first);
+    let ticket = not_yet(&rt, &shared, &mut first, ticket);
+    let got = shared.call(&rt, &mut second, null(rt.alloc(), NFS), Form::Auto);
+    same(&rt, 1, answer_of(&got, NFS, 2), Answer::Reply);
+    same(&rt, 2, is_done(&shared.try_take(&mut first, ticket)), true);
+}
+
 /// Ends the test if no NULL call without buffers came back.
 fn is_revoked(rt: &impl Abort, tried: &TryRevoke) {
     match tried {
@@ -275,10 +308,10 @@ fn met<R: Abort + Threads + Wait + Copy + Send + 'static>(
     let link = Link { first, most, reads, writes, ..good(&[1, 2]) };
     let (shared, pass) = share(&rt, alloc, &link);
     let (one, two) = both(rt, alloc, shared, pass)?;
-    let mut got = 0;
+    let mut got = 0usize;
     for answer in [one, two] {
         if answer == Answer::Reply {
-            got += 1;
+            got = got.saturating_add(1);
         } else {
             same(&rt, row, answer, end);
         }
@@ -294,4 +327,16 @@ fn ends_are_met_by_two(rt: HostRuntime) -> Result<(), Fail> {
         met(rt, rt.alloc(), row, case)?;
     }
     Ok(())
+}
+
+/// The link ends by a hello with another key: a call of which no answer came comes back.
+#[test]
+fn a_call_is_lost(rt: HostRuntime) {
+    let link = Link { first: 0x4d504121, ..good(&[1]) };
+    let (shared, mut first) = share(&rt, rt.alloc(), &link);
+    let mut second = shared.split(&mut first);
+    let ticket = try_submit(&rt, rt.alloc(), &shared, &mut first);
+    let got = shared.call(&rt, &mut second, null(rt.alloc(), NFS), Form::Auto);
+    same(&rt, 0, answer_of(&got, NFS, 1), Answer::Ended);
+    same(&rt, 1, is_failed(&shared.try_take(&mut first, ticket)), true);
 }
