@@ -66,4 +66,7 @@ returns-then-there-clause-looked g c = λ k call asked o.
       own = t.own;
       adds = record { seen = t.adds.seen; places = t.adds.places; mine = t.adds.mine; rising = t.adds.rising; at = t.adds.at; new = t.adds.new };
       keeps = λ j differs oj. t.keeps j differs oj;
+      before = t.before;
+      seen = t.seen;
+      buffers = t.buffers;
     })
