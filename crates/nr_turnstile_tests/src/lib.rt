@@ -5,9 +5,9 @@
 mod additions;
 mod asks;
 #[cfg(test)]
-mod callers;
-#[cfg(test)]
 mod cache;
+#[cfg(test)]
+mod callers;
 #[cfg(test)]
 mod compare;
 mod counter;

@@ -25,6 +25,7 @@ static SENT: [u32; 28] = [
 
 /// NFS and MOUNT.
 const NFS: u32 = 100003;
+
 const MOUNT: u32 = 100005;
 
 /// The calls by which a call is made.
@@ -136,7 +137,12 @@ fn made(
 /// The call of a row.
 fn answered(rt: &(impl Abort + Wait), alloc: Global, row: usize, case: &Row) {
     let (way, most, reads, writes, want, written, left, outstanding) = *case;
-    let link = Link { most, reads, writes, ..good(&[1]) };
+    let link = Link {
+        most,
+        reads,
+        writes,
+        ..good(&[1])
+    };
     let (shared, mut pass) = share(rt, alloc, &link);
     let got = made(rt, alloc, &shared, &mut pass, way);
     same(rt, row, answer_of(&got, NFS, 1), want);
@@ -153,7 +159,14 @@ fn calls_are_answered(rt: HostRuntime) {
 
 #[test]
 fn a_stream_that_has_ended(rt: HostRuntime) {
-    let (shared, mut first) = share(&rt, rt.alloc(), &Link { most: 20, ..good(&[1]) });
+    let (shared, mut first) = share(
+        &rt,
+        rt.alloc(),
+        &Link {
+            most: 20,
+            ..good(&[1])
+        },
+    );
     let mut second = shared.split(&mut first);
     let one = shared.call(&rt, &mut first, null(rt.alloc(), NFS), Form::Auto);
     let two = shared.call(&rt, &mut second, null(rt.alloc(), NFS), Form::Auto);
@@ -264,11 +277,20 @@ fn both<R: Abort + Threads + Wait + Copy + Send + 'static>(
 /// to the second.
 #[test]
 fn two_callers(rt: HostRuntime) -> Result<(), Fail> {
-    let link = Link { from: 2, until: 296, ..good(&[1, 3, 2]) };
+    let link = Link {
+        from: 2,
+        until: 296,
+        ..good(&[1, 3, 2])
+    };
     let (shared, mut pass) = share(&rt, rt.alloc(), &link);
     let got = shared.call(&rt, &mut pass, null(rt.alloc(), NFS), Form::Auto);
     same(&rt, 0, answer_of(&got, NFS, 1), Answer::Reply);
-    same(&rt, 1, both(rt, rt.alloc(), shared, pass)?, (Answer::Reply, Answer::Reply));
+    same(
+        &rt,
+        1,
+        both(rt, rt.alloc(), shared, pass)?,
+        (Answer::Reply, Answer::Reply),
+    );
     Ok(())
 }
 
@@ -305,7 +327,13 @@ fn met<R: Abort + Threads + Wait + Copy + Send + 'static>(
     case: &End,
 ) -> Result<(), Fail> {
     let (first, most, reads, writes, end, replies) = *case;
-    let link = Link { first, most, reads, writes, ..good(&[1, 2]) };
+    let link = Link {
+        first,
+        most,
+        reads,
+        writes,
+        ..good(&[1, 2])
+    };
     let (shared, pass) = share(&rt, alloc, &link);
     let (one, two) = both(rt, alloc, shared, pass)?;
     let mut got = 0usize;
@@ -332,11 +360,19 @@ fn ends_are_met_by_two(rt: HostRuntime) -> Result<(), Fail> {
 /// The link ends by a hello with another key: a call of which no answer came comes back.
 #[test]
 fn a_call_is_lost(rt: HostRuntime) {
-    let link = Link { first: 0x4d504121, ..good(&[1]) };
+    let link = Link {
+        first: 0x4d504121,
+        ..good(&[1])
+    };
     let (shared, mut first) = share(&rt, rt.alloc(), &link);
     let mut second = shared.split(&mut first);
     let ticket = try_submit(&rt, rt.alloc(), &shared, &mut first);
     let got = shared.call(&rt, &mut second, null(rt.alloc(), NFS), Form::Auto);
     same(&rt, 0, answer_of(&got, NFS, 1), Answer::Ended);
-    same(&rt, 1, is_failed(&shared.try_take(&mut first, ticket)), true);
+    same(
+        &rt,
+        1,
+        is_failed(&shared.try_take(&mut first, ticket)),
+        true,
+    );
 }
