@@ -68,8 +68,8 @@ module _ {O : Type 0} where
   tries_after p q r s xid (takes.Done done) a keeps b seen mine = takes_after p q r s xid done a keeps b seen mine
   tries_after p q r s xid (takes.NotYet ticket) a keeps (is, (still, (b, kept))) seen mine =
       (is, (subst (λ (l : List Entry). IsAwaitedStill xid l) (sym seen) still, (adds_same p r s [] (adds_both p q r [] [] a b) seen mine, λ k o. keeps_same r s seen mine k (kept k (keeps k o)))))
-  tries_after p q r s xid (takes.Failed d buffers end) a keeps b seen mine k call asked o =
-      let t = b k call (asked_on (seen_by p) (seen_by q) xid k call a.seen asked) (keeps k o) in
+  tries_after p q r s xid (takes.Failed d buffers end) a keeps b seen mine = λ k call asked o.
+      (let t = b k call (asked_on (seen_by p) (seen_by q) xid k call a.seen asked) (keeps k o) in
       record {
         own = t.own;
         adds = adds_same p r s (lost_entry end xid buffers k ∷ []) (adds_both p q r [] (lost_entry end xid buffers k ∷ []) a t.adds) seen mine;
@@ -78,7 +78,7 @@ module _ {O : Type 0} where
         seen = seen ∙ t.seen;
         ended = t.ended;
         lost = t.lost;
-      }
+      })
 
   pub looks_after : (p q r s : Pass (Line O) Entry) (xid : ℕ) (look : Look) → Adds p q [] → KeepsOpen p q → LooksUp q r xid look → seen_by s ≡ seen_by r → mine_of s ≡ mine_of r → LooksUp p s xid look
   looks_after p q r s xid (looks.Answered done) a keeps b seen mine = takes_after p q r s xid done a keeps b seen mine
