@@ -3,7 +3,7 @@
 ghost use Rattle.nr_shared.specs.Callers.{IsAsked};
 ghost use Rattle.nr_shared.specs.Sharing.{SharedRests};
 
-use crate::callers::Job;
+use crate::callers::called;
 use crate::compare::same;
 use crate::sharing::{Answer, Caller, Link, Shared, answer_of, append_words, good, null, share};
 use nr_outside::Source;
@@ -12,8 +12,7 @@ use nr_requester::{Done, Take, Ticket};
 use nr_shared::{CallEnd, TryRevoke, TrySubmit, TryTake};
 use std::alloc::Global;
 use std::process::Abort;
-use std::sync::{Arc, Wait};
-use std::test::Fail;
+use std::sync::Wait;
 use std::thread::{self, Threads};
 
 /// The client's hello (RFC 5044 section 7.1), and the FPDU of a NULL call with XID 1 and 16 credits: a Send (RFC 5040 section 4.2) of an
@@ -251,32 +250,31 @@ fn a_revoke_beside_another_call(rt: HostRuntime) {
 }
 
 /// What two callers in a thread each are answered.
-fn both<R: Abort + Threads + Wait + Copy + Send + 'static>(
-    rt: R,
+fn both<R: Threads + Wait + Sync>(
+    rt: &R,
     alloc: Global,
-    shared: Shared,
-    mut pass: Caller,
-) -> Result<(Answer, Answer), Fail>
-    requires { SharedRests shared pass }
+    shared: &Shared,
+    pass: &mut Caller,
+) -> (Answer, Answer)
+    requires { SharedRests shared.now pass.old }
 {
-    let first = shared.split(&mut pass);
-    let second = shared.split(&mut pass);
-    let shared = Arc::new(alloc, shared)?;
-    let one = Job::new(rt, alloc, Arc::try_clone(&shared)?, first);
-    let two = Job::new(rt, alloc, Arc::try_clone(&shared)?, second);
-    let Ok(one) = thread::spawn(&rt, move || one.run(NFS)) else {
-        panic!(rt; "no thread")
-    };
-    let Ok(two) = thread::spawn(&rt, move || two.run(MOUNT)) else {
-        panic!(rt; "no thread")
-    };
-    Ok((one.join(&rt), two.join(&rt)))
+    let first = shared.split(pass);
+    let second = shared.split(pass);
+    thread::join(
+        rt,
+        move ||
+            requires { SharedRests shared.now first }
+        { called(rt, alloc, shared, first, NFS) },
+        move ||
+            requires { SharedRests shared.now second }
+        { called(rt, alloc, shared, second, MOUNT) },
+    )
 }
 
 /// After a call was answered there are 16 credits. Then the reply to the first of two calls is held until both were sent, and comes after that
 /// to the second.
 #[test]
-fn two_callers(rt: HostRuntime) -> Result<(), Fail> {
+fn two_callers(rt: HostRuntime) {
     let link = Link {
         from: 2,
         until: 296,
@@ -285,13 +283,8 @@ fn two_callers(rt: HostRuntime) -> Result<(), Fail> {
     let (shared, mut pass) = share(&rt, rt.alloc(), &link);
     let got = shared.call(&rt, &mut pass, null(rt.alloc(), NFS), Form::Auto);
     same(&rt, 0, answer_of(&got, NFS, 1), Answer::Reply);
-    same(
-        &rt,
-        1,
-        both(rt, rt.alloc(), shared, pass)?,
-        (Answer::Reply, Answer::Reply),
-    );
-    Ok(())
+    let told = both(&rt, rt.alloc(), &shared, &mut pass);
+    same(&rt, 1, told, (Answer::Reply, Answer::Reply));
 }
 
 /// The first word that comes, how many bytes come, which read and which write fail; the end that is reported to whom gets no reply, and how
@@ -320,12 +313,7 @@ static ENDS: [End; 11] = [
     (0x4d504121, 172, &[], &[], Answer::Ended, 0),
 ];
 
-fn met<R: Abort + Threads + Wait + Copy + Send + 'static>(
-    rt: R,
-    alloc: Global,
-    row: usize,
-    case: &End,
-) -> Result<(), Fail> {
+fn met<R: Abort + Threads + Wait + Sync>(rt: &R, alloc: Global, row: usize, case: &End) {
     let (first, most, reads, writes, end, replies) = *case;
     let link = Link {
         first,
@@ -334,27 +322,25 @@ fn met<R: Abort + Threads + Wait + Copy + Send + 'static>(
         writes,
         ..good(&[1, 2])
     };
-    let (shared, pass) = share(&rt, alloc, &link);
-    let (one, two) = both(rt, alloc, shared, pass)?;
+    let (shared, mut pass) = share(rt, alloc, &link);
+    let (one, two) = both(rt, alloc, &shared, &mut pass);
     let mut got = 0usize;
     for answer in [one, two] {
         if answer == Answer::Reply {
             got = got.saturating_add(1);
         } else {
-            same(&rt, row, answer, end);
+            same(rt, row, answer, end);
         }
     }
-    same(&rt, row, got, replies);
-    Ok(())
+    same(rt, row, got, replies);
 }
 
 /// Two callers meet an end of the link, and it is reported to each that gets no reply.
 #[test]
-fn ends_are_met_by_two(rt: HostRuntime) -> Result<(), Fail> {
+fn ends_are_met_by_two(rt: HostRuntime) {
     for (row, case) in ENDS.iter().enumerate() {
-        met(rt, rt.alloc(), row, case)?;
+        met(&rt, rt.alloc(), row, case);
     }
-    Ok(())
 }
 
 /// The link ends by a hello with another key: a call of which no answer came comes back.
