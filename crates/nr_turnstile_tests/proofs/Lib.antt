@@ -1,3 +1,3 @@
 mod Noted
 mod Asked
-mod Handing
+mod InitialHistory

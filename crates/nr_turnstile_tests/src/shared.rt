@@ -1,6 +1,6 @@
 //! Tests of `nr_shared`: NULL calls of a shared requester, over a source and a sink in memory.
 
-ghost use Rattle.nr_shared.specs.Callers.{IsAsked};
+ghost use Rattle.nr_shared.specs.Callers.{HasOpenCall};
 ghost use Rattle.nr_shared.specs.Sharing.{SharedRests};
 
 use crate::callers::called;
@@ -89,7 +89,7 @@ fn given_back(
 fn submit(rt: &(impl Abort + Wait), alloc: Global, shared: &Shared, pass: &mut Caller) -> Ticket
     requires { SharedRests shared.now pass.old }
     ensures rests { SharedRests shared.now pass.new }
-    ensures asked { IsAsked pass.new.main result }
+    ensures asked { HasOpenCall pass.new.main result }
 {
     match shared.submit(rt, pass, null(alloc, NFS), Form::Auto) {
         Ok(ticket) => ticket,
@@ -101,7 +101,7 @@ fn submit(rt: &(impl Abort + Wait), alloc: Global, shared: &Shared, pass: &mut C
 fn try_submit(rt: &impl Abort, alloc: Global, shared: &Shared, pass: &mut Caller) -> Ticket
     requires { SharedRests shared.now pass.old }
     ensures rests { SharedRests shared.now pass.new }
-    ensures asked { IsAsked pass.new.main result }
+    ensures asked { HasOpenCall pass.new.main result }
 {
     match shared.try_submit(pass, null(alloc, NFS), Form::Auto) {
         TrySubmit::Submitted(ticket) => ticket,
@@ -189,9 +189,9 @@ fn a_call_is_forgotten(rt: HostRuntime) {
 /// A take that finds neither the answer nor an end.
 fn not_yet(rt: &impl Abort, shared: &Shared, pass: &mut Caller, ticket: Ticket) -> Ticket
     requires rests { SharedRests shared.now pass.old }
-    requires asked { IsAsked pass.old.main ticket }
+    requires asked { HasOpenCall pass.old.main ticket }
     ensures rests { SharedRests shared.now pass.new }
-    ensures asked { IsAsked pass.new.main result }
+    ensures asked { HasOpenCall pass.new.main result }
 {
     match shared.try_take(pass, ticket) {
         TryTake::Taken(Take::NotYet(ticket)) => ticket,

@@ -2,7 +2,7 @@
 
 ghost use Rattle.std.specs.Prelude.{[], ◌∷◌};
 ghost use Rattle.nr_rpc.specs.Credential.{CanWriteCred};
-ghost use Rattle.nr_shared.specs.Opening.{HandsIn};
+ghost use Rattle.nr_shared.specs.Opening.{IsInitialHistory};
 ghost use Rattle.nr_shared.specs.Sharing.{SharedRests};
 
 use crate::held::{HeldSink, HeldSource, Peer};
@@ -10,7 +10,7 @@ use nr_outside::{MemSink, MemSource, Sink, Source};
 use nr_reduce::{Call, Outcome};
 use nr_requester::{Done, Requester};
 use nr_rpc::Cred;
-use nr_shared::{CallEnd, HandedIn, Noted, Pass, SharedRequester};
+use nr_shared::{Appended, CallEnd, InitialHistory, Pass, SharedRequester};
 use nr_xdr::Octets;
 use std::alloc::Global;
 use std::marker::Brand;
@@ -114,8 +114,8 @@ pub fn null(alloc: Global, prog: u32) -> Call
     }
 }
 
-/// Shares a requester. `K` is the entry of its handing in, for the proof.
-fn shared<K: Noted, I: Source, O: Sink>(
+/// Shares a requester. `K` is the entry of its initial state, for the proof.
+fn shared<K: Appended, I: Source, O: Sink>(
     rt: &(impl Abort + Wait),
     alloc: Global,
     requester: Requester,
@@ -125,10 +125,10 @@ fn shared<K: Noted, I: Source, O: Sink>(
 where
     I: Drop,
     O: Drop,
-    requires { HandsIn O.taken O.faults requester sink (K.entry ∷ []) }
+    requires { IsInitialHistory O.taken O.faults requester sink (K.entry ∷ []) }
     ensures { SharedRests result.0 result.1 }
 {
-    match SharedRequester::new::<HandedIn<K>, _>(rt, alloc, requester, source, sink) {
+    match SharedRequester::new::<InitialHistory<K>, _>(rt, alloc, requester, source, sink) {
         Ok(opened) => opened,
         Err(_) => panic!(rt; "memory"),
     }
