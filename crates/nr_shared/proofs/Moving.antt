@@ -63,8 +63,8 @@ within_moved r s pending pending' sink_failed sink_failed' stopped h h' n same l
     let bytes : length (bytes_fed h') ≡ length (bytes_fed h) = ap length same in
     let length_bound = w.length_bound in
     record {
-      asked = w.asked;
-      is_asked = λ x there. w.is_asked x (sym (ap is_some (keeps x)) ∙ there);
+      open_xids = w.open_xids;
+      is_open_xid = λ x there. w.is_open_xid x (sym (ap is_some (keeps x)) ∙ there);
       length_bound = omega (arith, len, bytes, pays, length_bound, next);
       xids = (let k = w.xids in omega (arith, k, next));
       bytes = (let b = w.bytes in omega (arith, b, bytes));

@@ -92,8 +92,8 @@ module _ {O : Type 0} (taken : O → Option (List ℕ)) (faults : O → ℕ) whe
         output = output_none (e ∷ []) (refl, tt);
         pending = λ is. absurd (false_true (sym is ∙ pending));
         within = (let none : length (bytes_fed (e ∷ [])) ≡ 0 = refl in record {
-          asked = places m.requester.state.next_xid;
-          is_asked = λ xid there. place_in m.requester.state.next_xid xid (below_next m.requester.state xid fresh there);
+          open_xids = places m.requester.state.next_xid;
+          is_open_xid = λ xid there. place_in m.requester.state.next_xid xid (below_next m.requester.state xid fresh there);
           length_bound = omega (arith, n, is_due, none);
           xids = small;
           bytes = omega (arith, none);

@@ -28,7 +28,7 @@ module _ {O : Type 0} where
   asked_same r s xid seen mine a = record {
     at = a.at;
     call = a.call;
-    asked = subst (λ (l : List Entry). IsCallAt l xid a.at a.call) (sym seen) a.asked;
+    is_call = subst (λ (l : List Entry). IsCallAt l xid a.at a.call) (sym seen) a.is_call;
     stays = subst (λ (l : List Entry). IsOpen closes_of l (mine_of s) a.at) (sym seen) (subst (λ (m : List ℕ). IsOpen closes_of (seen_by r) m a.at) (sym mine) a.stays);
     lies = subst (λ (l : List Entry). Lies l (mine_of s)) (sym seen) (subst (λ (m : List ℕ). Lies (seen_by r) m) (sym mine) a.lies);
   }
@@ -38,7 +38,7 @@ module _ {O : Type 0} where
 
   -- a call of the pass's own, after turns that kept its place open
   pub still_open_call : (p q : Pass (RequesterWithSink O) Entry) (xid : ℕ) → Begins (seen_by p) (seen_by q) → KeepsOpen p q → Lies (seen_by q) (mine_of q) → HasOpenCall p xid → HasOpenCall q xid
-  still_open_call p q xid begins keeps lies a = record { at = a.at; call = a.call; asked = asked_on (seen_by p) (seen_by q) xid a.at a.call begins a.asked; stays = keeps a.at a.stays; lies = lies }
+  still_open_call p q xid begins keeps lies a = record { at = a.at; call = a.call; is_call = asked_on (seen_by p) (seen_by q) xid a.at a.call begins a.is_call; stays = keeps a.at a.stays; lies = lies }
 
   others_after : (p q r s : Pass (RequesterWithSink O) Entry) (c : ℕ) → KeepsOpen p q → KeepsOthers c q r → seen_by s ≡ seen_by r → mine_of s ≡ mine_of r → KeepsOthers c p s
   others_after p q r s c a b seen mine k differs o = keeps_same r s seen mine k (b k differs (a k o))
@@ -88,16 +88,16 @@ module _ {O : Type 0} where
   -- ---- Callers
 
   pub caller_takes : (p q : Pass (RequesterWithSink O) Entry) (xid : ℕ) (done : Done) → IsCaller p → HasOpenCall p xid → TakesAnswer p q xid done → IsCaller q
-  caller_takes p q xid done c a t = caller_on p q (entries.Done xid done.outcome a.at ∷ []) c (t a.at a.call a.asked a.stays).adds ((refl, λ k is. closes_own (mine_of p) a.at a.stays.0 k is), tt)
+  caller_takes p q xid done c a t = caller_on p q (entries.Done xid done.outcome a.at ∷ []) c (t a.at a.call a.is_call a.stays).adds ((refl, λ k is. closes_own (mine_of p) a.at a.stays.0 k is), tt)
 
   pub caller_gives : (p q : Pass (RequesterWithSink O) Entry) (xid : ℕ) (end : CallEnd) → IsCaller p → HasOpenCall p xid → GivesUp p q xid end → IsCaller q
-  caller_gives p q xid end c a t = caller_on p q (entries.Forget xid a.at ∷ []) c (t a.at a.call a.asked a.stays).adds ((refl, λ k is. closes_own (mine_of p) a.at a.stays.0 k is), tt)
+  caller_gives p q xid end c a t = caller_on p q (entries.Forget xid a.at ∷ []) c (t a.at a.call a.is_call a.stays).adds ((refl, λ k is. closes_own (mine_of p) a.at a.stays.0 k is), tt)
 
   pub caller_forgets : (p q : Pass (RequesterWithSink O) Entry) (xid : ℕ) → IsCaller p → HasOpenCall p xid → ForgetsCall p q xid → IsCaller q
-  caller_forgets p q xid c a t = caller_on p q (entries.Forget xid a.at ∷ []) c (t a.at a.call a.asked a.stays).adds ((refl, λ k is. closes_own (mine_of p) a.at a.stays.0 k is), tt)
+  caller_forgets p q xid c a t = caller_on p q (entries.Forget xid a.at ∷ []) c (t a.at a.call a.is_call a.stays).adds ((refl, λ k is. closes_own (mine_of p) a.at a.stays.0 k is), tt)
 
   pub caller_tries : (p q : Pass (RequesterWithSink O) Entry) (xid : ℕ) (take : Take) → IsCaller p → HasOpenCall p xid → IsTakeTurn p q xid take → IsCaller q
   caller_tries p q xid (takes.Done done) c a t = caller_takes p q xid done c a t
   caller_tries p q xid (takes.NotYet ticket) c a t = caller_on p q [] c t.1.1.0 tt
-  caller_tries p q xid (takes.Failed d buffers end) c a t = caller_on p q (lost_entry end xid buffers a.at ∷ []) c (t a.at a.call a.asked a.stays).adds
+  caller_tries p q xid (takes.Failed d buffers end) c a t = caller_on p q (lost_entry end xid buffers a.at ∷ []) c (t a.at a.call a.is_call a.stays).adds
       ((lost_quiet end xid buffers a.at, λ k is. closes_own (mine_of p) a.at a.stays.0 k (sym (lost_closes end xid buffers a.at) ∙ is)), tt)

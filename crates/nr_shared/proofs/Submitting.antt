@@ -187,7 +187,7 @@ module _ {O : Type 0} where
 
   -- the call that was submitted is the pass's own
   pub sent_open_call : (p q : Pass (RequesterWithSink O) Entry) (call : Call) (form : Form) (xid : ℕ) → Lies (seen_by q) (mine_of q) → Sends p q call form xid → HasOpenCall q xid
-  sent_open_call p q call form xid lies s = record { at = s.at; call = call; asked = (entries.Submit call form xid, s.stands, asked_just xid call form); stays = s.opened; lies = lies }
+  sent_open_call p q call form xid lies s = record { at = s.at; call = call; is_call = (entries.Submit call form xid, s.stands, asked_just xid call form); stays = s.opened; lies = lies }
 
   pub own_answer : (p q r : Pass (RequesterWithSink O) Entry) (call : Call) (form : Form) (xid : ℕ) (done : Done) → Lies (seen_by p) (mine_of p) → Sends p q call form xid → TakesAnswer q r xid done → OwnAnswer p r call form done
   own_answer p q r call form xid done lies s takes =

@@ -54,7 +54,7 @@ pub record KeepsLaw (history : List Entry) : Type 0 where
 pub record HasOpenCall {O : Type 0} (p : Pass (RequesterWithSink O) Entry) (xid : ℕ) : Type 0 where
   pub at : ℕ
   pub call : Call
-  pub asked : IsCallAt (seen_by p) xid at call
+  pub is_call : IsCallAt (seen_by p) xid at call
   pub stays : IsOpen closes_of (seen_by p) (mine_of p) at
   pub lies : Lies (seen_by p) (mine_of p)
 

@@ -26,7 +26,7 @@ pub record IsInitialHistory {O : Type 0} (taken : O → Option (List ℕ)) (faul
   pub sink_faults : initial.faults ≡ faults sink
 
 -- What is given back, by a caller that has seen this history and has these places, stands for a history that begins so and has the places. The
--- requester follows it, and has each call whose place isn't closed. Since the initial state the sink took the bytes that it says were written, and the
+-- requester represents it, and has each call whose place isn't closed. Since the initial state the sink took the bytes that it says were written, and the
 -- source gave those that it says were fed. The fault counts, and what the source has left, are as it says why bytes don't move any more.
 pub record GivesBack {I O : Type 0} (left given : I → Option (List ℕ)) (source_faults : I → ℕ) (taken : O → Option (List ℕ)) (sink_faults : O → ℕ) (seen : List Entry) (mine : List ℕ) (first : I) (r : RequesterSide) (source : I) (sink : O) : Type 0 where
   pub history : List Entry

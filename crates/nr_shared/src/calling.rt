@@ -10,7 +10,7 @@ ghost use Rattle.nr_shared.specs.Sharing.{SaysCredit, SaysCreditOutOfMemory, Sha
 ghost use Rattle.nr_shared.specs.Waiting.{IsSubmitTurn, Calls, ForgetsCall, IsPollTurn, Submits, Waits};
 
 use crate::call_end::CallEnd;
-use crate::caller_turns::{SubmitTurn, PollTurn, submit_if_credit_under, credit_under, poll_under};
+use crate::caller_turns::{PollTurn, SubmitTurn, credit_under, poll_under, submit_if_credit_under};
 use crate::requester_with_sink::RequesterWithSink;
 use crate::shared::{Pass, SharedRequester};
 use crate::turns::forget_under;

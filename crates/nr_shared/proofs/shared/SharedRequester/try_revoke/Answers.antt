@@ -30,7 +30,7 @@ returns-clause-rests g c = let main = c.pass-2-1.given.0 in let r = c.requires.r
     let e = c.pass-2-1.given.1 (sym (c.revoke_under-call.ensures.same.1 ∙ c.in-Ok.ensures.borrow)) in
     let p = c.args.pass.now.main in let q = pass_of c.in-Ok.turn in let u = pass_of c.revoke_under-call.new.turn in let s = c.put_back.new.self.1.0 in
     let a = c.requires.has_call in
-    let b = (c.revoke_under-call.ensures.revoked a.at a.call (asked_on (seen_by p) (seen_by q) c.args.ticket a.at a.call t.3 a.asked) (keeps_got g.O.Sink.taken g.O.Sink.faults c.in-Ok.turn.turnstile.now p q r.caller.lies t a.at a.stays)).1.0 in
+    let b = (c.revoke_under-call.ensures.revoked a.at a.call (asked_on (seen_by p) (seen_by q) c.args.ticket a.at a.call t.3 a.is_call) (keeps_got g.O.Sink.taken g.O.Sink.faults c.in-Ok.turn.turnstile.now p q r.caller.lies t a.at a.stays)).1.0 in
     let es : List Entry = entries.Revoke c.args.ticket (bytes_of_buffers c.revoke_under-call.result.1) a.at ∷ [] in
     rests_on c.args.self.now c.args.pass.now (record { main = main; source = c.args.pass.now.source }) r
     (subst (λ (z : Pass (RequesterWithSink g.row.O.Denot) Entry). Rests c.args.self.now.main z) (sym e)
