@@ -76,7 +76,10 @@ pub(crate) fn append_done<O: Sink, K: Appended>(
 }
 
 /// Appends the Forget of a call.
-pub(crate) fn append_forget<O: Sink, K: Appended>(turn: &mut Turn<'_, RequesterWithSink<O>>, _xid: u32)
+pub(crate) fn append_forget<O: Sink, K: Appended>(
+    turn: &mut Turn<'_, RequesterWithSink<O>>,
+    _xid: u32,
+)
     requires entry { forget_by (seen_by (pass_of turn.old)) _xid ≡ K.entry }
     requires value { (y : RequesterWithSink O) × Has turn.old y }
     requires may { MayStep closes_of (pass_of turn.old) (forget_by (seen_by (pass_of turn.old)) _xid) }
@@ -149,7 +152,11 @@ pub(crate) fn append_lost<O: Sink, K: Appended>(
 }
 
 /// Appends the entry of a piece that is fed.
-pub(crate) fn append_fed<O: Sink, K: Appended>(turn: &mut Turn<'_, RequesterWithSink<O>>, _out_of_memory: bool, _piece: &[u8])
+pub(crate) fn append_fed<O: Sink, K: Appended>(
+    turn: &mut Turn<'_, RequesterWithSink<O>>,
+    _out_of_memory: bool,
+    _piece: &[u8],
+)
     requires entry { fed_after (seen_by (pass_of turn.old)) _out_of_memory _piece.now ≡ K.entry }
     requires value { (y : RequesterWithSink O) × Has turn.old y }
     requires may { MayStep closes_of (pass_of turn.old) (fed_after (seen_by (pass_of turn.old)) _out_of_memory _piece.now) }
@@ -161,7 +168,10 @@ pub(crate) fn append_fed<O: Sink, K: Appended>(turn: &mut Turn<'_, RequesterWith
 }
 
 /// Appends the Stopped of the end of feeding.
-pub(crate) fn append_stopped<O: Sink, K: Appended>(turn: &mut Turn<'_, RequesterWithSink<O>>, _cause: Stop)
+pub(crate) fn append_stopped<O: Sink, K: Appended>(
+    turn: &mut Turn<'_, RequesterWithSink<O>>,
+    _cause: Stop,
+)
     requires entry { stopped_after (seen_by (pass_of turn.old)) _cause ≡ K.entry }
     requires value { (y : RequesterWithSink O) × Has turn.old y }
     requires may { MayStep closes_of (pass_of turn.old) (stopped_after (seen_by (pass_of turn.old)) _cause) }

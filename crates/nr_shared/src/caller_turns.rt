@@ -54,7 +54,10 @@ pub enum CreditState {
 }
 
 /// Takes the answer of a call of the pass's own, if it is there; or forgets the call, if none comes any more.
-pub(crate) fn poll_under<O: Sink>(turn: &mut Turn<'_, RequesterWithSink<O>>, ticket: Ticket) -> PollTurn
+pub(crate) fn poll_under<O: Sink>(
+    turn: &mut Turn<'_, RequesterWithSink<O>>,
+    ticket: Ticket,
+) -> PollTurn
     requires ready { IsReady O.taken O.faults turn.old }
     requires has_call { HasOpenCall (pass_of turn.old) ticket }
     ensures same { IsSameTurn turn.old turn.new }
@@ -97,7 +100,11 @@ fn credit_state_under<O: Sink>(turn: &mut Turn<'_, RequesterWithSink<O>>) -> Cre
 }
 
 /// Writes the output that is due. Then, if a credit is left, submits a call and writes it.
-pub(crate) fn submit_if_credit_under<O: Sink>(turn: &mut Turn<'_, RequesterWithSink<O>>, call: Call, form: Form) -> SubmitTurn
+pub(crate) fn submit_if_credit_under<O: Sink>(
+    turn: &mut Turn<'_, RequesterWithSink<O>>,
+    call: Call,
+    form: Form,
+) -> SubmitTurn
     requires writable { CanWriteCred call.cred }
     requires ready { IsReady O.taken O.faults turn.old }
     ensures same { IsSameTurn turn.old turn.new }
@@ -123,7 +130,10 @@ pub(crate) fn submit_if_credit_under<O: Sink>(turn: &mut Turn<'_, RequesterWithS
 }
 
 /// Whether more of the stream is needed: nothing has ended, and the answer of the call isn't there, or no credit is left.
-pub(crate) fn needs_input_under<O: Sink>(turn: &mut Turn<'_, RequesterWithSink<O>>, ticket: Option<&Ticket>) -> bool
+pub(crate) fn needs_input_under<O: Sink>(
+    turn: &mut Turn<'_, RequesterWithSink<O>>,
+    ticket: Option<&Ticket>,
+) -> bool
     requires ready { IsReady O.taken O.faults turn.old }
     ensures same { IsSameTurn turn.old turn.new }
     ensures ready { IsReady O.taken O.faults turn.new }

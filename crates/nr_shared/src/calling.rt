@@ -146,7 +146,12 @@ impl<I: Source, O: Sink> SharedRequester<I, O> {
     }
 
     // One turn of a caller that gives a call up.
-    fn forget_turn<R: Wait>(&self, rt: &R, main: &mut nr_turnstile::Pass<RequesterWithSink<O>>, ticket: Ticket)
+    fn forget_turn<R: Wait>(
+        &self,
+        rt: &R,
+        main: &mut nr_turnstile::Pass<RequesterWithSink<O>>,
+        ticket: Ticket,
+    )
         requires rests { Rests self.now.main main.old }
         requires has_call { HasOpenCall main.old ticket }
         ensures rests { Rests self.now.main main.new }
@@ -159,7 +164,11 @@ impl<I: Source, O: Sink> SharedRequester<I, O> {
     }
 
     // One turn of a caller that asks for a credit.
-    fn credit_turn<R: Wait>(&self, rt: &R, main: &mut nr_turnstile::Pass<RequesterWithSink<O>>) -> bool
+    fn credit_turn<R: Wait>(
+        &self,
+        rt: &R,
+        main: &mut nr_turnstile::Pass<RequesterWithSink<O>>,
+    ) -> bool
         requires rests { Rests self.now.main main.old }
         requires lies { Lies (seen_by main.old) (mine_of main.old) }
         ensures rests { Rests self.now.main main.new }
@@ -176,7 +185,12 @@ impl<I: Source, O: Sink> SharedRequester<I, O> {
     }
 
     // One turn of a caller that waits.
-    fn poll_turn<R: Wait>(&self, rt: &R, main: &mut nr_turnstile::Pass<RequesterWithSink<O>>, ticket: Ticket) -> PollTurn
+    fn poll_turn<R: Wait>(
+        &self,
+        rt: &R,
+        main: &mut nr_turnstile::Pass<RequesterWithSink<O>>,
+        ticket: Ticket,
+    ) -> PollTurn
         requires rests { Rests self.now.main main.old }
         requires has_call { HasOpenCall main.old ticket }
         ensures rests { Rests self.now.main main.new }

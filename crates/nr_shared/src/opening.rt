@@ -47,7 +47,8 @@ pub struct SourceHistoryOf<K> {
     of: PhantomData<K>,
 }
 
-impl<I: Source, O: Sink, K: SourceHistory<I, O>> OpeningHistory<InitialSource<I, O>> for SourceHistoryOf<K> {
+impl<I: Source, O: Sink, K: SourceHistory<I, O>> OpeningHistory<InitialSource<I, O>>
+    for SourceHistoryOf<K> {
     ghost history = { K.source_history };
 }
 
@@ -57,7 +58,13 @@ fn share_reader<I: Source, O: Sink, K: SourceHistory<I, O>>(
     reader: SourceReader<I, O>,
     _source: &Snapshot<I>,
     _pass: &Snapshot<nr_turnstile::Pass<RequesterWithSink<O>>>,
-) -> Result<(Turnstile<SourceReader<I, O>>, nr_turnstile::Pass<SourceReader<I, O>>), SourceReader<I, O>>
+) -> Result<
+    (
+        Turnstile<SourceReader<I, O>>,
+        nr_turnstile::Pass<SourceReader<I, O>>,
+    ),
+    SourceReader<I, O>,
+>
 where
     I: Drop,
     O: Drop,

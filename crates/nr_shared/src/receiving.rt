@@ -10,11 +10,11 @@ ghost use Rattle.nr_shared.specs.Callers.{IsFeeding};
 ghost use Rattle.nr_shared.specs.Feeding.{FeedsFor};
 ghost use Rattle.nr_shared.specs.Histories.{bytes_fed, stop_of};
 
-use crate::entry::Stop;
-use crate::source_reader::SourceReader;
 use crate::caller_turns::needs_input_under;
+use crate::entry::Stop;
 use crate::requester_with_sink::RequesterWithSink;
 use crate::shared::SharedRequester;
+use crate::source_reader::SourceReader;
 use crate::turns::{drain_under, feed_under, stop_under};
 use nr_outside::{Sink, Source};
 use nr_requester::Ticket;
@@ -40,7 +40,12 @@ impl<I: Source, O: Sink> SharedRequester<I, O> {
     }
 
     // No turn is held during the read but the source's.
-    fn receive_piece<R: Wait>(&self, rt: &R, reader: &mut SourceReader<I, O>, ticket: Option<&Ticket>)
+    fn receive_piece<R: Wait>(
+        &self,
+        rt: &R,
+        reader: &mut SourceReader<I, O>,
+        ticket: Option<&Ticket>,
+    )
         requires { (b : InitialSource I O) × (FeedsFor I.left I.given I.faults b reader.old × (home_of b.pass.value ≡ id_of self.now.main)) }
         ensures { (b : InitialSource I O) → FeedsFor I.left I.given I.faults b reader.old → home_of b.pass.value ≡ id_of self.now.main → FeedsFor I.left I.given I.faults b reader.new }
     {
@@ -81,7 +86,12 @@ impl<I: Source, O: Sink> SharedRequester<I, O> {
     }
 
     // A piece is fed by the pass that feeds. Output that is due is written before it and after it. Answers whether memory ran out for a frame of it.
-    fn feed<R: Wait>(&self, rt: &R, feeding: &mut nr_turnstile::Pass<RequesterWithSink<O>>, piece: &[u8]) -> bool
+    fn feed<R: Wait>(
+        &self,
+        rt: &R,
+        feeding: &mut nr_turnstile::Pass<RequesterWithSink<O>>,
+        piece: &[u8],
+    ) -> bool
         requires rests { Rests self.now.main feeding.old }
         requires feeding { IsFeeding feeding.old }
         requires lies { Lies (seen_by feeding.old) (mine_of feeding.old) }
@@ -103,7 +113,12 @@ impl<I: Source, O: Sink> SharedRequester<I, O> {
     }
 
     // No more is fed: the pass that feeds appends that.
-    fn stop<R: Wait>(&self, rt: &R, feeding: &mut nr_turnstile::Pass<RequesterWithSink<O>>, cause: Stop)
+    fn stop<R: Wait>(
+        &self,
+        rt: &R,
+        feeding: &mut nr_turnstile::Pass<RequesterWithSink<O>>,
+        cause: Stop,
+    )
         requires rests { Rests self.now.main feeding.old }
         requires feeding { IsFeeding feeding.old }
         requires lies { Lies (seen_by feeding.old) (mine_of feeding.old) }

@@ -21,12 +21,12 @@ ghost use Rattle.nr_shared.specs.declared.entry.Stop.TheVariants as causes;
 ghost use Rattle.nr_requester.specs.Buffers.{bytes_of_buffers};
 ghost use Rattle.nr_links.specs.Limits.{read_max};
 
+use crate::appending::{
+    append_done, append_fed, append_forget, append_lost, append_revoke, append_stopped,
+    append_submit, append_write_failed, append_wrote,
+};
 use crate::entry::Stop;
 use crate::requester_with_sink::{Drained, RequesterWithSink};
-use crate::appending::{
-    append_write_failed, append_done, append_fed, append_forget, append_lost, append_revoke, append_stopped, append_submit,
-    append_wrote,
-};
 use nr_outside::Sink;
 use nr_reduce::{Call, Form, Refused};
 use nr_requester::{Buffers, Done, Take, Ticket};
@@ -84,7 +84,10 @@ pub(crate) fn take_under<O: Sink>(turn: &mut Turn<'_, RequesterWithSink<O>>, tic
 }
 
 /// Takes the answer of a call of the pass's own; or the call comes back with its buffers, if the requester has ended before.
-pub(crate) fn try_take_under<O: Sink>(turn: &mut Turn<'_, RequesterWithSink<O>>, ticket: Ticket) -> Take
+pub(crate) fn try_take_under<O: Sink>(
+    turn: &mut Turn<'_, RequesterWithSink<O>>,
+    ticket: Ticket,
+) -> Take
     requires ready { IsReady O.taken O.faults turn.old }
     requires has_call { HasOpenCall (pass_of turn.old) ticket }
     ensures same { IsSameTurn turn.old turn.new }
@@ -146,7 +149,10 @@ pub(crate) fn drain_under<O: Sink>(turn: &mut Turn<'_, RequesterWithSink<O>>)
 }
 
 /// Revokes the memory of a call of the pass's own.
-pub(crate) fn revoke_under<O: Sink>(turn: &mut Turn<'_, RequesterWithSink<O>>, ticket: Ticket) -> (Call, Buffers)
+pub(crate) fn revoke_under<O: Sink>(
+    turn: &mut Turn<'_, RequesterWithSink<O>>,
+    ticket: Ticket,
+) -> (Call, Buffers)
     requires ready { IsReady O.taken O.faults turn.old }
     requires has_call { HasOpenCall (pass_of turn.old) ticket }
     ensures same { IsSameTurn turn.old turn.new }
