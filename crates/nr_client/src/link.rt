@@ -164,6 +164,21 @@ impl<I: Source, O: Sink> Link<I, O> {
         self.requester.outstanding() < self.requester.grant() as usize
     }
 
+    /// The requester, the source and the sink.
+    pub(crate) fn into_parts(self) -> (Requester, I, O)
+        ensures { (result.0 ≡ self.requester) × ((result.1 ≡ self.source) × (result.2 ≡ self.sink)) }
+    {
+        let Link {
+            requester,
+            source,
+            sink,
+            read: _read,
+            buf,
+        } = self;
+        drop(buf);
+        (requester, source, sink)
+    }
+
     /// The source and the sink. The requester is dropped.
     pub fn into_link(self) -> (I, O)
         ensures { (result.0 ≡ self.source) × (result.1 ≡ self.sink) }
