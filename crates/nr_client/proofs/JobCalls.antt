@@ -1,5 +1,7 @@
 -- A call over a shared requester: what it added to the history, and its outcome.
 use Rattle.std.proofs.Common.{◌≡◌, ◌≢◌, ◌⊎◌, ⊎_elim, inl, inr, arith, ℕ, zero, suc, ◌<◌, List, [], ◌∷◌, ◌++◌, Result, Ok, Err, refl, sym, ap, subst, ◌∙◌}
+use Rattle.std.specs.declared.vec.Vec.{Vec}
+use Rattle.std.specs.declared.alloc.Global.{Global}
 use Rattle.std.specs.List.{All, AllByRecursion, slice_index_or}
 use Rattle.std.proofs.lemmas.List.Elements.{All-append}
 use mathlib.Core.Option.{some, some-injective, some-ne-none}
@@ -79,9 +81,19 @@ pub fetched_on : (xs ys : List Entry) (ks ls : List ℕ) (uid gid : ℕ) (file :
 fetched_on xs ys ks ls uid gid file size pieces begins own all k d lt =
     let piece = slice_index_or pieces k d in exchange_on xs ys ks ls (read_call uid gid file piece.at (piece_left size piece.at)) piece.outcome begins own (all k d lt)
 
-all_one : {X : Type 0} (P : X → Type 0) (x : X) → P x → All P (x ∷ [])
+pub all_one : {X : Type 0} (P : X → Type 0) (x : X) → P x → All P (x ∷ [])
 all_one P x p zero d lt = p
 all_one P x p (suc k) d lt = absurd (omega (arith, lt))
+
+pub all_first : {X : Type 0} (P : X → Type 0) (x : X) (xs : List X) → All P (x ∷ xs) → P x × All P xs
+all_first P x xs all = (all 0 x (omega arith), λ k d lt. all (suc k) d (omega (arith, lt)))
+
+-- the lists of the jobs, of which one more was taken back
+pub lists_more : (uid gid : ℕ) (file : List ℕ) (size : ℕ) (xs ys : List Entry) (ks ls : List ℕ) (lists more : List (Vec PieceRead Global)) (list : Vec PieceRead Global) → Begins xs ys → ((k : ℕ) → IsIn k ks → IsIn k ls)
+    → All (λ (l : Vec PieceRead Global). AreFetched uid gid file size xs ks l.items) lists → AreFetched uid gid file size ys ls list.items → more ≡ lists ++ list ∷ [] → All (λ (l : Vec PieceRead Global). AreFetched uid gid file size ys ls l.items) more
+lists_more uid gid file size xs ys ks ls lists more list begins own all one is =
+    let P : Vec PieceRead Global → Type 0 = λ l. AreFetched uid gid file size ys ls l.items in
+    subst (All P) (sym is) (All-append P lists (list ∷ []) (λ k d lt. fetched_on xs ys ks ls uid gid file size (slice_index_or lists k d).items begins own (all k d lt)) (all_one P list one))
 
 pub fetched_more : (xs : List Entry) (ks : List ℕ) (uid gid : ℕ) (file : List ℕ) (size at : ℕ) (outcome : Outcome) (pieces : List PieceRead) → AreFetched uid gid file size xs ks pieces
     → IsExchange xs ks (read_call uid gid file at (piece_left size at)) outcome → AreFetched uid gid file size xs ks (pieces ++ record { at = at; outcome = outcome } ∷ [])

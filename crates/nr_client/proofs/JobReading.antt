@@ -1,18 +1,30 @@
 -- A file is read by jobs: one outcome more, and how it ends.
-use Rattle.std.proofs.Common.{◌≡◌, ◌⊎◌, inl, inr, arith, ℕ, ◌+◌, ◌<◌, ◌≤◌, List, [], ◌∷◌, ◌++◌, append-nil, append_assoc, Option, Result, Ok, Err, refl, sym, ap, subst, ◌∙◌}
+use Rattle.std.proofs.Common.{◌≡◌, ◌⊎◌, ⊎_elim, inl, inr, arith, ℕ, ◌+◌, ◌<◌, ◌≤◌, List, [], ◌∷◌, ◌++◌, append-nil, append_assoc, Option, Some, Result, Ok, Err, refl, sym, ap, subst, ◌∙◌}
 use Rattle.std.proofs.lemmas.Bool.{le-ltb}
-use Rattle.std.proofs.KnownBytes.{Appends-trans}
+use Rattle.std.proofs.KnownBytes.{Appends-nil, Appends-trans}
 use Rattle.nr_reduce.specs.declared.call.Call.{Call}
 use Rattle.nr_reduce.specs.declared.call.Outcome.{Outcome}
 use Rattle.nr_turnstile.specs.declared.turnstile.Pass.{Pass}
 use Rattle.nr_turnstile.specs.Passes.{mine_of, seen_by}
 use Rattle.nr_shared.specs.declared.entry.Entry.{Entry}
+use Rattle.nr_shared.specs.declared.entry.Entry.TheVariants as entries
+use Rattle.nr_shared.specs.declared.entry.Handing.{Handing}
+use Rattle.nr_shared.specs.Histories.{handed}
+use Rattle.nr_shared.proofs.Histories.{handed_more}
 use Rattle.nr_shared.specs.declared.line.Line.{Line}
 use Rattle.nr_client.specs.declared.client_end.ClientEnd.{ClientEnd}
 use Rattle.nr_client.specs.declared.client_end.ClientEnd.TheVariants as client
 use Rattle.nr_client.specs.Following.Next.{Calls, Returns}
-use Rattle.nr_client.specs.Jobs.{AreExchanges, IsExchange}
-use Rattle.nr_client.specs.Reading.{next_read, piece_left, read_call, reading}
+use mathlib.Core.Option.{some, some-injective, some-ne-none}
+use lib.ListN.{get_elem?}
+use Rattle.nr_nfs_base.specs.declared.attributes.Attributes.{Attributes}
+use Rattle.nr_turnstile.specs.Rule.{Begins, IsIn}
+use Rattle.nr_client.specs.Jobs.{AreExchanges, IsExchange, IsOfFile, ReadsByJobs, Submits}
+use Rattle.nr_client.specs.Requests.{getattr_call, getattr_result}
+use Rattle.nr_client.specs.Results.{Gives}
+use Rattle.nr_client.proofs.CallsMade.{end_of_reply}
+use Rattle.std.specs.Io.KnownBytes.{Appends}
+use Rattle.nr_client.specs.Reading.{EndsAtReply, bytes_of, bytes_read, next_read, piece_left, read_call, reading, with_size}
 use Rattle.nr_client.specs.Reading.FileRead.{SizeKnown}
 use Rattle.nr_client.specs.private.JobReads.{EndedByJobs, Grows, HasNone, IsUpTo, ReadByJobs}
 use Rattle.nr_client.specs.private.OpenReads.{GivesData, GivesNone, IsInPiece}
@@ -113,3 +125,83 @@ module _ {O : Type 0} where
     made = exchanged_more Is uid gid file size at count p q outcome t u below same grows made so_far;
     ends = inl (at_reply uid gid file size at count so_far.bytes so_far.outcomes outcome why t u v same so_far.state so_far.appends gives);
   }
+
+  -- ---- GETATTR, and all of it
+
+  -- the size is known
+  pub started : (uid gid : ℕ) (file : List ℕ) (p : Pass (Line O) Entry) (outcome : Outcome) (attributes : Attributes) (taken : Option (List ℕ)) → IsExchange (seen_by p) (mine_of p) (getattr_call uid gid file) outcome
+      → getattr_result outcome ≡ Ok attributes → ReadByJobs uid gid file attributes.size 0 p taken taken
+  started uid gid file p outcome attributes taken made reads = record {
+    outcomes = outcome ∷ [];
+    bytes = [];
+    made = ((getattr_call uid gid file, (refl, made)), tt);
+    state = ap with_size reads;
+    appends = Appends-nil taken;
+  }
+
+  none_first : (r : Result Attributes ClientEnd) → bytes_of (with_size r) ≡ []
+  none_first (Ok attributes) = refl
+  none_first (Err end) = refl
+
+  -- its reply has no attributes
+  pub not_told : (uid gid : ℕ) (file : List ℕ) (p : Pass (Line O) Entry) (outcome : Outcome) (why : ClientEnd) (taken : Option (List ℕ)) → IsExchange (seen_by p) (mine_of p) (getattr_call uid gid file) outcome
+      → Gives {A = Attributes} (Err why) (getattr_result outcome) → EndedByJobs uid gid file p taken taken (Err why)
+  not_told uid gid file p outcome why taken made gives = record {
+    outcomes = outcome ∷ [];
+    made = ((getattr_call uid gid file, (refl, made)), tt);
+    ends = inl (by (end_of_reply {A = Attributes} (Unit {0}) why (getattr_result outcome) gives));
+  }
+    where
+      took : Appends taken taken (bytes_read (outcome ∷ []))
+      took = subst (λ (l : List ℕ). Appends taken taken l) (sym (none_first (getattr_result outcome))) (Appends-nil taken)
+
+      by : (why ≡ client.Memory) ⊎ ((getattr_result outcome ≡ Err why) × Gives {A = Unit {0}} (Err why) (Err why)) → EndsAtReply uid gid file (outcome ∷ []) taken taken (Err why)
+      by (inl memory) = inl (inl (ap (λ (e : ClientEnd). Err e) memory), inl took)
+      by (inr (reads, same)) = inl (inr (ap (λ (r : Result Attributes ClientEnd). next_read uid gid file (with_size r)) reads), inl took)
+
+  -- it has no outcome
+  pub not_asked : (uid gid : ℕ) (file : List ℕ) (p : Pass (Line O) Entry) (why : ClientEnd) (taken : Option (List ℕ)) → HasNone (getattr_call uid gid file) why p → EndedByJobs uid gid file p taken taken (Err why)
+  not_asked uid gid file p why taken (inl memory) = record { outcomes = []; made = tt; ends = inl (inl (inl (ap (λ (e : ClientEnd). Err e) memory), inl (Appends-nil taken))) }
+  not_asked uid gid file p why taken (inr (cause, (is, lacks))) = record {
+    outcomes = [];
+    made = tt;
+    ends = inr (getattr_call uid gid file, cause, (refl, (ap (λ (e : ClientEnd). Err e) is, (lacks, inl (Appends-nil taken)))));
+  }
+
+  pub own_reads : (Is : Call → Type 0) (p q : Pass (Line O) Entry) → mine_of p ≡ [] → Grows Is p q → (k : ℕ) (e : Entry) → IsIn k (mine_of q) → get_elem? (seen_by q) k ≡ some e → Submits Is e
+  own_reads Is p q none grows k e i at = ⊎_elim
+      (λ (old : IsIn k (mine_of p)). absurd (some-ne-none k (sym (subst (IsIn k) none old).1)))
+      (λ (new : Submits Is e). new)
+      (grows.own k e i at)
+
+  pub all_reads : (uid gid : ℕ) (file : List ℕ) (p q : Pass (Line O) Entry) (taken taken' : Option (List ℕ)) (given : Result (Unit {0}) ClientEnd) → mine_of p ≡ [] → Grows (IsOfFile uid gid file) p q
+      → EndedByJobs uid gid file q taken taken' given → ReadsByJobs uid gid file (seen_by q) (mine_of q) taken taken' given
+  all_reads uid gid file p q taken taken' given none grows ended = record {
+    outcomes = ended.outcomes;
+    made = ended.made;
+    own = own_reads (IsOfFile uid gid file) p q none grows;
+    ends = ended.ends;
+  }
+
+-- ---- Shared and taken back
+
+-- what was handed in first
+pub handed_first : (c : Handing) (e : Entry) → entries.Handed c ≡ e → handed (e ∷ []) ≡ Some c
+handed_first c e is = ap (λ (x : Entry). handed (x ∷ [])) (sym is)
+
+pub handed_on : (c : Handing) (e : Entry) (xs ys : List Entry) → entries.Handed c ≡ e → xs ≡ e ∷ [] → Begins xs ys → handed ys ≡ Some c
+handed_on c e xs ys is one begins =
+    ap (λ (l : List Entry). handed l) begins.1 ∙ handed_more xs begins.0 c (ap (λ (l : List Entry). handed l) one ∙ handed_first c e is)
+
+-- nothing was read, since memory ran out
+pub none_read : (uid gid : ℕ) (file : List ℕ) (seen : List Entry) (taken : Option (List ℕ)) → ReadsByJobs uid gid file seen [] taken taken (Err client.Memory)
+none_read uid gid file seen taken = record {
+  outcomes = [];
+  made = tt;
+  own = λ k e i at. absurd (some-ne-none k (sym i.1));
+  ends = inl (inl (inl refl, inl (Appends-nil taken)));
+}
+
+-- a list of one that is another list of one
+pub one_same : {A : Type 0} (x y : A) (xs ys : List A) → xs ≡ x ∷ [] → ys ≡ y ∷ [] → ys ≡ xs → y ≡ x
+one_same x y xs ys one two same = some-injective y x (ap (λ l. get_elem? l 0) (sym two ∙ (same ∙ one)))

@@ -1,6 +1,6 @@
 //! A file is read by several jobs, each in a thread of its own.
 
-ghost use Rattle.std.specs.Prelude.{◌≡◌, ◌≢◌, ◌<◌, ◌≤◌, ℕ, ◌+◌, [], ◌∷◌, Some, None, Err, List, length, All, slice_index_or, IfOk, IfErr, OnOk};
+ghost use Rattle.std.specs.Prelude.{◌≡◌, ◌≢◌, ◌<◌, ◌≤◌, ℕ, ◌+◌, [], ◌∷◌, true, false, Some, None, Err, List, length, All, slice_index_or, IfOk, IfErr, OnOk};
 ghost use Rattle.nr_rpc.specs.Credential.{CanWriteCred};
 ghost use Rattle.nr_reduce.specs.declared.call.Call.{Call};
 ghost use Rattle.nr_turnstile.specs.Passes.{mine_of, seen_by};
@@ -10,7 +10,7 @@ ghost use Rattle.nr_shared.specs.declared.entry.Entry.TheVariants as entries;
 ghost use Rattle.nr_shared.specs.declared.feeder.Beside.{Beside};
 ghost use Rattle.nr_shared.specs.Opening.{GivesBack};
 ghost use Rattle.nr_shared.specs.Sharing.{SharedRests};
-ghost use Rattle.nr_client.specs.Jobs.{IsExchange, IsOfFile, ReadsByJobs, jobs_max};
+ghost use Rattle.nr_client.specs.Jobs.{IsExchange, IsOfFile, ReadsByJobs, ReadsShared, jobs_max};
 ghost use Rattle.nr_client.specs.Reading.{OutputFaults, piece_left};
 ghost use Rattle.nr_requester.specs.Fed.{fed_bytes};
 ghost use Rattle.nr_shared.specs.Standing.{bytes_before};
@@ -25,6 +25,7 @@ use crate::file_calls::read_call;
 use crate::read_data::{piece_left, write_data};
 use crate::requests::getattr_call;
 use crate::results::nfs_results;
+use nr_link::End;
 use nr_nfs_base::{Attributes, Handle, TRANSFER_MAX};
 use nr_outside::{Sink, Source};
 use nr_reduce::{Call, Form, Outcome};
@@ -231,7 +232,8 @@ fn make_jobs<I: Source, O: Sink>(
     let step = (jobs as u64).saturating_mul(piece);
     let mut at = from;
     'jobs: while made.len() < jobs {
-        made.push(make_job(alloc, shared, pass, size, at, step)?)?;
+        let job = make_job(alloc, shared, pass, size, at, step)?;
+        made.push(job)?;
         at = at.saturating_add(piece);
     }
     Ok(made)
@@ -619,4 +621,54 @@ pub(crate) fn read_by_jobs<R: Threads + Wait + Sync, I: Source + Send, O: Sink +
         attributes.size,
         out,
     )
+}
+
+/// Whether a requester hasn't run out of memory for a frame.
+pub(crate) fn has_memory(requester: &Requester) -> bool
+    ensures yes { result ≡ true → requester.now.state.side.ended ≢ Some ends.Memory }
+    ensures no { result ≡ false → requester.now.state.side.ended ≡ Some ends.Memory }
+{
+    match requester.end() {
+        None => true,
+        Some(end) => match end {
+            End::Memory => false,
+            _ => true,
+        },
+    }
+}
+
+/// Shares a requester with its source and its sink, reads a file into an output by jobs, and gives the source and the sink back.
+pub(crate) fn read_shared<N: Noted, R: Threads + Wait + Sync, I: Source, O: Sink, K: Sink>(
+    rt: &R,
+    alloc: Global,
+    requester: Requester,
+    source: I,
+    sink: O,
+    uid: u32,
+    gid: u32,
+    file: &Handle,
+    jobs: usize,
+    out: &mut K,
+) -> (Result<(), ClientEnd>, I, O)
+where
+    I: Drop + Send,
+    O: Drop + Send,
+    requires entry { entries.Handed (record { requester = requester; faults = O.faults sink; taken = O.taken sink }) ≡ N.entry }
+    requires has_memory { requester.state.side.ended ≢ Some ends.Memory }
+    requires fed { fed_bytes requester ≤ bytes_before }
+    requires jobs { (0 < jobs) × (jobs ≤ jobs_max) }
+    ensures reads { ReadsShared I.left I.given I.faults O.taken O.faults uid gid file.now requester source sink result.1 result.2 (K.taken out.old) (K.taken out.new) result.0 }
+    ensures out_faults { OutputFaults result.0 (K.faults out.old) (K.faults out.new) }
+{
+    let (shared, mut pass) = match share::<N, R, I, O>(rt, alloc, requester, source, sink) {
+        Ok(opened) => opened,
+        Err((requester, source, sink)) => {
+            drop(requester);
+            return (Err(ClientEnd::Memory), source, sink);
+        }
+    };
+    let result = read_by_jobs(rt, alloc, &shared, &mut pass, uid, gid, file, jobs, out);
+    let (requester, source, sink) = shared.close(rt, pass);
+    drop(requester);
+    (result, source, sink)
 }

@@ -23,7 +23,7 @@ use crate::asking::{ask_nfs, mount_over};
 use crate::call_end::CallEnd;
 use crate::client_end::ClientEnd;
 use crate::limits::CREDITS;
-use crate::jobs::{read_by_jobs, share};
+use crate::jobs::{has_memory, read_shared};
 use crate::link::Link;
 use crate::listing::list_over;
 use crate::names::Names;
@@ -362,24 +362,13 @@ impl<I: Source, O: Sink> Session<I, O> {
             gid,
         } = self;
         let (requester, source, sink) = link.into_parts();
-        match requester.end() {
-            Some(End::Memory) => {
-                drop(requester);
-                let end = CallEnd::Ended(End::Memory);
-                return (Err(ClientEnd::Link(end)), source, sink);
-            }
-            _ => {}
+        if !has_memory(&requester) {
+            drop(requester);
+            let end = CallEnd::Ended(End::Memory);
+            return (Err(ClientEnd::Link(end)), source, sink);
         }
-        let (shared, mut pass) = match share::<Brand, R, I, O>(rt, alloc, requester, source, sink) {
-            Ok(opened) => opened,
-            Err((requester, source, sink)) => {
-                drop(requester);
-                return (Err(ClientEnd::Memory), source, sink);
-            }
-        };
-        let result = read_by_jobs(rt, alloc, &shared, &mut pass, uid, gid, file, jobs, out);
-        let (requester, source, sink) = shared.close(rt, pass);
-        drop(requester);
-        (result, source, sink)
+        read_shared::<Brand, R, I, O, K>(
+            rt, alloc, requester, source, sink, uid, gid, file, jobs, out,
+        )
     }
 }
