@@ -445,7 +445,19 @@ fn join_jobs<I: Source, O: Sink>(
     Ok(lists)
 }
 
-/// Takes the outcome of the READ of a piece from the first list, if it is the first there. That list becomes the last.
+/// Takes the first piece out of a list. Gives the outcome of its READ, if it begins at this offset.
+fn take_first(list: &mut Vec<PieceRead>, at: u64) -> Option<Outcome>
+    ensures list { (uid gid size : ℕ) (file mine : List ℕ) (seen : List Entry) → AreFetched uid gid file size seen mine list.old.items → AreFetched uid gid file size seen mine list.new.items }
+    ensures taken { (uid gid size : ℕ) (file mine : List ℕ) (seen : List Entry) → AreFetched uid gid file size seen mine list.old.items → IsFetched uid gid file size at result seen mine }
+{
+    if list.len() == 0 {
+        return None;
+    }
+    let PieceRead { at: from, outcome } = list.remove(0);
+    if from == at { Some(outcome) } else { None }
+}
+
+/// Takes the first piece out of the first list, which becomes the last. Gives the outcome of its READ, if it begins at this offset.
 fn take_next(lists: &mut Vec<Vec<PieceRead>>, at: u64) -> Result<Option<Outcome>, AllocError>
     ensures lists { (uid gid size : ℕ) (file mine : List ℕ) (seen : List Entry) → All (λ list. AreFetched uid gid file size seen mine list.items) lists.old.items
         → All (λ list. AreFetched uid gid file size seen mine list.items) lists.new.items }
@@ -456,14 +468,11 @@ fn take_next(lists: &mut Vec<Vec<PieceRead>>, at: u64) -> Result<Option<Outcome>
         return Ok(None);
     }
     let mut list = lists.remove(0);
-    let outcome = if list.len() > 0 && list[0].at == at {
-        let PieceRead { outcome, .. } = list.remove(0);
-        Some(outcome)
-    } else {
-        None
-    };
-    lists.push(list)?;
-    Ok(outcome)
+    let outcome = take_first(&mut list, at);
+    match lists.push(list) {
+        Ok(()) => Ok(outcome),
+        Err(_) => Err(AllocError),
+    }
 }
 
 /// The pieces of one round, read by jobs.

@@ -17,7 +17,7 @@ use std::time::Clock;
 type TcpSession = Session<NumberedSource<TcpSource, Brand>, NumberedSink<TcpSink, Brand>>;
 
 /// How many bytes the file has.
-const SIZE: usize = 2_097_152;
+const SIZE: usize = 900_000;
 
 fn open<N: Net<Stream = TcpStream, Listener = TcpListener>>(
     rt: &impl Abort,
