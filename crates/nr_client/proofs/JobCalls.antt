@@ -95,12 +95,28 @@ lists_more uid gid file size xs ys ks ls lists more list begins own all one is =
     let P : Vec PieceRead Global → Type 0 = λ l. AreFetched uid gid file size ys ls l.items in
     subst (All P) (sym is) (All-append P lists (list ∷ []) (λ k d lt. fetched_on xs ys ks ls uid gid file size (slice_index_or lists k d).items begins own (all k d lt)) (all_one P list one))
 
-pub fetched_more : (xs : List Entry) (ks : List ℕ) (uid gid : ℕ) (file : List ℕ) (size at : ℕ) (outcome : Outcome) (pieces : List PieceRead) → AreFetched uid gid file size xs ks pieces
-    → IsExchange xs ks (read_call uid gid file at (piece_left size at)) outcome → AreFetched uid gid file size xs ks (pieces ++ record { at = at; outcome = outcome } ∷ [])
-fetched_more xs ks uid gid file size at outcome pieces all one =
+pub fetched_more : (xs : List Entry) (ks : List ℕ) (uid gid : ℕ) (file : List ℕ) (size at count : ℕ) (outcome : Outcome) (pieces : List PieceRead) → AreFetched uid gid file size xs ks pieces
+    → IsExchange xs ks (read_call uid gid file at count) outcome → count ≡ piece_left size at → AreFetched uid gid file size xs ks (pieces ++ record { at = at; outcome = outcome } ∷ [])
+fetched_more xs ks uid gid file size at count outcome pieces all one same =
     let P : PieceRead → Type 0 = λ piece. IsExchange xs ks (read_call uid gid file piece.at (piece_left size piece.at)) piece.outcome in
     let x : PieceRead = record { at = at; outcome = outcome } in
-    All-append P pieces (x ∷ []) all (all_one P x one)
+    All-append P pieces (x ∷ []) all (all_one P x (subst (λ (n : ℕ). IsExchange xs ks (read_call uid gid file at n) outcome) same one))
+
+parts : (Is : Call → Type 0) (call : Call) (form : Form) (xid : ℕ) (waits moved : List Entry) → Is call → AreWrites waits → AreWrites moved → AllByRecursion (Submits Is) (waits ++ entries.Submit call form xid ∷ moved)
+parts Is call form xid waits moved is one two = all_append (Submits Is) waits (entries.Submit call form xid ∷ moved) (asks_writes Is waits one) (is, asks_writes Is moved two)
+
+asks_as : (Is : Call → Type 0) (asked : Call) (e : Entry) → Is asked → Submits (λ (c : Call). c ≡ asked) e → Submits Is e
+asks_as Is asked (entries.Submit call form xid) is same = subst Is (sym same) is
+asks_as Is asked (entries.Handed handing) is same = tt
+asks_as Is asked (entries.Wrote bytes) is same = tt
+asks_as Is asked (entries.Fed bytes before) is same = tt
+asks_as Is asked (entries.Done xid outcome at) is same = tt
+asks_as Is asked (entries.Lost xid at) is same = tt
+asks_as Is asked (entries.Forget xid at) is same = tt
+asks_as Is asked (entries.Revoke xid bytes at) is same = tt
+asks_as Is asked entries.Cut is same = tt
+asks_as Is asked (entries.Stopped cause before) is same = tt
+asks_as Is asked (entries.Out piece before) is same = tt
 
 module _ {O : Type 0} where
   pub grows_adds : (Is : Call → Type 0) (p q : Pass (Line O) Entry) (es : List Entry) → AllByRecursion (Submits Is) es → Adds p q es → Grows Is p q
@@ -130,9 +146,6 @@ module _ {O : Type 0} where
       by_old k e old is = one.own k e old (at_begin (seen_by q) two.seen.0 k e (lies k old) (subst (λ (l : List Entry). get_elem? l k ≡ some e) two.seen.1 is))
 
   -- ---- A call
-
-  parts : (Is : Call → Type 0) (call : Call) (form : Form) (xid : ℕ) (waits moved : List Entry) → Is call → AreWrites waits → AreWrites moved → AllByRecursion (Submits Is) (waits ++ entries.Submit call form xid ∷ moved)
-  parts Is call form xid waits moved is one two = all_append (Submits Is) waits (entries.Submit call form xid ∷ moved) (asks_writes Is waits one) (is, asks_writes Is moved two)
 
   answer_grows : (Is : Call → Type 0) (p q : Pass (Line O) Entry) (call : Call) (form : Form) (done : Done) → Is call → OwnAnswer p q call form done → Grows Is p q
   answer_grows Is p q call form done is o =
@@ -174,22 +187,9 @@ module _ {O : Type 0} where
       → AreExchanges uid gid file (seen_by p) (mine_of p) before after → AreExchanges uid gid file (seen_by q) (mine_of q) before after
   exchanges_grow Is uid gid file p q before [] g all = tt
   exchanges_grow Is uid gid file p q before (o ∷ after) g all =
-      ((all.0.0, (all.0.1.0, exchange_grows Is p q all.0.0 o g all.0.1.1)), exchanges_grow Is uid gid file p q (before ++ o ∷ []) after g all.1)
+      ((all.0.0, all.0.1, exchange_grows Is p q all.0.0 o g all.0.2), exchanges_grow Is uid gid file p q (before ++ o ∷ []) after g all.1)
 
   -- ---- One call of many
-
-  asks_as : (Is : Call → Type 0) (asked : Call) (e : Entry) → Is asked → Submits (λ (c : Call). c ≡ asked) e → Submits Is e
-  asks_as Is asked (entries.Submit call form xid) is same = subst Is (sym same) is
-  asks_as Is asked (entries.Handed handing) is same = tt
-  asks_as Is asked (entries.Wrote bytes) is same = tt
-  asks_as Is asked (entries.Fed bytes before) is same = tt
-  asks_as Is asked (entries.Done xid outcome at) is same = tt
-  asks_as Is asked (entries.Lost xid at) is same = tt
-  asks_as Is asked (entries.Forget xid at) is same = tt
-  asks_as Is asked (entries.Revoke xid bytes at) is same = tt
-  asks_as Is asked entries.Cut is same = tt
-  asks_as Is asked (entries.Stopped cause before) is same = tt
-  asks_as Is asked (entries.Out piece before) is same = tt
 
   pub grows_as : (Is : Call → Type 0) (asked : Call) (p q : Pass (Line O) Entry) → Is asked → Grows (λ (c : Call). c ≡ asked) p q → Grows Is p q
   grows_as Is asked p q is g = record {

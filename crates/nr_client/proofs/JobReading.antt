@@ -36,7 +36,7 @@ use Rattle.nr_client.proofs.JobCalls.{exchanges_grow}
 -- one exchange more
 exchanges_end : (uid gid : ℕ) (file : List ℕ) (seen : List Entry) (mine : List ℕ) (before after : List Outcome) (outcome : Outcome) (call : Call)
     → reading uid gid file (before ++ after) ≡ Calls call → IsExchange seen mine call outcome → AreExchanges uid gid file seen mine before after → AreExchanges uid gid file seen mine before (after ++ outcome ∷ [])
-exchanges_end uid gid file seen mine before [] outcome call is made all = ((call, (ap (reading uid gid file) (sym (append-nil before)) ∙ is, made)), tt)
+exchanges_end uid gid file seen mine before [] outcome call is made all = ((call, ap (reading uid gid file) (sym (append-nil before)) ∙ is, made), tt)
 exchanges_end uid gid file seen mine before (o ∷ after) outcome call is made all =
     (all.0, exchanges_end uid gid file seen mine (before ++ o ∷ []) after outcome call (ap (reading uid gid file) (append_assoc before (o ∷ []) after) ∙ is) made all.1)
 
@@ -134,7 +134,7 @@ module _ {O : Type 0} where
   started uid gid file p outcome attributes taken made reads = record {
     outcomes = outcome ∷ [];
     bytes = [];
-    made = ((getattr_call uid gid file, (refl, made)), tt);
+    made = ((getattr_call uid gid file, refl, made), tt);
     state = ap with_size reads;
     appends = Appends-nil taken;
   }
@@ -148,7 +148,7 @@ module _ {O : Type 0} where
       → Gives {A = Attributes} (Err why) (getattr_result outcome) → EndedByJobs uid gid file p taken taken (Err why)
   not_told uid gid file p outcome why taken made gives = record {
     outcomes = outcome ∷ [];
-    made = ((getattr_call uid gid file, (refl, made)), tt);
+    made = ((getattr_call uid gid file, refl, made), tt);
     ends = inl (by (end_of_reply {A = Attributes} (Unit {0}) why (getattr_result outcome) gives));
   }
     where

@@ -123,13 +123,8 @@ fn fetch<R: Wait, I: Source, O: Sink>(
     size: u64,
     job: &mut ReadJob<I, O>,
 )
-    requires rests { SharedRests shared.now job.old.pass }
-    requires below { All (λ at. at < size) job.old.offsets.items }
-    requires fetched { AreFetched uid gid file.now size (seen_by job.old.pass.main) (mine_of job.old.pass.main) job.old.fetched.items }
-    ensures rests { SharedRests shared.now job.new.pass }
-    ensures source { seen_by job.new.pass.source ≡ seen_by job.old.pass.source }
-    ensures grows { Grows (IsOfFile uid gid file.now) job.old.pass.main job.new.pass.main }
-    ensures fetched { AreFetched uid gid file.now size (seen_by job.new.pass.main) (mine_of job.new.pass.main) job.new.fetched.items }
+    requires { IsReady shared.now uid gid file.now size job.old }
+    ensures { HasRun shared.now uid gid file.now size job.old job.new }
 {
     let mut next = 0;
     'pieces: while next < job.offsets.len() {

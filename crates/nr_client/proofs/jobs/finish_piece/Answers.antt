@@ -19,13 +19,13 @@ returns-in-Err-clause-err g c taken so_far =
     c.requires.below refl (grows_none (IsOfFile c.args.uid c.args.gid c.args.file.now) c.args.pass.now.main c.args.pass.now.main refl refl) c.requires.fetched c.in-Err.ensures.err so_far
 
 pub returns-in-Err-read_rest-clause-err : goal.returns-in-Err-read_rest-clause-err
-returns-in-Err-read_rest-clause-err g c taken so_far = c.in-Err-read_rest.ensures.err taken (let (count, step, (is, (goes, data))) = c.in-Ok.ensures.ok in
+returns-in-Err-read_rest-clause-err g c taken so_far = c.in-Err-read_rest.ensures.err taken (let (count, step, (is, (goes, written))) = c.in-Ok.ensures.ok in
     read_more (IsOfFile c.args.uid c.args.gid c.args.file.now) c.args.uid c.args.gid c.args.file.now c.args.size c.args.at.now c.write_fetched.new.at count step c.args.pass.now.main c.args.pass.now.main c.args.outcome taken (g.K.Sink.taken c.args.out.now) (g.K.Sink.taken c.write_fetched.new.out)
     c.requires.below is goes (grows_none (IsOfFile c.args.uid c.args.gid c.args.file.now) c.args.pass.now.main c.args.pass.now.main refl refl)
-    (subst (λ (n : ℕ). IsExchange (seen_by c.args.pass.now.main) (mine_of c.args.pass.now.main) (read_call c.args.uid c.args.gid c.args.file.now c.args.at.now n) c.args.outcome) (sym is) c.requires.fetched) data so_far)
+    (subst (λ (n : ℕ). IsExchange (seen_by c.args.pass.now.main) (mine_of c.args.pass.now.main) (read_call c.args.uid c.args.gid c.args.file.now c.args.at.now n) c.args.outcome) (sym is) c.requires.fetched) written so_far)
 
 pub returns-in-Ok-read_rest-clause-ok : goal.returns-in-Ok-read_rest-clause-ok
-returns-in-Ok-read_rest-clause-ok g c taken so_far = c.in-Ok-read_rest.ensures.ok taken (let (count, step, (is, (goes, data))) = c.in-Ok.ensures.ok in
+returns-in-Ok-read_rest-clause-ok g c taken so_far = c.in-Ok-read_rest.ensures.ok taken (let (count, step, (is, (goes, written))) = c.in-Ok.ensures.ok in
     read_more (IsOfFile c.args.uid c.args.gid c.args.file.now) c.args.uid c.args.gid c.args.file.now c.args.size c.args.at.now c.write_fetched.new.at count step c.args.pass.now.main c.args.pass.now.main c.args.outcome taken (g.K.Sink.taken c.args.out.now) (g.K.Sink.taken c.write_fetched.new.out)
     c.requires.below is goes (grows_none (IsOfFile c.args.uid c.args.gid c.args.file.now) c.args.pass.now.main c.args.pass.now.main refl refl)
-    (subst (λ (n : ℕ). IsExchange (seen_by c.args.pass.now.main) (mine_of c.args.pass.now.main) (read_call c.args.uid c.args.gid c.args.file.now c.args.at.now n) c.args.outcome) (sym is) c.requires.fetched) data so_far)
+    (subst (λ (n : ℕ). IsExchange (seen_by c.args.pass.now.main) (mine_of c.args.pass.now.main) (read_call c.args.uid c.args.gid c.args.file.now c.args.at.now n) c.args.outcome) (sym is) c.requires.fetched) written so_far)

@@ -9,7 +9,7 @@ returns-in-Err-clause-err g c = subst (λ (n : ℕ). GivesNone n c.args.outcome 
 
 pub returns-clause-piece : goal.returns-clause-piece
 returns-clause-piece g c =
-    up_to_more c.args.size c.args.at.now _ (c.args.at.now + piece_left c.args.size c.args.at.now) c.in-Ok.step c.piece_left-count.result c.requires c.piece_left-count.ensures.is refl refl c.in-Ok.ensures.some c.in-Ok.ensures.within
+    up_to_more c.args.size c.args.at.now _ (c.args.at.now + piece_left c.args.size c.args.at.now) c.in-Ok.step c.piece_left-count.result c.requires.below c.piece_left-count.ensures.is refl refl c.in-Ok.ensures.some c.in-Ok.ensures.within
 
 pub returns-clause-ok : goal.returns-clause-ok
 returns-clause-ok g c = (c.piece_left-count.result, c.in-Ok.step, (c.piece_left-count.ensures.is, (refl, c.in-Ok.ensures.ok)))
