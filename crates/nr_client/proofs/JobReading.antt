@@ -51,7 +51,12 @@ ends_at size at end below (inl is) = absurd (omega (arith, below, is))
 ends_at size at end below (inr (within, ends)) = ends
 
 pub up_to_more : (size at at' end n count : ℕ) → at < size → count ≡ piece_left size at → at' ≡ at + n → at + piece_left size at ≡ end → 0 < n → n ≤ count → IsUpTo size at' end
-up_to_more size at at' end n count below same goes ends some within = up_to size at' end (in_piece size at at' end n count below same goes ends some within)
+up_to_more size at at' end n count below same goes ends more within = up_to size at' end (in_piece size at at' end n count below same goes ends more within)
+
+-- no bytes came with GETATTR
+none_first : (r : Result Attributes ClientEnd) → bytes_of (with_size r) ≡ []
+none_first (Ok attributes) = refl
+none_first (Err end) = refl
 
 module _ {O : Type 0} where
   exchanged_more : (Is : Call → Type 0) (uid gid : ℕ) (file : List ℕ) (size at count : ℕ) (p q : Pass (Line O) Entry) (outcome : Outcome) (t u : Option (List ℕ))
@@ -138,10 +143,6 @@ module _ {O : Type 0} where
     state = ap with_size reads;
     appends = Appends-nil taken;
   }
-
-  none_first : (r : Result Attributes ClientEnd) → bytes_of (with_size r) ≡ []
-  none_first (Ok attributes) = refl
-  none_first (Err end) = refl
 
   -- its reply has no attributes
   pub not_told : (uid gid : ℕ) (file : List ℕ) (p : Pass (Line O) Entry) (outcome : Outcome) (why : ClientEnd) (taken : Option (List ℕ)) → IsExchange (seen_by p) (mine_of p) (getattr_call uid gid file) outcome

@@ -22,38 +22,38 @@ jobs-init g c = (
 pub jobs-preserved : goal.jobs-preserved
 jobs-preserved g c =
     let (rests, owners, source, done, grows, got) = c.jobs.invariant in
-    let p = c.jobs.pass.main in let o = c.remove.result.pass.main in let q = c.join.new.pass.main in
+    let p = c.jobs.pass.main in let o = c.remove-own.result.pass.main in let q = c.join.new.pass.main in
     let some : 0 < length c.jobs.made.items = grind (arith, c.jobs-test.true, c.len.ensures) in
-    let is : c.jobs.made.items ≡ c.remove.result ∷ c.remove.new.self.items = front c.jobs.made.items c.remove.new.self.items c.remove.result some c.remove.ensures.value c.remove.ensures.items in
-    let owner = all_first (λ j. SharedRests c.args.shared.now j.pass) c.remove.result c.remove.new.self.items (subst (All (λ j. SharedRests c.args.shared.now j.pass)) is owners) in (
+    let is : c.jobs.made.items ≡ c.remove-own.result ∷ c.remove-own.new.self.items = front c.jobs.made.items c.remove-own.new.self.items c.remove-own.result some c.remove-own.ensures.value c.remove-own.ensures.items in
+    let owner = all_first (λ j. SharedRests c.args.shared.now j.pass) c.remove-own.result c.remove-own.new.self.items (subst (All (λ j. SharedRests c.args.shared.now j.pass)) is owners) in (
       c.join.ensures.rests,
       owner.1,
       c.join.ensures.source ∙ source,
-      λ uid gid size file all. (all_first (IsDone c.args.shared.now uid gid file size) c.remove.result c.remove.new.self.items (subst (All (IsDone c.args.shared.now uid gid file size)) is (done uid gid size file all))).1,
+      λ uid gid size file all. (all_first (IsDone c.args.shared.now uid gid file size) c.remove-own.result c.remove-own.new.self.items (subst (All (IsDone c.args.shared.now uid gid file size)) is (done uid gid size file all))).1,
       λ uid gid size file all.
-          (let one = (all_first (IsDone c.args.shared.now uid gid file size) c.remove.result c.remove.new.self.items (subst (All (IsDone c.args.shared.now uid gid file size)) is (done uid gid size file all))).0 in
+          (let one = (all_first (IsDone c.args.shared.now uid gid file size) c.remove-own.result c.remove-own.new.self.items (subst (All (IsDone c.args.shared.now uid gid file size)) is (done uid gid size file all))).0 in
           grows_then (IsOfFile uid gid file) c.args.pass.now.main p q rests.caller.lies (grows uid gid size file all)
           (joined_grows (IsOfFile uid gid file) p o q c.join.ensures.seen.0 c.join.ensures.seen.1 c.join.ensures.mine one.0.caller.lies one.1.0)),
       λ uid gid size file all.
-          (let one = (all_first (IsDone c.args.shared.now uid gid file size) c.remove.result c.remove.new.self.items (subst (All (IsDone c.args.shared.now uid gid file size)) is (done uid gid size file all))).0 in
+          (let one = (all_first (IsDone c.args.shared.now uid gid file size) c.remove-own.result c.remove-own.new.self.items (subst (All (IsDone c.args.shared.now uid gid file size)) is (done uid gid size file all))).0 in
           let step = joined_grows (IsOfFile uid gid file) p o q c.join.ensures.seen.0 c.join.ensures.seen.1 c.join.ensures.mine one.0.caller.lies one.1.0 in
-          lists_more uid gid file size (seen_by p) (seen_by q) (mine_of p) (mine_of q) c.jobs.lists.items c.in_ok-push.new.self.items c.remove.result.fetched step.seen step.mine (got uid gid size file all)
-          (joined_fetched p o q uid gid file size c.remove.result.fetched.items c.join.ensures.seen.1 c.join.ensures.mine one.1.1) c.in_ok-push.ensures.items),
+          lists_more uid gid file size (seen_by p) (seen_by q) (mine_of p) (mine_of q) c.jobs.lists.items c.in_ok-push.new.self.items c.remove-own.result.fetched step.seen step.mine (got uid gid size file all)
+          (joined_fetched p o q uid gid file size c.remove-own.result.fetched.items c.join.ensures.seen.1 c.join.ensures.mine one.1.1) c.in_ok-push.ensures.items),
     )
 
 pub join-requires : goal.join-requires
 join-requires g c =
     let (rests, owners, source, done, grows, got) = c.jobs.invariant in
     let some : 0 < length c.jobs.made.items = grind (arith, c.jobs-test.true, c.len.ensures) in
-    let is : c.jobs.made.items ≡ c.remove.result ∷ c.remove.new.self.items = front c.jobs.made.items c.remove.new.self.items c.remove.result some c.remove.ensures.value c.remove.ensures.items in
-    (rests, (all_first (λ j. SharedRests c.args.shared.now j.pass) c.remove.result c.remove.new.self.items (subst (All (λ j. SharedRests c.args.shared.now j.pass)) is owners)).0)
+    let is : c.jobs.made.items ≡ c.remove-own.result ∷ c.remove-own.new.self.items = front c.jobs.made.items c.remove-own.new.self.items c.remove-own.result some c.remove-own.ensures.value c.remove-own.ensures.items in
+    (rests, (all_first (λ j. SharedRests c.args.shared.now j.pass) c.remove-own.result c.remove-own.new.self.items (subst (All (λ j. SharedRests c.args.shared.now j.pass)) is owners)).0)
 
 pub returns-in_err-push-clause-grows : goal.returns-in_err-push-clause-grows
 returns-in_err-push-clause-grows g c uid gid size file all =
     let (rests, owners, source, done, grows, got) = c.jobs.invariant in
-    let p = c.jobs.pass.main in let o = c.remove.result.pass.main in let q = c.join.new.pass.main in
+    let p = c.jobs.pass.main in let o = c.remove-own.result.pass.main in let q = c.join.new.pass.main in
     let some : 0 < length c.jobs.made.items = grind (arith, c.jobs-test.true, c.len.ensures) in
-    let is : c.jobs.made.items ≡ c.remove.result ∷ c.remove.new.self.items = front c.jobs.made.items c.remove.new.self.items c.remove.result some c.remove.ensures.value c.remove.ensures.items in
-    let one = (all_first (IsDone c.args.shared.now uid gid file size) c.remove.result c.remove.new.self.items (subst (All (IsDone c.args.shared.now uid gid file size)) is (done uid gid size file all))).0 in
+    let is : c.jobs.made.items ≡ c.remove-own.result ∷ c.remove-own.new.self.items = front c.jobs.made.items c.remove-own.new.self.items c.remove-own.result some c.remove-own.ensures.value c.remove-own.ensures.items in
+    let one = (all_first (IsDone c.args.shared.now uid gid file size) c.remove-own.result c.remove-own.new.self.items (subst (All (IsDone c.args.shared.now uid gid file size)) is (done uid gid size file all))).0 in
     grows_then (IsOfFile uid gid file) c.args.pass.now.main p q rests.caller.lies (grows uid gid size file all)
     (joined_grows (IsOfFile uid gid file) p o q c.join.ensures.seen.0 c.join.ensures.seen.1 c.join.ensures.mine one.0.caller.lies one.1.0)

@@ -13,10 +13,10 @@ jobs-init g c = (c.requires.rests, refl, refl, refl, λ uid gid file k d lt. abs
 pub jobs-preserved : goal.jobs-preserved
 jobs-preserved g c =
     let (rests, source, seen, mine, ready) = c.jobs.invariant in (
-      c.make_job-job.ensures.rests,
-      c.make_job-job.ensures.source ∙ source,
-      c.make_job-job.ensures.unchanged.0 ∙ seen,
-      c.make_job-job.ensures.unchanged.1 ∙ mine,
+      c.make_job.ensures.rests,
+      c.make_job.ensures.source ∙ source,
+      c.make_job.ensures.unchanged.0 ∙ seen,
+      c.make_job.ensures.unchanged.1 ∙ mine,
       λ uid gid file.
           (let ok = c.in_ok-job.ensures.ok uid gid file in
           subst (All (λ j. IsReady c.args.shared.now uid gid file c.args.size j × ((mine_of j.pass.main ≡ []) × (seen_by j.pass.source ≡ seen_by c.args.pass.now.source)))) (sym c.in_ok-push.ensures.items)

@@ -60,3 +60,12 @@ pub returns-in-Err-write_piece-clause-err : goal.returns-in-Err-write_piece-clau
 returns-in-Err-write_piece-clause-err g c taken so_far =
     let (rests, source, grows, got, further, begun, outs, on) = c.pieces.invariant in
     c.in-Err-write_piece.ensures.err taken (on taken so_far)
+
+pub returns-in-Err-take_next-clause-grows : goal.returns-in-Err-take_next-clause-grows
+returns-in-Err-take_next-clause-grows g c = let (rests, source, grows, got, further, begun, outs, on) = c.pieces.invariant in grows
+
+pub returns-clause-grows : goal.returns-clause-grows
+returns-clause-grows g c = let (rests, source, grows, got, further, begun, outs, on) = c.pieces.invariant in grows
+
+pub returns-clause-ok : goal.returns-clause-ok
+returns-clause-ok g c = let (rests, source, grows, got, further, begun, outs, on) = c.pieces.invariant in on
