@@ -9,13 +9,13 @@ use Rattle.nr_client.proofs.jobs.read_round.Given as goal
 abbrev pub invariant-pieces : goal.invariant-pieces
 invariant-pieces g l =
     SharedRests l.shared l.pass
-    × (seen_by l.pass.source ≡ seen_by l.entry.pass.source)
-    × Grows (IsOfFile l.uid l.gid l.file) l.entry.pass.main l.pass.main
+    × (seen_by l.pass.source ≡ seen_by l.fn.pass.source)
+    × Grows (IsOfFile l.uid l.gid l.file) l.fn.pass.main l.pass.main
     × All (λ list. AreFetched l.uid l.gid l.file l.size (seen_by l.pass.main) (mine_of l.pass.main) list.items) l.lists.items
-    × (l.entry.at ≤ l.at)
-    × ((l.entry.at < l.at) ⊎ (0 < l.left))
-    × (g.K.Sink.faults l.out ≡ g.K.Sink.faults l.entry.out)
-    × ReadsMore l.uid l.gid l.file l.size l.entry.at l.at l.entry.pass.main l.pass.main (g.K.Sink.taken l.entry.out) (g.K.Sink.taken l.out)
+    × (l.fn.at ≤ l.at)
+    × ((l.fn.at < l.at) ⊎ (0 < l.left))
+    × (g.K.Sink.faults l.out ≡ g.K.Sink.faults l.fn.out)
+    × ReadsMore l.uid l.gid l.file l.size l.fn.at l.at l.fn.pass.main l.pass.main (g.K.Sink.taken l.fn.out) (g.K.Sink.taken l.out)
 
 abbrev pub decreases-pieces : goal.decreases-pieces
 decreases-pieces g l = l.left
