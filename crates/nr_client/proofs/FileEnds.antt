@@ -130,8 +130,10 @@ at_none uid gid file size at bytes outcomes outcome why t u v state appends give
     by : (why ≡ client.Memory) ⊎ ((read_result (piece_left size at) outcome ≡ Err why) × Gives {A = Unit {0}} (Err why) (Err why))
         → EndsAtReply uid gid file (outcomes ++ outcome ∷ []) t v (Err why)
     by (inl memory) =
-        inl (inl (ap (λ (e : ClientEnd). Err e) memory),
-        inr (ap (λ (e : ClientEnd). Err e) memory, (outcomes, outcome, (refl, takes_bytes outcomes (SizeKnown size at bytes) t v state all))))
+        inl (
+          inl (ap (λ (e : ClientEnd). Err e) memory),
+          inr (ap (λ (e : ClientEnd). Err e) memory, (outcomes, outcome, (refl, takes_bytes outcomes (SizeKnown size at bytes) t v state all))),
+        )
     by (inr (reads, same)) =
         let came = came_with outcomes outcome size at bytes (Err why) state reads in
         inl (inr (ap (next_read uid gid file) came), inl (takes_bytes (outcomes ++ outcome ∷ []) (ReadEnds why bytes) t v came all))

@@ -8,10 +8,10 @@ use Rattle.nr_turnstile.specs.declared.turnstile.Pass.{Pass}
 use Rattle.nr_turnstile.specs.Passes.{mine_of, seen_by}
 use Rattle.nr_shared.specs.declared.entry.Entry.{Entry}
 use Rattle.nr_shared.specs.declared.entry.Entry.TheVariants as entries
-use Rattle.nr_shared.specs.declared.entry.Handing.{Handing}
-use Rattle.nr_shared.specs.Histories.{handed}
-use Rattle.nr_shared.proofs.Histories.{handed_more}
-use Rattle.nr_shared.specs.declared.line.Line.{Line}
+use Rattle.nr_shared.specs.declared.entry.InitialState.{InitialState}
+use Rattle.nr_shared.specs.Histories.{initial_of}
+use Rattle.nr_shared.proofs.Histories.{initial_more}
+use Rattle.nr_shared.specs.declared.requester_with_sink.RequesterWithSink.{RequesterWithSink}
 use Rattle.nr_client.specs.declared.client_end.ClientEnd.{ClientEnd}
 use Rattle.nr_client.specs.declared.client_end.ClientEnd.TheVariants as client
 use Rattle.nr_client.specs.Following.Next.{Calls, Returns}
@@ -59,7 +59,7 @@ none_first (Ok attributes) = refl
 none_first (Err end) = refl
 
 module _ {O : Type 0} where
-  exchanged_more : (Is : Call → Type 0) (uid gid : ℕ) (file : List ℕ) (size at count : ℕ) (p q : Pass (Line O) Entry) (outcome : Outcome) (t u : Option (List ℕ))
+  exchanged_more : (Is : Call → Type 0) (uid gid : ℕ) (file : List ℕ) (size at count : ℕ) (p q : Pass (RequesterWithSink O) Entry) (outcome : Outcome) (t u : Option (List ℕ))
       → at < size → count ≡ piece_left size at → Grows Is p q → IsExchange (seen_by q) (mine_of q) (read_call uid gid file at count) outcome
       → (so_far : ReadByJobs uid gid file size at p t u) → AreExchanges uid gid file (seen_by q) (mine_of q) [] (so_far.outcomes ++ outcome ∷ [])
   exchanged_more Is uid gid file size at count p q outcome t u below same grows made so_far =
@@ -69,7 +69,7 @@ module _ {O : Type 0} where
       (exchanges_grow Is uid gid file p q [] so_far.outcomes grows so_far.made)
 
   -- the data of one READ more
-  pub read_more : (Is : Call → Type 0) (uid gid : ℕ) (file : List ℕ) (size at at' count step : ℕ) (p q : Pass (Line O) Entry) (outcome : Outcome) (t u v : Option (List ℕ))
+  pub read_more : (Is : Call → Type 0) (uid gid : ℕ) (file : List ℕ) (size at at' count step : ℕ) (p q : Pass (RequesterWithSink O) Entry) (outcome : Outcome) (t u v : Option (List ℕ))
       → at < size → count ≡ piece_left size at → at' ≡ at + step → Grows Is p q → IsExchange (seen_by q) (mine_of q) (read_call uid gid file at count) outcome → GivesData count outcome step u v
       → ReadByJobs uid gid file size at p t u → ReadByJobs uid gid file size at' q t v
   read_more Is uid gid file size at at' count step p q outcome t u v below same goes grows made (results, (reads, (is, appends))) so_far = record {
@@ -81,7 +81,7 @@ module _ {O : Type 0} where
   }
 
   -- nothing more was read
-  pub read_same : (Is : Call → Type 0) (uid gid : ℕ) (file : List ℕ) (size at : ℕ) (p q : Pass (Line O) Entry) (t u : Option (List ℕ)) → Grows Is p q → ReadByJobs uid gid file size at p t u → ReadByJobs uid gid file size at q t u
+  pub read_same : (Is : Call → Type 0) (uid gid : ℕ) (file : List ℕ) (size at : ℕ) (p q : Pass (RequesterWithSink O) Entry) (t u : Option (List ℕ)) → Grows Is p q → ReadByJobs uid gid file size at p t u → ReadByJobs uid gid file size at q t u
   read_same Is uid gid file size at p q t u grows so_far = record {
     outcomes = so_far.outcomes;
     bytes = so_far.bytes;
@@ -92,7 +92,7 @@ module _ {O : Type 0} where
 
   -- ---- Ends
 
-  pub all_came : (uid gid : ℕ) (file : List ℕ) (size at : ℕ) (p : Pass (Line O) Entry) (t u : Option (List ℕ)) → size ≤ at → ReadByJobs uid gid file size at p t u → EndedByJobs uid gid file p t u (Ok tt)
+  pub all_came : (uid gid : ℕ) (file : List ℕ) (size at : ℕ) (p : Pass (RequesterWithSink O) Entry) (t u : Option (List ℕ)) → size ≤ at → ReadByJobs uid gid file size at p t u → EndedByJobs uid gid file p t u (Ok tt)
   all_came uid gid file size at p t u above so_far =
       let returns : next_read uid gid file (SizeKnown size at so_far.bytes) ≡ Returns (Ok tt) = rw (le-ltb at size above) refl in
       record {
@@ -101,7 +101,7 @@ module _ {O : Type 0} where
         ends = inl (inl (inr (ap (next_read uid gid file) so_far.state ∙ returns), inl (takes_bytes so_far.outcomes (SizeKnown size at so_far.bytes) t u so_far.state so_far.appends)));
       }
 
-  pub memory_out : (uid gid : ℕ) (file : List ℕ) (size at : ℕ) (p : Pass (Line O) Entry) (t u : Option (List ℕ)) → ReadByJobs uid gid file size at p t u → EndedByJobs uid gid file p t u (Err client.Memory)
+  pub memory_out : (uid gid : ℕ) (file : List ℕ) (size at : ℕ) (p : Pass (RequesterWithSink O) Entry) (t u : Option (List ℕ)) → ReadByJobs uid gid file size at p t u → EndedByJobs uid gid file p t u (Err client.Memory)
   memory_out uid gid file size at p t u so_far = record {
     outcomes = so_far.outcomes;
     made = so_far.made;
@@ -109,21 +109,25 @@ module _ {O : Type 0} where
   }
 
   -- the next READ has no outcome
-  pub none_came : (Is : Call → Type 0) (uid gid : ℕ) (file : List ℕ) (size at count : ℕ) (p q : Pass (Line O) Entry) (why : ClientEnd) (t u : Option (List ℕ)) → at < size → count ≡ piece_left size at → Grows Is p q
+  pub none_came : (Is : Call → Type 0) (uid gid : ℕ) (file : List ℕ) (size at count : ℕ) (p q : Pass (RequesterWithSink O) Entry) (why : ClientEnd) (t u : Option (List ℕ)) → at < size → count ≡ piece_left size at → Grows Is p q
       → HasNone (read_call uid gid file at count) why q → ReadByJobs uid gid file size at p t u → EndedByJobs uid gid file q t u (Err why)
   none_came Is uid gid file size at count p q why t u below same grows (inl memory) so_far =
       subst (λ (e : ClientEnd). EndedByJobs uid gid file q t u (Err e)) (sym memory) (memory_out uid gid file size at q t u (read_same Is uid gid file size at p q t u grows so_far))
   none_came Is uid gid file size at count p q why t u below same grows (inr (cause, (is, lacks))) so_far = record {
     outcomes = so_far.outcomes;
     made = exchanges_grow Is uid gid file p q [] so_far.outcomes grows so_far.made;
-    ends = inr (read_call uid gid file at count, cause, (
-      follows uid gid file size at so_far.bytes so_far.outcomes below so_far.state ∙ ap (λ (n : ℕ). Calls (read_call uid gid file at n)) (sym same),
-      (ap (λ (e : ClientEnd). Err e) is, (lacks, inl (takes_bytes so_far.outcomes (SizeKnown size at so_far.bytes) t u so_far.state so_far.appends))),
-    ));
+    ends = inr (
+      read_call uid gid file at count,
+      cause,
+      (
+        follows uid gid file size at so_far.bytes so_far.outcomes below so_far.state ∙ ap (λ (n : ℕ). Calls (read_call uid gid file at n)) (sym same),
+        (ap (λ (e : ClientEnd). Err e) is, (lacks, inl (takes_bytes so_far.outcomes (SizeKnown size at so_far.bytes) t u so_far.state so_far.appends))),
+      ),
+    );
   }
 
   -- its reply has no data, or some of these were not written
-  pub data_fails : (Is : Call → Type 0) (uid gid : ℕ) (file : List ℕ) (size at count : ℕ) (p q : Pass (Line O) Entry) (outcome : Outcome) (why : ClientEnd) (t u v : Option (List ℕ)) → at < size → count ≡ piece_left size at → Grows Is p q
+  pub data_fails : (Is : Call → Type 0) (uid gid : ℕ) (file : List ℕ) (size at count : ℕ) (p q : Pass (RequesterWithSink O) Entry) (outcome : Outcome) (why : ClientEnd) (t u v : Option (List ℕ)) → at < size → count ≡ piece_left size at → Grows Is p q
       → IsExchange (seen_by q) (mine_of q) (read_call uid gid file at count) outcome → GivesNone count outcome why u v → ReadByJobs uid gid file size at p t u → EndedByJobs uid gid file q t v (Err why)
   data_fails Is uid gid file size at count p q outcome why t u v below same grows made gives so_far = record {
     outcomes = so_far.outcomes ++ outcome ∷ [];
@@ -134,7 +138,7 @@ module _ {O : Type 0} where
   -- ---- GETATTR, and all of it
 
   -- the size is known
-  pub started : (uid gid : ℕ) (file : List ℕ) (p : Pass (Line O) Entry) (outcome : Outcome) (attributes : Attributes) (taken : Option (List ℕ)) → IsExchange (seen_by p) (mine_of p) (getattr_call uid gid file) outcome
+  pub started : (uid gid : ℕ) (file : List ℕ) (p : Pass (RequesterWithSink O) Entry) (outcome : Outcome) (attributes : Attributes) (taken : Option (List ℕ)) → IsExchange (seen_by p) (mine_of p) (getattr_call uid gid file) outcome
       → getattr_result outcome ≡ Ok attributes → ReadByJobs uid gid file attributes.size 0 p taken taken
   started uid gid file p outcome attributes taken made reads = record {
     outcomes = outcome ∷ [];
@@ -145,7 +149,7 @@ module _ {O : Type 0} where
   }
 
   -- its reply has no attributes
-  pub not_told : (uid gid : ℕ) (file : List ℕ) (p : Pass (Line O) Entry) (outcome : Outcome) (why : ClientEnd) (taken : Option (List ℕ)) → IsExchange (seen_by p) (mine_of p) (getattr_call uid gid file) outcome
+  pub not_told : (uid gid : ℕ) (file : List ℕ) (p : Pass (RequesterWithSink O) Entry) (outcome : Outcome) (why : ClientEnd) (taken : Option (List ℕ)) → IsExchange (seen_by p) (mine_of p) (getattr_call uid gid file) outcome
       → Gives {A = Attributes} (Err why) (getattr_result outcome) → EndedByJobs uid gid file p taken taken (Err why)
   not_told uid gid file p outcome why taken made gives = record {
     outcomes = outcome ∷ [];
@@ -161,7 +165,7 @@ module _ {O : Type 0} where
       by (inr (reads, same)) = inl (inr (ap (λ (r : Result Attributes ClientEnd). next_read uid gid file (with_size r)) reads), inl took)
 
   -- it has no outcome
-  pub not_asked : (uid gid : ℕ) (file : List ℕ) (p : Pass (Line O) Entry) (why : ClientEnd) (taken : Option (List ℕ)) → HasNone (getattr_call uid gid file) why p → EndedByJobs uid gid file p taken taken (Err why)
+  pub not_asked : (uid gid : ℕ) (file : List ℕ) (p : Pass (RequesterWithSink O) Entry) (why : ClientEnd) (taken : Option (List ℕ)) → HasNone (getattr_call uid gid file) why p → EndedByJobs uid gid file p taken taken (Err why)
   not_asked uid gid file p why taken (inl memory) = record { outcomes = []; made = tt; ends = inl (inl (inl (ap (λ (e : ClientEnd). Err e) memory), inl (Appends-nil taken))) }
   not_asked uid gid file p why taken (inr (cause, (is, lacks))) = record {
     outcomes = [];
@@ -169,13 +173,13 @@ module _ {O : Type 0} where
     ends = inr (getattr_call uid gid file, cause, (refl, (ap (λ (e : ClientEnd). Err e) is, (lacks, inl (Appends-nil taken)))));
   }
 
-  pub own_reads : (Is : Call → Type 0) (p q : Pass (Line O) Entry) → mine_of p ≡ [] → Grows Is p q → (k : ℕ) (e : Entry) → IsIn k (mine_of q) → get_elem? (seen_by q) k ≡ some e → Submits Is e
+  pub own_reads : (Is : Call → Type 0) (p q : Pass (RequesterWithSink O) Entry) → mine_of p ≡ [] → Grows Is p q → (k : ℕ) (e : Entry) → IsIn k (mine_of q) → get_elem? (seen_by q) k ≡ some e → Submits Is e
   own_reads Is p q none grows k e i at = ⊎_elim
       (λ (old : IsIn k (mine_of p)). absurd (some-ne-none k (sym (subst (IsIn k) none old).1)))
       (λ (new : Submits Is e). new)
       (grows.own k e i at)
 
-  pub all_reads : (uid gid : ℕ) (file : List ℕ) (p q : Pass (Line O) Entry) (taken taken' : Option (List ℕ)) (given : Result (Unit {0}) ClientEnd) → mine_of p ≡ [] → Grows (IsOfFile uid gid file) p q
+  pub all_reads : (uid gid : ℕ) (file : List ℕ) (p q : Pass (RequesterWithSink O) Entry) (taken taken' : Option (List ℕ)) (given : Result (Unit {0}) ClientEnd) → mine_of p ≡ [] → Grows (IsOfFile uid gid file) p q
       → EndedByJobs uid gid file q taken taken' given → ReadsByJobs uid gid file (seen_by q) (mine_of q) taken taken' given
   all_reads uid gid file p q taken taken' given none grows ended = record {
     outcomes = ended.outcomes;
@@ -187,12 +191,12 @@ module _ {O : Type 0} where
 -- ---- Shared and taken back
 
 -- what was handed in first
-pub handed_first : (c : Handing) (e : Entry) → entries.Handed c ≡ e → handed (e ∷ []) ≡ Some c
-handed_first c e is = ap (λ (x : Entry). handed (x ∷ [])) (sym is)
+pub initial_first : (c : InitialState) (e : Entry) → entries.Initial c ≡ e → initial_of (e ∷ []) ≡ Some c
+initial_first c e is = ap (λ (x : Entry). initial_of (x ∷ [])) (sym is)
 
-pub handed_on : (c : Handing) (e : Entry) (xs ys : List Entry) → entries.Handed c ≡ e → xs ≡ e ∷ [] → Begins xs ys → handed ys ≡ Some c
-handed_on c e xs ys is one begins =
-    ap (λ (l : List Entry). handed l) begins.1 ∙ handed_more xs begins.0 c (ap (λ (l : List Entry). handed l) one ∙ handed_first c e is)
+pub initial_on : (c : InitialState) (e : Entry) (xs ys : List Entry) → entries.Initial c ≡ e → xs ≡ e ∷ [] → Begins xs ys → initial_of ys ≡ Some c
+initial_on c e xs ys is one begins =
+    ap (λ (l : List Entry). initial_of l) begins.1 ∙ initial_more xs begins.0 c (ap (λ (l : List Entry). initial_of l) one ∙ initial_first c e is)
 
 -- nothing was read, since memory ran out
 pub none_read : (uid gid : ℕ) (file : List ℕ) (seen : List Entry) (taken : Option (List ℕ)) → ReadsByJobs uid gid file seen [] taken taken (Err client.Memory)

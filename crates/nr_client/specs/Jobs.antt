@@ -12,8 +12,8 @@ use Rattle.nr_shared.specs.declared.entry.Entry.TheVariants as entries
 use Rattle.nr_shared.specs.Ending.{IsCause}
 use Rattle.nr_link.specs.declared.end.End.TheVariants as ends
 use Rattle.nr_requester.specs.RequesterState.{RequesterSide}
-use Rattle.nr_shared.specs.declared.entry.Handing.{Handing}
-use Rattle.nr_shared.specs.Histories.{handed}
+use Rattle.nr_shared.specs.declared.entry.InitialState.{InitialState}
+use Rattle.nr_shared.specs.Histories.{initial_of}
 use Rattle.nr_shared.specs.Opening.{GivesBack}
 use Rattle.nr_client.specs.declared.call_end.CallEnd.TheVariants as calls
 use Rattle.nr_client.specs.declared.client_end.ClientEnd.{ClientEnd}
@@ -83,15 +83,15 @@ pub record ReadsByJobs (uid gid : ℕ) (file : List ℕ) (seen : List Entry) (mi
 -- ---- A session's requester, which callers share meanwhile
 
 -- A requester, with its source and its sink, was shared by callers that read a file, and taken back. Whatever marks it had made, it then stands for
--- those with the history's, which keep the law of its side (`follows` of GivesBack).
+-- those with the history's, which keep the law of its side (`represents` of GivesBack).
 pub record ReadsShared {I O : Type 0} (left given : I → Option (List ℕ)) (source_faults : I → ℕ) (sink_taken : O → Option (List ℕ)) (sink_faults : O → ℕ)
     (uid gid : ℕ) (file : List ℕ) (h : RequesterSide) (source : I) (sink : O) (source' : I) (sink' : O) (taken taken' : Option (List ℕ)) (result : Result (Unit {0}) ClientEnd) : Type 0 where
-  pub handing : Handing
+  pub initial : InitialState
   pub seen : List Entry
   pub mine : List ℕ
-  pub is_handed : handed seen ≡ Some handing
-  pub of_requester : handing.requester ≡ h
-  pub of_sink : (handing.taken ≡ sink_taken sink) × (handing.faults ≡ sink_faults sink)
+  pub is_initial : initial_of seen ≡ Some initial
+  pub of_requester : initial.requester ≡ h
+  pub of_sink : (initial.taken ≡ sink_taken sink) × (initial.faults ≡ sink_faults sink)
   pub requester : RequesterSide
   pub back : GivesBack left given source_faults sink_taken sink_faults seen mine source requester source' sink'
   pub reads : ReadsByJobs uid gid file seen mine taken taken' result

@@ -7,7 +7,7 @@ ghost use Rattle.nr_turnstile.specs.Passes.{mine_of, seen_by};
 ghost use Rattle.nr_turnstile.specs.Rule.{Begins};
 ghost use Rattle.nr_shared.specs.declared.entry.Entry.{Entry};
 ghost use Rattle.nr_shared.specs.declared.entry.Entry.TheVariants as entries;
-ghost use Rattle.nr_shared.specs.declared.feeder.Beside.{Beside};
+ghost use Rattle.nr_shared.specs.declared.source_reader.InitialSource.{InitialSource};
 ghost use Rattle.nr_shared.specs.Opening.{GivesBack};
 ghost use Rattle.nr_shared.specs.Sharing.{SharedRests};
 ghost use Rattle.nr_client.specs.Jobs.{IsExchange, IsOfFile, ReadsByJobs, ReadsShared, jobs_max};
@@ -30,7 +30,7 @@ use nr_nfs_base::{Attributes, Handle, TRANSFER_MAX};
 use nr_outside::{Sink, Source};
 use nr_reduce::{Call, Form, Outcome};
 use nr_requester::{Done, Requester};
-use nr_shared::{HandedIn, Noted, Pass, SharedRequester};
+use nr_shared::{Appended, InitialHistory, Pass, SharedRequester};
 use nr_xdr::Memory;
 use std::alloc::{AllocError, Global};
 use std::sync::Wait;
@@ -56,7 +56,7 @@ struct ReadJob<I: Source, O: Sink> {
 }
 
 /// Hands a requester in, to be shared, with its source and its sink.
-pub(crate) fn share<K: Noted, R: Wait, I: Source, O: Sink>(
+pub(crate) fn share<K: Appended, R: Wait, I: Source, O: Sink>(
     rt: &R,
     alloc: Global,
     requester: Requester,
@@ -66,15 +66,15 @@ pub(crate) fn share<K: Noted, R: Wait, I: Source, O: Sink>(
 where
     I: Drop,
     O: Drop,
-    requires entry { entries.Handed (record { requester = requester; faults = O.faults sink; taken = O.taken sink }) ≡ K.entry }
+    requires entry { entries.Initial (record { requester = requester; faults = O.faults sink; taken = O.taken sink }) ≡ K.entry }
     requires has_memory { requester.state.side.ended ≢ Some ends.Memory }
     requires fed { fed_bytes requester ≤ bytes_before }
     ensures rests { IfOk result (λ t. SharedRests t.0 t.1) }
     ensures seen { IfOk result (λ t. (seen_by t.1.main ≡ K.entry ∷ []) × (mine_of t.1.main ≡ [])) }
-    ensures source { IfOk result (λ t. (b : Beside I O) × ((seen_by t.1.source ≡ b ∷ []) × (b.source.value ≡ source))) }
+    ensures source { IfOk result (λ t. (b : InitialSource I O) × ((seen_by t.1.source ≡ b ∷ []) × (b.source.value ≡ source))) }
     ensures err { IfErr result (λ back. GivesBack I.left I.given I.faults O.taken O.faults (K.entry ∷ []) [] source back.0 back.1 back.2) }
 {
-    SharedRequester::new::<HandedIn<K>, R>(rt, alloc, requester, source, sink)
+    SharedRequester::new::<InitialHistory<K>, R>(rt, alloc, requester, source, sink)
 }
 
 /// Makes a call, if there was memory for it. Gives its outcome.
@@ -163,9 +163,12 @@ fn fetch_all<R: Threads + Wait + Sync, I: Source + Send, O: Sink + Send>(
     ensures len { length made.new ≡ length made.old }
     ensures each { (i : ℕ) (d : _) → i < length made.old → HasRun shared.now uid gid file.now size (slice_index_or made.old i d) (slice_index_or made.new i d) }
 {
-    thread::for_each_mut(rt, made, threads, &|_, job| {
-        fetch(rt, alloc, shared, uid, gid, file, size, job)
-    });
+    thread::for_each_mut(
+        rt,
+        made,
+        threads,
+        &|_, job| { fetch(rt, alloc, shared, uid, gid, file, size, job) },
+    );
 }
 
 /// Where the pieces of one job begin: every `step` bytes from an offset on, at most so many, before the size.
@@ -305,9 +308,7 @@ fn read_rest<R: Wait, I: Source, O: Sink, K: Sink>(
     ensures out_faults { OutputFaults result (K.faults out.old) (K.faults out.new) }
 {
     'rest: while *at < end {
-        match read_on(
-            rt, alloc, shared, pass, uid, gid, file, size, end, at, out,
-        ) {
+        match read_on(rt, alloc, shared, pass, uid, gid, file, size, end, at, out) {
             Ok(()) => {}
             Err(why) => return Err(why),
         }
@@ -368,9 +369,7 @@ fn finish_piece<R: Wait, I: Source, O: Sink, K: Sink>(
         Ok(()) => {}
         Err(why) => return Err(why),
     }
-    match read_rest(
-        rt, alloc, shared, pass, uid, gid, file, size, end, at, out,
-    ) {
+    match read_rest(rt, alloc, shared, pass, uid, gid, file, size, end, at, out) {
         Ok(()) => Ok(()),
         Err(why) => Err(why),
     }
@@ -403,9 +402,7 @@ fn write_piece<R: Wait, I: Source, O: Sink, K: Sink>(
 {
     let end = *at + piece_left(size, *at) as u64;
     match outcome {
-        None => read_rest(
-            rt, alloc, shared, pass, uid, gid, file, size, end, at, out,
-        ),
+        None => read_rest(rt, alloc, shared, pass, uid, gid, file, size, end, at, out),
         Some(outcome) => finish_piece(
             rt, alloc, shared, pass, uid, gid, file, size, outcome, at, out,
         ),
@@ -642,7 +639,7 @@ pub(crate) fn has_memory(requester: &Requester) -> bool
 }
 
 /// Shares a requester with its source and its sink, reads a file into an output by jobs, and gives the source and the sink back.
-pub(crate) fn read_shared<N: Noted, R: Threads + Wait + Sync, I: Source, O: Sink, K: Sink>(
+pub(crate) fn read_shared<N: Appended, R: Threads + Wait + Sync, I: Source, O: Sink, K: Sink>(
     rt: &R,
     alloc: Global,
     requester: Requester,
@@ -657,7 +654,7 @@ pub(crate) fn read_shared<N: Noted, R: Threads + Wait + Sync, I: Source, O: Sink
 where
     I: Drop + Send,
     O: Drop + Send,
-    requires entry { entries.Handed (record { requester = requester; faults = O.faults sink; taken = O.taken sink }) ≡ N.entry }
+    requires entry { entries.Initial (record { requester = requester; faults = O.faults sink; taken = O.taken sink }) ≡ N.entry }
     requires has_memory { requester.state.side.ended ≢ Some ends.Memory }
     requires fed { fed_bytes requester ≤ bytes_before }
     requires jobs { (0 < jobs) × (jobs ≤ jobs_max) }

@@ -10,7 +10,7 @@ use Rattle.nr_turnstile.specs.Passes.{mine_of, seen_by}
 use Rattle.nr_turnstile.specs.Rule.{Begins, IsIn}
 use Rattle.nr_shared.specs.declared.call_end.CallEnd.{CallEnd as SharedEnd}
 use Rattle.nr_shared.specs.declared.entry.Entry.{Entry}
-use Rattle.nr_shared.specs.declared.line.Line.{Line}
+use Rattle.nr_shared.specs.declared.requester_with_sink.RequesterWithSink.{RequesterWithSink}
 use Rattle.nr_client.specs.declared.client_end.ClientEnd.{ClientEnd}
 use Rattle.nr_client.specs.declared.client_end.ClientEnd.TheVariants as client
 use Rattle.nr_client.specs.declared.jobs.PieceRead.{PieceRead}
@@ -23,13 +23,13 @@ use Rattle.nr_client.specs.Reading.FileRead.{SizeKnown}
 use Rattle.nr_client.specs.Shared.{shared_end}
 
 -- A caller has seen more and has more places. What it added submits such calls alone.
-pub record Grows {O : Type 0} (Is : Call → Type 0) (p q : Pass (Line O) Entry) : Type 0 where
+pub record Grows {O : Type 0} (Is : Call → Type 0) (p q : Pass (RequesterWithSink O) Entry) : Type 0 where
   pub seen : Begins (seen_by p) (seen_by q)
   pub mine : (k : ℕ) → IsIn k (mine_of p) → IsIn k (mine_of q)
   pub own : (k : ℕ) (e : Entry) → IsIn k (mine_of q) → get_elem? (seen_by q) k ≡ some e → IsIn k (mine_of p) ⊎ Submits Is e
 
 -- why a call has no outcome: for this cause, or memory ran out
-abbrev pub HasNone : {O : Type 0} → Call → ClientEnd → Pass (Line O) Entry → Type 0
+abbrev pub HasNone : {O : Type 0} → Call → ClientEnd → Pass (RequesterWithSink O) Entry → Type 0
 HasNone call end p = (end ≡ client.Memory) ⊎ ((cause : SharedEnd) × ((end ≡ client.Link (shared_end cause)) × LacksAnswer (seen_by p) call cause))
 
 -- the outcome of the READ of a piece, if it has one, is that of an exchange of the caller's
@@ -41,7 +41,7 @@ abbrev pub AreFetched : (uid gid : ℕ) → (file : List ℕ) → (size : ℕ) �
 AreFetched uid gid file size seen mine pieces = All (λ (piece : PieceRead). IsExchange seen mine (read_call uid gid file piece.at (piece_left size piece.at)) piece.outcome) pieces
 
 -- the size is known, and these bytes came and were written
-pub record ReadByJobs {O : Type 0} (uid gid : ℕ) (file : List ℕ) (size at : ℕ) (p : Pass (Line O) Entry) (taken taken' : Option (List ℕ)) : Type 0 where
+pub record ReadByJobs {O : Type 0} (uid gid : ℕ) (file : List ℕ) (size at : ℕ) (p : Pass (RequesterWithSink O) Entry) (taken taken' : Option (List ℕ)) : Type 0 where
   pub outcomes : List Outcome
   pub bytes : List ℕ
   pub made : AreExchanges uid gid file (seen_by p) (mine_of p) [] outcomes
@@ -49,15 +49,15 @@ pub record ReadByJobs {O : Type 0} (uid gid : ℕ) (file : List ℕ) (size at : 
   pub appends : Appends taken taken' bytes
 
 -- whatever was read and written before, it goes on so; or it has ended so
-abbrev pub ReadsMore : {O : Type 0} → (uid gid : ℕ) → (file : List ℕ) → (size at at' : ℕ) → (p q : Pass (Line O) Entry) → (t t' : Option (List ℕ)) → Type 0
+abbrev pub ReadsMore : {O : Type 0} → (uid gid : ℕ) → (file : List ℕ) → (size at at' : ℕ) → (p q : Pass (RequesterWithSink O) Entry) → (t t' : Option (List ℕ)) → Type 0
 ReadsMore uid gid file size at at' p q t t' = (taken : Option (List ℕ)) → ReadByJobs uid gid file size at p taken t → ReadByJobs uid gid file size at' q taken t'
 
-pub record EndedByJobs {O : Type 0} (uid gid : ℕ) (file : List ℕ) (p : Pass (Line O) Entry) (taken taken' : Option (List ℕ)) (given : Result (Unit {0}) ClientEnd) : Type 0 where
+pub record EndedByJobs {O : Type 0} (uid gid : ℕ) (file : List ℕ) (p : Pass (RequesterWithSink O) Entry) (taken taken' : Option (List ℕ)) (given : Result (Unit {0}) ClientEnd) : Type 0 where
   pub outcomes : List Outcome
   pub made : AreExchanges uid gid file (seen_by p) (mine_of p) [] outcomes
   pub ends : EndsByJobs uid gid file (seen_by p) outcomes taken taken' given
 
-abbrev pub EndsMore : {O : Type 0} → (uid gid : ℕ) → (file : List ℕ) → (size at : ℕ) → (p q : Pass (Line O) Entry) → (t t' : Option (List ℕ)) → Result (Unit {0}) ClientEnd → Type 0
+abbrev pub EndsMore : {O : Type 0} → (uid gid : ℕ) → (file : List ℕ) → (size at : ℕ) → (p q : Pass (RequesterWithSink O) Entry) → (t t' : Option (List ℕ)) → Result (Unit {0}) ClientEnd → Type 0
 EndsMore uid gid file size at p q t t' given = (taken : Option (List ℕ)) → ReadByJobs uid gid file size at p taken t → EndedByJobs uid gid file q taken t' given
 
 -- the replies reach this end of a piece, or what is left of it is up to there

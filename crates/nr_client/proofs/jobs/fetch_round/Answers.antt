@@ -18,6 +18,6 @@ returns-clause-grows g c =
     grows_then (IsOfFile c.args.uid c.args.gid c.args.file.now) c.args.pass.now.main c.make_jobs.new.pass.main c.join_jobs.new.pass.main c.make_jobs.ensures.rests.caller.lies
     (grows_none (IsOfFile c.args.uid c.args.gid c.args.file.now) c.args.pass.now.main c.make_jobs.new.pass.main c.make_jobs.ensures.unchanged.0 c.make_jobs.ensures.unchanged.1)
     (c.join_jobs.ensures.grows c.args.uid c.args.gid c.args.size c.args.file.now (λ k d lt.
-        (let old = c.in_ok-made.ensures.ok c.args.uid c.args.gid c.args.file.now k d (subst (λ (n : ℕ). k < n) c.fetch_all.ensures.len lt) in
-        let run = c.fetch_all.ensures.each k d (subst (λ (n : ℕ). k < n) c.fetch_all.ensures.len lt) in
-        (run.0, (own_reads (IsOfFile c.args.uid c.args.gid c.args.file.now) _ _ old.1.0 run.1.1.0, run.1.1.1)))))
+    (let old = c.in_ok-made.ensures.ok c.args.uid c.args.gid c.args.file.now k d (subst (λ (n : ℕ). k < n) c.fetch_all.ensures.len lt) in
+    let run = c.fetch_all.ensures.each k d (subst (λ (n : ℕ). k < n) c.fetch_all.ensures.len lt) in
+    (run.0, (own_reads (IsOfFile c.args.uid c.args.gid c.args.file.now) _ _ old.1.0 run.1.1.0, run.1.1.1)))))

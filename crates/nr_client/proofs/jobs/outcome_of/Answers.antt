@@ -20,9 +20,14 @@ returns-in-Err-call-clause-grows g c asked is =
 
 pub returns-in-Err-call-clause-err : goal.returns-in-Err-call-clause-err
 returns-in-Err-call-clause-err g c asked is =
-    inr (c.in-Err-call.end, (ap client.Link c.of_shared.ensures,
-    subst (λ (d : Call). LacksAnswer (seen_by c.call.new.pass.main) d c.in-Err-call.end) (same_asked c.in-Ok.call asked c.in-Ok.is is)
-    (lacks c.args.pass.now.main c.call.new.pass.main c.in-Ok.call c.in-Err-call.end c.in-Err-call.ensures.called)))
+    inr (
+      c.in-Err-call.end,
+      (
+        ap client.Link c.of_shared.ensures,
+        subst (λ (d : Call). LacksAnswer (seen_by c.call.new.pass.main) d c.in-Err-call.end) (same_asked c.in-Ok.call asked c.in-Ok.is is)
+            (lacks c.args.pass.now.main c.call.new.pass.main c.in-Ok.call c.in-Err-call.end c.in-Err-call.ensures.called),
+      ),
+    )
 
 pub returns-in-Ok-call-clause-grows : goal.returns-in-Ok-call-clause-grows
 returns-in-Ok-call-clause-grows g c asked is =
