@@ -3,10 +3,10 @@
     python3 conformance/captures_of_runs.py [--only WORD] [--most BYTES] [--jobs N] [--show NAME]
 
 A run can be a capture if its links have the numbers from 1 on, both first numbers are 1, the credits that all ends were
-opened with are the same, so are the units of all clients and those of all servers, and no client has a number. The text
-of each run that can be is written by this script alone. `capture_of` has to read it, `capture_text` has to give it back,
-and the definition of the capture of a run (`captured`) has to give what was read. Exit status: 0 all agree, 1 some
-differ, 2 nothing could be run."""
+opened with are the same, also while a server is busy, so are the units of all clients and those of all servers, and no
+client has a number. The text of each run that can be is written by this script alone. `capture_of` has to read it,
+`capture_text` has to give it back, and the definition of the capture of a run (`captured`) has to give what was read.
+Exit status: 0 all agree, 1 some differ, 2 nothing could be run."""
 import argparse
 import collections
 import gzip
@@ -20,7 +20,7 @@ from antt import ROOT, Project
 from check_definitions import HERE, NAMES, RUNS, Names, Recorded
 from values import CannotEvaluate, call, deeply, field, show
 
-FILES = ('named', 'random', 'hostile', 'aimed', 'cut', 'sizes')
+FILES = ('named', 'random', 'hostile', 'aimed', 'cut', 'sizes', 'grants')
 DEFAULT_CAPACITY = 1 << 40
 STATE: dict[str, Any] = {}
 
@@ -32,7 +32,7 @@ def why_not(run: Recorded) -> str | None:
         return 'links'
     if any(o['first_xid'] != 1 or o['first_stag'] != 1 for o in opened):
         return 'first numbers'
-    if len({c for o in opened for c in (o['wished'], o['granted'])}) != 1:
+    if len({c for o in opened for c in (o['wished'], o['granted'], o.get('low', o['granted']))}) != 1:
         return 'credits'
     if len({(o['client_units'], o['server_units']) for o in opened}) != 1:
         return 'units'
@@ -99,6 +99,8 @@ def line(m: Recorded) -> str | None:
         return 'exec %d %d %d' % (link, m['xid'], m['seconds'])
     if kind == 'Done':
         return 'done %d %d %s' % (link, m['xid'], outcome(m['outcome']))
+    if kind == 'Grant':
+        return 'grant %d %d' % (link, m['credits'])
     return 'drop %d' % link if kind == 'Drop' else '%s %d %d' % (kind.lower(), link, m['xid'])
 
 

@@ -54,6 +54,8 @@ USES = [
     'use Rattle.nr_laws.specs.Payloads.{form_conveyed}',
     'use Rattle.nr_reduce.specs.Served.{first_ready}',
     'use Rattle.nr_reduce.specs.Hellos.{client_agreement, server_agreement}',
+    'use Rattle.nr_reduce.specs.ServerState.{credit_word, is_busy}',
+    'use Rattle.nr_laws.specs.Grant.{last_granted}',
 ]
 ROLES: dict[str, str] = {
     'events': 'λ link side before mark. events_at link side before mark',
@@ -102,6 +104,9 @@ ROLES: dict[str, str] = {
                     '(read_bytes (placed_bytes opened link side run) (lists_by body).read)',
     'answer_brings': 'λ offer answer payload. whole (replied_by (target_of (call_of payload))) '
                      '(stream_brought offer answer) (some_bytes (moved_brought offer answer))',
+    'word': 'λ state. credit_word state',
+    'busy': 'λ state. is_busy state',
+    'last_granted': 'λ link credits run. last_granted link credits run',
 }
 LAWS = (
     'once: Sends',
@@ -146,6 +151,8 @@ LAWS = (
     'offered_memory: server_bytes',
     'offered_memory: reads',
     'grant',
+    'server_credits: range',
+    'server_credits: set',
     'sides_agree',
     'calls_complete',
     'segments_keep_the_rules: client',
@@ -313,6 +320,17 @@ class Link:
                 holds = len(held) == len(own) and all(b == own[i] or b in came[i] for i, b in enumerate(held))
                 self.note('offered_memory: %s_bytes' % side, holds, ('brought',) if here else ())
 
+    def credits(self) -> None:
+        """What the server grants is in range, and what was set last, but at most `low` while it is busy."""
+        server, granted, low = self.ends['server'], self.opened['granted'], self.opened['low']
+        word = self.names.ask('word', server['state'])
+        self.note('server_credits: range', 1 <= word <= granted)
+        if server['ended'].n == 'None':
+            last = self.names.ask('last_granted', self.number, granted, list(self.marks))
+            busy = self.names.ask('busy', server['state'])
+            kinds = [k for k, so in (('set', last != granted), ('low', busy and low < last)) if so]
+            self.note('server_credits: set', word == (min(low, last) if busy else last), kinds)
+
     def mark(self, m: Recorded) -> None:
         made = self.names.mark(m)
         if made is None:
@@ -322,6 +340,7 @@ class Link:
             lives = self.ends['client']['ended'].n == 'None'
             self.step(m, made)
             self.marks.append(made)
+            self.credits()
             if lives and self.ends['client']['ended'].n != 'None':
                 stood = {r['stag']: self.placed('client', r['stag']) for r in self.ends['client']['state']['regions']}
                 self.handed.append(('regions_handed_back: ended', stood))

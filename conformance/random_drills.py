@@ -2,7 +2,7 @@
 
     python3 conformance/random_drills.py [--seed N] [--scripts N] [--lines N] [--program NFSRDMA] [--plain PLAIN_CALLS] [--jobs N]
 
-Half of the scripts have lines call, up, work and down, and a drain at the end; the other half also have bytes of a peer that keeps to no
+Half of the scripts have lines call, up, work, down and grant, and a drain at the end; the other half also have bytes of a peer that keeps to no
 rule, on links whose calls change nothing. Of each: the status is 0, nothing is reported, each call line has one printed line; each call
 that is done has the reply that plain_calls gives at its place, and the places of the changes are 0, 1, 2 and so on up to the journal's
 length; and what ended a side of a link in the first half of a script ends it in the complete script. A link without such bytes doesn't
@@ -84,6 +84,8 @@ class Maker:
         c = self.rng.randint(1, self.clients)
         if c in self.hostile and self.rng.random() < 0.003:
             return 'raw %d %s %s' % (c, self.rng.choice(('up', 'down')), self.raw().hex())
+        if self.rng.random() < 0.04:
+            return 'grant %d %d' % (c, self.rng.randint(1, self.credits))
         kind = self.rng.choice(('call', 'up', 'up', 'work', 'down', 'down'))
         if kind == 'call':
             return self.call(c)

@@ -121,7 +121,8 @@ plain_if name others =
     if_if IsWritableMark (bytes_eq name (codes "exec")) (exec_in others) _ (exec_if others)
     (if_if IsWritableMark (bytes_eq name (codes "forget")) (call_mark_in marks.Forget others) _ (call_mark_if marks.Forget others (λ link xid h. h))
     (if_if IsWritableMark (bytes_eq name (codes "revoke")) (call_mark_in marks.Revoke others) _ (call_mark_if marks.Revoke others (λ link xid h. h))
-    (if_if IsWritableMark (bytes_eq name (codes "drop")) (link_mark_in marks.Drop others) None (link_mark_if others) tt)))
+    (if_if IsWritableMark (bytes_eq name (codes "drop")) (link_mark_in marks.Drop others) _ (link_mark_if others)
+    (if_if IsWritableMark (bytes_eq name (codes "grant")) (call_mark_in marks.Grant others) None (call_mark_if marks.Grant others (λ link credits h. h)) tt))))
 
 named_if : (name : List ℕ) (others : List (List ℕ)) → If IsWritableMark (mark_named name others)
 named_if name others =

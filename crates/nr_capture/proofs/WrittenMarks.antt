@@ -239,6 +239,8 @@ mark_back (marks.Revoke link xid) h l =
 mark_back (marks.Drop link) h l =
     ap mark_in (with_word space (codes "drop") (decimal link) (codes "drop" ∷ []) refl (number_lacks space link no_space l))
     ∙ ap (λ (o : Option ℕ). o >>= λ n. Some (marks.Drop n)) (word_back link l)
+mark_back (marks.Grant link credits) h l =
+    ap mark_in (named_two (codes "grant") link credits refl l h) ∙ call_mark_back marks.Grant link credits l h
 
 -- ===== no line has a newline
 
@@ -296,3 +298,4 @@ mark_lacks (marks.Done link xid outcome) h l =
 mark_lacks (marks.Forget link xid) h l = named_lack (codes "forget ") link xid refl l h
 mark_lacks (marks.Revoke link xid) h l = named_lack (codes "revoke ") link xid refl l h
 mark_lacks (marks.Drop link) h l = lacks_both newline (codes "drop ") (decimal link) refl (number_lacks newline link no_newline l)
+mark_lacks (marks.Grant link credits) h l = named_lack (codes "grant ") link credits refl l h

@@ -24,6 +24,7 @@ link_of (marks.Done link xid outcome) = link
 link_of (marks.Forget link xid) = link
 link_of (marks.Revoke link xid) = link
 link_of (marks.Drop link) = link
+link_of (marks.Grant link credits) = link
 
 -- a mark is of a link of the script
 abbrev pub is_link : Opening → ℕ → Bool

@@ -104,7 +104,8 @@ plain_mark name others =
     else (if bytes_eq name (codes "forget") then call_mark_in marks.Forget others
     else (if bytes_eq name (codes "revoke") then call_mark_in marks.Revoke others
     else (if bytes_eq name (codes "drop") then link_mark_in marks.Drop others
-    else None)))
+    else (if bytes_eq name (codes "grant") then call_mark_in marks.Grant others
+    else None))))
 
 abbrev pub mark_named : List ℕ → List (List ℕ) → Option CapturedMark
 mark_named name others =

@@ -95,6 +95,7 @@ mark_text (marks.Done link xid outcome) = codes "done " ++ two_numbers_text link
 mark_text (marks.Forget link xid) = codes "forget " ++ two_numbers_text link xid
 mark_text (marks.Revoke link xid) = codes "revoke " ++ two_numbers_text link xid
 mark_text (marks.Drop link) = codes "drop " ++ decimal link
+mark_text (marks.Grant link credits) = codes "grant " ++ two_numbers_text link credits
 
 -- ===== a capture
 

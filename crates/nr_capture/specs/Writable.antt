@@ -46,6 +46,7 @@ IsWritableMark (marks.Done link xid outcome) = IsWord xid × IsWritableOutcome o
 IsWritableMark (marks.Forget link xid) = IsWord xid
 IsWritableMark (marks.Revoke link xid) = IsWord xid
 IsWritableMark (marks.Drop link) = Unit {0}
+IsWritableMark (marks.Grant link credits) = IsWord credits
 
 -- the numbers of the first line are in range, and each mark is of a link of it
 pub record IsWritable (capture : CaptureLines) : Type 0 where

@@ -277,6 +277,9 @@ fn plain_mark(name: &[u8], words: &[&[u8]]) -> Option<CapturedMark>
     } else if is(name, b"drop") {
         let link = one_number(words)?;
         Some(CapturedMark::Drop { link })
+    } else if is(name, b"grant") {
+        let (link, credits) = two_numbers(words)?;
+        Some(CapturedMark::Grant { link, credits })
     } else {
         None
     }

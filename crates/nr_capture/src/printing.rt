@@ -320,6 +320,7 @@ fn push_mark(alloc: Global, text: &mut String, mark: &CapturedMark) -> Result<()
         CapturedMark::Forget { link, xid } => push_two(text, "forget ", *link, *xid),
         CapturedMark::Revoke { link, xid } => push_two(text, "revoke ", *link, *xid),
         CapturedMark::Drop { link } => push_number(text, "drop ", u64::from(*link)),
+        CapturedMark::Grant { link, credits } => push_two(text, "grant ", *link, *credits),
     }
 }
 

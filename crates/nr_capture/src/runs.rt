@@ -7,7 +7,7 @@ ghost use Rattle.std.specs.String.{string_bytes};
 ghost use Rattle.nr_reduce.specs.declared.call.Outcome.TheVariants as outcomes;
 ghost use Rattle.nr_marks.specs.Views.{mark_seen, plain_submit};
 ghost use Rattle.nr_capture.specs.declared.capture.CapturedMark.TheVariants as marks;
-ghost use Rattle.nr_capture.specs.Captured.{Captured, captured_mark, captured_piece, captured_submit};
+ghost use Rattle.nr_capture.specs.Captured.{Captured, captured_mark, captured_piece, captured_submit, captured_told};
 ghost use Rattle.nr_capture.specs.Texts.{line_text, two_numbers_text};
 
 use crate::printing::{
@@ -15,7 +15,7 @@ use crate::printing::{
     push_submit, push_text, push_two,
 };
 use nr_marks::{MarkList, MarkView};
-use nr_reduce::{Call, Form, Mark, Outcome, Submission};
+use nr_reduce::{Call, Form, Mark, Outcome, Submission, Told};
 use nr_texts::Opening;
 use nr_wire::Side;
 use nr_xdr::{Memory, Octets};
@@ -134,11 +134,11 @@ fn push_reply(
     push_text(text, "\n")
 }
 
-/// The line of a call whose answer or whose memory was given up.
-fn push_named(text: &mut String, name: &str, link: u32, xid: u32) -> Result<(), Memory>
-    ensures { OnOk result (string_bytes text.new ≡ string_bytes text.old ++ (name.now ++ two_numbers_text link xid ++ codes "\n")) }
+/// The line of a call whose answer or whose memory was given up, with its xid, or of credits that are granted.
+fn push_named(text: &mut String, name: &str, link: u32, number: u32) -> Result<(), Memory>
+    ensures { OnOk result (string_bytes text.new ≡ string_bytes text.old ++ (name.now ++ two_numbers_text link number ++ codes "\n")) }
 {
-    push_two(text, name, link, xid)?;
+    push_two(text, name, link, number)?;
     push_text(text, "\n")
 }
 
@@ -148,6 +148,16 @@ fn push_dropped(text: &mut String, link: u32) -> Result<(), Memory>
 {
     push_number(text, "drop ", u64::from(link))?;
     push_text(text, "\n")
+}
+
+/// The line of what a server was told.
+#[tactic(auto, unfolding(crate::specs::Texts::mark_text))]
+fn push_told(text: &mut String, link: u32, what: Told) -> Result<(), Memory>
+    ensures { OnOk result (string_bytes text.new ≡ string_bytes text.old ++ line_text (captured_told link what)) }
+{
+    match what {
+        Told::Granted { credits } => push_named(text, "grant ", link, credits),
+    }
 }
 
 /// The line of a mark, if it has one.
@@ -177,6 +187,7 @@ fn push_mark(alloc: Global, text: &mut String, mark: &Mark) -> Result<(), Memory
         Mark::Forget { link, xid } => push_named(text, "forget ", *link, *xid),
         Mark::Revoke { link, xid, .. } => push_named(text, "revoke ", *link, *xid),
         Mark::Drop { link } => push_dropped(text, *link),
+        Mark::Told { link, what } => push_told(text, *link, *what),
     }
 }
 

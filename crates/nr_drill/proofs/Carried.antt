@@ -8,6 +8,7 @@ use Rattle.nr_wire.specs.declared.hello.Side.{Side}
 use Rattle.nr_wire.specs.declared.hello.Side.TheVariants.{Initiator, Responder}
 use Rattle.nr_reduce.specs.declared.mark.Mark.{Mark}
 use Rattle.nr_reduce.specs.declared.mark.Mark.TheVariants as marks
+use Rattle.nr_reduce.specs.declared.mark.Told.TheVariants.{Granted}
 use Rattle.nr_reduce.specs.declared.mark.LinkParameters.{LinkParameters}
 use Rattle.nr_link.specs.declared.end.End.{End}
 use Rattle.nr_reduce.specs.declared.call.Call.{Call}
@@ -30,9 +31,9 @@ use Rattle.nr_reduce.specs.Matched.{Matched, MatchedMark}
 use Rattle.nr_reduce.proofs.Standing.{AtEachMark_more, itself, sent_one, received_one}
 use Rattle.nr_laws.proofs.DistinctKeys.{any_append}
 use Rattle.nr_reduce.proofs.Unconcerned.{not_fed as is_unfed, none_fed}
-use Rattle.nr_drill.specs.Drill.{link_of, Setting, Drill, Pipes, empty_pipes, plain_of, now, unwritten, appended, after_output, after_all_output, settled, pipes_of, with_mark, with_pipes, after_feeding, after_feeding_up, after_feeding_down, after_up, after_down, after_handing, after_done, after_dones, after_outcomes, after_submit, if_standing, waiting_call, after_answer, after_execution, after_work, after_calls, after_all_up, after_all_work, after_all_down, after_moves, answer_of_line, open_xid, after_giving_up, after_forget, after_taking_back, after_revoke, after_drop, after_raw, after_round, after_opening, after_openings, SerialServer, start, links_of, cred_of, with_cred}
+use Rattle.nr_drill.specs.Drill.{link_of, Setting, Drill, Pipes, empty_pipes, plain_of, now, unwritten, appended, after_output, after_all_output, settled, pipes_of, with_mark, with_pipes, after_feeding, after_feeding_up, after_feeding_down, after_up, after_down, after_handing, after_done, after_dones, after_outcomes, after_submit, if_standing, waiting_call, after_answer, after_execution, after_work, after_calls, after_all_up, after_all_work, after_all_down, after_moves, answer_of_line, open_xid, after_giving_up, after_forget, after_taking_back, after_revoke, after_drop, after_raw, after_round, after_opening, after_openings, SerialServer, start, links_of, cred_of, with_cred, after_grant}
 use Rattle.nr_texts.specs.declared.opening.Opening.{Opening}
-use Rattle.nr_script.specs.Script.{ScriptLines, HasWritableCred, IsScript, FollowOn, may_follow, is_client, is_call_line}
+use Rattle.nr_script.specs.Script.{ScriptLines, IsScript, FollowOn, may_follow, is_client, is_call_line, is_granted}
 use Rattle.nr_drill.specs.Follows.{after_line, Drains, Makes, MakeAll, Follows, parameters_of, setting_of, opened_drill}
 use Rattle.nr_drill.specs.Headline.{KeepsLaws}
 use Rattle.nr_drill.specs.Lines.{is_raw_of, HasNoRaw, IsLink}
@@ -42,7 +43,7 @@ use Rattle.nr_drill.proofs.Lawful.{IsLawful, IsWritten, Keeps, own_written, up_w
 use Rattle.nr_script.specs.declared.script.Line.{Line}
 use Rattle.nr_script.specs.declared.script.Line.TheVariants as lines
 use Rattle.nr_drill.proofs.Handed.{follows_hands}
-use Rattle.nr_drill.proofs.Followed.{quiet_mark, apart, unconcerned, not_written, Extends, Acts, Holds, AreWritable, Among, elsewhere, holds_by, line_holds, cred_at, submit_adds, up_adds, down_adds, work_adds, forget_adds, revoke_adds, drop_adds, raw_adds, moves_adds, opening_adds, keeps_forget, keeps_drop, opening_keeps, among_range, start_lawful, start_creds, opened_by_script, follows_keeps_laws}
+use Rattle.nr_drill.proofs.Followed.{quiet_mark, apart, unconcerned, not_written, Extends, Acts, Holds, AreWritable, Among, elsewhere, holds_by, line_holds, cred_at, submit_adds, up_adds, down_adds, work_adds, forget_adds, revoke_adds, drop_adds, raw_adds, moves_adds, opening_adds, keeps_forget, keeps_drop, opening_keeps, among_range, start_lawful, start_creds, opened_by_script, follows_keeps_laws, grant_adds, keeps_grant, all_fit, IsFit}
 
 -- what each side sent is what the other received and what waits
 pub record IsCarried (link : ℕ) (d : Drill) : Type 0 where
@@ -427,6 +428,9 @@ carries_drop link d c =
     true_false : true ≡ false → ⊥
     true_false e = absurd cc
 
+carries_grant : (link credits : ℕ) (d : Drill) → Carries link d → Carries link (after_grant link credits d)
+carries_grant link credits d c = carry_mark link (marks.Told link (Granted credits)) d refl refl refl refl refl tt c
+
 -- ===== on other links
 
 pub not_fed : (link : ℕ) (side : Side) (mark : Mark) → link_of mark ≢ link → fed_at link side mark ≡ []
@@ -442,6 +446,7 @@ not_drop link (marks.Done l xid outcome) ne = refl
 not_drop link (marks.Lost l xid) ne = refl
 not_drop link (marks.Forget l xid) ne = refl
 not_drop link (marks.Revoke l xid bytes) ne = refl
+not_drop link (marks.Told l what) ne = refl
 
 matched_elsewhere : (link : ℕ) (run : List Mark) (mark : Mark) → link_of mark ≢ link → MatchedMark link run mark
 matched_elsewhere link run (marks.Fed l s bytes) ne = λ same. absurd (ne same)
@@ -453,6 +458,7 @@ matched_elsewhere link run (marks.Lost l xid) ne = tt
 matched_elsewhere link run (marks.Forget l xid) ne = tt
 matched_elsewhere link run (marks.Revoke l xid bytes) ne = tt
 matched_elsewhere link run (marks.Drop l) ne = tt
+matched_elsewhere link run (marks.Told l what) ne = tt
 
 pub record IsSameHere (link : ℕ) (old new : List Mark) : Type 0 where
   pub sent : (side : Side) → bytes_sent link side new ≡ bytes_sent link side old
@@ -525,6 +531,7 @@ NamesClient (lines.Forget client number) = 1 ≤ client
 NamesClient (lines.Revoke client number) = 1 ≤ client
 NamesClient (lines.Drop client) = 1 ≤ client
 NamesClient (lines.Raw client side bytes) = 1 ≤ client
+NamesClient (lines.Grant client credits) = 1 ≤ client
 NamesClient lines.Drain = Unit {0}
 
 pub true_not : true ≡ false → ⊥
@@ -545,7 +552,7 @@ same_marks link old new m p c = record {
   gone = λ e. ap (λ (ps : List Pipes). slice_index_or ps (link - 1) empty_pipes) p ∙ c.gone (ap (λ (run : List Mark). is_dropped link run) (sym m) ∙ e);
 }
 
-line_stands : (s : Setting) (link : ℕ) (line : Line) (d : Drill) → 1 ≤ link → ((l : ℕ) → IsOpened (s.opened l)) → HasWritableCred line → NamesClient line → is_raw_of link line ≡ false →
+line_stands : (s : Setting) (link : ℕ) (line : Line) (d : Drill) → 1 ≤ link → ((l : ℕ) → IsOpened (s.opened l)) → IsFit s line → NamesClient line → is_raw_of link line ≡ false →
     Stands s link d → Stands s link (after_line s line d)
 line_stands s link (lines.Cred client cred) d one opened w some raw h =
     record { holds = line_holds s link (lines.Cred client cred) d opened w h.holds; carries = same_marks link d (with_cred client cred d) refl refl h.carries }
@@ -594,6 +601,11 @@ line_stands s link (lines.Raw client side bytes) d one opened w some raw h =
       carries = carries_elsewhere link client d (after_raw client side bytes (is_dropped client d.marks) d) ne
           (λ same. ne (let a = some in let b = one in let c = same in omega (arith, a, b, c))) (raw_adds client side bytes (is_dropped client d.marks) d) h.carries;
     }
+line_stands s link (lines.Grant client credits) d one opened w some raw h =
+    stands_by s client link d (after_grant client credits d) some one (record {
+      acts = record { own = λ k. keeps_grant s client credits d w.1 k; extends = grant_adds client credits d };
+      carries = λ k c. carries_grant client credits d c;
+    }) h
 line_stands s link lines.Drain d one opened w some raw h = h
 
 abbrev pub AreLinks : List ℕ → Type 0
@@ -617,7 +629,7 @@ pub are_links : (from n : ℕ) → 1 ≤ from → AreLinks (range_with_len from 
 are_links from zero some = tt
 are_links from (suc n) some = (some, are_links (from + 1) n (let a = some in omega (arith, a)))
 
-line_passed : (s : Setting) (clients link : ℕ) (line : Line) (old new : Drill) → 1 ≤ link → ((l : ℕ) → IsOpened (s.opened l)) → HasWritableCred line → NamesClient line → is_raw_of link line ≡ false →
+line_passed : (s : Setting) (clients link : ℕ) (line : Line) (old new : Drill) → 1 ≤ link → ((l : ℕ) → IsOpened (s.opened l)) → IsFit s line → NamesClient line → is_raw_of link line ≡ false →
     Makes s clients line old new → Stands s link old → Stands s link new
 line_passed s clients link (lines.Cred client cred) old new one opened w n r e h = subst (Stands s link) (sym e) (line_stands s link (lines.Cred client cred) old one opened w n r h)
 line_passed s clients link (lines.Call client form prog vers proc args) old new one opened w n r e h =
@@ -630,13 +642,14 @@ line_passed s clients link (lines.Forget client number) old new one opened w n r
 line_passed s clients link (lines.Revoke client number) old new one opened w n r e h = subst (Stands s link) (sym e) (line_stands s link (lines.Revoke client number) old one opened w n r h)
 line_passed s clients link (lines.Drop client) old new one opened w n r e h = subst (Stands s link) (sym e) (line_stands s link (lines.Drop client) old one opened w n r h)
 line_passed s clients link (lines.Raw client side bytes) old new one opened w n r e h = subst (Stands s link) (sym e) (line_stands s link (lines.Raw client side bytes) old one opened w n r h)
+line_passed s clients link (lines.Grant client credits) old new one opened w n r e h = subst (Stands s link) (sym e) (line_stands s link (lines.Grant client credits) old one opened w n r h)
 line_passed s clients link lines.Drain old new one opened w n r e h = drain_stands s link (links_of clients) e.0 old new one (are_links 1 clients (omega arith)) e.1 h
 
 pub neither_raw : (a b : Bool) → (a || b) ≡ false → (a ≡ false) × (b ≡ false)
 neither_raw true b e = absurd cc
 neither_raw false b e = (refl, e)
 
-pub lines_passed : (s : Setting) (clients link : ℕ) (all : List Line) (old new : Drill) → 1 ≤ link → ((l : ℕ) → IsOpened (s.opened l)) → AllByRecursion HasWritableCred all → AllByRecursion NamesClient all →
+pub lines_passed : (s : Setting) (clients link : ℕ) (all : List Line) (old new : Drill) → 1 ≤ link → ((l : ℕ) → IsOpened (s.opened l)) → AllByRecursion (IsFit s) all → AllByRecursion NamesClient all →
     list_any (is_raw_of link) all ≡ false → MakeAll s clients all old new → Stands s link old → Stands s link new
 lines_passed s clients link [] old new one opened w n r e h = subst (Stands s link) (sym e) h
 lines_passed s clients link (line ∷ others) old new one opened w n r e h =
@@ -746,6 +759,7 @@ names_client opening before (lines.Forget client number) e = from_one opening cl
 names_client opening before (lines.Revoke client number) e = from_one opening client (both_true (is_client opening client) (is_call_line client number before) e).0
 names_client opening before (lines.Drop client) e = from_one opening client e
 names_client opening before (lines.Raw client side bytes) e = from_one opening client e
+names_client opening before (lines.Grant client credits) e = from_one opening client (both_true (is_client opening client) (is_granted opening credits) e).0
 names_client opening before lines.Drain e = tt
 
 pub all_name : (opening : Opening) (before all : List Line) → FollowOn opening before all → AllByRecursion NamesClient all
@@ -772,7 +786,7 @@ follows_matches server script run is follows link low high raw =
     let clients = opening.clients in
     let first = openings_begin s link (links_of clients) (start clients) low (are_links 1 clients (omega arith)) (among_range link 1 clients low (let b = high in omega (arith, b)))
     (start_lawful (parameters_of opening link) link) (start_creds clients) refl (start_carries clients link low high) in
-    let last = lines_passed s clients link script.lines (opened_drill server opening) follows.last low (opened_by_script script is) is.creds (all_name opening [] script.lines is.follow_on) raw follows.makes first in
+    let last = lines_passed s clients link script.lines (opened_drill server opening) follows.last low (opened_by_script script is) (all_fit server script is) (all_name opening [] script.lines is.follow_on) raw follows.makes first in
     (last.carries, subst (Matched link) (sym follows.marks_are) last.carries.matched)
 
 -- ===== what a drill promises of each link

@@ -243,6 +243,7 @@ accepted_one_at link (marks.Lost l xid) = omega arith
 accepted_one_at link (marks.Forget l xid) = omega arith
 accepted_one_at link (marks.Revoke l xid bytes) = omega arith
 accepted_one_at link (marks.Drop l) = omega arith
+accepted_one_at link (marks.Told l what) = omega arith
 
 accepted_submits : (link : ℕ) (run : List Mark) → length (accepted_calls link run) ≤ submits_of link run
 unfolding accepted_calls
@@ -558,6 +559,8 @@ step clients all before after (marks.Fed l side bytes) old new is n noted h =
     same clients all before after (marks.Fed l side bytes) is old new h (λ k. record { accepts = refl; executes = refl }) refl refl noted
 step clients all before after (marks.Drop l) old new is n noted h =
     same clients all before after (marks.Drop l) is old new h (λ k. record { accepts = refl; executes = refl }) refl refl noted
+step clients all before after (marks.Told l what) old new is n noted h =
+    same clients all before after (marks.Told l what) is old new h (λ k. record { accepts = refl; executes = refl }) refl refl noted
 
 -- each mark of a run
 pub numbered_at : (clients : ℕ) (before after : List Mark) (mark : Mark) → AreNumbered clients (before ++ mark ∷ after) → NumberedMark clients before mark

@@ -22,9 +22,9 @@ use Rattle.nr_script.specs.declared.script.Line.TheVariants as lines
 use Rattle.nr_laws.proofs.Flows.{got_sent}
 use Rattle.nr_script.specs.Script.{ScriptLines, IsScript}
 use Rattle.nr_drill.specs.Lines.{acts_on, IsLink, EndsWithDrain}
-use Rattle.nr_drill.specs.Drill.{link_of, SerialServer, Setting, Drill, links_of, pipes_of, cred_of, if_standing, waiting_call, after_round, after_submit, after_up, after_down, after_work, after_forget, after_revoke, after_drop, after_raw}
+use Rattle.nr_drill.specs.Drill.{link_of, SerialServer, Setting, Drill, links_of, pipes_of, cred_of, if_standing, waiting_call, after_round, after_submit, after_up, after_down, after_work, after_forget, after_revoke, after_drop, after_raw, after_grant}
 use Rattle.nr_drill.specs.Follows.{is_empty, is_still, Drains, Makes, MakeAll, after_line, Follows, parameters_of, setting_of, opened_drill}
-use Rattle.nr_drill.proofs.Followed.{Among, among_range, Extends, no_event, submit_adds, up_adds, down_adds, work_adds, forget_adds, revoke_adds, drop_adds, raw_adds}
+use Rattle.nr_drill.proofs.Followed.{Among, among_range, Extends, no_event, submit_adds, up_adds, down_adds, work_adds, forget_adds, revoke_adds, drop_adds, raw_adds, grant_adds}
 use Rattle.nr_drill.proofs.Carried.{NamesClient, all_name, both_true, neither_raw, true_not, other_than, IsSameHere, same_here}
 use Rattle.nr_drill.proofs.NoneLost.{NoneLost, follows_lose_nothing}
 
@@ -117,6 +117,7 @@ line_leaves s link (lines.Drop client) d one some e = left_elsewhere s link clie
 line_leaves s link (lines.Raw client side bytes) d one some e =
     let dropped = is_dropped client d.marks in
     left_elsewhere s link client d (after_raw client side bytes dropped d) one some (other_than client link e) (raw_adds client side bytes dropped d)
+line_leaves s link (lines.Grant client credits) d one some e = left_elsewhere s link client d (after_grant client credits d) one some (other_than client link e) (grant_adds client credits d)
 line_leaves s link lines.Drain d one some e = absurd (true_not e)
 
 made_leaves : (s : Setting) (clients link : ℕ) (line : Line) (old new : Drill) → 1 ≤ link → NamesClient line → acts_on link line ≡ false → Makes s clients line old new → IsLeft s link old new
@@ -130,6 +131,7 @@ made_leaves s clients link (lines.Forget client number) old new one some n e = s
 made_leaves s clients link (lines.Revoke client number) old new one some n e = subst (IsLeft s link old) (sym e) (line_leaves s link (lines.Revoke client number) old one some n)
 made_leaves s clients link (lines.Drop client) old new one some n e = subst (IsLeft s link old) (sym e) (line_leaves s link (lines.Drop client) old one some n)
 made_leaves s clients link (lines.Raw client side bytes) old new one some n e = subst (IsLeft s link old) (sym e) (line_leaves s link (lines.Raw client side bytes) old one some n)
+made_leaves s clients link (lines.Grant client credits) old new one some n e = subst (IsLeft s link old) (sym e) (line_leaves s link (lines.Grant client credits) old one some n)
 made_leaves s clients link lines.Drain old new one some n e = absurd (true_not n)
 
 lines_leave : (s : Setting) (clients link : ℕ) (all : List Line) (old new : Drill) → 1 ≤ link → AllByRecursion NamesClient all → list_any (acts_on link) all ≡ false → MakeAll s clients all old new → IsLeft s link old new

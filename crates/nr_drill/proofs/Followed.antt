@@ -1,7 +1,7 @@
 -- A run that follows a script keeps the laws of each of its links.
 use Rattle.std.specs.Prelude.{slice_get, ◌-◌, ◌&&◌, ◌||◌, slice_index_or, slice_set, replicate}
 use Rattle.std.specs.List.{AllByRecursion, range_with_len}
-use Rattle.std.proofs.Common.{◌≡◌, ◌≢◌, ℕ, ◌+◌, ◌≤◌, ◌<◌, arith, zero, suc, Bool, true, false, eqb, List, [], ◌∷◌, ◌++◌, length, take, drop, Option, None, Some, ◌⊎◌, inl, inr, refl, sym, ap, subst, ◌∙◌, append_assoc, append-nil, eqb-true}
+use Rattle.std.proofs.Common.{◌≡◌, ◌≢◌, ℕ, ◌+◌, ◌≤◌, ◌<◌, arith, zero, suc, Bool, true, false, eqb, leb, List, [], ◌∷◌, ◌++◌, length, take, drop, Option, None, Some, ◌⊎◌, inl, inr, refl, sym, ap, subst, ◌∙◌, append_assoc, append-nil, eqb-true}
 use Rattle.nr_wire.specs.declared.hello.Side.{Side}
 use Rattle.nr_wire.specs.declared.hello.Side.TheVariants.{Initiator, Responder}
 use Rattle.nr_reduce.specs.declared.call.Call.{Call}
@@ -9,8 +9,9 @@ use Rattle.nr_reduce.specs.declared.call.Form.{Form}
 use Rattle.nr_reduce.specs.declared.call.Submission.TheVariants as submissions
 use Rattle.nr_reduce.specs.declared.mark.Mark.{Mark}
 use Rattle.nr_reduce.specs.declared.mark.Mark.TheVariants as marks
+use Rattle.nr_reduce.specs.declared.mark.Told.TheVariants.{Granted}
 use Rattle.nr_reduce.specs.declared.mark.LinkParameters.{LinkParameters}
-use Rattle.std.proofs.lemmas.Bool.{eq-eqb}
+use Rattle.std.proofs.lemmas.Bool.{eq-eqb, leb-true}
 use Rattle.std.proofs.lemmas.List.{get_or-set_other, length-set}
 use Rattle.nr_reduce.specs.History.{CompletedCall, bytes_sent, written_at, same_side, other, is_dropped}
 use Rattle.nr_reduce.specs.Events.{RunEvent, events_at}
@@ -30,16 +31,17 @@ use Rattle.nr_reduce.specs.AtEachMark.{AtEachMark}
 use Rattle.nr_reduce.specs.Journal.{Journaled, AnsweredByPlainServer, PlacedMark, PlainMark}
 use Rattle.nr_reduce.proofs.Standing.{AtEachMark_more}
 use Rattle.nr_reduce.specs.SubmitAnswer.{submit_answer_after}
-use Rattle.nr_reduce.specs.Served.{Served, ServedMark}
+use Rattle.nr_reduce.specs.Served.{Served, ServedMark, ToldInRange}
 use Rattle.nr_laws.specs.Grant.{AcceptedMark, AcceptsByRule}
+use Rattle.nr_texts.specs.declared.opening.Opening.{Opening}
 use Rattle.nr_script.specs.declared.script.Line.{Line}
 use Rattle.nr_script.specs.declared.script.Line.TheVariants as lines
-use Rattle.nr_script.specs.Script.{ScriptLines, HasWritableCred, IsScript}
+use Rattle.nr_script.specs.Script.{ScriptLines, HasWritableCred, IsScript, FollowOn, is_client, is_granted, may_follow}
 use Rattle.nr_reduce.specs.Concerns.{concerns}
 use Rattle.nr_reduce.proofs.Unconcerned.{not_judged, none_written, no_events, none_asked, none_served}
 use Rattle.nr_drill.specs.Follows.{after_line, Drains, Makes, MakeAll, Follows, parameters_of, setting_of, opened_drill}
-use Rattle.nr_drill.specs.Drill.{link_of, Setting, Drill, Pipes, plain_of, now, unwritten, after_output, after_all_output, settled, pipes_of, with_mark, after_submit, after_feeding, after_feeding_up, after_up, waiting_call, after_answer, after_execution, after_work, after_calls, after_drop, after_raw, after_feeding_down, after_handing, after_done, after_dones, after_outcomes, after_down, answer_of_line, open_xid, after_giving_up, after_forget, after_taking_back, after_revoke, after_all_up, after_all_work, after_all_down, after_moves, after_round, after_opening, after_openings, SerialServer, with_pipes, appended, empty_pipes, start, links_of, cred_of}
-use Rattle.nr_drill.proofs.Lawful.{IsLawful, IsWritten, IsDueOf, Keeps, lawful_mark, left_is, due_more, more_due, due_of, lawful_settled, lawful_drop, lawful_forget, lawful_submit, lawful_after_up, lawful_after_down, lawful_work, lawful_revoke, lawful_moves}
+use Rattle.nr_drill.specs.Drill.{link_of, Setting, Drill, Pipes, plain_of, now, unwritten, after_output, after_all_output, settled, pipes_of, with_mark, after_submit, after_feeding, after_feeding_up, after_up, waiting_call, after_answer, after_execution, after_work, after_calls, after_drop, after_raw, after_feeding_down, after_handing, after_done, after_dones, after_outcomes, after_down, answer_of_line, open_xid, after_giving_up, after_forget, after_taking_back, after_revoke, after_all_up, after_all_work, after_all_down, after_moves, after_round, after_opening, after_openings, SerialServer, with_pipes, appended, empty_pipes, start, links_of, cred_of, after_grant}
+use Rattle.nr_drill.proofs.Lawful.{IsLawful, IsWritten, IsDueOf, Keeps, lawful_mark, left_is, due_more, more_due, due_of, lawful_settled, lawful_drop, lawful_forget, lawful_submit, lawful_after_up, lawful_after_down, lawful_work, lawful_revoke, lawful_moves, lawful_grant, quiet_told}
 
 -- ===== marks of other links
 
@@ -62,6 +64,7 @@ unconcerned link side (marks.Lost l xid) ne = ap (λ (b : Bool). (b && same_side
 unconcerned link side (marks.Forget l xid) ne = ap (λ (b : Bool). (b && same_side Initiator side) || false) (apart l link ne)
 unconcerned link side (marks.Revoke l xid bytes) ne = ap (λ (b : Bool). (b && same_side Initiator side) || false) (apart l link ne)
 unconcerned link side (marks.Drop l) ne = refl
+unconcerned link side (marks.Told l what) ne = ap (λ (b : Bool). (b && same_side Responder side) || false) (apart l link ne)
 
 pub not_written : (link : ℕ) (side : Side) (mark : Mark) → link_of mark ≢ link → written_at link side mark ≡ []
 not_written link side mark ne = none_written link side mark (not_judged link side mark (unconcerned link side mark ne))
@@ -87,6 +90,7 @@ accepted_elsewhere o link run (marks.Lost l xid) ne = tt
 accepted_elsewhere o link run (marks.Forget l xid) ne = tt
 accepted_elsewhere o link run (marks.Revoke l xid bytes) ne = tt
 accepted_elsewhere o link run (marks.Drop l) ne = tt
+accepted_elsewhere o link run (marks.Told l what) ne = tt
 
 -- nothing more is due, and what was left to write is left
 pub no_more : (o : LinkParameters) (link : ℕ) (side : Side) (run : List Mark) (mark : Mark) → link_of mark ≢ link → more_due o link side run mark ≡ []
@@ -265,6 +269,9 @@ revoke_adds s link number d = taking_back_adds s link (open_xid s link d.marks (
 pub drop_adds : (link : ℕ) (d : Drill) → Extends link d (after_drop link d)
 drop_adds link d = set_pipes link empty_pipes d (with_mark (marks.Drop link) d) (one_mark link (marks.Drop link) d refl)
 
+pub grant_adds : (link credits : ℕ) (d : Drill) → Extends link d (after_grant link credits d)
+grant_adds link credits d = one_mark link (marks.Told link (Granted credits)) d refl
+
 pub raw_adds : (link : ℕ) (side : Side) (bytes : List ℕ) (dropped : Bool) (d : Drill) → Extends link d (after_raw link side bytes dropped d)
 raw_adds link side bytes true d = nothing link d
 raw_adds link side bytes false d = set_pipes link (appended side bytes (pipes_of link d)) d d (nothing link d)
@@ -300,6 +307,12 @@ quiet_mark o link run mark h w up down none_up none_down = record {
 
 pub keeps_drop : (s : Setting) (link : ℕ) (d : Drill) → Keeps s link d → Keeps s link (after_drop link d)
 keeps_drop s link d h = (lawful_drop s link d h.0, quiet_mark (s.opened link) link d.marks (marks.Drop link) h.0 h.1 refl refl refl refl)
+
+pub keeps_grant : (s : Setting) (link credits : ℕ) (d : Drill) → ToldInRange (s.opened link) (Granted credits) → Keeps s link d → Keeps s link (after_grant link credits d)
+keeps_grant s link credits d within h = (
+  lawful_grant s link credits d within h.0,
+  quiet_mark (s.opened link) link d.marks (marks.Told link (Granted credits)) h.0 h.1 refl refl (quiet_told (s.opened link) link Initiator d.marks (Granted credits)) (quiet_told (s.opened link) link Responder d.marks (Granted credits)),
+)
 
 pub keeps_giving_up : (s : Setting) (link : ℕ) (xid : Option ℕ) (d : Drill) → Keeps s link d → IsWritten (s.opened link) link (after_giving_up link xid d).marks
 keeps_giving_up s link None d h = h.1
@@ -339,8 +352,16 @@ AreOpened s = (link : ℕ) → IsOpened (s.opened link)
 pub holds_by : (s : Setting) (acted link : ℕ) (old new : Drill) → Acts s acted old new → Holds s link old → Holds s link new
 holds_by s acted link old new a h = record { keeps = keeps_by s acted link old new a h.keeps; creds = subst AreWritable (sym a.extends.creds) h.creds }
 
-pub line_holds : (s : Setting) (link : ℕ) (line : Line) (d : Drill) → AreOpened s → HasWritableCred line → Holds s link d → Holds s link (after_line s line d)
-line_holds s link (lines.Cred client cred) d opened w h = record { keeps = h.keeps; creds = with_cred_at d.creds (client - 1) cred h.creds w }
+-- what a line has to be for the laws to hold after it: its credential can be encoded, and its credits are within those of the server
+abbrev pub GrantsWithin : Setting → Line → Type 0
+GrantsWithin s (lines.Grant client credits) = ToldInRange (s.opened client) (Granted credits)
+GrantsWithin s line = Unit {0}
+
+abbrev pub IsFit : Setting → Line → Type 0
+IsFit s line = HasWritableCred line × GrantsWithin s line
+
+pub line_holds : (s : Setting) (link : ℕ) (line : Line) (d : Drill) → AreOpened s → IsFit s line → Holds s link d → Holds s link (after_line s line d)
+line_holds s link (lines.Cred client cred) d opened w h = record { keeps = h.keeps; creds = with_cred_at d.creds (client - 1) cred h.creds w.0 }
 line_holds s link (lines.Call client form prog vers proc args) d opened w h =
     let call : Call = record { prog = prog; vers = vers; proc = proc; cred = cred_of client d; args = args } in
     holds_by s client link d (after_submit s client call form d) (record {
@@ -363,6 +384,8 @@ line_holds s link (lines.Drop client) d opened w h =
 line_holds s link (lines.Raw client side bytes) d opened w h =
     holds_by s client link d (after_raw client side bytes (is_dropped client d.marks) d)
     (record { own = λ k. keeps_raw s client side bytes (is_dropped client d.marks) d k; extends = raw_adds client side bytes (is_dropped client d.marks) d }) h
+line_holds s link (lines.Grant client credits) d opened w h =
+    holds_by s client link d (after_grant client credits d) (record { own = λ k. keeps_grant s client credits d w.1 k; extends = grant_adds client credits d }) h
 line_holds s link lines.Drain d opened w h = h
 
 -- ===== drains
@@ -377,7 +400,7 @@ pub drain_holds : (s : Setting) (link : ℕ) (links : List ℕ) (rounds : ℕ) (
 drain_holds s link links zero old new drains h = subst (Holds s link) (sym drains.1) h
 drain_holds s link links (suc rounds) old new drains h = drain_holds s link links rounds (after_round s links old) new drains.1 (round_holds s link links old h)
 
-pub line_made : (s : Setting) (clients link : ℕ) (line : Line) (old new : Drill) → AreOpened s → HasWritableCred line → Makes s clients line old new → Holds s link old → Holds s link new
+pub line_made : (s : Setting) (clients link : ℕ) (line : Line) (old new : Drill) → AreOpened s → IsFit s line → Makes s clients line old new → Holds s link old → Holds s link new
 line_made s clients link (lines.Cred client cred) old new opened w e h = subst (Holds s link) (sym e) (line_holds s link (lines.Cred client cred) old opened w h)
 line_made s clients link (lines.Call client form prog vers proc args) old new opened w e h = subst (Holds s link) (sym e) (line_holds s link (lines.Call client form prog vers proc args) old opened w h)
 line_made s clients link (lines.Up client most) old new opened w e h = subst (Holds s link) (sym e) (line_holds s link (lines.Up client most) old opened w h)
@@ -388,9 +411,10 @@ line_made s clients link (lines.Forget client number) old new opened w e h = sub
 line_made s clients link (lines.Revoke client number) old new opened w e h = subst (Holds s link) (sym e) (line_holds s link (lines.Revoke client number) old opened w h)
 line_made s clients link (lines.Drop client) old new opened w e h = subst (Holds s link) (sym e) (line_holds s link (lines.Drop client) old opened w h)
 line_made s clients link (lines.Raw client side bytes) old new opened w e h = subst (Holds s link) (sym e) (line_holds s link (lines.Raw client side bytes) old opened w h)
+line_made s clients link (lines.Grant client credits) old new opened w e h = subst (Holds s link) (sym e) (line_holds s link (lines.Grant client credits) old opened w h)
 line_made s clients link lines.Drain old new opened w e h = drain_holds s link (links_of clients) e.0 old new e.1 h
 
-pub lines_made : (s : Setting) (clients link : ℕ) (all : List Line) (old new : Drill) → AreOpened s → AllByRecursion HasWritableCred all → MakeAll s clients all old new → Holds s link old → Holds s link new
+pub lines_made : (s : Setting) (clients link : ℕ) (all : List Line) (old new : Drill) → AreOpened s → AllByRecursion (IsFit s) all → MakeAll s clients all old new → Holds s link old → Holds s link new
 lines_made s clients link [] old new opened w e h = subst (Holds s link) (sym e) h
 lines_made s clients link (line ∷ others) old new opened w e h =
     lines_made s clients link others e.0 new opened w.1 e.2 (line_made s clients link line old e.0 opened w.0 e.1 h)
@@ -509,6 +533,34 @@ opened_by_script script is link =
       receives = omega arith;
     }
 
+-- the lines of a script are so
+both_so : (a b : Bool) → (a && b) ≡ true → (a ≡ true) × (b ≡ true)
+both_so true b e = (refl, e)
+both_so false b e = absurd cc
+
+grants_within : (server : SerialServer) (opening : Opening) (before : List Line) (line : Line) → may_follow opening before line ≡ true → GrantsWithin (setting_of server opening) line
+grants_within server opening before (lines.Grant client credits) e =
+    let within = both_so (leb 1 credits) (leb credits opening.credits) (both_so (is_client opening client) (is_granted opening credits) e).1 in
+    (leb-true 1 credits within.0, leb-true credits opening.credits within.1)
+grants_within server opening before (lines.Cred client cred) e = tt
+grants_within server opening before (lines.Call client form prog vers proc args) e = tt
+grants_within server opening before (lines.Up client most) e = tt
+grants_within server opening before (lines.Down client most) e = tt
+grants_within server opening before (lines.Work client) e = tt
+grants_within server opening before (lines.Tick seconds) e = tt
+grants_within server opening before (lines.Forget client number) e = tt
+grants_within server opening before (lines.Revoke client number) e = tt
+grants_within server opening before (lines.Drop client) e = tt
+grants_within server opening before (lines.Raw client side bytes) e = tt
+grants_within server opening before lines.Drain e = tt
+
+fit_from : (server : SerialServer) (opening : Opening) (before all : List Line) → FollowOn opening before all → AllByRecursion HasWritableCred all → AllByRecursion (IsFit (setting_of server opening)) all
+fit_from server opening before [] h w = tt
+fit_from server opening before (line ∷ all) h w = ((w.0, grants_within server opening before line h.0), fit_from server opening (before ++ line ∷ []) all h.1 w.1)
+
+pub all_fit : (server : SerialServer) (script : ScriptLines) → IsScript script → AllByRecursion (IsFit (setting_of server script.opening)) script.lines
+all_fit server script is = fit_from server script.opening [] script.lines is.follow_on is.creds
+
 pub follows_keeps_laws : (server : SerialServer) (script : ScriptLines) (run : List Mark) → IsScript script → Follows server script run → (link : ℕ) → 1 ≤ link → link ≤ script.opening.clients →
     KeepsAll (parameters_of script.opening link) link run
 unfolding opened_drill
@@ -517,7 +569,7 @@ follows_keeps_laws server script run is follows link low high =
     let opening = script.opening in
     let first = openings_hold s link (links_of opening.clients) (start opening.clients) (among_range link 1 opening.clients low (omega (arith, high)))
     (start_lawful (parameters_of opening link) link) (start_creds opening.clients) in
-    let last = lines_made s opening.clients link script.lines (opened_drill server opening) follows.last (opened_by_script script is) is.creds follows.makes first in
+    let last = lines_made s opening.clients link script.lines (opened_drill server opening) follows.last (opened_by_script script is) (all_fit server script is) follows.makes first in
     subst (KeepsAll (parameters_of opening link) link) (sym follows.marks_are) (laws_of (parameters_of opening link) link follows.last.marks last.keeps.0 last.keeps.1)
 
 -- ===== the one journal
@@ -626,6 +678,7 @@ line_plain s (lines.Forget client number) d h = giving_up_plain s client (open_x
 line_plain s (lines.Revoke client number) d h = taking_back_plain s client (open_xid s client d.marks (answer_of_line client number d.marks)) d h
 line_plain s (lines.Drop client) d h = plain_mark s.server d.marks (marks.Drop client) tt tt h
 line_plain s (lines.Raw client side bytes) d h = raw_plain s client side bytes (is_dropped client d.marks) d h
+line_plain s (lines.Grant client credits) d h = plain_mark s.server d.marks (marks.Told client (Granted credits)) tt tt h
 line_plain s lines.Drain d h = h
 
 pub round_plain : (s : Setting) (links : List ℕ) (d : Drill) → IsPlainRun s.server d.marks → IsPlainRun s.server (after_round s links d).marks
@@ -647,6 +700,7 @@ made_plain s clients (lines.Forget client number) old new e h = subst (λ (d : D
 made_plain s clients (lines.Revoke client number) old new e h = subst (λ (d : Drill). IsPlainRun s.server d.marks) (sym e) (line_plain s (lines.Revoke client number) old h)
 made_plain s clients (lines.Drop client) old new e h = subst (λ (d : Drill). IsPlainRun s.server d.marks) (sym e) (line_plain s (lines.Drop client) old h)
 made_plain s clients (lines.Raw client side bytes) old new e h = subst (λ (d : Drill). IsPlainRun s.server d.marks) (sym e) (line_plain s (lines.Raw client side bytes) old h)
+made_plain s clients (lines.Grant client credits) old new e h = subst (λ (d : Drill). IsPlainRun s.server d.marks) (sym e) (line_plain s (lines.Grant client credits) old h)
 made_plain s clients lines.Drain old new e h = drain_plain s (links_of clients) e.0 old new e.1 h
 
 pub all_plain : (s : Setting) (clients : ℕ) (all : List Line) (old new : Drill) → MakeAll s clients all old new → IsPlainRun s.server old.marks → IsPlainRun s.server new.marks

@@ -18,6 +18,7 @@ use Rattle.nr_reduce.specs.declared.call.Submission.{Submission}
 use Rattle.nr_reduce.specs.declared.call.Submission.TheVariants as submissions
 use Rattle.nr_reduce.specs.declared.mark.Mark.{Mark}
 use Rattle.nr_reduce.specs.declared.mark.Mark.TheVariants as marks
+use Rattle.nr_reduce.specs.declared.mark.Told.TheVariants.{Granted}
 use Rattle.nr_reduce.specs.declared.mark.LinkParameters.{LinkParameters}
 use Rattle.nr_reduce.specs.AtEachMark.{AtEachMark}
 use Rattle.nr_reduce.specs.Opening.{IsOpened}
@@ -26,7 +27,7 @@ use Rattle.nr_reduce.specs.PlainJournal.{journal}
 use Rattle.nr_reduce.specs.History.{AcceptedCall, CompletedCall, accepted_as, accepted_at, accepted_calls, completed_at, completed_calls, bytes_received, abandons, is_abandoned, is_dropped}
 use Rattle.nr_reduce.specs.OutcomesDue.{is_completed, outcomes_of_call, outcomes_due}
 use Rattle.nr_reduce.specs.Events.{RunEvent, events, events_at, if_own}
-use Rattle.nr_reduce.specs.Events.RunEvent.{FrameReceived, CallSubmitted, MemoryRevoked, CallExecuted, QueueWritten}
+use Rattle.nr_reduce.specs.Events.RunEvent.{FrameReceived, CallSubmitted, MemoryRevoked, CallExecuted, QueueWritten, ServerTold}
 use Rattle.nr_reduce.specs.EndRules.{EndState, next_end_state, next_end_state_by, next_end_state_in, end_state_after}
 use Rattle.nr_reduce.specs.ClientState.{ClientState, OutstandingCall, is_sent}
 use Rattle.nr_reduce.specs.ClientMessages.{ReplyVerdict, reply_verdict}
@@ -44,12 +45,12 @@ use Rattle.nr_laws.proofs.DistinctKeys.{any_append, or_left_lem, or_right_lem, b
 use Rattle.nr_laws.proofs.DoneCalls.{gives_by}
 use Rattle.nr_script.specs.declared.script.Line.{Line}
 use Rattle.nr_script.specs.declared.script.Line.TheVariants as lines
-use Rattle.nr_script.specs.Script.{ScriptLines, HasWritableCred, IsScript}
-use Rattle.nr_drill.specs.Drill.{link_of, SerialServer, Setting, Drill, Pipes, plain_of, now, unwritten, after_output, after_all_output, settled, pipes_of, with_mark, after_submit, after_feeding, after_feeding_up, after_up, waiting_call, after_answer, after_execution, after_work, after_drop, after_raw, after_feeding_down, after_handing, after_done, after_dones, after_outcomes, after_down, answer_of_line, open_xid, after_giving_up, after_forget, after_taking_back, after_revoke, after_all_up, after_all_work, after_moves, after_round, after_opening, after_openings, start, links_of, cred_of}
+use Rattle.nr_script.specs.Script.{ScriptLines, IsScript}
+use Rattle.nr_drill.specs.Drill.{link_of, SerialServer, Setting, Drill, Pipes, plain_of, now, unwritten, after_output, after_all_output, settled, pipes_of, with_mark, after_submit, after_feeding, after_feeding_up, after_up, waiting_call, after_answer, after_execution, after_work, after_drop, after_raw, after_feeding_down, after_handing, after_done, after_dones, after_outcomes, after_down, answer_of_line, open_xid, after_giving_up, after_forget, after_taking_back, after_revoke, after_all_up, after_all_work, after_moves, after_round, after_opening, after_openings, start, links_of, cred_of, after_grant}
 use Rattle.nr_drill.specs.Follows.{after_line, Drains, Makes, MakeAll, Follows, parameters_of, setting_of, opened_drill}
 use Rattle.nr_drill.specs.Lines.{IsLink}
 use Rattle.nr_drill.proofs.Lawful.{IsLawful, answer_asked}
-use Rattle.nr_drill.proofs.Followed.{no_event, apart, Extends, Holds, cred_at, line_made, round_holds, elsewhere, among_range, opened_by_script, openings_hold, opening_keeps, start_lawful, start_creds, opening_adds, submit_adds, up_adds, down_adds, work_adds, forget_adds, revoke_adds, drop_adds, raw_adds, moves_adds}
+use Rattle.nr_drill.proofs.Followed.{no_event, apart, Extends, Holds, cred_at, line_made, round_holds, elsewhere, among_range, opened_by_script, openings_hold, opening_keeps, start_lawful, start_creds, opening_adds, submit_adds, up_adds, down_adds, work_adds, forget_adds, revoke_adds, drop_adds, raw_adds, moves_adds, grant_adds, all_fit, IsFit}
 
 -- ===== the xids of outcomes are below the one that is given next
 
@@ -111,6 +112,7 @@ IsFresh o k (CallSubmitted place a) = a.xid ≡ k.next_xid
 IsFresh o k (MemoryRevoked place xid) = Unit {0}
 IsFresh o k (CallExecuted call) = Unit {0}
 IsFresh o k (QueueWritten taken) = Unit {0}
+IsFresh o k (ServerTold what) = Unit {0}
 
 after_below : (o : LinkParameters) (k : ClientState) (e : RunEvent) → IsFresh o k e → XidsBelow o k → XidsBelow o (client_state_after o k e)
 unfolding client_state_after
@@ -129,6 +131,7 @@ after_below o k (CallSubmitted place a) fresh h =
 after_below o k (MemoryRevoked place xid) fresh h = record { waiting = same_xids k.next_xid (revoked_call xid) k.outstanding (revoked_xid xid) h.waiting; brought = h.brought }
 after_below o k (CallExecuted call) fresh h = h
 after_below o k (QueueWritten taken) fresh h = record { waiting = h.waiting; brought = h.brought }
+after_below o k (ServerTold what) fresh h = h
 
 next_below : (o : LinkParameters) (k : ClientState) (ended : Option End) (e : RunEvent) → IsFresh o k e → XidsBelow o k → XidsBelow o (next_end_state_in (client_rules o) k e ended).state
 next_below o k (Some end) e fresh h = h
@@ -174,6 +177,7 @@ fresh_mark o link run (marks.Lost l xid) h = tt
 fresh_mark o link run (marks.Forget l xid) h = tt
 fresh_mark o link run (marks.Revoke l xid bytes) h = fresh_if o (client o link run) _ (MemoryRevoked (length (bytes_received link Initiator run)) xid ∷ []) (tt, tt)
 fresh_mark o link run (marks.Drop l) h = tt
+fresh_mark o link run (marks.Told l what) h = fresh_if o (client o link run) _ (ServerTold what ∷ []) (tt, tt)
 
 below_from : (o : LinkParameters) (link : ℕ) (before run : List Mark) → XidsBelow o (client o link before).state → AtEachMark (AskedMark IsAll o link) before run → XidsBelow o (client o link (before ++ run)).state
 below_from o link before [] h asked = subst (λ (r : List Mark). XidsBelow o (client o link r).state) (sym (append-nil before)) h
@@ -213,6 +217,7 @@ IsNoFrame (CallSubmitted place a) = Unit {0}
 IsNoFrame (MemoryRevoked place xid) = Unit {0}
 IsNoFrame (CallExecuted call) = Unit {0}
 IsNoFrame (QueueWritten taken) = Unit {0}
+IsNoFrame (ServerTold what) = Unit {0}
 
 after_same : (o : LinkParameters) (k : ClientState) (e : RunEvent) → IsNoFrame e → (client_state_after o k e).outcomes ≡ k.outcomes
 unfolding client_state_after
@@ -221,6 +226,7 @@ after_same o k (CallSubmitted place a) h = refl
 after_same o k (MemoryRevoked place xid) h = refl
 after_same o k (CallExecuted call) h = refl
 after_same o k (QueueWritten taken) h = refl
+after_same o k (ServerTold what) h = refl
 
 next_same : (o : LinkParameters) (k : ClientState) (ended : Option End) (e : RunEvent) → IsNoFrame e → (next_end_state_in (client_rules o) k e ended).state.outcomes ≡ k.outcomes
 next_same o k (Some end) e h = refl
@@ -317,6 +323,7 @@ elsewhere_brings o link run mark ne = record {
     not_accepted (marks.Forget l xid) ne = refl
     not_accepted (marks.Revoke l xid bytes) ne = refl
     not_accepted (marks.Drop l) ne = refl
+    not_accepted (marks.Told l what) ne = refl
 
 none_elsewhere : (o : LinkParameters) (link other : ℕ) (old added : List Mark) → other ≢ link → AllByRecursion (λ (mark : Mark). link_of mark ≡ other) added → NoneDue o link old → NoneDue o link (old ++ added)
 none_elsewhere o link other old [] ne own h = subst (NoneDue o link) (sym (append-nil old)) h
@@ -446,6 +453,10 @@ revoke_hands s link number d h = taking_back_hands s link (open_xid s link d.mar
 drop_hands : (s : Setting) (link : ℕ) (d : Drill) → HandsAll s link d → HandsAll s link (after_drop link d)
 drop_hands s link d h = none_then (s.opened link) link d.marks (marks.Drop link) (record { none = tt; fresh = refl }) h
 
+grant_hands : (s : Setting) (link credits : ℕ) (d : Drill) → HandsAll s link d → HandsAll s link (after_grant link credits d)
+grant_hands s link credits d h =
+    none_then (s.opened link) link d.marks (marks.Told link (Granted credits)) (record { none = other_side_lem (eqb link link) _; fresh = refl }) h
+
 raw_hands : (s : Setting) (link : ℕ) (side : Side) (bytes : List ℕ) (dropped : Bool) (d : Drill) → HandsAll s link d → HandsAll s link (after_raw link side bytes dropped d)
 raw_hands s link side bytes true d h = h
 raw_hands s link side bytes false d h = h
@@ -546,6 +557,8 @@ line_hands s link (lines.Drop client) d opened k h =
 line_hands s link (lines.Raw client side bytes) d opened k h =
     hands_by s client link d (after_raw client side bytes (is_dropped client d.marks) d)
     (record { own = λ l e. raw_hands s client side bytes (is_dropped client d.marks) d e; extends = raw_adds client side bytes (is_dropped client d.marks) d }) k.keeps.0 h
+line_hands s link (lines.Grant client credits) d opened k h =
+    hands_by s client link d (after_grant client credits d) (record { own = λ l e. grant_hands s client credits d e; extends = grant_adds client credits d }) k.keeps.0 h
 line_hands s link lines.Drain d opened k h = h
 
 round_hands : (s : Setting) (link : ℕ) (links : List ℕ) (d : Drill) → Holds s link d → HandsAll s link d → HandsAll s link (after_round s links d)
@@ -571,9 +584,10 @@ line_hands_all s clients link (lines.Forget client number) old new opened e k h 
 line_hands_all s clients link (lines.Revoke client number) old new opened e k h = subst (HandsAll s link) (sym e) (line_hands s link (lines.Revoke client number) old opened k h)
 line_hands_all s clients link (lines.Drop client) old new opened e k h = subst (HandsAll s link) (sym e) (line_hands s link (lines.Drop client) old opened k h)
 line_hands_all s clients link (lines.Raw client side bytes) old new opened e k h = subst (HandsAll s link) (sym e) (line_hands s link (lines.Raw client side bytes) old opened k h)
+line_hands_all s clients link (lines.Grant client credits) old new opened e k h = subst (HandsAll s link) (sym e) (line_hands s link (lines.Grant client credits) old opened k h)
 line_hands_all s clients link lines.Drain old new opened e k h = drain_hands s link (links_of clients) e.0 old new e.1 k h
 
-lines_hand : (s : Setting) (clients link : ℕ) (all : List Line) (old new : Drill) → ((l : ℕ) → IsOpened (s.opened l)) → AllByRecursion HasWritableCred all → MakeAll s clients all old new →
+lines_hand : (s : Setting) (clients link : ℕ) (all : List Line) (old new : Drill) → ((l : ℕ) → IsOpened (s.opened l)) → AllByRecursion (IsFit s) all → MakeAll s clients all old new →
     Holds s link old → HandsAll s link old → HandsAll s link new
 lines_hand s clients link [] old new opened w e k h = subst (HandsAll s link) (sym e) h
 lines_hand s clients link (line ∷ others) old new opened w e k h =
@@ -618,7 +632,7 @@ handed_after server script before after d is parts makes link within =
     let o = parameters_of opening link in
     let began = openings_hold s link (links_of clients) (start clients) (among_range link 1 clients within.0 (let b = within.1 in omega (arith, b))) (start_lawful o link) (start_creds clients) in
     let first = openings_hand s link (links_of clients) (start clients) (start_lawful o link) (start_hands o link) in
-    lines_hand s clients link before (opened_drill server opening) d (opened_by_script script is) (all_front_lem HasWritableCred before after (subst (AllByRecursion HasWritableCred) parts is.creds)) makes began first
+    lines_hand s clients link before (opened_drill server opening) d (opened_by_script script is) (all_front_lem (IsFit s) before after (subst (AllByRecursion (IsFit s)) parts (all_fit server script is))) makes began first
 
 -- so in the end
 pub follows_hands : (server : SerialServer) (script : ScriptLines) (run : List Mark) → IsScript script → Follows server script run → (link : ℕ) → IsLink script link →

@@ -15,6 +15,8 @@ use Rattle.nr_reduce.specs.declared.call.Submission.{Submission}
 use Rattle.nr_reduce.specs.declared.call.Submission.TheVariants as submissions
 use Rattle.nr_reduce.specs.declared.mark.Mark.{Mark}
 use Rattle.nr_reduce.specs.declared.mark.Mark.TheVariants as marks
+use Rattle.nr_reduce.specs.declared.mark.Told.{Told}
+use Rattle.nr_reduce.specs.declared.mark.Told.TheVariants.{Granted}
 use Rattle.nr_reduce.specs.declared.mark.LinkParameters.{LinkParameters}
 use Rattle.nr_reduce.specs.AtEachMark.{AtEachMark}
 use Rattle.nr_reduce.specs.Opening.{IsOpened}
@@ -24,7 +26,7 @@ use Rattle.nr_reduce.specs.Matched.{IsPrefixOf}
 use Rattle.nr_reduce.specs.History.{AcceptedCall, CompletedCall, accepted_as, accepted_at, bytes_sent, written_at, accepted_calls, completed_calls, is_abandoned, is_dropped}
 use Rattle.nr_reduce.specs.OutcomesDue.{is_completed, outcomes_of_call, outcomes_due}
 use Rattle.nr_reduce.specs.Events.{events_at, if_own}
-use Rattle.nr_reduce.specs.Events.RunEvent.{QueueWritten}
+use Rattle.nr_reduce.specs.Events.RunEvent.{QueueWritten, ServerTold}
 use Rattle.nr_reduce.specs.EndRules.{output_for_all}
 use Rattle.nr_reduce.specs.ClientState.{ClientState}
 use Rattle.nr_reduce.specs.ServerState.{ServerState, ReadyCall}
@@ -32,14 +34,14 @@ use Rattle.nr_reduce.specs.Client.{client_rules, client_end, client_output}
 use Rattle.nr_reduce.specs.Server.{server_rules, server_end, server_output}
 use Rattle.nr_reduce.specs.Run.{client, server, output_due}
 use Rattle.nr_reduce.specs.Asked.{AskedMark, AskedSoFar, IsAll, IsCompleted, IsAwaited, revoked_bytes}
-use Rattle.nr_reduce.specs.Served.{ServedMark, next_call}
+use Rattle.nr_reduce.specs.Served.{ServedMark, next_call, ToldInRange}
 use Rattle.nr_reduce.proofs.Steps.{output_due_up_one, output_due_down_one}
 use Rattle.nr_reduce.proofs.SoFarLaws.{AtEachMark_each, asked_mark}
 use Rattle.nr_reduce.proofs.Submitting.{accepted_keeps}
 use Rattle.nr_reduce.proofs.Standing.{AtEachMark_more, itself, sent_one}
 use Rattle.nr_laws.proofs.LiveRegions.{passes_any}
 use Rattle.nr_laws.specs.Grant.{AcceptedMark, AcceptsByRule}
-use Rattle.nr_drill.specs.Drill.{Setting, Drill, Pipes, plain_of, now, unwritten, after_output, after_all_output, settled, pipes_of, with_mark, after_submit, after_feeding, after_feeding_up, after_up, if_standing, waiting_call, after_answer, after_execution, after_work, after_calls, after_drop, after_feeding_down, after_handing, after_done, after_dones, after_outcomes, after_down, answer_at, answer_of_line, is_open, open_xid, after_giving_up, after_forget, after_taking_back, after_revoke, after_all_up, after_all_work, after_moves}
+use Rattle.nr_drill.specs.Drill.{Setting, Drill, Pipes, plain_of, now, unwritten, after_output, after_all_output, settled, pipes_of, with_mark, after_submit, after_feeding, after_feeding_up, after_up, if_standing, waiting_call, after_answer, after_execution, after_work, after_calls, after_drop, after_feeding_down, after_handing, after_done, after_dones, after_outcomes, after_down, answer_at, answer_of_line, is_open, open_xid, after_giving_up, after_forget, after_taking_back, after_revoke, after_all_up, after_all_work, after_moves, after_grant}
 
 -- what a side has to write is what it wrote and what it hasn't written yet
 abbrev pub IsDueOf : LinkParameters → ℕ → Side → List Mark → Type 0
@@ -136,6 +138,19 @@ quiet o link Responder Initiator run bytes =
 quiet o link Responder Responder run bytes =
     ap (λ (b : Bool). output_for_all (server_rules o) (server o link run) (if_own (b && true) (QueueWritten (length bytes) ∷ []))) (itself link)
     ∙ quiet_server o (server o link run).state (server o link run).ended (length bytes)
+
+-- nor does what a server is told
+told_server : (o : LinkParameters) (k : ServerState) (ended : Option End) (what : Told) → output_for_all (server_rules o) (record { state = k; ended = ended }) (ServerTold what ∷ []) ≡ []
+unfolding server_end server_output
+told_server o k None what = refl
+told_server o k (Some end) what = refl
+
+pub quiet_told : (o : LinkParameters) (link : ℕ) (side : Side) (run : List Mark) (what : Told) → more_due o link side run (marks.Told link what) ≡ []
+quiet_told o link Initiator run what =
+    ap (λ (b : Bool). output_for_all (client_rules o) (client o link run) (if_own (b && false) (ServerTold what ∷ []))) (itself link)
+quiet_told o link Responder run what =
+    ap (λ (b : Bool). output_for_all (server_rules o) (server o link run) (if_own (b && true) (ServerTold what ∷ []))) (itself link)
+    ∙ told_server o (server o link run).state (server o link run).ended what
 
 pub own_written : (link : ℕ) (side : Side) (bytes : List ℕ) → written_at link side (marks.Wrote link side bytes) ≡ bytes
 own_written link Initiator bytes = ap (λ (b : Bool). if b && true then bytes else []) (itself link)
@@ -296,6 +311,10 @@ lawful_calls s link (suc n) d h = lawful_calls s link n (after_work s link d) (l
 pub lawful_drop : (s : Setting) (link : ℕ) (d : Drill) → IsLawful (s.opened link) link d.marks → IsLawful (s.opened link) link (after_drop link d).marks
 lawful_drop s link d h = lawful_mark (s.opened link) link d.marks (marks.Drop link) h refl refl tt tt tt
 
+-- a server is told to grant from 1 to as many credits as it was opened with
+pub lawful_grant : (s : Setting) (link credits : ℕ) (d : Drill) → ToldInRange (s.opened link) (Granted credits) → IsLawful (s.opened link) link d.marks → IsLawful (s.opened link) link (after_grant link credits d).marks
+lawful_grant s link credits d within h = lawful_mark (s.opened link) link d.marks (marks.Told link (Granted credits)) h refl refl tt (λ same. within) tt
+
 -- ===== lists
 
 here : {X : Type 0} (x : X) (xs : List X) (c : X) → x ≡ c → Contains (x ∷ xs) c
@@ -441,6 +460,7 @@ accepted_of link xid (marks.Lost l x) h = none_in {W = (a : AcceptedCall) × Con
 accepted_of link xid (marks.Forget l x) h = none_in {W = (a : AcceptedCall) × Contains [] a × (a.xid ≡ xid)} (submissions.Accepted xid) h
 accepted_of link xid (marks.Revoke l x bytes) h = none_in {W = (a : AcceptedCall) × Contains [] a × (a.xid ≡ xid)} (submissions.Accepted xid) h
 accepted_of link xid (marks.Drop l) h = none_in {W = (a : AcceptedCall) × Contains [] a × (a.xid ≡ xid)} (submissions.Accepted xid) h
+accepted_of link xid (marks.Told l what) h = none_in {W = (a : AcceptedCall) × Contains [] a × (a.xid ≡ xid)} (submissions.Accepted xid) h
 
 was_accepted : (link xid : ℕ) (run : List Mark) → Contains (flat_map (answer_at link) run) (submissions.Accepted xid) → (a : AcceptedCall) × Contains (accepted_calls link run) a × (a.xid ≡ xid)
 unfolding accepted_calls

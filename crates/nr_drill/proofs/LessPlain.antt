@@ -48,6 +48,7 @@ mark_entries setup before (marks.Lost l xid) h = tt
 mark_entries setup before (marks.Forget l xid) h = tt
 mark_entries setup before (marks.Revoke l xid bytes) h = tt
 mark_entries setup before (marks.Drop l) h = tt
+mark_entries setup before (marks.Told l what) h = tt
 
 all_entries : (setup : Setup) (before run : List Mark) → AtEachMark ExecutedMark before run → AllByRecursion EntryInBytes (flat_map (entries_added (plain_of (server_of setup))) run)
 all_entries setup before [] h = tt
@@ -86,6 +87,7 @@ typed_replied before (marks.Lost l xid) h = tt
 typed_replied before (marks.Forget l xid) h = tt
 typed_replied before (marks.Revoke l xid bytes) h = tt
 typed_replied before (marks.Drop l) h = tt
+typed_replied before (marks.Told l what) h = tt
 
 pub plain_runs_reply_in_bytes : PlainRunsReplyInBytes
 plain_runs_reply_in_bytes tree script run in_bytes is follows =

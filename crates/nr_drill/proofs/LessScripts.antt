@@ -31,16 +31,16 @@ use Rattle.nr_laws.proofs.FirstHellos.{client_hello_is, server_hello_is}
 use Rattle.nr_laws.proofs.ServerEnds.{hello_goes}
 use Rattle.nr_script.specs.declared.script.Line.{Line}
 use Rattle.nr_script.specs.declared.script.Line.TheVariants as lines
-use Rattle.nr_script.specs.Script.{ScriptLines, HasWritableCred, IsScript}
+use Rattle.nr_script.specs.Script.{ScriptLines, IsScript}
 use Rattle.nr_drill.specs.Lines.{HasNoRaw, IsLink}
-use Rattle.nr_drill.specs.Drill.{link_of, SerialServer, Setting, Drill, Pipes, start, links_of, pipes_of, cred_of, settled, after_feeding, after_feeding_up, after_feeding_down, after_outcomes, after_up, after_down, after_round, after_moves, after_submit, after_work, after_forget, after_revoke, after_drop, after_raw, after_opening, after_openings}
+use Rattle.nr_drill.specs.Drill.{link_of, SerialServer, Setting, Drill, Pipes, start, links_of, pipes_of, cred_of, settled, after_feeding, after_feeding_up, after_feeding_down, after_outcomes, after_up, after_down, after_round, after_moves, after_submit, after_work, after_forget, after_revoke, after_drop, after_raw, after_opening, after_openings, after_grant}
 use Rattle.nr_drill.specs.Follows.{after_line, Drains, Makes, MakeAll, parameters_of, setting_of, opened_drill}
 use Rattle.nr_drill.specs.WorkLeft.{DrainStep, after_step}
 use Rattle.nr_drill.specs.WorkLeft.DrainStep.{AllUp, Work, AllDown}
 use Rattle.nr_drill.specs.Drains.{IsRunning}
 use Rattle.nr_laws.proofs.DistinctKeys.{any_append}
 use Rattle.nr_drill.proofs.Lawful.{IsLawful, Keeps, lawful_settled, lawful_after_up, lawful_work, lawful_after_down}
-use Rattle.nr_drill.proofs.Followed.{Among, among_range, Extends, no_event, submit_adds, up_adds, down_adds, work_adds, forget_adds, revoke_adds, drop_adds, raw_adds, moves_adds, opening_adds, start_lawful, elsewhere, laws_of, opened_by_script}
+use Rattle.nr_drill.proofs.Followed.{Among, among_range, Extends, no_event, submit_adds, up_adds, down_adds, work_adds, forget_adds, revoke_adds, drop_adds, raw_adds, moves_adds, opening_adds, start_lawful, elsewhere, laws_of, opened_by_script, grant_adds, all_fit, IsFit}
 use Rattle.nr_drill.proofs.Carried.{Carries, NamesClient, opened_stands, lines_passed, all_name, neither_raw, carry_settled, carries_up, carries_down, carries_work, carries_elsewhere, same_here, IsSameHere, other_than, are_links, start_carries}
 use Rattle.nr_drill.proofs.LessWork.{leaves_through, settled_leaves, own, no_drop, same_due_down}
 use Rattle.nr_drill.proofs.LessFrames.{frames_one, completed_is, still_heard}
@@ -79,6 +79,7 @@ line_heard s link (lines.Forget client number) d h = heard_by_lem link client d 
 line_heard s link (lines.Revoke client number) d h = heard_by_lem link client d (after_revoke s client number d) (revoke_adds s client number d) h
 line_heard s link (lines.Drop client) d h = heard_by_lem link client d (after_drop client d) (drop_adds client d) h
 line_heard s link (lines.Raw client side bytes) d h = heard_by_lem link client d (after_raw client side bytes (is_dropped client d.marks) d) (raw_adds client side bytes (is_dropped client d.marks) d) h
+line_heard s link (lines.Grant client credits) d h = heard_by_lem link client d (after_grant client credits d) (grant_adds client credits d) h
 line_heard s link lines.Drain d h = h
 
 round_heard : (s : Setting) (link : ℕ) (links : List ℕ) (d : Drill) → Heard link d.marks → Heard link (after_round s links d).marks
@@ -100,6 +101,7 @@ made_heard s clients link (lines.Forget client number) old new e h = subst (λ (
 made_heard s clients link (lines.Revoke client number) old new e h = subst (λ (d : Drill). Heard link d.marks) (sym e) (line_heard s link (lines.Revoke client number) old h)
 made_heard s clients link (lines.Drop client) old new e h = subst (λ (d : Drill). Heard link d.marks) (sym e) (line_heard s link (lines.Drop client) old h)
 made_heard s clients link (lines.Raw client side bytes) old new e h = subst (λ (d : Drill). Heard link d.marks) (sym e) (line_heard s link (lines.Raw client side bytes) old h)
+made_heard s clients link (lines.Grant client credits) old new e h = subst (λ (d : Drill). Heard link d.marks) (sym e) (line_heard s link (lines.Grant client credits) old h)
 made_heard s clients link lines.Drain old new e h = drain_heard s link (links_of clients) e.0 old new e.1 h
 
 pub lines_heard : (s : Setting) (clients link : ℕ) (all : List Line) (old new : Drill) → MakeAll s clients all old new → Heard link old.marks → Heard link new.marks
@@ -378,7 +380,7 @@ script_runs server script is link within before after cut raw mid made =
     let clients = opening.clients in
     let first = opened_stands server script is link within in
     let stands = lines_passed s clients link before (opened_drill server opening) mid within.0 (opened_by_script script is)
-    (all_front HasWritableCred before after (subst (AllByRecursion HasWritableCred) cut is.creds))
+    (all_front (IsFit s) before after (subst (AllByRecursion (IsFit s)) cut (all_fit server script is)))
     (all_front NamesClient before after (subst (AllByRecursion NamesClient) cut (all_name opening [] script.lines is.follow_on)))
     raw made first in
     running_from s link mid stands.holds.keeps stands.carries (lines_heard s clients link before (opened_drill server opening) mid made (opened_heard server script link within))

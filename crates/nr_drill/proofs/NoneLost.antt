@@ -9,6 +9,7 @@ use Rattle.nr_reduce.specs.declared.call.Call.{Call}
 use Rattle.nr_reduce.specs.declared.call.Form.{Form}
 use Rattle.nr_reduce.specs.declared.mark.Mark.{Mark}
 use Rattle.nr_reduce.specs.declared.mark.Mark.TheVariants as marks
+use Rattle.nr_reduce.specs.declared.mark.Told.TheVariants.{Granted}
 use Rattle.nr_reduce.specs.PlainJournal.{journal}
 use Rattle.nr_reduce.specs.History.{CompletedCall, bytes_sent, bytes_received, written_at, fed_at, is_drop_of, is_dropped}
 use Rattle.nr_reduce.specs.ServerState.{ReadyCall}
@@ -20,11 +21,11 @@ use Rattle.nr_reduce.proofs.Standing.{sent_one, received_one}
 use Rattle.nr_script.specs.declared.script.Line.{Line}
 use Rattle.nr_script.specs.declared.script.Line.TheVariants as lines
 use Rattle.nr_script.specs.Script.{ScriptLines, IsScript}
-use Rattle.nr_drill.specs.Drill.{SerialServer, Setting, Drill, Pipes, empty_pipes, plain_of, now, unwritten, appended, after_output, after_all_output, settled, pipes_of, cred_of, with_mark, after_feeding, after_feeding_up, after_feeding_down, after_up, after_down, after_handing, after_done, after_dones, after_outcomes, after_submit, waiting_call, after_answer, after_execution, after_work, after_calls, after_all_up, after_all_work, after_moves, answer_of_line, open_xid, after_giving_up, after_forget, after_taking_back, after_revoke, after_drop, after_raw, after_round, after_opening, after_openings, start, links_of}
+use Rattle.nr_drill.specs.Drill.{SerialServer, Setting, Drill, Pipes, empty_pipes, plain_of, now, unwritten, appended, after_output, after_all_output, settled, pipes_of, cred_of, with_mark, after_feeding, after_feeding_up, after_feeding_down, after_up, after_down, after_handing, after_done, after_dones, after_outcomes, after_submit, waiting_call, after_answer, after_execution, after_work, after_calls, after_all_up, after_all_work, after_moves, answer_of_line, open_xid, after_giving_up, after_forget, after_taking_back, after_revoke, after_drop, after_raw, after_round, after_opening, after_openings, start, links_of, after_grant}
 use Rattle.nr_drill.specs.Follows.{after_line, Drains, Makes, MakeAll, Follows, setting_of, opened_drill}
 use Rattle.nr_drill.specs.Lines.{IsLink}
 use Rattle.nr_drill.proofs.Lawful.{own_written, up_written, down_written}
-use Rattle.nr_drill.proofs.Followed.{Extends, submit_adds, up_adds, down_adds, work_adds, forget_adds, revoke_adds, drop_adds, raw_adds, moves_adds, opening_adds}
+use Rattle.nr_drill.proofs.Followed.{Extends, submit_adds, up_adds, down_adds, work_adds, forget_adds, revoke_adds, drop_adds, raw_adds, moves_adds, opening_adds, grant_adds}
 use Rattle.nr_drill.proofs.Carried.{same_dropped, same_sent, same_received, own_pipes, still_room, own_fed, up_fed, down_fed, dropped_at_last, IsSameHere, same_here, other_than, NamesClient, all_name, AreLinks, are_links, start_carries}
 
 pub record NoneLost (link : ℕ) (d : Drill) : Type 0 where
@@ -248,6 +249,9 @@ none_drop link d h = record {
   down = λ e. absurd (not_dropped (sym (dropped_at_last link d.marks) ∙ e));
 }
 
+none_grant : (link credits : ℕ) (d : Drill) → NoneLost link d → NoneLost link (after_grant link credits d)
+none_grant link credits d h = none_mark link (marks.Told link (Granted credits)) d refl refl refl refl refl h
+
 none_raw : (link : ℕ) (side : Side) (bytes : List ℕ) (dropped : Bool) (d : Drill) → NoneLost link d → NoneLost link (after_raw link side bytes dropped d)
 none_raw link side bytes true d h = h
 none_raw link Initiator bytes false d h =
@@ -321,6 +325,7 @@ none_line s link (lines.Drop client) d one some h = none_by client link d (after
 none_line s link (lines.Raw client side bytes) d one some h =
     let dropped = is_dropped client d.marks in
     none_by client link d (after_raw client side bytes dropped d) some one (raw_adds client side bytes dropped d) (none_raw client side bytes dropped d) h
+none_line s link (lines.Grant client credits) d one some h = none_by client link d (after_grant client credits d) some one (grant_adds client credits d) (none_grant client credits d) h
 none_line s link lines.Drain d one some h = h
 
 none_round : (s : Setting) (link : ℕ) (links : List ℕ) (d : Drill) → 1 ≤ link → AreLinks links → NoneLost link d → NoneLost link (after_round s links d)
@@ -343,6 +348,7 @@ none_made s clients link (lines.Forget client number) old new one n e h = subst 
 none_made s clients link (lines.Revoke client number) old new one n e h = subst (NoneLost link) (sym e) (none_line s link (lines.Revoke client number) old one n h)
 none_made s clients link (lines.Drop client) old new one n e h = subst (NoneLost link) (sym e) (none_line s link (lines.Drop client) old one n h)
 none_made s clients link (lines.Raw client side bytes) old new one n e h = subst (NoneLost link) (sym e) (none_line s link (lines.Raw client side bytes) old one n h)
+none_made s clients link (lines.Grant client credits) old new one n e h = subst (NoneLost link) (sym e) (none_line s link (lines.Grant client credits) old one n h)
 none_made s clients link lines.Drain old new one n e h = none_drain s link (links_of clients) e.0 old new one (are_links 1 clients (omega arith)) e.1 h
 
 none_lines : (s : Setting) (clients link : ℕ) (all : List Line) (old new : Drill) → 1 ≤ link → AllByRecursion NamesClient all → MakeAll s clients all old new → NoneLost link old → NoneLost link new

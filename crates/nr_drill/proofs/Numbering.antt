@@ -19,7 +19,7 @@ use Rattle.nr_reduce.specs.Client.{client_rules, client_end, client_state_after,
 use Rattle.nr_reduce.specs.ClientState.{ClientState}
 use Rattle.nr_reduce.specs.EndRules.{EndState, end_state_after, next_end_state, next_end_state_by, next_end_state_in}
 use Rattle.nr_reduce.specs.Events.{RunEvent, events, events_at, if_own}
-use Rattle.nr_reduce.specs.Events.RunEvent.{FrameReceived, CallSubmitted, MemoryRevoked, CallExecuted, QueueWritten}
+use Rattle.nr_reduce.specs.Events.RunEvent.{FrameReceived, CallSubmitted, MemoryRevoked, CallExecuted, QueueWritten, ServerTold}
 use Rattle.nr_reduce.specs.History.{AcceptedCall, accepted_at, accepted_calls, bytes_received, same_side}
 use Rattle.nr_reduce.specs.Run.{client}
 use Rattle.nr_reduce.proofs.Placing.{next_xid_one, segment_next}
@@ -27,13 +27,13 @@ use Rattle.nr_reduce.proofs.Steps.{client_one}
 use Rattle.nr_texts.specs.declared.opening.Opening.{Opening}
 use Rattle.nr_script.specs.declared.script.Line.{Line}
 use Rattle.nr_script.specs.declared.script.Line.TheVariants as lines
-use Rattle.nr_script.specs.Script.{ScriptLines, IsScript, FollowOn, may_follow, is_client, is_call_line}
+use Rattle.nr_script.specs.Script.{ScriptLines, IsScript, FollowOn, may_follow, is_client, is_call_line, is_granted}
 use Rattle.nr_drill.specs.Drill.{link_of, SerialServer, Setting, Drill, links_of, start, after_openings, after_opening, after_round, after_moves}
 use Rattle.nr_drill.specs.Follows.{after_line, Drains, Makes, MakeAll, Follows, parameters_of, setting_of, opened_drill}
 use Rattle.nr_drill.specs.Headline.{IsDrillRun}
 use Rattle.nr_drill.specs.private.Drafts.{AreNumbered, IsNextXid, NumberedMark}
 use Rattle.nr_drill.proofs.DraftSteps.{accepted_one, itself}
-use Rattle.nr_drill.proofs.Followed.{Adds, submit_adds, up_adds, down_adds, work_adds, forget_adds, revoke_adds, drop_adds, raw_adds, moves_adds, opening_adds}
+use Rattle.nr_drill.proofs.Followed.{Adds, submit_adds, up_adds, down_adds, work_adds, forget_adds, revoke_adds, drop_adds, raw_adds, moves_adds, opening_adds, grant_adds}
 use Rattle.nr_reduce.specs.History.{is_dropped}
 
 -- ===== links
@@ -79,6 +79,8 @@ module _ (opening : Opening) (s : Setting) where
   line_within before (lines.Drop client) d e h = added_within opening.clients client d.marks _ (client_within opening client e) (drop_adds client d).marks h
   line_within before (lines.Raw client side bytes) d e h =
       added_within opening.clients client d.marks _ (client_within opening client e) (raw_adds client side bytes (is_dropped client d.marks) d).marks h
+  line_within before (lines.Grant client credits) d e h =
+      added_within opening.clients client d.marks _ (client_within opening client (both_true (is_client opening client) (is_granted opening credits) e).0) (grant_adds client credits d).marks h
   line_within before lines.Drain d e h = h
 
   -- for each of these links
@@ -111,6 +113,7 @@ module _ (opening : Opening) (s : Setting) where
   made_within before (lines.Revoke client number) old new f e h = subst (λ (d : Drill). AreLinksWithin opening.clients d.marks) (sym e) (line_within before (lines.Revoke client number) old f h)
   made_within before (lines.Drop client) old new f e h = subst (λ (d : Drill). AreLinksWithin opening.clients d.marks) (sym e) (line_within before (lines.Drop client) old f h)
   made_within before (lines.Raw client side bytes) old new f e h = subst (λ (d : Drill). AreLinksWithin opening.clients d.marks) (sym e) (line_within before (lines.Raw client side bytes) old f h)
+  made_within before (lines.Grant client credits) old new f e h = subst (λ (d : Drill). AreLinksWithin opening.clients d.marks) (sym e) (line_within before (lines.Grant client credits) old f h)
   made_within before lines.Drain old new f e h = drain_within (links_of opening.clients) e.0 old new all_links e.1 h
 
   lines_within : (before all : List Line) (old new : Drill) → FollowOn opening before all → MakeAll s opening.clients all old new → AreLinksWithin opening.clients old.marks → AreLinksWithin opening.clients new.marks
@@ -142,6 +145,7 @@ module _ (o : LinkParameters) where
   IsQuiet (MemoryRevoked place xid) = Unit {0}
   IsQuiet (CallExecuted call) = Unit {0}
   IsQuiet (QueueWritten taken) = Unit {0}
+  IsQuiet (ServerTold what) = Unit {0}
 
   quiet_state : (k : ClientState) (event : RunEvent) → IsQuiet event → (client_state_after o k event).next_xid ≡ k.next_xid
   unfolding client_state_after
@@ -150,6 +154,7 @@ module _ (o : LinkParameters) where
   quiet_state k (MemoryRevoked place xid) quiet = refl
   quiet_state k (CallExecuted call) quiet = refl
   quiet_state k (QueueWritten taken) quiet = refl
+  quiet_state k (ServerTold what) quiet = refl
 
   quiet_by : (k : ClientState) (event : RunEvent) (why : Option End) → IsQuiet event → (next_end_state_by (client_rules o) k event why).state.next_xid ≡ k.next_xid
   quiet_by k event None quiet = quiet_state k event quiet
@@ -222,6 +227,7 @@ module _ (o : LinkParameters) where
     counted_one (marks.Revoke l xid bytes) asked is =
         quiet_mark (marks.Revoke l xid bytes) (if_quiet (eqb l link && true) (MemoryRevoked (length (bytes_received link Initiator run)) xid ∷ []) (tt, tt)) refl is
     counted_one (marks.Drop l) asked is = quiet_mark (marks.Drop l) tt refl is
+    counted_one (marks.Told l what) asked is = quiet_mark (marks.Told l what) (never (eqb l link) (ServerTold what ∷ [])) refl is
 
   next_xid_is : (before : List Mark) (mark : Mark) → o.first_xid ≡ 1 → AskedMark IsAll o (link_of mark) before mark → IsCounted (link_of mark) before → IsNextXid before mark
   next_xid_is before (marks.Submit l call form (submissions.Accepted xid)) first asked is = (let e = (asked refl).next in omega (arith, e, is, first))
@@ -235,6 +241,7 @@ module _ (o : LinkParameters) where
   next_xid_is before (marks.Forget l xid) first asked is = tt
   next_xid_is before (marks.Revoke l xid bytes) first asked is = tt
   next_xid_is before (marks.Drop l) first asked is = tt
+  next_xid_is before (marks.Told l what) first asked is = tt
 
   numbered_from : (clients : ℕ) (before run : List Mark) → o.first_xid ≡ 1 → ((link : ℕ) → IsLinkWithin clients link → AtEachMark (AskedMark IsAll o link) before run) → ((link : ℕ) → IsLinkWithin clients link → IsCounted link before)
       → AreLinksWithin clients run → AtEachMark (NumberedMark clients) before run

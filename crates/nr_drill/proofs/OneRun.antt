@@ -24,6 +24,7 @@ makes_once s clients (lines.Forget client number) old one two h g = h ∙ sym g
 makes_once s clients (lines.Revoke client number) old one two h g = h ∙ sym g
 makes_once s clients (lines.Drop client) old one two h g = h ∙ sym g
 makes_once s clients (lines.Raw client side bytes) old one two h g = h ∙ sym g
+makes_once s clients (lines.Grant client credits) old one two h g = h ∙ sym g
 makes_once s clients lines.Drain old one two h g = drains_once s (links_of clients) h.0 g.0 old one two h.1 g.1
 
 pub made_once : (s : Setting) (clients : ℕ) (all : List Line) (old one two : Drill) → MakeAll s clients all old one → MakeAll s clients all old two → one ≡ two

@@ -57,6 +57,7 @@ on_link plain link before (marks.Lost l xid) h = tt
 on_link plain link before (marks.Forget l xid) h = tt
 on_link plain link before (marks.Revoke l xid bytes) h = tt
 on_link plain link before (marks.Drop l) h = tt
+on_link plain link before (marks.Told l what) h = tt
 
 pub plainly_on : (plain : PlainServer) (link : ℕ) (run : List Mark) → AnsweredByPlainServer plain run → AnsweredByPlainServerOn plain link run
 plainly_on plain link run h = AtEachMark_each (PlainMark plain) (PlainOnMark plain link) [] run (on_link plain link) h

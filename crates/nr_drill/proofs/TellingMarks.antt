@@ -95,6 +95,7 @@ module _ (s : Setting) (adds : s.server.adds ≡ entries_of_call) where
   same_entries (marks.Forget l xid) = refl
   same_entries (marks.Revoke l xid bytes) = refl
   same_entries (marks.Drop l) = refl
+  same_entries (marks.Told l what) = refl
 
   same_all : (run : List Mark) → flat_map (entries_added adding) run ≡ flat_map (entries_added (plain_of s.server)) run
   same_all [] = refl
@@ -118,6 +119,7 @@ module _ (s : Setting) (adds : s.server.adds ≡ entries_of_call) where
   same_with before (marks.Forget l xid) reports = refl
   same_with before (marks.Revoke l xid bytes) reports = refl
   same_with before (marks.Drop l) reports = refl
+  same_with before (marks.Told l what) reports = refl
 
   same_from : (reports : List CallReport) (before run : List Mark) → reports_from adding reports before run ≡ reports_from (plain_of s.server) reports before run
   same_from reports before [] = refl

@@ -16,6 +16,7 @@ use Rattle.nr_reduce.specs.declared.call.Submission.{Submission}
 use Rattle.nr_reduce.specs.declared.call.Submission.TheVariants as submissions
 use Rattle.nr_reduce.specs.declared.mark.Mark.{Mark}
 use Rattle.nr_reduce.specs.declared.mark.Mark.TheVariants as marks
+use Rattle.nr_reduce.specs.declared.mark.Told.TheVariants.{Granted}
 use Rattle.nr_reduce.specs.declared.mark.LinkParameters.{LinkParameters}
 use Rattle.nr_reduce.specs.PlainJournal.{entries_added, journal}
 use Rattle.nr_reduce.specs.History.{CompletedCall, bytes_sent, is_dropped}
@@ -33,7 +34,7 @@ use Rattle.nr_script.specs.declared.script.Line.{Line}
 use Rattle.nr_script.specs.declared.script.Line.TheVariants as lines
 use Rattle.nr_texts.specs.Forms.{HasWordPosition}
 use Rattle.nr_script.specs.Script.{ScriptLines, IsTypedCred, IsTypedLine, IsScript}
-use Rattle.nr_drill.specs.Drill.{SerialServer, Setting, Drill, Pipes, plain_of, now, unwritten, after_output, after_all_output, settled, pipes_of, with_pipes, with_mark, with_cred, appended, empty_pipes, cred_of, after_submit, after_feeding, after_feeding_up, after_up, waiting_call, after_answer, after_execution, after_work, after_calls, after_drop, after_raw, after_feeding_down, after_handing, after_done, after_dones, after_outcomes, after_down, answer_of_line, open_xid, after_giving_up, after_forget, after_taking_back, after_revoke, after_all_up, after_all_work, after_moves, after_round, after_opening, after_openings, start, links_of}
+use Rattle.nr_drill.specs.Drill.{SerialServer, Setting, Drill, Pipes, plain_of, now, unwritten, after_output, after_all_output, settled, pipes_of, with_pipes, with_mark, with_cred, appended, empty_pipes, cred_of, after_submit, after_feeding, after_feeding_up, after_up, waiting_call, after_answer, after_execution, after_work, after_calls, after_drop, after_raw, after_feeding_down, after_handing, after_done, after_dones, after_outcomes, after_down, answer_of_line, open_xid, after_giving_up, after_forget, after_taking_back, after_revoke, after_all_up, after_all_work, after_moves, after_round, after_opening, after_openings, start, links_of, after_grant}
 use Rattle.nr_drill.specs.Follows.{after_line, Drains, Makes, MakeAll, Follows, setting_of, opened_drill}
 use Rattle.nr_drill.specs.InBytes.{RepliedMark, RepliedInBytes, ExecutedMark}
 use Rattle.nr_script.proofs.ByteLists.{no_bytes_lem}
@@ -264,6 +265,9 @@ line_keeps s P k (lines.Drop client) d l h =
 line_keeps s P k (lines.Raw client side bytes) d l h =
     let dropped = is_dropped client d.marks in
     k.quiet d (after_raw client side bytes dropped d) (raw_quiet s client side bytes dropped d) (raw_typed client side bytes dropped d l) h
+line_keeps s P k (lines.Grant client credits) d l h =
+    let mark = marks.Told client (Granted credits) in
+    k.quiet d (after_grant client credits d) (More mark refl tt refl) (marked mark d tt) h
 line_keeps s P k lines.Drain d l h = h
 
 moves_keep : (s : Setting) (P : Drill → Type 0) → KeptBySteps s P → (link : ℕ) (d : Drill) → P d → P (after_moves s link d)
@@ -293,6 +297,7 @@ made_keeps s P k clients (lines.Forget client number) old new l e h = subst P (s
 made_keeps s P k clients (lines.Revoke client number) old new l e h = subst P (sym e) (line_keeps s P k (lines.Revoke client number) old l h)
 made_keeps s P k clients (lines.Drop client) old new l e h = subst P (sym e) (line_keeps s P k (lines.Drop client) old l h)
 made_keeps s P k clients (lines.Raw client side bytes) old new l e h = subst P (sym e) (line_keeps s P k (lines.Raw client side bytes) old l h)
+made_keeps s P k clients (lines.Grant client credits) old new l e h = subst P (sym e) (line_keeps s P k (lines.Grant client credits) old l h)
 made_keeps s P k clients lines.Drain old new l e h = drain_keeps s P k (links_of clients) e.0 old new e.1 h
 
 pub lines_keep : (s : Setting) (P : Drill → Type 0) → KeptBySteps s P → (clients : ℕ) (all : List Line) (old new : Drill) → AllByRecursion IsTypedLine all → MakeAll s clients all old new → P old → P new

@@ -9,7 +9,7 @@ use Rattle.nr_texts.specs.declared.opening.Opening.{Opening}
 use Rattle.nr_script.specs.declared.script.Line.{Line}
 use Rattle.nr_script.specs.declared.script.Line.TheVariants as lines
 use Rattle.nr_script.specs.Script.{ScriptLines}
-use Rattle.nr_drill.specs.Drill.{SerialServer, Setting, Drill, pipes_of, waiting_call, start, links_of, cred_of, with_cred, after_submit, after_up, after_down, after_work, after_forget, after_revoke, after_drop, after_raw, after_round, after_openings}
+use Rattle.nr_drill.specs.Drill.{SerialServer, Setting, Drill, pipes_of, waiting_call, start, links_of, cred_of, with_cred, after_submit, after_up, after_down, after_work, after_forget, after_revoke, after_drop, after_raw, after_grant, after_round, after_openings}
 
 -- a drill after a line, but for the line `drain`
 abbrev pub after_line : Setting → Line → Drill → Drill
@@ -24,6 +24,7 @@ after_line s (lines.Forget client number) d = after_forget s client number d
 after_line s (lines.Revoke client number) d = after_revoke s client number d
 after_line s (lines.Drop client) d = after_drop client d
 after_line s (lines.Raw client side bytes) d = after_raw client side bytes (is_dropped client d.marks) d
+after_line s (lines.Grant client credits) d = after_grant client credits d
 after_line s lines.Drain d = d
 
 -- Nothing moves on a link: nothing waits in its pipes, and no call waits to be executed.
@@ -55,6 +56,7 @@ parameters_of opening link = record {
   first_stag = 1;
   wished = opening.credits;
   granted = opening.credits;
+  low = opening.credits;
   receives = opening.credits;
   client = sized_terms opening.client_units;
   server = sized_terms opening.server_units;

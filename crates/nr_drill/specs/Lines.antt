@@ -25,6 +25,7 @@ acts_on link (lines.Forget client number) = client == link
 acts_on link (lines.Revoke client number) = client == link
 acts_on link (lines.Drop client) = client == link
 acts_on link (lines.Raw client side bytes) = client == link
+acts_on link (lines.Grant client credits) = client == link
 acts_on link lines.Drain = true
 
 -- a drain that no later line of the link follows

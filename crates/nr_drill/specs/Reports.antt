@@ -78,6 +78,7 @@ reports_with plain before (marks.Wrote l side bytes) reports = reports
 reports_with plain before (marks.Fed l side bytes) reports = reports
 reports_with plain before (marks.Execute l xid moment payload place reply) reports = reports
 reports_with plain before (marks.Drop l) reports = reports
+reports_with plain before (marks.Told l what) reports = reports
 
 abbrev pub reports_from : PlainServer → List CallReport → List Mark → List Mark → List CallReport
 reports_from plain reports before [] = reports

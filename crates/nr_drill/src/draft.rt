@@ -319,7 +319,7 @@ impl Draft {
                 Ok(())
             }
             Mark::Revoke { link, xid, bytes } => self.revoke(alloc, *link, *xid, bytes.as_slice()),
-            Mark::Wrote { .. } | Mark::Fed { .. } | Mark::Drop { .. } => Ok(()),
+            Mark::Wrote { .. } | Mark::Fed { .. } | Mark::Drop { .. } | Mark::Told { .. } => Ok(()),
         }
     }
 

@@ -34,6 +34,7 @@ not_answered link (marks.Lost l xid) ne = refl
 not_answered link (marks.Forget l xid) ne = refl
 not_answered link (marks.Revoke l xid bytes) ne = refl
 not_answered link (marks.Drop l) ne = refl
+not_answered link (marks.Told l what) ne = refl
 
 not_given_up : (link : ℕ) (mark : Mark) → link_of mark ≢ link → GivesUpNothing link mark
 not_given_up link mark ne xid =

@@ -71,6 +71,7 @@ one_given link (marks.Lost l xid) = refl
 one_given link (marks.Forget l xid) = refl
 one_given link (marks.Revoke l xid bytes) = refl
 one_given link (marks.Drop l) = refl
+one_given link (marks.Told l what) = refl
 
 all_given : (link : ℕ) (run : List Mark) → flat_map given_id (flat_map (answer_at link) run) ≡ call_ids (flat_map (accepted_at link) run)
 all_given link [] = refl

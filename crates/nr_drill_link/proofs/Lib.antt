@@ -13,6 +13,7 @@ pub mod HandSteps
 pub mod Reading
 pub mod Apart
 pub mod Dropping
+pub mod Granting
 pub mod QuietSteps
 pub mod Executions
 pub mod Rounds

@@ -5,7 +5,7 @@ ghost use Rattle.nr_wire.specs.declared.hello.Side.TheVariants.{Initiator, Respo
 ghost use Rattle.nr_reduce.specs.declared.mark.Mark.{Mark};
 ghost use Rattle.nr_reduce.specs.Run.{end_of_side};
 ghost use Rattle.nr_reduce.specs.History.{is_dropped as is_dropped_after};
-ghost use Rattle.nr_drill.specs.Drill.{Setting, Drill, after_drop, after_opening, after_raw};
+ghost use Rattle.nr_drill.specs.Drill.{Setting, Drill, after_drop, after_grant, after_opening, after_raw};
 ghost use Rattle.nr_drill.specs.Follows.{is_still as is_still_in};
 ghost use Rattle.nr_drill_link.specs.LinkStands.{LinkStands};
 ghost use Rattle.nr_drill_link.specs.Steps.{Goes, IsFresh, Opens};
@@ -15,7 +15,7 @@ use crate::draining::add_mark;
 use crate::transit::Transit;
 use nr_link::End;
 use nr_marks::MarkLog;
-use nr_reduce::Mark;
+use nr_reduce::{Mark, Told};
 use nr_requester::Requester;
 use nr_responder::Responder;
 use nr_texts::Opening;
@@ -140,6 +140,19 @@ impl DrillLink {
         self.down = Transit::new(self.alloc);
         self.dropped = true;
         add_mark(marks, Mark::Drop { link: self.number })
+    }
+
+    /// Tells the server to grant this many credits: from 1 to those that it was opened with. It writes nothing.
+    #[tactic(none)]
+    pub fn grant(&mut self, marks: &mut MarkLog, credits: u32) -> Result<(), Memory>
+        requires some { 1 ≤ credits }
+        requires few { credits ≤ self.old.server.credits.receives }
+        ensures { OnOk result (Goes (λ s link. after_grant link credits) self.old self.new marks.old marks.new) }
+    {
+        self.server.set_credits(credits);
+        let link = self.number;
+        let what = Told::Granted { credits };
+        add_mark(marks, Mark::Told { link, what })
     }
 
     /// Puts bytes into the pipe to the other side of this side, unless the link is dropped.

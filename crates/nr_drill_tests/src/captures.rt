@@ -23,8 +23,8 @@ static TEXTS: [(&[u8], usize); 4] = [
         1,
     ),
     (
-        b"clients 1 credits 1 sizes 2 1\nexec 1 1 4294967295\ndone 1 1 reply 0a\ndone 1 2 chunk\ndone 1 3 version 1 1\nforget 1 4\nrevoke 1 5\ndrop 1\n",
-        7,
+        b"clients 1 credits 1 sizes 2 1\nexec 1 1 4294967295\ndone 1 1 reply 0a\ndone 1 2 chunk\ndone 1 3 version 1 1\nforget 1 4\nrevoke 1 5\ndrop 1\ngrant 1 0\ngrant 1 4294967295\n",
+        9,
     ),
 ];
 
@@ -57,12 +57,14 @@ fn captures_are_written_as_they_were_read(rt: HostRuntime) {
 }
 
 /// A text, and the number of its first invalid line.
-static INVALID: [(&[u8], u64); 7] = [
+static INVALID: [(&[u8], u64); 9] = [
     (b"", 1),
     (b"clients 1 credits 1", 1),
     (b"clients 17 credits 1\n", 1),
     (b"clients 1 credits 1\ndrop 1\n\n", 3),
     (b"clients 1 credits 1\ndrop 2\n", 2),
+    (b"clients 1 credits 1\ngrant 2 1\n", 2),
+    (b"clients 1 credits 1\ngrant 1\n", 2),
     (b"clients 1 credits 1\nin 1 client -\n", 2),
     (b"clients 1 credits 1\ndone 1 1 reply 0\n", 2),
 ];

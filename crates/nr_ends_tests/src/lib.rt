@@ -13,6 +13,8 @@ mod chunks;
 #[cfg(test)]
 mod compare;
 #[cfg(test)]
+mod credits;
+#[cfg(test)]
 mod given;
 #[cfg(test)]
 mod given_up;
@@ -32,6 +34,8 @@ mod random;
 mod refused;
 #[cfg(test)]
 mod replies;
+#[cfg(test)]
+mod segments;
 #[cfg(test)]
 mod sizes;
 #[cfg(test)]

@@ -115,6 +115,25 @@ impl TestLink {
         }
     }
 
+    /// Two ends of which the server end has these credits, and grants at most `low` while more than half of its receives are in use.
+    pub fn open_low(rt: &impl Abort, alloc: Global, credits: u32, low: u32) -> TestLink {
+        TestLink {
+            client: Requester::open(alloc, credits).expect(rt, "memory"),
+            server: Responder::open_low(alloc, credits, low, 1).expect(rt, "memory"),
+            fed_up: 0,
+            fed_down: 0,
+        }
+    }
+
+    /// The server end grants this many credits from now on.
+    pub fn set_credits(&mut self, rt: &impl Abort, credits: u32)
+        ensures { self.new ≡ self.old }
+    {
+        check(rt, 1 <= credits);
+        check(rt, credits <= self.server.opened());
+        self.server.set_credits(credits);
+    }
+
     /// The maximum length of a Send that the client end knows of, towards the server and from it.
     pub fn client_agreed(&self) -> (u32, u32) {
         self.client.agreed()

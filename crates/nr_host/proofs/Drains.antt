@@ -121,7 +121,7 @@ record Stopped (terms : Terms) (link : ℕ) (before now : Outside) (end : End) :
   pub run : List Mark
   pub runs : Runs terms link before now [] [] run
   pub quiet : AllQuiet terms link run
-  pub ended : (opened : LinkParameters) → ServerOpened opened terms.credits terms.credits (sized_terms terms.units) → (server opened link run).ended ≡ Some end
+  pub ended : (opened : LinkParameters) → ServerOpened opened terms.credits terms.low (sized_terms terms.units) → (server opened link run).ended ≡ Some end
 
 stopped : (sink sink' : SinkState) (v v' : ResponderSide) (end : End) → WritesAll sink sink' v v' → end_of v ≡ Some end → end_of v' ≡ end_of v → (end ≡ link_ends.Memory → ⊥)
     → (terms : Terms) (link : ℕ) (before : Outside) (left given : Option (List ℕ)) (gave : Option (List Moment)) (view : PassView) (ahead : List ℕ) (run : List Mark)
@@ -132,7 +132,7 @@ stopped sink sink' v v' end writes why same other terms link before left given g
     let not_out : end_of v ≡ Some link_ends.Memory → ⊥ = λ e. other (same_Some end link_ends.Memory (sym why ∙ e)) in
     let some : is_some (end_of v') ≡ true = ap (λ (o : Option End). is_some o) over in
     let last : List Mark = run' ++ marks.Fed link Responder ahead ∷ [] in
-    let stands : (opened : LinkParameters) → ServerOpened opened terms.credits terms.credits (sized_terms terms.units) → ResponderRepresents opened link last v' =
+    let stands : (opened : LinkParameters) → ServerOpened opened terms.credits terms.low (sized_terms terms.units) → ResponderRepresents opened link last v' =
     λ opened granted. ended_stands opened link run' v' ahead some (live'.stands opened granted) in
     record {
       run = last;

@@ -25,7 +25,7 @@ TakesIn piece v v' = (opened : LinkParameters) (link : ℕ) (run : List Mark) �
 
 pub live_fed : (terms : Terms) (link : ℕ) (before now : Outside) (piece ahead : List ℕ) (run : List Mark) (v v' : ResponderSide) → TakesIn piece v v'
     → IsLive terms link before now (piece ++ ahead) run v → AllQuiet terms link run
-    → ((opened : LinkParameters) → ServerOpened opened terms.credits terms.credits (sized_terms terms.units) → FrameMark opened link run (marks.Fed link Responder piece))
+    → ((opened : LinkParameters) → ServerOpened opened terms.credits terms.low (sized_terms terms.units) → FrameMark opened link run (marks.Fed link Responder piece))
     → IsLive terms link before now ahead (run ++ marks.Fed link Responder piece ∷ []) v'
 live_fed terms link before now piece ahead run v v' takes live quiet frames = record {
   runs = fed terms link before now piece ahead run live.runs quiet frames;

@@ -52,7 +52,7 @@ over_same before after run mark none over =
 pub executed : (terms : Terms) (link : ℕ) (before : Outside) (left given : Option (List ℕ)) (sink : SinkState) (gave gave' : Option (List Moment)) (view view' : PassView)
     (ahead : List ℕ) (run : List Mark) (client xid place : ℕ) (moment : Moment) (payload reply : List ℕ)
     → Runs terms link before (outside left given sink gave view) ahead [] run
-    → ((opened : LinkParameters) → ServerOpened opened terms.credits terms.credits (sized_terms terms.units) → IsExecuted opened link run xid payload)
+    → ((opened : LinkParameters) → ServerOpened opened terms.credits terms.low (sized_terms terms.units) → IsExecuted opened link run xid payload)
     → Gives gave gave' moment
     → Executes view view' client moment payload reply place
     → Runs terms link before (outside left given sink gave' view') ahead [] (run ++ marks.Execute link xid moment payload place reply ∷ [])
@@ -96,7 +96,7 @@ given_alone terms link before left given sink gave gave' view view' ahead run mo
 -- a piece is fed
 pub fed : (terms : Terms) (link : ℕ) (before now : Outside) (piece ahead : List ℕ) (run : List Mark)
     → Runs terms link before now (piece ++ ahead) [] run → AllQuiet terms link run
-    → ((opened : LinkParameters) → ServerOpened opened terms.credits terms.credits (sized_terms terms.units) → FrameMark opened link run (marks.Fed link Responder piece))
+    → ((opened : LinkParameters) → ServerOpened opened terms.credits terms.low (sized_terms terms.units) → FrameMark opened link run (marks.Fed link Responder piece))
     → Runs terms link before now ahead [] (run ++ marks.Fed link Responder piece ∷ [])
 fed terms link before now piece ahead run r quiet frames =
     let mark : Mark = marks.Fed link Responder piece in
@@ -121,7 +121,7 @@ fed terms link before now piece ahead run r quiet frames =
 pub wrote : (terms : Terms) (link : ℕ) (before : Outside) (left given : Option (List ℕ)) (sink sink' : SinkState) (gave : Option (List Moment)) (view : PassView)
     (bytes ahead : List ℕ) (run : List Mark)
     → Runs terms link before (outside left given sink gave view) ahead [] run → TakesMore sink sink' bytes
-    → ((opened : LinkParameters) → ServerOpened opened terms.credits terms.credits (sized_terms terms.units) → IsPrefixOf (bytes_sent link Responder run ++ bytes) (output_due opened link Responder run))
+    → ((opened : LinkParameters) → ServerOpened opened terms.credits terms.low (sized_terms terms.units) → IsPrefixOf (bytes_sent link Responder run ++ bytes) (output_due opened link Responder run))
     → Runs terms link before (outside left given sink' gave view) ahead [] (run ++ marks.Wrote link Responder bytes ∷ [])
 wrote terms link before left given sink sink' gave view bytes ahead run r takes due =
     let mark : Mark = marks.Wrote link Responder bytes in

@@ -94,9 +94,11 @@ pub record Outside : Type 0 where
   pub gave : Option (List Moment)
   pub view : PassView
 
--- the credits that a connection grants, the units of its Sends, and how many bytes were read of it
+-- the credits that a connection grants, the most that it grants while more than half of its receives are in use, the
+-- units of its Sends, and how many bytes were read of it
 pub record Terms : Type 0 where
   pub credits : ℕ
+  pub low : ℕ
   pub units : ℕ
   pub read : ℕ
 
@@ -106,9 +108,9 @@ pub record Runs (terms : Terms) (link : ℕ) (before after : Outside) (ahead : L
   pub own : AtEachMark (λ earlier mark. IsOwn link mark) [] run
   pub handed : HandsOut before.left before.given after.left after.given (bytes_received link Responder run ++ ahead)
   pub taken : Takes before.sink after.sink (bytes_sent link Responder run)
-  pub served : (opened : LinkParameters) → ServerOpened opened terms.credits terms.credits (sized_terms terms.units) → ServedSoFar opened link run
-  pub quiet : (opened : LinkParameters) → ServerOpened opened terms.credits terms.credits (sized_terms terms.units) → AtEachMark (QuietMark opened link) [] run
-  pub frames : (opened : LinkParameters) → ServerOpened opened terms.credits terms.credits (sized_terms terms.units) → AtEachMark (FrameMark opened link) [] run
+  pub served : (opened : LinkParameters) → ServerOpened opened terms.credits terms.low (sized_terms terms.units) → ServedSoFar opened link run
+  pub quiet : (opened : LinkParameters) → ServerOpened opened terms.credits terms.low (sized_terms terms.units) → AtEachMark (QuietMark opened link) [] run
+  pub frames : (opened : LinkParameters) → ServerOpened opened terms.credits terms.low (sized_terms terms.units) → AtEachMark (FrameMark opened link) [] run
   pub over : Over before.view (answers_of run) after.view
   pub gave : GivesAll before.gave after.gave (moments run ++ more)
   pub count : length (bytes_received link Responder run) + length ahead ≡ terms.read

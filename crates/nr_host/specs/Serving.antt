@@ -43,7 +43,7 @@ pub record JoinsPass (view own view' : PassView) : Type 0 where
 
 -- A link was accepted, served to its end by a pass of its own, and hung up: its source, and the sink that has the same
 -- number. `opened` is the link as it was accepted, `closed` as it was hung up. Its clock had given nothing.
-pub record ServesLink (credits units : ℕ) (records : Bool) (before after : Between) (end : LinkEnd) : Type 0 where
+pub record ServesLink (credits low units : ℕ) (records : Bool) (before after : Between) (end : LinkEnd) : Type 0 where
   pub opened : EndedLink
   pub closed : EndedLink
   pub log : Option LinkLog
@@ -57,7 +57,7 @@ pub record ServesLink (credits units : ℕ) (records : Bool) (before after : Bet
   pub numbered : IfSome before.ended (λ log. log.made ≡ opened.number)
   pub same_number : closed.number ≡ opened.number
   pub new_clock : IfSome gave (λ given. given ≡ [])
-  pub served : IsLinkServed credits units records (outside opened.left opened.given (sink_state opened.taken 0 false) gave (split_off before.view))
+  pub served : IsLinkServed credits low units records (outside opened.left opened.given (sink_state opened.taken 0 false) gave (split_off before.view))
       (outside closed.left closed.given (sink_state closed.taken sink_faults false) gave' own) end
   pub made : MakesLink before.ended log
   pub hung_up : EndsLink log after.ended closed
@@ -68,14 +68,14 @@ pub record ServesLink (credits units : ℕ) (records : Bool) (before after : Bet
   pub joins : JoinsPass before.view own after.view
 
 -- one link
-abbrev pub TakesLink : (credits units : ℕ) → (records : Bool) → Between → Option LinkEnd → Between → Type 0
-TakesLink credits units records before None after = StartsLink before after
-TakesLink credits units records before (Some end) after = ServesLink credits units records before after end
+abbrev pub TakesLink : (credits low units : ℕ) → (records : Bool) → Between → Option LinkEnd → Between → Type 0
+TakesLink credits low units records before None after = StartsLink before after
+TakesLink credits low units records before (Some end) after = ServesLink credits low units records before after end
 
 -- links that were taken so, one after another
-abbrev pub ServesAll : (credits units : ℕ) → (records : Bool) → Between → List (Option LinkEnd) → Between → Type 0
-ServesAll credits units records before [] after = after ≡ before
-ServesAll credits units records before (link ∷ links) after = (mid : Between) × (TakesLink credits units records before link mid × ServesAll credits units records mid links after)
+abbrev pub ServesAll : (credits low units : ℕ) → (records : Bool) → Between → List (Option LinkEnd) → Between → Type 0
+ServesAll credits low units records before [] after = after ≡ before
+ServesAll credits low units records before (link ∷ links) after = (mid : Between) × (TakesLink credits low units records before link mid × ServesAll credits low units records mid links after)
 
 -- the ends of those that were served here, in order
 abbrev pub end_of_link : Option LinkEnd → List LinkEnd
@@ -97,16 +97,16 @@ HandsBack None before after = after ≡ before
 HandsBack (Some end) before after = Rises before after
 
 -- links were taken so, and these are the ends of those that were served here
-pub record Serves (credits units : ℕ) (records : Bool) (before : Between) (ends : List LinkEnd) (after : Between) : Type 0 where
+pub record Serves (credits low units : ℕ) (records : Bool) (before : Between) (ends : List LinkEnd) (after : Between) : Type 0 where
   pub links : List (Option LinkEnd)
   pub ends_are : ends_of links ≡ ends
-  pub all : ServesAll credits units records before links after
+  pub all : ServesAll credits low units records before links after
 
 -- one link more was taken
-pub record TakesOne (credits units : ℕ) (records : Bool) (before : Between) (ends ends' : List LinkEnd) (after : Between) : Type 0 where
+pub record TakesOne (credits low units : ℕ) (records : Bool) (before : Between) (ends ends' : List LinkEnd) (after : Between) : Type 0 where
   pub link : Option LinkEnd
   pub ends_are : ends' ≡ ends ++ end_of_link link
-  pub takes : TakesLink credits units records before link after
+  pub takes : TakesLink credits low units records before link after
 
 -- no job was handed back, or the count of the spawner rose
 abbrev pub BackCount : List LinkEnd → ℕ → ℕ → Type 0

@@ -20,10 +20,10 @@ use Rattle.nr_host.specs.declared.conn_end.ConnEnd.{ConnEnd}
 -- it made these marks, and its responder stands for them
 pub record IsLive (terms : Terms) (link : ℕ) (before now : Outside) (ahead : List ℕ) (run : List Mark) (v : ResponderSide) : Type 0 where
   pub runs : Runs terms link before now ahead [] run
-  pub stands : (opened : LinkParameters) → ServerOpened opened terms.credits terms.credits (sized_terms terms.units) → ResponderRepresents opened link run v
+  pub stands : (opened : LinkParameters) → ServerOpened opened terms.credits terms.low (sized_terms terms.units) → ResponderRepresents opened link run v
 
 abbrev pub AllQuiet : Terms → ℕ → List Mark → Type 0
-AllQuiet terms link run = (opened : LinkParameters) → ServerOpened opened terms.credits terms.credits (sized_terms terms.units) → IsQuiet opened link run
+AllQuiet terms link run = (opened : LinkParameters) → ServerOpened opened terms.credits terms.low (sized_terms terms.units) → IsQuiet opened link run
 
 abbrev pub sink_state : (taken : Option (List ℕ)) → (faults : ℕ) → (failed : Bool) → SinkState
 sink_state taken faults failed = record { taken = taken; faults = faults; failed = failed }
@@ -60,7 +60,7 @@ WritesAll sink sink' v v' =
     (terms : Terms) (link : ℕ) (before : Outside) (left given : Option (List ℕ)) (gave : Option (List Moment)) (view : PassView) (ahead : List ℕ) (run : List Mark) →
     IsLive terms link before (outside left given sink gave view) ahead run v →
     (run' : List Mark) × (IsLive terms link before (outside left given sink' gave view) ahead run' v'
-    × ((opened : LinkParameters) → ServerOpened opened terms.credits terms.credits (sized_terms terms.units) → (end_of v ≡ Some link_ends.Memory → ⊥) → queue v' ≡ []))
+    × ((opened : LinkParameters) → ServerOpened opened terms.credits terms.low (sized_terms terms.units) → (end_of v ≡ Some link_ends.Memory → ⊥) → queue v' ≡ []))
 
 -- A step that writes goes on to marks after which nothing is due.
 abbrev pub GoesQuietly : (sink sink' : SinkState) (gave gave' : Option (List Moment)) (view view' : PassView) (v v' : ResponderSide) → Type 0
@@ -98,10 +98,10 @@ FeedEnds end piece sink sink' gave gave' view view' v =
     Ended terms link before (outside left given sink' gave' view') end
 
 -- A connection was served so far, frame by frame, and nothing that was read waits.
-abbrev pub CarriesTo : (credits units : ℕ) (before now : Outside) (v : ResponderSide) (read : ℕ) → Type 0
-CarriesTo credits units before now v read =
+abbrev pub CarriesTo : (credits low units : ℕ) (before now : Outside) (v : ResponderSide) (read : ℕ) → Type 0
+CarriesTo credits low units before now v read =
     (link : ℕ) → (run : List Mark)
-    × (IsLive (record { credits = credits; units = units; read = read }) link before now [] run v × AllQuiet (record { credits = credits; units = units; read = read }) link run)
+    × (IsLive (record { credits = credits; low = low; units = units; read = read }) link before now [] run v × AllQuiet (record { credits = credits; low = low; units = units; read = read }) link run)
 
 -- The client ended its stream.
 abbrev pub EndsIdle : ConnEnd → ℕ → ResponderSide → Type 0
@@ -113,6 +113,6 @@ abbrev pub with_failed : Bool → Outside → Outside
 with_failed failed o = outside o.left o.given (sink_state o.sink.taken o.sink.faults failed) o.gave o.view
 
 -- A connection was served to its end, whatever number its link has in the marks. Either a write failed or none did.
-abbrev pub IsServed : (credits units : ℕ) (before after : Outside) → ConnEnd → Type 0
-IsServed credits units before after end =
-    (link : ℕ) → (read : ℕ) × ((failed : Bool) × Ended (record { credits = credits; units = units; read = read }) link before (with_failed failed after) end)
+abbrev pub IsServed : (credits low units : ℕ) (before after : Outside) → ConnEnd → Type 0
+IsServed credits low units before after end =
+    (link : ℕ) → (read : ℕ) × ((failed : Bool) × Ended (record { credits = credits; low = low; units = units; read = read }) link before (with_failed failed after) end)

@@ -76,10 +76,10 @@ fn carry<I: Source, O: Sink, C: Clock, R: Wait>(
     requires len { length buf.old ≡ piece_max }
     requires rests { Rests shared.now pass.old }
     ensures rests { Rests shared.now pass.new }
-    ensures served { (credits units : ℕ) → CarriesTo credits units
+    ensures served { (credits low units : ℕ) → CarriesTo credits low units
         (outside (I.left source.old) (I.given source.old) (sink_state (O.taken sink.old) (O.faults sink.old) false) (C.gave clock.old) (pass_view pass.old))
         (outside (I.left source.old) (I.given source.old) (sink_state (O.taken sink.old) (O.faults sink.old) false) (C.gave clock.old) (pass_view pass.old)) responder.old.side 0 →
-        IsServed credits units (outside (I.left source.old) (I.given source.old) (sink_state (O.taken sink.old) (O.faults sink.old) false) (C.gave clock.old) (pass_view pass.old))
+        IsServed credits low units (outside (I.left source.old) (I.given source.old) (sink_state (O.taken sink.old) (O.faults sink.old) false) (C.gave clock.old) (pass_view pass.old))
         (outside (I.left source.new) (I.given source.new) (sink_state (O.taken sink.new) (O.faults sink.new) false) (C.gave clock.new) (pass_view pass.new)) result }
     ensures source_count { SourceCount result (I.faults source.old) (I.faults source.new) }
     ensures sink_count { SinkCount result (O.faults sink.old) (O.faults sink.new) }
@@ -131,11 +131,12 @@ pub fn serve_connection<I: Source, O: Sink, C: Clock, R: Wait>(
     pass: &mut Pass<Server>,
     clock: &mut C,
     credits: u32,
+    low: u32,
     units: u8,
 ) -> ConnEnd
     requires { Rests shared.now pass.old }
     ensures rests { Rests shared.now pass.new }
-    ensures served { IsServed credits units (outside (I.left source.old) (I.given source.old) (sink_state (O.taken sink.old) (O.faults sink.old) false) (C.gave clock.old) (pass_view pass.old))
+    ensures served { IsServed credits low units (outside (I.left source.old) (I.given source.old) (sink_state (O.taken sink.old) (O.faults sink.old) false) (C.gave clock.old) (pass_view pass.old))
         (outside (I.left source.new) (I.given source.new) (sink_state (O.taken sink.new) (O.faults sink.new) false) (C.gave clock.new) (pass_view pass.new)) result }
     ensures source_count { SourceCount result (I.faults source.old) (I.faults source.new) }
     ensures sink_count { SinkCount result (O.faults sink.old) (O.faults sink.new) }
@@ -143,7 +144,7 @@ pub fn serve_connection<I: Source, O: Sink, C: Clock, R: Wait>(
     let Ok(mut buf) = vec![in alloc; 0u8; PIECE_MAX] else {
         return ConnEnd::Memory;
     };
-    let Ok(mut responder) = Responder::open_sized(alloc, credits, units) else {
+    let Ok(mut responder) = Responder::open_low(alloc, credits, low, units) else {
         return ConnEnd::Memory;
     };
     let end = carry(

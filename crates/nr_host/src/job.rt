@@ -29,6 +29,7 @@ pub struct ServeJob<I: LinkSource, O: LinkSink, C, R> {
     pub pass: Pass<Server>,
     pub clock: C,
     pub credits: u32,
+    pub low: u32,
     pub records: bool,
     pub units: u8,
     ghost fits: { Rests (arc_value shared) pass },
@@ -55,6 +56,7 @@ fn serve_numbered<N: LinkNumber, I: LinkSource, O: LinkSink, C: Clock, R: Wait>(
     pass: &mut Pass<Server>,
     clock: &mut C,
     credits: u32,
+    low: u32,
     records: bool,
     units: u8,
 ) -> (I, O, LinkEnd)
@@ -62,7 +64,7 @@ fn serve_numbered<N: LinkNumber, I: LinkSource, O: LinkSink, C: Clock, R: Wait>(
     requires source { I.link source ≡ N.number }
     requires sink { O.link sink ≡ N.number }
     ensures rests { Rests shared.now pass.new }
-    ensures served { IsLinkServed credits units records (outside (I.left source) (I.given source) (sink_state (O.taken sink) (O.faults sink) false) (C.gave clock.old) (pass_view pass.old))
+    ensures served { IsLinkServed credits low units records (outside (I.left source) (I.given source) (sink_state (O.taken sink) (O.faults sink) false) (C.gave clock.old) (pass_view pass.old))
         (outside (I.left result.0) (I.given result.0) (sink_state (O.taken result.1) (O.faults result.1) false) (C.gave clock.new) (pass_view pass.new)) result.2 }
     ensures source_count { LinkSourceCount result.2 (I.faults source) (I.faults result.0) }
     ensures sink_count { LinkSinkCount result.2 (O.faults sink) (O.faults result.1) }
@@ -72,7 +74,7 @@ fn serve_numbered<N: LinkNumber, I: LinkSource, O: LinkSink, C: Clock, R: Wait>(
     let source: NumberedSource<I, N> = NumberedSource::new(source);
     let mut sink: NumberedSink<O, N> = NumberedSink::new(sink);
     let (source, end) = serve_link(
-        rt, alloc, source, &mut sink, shared, pass, clock, credits, records, units,
+        rt, alloc, source, &mut sink, shared, pass, clock, credits, low, records, units,
     );
     (source.into_inner(), sink.into_inner(), end)
 }
@@ -87,7 +89,7 @@ impl<
 
     fn run(self) -> Carried<I, O, C>
         ensures rests { Rests (arc_value self.shared) result.pass }
-        ensures served { IsLinkServed self.credits self.units self.records (outside (I.left self.source) (I.given self.source) (sink_state (O.taken self.sink) (O.faults self.sink) false) (C.gave self.clock) (pass_view self.pass))
+        ensures served { IsLinkServed self.credits self.low self.units self.records (outside (I.left self.source) (I.given self.source) (sink_state (O.taken self.sink) (O.faults self.sink) false) (C.gave self.clock) (pass_view self.pass))
             (outside (I.left result.source) (I.given result.source) (sink_state (O.taken result.sink) (O.faults result.sink) false) (C.gave result.clock) (pass_view result.pass)) result.end }
         ensures source_count { LinkSourceCount result.end (I.faults self.source) (I.faults result.source) }
         ensures sink_count { LinkSinkCount result.end (O.faults self.sink) (O.faults result.sink) }
@@ -103,13 +105,14 @@ impl<
             pass,
             clock,
             credits,
+            low,
             records,
             units,
         } = self;
         let mut pass = pass;
         let mut clock = clock;
         let (source, sink, end) = serve_numbered::<Brand, I, O, C, R>(
-            &rt, alloc, source, sink, &shared, &mut pass, &mut clock, credits, records, units,
+            &rt, alloc, source, sink, &shared, &mut pass, &mut clock, credits, low, records, units,
         );
         drop(shared);
         Carried {

@@ -35,19 +35,22 @@ fn serve_by_byte<I: Source, L: Look, O: Sink, C: Clock, R: Wait>(
     pass: &mut Pass<Server>,
     clock: &mut C,
     credits: u32,
+    low: u32,
     units: u8,
     byte: u8,
 ) -> LinkEnd
     requires { Rests shared.now pass.old }
     ensures rests { Rests shared.now pass.new }
-    ensures served { ServesByByte credits units byte
+    ensures served { ServesByByte credits low units byte
         (outside (left_with source.old.held (I.left source.old.inner)) (given_without source.old.held (I.given source.old.inner)) (sink_state (O.taken sink.old) (O.faults sink.old) false) (C.gave clock.old) (pass_view pass.old))
         (outside (left_with source.new.held (I.left source.new.inner)) (given_without source.new.held (I.given source.new.inner)) (sink_state (O.taken sink.new) (O.faults sink.new) false) (C.gave clock.new) (pass_view pass.new)) result }
     ensures source_count { LinkSourceCount result (I.faults source.old.inner) (I.faults source.new.inner) }
     ensures sink_count { LinkSinkCount result (O.faults sink.old) (O.faults sink.new) }
 {
     if byte == HELLO_BYTE {
-        let end = serve_connection(rt, alloc, source, sink, shared, pass, clock, credits, units);
+        let end = serve_connection(
+            rt, alloc, source, sink, shared, pass, clock, credits, low, units,
+        );
         return LinkEnd::Rdma(end);
     }
     let end = serve_records(rt, alloc, source, sink, shared, pass, clock);
@@ -64,6 +67,7 @@ fn serve_looked<L: Look, I: Source, O: Sink, C: Clock, R: Wait>(
     pass: &mut Pass<Server>,
     clock: &mut C,
     credits: u32,
+    low: u32,
     units: u8,
     byte: u8,
 ) -> (I, LinkEnd)
@@ -72,7 +76,7 @@ fn serve_looked<L: Look, I: Source, O: Sink, C: Clock, R: Wait>(
     requires left { I.left source ≡ L.left }
     requires given { I.given source ≡ L.given }
     ensures rests { Rests shared.now pass.new }
-    ensures served { (held : Option ℕ) × (ForSome held (λ b. (b ≡ byte) × ((I.left result.0 ≡ I.left source) × (I.given result.0 ≡ I.given source))) × ServesByByte credits units byte
+    ensures served { (held : Option ℕ) × (ForSome held (λ b. (b ≡ byte) × ((I.left result.0 ≡ I.left source) × (I.given result.0 ≡ I.given source))) × ServesByByte credits low units byte
         (outside (left_with (Some byte) (I.left source)) (given_without (Some byte) (I.given source)) (sink_state (O.taken sink.old) (O.faults sink.old) false) (C.gave clock.old) (pass_view pass.old))
         (outside (left_with held (I.left result.0)) (given_without held (I.given result.0)) (sink_state (O.taken sink.new) (O.faults sink.new) false) (C.gave clock.new) (pass_view pass.new)) result.1) }
     ensures source_count { LinkSourceCount result.1 (I.faults source) (I.faults result.0) }
@@ -88,6 +92,7 @@ fn serve_looked<L: Look, I: Source, O: Sink, C: Clock, R: Wait>(
         pass,
         clock,
         credits,
+        low,
         units,
         byte,
     );
@@ -104,11 +109,12 @@ fn look_and_serve<I: Source, O: Sink, C: Clock, R: Wait>(
     pass: &mut Pass<Server>,
     clock: &mut C,
     credits: u32,
+    low: u32,
     units: u8,
 ) -> (I, LinkEnd)
     requires { Rests shared.now pass.old }
     ensures rests { Rests shared.now pass.new }
-    ensures served { LooksAndServes credits units
+    ensures served { LooksAndServes credits low units
         (outside (I.left source) (I.given source) (sink_state (O.taken sink.old) (O.faults sink.old) false) (C.gave clock.old) (pass_view pass.old))
         (outside (I.left result.0) (I.given result.0) (sink_state (O.taken sink.new) (O.faults sink.new) false) (C.gave clock.new) (pass_view pass.new)) result.1 }
     ensures source_count { LinkSourceCount result.1 (I.faults source) (I.faults result.0) }
@@ -122,7 +128,7 @@ fn look_and_serve<I: Source, O: Sink, C: Clock, R: Wait>(
     };
     let source = peeked.into_inner();
     serve_looked::<Brand, I, O, C, R>(
-        rt, alloc, source, sink, shared, pass, clock, credits, units, byte,
+        rt, alloc, source, sink, shared, pass, clock, credits, low, units, byte,
     )
 }
 
@@ -138,19 +144,22 @@ pub fn serve_link<I: Source, O: Sink, C: Clock, R: Wait>(
     pass: &mut Pass<Server>,
     clock: &mut C,
     credits: u32,
+    low: u32,
     records: bool,
     units: u8,
 ) -> (I, LinkEnd)
     requires { Rests shared.now pass.old }
     ensures rests { Rests shared.now pass.new }
-    ensures served { IsLinkServed credits units records
+    ensures served { IsLinkServed credits low units records
         (outside (I.left source) (I.given source) (sink_state (O.taken sink.old) (O.faults sink.old) false) (C.gave clock.old) (pass_view pass.old))
         (outside (I.left result.0) (I.given result.0) (sink_state (O.taken sink.new) (O.faults sink.new) false) (C.gave clock.new) (pass_view pass.new)) result.1 }
     ensures source_count { LinkSourceCount result.1 (I.faults source) (I.faults result.0) }
     ensures sink_count { LinkSinkCount result.1 (O.faults sink.old) (O.faults sink.new) }
 {
     if records {
-        return look_and_serve(rt, alloc, source, sink, shared, pass, clock, credits, units);
+        return look_and_serve(
+            rt, alloc, source, sink, shared, pass, clock, credits, low, units,
+        );
     }
     let mut source = source;
     let end = serve_connection(
@@ -162,6 +171,7 @@ pub fn serve_link<I: Source, O: Sink, C: Clock, R: Wait>(
         pass,
         clock,
         credits,
+        low,
         units,
     );
     (source, LinkEnd::Rdma(end))

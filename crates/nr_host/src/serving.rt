@@ -66,6 +66,7 @@ fn serve_next<
     pass: &mut Pass<Server>,
     clock: &C,
     credits: u32,
+    low: u32,
     records: bool,
     units: u8,
 ) -> Result<Option<LinkEnd>, ServeFault>
@@ -76,7 +77,7 @@ where
     requires rests { Rests (arc_value shared.now) pass.old }
     requires room { P.started spawner.old < 2 ^ 64 - 1 }
     ensures rests { Rests (arc_value shared.now) pass.new }
-    ensures served { IfOk result (λ link. TakesLink credits units records
+    ensures served { IfOk result (λ link. TakesLink credits low units records
         (between (A.ended acceptor.old) (A.lost acceptor.old) (P.started spawner.old) (pass_view pass.old)) link
         (between (A.ended acceptor.new) (A.lost acceptor.new) (P.started spawner.new) (pass_view pass.new))) }
     ensures err { OnErr result (between (A.ended acceptor.new) (A.lost acceptor.new) (P.started spawner.new) (pass_view pass.new)
@@ -105,6 +106,7 @@ where
         pass: shared.split(pass),
         clock: clock.another(),
         credits,
+        low,
         records,
         units,
     };
@@ -140,6 +142,7 @@ fn serve_one<
     pass: &mut Pass<Server>,
     clock: &C,
     credits: u32,
+    low: u32,
     records: bool,
     units: u8,
     started: &mut u64,
@@ -153,7 +156,7 @@ where
     requires room { P.started spawner.old < 2 ^ 64 - 1 }
     requires count { started.old < 2 ^ 64 - 1 }
     ensures rests { Rests (arc_value shared.now) pass.new }
-    ensures served { OnOk result (TakesOne credits units records
+    ensures served { OnOk result (TakesOne credits low units records
         (between (A.ended acceptor.old) (A.lost acceptor.old) (P.started spawner.old) (pass_view pass.old)) ends.old.items ends.new.items
         (between (A.ended acceptor.new) (A.lost acceptor.new) (P.started spawner.new) (pass_view pass.new))) }
     ensures one { OnOk result (started.new + length ends.new.items ≡ started.old + length ends.old.items + 1) }
@@ -174,7 +177,7 @@ where
         return Err(ServeFault::Memory);
     }
     let link = match serve_next(
-        rt, alloc, acceptor, spawner, shared, pass, clock, credits, records, units,
+        rt, alloc, acceptor, spawner, shared, pass, clock, credits, low, records, units,
     ) {
         Ok(link) => link,
         Err(fault) => return Err(fault),
@@ -206,6 +209,7 @@ fn take_links<
     pass: &mut Pass<Server>,
     clock: &C,
     credits: u32,
+    low: u32,
     records: bool,
     connections: u32,
     units: u8,
@@ -219,7 +223,7 @@ where
     requires room { P.started spawner.old < 2 ^ 63 }
     requires none { ends.old.items ≡ [] }
     ensures rests { Rests (arc_value shared.now) pass.new }
-    ensures served { Serves credits units records
+    ensures served { Serves credits low units records
         (between (A.ended acceptor.old) (A.lost acceptor.old) (P.started spawner.old) (pass_view pass.old)) ends.new.items
         (between (A.ended acceptor.new) (A.lost acceptor.new) (P.started spawner.new) (pass_view pass.new)) }
     ensures all { IfOk result (λ started. (started + length ends.new.items ≡ connections) × (P.started spawner.new ≡ P.started spawner.old + started)) }
@@ -241,6 +245,7 @@ where
             pass,
             clock,
             credits,
+            low,
             records,
             units,
             &mut started,
@@ -275,6 +280,7 @@ pub fn serve<
     pass: &mut Pass<Server>,
     clock: &C,
     credits: u32,
+    low: u32,
     records: bool,
     connections: u32,
     units: u8,
@@ -286,13 +292,13 @@ where
     requires rests { Rests (arc_value shared.now) pass.old }
     requires room { P.started spawner.old < 2 ^ 63 }
     ensures rests { Rests (arc_value shared.now) pass.new }
-    ensures served { IfOk result (λ ran. Serves credits units records
+    ensures served { IfOk result (λ ran. Serves credits low units records
         (between (A.ended acceptor.old) (A.lost acceptor.old) (P.started spawner.old) (pass_view pass.old)) ran.ends
         (between (A.ended acceptor.new) (A.lost acceptor.new) (P.started spawner.new) (pass_view pass.new))) }
     ensures all { IfOk result (λ ran. (ran.started + length ran.ends ≡ connections) × (P.started spawner.new ≡ P.started spawner.old + ran.started)) }
     ensures back { IfOk result (λ ran. BackCount ran.ends (P.faults spawner.old) (P.faults spawner.new)) }
     ensures ended { P.ended spawner.new ≡ P.started spawner.new }
-    ensures err { OnErr result ((ends : List LinkEnd) × ((P.started spawner.new + length ends < P.started spawner.old + connections) × (Serves credits units records
+    ensures err { OnErr result ((ends : List LinkEnd) × ((P.started spawner.new + length ends < P.started spawner.old + connections) × (Serves credits low units records
         (between (A.ended acceptor.old) (A.lost acceptor.old) (P.started spawner.old) (pass_view pass.old)) ends
         (between (A.ended acceptor.new) (A.lost acceptor.new) (P.started spawner.new) (pass_view pass.new))
         × BackCount ends (P.faults spawner.old) (P.faults spawner.new)))) }
@@ -312,6 +318,7 @@ where
         pass,
         clock,
         credits,
+        low,
         records,
         connections,
         units,

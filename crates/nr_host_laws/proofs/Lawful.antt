@@ -63,13 +63,13 @@ written_at opened link run left ends.Memory other cause = absurd (other refl)
 
 -- ---- The marks
 
--- parameters of a link whose server grants these credits and has these units
-abbrev pub with_credits : ℕ → ℕ → LinkParameters
-with_credits credits units = record { first_xid = 1; first_stag = 1; wished = 1; granted = credits; low = credits; receives = credits; client = default_terms; server = sized_terms units }
+-- parameters of a link whose server grants these credits, at most `low` while it is busy, and has these units
+abbrev pub with_credits : ℕ → ℕ → ℕ → LinkParameters
+with_credits credits low units = record { first_xid = 1; first_stag = 1; wished = 1; granted = credits; low = low; receives = credits; client = default_terms; server = sized_terms units }
 
 module _ (terms : Terms) (link : ℕ) (before now : Outside) (ahead : List ℕ) (more : List Moment) (run : List Mark) (r : Runs terms link before now ahead more run)
-    (all : (opened : LinkParameters) → ServerOpened opened terms.credits terms.credits (sized_terms terms.units) → HasWritten opened link Responder run) where
-  as_whole : (opened : LinkParameters) → ServerOpened opened terms.credits terms.credits (sized_terms terms.units) → AtEachMark (KeepsTo IsAll opened link) [] (merge link [] run) × IsSame opened link run (merge link [] run)
+    (all : (opened : LinkParameters) → ServerOpened opened terms.credits terms.low (sized_terms terms.units) → HasWritten opened link Responder run) where
+  as_whole : (opened : LinkParameters) → ServerOpened opened terms.credits terms.low (sized_terms terms.units) → AtEachMark (KeepsTo IsAll opened link) [] (merge link [] run) × IsSame opened link run (merge link [] run)
   as_whole opened is =
       let each : AtEachMark (KeepsTo IsPrefixOf opened link) [] run =
       both (λ earlier mark. IsOwn link mark) (λ b m. ServedMark IsPrefixOf opened link b m × (QuietMark opened link b m × FrameMark opened link b m)) [] run r.own
@@ -78,12 +78,12 @@ module _ (terms : Terms) (link : ℕ) (before now : Outside) (ahead : List ℕ) 
       let first : IsSame opened link [] [] = record { state = refl; due = refl; sent = refl; received = refl; answers = refl; times = refl } in
       merged opened link [] [] [] run each (all opened is) (same_behind opened link [] [] first)
 
-  same_run : IsSame (with_credits terms.credits terms.units) link run (merge link [] run)
-  same_run = (as_whole (with_credits terms.credits terms.units) (refl, refl, refl, refl)).1
+  same_run : IsSame (with_credits terms.credits terms.low terms.units) link run (merge link [] run)
+  same_run = (as_whole (with_credits terms.credits terms.low terms.units) (refl, refl, refl, refl)).1
 
   pub merged_runs : Runs terms link before now ahead more (merge link [] run)
   merged_runs = record {
-    own = AtEachMark_each (KeepsTo IsAll (with_credits terms.credits terms.units) link) (λ earlier mark. IsOwn link mark) [] (merge link [] run) (λ b m h. h.0) (as_whole (with_credits terms.credits terms.units) (refl, refl, refl, refl)).0;
+    own = AtEachMark_each (KeepsTo IsAll (with_credits terms.credits terms.low terms.units) link) (λ earlier mark. IsOwn link mark) [] (merge link [] run) (λ b m h. h.0) (as_whole (with_credits terms.credits terms.low terms.units) (refl, refl, refl, refl)).0;
     handed = subst (λ (l : List ℕ). HandsOut before.left before.given now.left now.given (l ++ ahead)) (sym same_run.received) r.handed;
     taken = subst (λ (l : List ℕ). Takes before.sink now.sink l) (sym same_run.sent) r.taken;
     served = λ opened is. AtEachMark_each (KeepsTo IsAll opened link) (ServedMark IsPrefixOf opened link) [] (merge link [] run) (λ b m h. served_mark opened link b m h.1.0) (as_whole opened is).0;
@@ -94,22 +94,22 @@ module _ (terms : Terms) (link : ℕ) (before now : Outside) (ahead : List ℕ) 
     count = ap (λ (l : List ℕ). length l + length ahead) same_run.received ∙ r.count;
   }
 
-  pub merged_served : (opened : LinkParameters) → ServerOpened opened terms.credits terms.credits (sized_terms terms.units) → Served opened link (merge link [] run)
+  pub merged_served : (opened : LinkParameters) → ServerOpened opened terms.credits terms.low (sized_terms terms.units) → Served opened link (merge link [] run)
   merged_served opened is = record {
     each = AtEachMark_each (KeepsTo IsAll opened link) (ServedMark IsAll opened link) [] (merge link [] run) (λ b m h. h.1.0) (as_whole opened is).0;
     written = (as_whole opened is).1.sent ∙ all opened is ∙ sym (as_whole opened is).1.due;
   }
 
-  pub merged_cause : (left : Option (List ℕ)) (end : ConnEnd) → ((opened : LinkParameters) → ServerOpened opened terms.credits terms.credits (sized_terms terms.units) → IsCause opened link run left end)
-      → (opened : LinkParameters) → ServerOpened opened terms.credits terms.credits (sized_terms terms.units) → IsCause opened link (merge link [] run) left end
+  pub merged_cause : (left : Option (List ℕ)) (end : ConnEnd) → ((opened : LinkParameters) → ServerOpened opened terms.credits terms.low (sized_terms terms.units) → IsCause opened link run left end)
+      → (opened : LinkParameters) → ServerOpened opened terms.credits terms.low (sized_terms terms.units) → IsCause opened link (merge link [] run) left end
   merged_cause left end cause opened is = cause_same opened link run (merge link [] run) left end (as_whole opened is).1 (cause opened is)
 
 pub keep_the_law : ConnectionsKeepTheLaw
-keep_the_law credits units before after end other served link =
+keep_the_law credits low units before after end other served link =
     let (read, (failed, e)) = served link in
-    let terms : Terms = record { credits = credits; units = units; read = read } in
+    let terms : Terms = record { credits = credits; low = low; units = units; read = read } in
     let now : Outside = with_failed failed after in
-    let all : (opened : LinkParameters) → ServerOpened opened credits credits (sized_terms units) → HasWritten opened link Responder e.run =
+    let all : (opened : LinkParameters) → ServerOpened opened credits low (sized_terms units) → HasWritten opened link Responder e.run =
     λ opened is. written_at opened link e.run after.left end other (e.cause opened is) in (
       read,
       (

@@ -152,7 +152,7 @@ pub connections_are_typed_lem : ConnectionsAreTyped
 unfolding bytes_received answers_of
 connections_are_typed_lem terms link before after end first J left ended is =
     let over = ended.runs.over first J is.history in
-    let opened : LinkParameters = record { first_xid = 1; first_stag = 1; wished = 1; granted = terms.credits; low = terms.credits; receives = terms.credits; client = default_terms; server = sized_terms terms.units } in
+    let opened : LinkParameters = record { first_xid = 1; first_stag = 1; wished = 1; granted = terms.credits; low = terms.low; receives = terms.credits; client = default_terms; server = sized_terms terms.units } in
     let all : IsBytes (flat_map (fed_at link Responder) ended.run ++ ended.ahead) =
     given_bytes left after.left (flat_map (fed_at link Responder) ended.run ++ ended.ahead)
     (subst (λ (o : Option (List ℕ)). Consumes o after.left (flat_map (fed_at link Responder) ended.run ++ ended.ahead)) is.known ended.runs.handed.from_left) is.bytes in
@@ -166,10 +166,10 @@ connections_are_typed_lem terms link before after end first J left ended is =
     })
 
 -- so is the stream of a connection that served all of it
-pub stream_is_typed : (credits units : ℕ) (first : Opening) (J : List Entry) (link : ℕ) (before after : Outside) (stream : List ℕ) (served : ServesStream credits units first J link before after stream) (opened : LinkParameters)
-    → ServerOpened opened credits credits (sized_terms units) → IsBytes stream → IsInBytes (setup_in first).tree → EntriesInBytes J → IsTyped served.run
+pub stream_is_typed : (credits low units : ℕ) (first : Opening) (J : List Entry) (link : ℕ) (before after : Outside) (stream : List ℕ) (served : ServesStream credits low units first J link before after stream) (opened : LinkParameters)
+    → ServerOpened opened credits low (sized_terms units) → IsBytes stream → IsInBytes (setup_in first).tree → EntriesInBytes J → IsTyped served.run
 unfolding bytes_received answers_of
-stream_is_typed credits units first J link before after stream served opened same bytes tree entries =
+stream_is_typed credits low units first J link before after stream served opened same bytes tree entries =
     (typed_from (setup_in first) (J ++ served.over.more) opened link tree [] served.run (length J) (record {
       typed = tt;
       own = (served.made opened same).own;

@@ -32,7 +32,7 @@ use Rattle.nr_reduce.proofs.CountedBytes.{client_bytes_written, client_bytes_due
 use Rattle.nr_reduce.specs.Opening.{IsOpened}
 use Rattle.nr_reduce.specs.Credits.{WithinGrant, calls_outstanding, credits_granted}
 use Rattle.nr_reduce.specs.Asked.{IsAccepted}
-use Rattle.nr_reduce.specs.Served.{IsExecuted, IsGranted, first_ready, next_call}
+use Rattle.nr_reduce.specs.Served.{IsExecuted, ToldInRange, first_ready, next_call}
 use Rattle.nr_laws.proofs.FrameContents.{FrameContent, output_bytes, total_of, sends_in, requests_in, hellos_in}
 use Rattle.nr_laws.proofs.FrameContents.FrameContent.{HelloFrame, PartFrame, SendFrame, RequestFrame, TaggedFrame}
 use Rattle.nr_laws.proofs.LinkInvariants.{Transit}
@@ -278,7 +278,7 @@ execute_preserves opened link run xid moment payload place reply j h =
     (accessed_execute opened j.k j.s j.d j.all_up j.all_down (length (bytes_received link Initiator run)) e h.call first.0 agree first.1 h.own j.linked.waits.whole_calls g.numbers
     (pending_unanswered xid j.all_down j.s.calls g.answered.once there)))
 
-pub told_preserves : (opened : LinkParameters) (link : ℕ) (run : List Mark) (what : Told) (j : RunAgrees opened link run) → IsGranted opened what → MarkAgrees opened link run (marks.Told link what) j
+pub told_preserves : (opened : LinkParameters) (link : ℕ) (run : List Mark) (what : Told) (j : RunAgrees opened link run) → ToldInRange opened what → MarkAgrees opened link run (marks.Told link what) j
 unfolding server_output
 told_preserves opened link run what j granted =
     let l = subst (λ (ps : List FrameContent). EndsAgree opened j.k (server_state_after opened j.s (ServerTold what)) j.u j.d j.all_up ps j.w) (sym (append-nil j.all_down))

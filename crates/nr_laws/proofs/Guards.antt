@@ -14,7 +14,7 @@ use Rattle.nr_reduce.proofs.OwnLimits.{ServerLimits}
 use Rattle.nr_reduce.specs.declared.mark.LinkParameters.{LinkParameters}
 use Rattle.nr_reduce.specs.declared.mark.Told.{Told}
 use Rattle.nr_reduce.specs.declared.mark.Told.TheVariants.{Granted}
-use Rattle.nr_reduce.specs.Served.{IsGranted}
+use Rattle.nr_reduce.specs.Served.{ToldInRange}
 use Rattle.nr_reduce.specs.Holds.{Answer, answer_message, first_chunk, no_segments, chunk_error}
 use Rattle.nr_reduce.specs.History.{ExecutedCall}
 use Rattle.nr_reduce.specs.Events.{RunEvent}
@@ -93,7 +93,7 @@ word_most k = by (is_busy k)
     by true = min-le_right k.low k.credit
     by false = omega arith
 
-pub told_most : (opened : LinkParameters) (what : Told) → IsGranted opened what → credit_told what ≤ opened.granted
+pub told_most : (opened : LinkParameters) (what : Told) → ToldInRange opened what → credit_told what ≤ opened.granted
 told_most opened (Granted credits) h = h.1
 
 one_less : (most n m : ℕ) → n ≤ m → (p : FrameContent) → ServerContent most n p → ServerContent most m p

@@ -8,7 +8,7 @@ use Rattle.std.proofs.lemmas.List.{length-map}
 use Rattle.nr_link.specs.declared.end.End.{End}
 use Rattle.nr_reduce.specs.declared.mark.LinkParameters.{LinkParameters}
 use Rattle.nr_reduce.specs.declared.mark.Told.{Told}
-use Rattle.nr_reduce.specs.Served.{IsGranted}
+use Rattle.nr_reduce.specs.Served.{ToldInRange}
 use Rattle.nr_reduce.specs.declared.outline.Plan.{Plan}
 use Rattle.nr_reduce.specs.Opening.{IsOpened}
 use Rattle.nr_reduce.specs.Limits.{numbers_end}
@@ -225,7 +225,7 @@ guards_written_down opened k s u d all_up all_down w up taken all ends g = recor
   reached = g.reached;
 }
 
-pub guards_told : (opened : LinkParameters) (k : ClientState) (s : ServerState) (u d all_up all_down : List FrameContent) (w : Transit) (up : ℕ) (what : Told) → IsGranted opened what → Guards opened k s u d all_up all_down w up
+pub guards_told : (opened : LinkParameters) (k : ClientState) (s : ServerState) (u d all_up all_down : List FrameContent) (w : Transit) (up : ℕ) (what : Told) → ToldInRange opened what → Guards opened k s u d all_up all_down w up
     → Guards opened k (server_state_after opened s (ServerTold what)) u d all_up all_down w up
 unfolding server_state_after
 guards_told opened k s u d all_up all_down w up what granted g = record {

@@ -2,7 +2,7 @@
 use Rattle.std.proofs.Common.{◌≡◌, ℕ, ◌≤◌, Bool, true, false, cond, eqb, eqb-true, min, List, [], ◌∷◌, ◌++◌, map, Option, None, Some, refl, sym, ap, subst, ◌∙◌, arith, append_assoc, append-nil}
 use Rattle.std.specs.Prelude.{◌&&◌}
 use Rattle.std.specs.List.{AllByRecursion}
-use Rattle.std.proofs.Math.Nat.{le-min, min-eq_right, min-le_right}
+use Rattle.std.proofs.Math.Nat.{le-min, min-le_right}
 use Rattle.nr_wire.specs.declared.hello.Side.TheVariants.{Initiator, Responder}
 use Rattle.nr_link.specs.declared.end.End.{End}
 use Rattle.nr_link.specs.Frames.{Frame, frames_completed, is_hello}
@@ -22,16 +22,50 @@ use Rattle.nr_reduce.specs.EndRules.{EndState, live, next_end_state, next_end_st
 use Rattle.nr_reduce.specs.ServerState.{ServerState, is_busy, credit_word, credit_told}
 use Rattle.nr_reduce.specs.ServerFrames.{frame_effect}
 use Rattle.nr_reduce.specs.Server.{server_rules, server_end, server_state_after, initial_server, with_effect, with_own_hello}
-use Rattle.nr_reduce.specs.Served.{IsGranted, ServedMark, ServedSoFar}
+use Rattle.nr_reduce.specs.Served.{ToldInRange, ServedMark, ServedSoFar}
 use Rattle.nr_reduce.specs.Run.{server}
 use Rattle.nr_reduce.specs.RunLaws.{server_by}
 use Rattle.nr_reduce.proofs.Steps.{server_one}
 use Rattle.nr_laws.specs.Grant.{granted_at, last_granted, ServerGrantsInRange, ServerGrantsWhatIsSet}
 use Rattle.nr_laws.proofs.EachRun.{server_unended}
 
--- what a server keeps of its credits
+-- ---- What it grants at most while it is busy
+
+low_after : (opened : LinkParameters) (k : ServerState) (e : RunEvent) → (server_state_after opened k e).low ≡ k.low
+unfolding server_state_after
+low_after opened k (FrameReceived f) = by (is_hello f)
+  where
+    by : (b : Bool) → (cond b (with_own_hello opened k f) (with_effect k f (frame_effect k f))).low ≡ k.low
+    by true = refl
+    by false = refl
+low_after opened k (CallSubmitted p a) = refl
+low_after opened k (MemoryRevoked p xid) = refl
+low_after opened k (CallExecuted e) = refl
+low_after opened k (QueueWritten taken) = refl
+low_after opened k (ServerTold what) = refl
+
+low_next : (opened : LinkParameters) (r : EndState ServerState) (e : RunEvent) → (next_end_state (server_rules opened) r e).state.low ≡ r.state.low
+low_next opened r e = by r.ended
+  where
+    by_why : (o : Option End) → (next_end_state_by (server_rules opened) r.state e o).state.low ≡ r.state.low
+    by_why None = low_after opened r.state e
+    by_why (Some end) = refl
+
+    by : (o : Option End) → (next_end_state_in (server_rules opened) r.state e o).state.low ≡ r.state.low
+    by None = by_why (server_end opened r.state e)
+    by (Some end) = refl
+
+low_all : (opened : LinkParameters) (r : EndState ServerState) (es : List RunEvent) → (end_state_after (server_rules opened) r es).state.low ≡ r.state.low
+low_all opened r [] = refl
+low_all opened r (e ∷ es) = low_all opened (next_end_state (server_rules opened) r e) es ∙ low_next opened r e
+
+low_of : (opened : LinkParameters) (link : ℕ) (run : List Mark) → (server opened link run).state.low ≡ opened.low
+unfolding server
+low_of opened link run = low_all opened (initial_server opened) (events link Responder run)
+
+-- ---- The range of its credits
+
 pub record KeepsCredits (opened : LinkParameters) (k : ServerState) : Type 0 where
-  pub low : k.low ≡ opened.low
   pub least : 1 ≤ k.credit
   pub most : k.credit ≤ opened.granted
 
@@ -43,9 +77,9 @@ GrantsWithin opened (CallSubmitted place a) = Unit {0}
 GrantsWithin opened (MemoryRevoked place xid) = Unit {0}
 GrantsWithin opened (CallExecuted e) = Unit {0}
 GrantsWithin opened (QueueWritten taken) = Unit {0}
-GrantsWithin opened (ServerTold what) = IsGranted opened what
+GrantsWithin opened (ServerTold what) = ToldInRange opened what
 
-told_range : (opened : LinkParameters) (what : Told) → IsGranted opened what → (1 ≤ credit_told what) × (credit_told what ≤ opened.granted)
+told_range : (opened : LinkParameters) (what : Told) → ToldInRange opened what → (1 ≤ credit_told what) × (credit_told what ≤ opened.granted)
 told_range opened (Granted credits) h = h
 
 credits_after : (opened : LinkParameters) (k : ServerState) (e : RunEvent) → GrantsWithin opened e → KeepsCredits opened k → KeepsCredits opened (server_state_after opened k e)
@@ -53,13 +87,13 @@ unfolding server_state_after
 credits_after opened k (FrameReceived f) within h = by (is_hello f)
   where
     by : (b : Bool) → KeepsCredits opened (cond b (with_own_hello opened k f) (with_effect k f (frame_effect k f)))
-    by true = record { low = h.low; least = h.least; most = h.most }
-    by false = record { low = h.low; least = h.least; most = h.most }
+    by true = record { least = h.least; most = h.most }
+    by false = record { least = h.least; most = h.most }
 credits_after opened k (CallSubmitted p a) within h = h
 credits_after opened k (MemoryRevoked p xid) within h = h
-credits_after opened k (CallExecuted e) within h = record { low = h.low; least = h.least; most = h.most }
-credits_after opened k (QueueWritten taken) within h = record { low = h.low; least = h.least; most = h.most }
-credits_after opened k (ServerTold what) within h = (let range = told_range opened what within in record { low = h.low; least = range.0; most = range.1 })
+credits_after opened k (CallExecuted e) within h = record { least = h.least; most = h.most }
+credits_after opened k (QueueWritten taken) within h = record { least = h.least; most = h.most }
+credits_after opened k (ServerTold what) within h = (let range = told_range opened what within in record { least = range.0; most = range.1 })
 
 credits_next : (opened : LinkParameters) (r : EndState ServerState) (e : RunEvent) → GrantsWithin opened e → KeepsCredits opened r.state → KeepsCredits opened (next_end_state (server_rules opened) r e).state
 credits_next opened r e within h = by r.ended
@@ -116,7 +150,7 @@ credits_from opened link before (mark ∷ run) h served =
 
 pub keeps_credits : (opened : LinkParameters) (link : ℕ) (run : List Mark) → IsOpened opened → ServedSoFar opened link run → KeepsCredits opened (server opened link run).state
 unfolding server events
-keeps_credits opened link run o served = credits_from opened link [] run (record { low = refl; least = o.granted; most = omega arith }) served
+keeps_credits opened link run o served = credits_from opened link [] run (record { least = o.granted; most = omega arith }) served
 
 -- so it does once these events were
 pub credits_by : (opened : LinkParameters) (link : ℕ) (run : List Mark) (es : List RunEvent) → events link Responder run ≡ es → IsOpened opened → ServedSoFar opened link run → KeepsCredits opened (server_by opened es)
@@ -125,13 +159,10 @@ credits_by opened link run es is o served = subst (λ (es : List RunEvent). Keep
 
 -- ---- What it grants
 
-word_range : (opened : LinkParameters) (k : ServerState) → 1 ≤ opened.low → KeepsCredits opened k → (1 ≤ credit_word k) × (credit_word k ≤ opened.granted)
+word_range : (opened : LinkParameters) (k : ServerState) → 1 ≤ k.low → KeepsCredits opened k → (1 ≤ credit_word k) × (credit_word k ≤ opened.granted)
 unfolding credit_word
-word_range opened k low h = by (is_busy k)
+word_range opened k some h = by (is_busy k)
   where
-    some : 1 ≤ k.low
-    some = omega (arith, low, h.low)
-
     less : min k.low k.credit ≤ k.credit
     less = min-le_right k.low k.credit
 
@@ -140,16 +171,9 @@ word_range opened k low h = by (is_busy k)
     by false = (h.least, h.most)
 
 pub server_grants_in_range : ServerGrantsInRange
-server_grants_in_range opened link run o served = word_range opened (server opened link run).state o.low (keeps_credits opened link run o served)
-
--- while no fewer are granted in a busy moment, it is what was set
-word_is_credit : (k : ServerState) → k.credit ≤ k.low → credit_word k ≡ k.credit
-unfolding credit_word
-word_is_credit k le = by (is_busy k)
-  where
-    by : (b : Bool) → cond b (min k.low k.credit) k.credit ≡ k.credit
-    by true = min-eq_right le
-    by false = refl
+server_grants_in_range opened link run o low served =
+    let kept = low_of opened link run in
+    word_range opened (server opened link run).state (omega (arith, low, kept)) (keeps_credits opened link run o served)
 
 -- ---- What its owner set
 
@@ -240,7 +264,9 @@ unfolding server events
 set_last opened link run stays = set_from opened link [] run opened.granted stays refl
 
 pub server_grants_what_is_set : ServerGrantsWhatIsSet
-server_grants_what_is_set opened link run o all served stays =
-    let k = (server opened link run).state in
-    let keeps = keeps_credits opened link run o served in
-    word_is_credit k (let low = keeps.low in let most = keeps.most in omega (arith, low, most, all)) ∙ set_last opened link run stays
+unfolding credit_word
+server_grants_what_is_set opened link run stays =
+    let busy = is_busy (server opened link run).state in
+    let low = low_of opened link run in
+    let last = set_last opened link run stays in
+    λ i. cond busy (min (low i) (last i)) (last i)

@@ -1,12 +1,12 @@
 -- No call is sent past the last grant, and what a server grants (RFC 8166 section 3.3).
-use Rattle.std.specs.Prelude.{◌≡◌, ℕ, ◌≤◌, ◌==◌, if◌then◌else◌, List, [], ◌∷◌, None}
+use Rattle.std.specs.Prelude.{◌≡◌, ℕ, ◌≤◌, min, ◌==◌, if◌then◌else◌, List, [], ◌∷◌, None}
 use Rattle.nr_reduce.specs.declared.call.Submission.TheVariants as submissions
 use Rattle.nr_reduce.specs.declared.mark.Mark.{Mark}
 use Rattle.nr_reduce.specs.declared.mark.Mark.TheVariants as marks
 use Rattle.nr_reduce.specs.declared.mark.Told.TheVariants.{Granted}
 use Rattle.nr_reduce.specs.declared.mark.LinkParameters.{LinkParameters}
 use Rattle.nr_reduce.specs.Opening.{IsOpened}
-use Rattle.nr_reduce.specs.ServerState.{credit_word}
+use Rattle.nr_reduce.specs.ServerState.{credit_word, is_busy}
 use Rattle.nr_reduce.specs.Served.{ServedSoFar}
 use Rattle.nr_reduce.specs.Run.{server}
 use Rattle.nr_reduce.specs.AtEachMark.{AtEachMark}
@@ -28,7 +28,7 @@ SubmitsWithinGrant = (opened : LinkParameters) (link : ℕ) (run : List Mark) �
 
 -- On every link whose server keeps its law so far, whatever its client sends: it grants from 1 to the credits that the link was opened with.
 abbrev pub ServerGrantsInRange : Type 0
-ServerGrantsInRange = (opened : LinkParameters) (link : ℕ) (run : List Mark) → IsOpened opened → ServedSoFar opened link run →
+ServerGrantsInRange = (opened : LinkParameters) (link : ℕ) (run : List Mark) → IsOpened opened → 1 ≤ opened.low → ServedSoFar opened link run →
     (1 ≤ credit_word (server opened link run).state) × (credit_word (server opened link run).state ≤ opened.granted)
 
 -- the credits that the owner of a link's server set last, at first these
@@ -40,7 +40,8 @@ abbrev pub last_granted : ℕ → ℕ → List Mark → ℕ
 last_granted link credits [] = credits
 last_granted link credits (mark ∷ run) = last_granted link (granted_at link credits mark) run
 
--- If it was opened so that it grants no less while it is busy, it grants these until it ends.
+-- On every link a server that hasn't ended grants these, but at most `low` while more than half of its receives are in use.
 abbrev pub ServerGrantsWhatIsSet : Type 0
-ServerGrantsWhatIsSet = (opened : LinkParameters) (link : ℕ) (run : List Mark) → IsOpened opened → opened.low ≡ opened.granted → ServedSoFar opened link run → (server opened link run).ended ≡ None →
-    credit_word (server opened link run).state ≡ last_granted link opened.granted run
+ServerGrantsWhatIsSet = (opened : LinkParameters) (link : ℕ) (run : List Mark) → (server opened link run).ended ≡ None →
+    credit_word (server opened link run).state
+    ≡ (if is_busy (server opened link run).state then min opened.low (last_granted link opened.granted run) else last_granted link opened.granted run)

@@ -42,8 +42,27 @@ fn records_over_tcp(rt: HostRuntime) {
     }
 }
 
+/// A line beside the six, and the low credits then, of a configuration with four credits.
+static LOW: [(&str, u64); 4] = [
+    ("", 4),
+    ("low_credits = 1", 1),
+    ("low_credits = 4", 4),
+    ("record = true\ninline = 2\nlow_credits = 3", 3),
+];
+
+#[test]
+fn low_credits(rt: HostRuntime) {
+    for (row, (line, low)) in LOW.iter().enumerate() {
+        let text = text(&rt, rt.alloc(), "4", "0000000000000000", *line);
+        let Ok(config) = read_config(rt.alloc(), text.as_bytes()) else {
+            panic!(rt; "no configuration")
+        };
+        same(&rt, row, config.low_credits, *low);
+    }
+}
+
 /// A value of `credits`, one of `write_verifier`, and another line.
-static BAD: [(&str, &str, &str); 9] = [
+static BAD: [(&str, &str, &str); 12] = [
     ("0", "0000000000000000", ""),
     ("65", "0000000000000000", ""),
     ("\"1\"", "0000000000000000", ""),
@@ -53,6 +72,9 @@ static BAD: [(&str, &str, &str); 9] = [
     ("1", "0000000000000000", "credits = 1\n"),
     ("1", "0000000000000000", "record = 1\n"),
     ("1", "0000000000000000", "records = true\n"),
+    ("4", "0000000000000000", "low_credits = 0\n"),
+    ("4", "0000000000000000", "low_credits = 5\n"),
+    ("4", "0000000000000000", "low_credits = true\n"),
 ];
 
 #[test]
@@ -62,6 +84,6 @@ fn texts_that_are_none(rt: HostRuntime) {
         let fault = read_config(rt.alloc(), text.as_bytes()).err();
         same(&rt, row, fault == Some(ConfigFault::Bad), true);
     }
-    same(&rt, 9, read_config(rt.alloc(), b"").is_err(), true);
-    same(&rt, 10, read_config(rt.alloc(), b"\xff").is_err(), true);
+    same(&rt, 12, read_config(rt.alloc(), b"").is_err(), true);
+    same(&rt, 13, read_config(rt.alloc(), b"\xff").is_err(), true);
 }

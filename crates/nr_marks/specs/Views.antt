@@ -45,6 +45,7 @@ mark_len (marks.Lost link xid) = 0
 mark_len (marks.Forget link xid) = 0
 mark_len (marks.Revoke link xid bytes) = length bytes
 mark_len (marks.Drop link) = 0
+mark_len (marks.Told link what) = 0
 
 -- the bytes of all marks
 abbrev pub marks_len : List Mark → ℕ

@@ -186,7 +186,7 @@ pub(crate) fn mark_len(mark: &Mark) -> u128
         Mark::Lost { .. } => 0,
         Mark::Forget { .. } => 0,
         Mark::Revoke { bytes, .. } => bytes.len() as u128,
-        Mark::Drop { .. } => 0,
+        Mark::Drop { .. } | Mark::Told { .. } => 0,
     }
 }
 

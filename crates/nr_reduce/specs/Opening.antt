@@ -4,8 +4,8 @@ use Rattle.nr_link.specs.declared.agreement.SideTerms.{SideTerms}
 use Rattle.nr_reduce.specs.declared.mark.LinkParameters.{LinkParameters}
 use Rattle.nr_reduce.specs.Limits.{numbers_end, credits_max}
 
--- First numbers are from 1 on and below numbers_end, credits are from 1 to credits_max, the server grants from 1 to all of its credits while
--- it is busy, and it has a receive for each credit that it grants.
+-- First numbers are from 1 on and below numbers_end, credits are from 1 to credits_max, and the server has a receive for each credit that it
+-- grants.
 pub record IsOpened (opened : LinkParameters) : Type 0 where
   pub xid : 0 < opened.first_xid
   pub xid_fits : opened.first_xid < numbers_end
@@ -15,8 +15,6 @@ pub record IsOpened (opened : LinkParameters) : Type 0 where
   pub wished_fits : opened.wished ≤ credits_max
   pub granted : 0 < opened.granted
   pub granted_fits : opened.granted ≤ credits_max
-  pub low : 0 < opened.low
-  pub low_fits : opened.low ≤ opened.granted
   pub receives : opened.granted ≤ opened.receives
 
 -- the server grants these credits, and at most `low` while it is busy; it has a receive for each, and has these terms

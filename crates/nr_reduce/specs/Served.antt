@@ -1,5 +1,5 @@
 -- The law of a link's server: which calls it executes, what it may be told, and what it writes.
-use Rattle.std.specs.Prelude.{◌≡◌, ℕ, ◌<◌, ◌≤◌, List, [], ◌++◌, Option, None, Some, slice_get}
+use Rattle.std.specs.Prelude.{◌≡◌, ℕ, ◌≤◌, List, [], ◌++◌, Option, None, Some, slice_get}
 use Rattle.nr_wire.specs.declared.hello.Side.TheVariants.{Initiator, Responder}
 use Rattle.nr_link.specs.declared.end.End.{End}
 use Rattle.nr_reduce.specs.declared.mark.Mark.{Mark}
@@ -29,9 +29,13 @@ pub record IsExecuted (opened : LinkParameters) (link : ℕ) (before : List Mark
   pub own : xid ≡ call.xid
   pub conveyed : payload ≡ call.payload
 
--- It is told to grant from 1 to all of the credits that the link was opened with: it has a receive for each of these.
-abbrev pub IsGranted : LinkParameters → Told → Type 0
-IsGranted opened (Granted credits) = (1 ≤ credits) × (credits ≤ opened.granted)
+-- credits that a server may grant: from 1 to these
+abbrev pub CreditsInRange : (most credits : ℕ) → Type 0
+CreditsInRange most credits = (1 ≤ credits) × (credits ≤ most)
+
+-- Its owner sets credits up to those that the link was opened with: it has a receive for each of these.
+abbrev pub ToldInRange : LinkParameters → Told → Type 0
+ToldInRange opened (Granted credits) = CreditsInRange opened.granted credits
 
 -- The law of each mark: calls are executed in the order in which they became complete, none twice and none passed over; what the server is
 -- told is in range.
@@ -48,7 +52,7 @@ ServedMark Relates opened link before (marks.Lost l xid) = Unit {0}
 ServedMark Relates opened link before (marks.Forget l xid) = Unit {0}
 ServedMark Relates opened link before (marks.Revoke l xid bytes) = Unit {0}
 ServedMark Relates opened link before (marks.Drop l) = Unit {0}
-ServedMark Relates opened link before (marks.Told l what) = l ≡ link → IsGranted opened what
+ServedMark Relates opened link before (marks.Told l what) = l ≡ link → ToldInRange opened what
 
 pub record Served (opened : LinkParameters) (link : ℕ) (run : List Mark) : Type 0 where
   pub each : AtEachMark (ServedMark IsAll opened link) [] run

@@ -35,10 +35,10 @@ pub struct Plan {
     pub reply: Option<Lengths>,
 }
 
-/// The lengths, in bytes, of the segments of a chunk. Contracts see the list.
+/// The lengths, in bytes, of the segments of a chunk (RFC 8166 section 3.4). Contracts see the list.
 #[derive(Clone, Copy)]
 pub enum ChunkLengths<'a> {
-    /// Those of a chunk of this many bytes: as many full segments as there are, and then one with the rest.
+    /// Those of a chunk of this many bytes: segments of 66,048 bytes, and the last with the rest; one, if there are no bytes.
     Own(u32),
     /// Those that an offer gives.
     Given(&'a [u32]),

@@ -42,12 +42,13 @@ use Rattle.nr_responder.proofs.Executed.{executed, with_answer, answered_keeps, 
 use Rattle.nr_responder.proofs.Queues.{answered_queue}
 use Rattle.nr_responder.proofs.Marks.{executed_stands, represents}
 use Rattle.nr_responder.proofs.NextCalls.{next_is_lem}
-use Rattle.nr_responder.specs.ResponderState.{queue, end_of}
-use Rattle.nr_reduce.specs.ServerState.{PendingCall, PendingRead, ReadyCall, ServerState}
+use Rattle.nr_responder.specs.ResponderState.{present_word, queue, end_of}
+use Rattle.nr_reduce.specs.ServerState.{PendingCall, PendingRead, ReadyCall, ServerState, credit_word}
 use Rattle.nr_reduce.specs.ServerReads.{is_read}
 use Rattle.nr_responder.specs.ResponderState.{ResponderSide}
 use Rattle.nr_responder.specs.Keeping.{OwnXids}
 use Rattle.nr_responder.proofs.Executed.{without_call, none_out_lem}
+use Rattle.nr_responder.proofs.Words.{word_is}
 
 abbrev pub has : ℕ → PendingCall → Bool
 has x c = eqb c.xid x
@@ -118,12 +119,12 @@ unfolding server_end server_output
 executed_due opened k e o is = ap (λ (x : Option End). output_for_in (server_rules opened) k (CallExecuted e) x) is
 
 -- the output for an answer: its RDMA Writes and its message
-output_is : (k : ServerState) (xid : ℕ) (offer : ChunkLists) (a : Option Answer) → answer_output k xid offer a ≡ writes_for offer a ++ send (k.messages_queued + 1) (message_for xid k.credit offer a)
+output_is : (k : ServerState) (xid : ℕ) (offer : ChunkLists) (a : Option Answer) → answer_output k xid offer a ≡ writes_for offer a ++ send (k.messages_queued + 1) (message_for xid (credit_word k) offer a)
 output_is k xid offer None = refl
 output_is k xid offer (Some a) = refl
 
 due_is : (k : ServerState) (e : ExecutedCall) (offer : ChunkLists) (down : ℕ) → offer_of k e.xid ≡ offer → k.down_max ≡ down →
-    execution_output k e ≡ writes_for offer (answer_of_target offer down e.reply (target_of (call_of e.payload))) ++ send (k.messages_queued + 1) (message_for e.xid k.credit offer (answer_of_target offer down e.reply (target_of (call_of e.payload))))
+    execution_output k e ≡ writes_for offer (answer_of_target offer down e.reply (target_of (call_of e.payload))) ++ send (k.messages_queued + 1) (message_for e.xid (credit_word k) offer (answer_of_target offer down e.reply (target_of (call_of e.payload))))
 unfolding execution_output
 due_is k e offer down is agreed =
     (λ i. answer_output k e.xid (is i) (answer_of_target (is i) (agreed i) e.reply (target_of (call_of e.payload))))
@@ -190,11 +191,12 @@ answered_goes opened end so_far v after e r sent is h next xid payload a =
     let down : ℕ = v.link.state.agreed.down in
     let answer : Option Answer = answer_to down a.call a.stream e.reply in
     let same_answer : answer_of_target a.call.lists down e.reply (target_of (call_of e.payload)) ≡ answer = ap (λ (bytes : List ℕ). answer_of_target a.call.lists down e.reply (target_of (call_of bytes))) (sym stream) in
-    let message : List ℕ = message_for e.xid v.credits a.call.lists answer in
+    let word : present_word v ≡ credit_word k = word_is opened k so_far v h in
+    let message : List ℕ = message_for e.xid (present_word v) a.call.lists answer in
     let writes : List ℕ = writes_output a.writes in
     let due : execution_output k e ≡ writes ++ send (k.messages_queued + 1) message =
     due_is k e a.call.lists down offer (sym h.link.down)
-    ∙ (λ i. writes_for a.call.lists (same_answer i) ++ send (k.messages_queued + 1) (message_for e.xid (sym h.credits i) a.call.lists (same_answer i)))
+    ∙ (λ i. writes_for a.call.lists (same_answer i) ++ send (k.messages_queued + 1) (message_for e.xid (sym word i) a.call.lists (same_answer i)))
     ∙ ap (λ (bytes : List ℕ). bytes ++ send (k.messages_queued + 1) message) (sym a.written) in
     let then : ResponderSide = record {
       link = record { awaited = v.link.awaited; rest = v.link.rest; state = with_answer v.link.state writes message };

@@ -225,7 +225,9 @@ reading_state k f last opcode w queue msn offset payload c is closed =
       written = k.written;
       message_ends = append-nil k.message_ends i;
       ready = append-nil k.ready i;
+      receives = k.receives;
       credit = k.credit;
+      low = k.low;
       up_max = k.up_max;
       down_max = k.down_max;
     })
@@ -242,7 +244,9 @@ reading_state k f last opcode w queue msn offset payload c is closed =
       written = k.written;
       message_ends = k.message_ends;
       ready = k.ready;
+      receives = k.receives;
       credit = k.credit;
+      low = k.low;
       up_max = k.up_max;
       down_max = k.down_max;
     })

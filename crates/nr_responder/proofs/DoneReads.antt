@@ -334,7 +334,7 @@ call_is v r calls at kept d same lt own first open_reads = record {
 
 -- a call that is refused
 pub refuses : (v : ResponderSide) (r : PendingRead) (kept at : ℕ) (c : PendingCall) (calls : List PendingCall) (reads : List PendingRead) (after : ResponderSide) → IsOfCall v r kept at c → has_bad_chunk v c r v.fetching.reads ≡ true → calls ≡ remove v.calls at → reads ≡ reads_without r.number kept v.fetching.reads →
-    after ≡ reading_on v (with_sent v.link.state (chunk_error c.xid v.credits)) calls reads kept [] [] → HandlesRead v r v.fetching.reads after
+    after ≡ reading_on v (with_sent v.link.state (chunk_error c.xid v.credits.word)) calls reads kept [] [] → HandlesRead v r v.fetching.reads after
 refuses v r kept at c calls reads after own bad calls_are reads_are is = by (list_any (λ d. eqb d.number r.number) (remove v.calls at)) refl
   where
     by : (b : Bool) → list_any (λ d. eqb d.number r.number) (remove v.calls at) ≡ b → HandlesRead v r v.fetching.reads after
@@ -342,7 +342,7 @@ refuses v r kept at c calls reads after own bad calls_are reads_are is = by (lis
     by false e =
         let left : calls ≡ calls_without c.number v.calls = calls_are ∙ removed_is r.number at v.calls c own.place own.own e ∙ ap (λ (n : ℕ). calls_without n v.calls) (sym own.own) in
         let reads_left : reads ≡ reads_without c.number (still_open r v.fetching.reads) v.fetching.reads = reads_are ∙ (λ i. reads_without (sym own.own i) (own.open_reads i) v.fetching.reads) in
-        inr (inl (Refused (record { call = c; found = own.found; bad = bad }) (is ∙ (λ i. reading_on v (with_sent v.link.state (chunk_error c.xid v.credits)) (left i) (reads_left i) (own.open_reads i) [] []))))
+        inr (inl (Refused (record { call = c; found = own.found; bad = bad }) (is ∙ (λ i. reading_on v (with_sent v.link.state (chunk_error c.xid v.credits.word)) (left i) (reads_left i) (own.open_reads i) [] []))))
 
 pub refusal_out : (v after : ResponderSide) (r : PendingRead) (kept at : ℕ) (c : PendingCall) (fetching : Fetching) → IsOfCall v r kept at c → has_bad_chunk v c r v.fetching.reads ≡ true → fetching.sinks ≡ v.fetching.sinks → after ≡ ended_as v (after_call v.link OutOfMemory) fetching → HandlesRead v r v.fetching.reads after
 refusal_out v after r kept at c fetching own bad sinks is = inr (inr (record { takes = Answers (record { call = c; found = own.found; bad = bad }); fetching = fetching; sinks = sinks; is_out = is }))

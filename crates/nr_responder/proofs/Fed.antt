@@ -22,7 +22,7 @@ use Rattle.nr_reduce.specs.Events.RunEvent.{FrameReceived}
 use Rattle.nr_reduce.specs.EndRules.{EndState, live, next_end_state, output_for, end_state_after, output_for_all}
 use Rattle.nr_reduce.specs.ServerState.{ServerState}
 use Rattle.nr_reduce.specs.Server.{server_rules}
-use Rattle.nr_responder.specs.ResponderState.{ResponderSide, queue, end_of}
+use Rattle.nr_responder.specs.ResponderState.{ResponderSide, present_word, queue, end_of}
 use Rattle.nr_responder.proofs.ServerSteps.{new_is_read}
 use Rattle.nr_responder.specs.Keeping.{Begins, Keeps, KeepsEnd}
 use Rattle.nr_responder.proofs.ServerSteps.{new_is_read}
@@ -33,6 +33,7 @@ use Rattle.nr_responder.proofs.Pieces.{fed_parts, IsOneFrame, IsNoFrame, whole_p
 use Rattle.nr_responder.proofs.FrameCounts.{frame_counts}
 use Rattle.nr_responder.proofs.Frames.{behind, TakesFrame, ended_takes}
 use Rattle.nr_responder.proofs.Steps.{frame_takes, link_behind}
+use Rattle.nr_responder.proofs.Words.{word_is}
 
 -- ---- The link after one step
 
@@ -116,15 +117,15 @@ step_next l m piece (Part w is) = ap (λ (x : LinkSide). x.state.memory.next) is
 step_next l m piece (WholeFrame frame w frame_is long is) = ap (λ (x : LinkSide). x.state.memory.next) is ∙ (frame_counts l.state l.awaited frame).next
 
 -- a step that doesn't end the side
-pub step_goes : (v after : ResponderSide) (piece : List ℕ) (m : LinkSide) → end_of v ≡ None → IsPartial v.link.awaited v.link.rest → StepOf v.link piece m → m.state.ended ≡ None →
+pub step_goes : (v after : ResponderSide) (piece : List ℕ) (m : LinkSide) → end_of v ≡ None → IsPartial v.link.awaited v.link.rest → StepOf v.link piece m → m.state.ended ≡ None → v.credits.word ≡ present_word v →
     ((k : ServerState) → IsServerOf k (on_link v m) → IsHandled k (on_link v m) after) → FedOn v (take (bytes_taken v.link.awaited v.link.rest piece) piece) after
-step_goes v after piece m live_now p step lives handled opened end so_far keeps =
+step_goes v after piece m live_now p step lives word handled opened end so_far keeps =
     let x : List ℕ = take (bytes_taken v.link.awaited v.link.rest piece) piece in
     let both : (end.ended ≡ None) × Keeps opened end.state so_far v = not_ended_lem opened end so_far v live_now keeps in
     let h : Keeps opened end.state so_far v = both.1 in
     let same : input_in v.link ≡ so_far = same_input v so_far h.input in
     let own : Keeps opened end.state (input_in v.link) v = subst (λ (i : InputState). Keeps opened end.state i v) (sym same) h in
-    let server : IsServerOf end.state (on_link v m) = record { calls = sym h.calls; credits = sym h.credits; reads = sym h.reads; ready = h.ready; new_read = new_is_read end.state h.server.reads_before; next = sym h.link.next ∙ sym (step_next v.link m piece step); place = v.link.state.place; is_server = h.server } in
+    let server : IsServerOf end.state (on_link v m) = record { calls = sym h.calls; credits = sym (word ∙ word_is opened end.state so_far v h); reads = sym h.reads; ready = h.ready; new_read = new_is_read end.state h.server.reads_before; next = sym h.link.next ∙ sym (step_next v.link m piece step); place = v.link.state.place; is_server = h.server } in
     subst (λ (i : InputState). GoesOn opened end i v (received_events i x) (input_after i x) after) same (by opened end both.0 own (handled end.state server) step)
   where
     by : (opened : LinkParameters) (end : EndState ServerState) → end.ended ≡ None → Keeps opened end.state (input_in v.link) v → IsHandled end.state (on_link v m) after → StepOf v.link piece m →
@@ -169,7 +170,7 @@ ended_all_lem : (opened : LinkParameters) (s : ServerState) (end : End) (es : Li
 ended_all_lem opened s end [] = (refl, refl)
 ended_all_lem opened s end (e ∷ es) = ended_all_lem opened s end es
 
-ended_events : (opened : LinkParameters) (end : EndState ServerState) (es : List RunEvent) (o : Option End) → end.ended ≡ o → is_some o ≡ true →
+pub ended_events : (opened : LinkParameters) (end : EndState ServerState) (es : List RunEvent) (o : Option End) → end.ended ≡ o → is_some o ≡ true →
     (end_state_after (server_rules opened) end es ≡ end) × (output_for_all (server_rules opened) end es ≡ [])
 ended_events opened end es None is some = absurd cc
 ended_events opened end es (Some why) is some =

@@ -34,6 +34,7 @@ use Rattle.nr_reduce.specs.EndRules.{EndState, live, next_end_state, next_end_st
 use Rattle.nr_reduce.specs.ServerState.{ReadyCall, ServerState}
 use Rattle.nr_reduce.specs.Server.{server_rules, server_end, with_own_hello, or_refusal, server_readiness}
 use Rattle.nr_reduce.proofs.MemorySteps.{holds_later, received_later, offered_later}
+use Rattle.nr_responder.specs.Granting.{grant_of}
 use Rattle.nr_responder.specs.ResponderState.{ResponderSide, queue, queued_bytes}
 use Rattle.nr_responder.specs.Keeping.{IsServer, Begins, LinkKeeps, QueueKeeps, Keeps, KeepsAgreed, KeepsEnd}
 use Rattle.nr_responder.specs.Keeping.Begins.{BeforeHello, AfterHello}
@@ -162,7 +163,7 @@ ended_takes opened k input later v frame end h some ended =
         why = ended ∙ sym (ap (λ (e : EndState ServerState). e.ended) next);
         calls = h.calls ∙ sym (ap (λ (e : EndState ServerState). e.state.calls) next);
         ready = h.ready ∙ sym (ap (λ (e : EndState ServerState). map (λ (r : ReadyCall). r.xid) e.state.ready) next);
-        credits = h.credits ∙ sym (ap (λ (e : EndState ServerState). e.state.credit) next);
+        credits = h.credits ∙ sym (ap (λ (e : EndState ServerState). grant_of e.state) next);
         agreed =
             subst (λ (e : EndState ServerState). KeepsAgreed e.state (with_frame s v.link.awaited frame).agreed) (sym next)
             (subst (λ (t : LinkState). KeepsAgreed k t.agreed) (sym state) (keeps_agreed opened k s s.place h.link h.server));

@@ -108,11 +108,11 @@ pub makes_handled : (v after : ResponderSide) (number : ℕ) (message : List ℕ
 makes_handled v after number message (Ends reason other judged is) =
     ended_or_out v after number reason message other (λ k server count place. ends_refusal k message reason place (judged k (told_server_of k v server))) is
 makes_handled v after number message (RefusesVersion judged is) =
-    refused_or_out v after number message (version_error (word_at 0 message) (word_at 4 message) v.credits) (version_short (word_at 0 message) (word_at 4 message) v.credits)
-    (λ k server place. version_refused k message v.credits place (judged k (told_server_of k v server)) server.credits) is
+    refused_or_out v after number message (version_error (word_at 0 message) (word_at 4 message) v.credits.word) (version_short (word_at 0 message) (word_at 4 message) v.credits.word)
+    (λ k server place. version_refused k message v.credits.word place (judged k (told_server_of k v server)) server.credits) is
 makes_handled v after number message (RefusesChunks judged is) =
-    refused_or_out v after number message (chunk_error (word_at 0 message) v.credits) (chunk_short (word_at 0 message) v.credits)
-    (λ k server place. chunks_refused k message v.credits place (judged k (told_server_of k v server)) server.credits) is
+    refused_or_out v after number message (chunk_error (word_at 0 message) v.credits.word) (chunk_short (word_at 0 message) v.credits.word)
+    (λ k server place. chunks_refused k message v.credits.word place (judged k (told_server_of k v server)) server.credits) is
 makes_handled v after number message (Calls lists stream_at judged begins) =
     begins_handled v after number message lists stream_at (λ k server. judged k (told_server_of k v server)) begins
 makes_handled v after number message (Fetches xid lists inline judged fits total few chunks is) =

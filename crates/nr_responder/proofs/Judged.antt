@@ -19,7 +19,7 @@ use Rattle.nr_header.specs.Reading.{header_of, header_by, body_by, error_by}
 use Rattle.nr_header.specs.ReadInto.{lists_in}
 use Rattle.nr_xdr.specs.Fields.{word_at}
 use Rattle.nr_reduce.specs.Chunks.{is_read_chunk_of_item, item_position, total_at, positions}
-use Rattle.nr_reduce.specs.ServerState.{PendingCall, ServerState, is_pending, next_stag}
+use Rattle.nr_reduce.specs.ServerState.{PendingCall, ServerState, credit_word, is_pending, next_stag}
 use Rattle.nr_reduce.specs.ServerReads.{chunks_of, is_read}
 use Rattle.nr_reduce.specs.ServerMessages.{Verdict, verdict, by_header, by_body, by_stream, by_need, has_position, no_stream}
 use Rattle.nr_reduce.specs.ServerMessages.Verdict.{EndsLink, OtherVersion, BadChunks, MakesPending}
@@ -146,11 +146,11 @@ is_open_lem k calls xid found b same is any =
 pub ends_refusal : (k : ServerState) (m : List ℕ) (reason place : ℕ) → verdict k m ≡ EndsLink reason → (by_message k place (Some m)).refusal ≡ Some reason
 ends_refusal k m reason place is = ap (λ (v : Verdict). (message_effect k place m v).refusal) is
 
-pub version_refused : (k : ServerState) (m : List ℕ) (credit place : ℕ) → verdict k m ≡ OtherVersion → k.credit ≡ credit → by_message k place (Some m) ≡ refused_effect k (version_error (word_at 0 m) (word_at 4 m) credit)
+pub version_refused : (k : ServerState) (m : List ℕ) (credit place : ℕ) → verdict k m ≡ OtherVersion → credit_word k ≡ credit → by_message k place (Some m) ≡ refused_effect k (version_error (word_at 0 m) (word_at 4 m) credit)
 version_refused k m credit place is same =
     ap (λ (v : Verdict). message_effect k place m v) is ∙ ap (λ (n : ℕ). refused_effect k (version_error (word_at 0 m) (word_at 4 m) n)) same
 
-pub chunks_refused : (k : ServerState) (m : List ℕ) (credit place : ℕ) → verdict k m ≡ BadChunks → k.credit ≡ credit → by_message k place (Some m) ≡ refused_effect k (chunk_error (word_at 0 m) credit)
+pub chunks_refused : (k : ServerState) (m : List ℕ) (credit place : ℕ) → verdict k m ≡ BadChunks → credit_word k ≡ credit → by_message k place (Some m) ≡ refused_effect k (chunk_error (word_at 0 m) credit)
 chunks_refused k m credit place is same =
     ap (λ (v : Verdict). message_effect k place m v) is ∙ ap (λ (n : ℕ). refused_effect k (chunk_error (word_at 0 m) n)) same
 

@@ -75,7 +75,9 @@ done_state k f stag to payload calls reads ready kept is =
       written = k.written;
       message_ends = append-nil k.message_ends i;
       ready = k.ready ++ ready;
+      receives = k.receives;
       credit = k.credit;
+      low = k.low;
       up_max = k.up_max;
       down_max = k.down_max;
     }

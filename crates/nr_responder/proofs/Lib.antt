@@ -25,6 +25,9 @@ pub mod KeptLists
 pub mod LastResponses
 pub mod ListedReads
 pub mod Marks
+pub mod Words
+pub mod GrantedCredits
+pub mod KeptReceives
 pub mod NextCalls
 pub mod Opened
 pub mod OpenedReads

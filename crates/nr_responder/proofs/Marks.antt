@@ -7,11 +7,12 @@ use Rattle.nr_link.specs.Input.{InputState, input_of, input_after}
 use Rattle.nr_link.proofs.Inputs.{input_of_append}
 use Rattle.nr_reduce.specs.declared.mark.Mark.{Mark}
 use Rattle.nr_reduce.specs.declared.mark.Mark.TheVariants as marks
+use Rattle.nr_reduce.specs.declared.mark.Told.{Told}
 use Rattle.nr_outside.specs.declared.moment.Moment.{Moment}
 use Rattle.nr_reduce.specs.declared.mark.LinkParameters.{LinkParameters}
 use Rattle.nr_reduce.specs.History.{ExecutedCall, bytes_received, bytes_sent, written_at, fed_at}
 use Rattle.nr_reduce.specs.Events.{RunEvent, if_own}
-use Rattle.nr_reduce.specs.Events.RunEvent.{CallExecuted, QueueWritten}
+use Rattle.nr_reduce.specs.Events.RunEvent.{CallExecuted, QueueWritten, ServerTold}
 use Rattle.nr_reduce.specs.EndRules.{EndState, end_state_after, output_for_all}
 use Rattle.nr_reduce.specs.ServerState.{ReadyCall, ServerState}
 use Rattle.nr_reduce.specs.Server.{server_rules}
@@ -21,6 +22,7 @@ use Rattle.nr_reduce.specs.Run.{server}
 use Rattle.nr_reduce.proofs.Steps.{output_for_all_append}
 use Rattle.nr_link.specs.declared.end.End.{End}
 use Rattle.nr_link.specs.declared.end.End.TheVariants as ends
+use Rattle.nr_responder.specs.Granting.{grant_of}
 use Rattle.nr_responder.specs.ResponderState.{ResponderSide, queue, queued_bytes, end_of}
 use Rattle.nr_responder.specs.Keeping.{Keeps, KeepsEnd, KeepsAgreed}
 use Rattle.nr_responder.specs.Standing.{RepresentsServer, ResponderRunsOut, ResponderRepresents}
@@ -93,6 +95,14 @@ executed_stands opened link run v after xid moment payload place reply h goes =
     let e : ExecutedCall = record { xid = xid; moment = moment; payload = payload; place = place; reply = reply } in
     one_mark_lem opened link run (marks.Execute link xid moment payload place reply) v after [] [] (λ (input : InputState). CallExecuted e ∷ []) refl refl (λ (input : InputState). own link true (CallExecuted e ∷ [])) h
     (same_kept opened link run v after (end_state_after (server_rules opened) h.end (CallExecuted e ∷ [])) h (live_before (server_rules opened) h.end (CallExecuted e ∷ [])) goes.keeps)
+    goes.output
+
+-- it was told something
+pub told_represents : (opened : LinkParameters) (link : ℕ) (run : List Mark) (v after : ResponderSide) (what : Told) → (h : RepresentsServer opened link run v) → GoesOn opened h.end h.input v (ServerTold what ∷ []) h.input after →
+    RepresentsServer opened link (run ++ marks.Told link what ∷ []) after
+told_represents opened link run v after what h goes =
+    one_mark_lem opened link run (marks.Told link what) v after [] [] (λ (input : InputState). ServerTold what ∷ []) refl refl (λ (input : InputState). own link true (ServerTold what ∷ [])) h
+    (same_kept opened link run v after (end_state_after (server_rules opened) h.end (ServerTold what ∷ [])) h (live_before (server_rules opened) h.end (ServerTold what ∷ [])) goes.keeps)
     goes.output
 
 -- its queue was written from the front
@@ -172,7 +182,7 @@ ran_out opened link run v after piece n out r output =
           ∙ ap (λ (bytes : List ℕ). bytes_sent link Responder (run ++ mark ∷ []) ++ bytes) (sym same);
       calls = out.same.calls ∙ both.1.calls ∙ ap (λ (e : EndState ServerState). e.state.calls) s.stands.keeps;
       ready = out.same.ready ∙ both.1.ready ∙ ap (λ (e : EndState ServerState). map (λ (q : ReadyCall). q.xid) e.state.ready) s.stands.keeps;
-      credits = out.same.credits ∙ both.1.credits ∙ ap (λ (e : EndState ServerState). e.state.credit) s.stands.keeps;
+      credits = out.same.credits ∙ both.1.credits ∙ ap (λ (e : EndState ServerState). grant_of e.state) s.stands.keeps;
       agreed =
           subst (λ (e : EndState ServerState). KeepsAgreed e.state after.link.state.agreed) s.stands.keeps
           (subst (λ (a : Agreement). KeepsAgreed s.end.state a) (sym stays.agreed) (keeps_agreed opened s.end.state out.stopped.link.state out.stopped.link.state.place both.1.link both.1.server));

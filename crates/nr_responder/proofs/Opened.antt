@@ -16,15 +16,21 @@ use Rattle.nr_reduce.specs.Server.{initial_server}
 use Rattle.nr_reduce.specs.OfferedMemory.{HoldsRegions}
 use Rattle.nr_reduce.specs.Standing.{ServerRepresents}
 use Rattle.nr_reduce.proofs.Standing.{server_begins_lem}
+use Rattle.nr_responder.specs.declared.granting.Credits.{Credits}
 use Rattle.nr_responder.specs.Fetching.{nothing_fetched}
+use Rattle.nr_responder.specs.Granting.{opened_credits}
 use Rattle.nr_responder.specs.ResponderState.{ResponderSide, queue}
 use Rattle.nr_responder.specs.Keeping.{IsServer, LinkKeeps, Keeps}
 use Rattle.nr_responder.specs.Keeping.Begins.{BeforeHello}
 use Rattle.nr_responder.specs.Standing.{RepresentsServer, ResponderRepresents}
 use Rattle.nr_responder.proofs.Ends.{ends_none}
 
-abbrev pub opened_state : ℕ → LinkSide → ResponderSide
+abbrev pub opened_state : Credits → LinkSide → ResponderSide
 opened_state credits link = record { link = link; calls = []; ready = []; credits = credits; fetching = nothing_fetched }
+
+-- the credits of a server that is opened so
+abbrev pub credits_of : LinkParameters → Credits
+credits_of opened = record { receives = opened.receives; granted = opened.granted; low = opened.low; word = opened.granted }
 
 no_regions_lem : HoldsRegions [] [] 0 (initial_memory 1)
 unfolding live_region held_region initial_memory
@@ -73,7 +79,7 @@ link_first opened = record {
   queue = record { due_is = refl; ends_are = sym (ends_none 0 0); each = tt; sends = refl; requests_are = refl; responses = refl };
 }
 
-keeps_first : (opened : LinkParameters) → Keeps opened (server.initial_server_state opened) (initial_input Initiator) (opened_state opened.granted (initial_link Responder opened.receives 1 opened.server))
+keeps_first : (opened : LinkParameters) → Keeps opened (server.initial_server_state opened) (initial_input Initiator) (opened_state (credits_of opened) (initial_link Responder opened.receives 1 opened.server))
 unfolding initial_link
 keeps_first opened = record {
   link = link_first opened;
@@ -89,22 +95,23 @@ keeps_first opened = record {
   quiet = λ e. (refl, refl);
 }
 
-queue_first : (opened : LinkParameters) → queue (opened_state opened.granted (initial_link Responder opened.receives 1 opened.server)) ≡ []
+queue_first : (opened : LinkParameters) → queue (opened_state (credits_of opened) (initial_link Responder opened.receives 1 opened.server)) ≡ []
 unfolding initial_link
 queue_first opened = refl
 
-pub opened_stands_lem : (opened : LinkParameters) (link : ℕ) (credits : ℕ) (terms : SideTerms) (l : LinkSide) → ServerOpened opened credits credits terms → l ≡ initial_link Responder credits 1 terms → ResponderRepresents opened link [] (opened_state credits l)
-opened_stands_lem opened link credits terms l same is =
-    let first : RepresentsServer opened link [] (opened_state opened.granted (initial_link Responder opened.receives 1 opened.server)) = record {
+pub opened_stands_lem : (opened : LinkParameters) (link : ℕ) (credits low : ℕ) (terms : SideTerms) (l : LinkSide) → ServerOpened opened credits low terms → l ≡ initial_link Responder credits 1 terms → ResponderRepresents opened link [] (opened_state (opened_credits credits low) l)
+opened_stands_lem opened link credits low terms l same is =
+    let first : RepresentsServer opened link [] (opened_state (credits_of opened) (initial_link Responder opened.receives 1 opened.server)) = record {
       end = initial_server opened;
       input = initial_input Initiator;
       stands = subst (λ (bytes : List ℕ). ServerRepresents opened link (initial_server opened) (initial_input Initiator) bytes []) (sym (queue_first opened)) (server_begins_lem opened link);
       keeps = inl (refl, keeps_first opened);
     } in
-    subst (λ (x : LinkSide). ResponderRepresents opened link [] (opened_state credits x)) (sym is)
-    (subst (λ (t : SideTerms). ResponderRepresents opened link [] (opened_state credits (initial_link Responder credits 1 t))) same.2
-    (subst (λ (n : ℕ). ResponderRepresents opened link [] (opened_state credits (initial_link Responder n 1 opened.server))) same.1
-    (subst (λ (n : ℕ). ResponderRepresents opened link [] (opened_state n (initial_link Responder opened.receives 1 opened.server))) same.0 (inl first))))
+    let own : credits_of opened ≡ opened_credits credits low = λ i. record { receives = same.1 i; granted = same.0 i; low = same.3 i; word = same.0 i } in
+    subst (λ (x : LinkSide). ResponderRepresents opened link [] (opened_state (opened_credits credits low) x)) (sym is)
+    (subst (λ (t : SideTerms). ResponderRepresents opened link [] (opened_state (opened_credits credits low) (initial_link Responder credits 1 t))) same.2
+    (subst (λ (n : ℕ). ResponderRepresents opened link [] (opened_state (opened_credits credits low) (initial_link Responder n 1 opened.server))) same.1
+    (subst (λ (c : Credits). ResponderRepresents opened link [] (opened_state c (initial_link Responder opened.receives 1 opened.server))) own (inl first))))
 
 pub opened_length : (l : LinkSide) (credits : ℕ) (terms : SideTerms) → l ≡ initial_link Responder credits 1 terms → l.state.receive_queue.receive_length ≡ receive_length_for terms
 unfolding initial_link

@@ -33,7 +33,8 @@ use Rattle.nr_reduce.specs.EndRules.{EndState, live, output_for}
 use Rattle.nr_reduce.specs.ServerState.{PendingRead, ServerState}
 use Rattle.nr_reduce.specs.ServerFrames.{by_message, frame_effect}
 use Rattle.nr_reduce.specs.Server.{server_rules}
-use Rattle.nr_responder.specs.ResponderState.{ResponderSide, queue, queued_bytes, end_of}
+use Rattle.nr_responder.specs.Granting.{grant}
+use Rattle.nr_responder.specs.ResponderState.{ResponderSide, present_word, queue, queued_bytes, end_of}
 use Rattle.nr_responder.specs.Keeping.{Begins, Keeps, KeepsEnd}
 use Rattle.nr_responder.specs.Keeping.Begins.{BeforeHello, AfterHello}
 use Rattle.nr_responder.specs.Steps.{TakesMemory, ResponderRanOutAt, Fed, frame_by, KeepsOutput}
@@ -53,6 +54,7 @@ use Rattle.nr_responder.proofs.SendFrames.{frame_lives, part_framed, last_framed
 use Rattle.nr_responder.proofs.ServerSteps.{effect_is, new_is_read}
 use Rattle.nr_responder.proofs.Steps.{link_behind, hello_takes, hello_deliveries}
 use Rattle.nr_responder.proofs.Whole.{goes_on_lem, lives_on_lem, refuses, refused_output, same_message, whole_message}
+use Rattle.nr_responder.proofs.Words.{word_is}
 
 -- ---- What has bytes
 
@@ -184,9 +186,9 @@ out_output l m live is =
     record { queue = ap (λ (t : LinkState). t.send_queue) now; agreed = ap (λ (t : LinkState). t.agreed) now }
 
 -- it ran out of memory for a message
-pub out_by_message : (v after : ResponderSide) (piece : List ℕ) (m : LinkSide) (number : ℕ) (invalidated : Option ℕ) (message : List ℕ) (rest : List DeliveredEvent) → end_of v ≡ None → IsPartial v.link.awaited v.link.rest → StepOf v.link piece m → m.state.ended ≡ None →
+pub out_by_message : (v after : ResponderSide) (piece : List ℕ) (m : LinkSide) (number : ℕ) (invalidated : Option ℕ) (message : List ℕ) (rest : List DeliveredEvent) → end_of v ≡ None → IsPartial v.link.awaited v.link.rest → StepOf v.link piece m → m.state.ended ≡ None → v.credits.word ≡ present_word v →
     m.state.receive_queue.deliveries ≡ MessageReceived number invalidated message ∷ rest → RanOutOf (on_link v m) number message after → ResponderRanOutAt v piece 0 after
-out_by_message v after piece m number invalidated message rest live_now p step lives one ran =
+out_by_message v after piece m number invalidated message rest live_now p step lives word one ran =
     let t = told_link_lem m (after_call m NextEvent) refl in
     let ended = memory_ends (after_call m NextEvent) (after_call (after_call m NextEvent) OutOfMemory) (t.live ∙ lives) refl in
     record {
@@ -194,7 +196,7 @@ out_by_message v after piece m number invalidated message rest live_now p step l
       fed = empty_fed v p;
       live = live_now;
       ended = ap end_of ran.is_out ∙ ended.0;
-      same = record { calls = ap (λ (x : ResponderSide). x.calls) ran.is_out; ready = ap (λ (x : ResponderSide). x.ready) ran.is_out; credits = ap (λ (x : ResponderSide). x.credits) ran.is_out };
+      same = record { calls = ap (λ (x : ResponderSide). x.calls) ran.is_out; ready = ap (λ (x : ResponderSide). x.ready) ran.is_out; credits = ap (λ (x : ResponderSide). grant x.credits) ran.is_out };
       needs = λ opened end so_far keeps. needs opened end so_far keeps (out_output (after_call m NextEvent) after.link (t.live ∙ lives) (ap (λ (x : ResponderSide). x.link) ran.is_out)) step;
     }
   where
@@ -207,7 +209,7 @@ out_by_message v after piece m number invalidated message rest live_now p step l
     needs opened end so_far keeps same (WholeFrame frame w frame_is long link) =
         let both = not_ended_lem opened end so_far v live_now keeps in
         let h : Keeps opened end.state so_far v = both.1 in
-        let server : IsServerOf end.state (on_link v m) = record { calls = sym h.calls; credits = sym h.credits; reads = sym h.reads; ready = h.ready; new_read = new_is_read end.state h.server.reads_before; next = sym h.link.next ∙ sym (step_next v.link m piece (WholeFrame frame w frame_is long link)); place = v.link.state.place; is_server = h.server } in
+        let server : IsServerOf end.state (on_link v m) = record { calls = sym h.calls; credits = sym (word ∙ word_is opened end.state so_far v h); reads = sym h.reads; ready = h.ready; new_read = new_is_read end.state h.server.reads_before; next = sym h.link.next ∙ sym (step_next v.link m piece (WholeFrame frame w frame_is long link)); place = v.link.state.place; is_server = h.server } in
         let lives_on : (with_frame v.link.state v.link.awaited frame).ended ≡ None = sym (ap (λ (l : LinkSide). l.state.ended) link) ∙ lives in
         let told_on : (with_frame v.link.state v.link.awaited frame).receive_queue.deliveries ≡ MessageReceived number invalidated message ∷ rest = sym (ap (λ (l : LinkSide). l.state.receive_queue.deliveries) link) ∙ one in
         let found = frame_message opened end.state so_far v frame number invalidated message rest h long lives_on told_on (ran.takes end.state server) in (
@@ -298,7 +300,7 @@ out_by_read v after piece m x rest live_now p step lives one reads ran =
       fed = empty_fed v p;
       live = live_now;
       ended = ap end_of ran.is_out ∙ ended.0;
-      same = record { calls = ap (λ (x : ResponderSide). x.calls) ran.is_out; ready = ap (λ (x : ResponderSide). x.ready) ran.is_out; credits = ap (λ (x : ResponderSide). x.credits) ran.is_out };
+      same = record { calls = ap (λ (x : ResponderSide). x.calls) ran.is_out; ready = ap (λ (x : ResponderSide). x.ready) ran.is_out; credits = ap (λ (x : ResponderSide). grant x.credits) ran.is_out };
       needs = λ opened end so_far keeps. needs opened end so_far keeps (out_output (after_call m NextEvent) after.link (t.live ∙ lives) (ap (λ (x : ResponderSide). x.link) ran.is_out)) step;
     }
   where
@@ -345,7 +347,7 @@ out_by_link v after piece live_now p is whole queues =
       fed = empty_fed v p;
       live = live_now;
       ended = ap end_of is ∙ ended.0;
-      same = record { calls = ap (λ (x : ResponderSide). x.calls) is; ready = ap (λ (x : ResponderSide). x.ready) is; credits = ap (λ (x : ResponderSide). x.credits) is };
+      same = record { calls = ap (λ (x : ResponderSide). x.calls) is; ready = ap (λ (x : ResponderSide). x.ready) is; credits = ap (λ (x : ResponderSide). grant x.credits) is };
       needs = λ opened end so_far keeps.
           (whole, (out_output v.link after.link live_now (ap (λ (x : ResponderSide). x.link) is), inl (needs opened end so_far keeps (step_of v.link (after_call v.link (FeedOne piece)) piece p live_now refl))));
     })

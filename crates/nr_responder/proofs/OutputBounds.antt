@@ -386,7 +386,7 @@ filter_fewer keep (x ∷ xs) = by (keep x) (filter_fewer keep xs)
     by false rest = omega (arith, rest)
 
 refused_lives : (v : ResponderSide) (n : ℕ) (r : PendingRead) (rest : List PendingRead) (xid : ℕ) → v.fetching.reads ≡ r ∷ rest → OwnNumbers v.calls → SharesFit v → OutputLives v →
-    OutputLives (reading_on v (with_sent v.link.state (chunk_error xid v.credits)) (calls_without n v.calls) (reads_without n (still_open r rest) rest) (still_open r rest) [] [])
+    OutputLives (reading_on v (with_sent v.link.state (chunk_error xid v.credits.word)) (calls_without n v.calls) (reads_without n (still_open r rest) rest) (still_open r rest) [] [])
 refused_lives v n r rest xid reads own g f = record {
   queue = requests_fit opened (with_send message q) (length waiting) (length calls) (length (drop open_reads_max left)) counts sent;
   reads = each;
@@ -398,7 +398,7 @@ refused_lives v n r rest xid reads own g f = record {
     q = v.link.state.send_queue
 
     message : List ℕ
-    message = chunk_error xid v.credits
+    message = chunk_error xid v.credits.word
 
     calls : List PendingCall
     calls = calls_without n v.calls
@@ -437,7 +437,7 @@ refused_lives v n r rest xid reads own g f = record {
 
     sent : QueueFits (with_send message q) (length waiting) (length calls)
     sent =
-        send_fits q message (length (drop open_reads_max (r ∷ rest))) (length v.calls) (length waiting) (length calls) (let small = chunk_short xid v.credits in omega (arith, small))
+        send_fits q message (length (drop open_reads_max (r ∷ rest))) (length v.calls) (length waiting) (length calls) (let small = chunk_short xid v.credits.word in omega (arith, small))
         (omega (arith, filter_fewer (λ (x : PendingRead). not (eqb x.number n)) (drop kept rest), length-drop kept rest, length-drop open_reads_max (r ∷ rest), length-take open_reads_max (r ∷ rest)))
         (one_without n v.calls own) (waiting_most calls waiting pending waiting_few) (subst (λ (rs : List PendingRead). QueueFits q (length (drop open_reads_max rs)) (length v.calls)) reads f.queue)
 
@@ -477,9 +477,9 @@ drained_out v after n is h =
           };
     })
 
-first_lives : (credits : ℕ) (terms : SideTerms) → OutputLives (opened_side credits terms)
+first_lives : (credits low : ℕ) (terms : SideTerms) → OutputLives (opened_side credits low terms)
 unfolding initial_link
-first_lives credits terms = record { queue = λ n. omega arith; reads = λ n. omega arith; hello = omega arith; none = λ e. refl }
+first_lives credits low terms = record { queue = λ n. omega arith; reads = λ n. omega arith; hello = omega arith; none = λ e. refl }
 
-pub opened_out : (v : ResponderSide) (credits : ℕ) (terms : SideTerms) → v ≡ opened_side credits terms → OutputFits v
-opened_out v credits terms is = subst OutputFits (sym is) (live_out (opened_side credits terms) (first_lives credits terms))
+pub opened_out : (v : ResponderSide) (credits low : ℕ) (terms : SideTerms) → v ≡ opened_side credits low terms → OutputFits v
+opened_out v credits low terms is = subst OutputFits (sym is) (live_out (opened_side credits low terms) (first_lives credits low terms))

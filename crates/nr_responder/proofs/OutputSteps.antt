@@ -23,7 +23,7 @@ use Rattle.nr_reduce.specs.Holds.{Answer}
 use Rattle.nr_responder.proofs.OutputLengths.{AnswerFits, target_fits, writes_len}
 use Rattle.nr_responder.specs.HeldBytes.{sent_reply_max, writes_max, OutputFits, OutputLives, QueueFits, SharesFit}
 use Rattle.nr_responder.specs.Keeping.{Keeps, OwnNumbers}
-use Rattle.nr_responder.specs.ResponderState.{ResponderSide, end_of}
+use Rattle.nr_responder.specs.ResponderState.{ResponderSide, end_of, present_word}
 use Rattle.nr_responder.specs.private.Handling.{IsServerOf, IsTaken, on_link}
 use Rattle.nr_responder.specs.private.ReadsDone.{HandlesRead}
 use Rattle.nr_responder.proofs.Answered.{answer_link}
@@ -39,6 +39,7 @@ use Rattle.nr_responder.proofs.ServerSteps.{new_is_read}
 use Rattle.nr_responder.proofs.Stepped.{FewDeliveries, few_deliveries}
 use Rattle.nr_link.specs.Agreement.{IsSendLimit}
 use Rattle.nr_wire.specs.Constants.{UNITS_MAX}
+use Rattle.nr_responder.proofs.Words.{word_is}
 
 pub failed_out : (v : ResponderSide) (piece : List ℕ) (m : LinkSide) (end : End) → end_of v ≡ None → IsPartial v.link.awaited v.link.rest → m.state.ended ≡ Some end → (end ≢ ends.Memory → m ≡ after_call v.link (FeedOne piece)) → (end ≡ ends.Memory → m ≡ after_call v.link OutOfMemory) → OutputFits v → OutputFits (on_link v m)
 failed_out v piece m end live p ended fed out_of h = by end ended fed out_of
@@ -54,8 +55,8 @@ failed_out v piece m end live p ended fed out_of h = by end ended fed out_of
     by ends.Memory ended fed out_of = memory_out v (on_link v m) live refl (out_of refl) h
 
 pub step_out : (opened : LinkParameters) (k : ServerState) (so_far : InputState) (v after : ResponderSide) (piece : List ℕ) (m : LinkSide) → Keeps opened k so_far v → end_of v ≡ None → m.state.ended ≡ None → StepOf v.link piece m → SharesFit v → OutputFits v → (end_of after ≡ None → SharesFit after) →
-    IsTaken (on_link v m) after → OutputFits after
-step_out opened k so_far v after piece m h live lives step shares fit on taken = by (few_deliveries opened k so_far v piece m h lives step)
+    v.credits.word ≡ present_word v → IsTaken (on_link v m) after → OutputFits after
+step_out opened k so_far v after piece m h live lives step shares fit on word taken = by (few_deliveries opened k so_far v piece m h lives step)
   where
     w : ResponderSide
     w = on_link v m
@@ -64,7 +65,7 @@ step_out opened k so_far v after piece m h live lives step shares fit on taken =
     f = fed_lives opened k so_far v piece m h step lives (fit.each live)
 
     server : IsServerOf k w
-    server = record { calls = sym h.calls; credits = sym h.credits; reads = sym h.reads; ready = h.ready; new_read = new_is_read k h.server.reads_before; next = sym h.link.next ∙ sym (step_next v.link m piece step); place = v.link.state.place; is_server = h.server }
+    server = record { calls = sym h.calls; credits = sym (word ∙ word_is opened k so_far v h); reads = sym h.reads; ready = h.ready; new_read = new_is_read k h.server.reads_before; next = sym h.link.next ∙ sym (step_next v.link m piece step); place = v.link.state.place; is_server = h.server }
 
     told_live : end_of (told_of w) ≡ None
     told_live = (told_link_lem m (after_call m NextEvent) refl).live ∙ lives
@@ -114,7 +115,7 @@ pub answered_out : (v after : ResponderSide) (xid : ℕ) (reply : List ℕ) (sen
 answered_out v after xid reply sent live limit fit on a = subst OutputFits (sym a.state) (live_out w f)
   where
     message : List ℕ
-    message = message_for xid v.credits a.call.lists (answer_to v.link.state.agreed.down a.call a.stream reply)
+    message = message_for xid (present_word v) a.call.lists (answer_to v.link.state.agreed.down a.call a.stream reply)
 
     w : ResponderSide
     w = answered_by a.at a.writes message v

@@ -20,7 +20,7 @@ use Rattle.nr_responder.specs.ResponderState.{queue, queued_bytes, end_of, may_w
 use Rattle.nr_responder.specs.Keeping.{Begins, KeepsEnd}
 use Rattle.nr_responder.specs.Keeping.Begins.{BeforeHello, AfterHello}
 use Rattle.nr_responder.specs.Standing.{ResponderRepresents}
-use Rattle.nr_responder.specs.Laws.{IsOfOthers, OthersLeaveIt, LawBegins, OthersKeepLaw, PieceKeepsLaw, ExecuteKeepsLaw, DrainKeepsLaw, FullBegins, OthersKeepFull, PieceKeepsFull, ExecuteKeepsFull, QueueIsAllDue, AllMayBeWritten, DrainKeepsFull}
+use Rattle.nr_responder.specs.Laws.{IsOfOthers, OthersLeaveIt, LawBegins, OthersKeepLaw, PieceKeepsLaw, ExecuteKeepsLaw, ToldKeepsLaw, DrainKeepsLaw, FullBegins, OthersKeepFull, PieceKeepsFull, ExecuteKeepsFull, ToldKeepsFull, QueueIsAllDue, AllMayBeWritten, DrainKeepsFull}
 use Rattle.nr_responder.proofs.Drained.{split_queue}
 use Rattle.nr_responder.proofs.Marks.{no_event_represents, stays_out}
 
@@ -50,6 +50,9 @@ piece_keeps_law opened link run piece served = AtEachMark_more (ServedMark IsPre
 pub execute_keeps_law : ExecuteKeepsLaw
 execute_keeps_law opened link run xid moment payload place reply next served =
     AtEachMark_more (ServedMark IsPrefixOf opened link) [] run (marks.Execute link xid moment payload place reply) served (λ same. next)
+
+pub told_keeps_law : ToldKeepsLaw
+told_keeps_law opened link run what range served = AtEachMark_more (ServedMark IsPrefixOf opened link) [] run (marks.Told link what) served (λ same. range)
 
 -- what is written of a queue, and what is left of it
 pub drain_keeps_law : DrainKeepsLaw
@@ -90,6 +93,9 @@ piece_keeps_full opened link run piece served = AtEachMark_more (ServedMark IsAl
 pub execute_keeps_full : ExecuteKeepsFull
 execute_keeps_full opened link run xid moment payload place reply next served =
     AtEachMark_more (ServedMark IsAll opened link) [] run (marks.Execute link xid moment payload place reply) served (λ same. next)
+
+pub told_keeps_full : ToldKeepsFull
+told_keeps_full opened link run what range served = AtEachMark_more (ServedMark IsAll opened link) [] run (marks.Told link what) served (λ same. range)
 
 pub queue_is_all_due : QueueIsAllDue
 queue_is_all_due opened link v run s = s.stands.output

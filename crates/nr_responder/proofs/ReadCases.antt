@@ -11,7 +11,7 @@ use Rattle.nr_link.specs.Frames.{Frame}
 use Rattle.nr_link.specs.Ending.{frame_segment}
 use Rattle.nr_reduce.specs.Chunks.{is_read_chunk_of_item}
 use Rattle.nr_reduce.specs.OfferedRegions.{Region}
-use Rattle.nr_reduce.specs.ServerState.{PendingCall, PendingRead, ReadyCall, ServerState}
+use Rattle.nr_reduce.specs.ServerState.{PendingCall, PendingRead, ReadyCall, ServerState, credit_word, receives_in_use}
 use Rattle.nr_reduce.specs.ServerReads.{is_over, is_read, is_read_at, open_reads}
 use Rattle.nr_reduce.specs.ServerMessages.{CallVerdict, chunk_bytes, pending_payload, by_payload}
 use Rattle.nr_reduce.specs.ServerMessages.CallVerdict.{Refuses, IsReady}
@@ -23,6 +23,11 @@ use Rattle.nr_responder.proofs.LastResponses.{last_access, done_effect, EffectHo
 -- with the access of the response's segment
 abbrev pub heard : ServerState → TaggedSegment → ServerState
 heard k a = record k { accesses_received = k.accesses_received ++ a ∷ [] }
+
+-- it changes nothing in the credit word
+pub heard_word : (k : ServerState) (a : TaggedSegment) → credit_word (heard k a) ≡ credit_word k
+unfolding credit_word receives_in_use
+heard_word k a = refl
 
 -- the effect before the call is looked at
 abbrev pub read_off : ServerState → List PendingRead → FrameEffect

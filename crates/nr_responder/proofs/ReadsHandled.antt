@@ -8,7 +8,7 @@ use Rattle.nr_endpoint.specs.Judging.{next_frame, with_frame, with_end_of}
 use Rattle.nr_endpoint.specs.Calls.{after_call}
 use Rattle.nr_endpoint.specs.Calls.Call.{NextEvent, Stop}
 use Rattle.nr_reduce.specs.declared.mark.LinkParameters.{LinkParameters}
-use Rattle.nr_reduce.specs.ServerState.{PendingRead, ReadyCall, ServerState}
+use Rattle.nr_reduce.specs.ServerState.{PendingRead, ReadyCall, ServerState, credit_word}
 use Rattle.nr_responder.specs.ResponderState.{ResponderSide}
 use Rattle.nr_responder.specs.Keeping.{Keeps}
 use Rattle.nr_responder.specs.private.Handling.{on_link}
@@ -23,9 +23,9 @@ use Rattle.nr_responder.proofs.Responses.{IsResponse}
 use Rattle.nr_responder.proofs.Told.{stopped_is}
 
 pub read_takes : (opened : LinkParameters) (k : ServerState) (so_far : InputState) (v after : ResponderSide) (frame : List ℕ) (x : PendingRead) (rest : List PendingRead) → Keeps opened k so_far v → 0 < v.link.state.place → 0 < length frame → (with_frame v.link.state Fpdu frame).ended ≡ None →
-    (r : IsResponse v.link.state frame) → r.last ≡ true → k.reads ≡ x ∷ rest → ReadHandled (on_link v (after_call (record { awaited = Fpdu; rest = []; state = with_frame v.link.state Fpdu frame }) NextEvent)) x rest after →
+    (r : IsResponse v.link.state frame) → r.last ≡ true → k.reads ≡ x ∷ rest → ReadHandled (on_link v (after_call (record { awaited = Fpdu; rest = []; state = with_frame v.link.state Fpdu frame }) NextEvent)) x rest after → credit_word k ≡ v.credits.word →
     TakesFrame opened k (behind so_far frame) (next_frame v.link.state frame) v after
-read_takes opened k so_far v after frame x rest h some long lives r is reads handled =
+read_takes opened k so_far v after frame x rest h some long lives r is reads handled word =
     by (subst (λ (l : LinkSide). ReadHandled (on_link v l) x rest after) (done_link_is opened k so_far v frame h lives r is) handled)
   where
     s : LinkState
@@ -52,4 +52,4 @@ read_takes opened k so_far v after frame x rest h some long lives r is reads han
         (done_stopped opened k so_far (behind so_far frame) v frame reason fetching h some long lives r (stops_effect opened k so_far v frame x rest reason h long r is reads m) other)
     by (Refused c is_after) =
         subst (λ (w : ResponderSide). TakesFrame opened k (behind so_far frame) (next_frame s frame) v w) (sym is_after)
-        (refused_done opened k so_far v frame x rest h some long lives r is reads c)
+        (refused_done opened k so_far v frame x rest h some long lives r is reads c word)

@@ -22,7 +22,7 @@ use Rattle.nr_reduce.specs.Holds.{chunk_error}
 use Rattle.nr_reduce.specs.OfferedRegions.{Region, regions_closed}
 use Rattle.nr_reduce.specs.Events.RunEvent.{FrameReceived}
 use Rattle.nr_reduce.specs.EndRules.{EndState, live, next_end_state}
-use Rattle.nr_reduce.specs.ServerState.{PendingCall, PendingRead, ReadyCall, ServerState}
+use Rattle.nr_reduce.specs.ServerState.{PendingCall, PendingRead, ReadyCall, ServerState, credit_word}
 use Rattle.nr_reduce.specs.ServerReads.{is_over, is_read, is_read_at, open_reads}
 use Rattle.nr_reduce.specs.ServerFrames.{FrameEffect, frame_effect}
 use Rattle.nr_reduce.specs.Server.{server_rules, with_effect, effect_output, received_by, requests_from, response_bytes_after, tagged_accesses}
@@ -36,7 +36,7 @@ use Rattle.nr_responder.proofs.Executed.{read_at_each}
 use Rattle.nr_responder.proofs.Frames.{behind, TakesFrame, later_frame}
 use Rattle.nr_responder.proofs.LastResponses.{EffectHolds, TakesLast, after_done, done_link, done_server}
 use Rattle.nr_responder.proofs.Queues.{sent_has, sent_queue}
-use Rattle.nr_responder.proofs.ReadCases.{call_refused, fewer_over, found_number, heard, last_effect}
+use Rattle.nr_responder.proofs.ReadCases.{call_refused, fewer_over, found_number, heard, heard_word, last_effect}
 use Rattle.nr_responder.proofs.ReadEffects.{requested_queue}
 use Rattle.nr_responder.proofs.ReadsTaken.{done_side, response_reads, same_as, taken_less, takes_last}
 use Rattle.nr_responder.proofs.Responses.{IsResponse, response_access}
@@ -276,7 +276,9 @@ refused_state k f stag to payload message a calls reads kept is access =
       written = k.written;
       message_ends = k.message_ends ++ (k.due + length bytes) ∷ [];
       ready = k.ready ++ [];
+      receives = k.receives;
       credit = k.credit;
+      low = k.low;
       up_max = k.up_max;
       down_max = k.down_max;
     })
@@ -348,12 +350,12 @@ refused_value v t calls reads sinks kept = record {
 
 pub refused_done : (opened : LinkParameters) (k : ServerState) (so_far : InputState) (v : ResponderSide) (frame : List ℕ) (x : PendingRead) (rest : List PendingRead) → Keeps opened k so_far v → 0 < v.link.state.place → 0 < length frame →
     (with_frame v.link.state Fpdu frame).ended ≡ None → (r : IsResponse v.link.state frame) → r.last ≡ true → k.reads ≡ x ∷ rest →
-    (c : RefusesCall (on_link v (record { awaited = Fpdu; rest = []; state = done_side v.link.state frame r.stag r.to r.payload })) x rest) →
+    (c : RefusesCall (on_link v (record { awaited = Fpdu; rest = []; state = done_side v.link.state frame r.stag r.to r.payload })) x rest) → credit_word k ≡ v.credits.word →
     TakesFrame opened k (behind so_far frame) (next_frame v.link.state frame) v
-    (reading_on (on_link v (record { awaited = Fpdu; rest = []; state = done_side v.link.state frame r.stag r.to r.payload })) (with_sent (done_side v.link.state frame r.stag r.to r.payload) (chunk_error c.call.xid v.credits))
+    (reading_on (on_link v (record { awaited = Fpdu; rest = []; state = done_side v.link.state frame r.stag r.to r.payload })) (with_sent (done_side v.link.state frame r.stag r.to r.payload) (chunk_error c.call.xid v.credits.word))
     (calls_without c.call.number v.calls) (reads_without c.call.number (still_open x rest) rest) (still_open x rest) [] [])
 unfolding frame_segment
-refused_done opened k so_far v frame x rest h some long lives r is reads c =
+refused_done opened k so_far v frame x rest h some long lives r is reads c word =
     let s : LinkState = v.link.state in
     let f : Frame = next_frame s frame in
     let a : TaggedSegment = response_access s frame r.stag r.to r.payload in
@@ -362,7 +364,7 @@ refused_done opened k so_far v frame x rest h some long lives r is reads c =
     let kept : ℕ = still_open x rest in
     let calls : List PendingCall = calls_without n k.calls in
     let left : List PendingRead = reads_without n kept rest in
-    let message : List ℕ = chunk_error c.call.xid k.credit in
+    let message : List ℕ = chunk_error c.call.xid (credit_word (heard k a)) in
     let k1 : ServerState = with_error k calls message in
     let k' : ServerState = after_done k1 a calls left [] kept in
     let segment : segment_of frame ≡ Ok (Tagged true OPCODE_READ_RESPONSE r.stag r.to r.payload) = response_reads s frame r true is in
@@ -400,8 +402,9 @@ refused_done opened k so_far v frame x rest h some long lives r is reads c =
           (subst (λ (ps : List (Option (List ℕ))). ArePayloads calls k.ready ps) (sym (append-nil v.fetching.payloads)) (payloads_left n k.calls k.ready v.fetching.payloads h.payloads));
       quiet = λ e. absurd (omega (arith, e, some));
     } in
-    let given : ResponderSide = refused_value v (with_sent t (chunk_error c.call.xid v.credits)) (calls_without n v.calls) left v.fetching.sinks kept in
-    let same_value : given ≡ value = λ i. refused_value v (with_sent t (chunk_error c.call.xid (h.credits i))) (calls_without n (h.calls i)) left (h.sinks i) kept in
+    let given : ResponderSide = refused_value v (with_sent t (chunk_error c.call.xid v.credits.word)) (calls_without n v.calls) left v.fetching.sinks kept in
+    let own_word : v.credits.word ≡ credit_word (heard k a) = sym word ∙ sym (heard_word k a) in
+    let same_value : given ≡ value = λ i. refused_value v (with_sent t (chunk_error c.call.xid (own_word i))) (calls_without n (h.calls i)) left (h.sinks i) kept in
     record {
       keeps = subst (λ (e : EndState ServerState). KeepsEnd opened e (behind so_far frame) given) (sym next) (inl (refl, subst (λ (w : ResponderSide). Keeps opened k' (behind so_far frame) w) (sym same_value) keeps));
       output =

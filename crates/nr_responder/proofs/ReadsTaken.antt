@@ -28,7 +28,7 @@ use Rattle.nr_reduce.specs.Chunks.{is_read_chunk_of_item, call_conveyed}
 use Rattle.nr_reduce.specs.OfferedMemory.{AreOffered, HoldsRegions}
 use Rattle.nr_reduce.specs.Events.RunEvent.{FrameReceived}
 use Rattle.nr_reduce.specs.EndRules.{EndState, live, next_end_state, output_for}
-use Rattle.nr_reduce.specs.ServerState.{PendingCall, PendingRead, ReadyCall, ServerState}
+use Rattle.nr_reduce.specs.ServerState.{PendingCall, PendingRead, ReadyCall, ServerState, credit_word}
 use Rattle.nr_reduce.specs.ServerReads.{is_over, open_reads}
 use Rattle.nr_reduce.specs.ServerMessages.{by_payload, pending_payload}
 use Rattle.nr_reduce.specs.ServerFrames.{FrameEffect, no_effect, frame_effect, call_of_number, is_stream_read, with_refused_call}
@@ -37,6 +37,7 @@ use Rattle.nr_reduce.specs.Holds.{chunk_error}
 use Rattle.nr_link.specs.Output.{read_request, send}
 use Rattle.nr_endpoint.proofs.Queued.{send_some, request_some}
 use Rattle.nr_reduce.proofs.MemorySteps.{offered_later}
+use Rattle.nr_responder.specs.Granting.{grant_of}
 use Rattle.nr_responder.specs.Fetching.{SinkRegion, Fetching, open_sinks}
 use Rattle.nr_responder.specs.ResponderState.{ResponderSide, queued_bytes}
 use Rattle.nr_responder.specs.Keeping.{ArePayloads, Keeps, KeepsEnd, later_responses, open_responses, KeepsAgreed}
@@ -334,7 +335,7 @@ done_stopped opened k so_far later_input v frame reason fetching h some long liv
         why = sym (ap (λ (e : EndState ServerState). e.ended) at.next);
         calls = h.calls ∙ sym (ap (λ (e : EndState ServerState). e.state.calls) at.next);
         ready = h.ready ∙ sym (ap (λ (e : EndState ServerState). map (λ (r : ReadyCall). r.xid) e.state.ready) at.next);
-        credits = h.credits ∙ sym (ap (λ (e : EndState ServerState). e.state.credit) at.next);
+        credits = h.credits ∙ sym (ap (λ (e : EndState ServerState). grant_of e.state) at.next);
         agreed = subst (λ (e : EndState ServerState). KeepsAgreed e.state s.agreed) (sym at.next) (keeps_agreed opened k s s.place h.link h.server);
         sendable =
             ap (λ (x : Side). writable s.has_hello (with_end x end s.send_queue)) h.link.side
@@ -388,4 +389,4 @@ read_outputs opened k so_far v frame x rest h some long lives r is reads (Answer
     let effect : frame_effect k f ≡ with_refused_call (heard k a) c.call (read_off k rest) =
     last_effect k f r.stag r.to r.payload x rest (response_reads s frame r true is) reads ∙ call_refused k (heard k a) f.end x rest c.call same.found (same.bad ∙ c.bad) in
     let at = goes_on_lem opened k f (with_refused_call (heard k a) c.call (read_off k rest)) (later_frame s.place some) (lives_on_lem opened k so_far v frame h some long lives) effect refl in
-    some_errors (k.messages_queued + 1) (chunk_error c.call.xid k.credit) (requests_from (k.requests_sent + 1) (newly_open_reads (with_refused_call (heard k a) c.call (read_off k rest)))) (sym at.due ∙ none)
+    some_errors (k.messages_queued + 1) (chunk_error c.call.xid (credit_word (heard k a))) (requests_from (k.requests_sent + 1) (newly_open_reads (with_refused_call (heard k a) c.call (read_off k rest)))) (sym at.due ∙ none)

@@ -250,7 +250,9 @@ part_state k f stag to payload is closed =
       written = k.written;
       message_ends = append-nil k.message_ends i;
       ready = append-nil k.ready i;
+      receives = k.receives;
       credit = k.credit;
+      low = k.low;
       up_max = k.up_max;
       down_max = k.down_max;
     }

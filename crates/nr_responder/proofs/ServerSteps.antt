@@ -71,7 +71,9 @@ quiet k f last opcode w queue msn offset payload is closed =
       written = k.written;
       message_ends = append-nil k.message_ends i;
       ready = append-nil k.ready i;
+      receives = k.receives;
       credit = k.credit;
+      low = k.low;
       up_max = k.up_max;
       down_max = k.down_max;
     })
@@ -88,7 +90,9 @@ quiet k f last opcode w queue msn offset payload is closed =
       written = k.written;
       message_ends = k.message_ends;
       ready = k.ready;
+      receives = k.receives;
       credit = k.credit;
+      low = k.low;
       up_max = k.up_max;
       down_max = k.down_max;
     })
@@ -208,7 +212,9 @@ ready_state k f last opcode w queue msn offset payload c stream is closed =
       written = k.written;
       message_ends = append-nil k.message_ends i;
       ready = k.ready ++ ready_call c stream ∷ [];
+      receives = k.receives;
       credit = k.credit;
+      low = k.low;
       up_max = k.up_max;
       down_max = k.down_max;
     })
@@ -225,7 +231,9 @@ ready_state k f last opcode w queue msn offset payload c stream is closed =
       written = k.written;
       message_ends = k.message_ends;
       ready = k.ready ++ ready_call c stream ∷ [];
+      receives = k.receives;
       credit = k.credit;
+      low = k.low;
       up_max = k.up_max;
       down_max = k.down_max;
     })

@@ -201,7 +201,7 @@ ended_fits v l fetching same memory sinks over h = record {
 abbrev pub LivesOn : ResponderSide → Type 0
 LivesOn v = end_of v ≡ None → (opened : LinkParameters) × ((k : ServerState) × ((so_far : InputState) × Keeps opened k so_far v))
 
-pub live_fits : (v : ResponderSide) → LivesOn v → end_of v ≡ None → ReceivesFit v.credits v.link.state.receive_queue → RegionsHave v.link.state.memory (sinks_total v.fetching.sinks) → SharesFit v → SinksFit v
+pub live_fits : (v : ResponderSide) → LivesOn v → end_of v ≡ None → ReceivesFit v.credits.receives v.link.state.receive_queue → RegionsHave v.link.state.memory (sinks_total v.fetching.sinks) → SharesFit v → SinksFit v
 live_fits v on live receives have fit =
     let h = on live in
     record { receives = receives; memory = have; most = live_most h.0 h.1.0 h.1.1.0 v h.1.1.1 fit; count = live_count h.0 h.1.0 h.1.1.0 v h.1.1.1 fit; each = λ live. fit }
@@ -385,7 +385,7 @@ read_fits v after r rest reads live held h on handled = by handled
     by (RefusedRead c is) =
         let n : ℕ = c.call.number in
         let left : List PendingRead = reads_without n (still_open r rest) rest in
-        let message : List ℕ = chunk_error c.call.xid v.credits in
+        let message : List ℕ = chunk_error c.call.xid v.credits.word in
         subst SinksFit (sym is)
         (live_fits (reading_on v (with_sent v.link.state message) (calls_without n v.calls) left (still_open r rest) [] []) (subst LivesOn is on) live h.receives
         (done_memory v (with_sent v.link.state message) (calls_without n v.calls) left (still_open r rest) [] [] refl held h.memory)

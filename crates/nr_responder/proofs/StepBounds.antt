@@ -27,7 +27,7 @@ use Rattle.nr_responder.specs.declared.call.Sent.{Sent}
 use Rattle.nr_responder.specs.Answering.{Answers, answer_to, answered_by, message_for}
 use Rattle.nr_responder.specs.HeldBytes.{sinks_total, IsOfPending, IsBounded, KeptFits, RegionsHave, SharesFit, SinksFit, held_unit, ReceivesFit}
 use Rattle.nr_responder.specs.Keeping.{Keeps}
-use Rattle.nr_responder.specs.ResponderState.{ResponderSide, ResponderState, after_drain, bytes_held_by, end_of, opened_side, unsent}
+use Rattle.nr_responder.specs.ResponderState.{ResponderSide, ResponderState, after_drain, bytes_held_by, end_of, opened_side, present_word, unsent}
 use Rattle.nr_responder.specs.Standing.{RepresentsServer, ResponderRepresents, RepresentsSome}
 use Rattle.nr_responder.specs.Sound.{AreHeldFrom}
 use Rattle.nr_responder.specs.Rooms.{payload_room}
@@ -50,6 +50,7 @@ use Rattle.nr_link.specs.declared.agreement.SideTerms.{SideTerms}
 use Rattle.nr_wire.specs.Constants.{UNITS_MAX}
 use Rattle.std.proofs.lemmas.Nat.{mul-le}
 use Rattle.nr_responder.proofs.Opened.{own_limit}
+use Rattle.nr_responder.proofs.Words.{word_is}
 
 -- one that lives and stands for some marks keeps a server's state
 pub lives_on_lem : (opened : LinkParameters) (link : ℕ) (run : List Mark) (v : ResponderSide) → ResponderRepresents opened link run v → LivesOn v
@@ -90,8 +91,8 @@ out_fits : (w : ResponderSide) → end_of w ≡ None → SinksFit w → SinksFit
 out_fits w live h = (let stays = memory_as w.link (after_call w.link OutOfMemory) refl in on_link_fits w (after_call w.link OutOfMemory) (receives_same _ _ stays.input.queue) stays.memory (λ e. live) h)
 
 pub step_fits : (opened : LinkParameters) (k : ServerState) (so_far : InputState) (v after : ResponderSide) (piece : List ℕ) (m : LinkSide) → Keeps opened k so_far v → end_of v ≡ None → m.state.ended ≡ None → m ≡ after_call v.link (FeedOne piece) → StepOf v.link piece m → AreHeld v m →
-    SinksFit v → LivesOn after → IsTaken (on_link v m) after → SinksFit after
-step_fits opened k so_far v after piece m h live lives is step held fit on taken = by (few_deliveries opened k so_far v piece m h lives step)
+    SinksFit v → LivesOn after → v.credits.word ≡ present_word v → IsTaken (on_link v m) after → SinksFit after
+step_fits opened k so_far v after piece m h live lives is step held fit on word taken = by (few_deliveries opened k so_far v piece m h lives step)
   where
     w : ResponderSide
     w = on_link v m
@@ -100,7 +101,7 @@ step_fits opened k so_far v after piece m h live lives is step held fit on taken
     g = fed_fits v piece m live step is fit
 
     server : IsServerOf k w
-    server = record { calls = sym h.calls; credits = sym h.credits; reads = sym h.reads; ready = h.ready; new_read = new_is_read k h.server.reads_before; next = sym h.link.next ∙ sym (step_next v.link m piece step); place = v.link.state.place; is_server = h.server }
+    server = record { calls = sym h.calls; credits = sym (word ∙ word_is opened k so_far v h); reads = sym h.reads; ready = h.ready; new_read = new_is_read k h.server.reads_before; next = sym h.link.next ∙ sym (step_next v.link m piece step); place = v.link.state.place; is_server = h.server }
 
     told_live : end_of (told_of w) ≡ None
     told_live = (told_link_lem m (after_call m NextEvent) refl).live ∙ lives
@@ -175,7 +176,7 @@ pub answered_fits : (opened : LinkParameters) (link : ℕ) (run : List Mark) (v 
 answered_fits opened link run v after xid reply sent stands live first on fit a = subst SinksFit (sym a.state) (live_fits w (subst LivesOn a.state on) live_now (receives_fit_on _ _ _ fit.receives (receives_same _ _ (ap (λ (l : LinkSide). l.state.receive_queue) link_is))) have (record { shares = f.shares; counts = f.counts; waiting = waiting }))
   where
     message : List ℕ
-    message = message_for xid v.credits a.call.lists (answer_to v.link.state.agreed.down a.call a.stream reply)
+    message = message_for xid (present_word v) a.call.lists (answer_to v.link.state.agreed.down a.call a.stream reply)
 
     w : ResponderSide
     w = answered_by a.at a.writes message v
@@ -211,15 +212,15 @@ drained_fits v after n is h = subst SinksFit (sym is) (record { receives = recor
 
 -- ---- As it is opened
 
-opened_receives : (credits : ℕ) (terms : SideTerms) → ReceivesFit credits (opened_side credits terms).link.state.receive_queue
+opened_receives : (credits low : ℕ) (terms : SideTerms) → ReceivesFit credits (opened_side credits low terms).link.state.receive_queue
 unfolding initial_link
-opened_receives credits terms = record { count = refl; len = own_limit terms }
+opened_receives credits low terms = record { count = refl; len = own_limit terms }
 
-pub opened_fits : (v : ResponderSide) (credits : ℕ) (terms : SideTerms) → v ≡ opened_side credits terms → SinksFit v
-opened_fits v credits terms is =
+pub opened_fits : (v : ResponderSide) (credits low : ℕ) (terms : SideTerms) → v ≡ opened_side credits low terms → SinksFit v
+opened_fits v credits low terms is =
     subst SinksFit (sym is) (record {
-      receives = opened_receives credits terms;
-      memory = opened_have (opened_side credits terms).link credits terms refl;
+      receives = opened_receives credits low terms;
+      memory = opened_have (opened_side credits low terms).link credits terms refl;
       most = omega arith;
       count = omega arith;
       each = λ live. record { shares = λ n. omega arith; counts = λ n. omega arith; waiting = tt };
@@ -249,7 +250,7 @@ regions_most v h = (let sum = h.memory.bytes_are in let most = h.most in omega (
 
 -- All is within the bound: the receives are those of the credits, lent or kept.
 pub held_bound : (v : ResponderState) (result : ℕ) → result ≡ bytes_held_by v → IsBounded v → v.rooms ≤ payload_room * (2 * length v.side.calls) → receives_kept v.side.link.state.receive_queue + v.side.link.state.receive_queue.lent ≡ v.side.link.state.receive_queue.receives →
-    length v.side.calls + unsent v.side.link.state ≤ v.side.link.state.receive_queue.lent → result ≤ held_unit * (v.side.credits + 4)
+    length v.side.calls + unsent v.side.link.state ≤ v.side.link.state.receive_queue.lent → result ≤ held_unit * (v.side.credits.receives + 4)
 held_bound v result is b rooms receives lent =
     let staging = b.1 in
     let output = b.0.output.most 0 in

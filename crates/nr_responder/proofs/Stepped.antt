@@ -23,7 +23,7 @@ use Rattle.nr_endpoint.specs.Calls.{after_call, makes_whole, QueuesOutput}
 use Rattle.nr_endpoint.specs.Calls.Call.{FeedOne, NextEvent, OutOfMemory}
 use Rattle.nr_reduce.specs.declared.mark.LinkParameters.{LinkParameters}
 use Rattle.nr_reduce.specs.ServerState.{PendingRead, ServerState}
-use Rattle.nr_responder.specs.ResponderState.{ResponderSide, end_of}
+use Rattle.nr_responder.specs.ResponderState.{ResponderSide, end_of, present_word}
 use Rattle.nr_responder.specs.Keeping.{Begins, Keeps}
 use Rattle.nr_responder.specs.Keeping.Begins.{BeforeHello, AfterHello}
 use Rattle.nr_responder.specs.Steps.{FedOn, Fed}
@@ -175,15 +175,15 @@ not_read sends reads none (inl never) = absurd cc
 not_read sends reads none (inr (inl one)) = (let e : ReadDone ∷ [] ≡ MessageReceived (sends + 1) None one.0 ∷ [] = one.1 in cc)
 not_read sends reads none (inr (inr done)) = done.1 none
 
-pub step_done_by : (v after : ResponderSide) (piece : List ℕ) (m : LinkSide) → end_of v ≡ None → IsPartial v.link.awaited v.link.rest → StepOf v.link piece m → m.state.ended ≡ None → IsTaken (on_link v m) after →
+pub step_done_by : (v after : ResponderSide) (piece : List ℕ) (m : LinkSide) → end_of v ≡ None → IsPartial v.link.awaited v.link.rest → StepOf v.link piece m → m.state.ended ≡ None → v.credits.word ≡ present_word v → IsTaken (on_link v m) after →
     Fed v (take (taken_at (end_of after) (length piece) (bytes_taken v.link.awaited v.link.rest piece)) piece) after
-step_done_by v after piece m live p step lives taken = by m.state.receive_queue.deliveries refl
+step_done_by v after piece m live p step lives word taken = by m.state.receive_queue.deliveries refl
   where
     n : ℕ
     n = bytes_taken v.link.awaited v.link.rest piece
 
     goes : ((k : ServerState) → IsServerOf k (on_link v m) → IsHandled k (on_link v m) after) → FedOn v (take n piece) after
-    goes handled = step_goes v after piece m live p step lives handled
+    goes handled = step_goes v after piece m live p step lives word handled
 
     never : (deliveries : List DeliveredEvent) → m.state.receive_queue.deliveries ≡ deliveries → ((sends : ℕ) → FewDeliveries sends v.fetching.reads deliveries → ⊥) → FedOn v (take n piece) after
     never deliveries found wrong opened end so_far keeps =
@@ -193,6 +193,7 @@ step_done_by v after piece m live p step lives taken = by m.state.receive_queue.
         Fed v (take (taken_at (end_of after) (length piece) n) piece) after
     message number invalidated bytes one (inl handled) =
         went_on v after piece n (end_of after) refl (goes (λ k server. record {
+          credits = server.credits;
           none = λ none. absurd (let two : [] ≡ MessageReceived number invalidated bytes ∷ [] = sym none ∙ one in cc);
           some = λ other j x found count.
               let same = same_message other number j invalidated x bytes [] [] (sym found ∙ one) in
@@ -200,7 +201,7 @@ step_done_by v after piece m live p step lives taken = by m.state.receive_queue.
           read = λ done x rest reads. absurd (let two : ReadDone ∷ [] ≡ MessageReceived number invalidated bytes ∷ [] = sym done ∙ one in cc);
         }))
     message number invalidated bytes one (inr ran) =
-        let out = out_by_message v after piece m number invalidated bytes [] live p step lives one ran in
+        let out = out_by_message v after piece m number invalidated bytes [] live p step lives word one ran in
         subst (λ (o : Option End). Fed v (take (taken_at o (length piece) n) piece) after) (sym out.ended) (subst (λ (bytes : List ℕ). Fed v bytes after) (sym (take_all (length piece) piece (omega arith))) (RanOut 0 out))
 
     same_reads : (x y : PendingRead) (rest others : List PendingRead) → v.fetching.reads ≡ x ∷ rest → v.fetching.reads ≡ y ∷ others → x ∷ rest ≡ y ∷ others
@@ -210,6 +211,7 @@ step_done_by v after piece m live p step lives taken = by m.state.receive_queue.
         Fed v (take (taken_at (end_of after) (length piece) n) piece) after
     done x rest one reads (inl handled) =
         went_on v after piece n (end_of after) refl (goes (λ k server. record {
+          credits = server.credits;
           none = λ none. absurd (let two : [] ≡ ReadDone ∷ [] = sym none ∙ one in cc);
           some = λ number j b found count. absurd (let two : ReadDone ∷ [] ≡ MessageReceived number j b ∷ [] = sym one ∙ found in cc);
           read = λ told y others found.
@@ -234,12 +236,12 @@ step_done_by v after piece m live p step lives taken = by m.state.receive_queue.
 
     by : (deliveries : List DeliveredEvent) → m.state.receive_queue.deliveries ≡ deliveries → Fed v (take (taken_at (end_of after) (length piece) n) piece) after
     by [] none =
-        went_on v after piece n (end_of after) refl (goes (λ k server. record { none = λ e. taken.none none; some = λ number j x found count. absurd (let two : [] ≡ MessageReceived number j x ∷ [] = sym none ∙ found in cc); read = λ done x rest reads. absurd (let two : [] ≡ ReadDone ∷ [] = sym none ∙ done in cc) }))
+        went_on v after piece n (end_of after) refl (goes (λ k server. record { credits = server.credits; none = λ e. taken.none none; some = λ number j x found count. absurd (let two : [] ≡ MessageReceived number j x ∷ [] = sym none ∙ found in cc); read = λ done x rest reads. absurd (let two : [] ≡ ReadDone ∷ [] = sym none ∙ done in cc) }))
     by (MessageReceived number invalidated bytes ∷ []) one = message number invalidated bytes one (makes_handled (on_link v m) after number bytes (taken.some number invalidated bytes one))
     by (MessageReceived number invalidated bytes ∷ (x ∷ rest)) found = went_on v after piece n (end_of after) refl (never (MessageReceived number invalidated bytes ∷ (x ∷ rest)) found (λ sends. not_two sends v.fetching.reads number invalidated bytes x rest))
     by (ReadDone ∷ []) found = read found v.fetching.reads refl
     by (ReadDone ∷ (x ∷ rest)) found = went_on v after piece n (end_of after) refl (never (ReadDone ∷ (x ∷ rest)) found (λ sends. not_more sends v.fetching.reads x rest))
 
-pub step_done : (v after : ResponderSide) (piece : List ℕ) (m : LinkSide) → end_of v ≡ None → IsPartial v.link.awaited v.link.rest → m ≡ after_call v.link (FeedOne piece) → m.state.ended ≡ None → IsTaken (on_link v m) after →
+pub step_done : (v after : ResponderSide) (piece : List ℕ) (m : LinkSide) → end_of v ≡ None → IsPartial v.link.awaited v.link.rest → m ≡ after_call v.link (FeedOne piece) → m.state.ended ≡ None → v.credits.word ≡ present_word v → IsTaken (on_link v m) after →
     Fed v (take (taken_at (end_of after) (length piece) (bytes_taken v.link.awaited v.link.rest piece)) piece) after
-step_done v after piece m live p is lives taken = step_done_by v after piece m live p (step_of v.link m piece p live is) lives taken
+step_done v after piece m live p is lives word taken = step_done_by v after piece m live p (step_of v.link m piece p live is) lives word taken

@@ -188,7 +188,7 @@ response_takes opened k so_far v after frame h some long lives handled r false i
 response_takes opened k so_far v after frame h some long lives handled r true is =
     let reads = some_reads opened k so_far v frame h r in
     read_takes opened k so_far v after frame reads.0 reads.1.0 h some long lives r is reads.1.1
-    (handled.read (response_deliveries opened k so_far v frame h lives r true is) reads.0 reads.1.0 (h.reads ∙ reads.1.1))
+    (handled.read (response_deliveries opened k so_far v frame h lives r true is) reads.0 reads.1.0 (h.reads ∙ reads.1.1)) handled.credits
 
 fpdu_takes : (opened : LinkParameters) (k : ServerState) (so_far : InputState) (v after : ResponderSide) (frame : List ℕ) → Keeps opened k so_far v → 0 < v.link.state.place → v.link.awaited ≡ Fpdu → 0 < length frame →
     (with_frame v.link.state Fpdu frame).ended ≡ None → IsHandled k (on_link v (record { awaited = Fpdu; rest = []; state = with_frame v.link.state Fpdu frame })) after → Lives v.link.state frame →

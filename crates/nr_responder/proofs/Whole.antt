@@ -44,6 +44,7 @@ use Rattle.nr_reduce.specs.ServerMessages.{verdict, call_xid}
 use Rattle.nr_reduce.specs.ServerMessages.Verdict.{MakesPending}
 use Rattle.nr_reduce.specs.ServerFrames.{FrameEffect, no_effect, by_message, frame_effect}
 use Rattle.nr_reduce.specs.Server.{server_rules, server_end, server_output, server_state_after, with_own_hello, or_refusal, refusal_end, server_readiness, with_effect, effect_output}
+use Rattle.nr_responder.specs.Granting.{grant_of}
 use Rattle.nr_responder.specs.ResponderState.{ResponderSide, queued_bytes, unsent}
 use Rattle.nr_responder.specs.Keeping.{IsServer, Begins, LinkKeeps, Keeps, KeepsEnd, KeepsAgreed}
 use Rattle.nr_responder.specs.Keeping.Begins.{BeforeHello, AfterHello}
@@ -389,7 +390,7 @@ stopped_takes opened k input later_input v frame w queue_number msn offset paylo
         why = sym (ap (λ (e : EndState ServerState). e.ended) at.next);
         calls = h.calls ∙ sym (ap (λ (e : EndState ServerState). e.state.calls) at.next);
         ready = h.ready ∙ sym (ap (λ (e : EndState ServerState). map (λ (r : ReadyCall). r.xid) e.state.ready) at.next);
-        credits = h.credits ∙ sym (ap (λ (e : EndState ServerState). e.state.credit) at.next);
+        credits = h.credits ∙ sym (ap (λ (e : EndState ServerState). grant_of e.state) at.next);
         agreed =
             subst (λ (e : EndState ServerState). KeepsAgreed e.state (told_link s frame).agreed) (sym at.next)
             (subst (λ (t : LinkState). KeepsAgreed k t.agreed) (sym link) (keeps_agreed opened k s s.place h.link h.server));

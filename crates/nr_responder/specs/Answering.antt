@@ -14,7 +14,7 @@ use Rattle.nr_responder.specs.declared.call.Sent.{Sent}
 use Rattle.nr_responder.specs.declared.call.Sent.TheVariants as sents
 use Rattle.nr_responder.specs.Fetching.{payload_taken}
 use Rattle.nr_responder.specs.HeldBytes.{writes_max}
-use Rattle.nr_responder.specs.ResponderState.{ResponderSide}
+use Rattle.nr_responder.specs.ResponderState.{ResponderSide, present_word}
 
 -- the message of an answer, and the bytes of its RDMA Writes: ERR_CHUNK if the offer doesn't hold the reply
 abbrev pub message_for : (xid credits : ℕ) → ChunkLists → Option Answer → List ℕ
@@ -68,7 +68,7 @@ pub record Answers (before after : ResponderSide) (xid : ℕ) (reply : List ℕ)
   pub conveyed : IsPayload call payload stream
   pub writes : List RemoteWrite
   pub written : writes_output writes ≡ writes_for call.lists (answer_to before.link.state.agreed.down call stream reply)
-  pub short : length (message_for xid before.credits call.lists (answer_to before.link.state.agreed.down call stream reply)) ≤ before.link.state.agreed.down
+  pub short : length (message_for xid (present_word before) call.lists (answer_to before.link.state.agreed.down call stream reply)) ≤ before.link.state.agreed.down
   pub few : length (writes_output writes) ≤ writes_max
-  pub state : after ≡ answered_by at writes (message_for xid before.credits call.lists (answer_to before.link.state.agreed.down call stream reply)) before
+  pub state : after ≡ answered_by at writes (message_for xid (present_word before) call.lists (answer_to before.link.state.agreed.down call stream reply)) before
   pub sent_is : sent ≡ sent_as (answer_to before.link.state.agreed.down call stream reply)

@@ -7,6 +7,7 @@ use Rattle.nr_header.specs.declared.header.ChunkLists.{ChunkLists}
 use Rattle.nr_endpoint.specs.LinkState.{LinkSide}
 use Rattle.nr_endpoint.specs.Codes.{link_code}
 use Rattle.nr_reduce.specs.ServerState.{PendingCall, PendingRead}
+use Rattle.nr_responder.specs.declared.granting.Credits.{Credits}
 use Rattle.nr_responder.specs.Fetching.{SinkRegion, Fetching}
 use Rattle.nr_responder.specs.ResponderState.{ResponderSide, ResponderState}
 
@@ -47,9 +48,14 @@ fetching_code =
     code_by (List PendingRead × (List SinkRegion × List (Option (List ℕ)))) (coded× (coded_list read_code) (coded× (coded_list sink_code) (coded_list (coded_option (coded_list coded_ℕ)))))
     (λ f. (f.reads, (f.sinks, f.payloads))) (λ p. record { reads = p.0; sinks = p.1.0; payloads = p.1.1 }) (λ _. refl)
 
+abbrev pub credits_code : Coded Credits
+credits_code =
+    code_by (ℕ × (ℕ × (ℕ × ℕ))) (coded× coded_ℕ (coded× coded_ℕ (coded× coded_ℕ coded_ℕ))) (λ c. (c.receives, (c.granted, (c.low, c.word))))
+    (λ p. record { receives = p.0; granted = p.1.0; low = p.1.1.0; word = p.1.1.1 }) (λ _. refl)
+
 abbrev pub side_code : Coded ResponderSide
 side_code =
-    code_by (LinkSide × (List PendingCall × (List ℕ × (ℕ × Fetching)))) (coded× link_code (coded× (coded_list call_code) (coded× (coded_list coded_ℕ) (coded× coded_ℕ fetching_code))))
+    code_by (LinkSide × (List PendingCall × (List ℕ × (Credits × Fetching)))) (coded× link_code (coded× (coded_list call_code) (coded× (coded_list coded_ℕ) (coded× credits_code fetching_code))))
     (λ v. (v.link, (v.calls, (v.ready, (v.credits, v.fetching))))) (λ p. record { link = p.0; calls = p.1.0; ready = p.1.1.0; credits = p.1.1.1.0; fetching = p.1.1.1.1 }) (λ _. refl)
 
 abbrev pub responder_code : Coded ResponderState

@@ -70,7 +70,7 @@ pub record SinksFit (v : ResponderSide) : Type 0 where
   pub most : sinks_total v.fetching.sinks ≤ PAYLOAD_MAX * (length v.calls + open_reads_max)
   pub count : length v.fetching.sinks ≤ READ_SEGMENTS_MAX * (length v.calls + open_reads_max)
   pub each : end_of v ≡ None → SharesFit v
-  pub receives : ReceivesFit v.credits v.link.state.receive_queue
+  pub receives : ReceivesFit v.credits.receives v.link.state.receive_queue
 
 -- ---- Output
 
@@ -119,7 +119,7 @@ pub record OutputFits (v : ResponderSide) : Type 0 where
 -- How long the lists are that a responder keeps, whose bytes aren't counted: its calls with the Sends that haven't left; the calls that are ready, and
 -- the payloads of these; the sinks; and, while the side lives, the Read Requests that are open or wait.
 pub record ListsFit (v : ResponderSide) : Type 0 where
-  pub calls : length v.calls + unsent v.link.state ≤ v.credits
+  pub calls : length v.calls + unsent v.link.state ≤ v.credits.receives
   pub ready : length v.ready ≤ length v.calls
   pub payloads : length v.fetching.payloads ≤ length v.calls
   pub sinks : length v.fetching.sinks ≤ READ_SEGMENTS_MAX * (length v.calls + open_reads_max)

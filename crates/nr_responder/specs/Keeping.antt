@@ -22,6 +22,7 @@ use Rattle.nr_reduce.specs.ServerState.{PendingCall, PendingRead, ReadyCall, Ser
 use Rattle.nr_reduce.specs.ServerReads.{open_reads, is_read, is_over}
 use Rattle.nr_reduce.specs.StandingLaws.{StagsFrom}
 use Rattle.nr_responder.specs.Fetching.{open_sinks}
+use Rattle.nr_responder.specs.Granting.{grant, grant_of}
 use Rattle.nr_responder.specs.ResponderState.{ResponderSide, unsent, end_of, queue, may_write}
 
 -- no two pending calls have one number, or one xid, nor have two calls that are ready one xid
@@ -143,7 +144,7 @@ pub record Keeps (opened : LinkParameters) (k : ServerState) (input_now : InputS
   pub server : IsServer k v.link.state.place
   pub calls : v.calls ≡ k.calls
   pub ready : v.ready ≡ map (λ r. r.xid) k.ready
-  pub credits : v.credits ≡ k.credit
+  pub credits : grant v.credits ≡ grant_of k
   pub reads : v.fetching.reads ≡ k.reads
   pub sinks : v.fetching.sinks ≡ open_sinks k.regions
   pub payloads : ArePayloads k.calls k.ready v.fetching.payloads
@@ -162,7 +163,7 @@ pub record KeepsEnded (end : EndState ServerState) (v : ResponderSide) : Type 0 
   pub why : end_of v ≡ end.ended
   pub calls : v.calls ≡ end.state.calls
   pub ready : v.ready ≡ map (λ r. r.xid) end.state.ready
-  pub credits : v.credits ≡ end.state.credit
+  pub credits : grant v.credits ≡ grant_of end.state
   pub agreed : KeepsAgreed end.state v.link.state.agreed
   pub sendable : may_write v ≡ queue v
 

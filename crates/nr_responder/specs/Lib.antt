@@ -4,6 +4,7 @@ pub mod Draining
 pub mod Keeping
 pub mod Laws
 pub mod Fetching
+pub mod Granting
 pub mod HeldBytes
 pub mod ResponderState
 pub mod Rooms

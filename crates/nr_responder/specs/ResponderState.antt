@@ -2,21 +2,25 @@
 -- those that wait to be executed, in the order in which they became ready; its credits; what it fetches; the whole staging buffer, which
 -- begins with the bytes of the frame that isn't complete; and how many bytes the buffers have that it keeps for payloads of calls that are
 -- read, with those of buffers outside their regions.
-use Rattle.std.specs.Prelude.{◌≡◌, ℕ, ◌+◌, ◌-◌, ◌*◌, max, List, [], ◌++◌, length, drop, Option}
+use Rattle.std.specs.Prelude.{◌≡◌, ℕ, ◌+◌, ◌-◌, ◌*◌, max, if◌then◌else◌, is_some, List, [], ◌++◌, length, drop, Option}
 use Rattle.nr_wire.specs.declared.hello.Side.TheVariants.{Responder}
 use Rattle.nr_link.specs.declared.end.End.{End}
+use Rattle.nr_link.specs.SegmentFaults.{is_begun}
 use Rattle.nr_endpoint.specs.SendQueue.{SendQueue, writable, written}
 use Rattle.nr_endpoint.specs.LinkState.{LinkState, LinkSide, initial_link}
 use Rattle.nr_endpoint.specs.EndpointState.{bytes_of, cut_frame_len}
 use Rattle.nr_link.specs.declared.agreement.SideTerms.{SideTerms}
+use Rattle.nr_reduce.specs.Plans.{one_if}
 use Rattle.nr_reduce.specs.ServerState.{PendingCall}
+use Rattle.nr_responder.specs.declared.granting.Credits.{Credits}
 use Rattle.nr_responder.specs.Fetching.{Fetching, nothing_fetched}
+use Rattle.nr_responder.specs.Granting.{grant, opened_credits, word_by}
 
 pub record ResponderSide : Type 0 where
   pub link : LinkSide
   pub calls : List PendingCall
   pub ready : List ℕ
-  pub credits : ℕ
+  pub credits : Credits
   pub fetching : Fetching
 
 pub record ResponderState : Type 0 where
@@ -24,9 +28,10 @@ pub record ResponderState : Type 0 where
   pub staging : List ℕ
   pub rooms : ℕ
 
--- the side as it is opened with this number of credits and these terms: its first region gets the STag 1
-abbrev pub opened_side : ℕ → SideTerms → ResponderSide
-opened_side credits terms = record { link = initial_link Responder credits 1 terms; calls = []; ready = []; credits = credits; fetching = nothing_fetched }
+-- the side as it is opened with this number of credits, the most that it grants while more than half of the receives are in use, and these
+-- terms: its first region gets the STag 1
+abbrev pub opened_side : (credits low : ℕ) → SideTerms → ResponderSide
+opened_side credits low terms = record { link = initial_link Responder credits 1 terms; calls = []; ready = []; credits = opened_credits credits low; fetching = nothing_fetched }
 
 -- A feed changes the staging buffer only in two prefixes: that of the bytes which are staged after it, and that of the frame which the
 -- bytes staged before it begin, as far as it was fed.
@@ -53,6 +58,25 @@ may_write v = writable v.link.state.has_hello v.link.state.send_queue
 -- how many of its Sends haven't left the queue
 abbrev pub unsent : LinkState → ℕ
 unsent s = length s.send_queue.send_ends
+
+-- How many receives are in use: one for each call that isn't answered, for each Send that hasn't left the queue, and for a Send that is begun.
+abbrev pub receives_used : ResponderSide → ℕ
+receives_used v = length v.calls + (unsent v.link.state + one_if (is_begun v.link.state.receive_queue.received.begun))
+
+-- the credit word of a message that is queued now (RFC 8166 section 3.3)
+abbrev pub present_word : ResponderSide → ℕ
+present_word v = word_by (grant v.credits) (receives_used v)
+
+-- with this credit word for the messages that are due for the next frame
+abbrev pub with_word : ℕ → ResponderSide → ResponderSide
+with_word word v = record v { credits = record v.credits { word = word } }
+
+-- it grants this many credits from now on, unless it has ended
+abbrev pub with_granted : ℕ → ResponderSide → ResponderSide
+with_granted credits v = record v { credits = record v.credits { granted = credits } }
+
+abbrev pub granting : ℕ → ResponderState → ResponderState
+granting credits v = if is_some (end_of v.side) then v else record v { side = with_granted credits v.side }
 
 -- How many bytes all byte buffers have that are kept: the staging buffer, the receives, of which one is lent for each call that isn't answered
 -- and for each Send that hasn't left, the regions, the output, and the buffers for payloads of calls that are read, with the bytes outside of regions.

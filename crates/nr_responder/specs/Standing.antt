@@ -11,6 +11,7 @@ use Rattle.nr_reduce.specs.EndRules.{EndState}
 use Rattle.nr_reduce.specs.ServerState.{ServerState}
 use Rattle.nr_reduce.specs.Standing.{ServerRepresents, ServerRunsOut}
 use Rattle.nr_responder.specs.ResponderState.{ResponderSide, queue, end_of}
+use Rattle.nr_responder.specs.Granting.{grant, grant_of}
 use Rattle.nr_responder.specs.HeldBytes.{KeptFits}
 use Rattle.nr_responder.specs.Keeping.{KeepsAgreed, KeepsEnd}
 
@@ -32,7 +33,7 @@ pub record ResponderRunsOut (opened : LinkParameters) (link : ℕ) (run : List M
   pub queued : output_due opened link Responder stopped ≡ bytes_sent link Responder run ++ queue v
   pub calls : v.calls ≡ (server opened link stopped).state.calls
   pub ready : v.ready ≡ map (λ r. r.xid) (server opened link stopped).state.ready
-  pub credits : v.credits ≡ (server opened link stopped).state.credit
+  pub credits : grant v.credits ≡ grant_of (server opened link stopped).state
   pub agreed : KeepsAgreed (server opened link stopped).state v.link.state.agreed
 
 abbrev pub ResponderRepresents : (opened : LinkParameters) (link : ℕ) (run : List Mark) (v : ResponderSide) → Type 0

@@ -19,6 +19,7 @@ use Rattle.nr_reduce.specs.ServerMessages.Verdict.{MakesPending}
 use Rattle.nr_reduce.specs.Server.{server_rules}
 use Rattle.nr_responder.specs.ResponderState.{ResponderSide, queue, end_of}
 use Rattle.nr_responder.specs.Fetching.{HasBytes}
+use Rattle.nr_responder.specs.Granting.{grant}
 use Rattle.nr_responder.specs.Keeping.{KeepsEnd}
 
 abbrev pub received_events : InputState → List ℕ → List RunEvent
@@ -55,11 +56,11 @@ TakesMemory opened k f = (output_for (server_rules opened) (live k) (FrameReceiv
 abbrev pub frame_by : LinkSide → List ℕ → Frame
 frame_by l bytes = next_frame l.state (take (frame_len l.awaited (l.rest ++ bytes)) (l.rest ++ bytes))
 
--- the calls of a side, those that are ready, and its credits are as they were
+-- the calls of a side, those that are ready, and what it grants are as they were
 pub record SameCalls (before after : ResponderSide) : Type 0 where
   pub calls : after.calls ≡ before.calls
   pub ready : after.ready ≡ before.ready
-  pub credits : after.credits ≡ before.credits
+  pub credits : grant after.credits ≡ grant before.credits
 
 -- its output and what is agreed are as they were
 pub record KeepsOutput (before after : LinkState) : Type 0 where

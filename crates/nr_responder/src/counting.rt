@@ -143,7 +143,7 @@ impl ServerEnd {
         requires sound { ServerEndInvariant self.now }
         requires bounded { IsBounded (with_staging self.now) }
         ensures is { result ≡ bytes_held_by (with_staging self.now) }
-        ensures bound { result ≤ held_unit * (self.now.credits + 4) }
+        ensures bound { result ≤ held_unit * (self.now.credits.receives + 4) }
         ensures rooms { (with_staging self.now).rooms ≤ payload_room * (2 * length (with_staging self.now).side.calls) }
         ensures lists { ListsFit (state_of self.now) }
     {

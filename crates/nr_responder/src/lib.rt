@@ -21,6 +21,7 @@ mod answering;
 mod call;
 mod counting;
 mod fetching;
+mod granting;
 mod heads;
 mod judging;
 mod laws;

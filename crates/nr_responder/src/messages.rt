@@ -119,11 +119,11 @@ impl ServerEnd {
             Judged::Kind => self.end_for(REASON_KIND),
             Judged::Open => self.end_for(REASON_CALL),
             Judged::OtherVersion => {
-                let made = version_error(self.alloc, xid, version, self.credits);
+                let made = version_error(self.alloc, xid, version, self.credits.word);
                 self.refuse(buf, made);
             }
             Judged::BadChunks => {
-                let made = chunk_error(self.alloc, xid, self.credits);
+                let made = chunk_error(self.alloc, xid, self.credits.word);
                 self.refuse(buf, made);
             }
             Judged::Call { stream_at } => self.begin(number, buf, len, stream_at),

@@ -342,7 +342,7 @@ impl ServerEnd {
             &mut self.endpoint,
             self.alloc,
             xid,
-            self.credits,
+            self.credits.word,
             self.reads.as_slice(),
             kept,
         ) {

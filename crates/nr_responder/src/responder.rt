@@ -13,6 +13,7 @@ ghost use Rattle.nr_reduce.specs.Opening.{ServerOpened};
 ghost use Rattle.nr_reduce.specs.declared.mark.LinkParameters.{LinkParameters};
 ghost use Rattle.nr_reduce.specs.declared.mark.Mark.{Mark};
 ghost use Rattle.nr_reduce.specs.declared.mark.Mark.TheVariants as marks;
+ghost use Rattle.nr_reduce.specs.declared.mark.Told.TheVariants.{Granted};
 ghost use Rattle.nr_outside.specs.declared.moment.Moment.{Moment};
 ghost use Rattle.nr_reduce.specs.Served.{next_call, IsExecuted};
 ghost use Rattle.nr_responder.specs.Answering.{Answers};
@@ -27,7 +28,7 @@ ghost use Rattle.nr_reduce.specs.Plans.{one_if};
 ghost use Rattle.nr_reduce.specs.Run.{server};
 ghost use Rattle.nr_reduce.specs.ServerState.{receives_in_use};
 ghost use Rattle.nr_responder.specs.HeldBytes.{held_unit, sent_reply_max, ListsFit};
-ghost use Rattle.nr_responder.specs.ResponderState.{bytes_held_by, end_of, may_write, opened_side, unsent, KeepsStaging};
+ghost use Rattle.nr_responder.specs.ResponderState.{bytes_held_by, end_of, granting, may_write, opened_side, unsent, KeepsStaging};
 ghost use Rattle.nr_responder.specs.Rooms.{payload_room};
 ghost use Rattle.nr_responder.specs.Sound.{IsNext};
 ghost use Rattle.nr_responder.specs.Standing.{ResponderRepresents};
@@ -70,7 +71,7 @@ impl Model for Responder {
 impl Responder {
     /// The server end of a link that grants this many credits, with one unit: [`Responder::open_sized`].
     pub fn open(alloc: Global, credits: u32) -> Result<Responder, Memory>
-        ensures state { IfOk result (λ r. r.side ≡ opened_side credits default_terms) }
+        ensures state { IfOk result (λ r. r.side ≡ opened_side credits credits default_terms) }
         ensures live { IfOk result (λ r. end_of r.side ≡ None) }
         ensures fed { IfOk result (λ r. fed_bytes r.side.link ≡ 0) }
         ensures staging { IfOk result (λ r. length r.staging ≡ FPDU_MAX) }
@@ -79,19 +80,31 @@ impl Responder {
         Responder::open_sized(alloc, credits, 1)
     }
 
-    /// The server end of a link that grants this many credits. It writes and takes Sends of at most this many units of 1,024 bytes, from 1 to 16
-    /// (0 counts as 1, and more than 16 as 16): if the client's hello says its terms, so does its own, and the lesser of both is agreed for each
-    /// direction ([`Responder::agreed`]). Takes the staging buffer, a receive of these units for each credit, and room for a call of each; not
-    /// its hello, whose room is taken when the client's is accepted. `Err`: memory ran out, and nothing was made.
+    /// The server end of a link that always grants this many credits, until it is told other ones: [`Responder::open_low`].
     pub fn open_sized(alloc: Global, credits: u32, units: u8) -> Result<Responder, Memory>
-        ensures state { IfOk result (λ r. r.side ≡ opened_side credits (sized_terms units)) }
+        ensures state { IfOk result (λ r. r.side ≡ opened_side credits credits (sized_terms units)) }
         ensures live { IfOk result (λ r. end_of r.side ≡ None) }
         ensures fed { IfOk result (λ r. fed_bytes r.side.link ≡ 0) }
         ensures staging { IfOk result (λ r. length r.staging ≡ FPDU_MAX) }
         ensures stands { IfOk result (λ r. (opened : LinkParameters) (link : ℕ) → ServerOpened opened credits credits (sized_terms units) → ResponderRepresents opened link [] r.side) }
     {
+        Responder::open_low(alloc, credits, credits, units)
+    }
+
+    /// The server end of a link that grants this many credits, and at most `low` in a message that is due while more than half of its receives
+    /// are in use, by the frame or the answer for which it is due. It writes and takes Sends of at most this many units of 1,024 bytes, from 1 to 16
+    /// (0 counts as 1, and more than 16 as 16): if the client's hello says its terms, so does its own, and the lesser of both is agreed for each
+    /// direction ([`Responder::agreed`]). Takes the staging buffer, a receive of these units for each credit, and room for a call of each; not
+    /// its hello, whose room is taken when the client's is accepted. `Err`: memory ran out, and nothing was made.
+    pub fn open_low(alloc: Global, credits: u32, low: u32, units: u8) -> Result<Responder, Memory>
+        ensures state { IfOk result (λ r. r.side ≡ opened_side credits low (sized_terms units)) }
+        ensures live { IfOk result (λ r. end_of r.side ≡ None) }
+        ensures fed { IfOk result (λ r. fed_bytes r.side.link ≡ 0) }
+        ensures staging { IfOk result (λ r. length r.staging ≡ FPDU_MAX) }
+        ensures stands { IfOk result (λ r. (opened : LinkParameters) (link : ℕ) → ServerOpened opened credits low (sized_terms units) → ResponderRepresents opened link [] r.side) }
+    {
         Ok(Responder {
-            end: ServerEnd::open(alloc, credits, SideTerms::sized(units))?,
+            end: ServerEnd::open(alloc, credits, low, SideTerms::sized(units))?,
         })
     }
 
@@ -212,7 +225,7 @@ impl Responder {
     /// Lists of calls and their segments aren't counted. Takes no memory.
     pub fn held(&self) -> u128
         ensures is { result ≡ bytes_held_by self.now }
-        ensures bound { result ≤ held_unit * (self.now.side.credits + 4) }
+        ensures bound { result ≤ held_unit * (self.now.side.credits.receives + 4) }
         // The rooms of payloads: at most two for each call that isn't answered.
         ensures rooms { self.now.rooms ≤ payload_room * (2 * length self.now.side.calls) }
         // The regions: the payload of each of these calls, and for each Read Request that may be open.
@@ -221,6 +234,30 @@ impl Responder {
         ensures lists { ListsFit self.now.side }
     {
         self.end.held()
+    }
+
+    /// The credits that it was opened with: it has a receive for each. Takes no memory.
+    pub fn opened(&self) -> u32
+        ensures exact { result ≡ self.now.side.credits.receives }
+        ensures of_run { (opened : LinkParameters) (link : ℕ) (run : List Mark) → ResponderRepresents opened link run self.now.side → result ≡ opened.receives }
+    {
+        self.end.opened()
+    }
+
+    /// Grants this many credits, from 1 to those that it was opened with: this is the credit word of every message that is queued from now on,
+    /// but that it is at most `low` while more than half of the receives are in use, if it was opened so (RFC 8166 section 3.3). Receives stay
+    /// as they are, and nothing changes if the side has ended. Takes no memory.
+    pub fn set_credits(&mut self, credits: u32)
+        requires some { 1 ≤ credits }
+        requires few { credits ≤ self.old.side.credits.receives }
+        ensures is { self.new ≡ granting credits self.old }
+        ensures end { end_of self.new.side ≡ end_of self.old.side }
+        ensures fed { fed_bytes self.new.side.link ≡ fed_bytes self.old.side.link }
+        ensures staging { self.new.staging ≡ self.old.staging }
+        ensures stands { (opened : LinkParameters) (link : ℕ) (run : List Mark) → ResponderRepresents opened link run self.old.side →
+            ResponderRepresents opened link (run ++ marks.Told link (Granted credits) ∷ []) self.new.side }
+    {
+        self.end.set_credits(credits)
     }
 
     /// How many calls are pending: their Send is complete, and they aren't answered. Once the side has ended, how many were so as it ended.

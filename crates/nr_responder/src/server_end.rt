@@ -25,7 +25,7 @@ ghost use Rattle.nr_reduce.specs.Served.{next_call, IsExecuted};
 ghost use Rattle.nr_responder.specs.Answering.{Answers};
 ghost use Rattle.nr_responder.specs.Draining.{Drains};
 ghost use Rattle.nr_responder.specs.private.Handling.{out, IsTaken, ReadsXid};
-ghost use Rattle.nr_responder.specs.ResponderState.{end_of, opened_side, posted_times, may_write, KeepsStaging};
+ghost use Rattle.nr_responder.specs.ResponderState.{end_of, opened_side, posted_times, present_word, may_write, KeepsStaging};
 ghost use Rattle.nr_responder.specs.Sound.{state_of, with_staging, payloads_of, IsNext, ServerEndInvariant, WindowsAreRead, WindowsInvariant};
 ghost use Rattle.nr_responder.specs.HeldBytes.{KeptFits, sent_reply_max};
 ghost use Rattle.nr_responder.specs.Standing.{RepresentsSome, ResponderRepresents, StaysBounded};
@@ -33,6 +33,7 @@ ghost use Rattle.nr_responder.specs.Steps.{Fed, taken_of};
 
 use crate::answering::{SENDABLE, queue_answer};
 use crate::call::{OpenSink, Pending, ReadEntry, Ready, Sent, place_of, stream_of};
+use crate::granting::Credits;
 use crate::payloads::{first_payload, ready_payload};
 use nr_endpoint::{DrainFault, Endpoint, Event};
 use nr_link::constants::{REASON_HEAD, REASON_XID};
@@ -55,7 +56,7 @@ pub struct ServerEnd {
     pub(crate) reads: Vec<ReadEntry>,
     pub(crate) sinks: Vec<OpenSink>,
     pub(crate) used: VecDeque<Octets>,
-    pub(crate) credits: u32,
+    pub(crate) credits: Credits,
     pub(crate) alloc: Global,
 }
 
@@ -158,15 +159,20 @@ fn taken_at(end: Option<End>, all: usize, part: usize) -> usize
 }
 
 impl ServerEnd {
-    /// The server end of a link that grants this number of credits, with these terms.
-    pub fn open(alloc: Global, credits: u32, terms: SideTerms) -> Result<ServerEnd, Memory>
+    /// The server end of a link that grants this number of credits, at most `low` while more than half of its receives are in use, with these terms.
+    pub fn open(
+        alloc: Global,
+        credits: u32,
+        low: u32,
+        terms: SideTerms,
+    ) -> Result<ServerEnd, Memory>
         ensures sound { IfOk result ServerEndInvariant }
         ensures windows { IfOk result WindowsInvariant }
-        ensures state { IfOk result (λ r. state_of r ≡ opened_side credits terms) }
+        ensures state { IfOk result (λ r. state_of r ≡ opened_side credits low terms) }
         ensures live { IfOk result (λ r. end_of (state_of r) ≡ None) }
         ensures fed { IfOk result (λ r. fed_bytes r.endpoint.link ≡ 0) }
         ensures staging { IfOk result (λ r. length r.endpoint.staging ≡ FPDU_MAX) }
-        ensures stands { IfOk result (λ r. (opened : LinkParameters) (link : ℕ) → ServerOpened opened credits credits terms → ResponderRepresents opened link [] (state_of r)) }
+        ensures stands { IfOk result (λ r. (opened : LinkParameters) (link : ℕ) → ServerOpened opened credits low terms → ResponderRepresents opened link [] (state_of r)) }
         ensures bounded { IfOk result (λ r. KeptFits (state_of r)) }
     {
         let ready = VecDeque::with_capacity(alloc, credits as usize)?;
@@ -180,7 +186,7 @@ impl ServerEnd {
             reads: Vec::new(alloc),
             sinks: Vec::new(alloc),
             used,
-            credits,
+            credits: Credits::opened(credits, low),
             alloc,
         })
     }
@@ -291,11 +297,37 @@ impl ServerEnd {
         }
     }
 
-    /// Takes a piece up to the end of the frame that it completes, and all of it if the side ends; answers the bytes taken.
+    /// Takes a piece up to the end of the frame that it completes, and all of it if the side ends; answers the bytes taken. The
+    /// messages that are due for that frame have the present credit word.
     fn step(&mut self, piece: &[u8]) -> usize
         requires sound { ServerEndInvariant self.old }
         requires windows { WindowsInvariant self.old }
         requires live { self.old.endpoint.link.state.ended ≡ None }
+        requires within { fed_bytes self.old.endpoint.link + length piece.now ≤ 2 ^ 62 }
+        ensures taken { result ≡ (if is_some self.new.endpoint.link.state.ended then length piece.now else bytes_taken self.old.endpoint.link.awaited self.old.endpoint.link.rest piece.now) }
+        ensures most { result ≤ length piece.now }
+        ensures some { 0 < length piece.now → 0 < result }
+        ensures goes { Fed (state_of self.old) (take result piece.now) (state_of self.new) }
+        ensures first { Fed (state_of self.old) (take (bytes_taken self.old.endpoint.link.awaited self.old.endpoint.link.rest piece.now) piece.now) (state_of self.new) }
+        ensures staging { self.old.endpoint.link.state.receive_queue.deliveries ≡ [] → KeepsStaging (with_staging self.old) (with_staging self.new) piece.now }
+        ensures rest { (self.new.endpoint.link.rest ≡ []) ⊎ (result ≡ length piece.now) }
+        ensures windows { WindowsInvariant self.new }
+        ensures sound { ServerEndInvariant self.new }
+        ensures within { fed_bytes self.new.endpoint.link ≤ fed_bytes self.old.endpoint.link + result }
+        ensures bounded { (opened : LinkParameters) (link : ℕ) (run : List Mark) → ResponderRepresents opened link run (state_of self.old) → KeptFits (state_of self.old) → KeptFits (state_of self.new) }
+    {
+        let word = self.present_word();
+        self.credits.word = word;
+        self.take_piece(piece)
+    }
+
+    /// Takes a piece up to the end of the frame that it completes, and all of it if the side ends; answers the bytes taken. Its
+    /// credit word is that of before the frame.
+    fn take_piece(&mut self, piece: &[u8]) -> usize
+        requires sound { ServerEndInvariant self.old }
+        requires windows { WindowsInvariant self.old }
+        requires live { self.old.endpoint.link.state.ended ≡ None }
+        requires word { self.old.credits.word ≡ present_word (state_of self.old) }
         requires within { fed_bytes self.old.endpoint.link + length piece.now ≤ 2 ^ 62 }
         ensures taken { result ≡ (if is_some self.new.endpoint.link.state.ended then length piece.now else bytes_taken self.old.endpoint.link.awaited self.old.endpoint.link.rest piece.now) }
         ensures most { result ≤ length piece.now }
@@ -349,14 +381,16 @@ impl ServerEnd {
         }
     }
 
-    /// Queues the answer to the call at this place, which has this xid and is the first that is ready. An `Err` changes nothing.
-    fn answer_at(&mut self, at: usize, xid: u32, reply: &[u8]) -> Result<Sent, Memory>
+    /// Queues the answer to the call at this place, which has this xid and is the first that is ready, with the present credit word. An `Err`
+    /// changes nothing.
+    fn answer_at(&mut self, at: usize, xid: u32, word: u32, reply: &[u8]) -> Result<Sent, Memory>
         requires sound { ServerEndInvariant self.old }
         requires windows { WindowsAreRead self.old.calls.items self.old.reads.items }
         requires none { (d : Pending) → (get_or self.old.calls.items at d).around ≡ 0 }
         requires live { self.old.endpoint.link.state.ended ≡ None }
         requires at { at < length self.old.calls.items }
         requires own { (d : Pending) → (get_or self.old.calls.items at d).xid ≡ xid }
+        requires word { word ≡ present_word (state_of self.old) }
         requires next { 0 < length self.old.ready.items }
         requires inline { (d : Pending) → slice_get (payloads_of self.old.ready.items) 0 ≡ Some None → (get_or self.old.calls.items at d).inline ≡ true }
         requires short { length reply.now ≤ sent_reply_max }
@@ -376,7 +410,7 @@ impl ServerEnd {
             &self.calls[at],
             stream,
             target,
-            self.credits,
+            word,
             reply,
         )?;
         let call = self.calls.remove(at);
@@ -404,7 +438,10 @@ impl ServerEnd {
         ensures sound { ServerEndInvariant self.new }
     {
         match place_of(self.calls.as_slice(), xid) {
-            Some(at) => self.answer_at(at, xid, reply),
+            Some(at) => {
+                let word = self.present_word();
+                self.answer_at(at, xid, word, reply)
+            }
             // A call that is ready is pending.
             None => unreachable!(),
         }

@@ -49,6 +49,7 @@ caller_is i (lines.Forget client number) = nothing i
 caller_is i (lines.Revoke client number) = nothing i
 caller_is i (lines.Drop client) = nothing i
 caller_is i (lines.Raw client side bytes) = nothing i
+caller_is i (lines.Grant client credits) = nothing i
 caller_is i lines.Drain = nothing i
 
 counted_at : (c i : ℕ) (counts : List ℕ) (n : ℕ) → length counts ≡ clients_max → i < clients_max → slice_index counts i ≡ n → slice_index (counted counts c) i ≡ n + cond (eqb c (i + 1)) 1 0

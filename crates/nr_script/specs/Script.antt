@@ -50,7 +50,12 @@ is_client opening client = nat_le 1 client && nat_le client opening.clients
 abbrev pub is_call_line : ℕ → ℕ → List Line → Bool
 is_call_line client number before = nat_le 1 number && nat_le number (calls_of client before)
 
--- A line names a client of the script, and a call line that came before it; the clock doesn't pass its end.
+-- a server grants at least one credit (RFC 8166 section 3.3), and at most those that it was opened with
+abbrev pub is_granted : Opening → ℕ → Bool
+is_granted opening credits = nat_le 1 credits && nat_le credits opening.credits
+
+-- A line names a client of the script, and a call line that came before it; the clock doesn't pass its end; credits are granted within
+-- those of the first line.
 abbrev pub may_follow : Opening → List Line → Line → Bool
 may_follow opening before (lines.Cred client cred) = is_client opening client
 may_follow opening before (lines.Call client form prog vers proc args) = is_client opening client
@@ -62,6 +67,7 @@ may_follow opening before (lines.Forget client number) = is_client opening clien
 may_follow opening before (lines.Revoke client number) = is_client opening client && is_call_line client number before
 may_follow opening before (lines.Drop client) = is_client opening client
 may_follow opening before (lines.Raw client side bytes) = is_client opening client
+may_follow opening before (lines.Grant client credits) = is_client opening client && is_granted opening credits
 may_follow opening before lines.Drain = true
 
 -- ===== a text

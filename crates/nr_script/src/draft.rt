@@ -3,7 +3,7 @@
 ghost use Rattle.std.specs.Prelude.{ℕ, ◌≡◌, ◌≤◌, ◌<◌, ◌+◌, ◌^◌, ◌&&◌, ◌∷◌, ◌++◌, [], nat_le, true, length, slice_index, OnOk};
 ghost use Rattle.nr_texts.specs.Limits.{clients_max, number_max};
 ghost use Rattle.nr_script.specs.private.Counts.{caller, CountsAre, counted};
-ghost use Rattle.nr_script.specs.Script.{IsScript, is_call_line, is_client, may_follow, seconds_after, seconds_in};
+ghost use Rattle.nr_script.specs.Script.{IsScript, is_call_line, is_client, is_granted, may_follow, seconds_after, seconds_in};
 
 use crate::script::{Line, Script};
 use nr_texts::{CLIENTS_MAX, NUMBER_MAX, Opening};
@@ -94,6 +94,12 @@ impl Draft {
         }
     }
 
+    fn may_grant(&self, client: u32, credits: u32) -> bool
+        ensures { result ≡ (is_client self.now.opening client && is_granted self.now.opening credits) }
+    {
+        self.is_client(client) && 1 <= credits && credits <= self.opening.credits
+    }
+
     fn may_tick(&self, seconds: u32) -> bool
         ensures { result ≡ nat_le (seconds_after self.now.lines + seconds) number_max }
     {
@@ -116,6 +122,7 @@ impl Draft {
             Line::Forget { client, number } | Line::Revoke { client, number } => {
                 self.is_call_line(*client, *number)
             }
+            Line::Grant { client, credits } => self.may_grant(*client, *credits),
             Line::Drain => true,
         }
     }

@@ -169,6 +169,9 @@ fn later_line(name: &[u8], words: &[&[u8]]) -> Option<Line>
     } else if is(name, b"drop") {
         let client = one_number(words)?;
         Some(Line::Drop { client })
+    } else if is(name, b"grant") {
+        let (client, credits) = two_numbers(words)?;
+        Some(Line::Grant { client, credits })
     } else if is(name, b"drain") && words.is_empty() {
         Some(Line::Drain)
     } else {

@@ -79,6 +79,13 @@ pub enum Line {
         /// The client of the link.
         client: u32,
     },
+    /// The server of the link is told to grant this many credits from here on (RFC 8166 section 3.3).
+    Grant {
+        /// The client of the link.
+        client: u32,
+        /// The credits: from 1 to those of the first line.
+        credits: u32,
+    },
     /// These bytes are put after those that wait for the peer of this side, as if the side had written them.
     Raw {
         /// The client of the link.
@@ -115,7 +122,8 @@ impl From<Memory> for ScriptFault {
 }
 
 /// A script: its first line and the others in order, of which there are at most 2^24. Every line names a client of the
-/// script, `forget` and `revoke` name an earlier call line of their client, and the clock stays within 32 bits.
+/// script, `forget` and `revoke` name an earlier call line of their client, `grant` has at most the credits of the first
+/// line, and the clock stays within 32 bits.
 #[derive(Drop)]
 pub struct Script {
     opening: Opening,

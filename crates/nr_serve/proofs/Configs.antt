@@ -7,8 +7,9 @@ use Rattle.toml.specs.Data.{Members}
 use Rattle.toml.specs.Parse.{parse_document}
 use Rattle.nr_words.specs.declared.settings.Settings.{Settings}
 use Rattle.nr_words.specs.Lines.{Text}
-use Rattle.nr_words.specs.Limits.{capacity_max, connections_max, credits_max}
-use Rattle.nr_words.specs.Settings.{choices_of, config_of, count, in_range, integer_at, keys_of, number_at, numbers_of, path_at, settings_of, text_at, verifier_at}
+use Rattle.nr_words.specs.declared.settings.Choices.{Choices}
+use Rattle.nr_words.specs.Limits.{capacity_max, connections_max, credits_max, default_units, units_max}
+use Rattle.nr_words.specs.Settings.{choices_of, config_of, count, flag_at, in_range, integer_at, keys_of, number_at, number_or, numbers_of, path_at, present_at, settings_of, text_at, verifier_at}
 use Rattle.nr_serve.specs.Stops.{InRanges}
 
 -- what a step gives came of what the step before gave
@@ -41,6 +42,17 @@ number_within low high n key members is =
     let (z, (at, range)) = and_then_some (in_range low high) (integer_at key members) n is in
     within low high n z range
 
+number_or_within : (high n : ℕ) (key : Text) (members : Members) (b : Bool) → (if b then Some high else number_at 1 high key members) ≡ Some n → n ≤ high
+number_or_within high n key members true is = (let same : high ≡ n = same_Some high n is in omega (arith, same))
+number_or_within high n key members false is = number_within 1 high n key members is
+
+low_within : (credits : ℕ) (members : Members) (choices : Choices) → choices_of credits members ≡ Some choices → choices.low_credits ≤ credits
+low_within credits members choices is =
+    let (records, (at1, e1)) = and_then_some _ (flag_at (codes "record") members) choices is in
+    let (units, (at2, e2)) = and_then_some _ (number_or default_units 1 units_max (codes "inline") members) choices e1 in
+    let (low, (at3, same)) = map_some _ (number_or credits 1 credits (codes "low_credits") members) choices e2 in
+    subst (λ (c : Choices). c.low_credits ≤ credits) same (number_or_within credits low (codes "low_credits") members (present_at (codes "low_credits") members == 0) at3)
+
 ranges : (members : Members) (s : Settings Text) → settings_of members ≡ Some s → InRanges s
 ranges members s is =
     let (keys, e0) = if_some (count members == keys_of members) _ s is in
@@ -48,7 +60,8 @@ ranges members s is =
     let (export, (at2, e2)) = and_then_some _ (path_at (codes "export") members) s e1 in
     let (numbers, (at3, e3)) = and_then_some _ (numbers_of members) s e2 in
     let (verifier, (at4, e4)) = and_then_some _ (verifier_at (codes "write_verifier") members) s e3 in
-    let (choices, (at5, same)) = map_some _ (choices_of members) s e4 in
+    let (choices, (at5, same)) = map_some _ (choices_of numbers.credits members) s e4 in
+    let low : choices.low_credits ≤ numbers.credits = low_within numbers.credits members choices at5 in
     let (credits, (at6, e6)) = and_then_some _ (number_at 1 credits_max (codes "credits") members) numbers at3 in
     let (capacity, (at7, e7)) = and_then_some _ (number_at 0 capacity_max (codes "capacity") members) numbers e6 in
     let (connections, (at8, made)) = map_some _ (number_at 1 connections_max (codes "connections") members) numbers e7 in
@@ -57,6 +70,7 @@ ranges members s is =
     let short : numbers.connections ≤ connections_max = rw (← made) (number_within 1 connections_max connections (codes "connections") members at8) in
     record {
       credits = subst (λ (t : Settings Text). t.credits ≤ credits_max) same few;
+      low = subst (λ (t : Settings Text). t.low_credits ≤ t.credits) same low;
       capacity = subst (λ (t : Settings Text). t.capacity ≤ capacity_max) same small;
       connections = subst (λ (t : Settings Text). t.connections ≤ connections_max) same short;
     }

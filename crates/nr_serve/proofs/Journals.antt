@@ -21,15 +21,15 @@ longer_of true first J K seen own stood added = (K, added)
 longer_of false first J K seen own stood added = (J, stood)
 
 -- It is the history of the server that was opened, whoever added entries, and each is that of a call.
-pub journal_after : (credits units : ℕ) (records : Bool) (first : Opening) (J : List Entry) (before after : Between) (links : List (Option LinkEnd)) → ServesAll credits units records before links after → IsHistory first J before.view.seen
+pub journal_after : (credits low units : ℕ) (records : Bool) (first : Opening) (J : List Entry) (before after : Between) (links : List (Option LinkEnd)) → ServesAll credits low units records before links after → IsHistory first J before.view.seen
     → AreOfCalls (setup_in first) [] J → (K : List Entry) × IsOfServer first K after.view.seen
-journal_after credits units records first J before after [] none stood calls = (J, (subst (λ (b : Between). IsHistory first J b.view.seen) (sym none) stood, calls))
-journal_after credits units records first J before after (None ∷ links) (mid, (one, rest)) stood calls =
-    journal_after credits units records first J mid after links rest (subst (λ (v : PassView). IsHistory first J v.seen) (sym one.view) stood) calls
-journal_after credits units records first J before after (Some end ∷ links) (mid, (one, rest)) stood calls =
-    let (answers, all) = over_link credits units records (outside one.opened.left one.opened.given (sink_state one.opened.taken 0 false) one.gave (split_off before.view))
+journal_after credits low units records first J before after [] none stood calls = (J, (subst (λ (b : Between). IsHistory first J b.view.seen) (sym none) stood, calls))
+journal_after credits low units records first J before after (None ∷ links) (mid, (one, rest)) stood calls =
+    journal_after credits low units records first J mid after links rest (subst (λ (v : PassView). IsHistory first J v.seen) (sym one.view) stood) calls
+journal_after credits low units records first J before after (Some end ∷ links) (mid, (one, rest)) stood calls =
+    let (answers, all) = over_link credits low units records (outside one.opened.left one.opened.given (sink_state one.opened.taken 0 false) one.gave (split_off before.view))
     (outside one.closed.left one.closed.given (sink_state one.closed.taken one.sink_faults false) one.gave' one.own) end one.served in
     let over = all first J stood in
     let more = both_of_calls (setup_in first) [] J over.more calls over.of_calls in
     let (L, (is, of)) = longer_of (ltb (length before.view.seen) (length one.own.seen)) first J (J ++ over.more) before.view.seen one.own.seen (stood, calls) (over.seen, more) in
-    journal_after credits units records first L mid after links rest (subst (λ (h : List HistoryEntry). IsHistory first L h) (sym one.joins.seen) is) of
+    journal_after credits low units records first L mid after links rest (subst (λ (h : List HistoryEntry). IsHistory first L h) (sym one.joins.seen) is) of

@@ -58,7 +58,7 @@ pub record Serves (settings : Settings Text) (before after : AcceptorAt) (spawne
   pub empty : IsHistory first [] opened.seen
   pub own : opened.mine ≡ 0 ∷ []
   pub listens : Asks before.asked after.asked settings.listen
-  pub serves : host.Serves settings.credits settings.units settings.records (host.between before.ended before.lost spawner.started opened) ends (host.between after.ended after.lost spawner'.started view)
+  pub serves : host.Serves settings.credits settings.low_credits settings.units settings.records (host.between before.ended before.lost spawner.started opened) ends (host.between after.ended after.lost spawner'.started view)
   pub waited : spawner'.ended ≡ spawner'.started
 
 -- what is printed at the end: the number of connections, and the length of the journal

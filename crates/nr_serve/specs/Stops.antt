@@ -125,7 +125,7 @@ pub record OpensShared (settings : Settings Text) (before after : Option (List M
 -- links were taken, at the address and with the credits of the configuration, by a pass that knew and knows this
 pub record ServesLinks (settings : Settings Text) (before after : AcceptorAt) (spawner spawner' : SpawnerAt) (view view' : PassView) (ends : List LinkEnd) : Type 0 where
   pub listens : Asks before.asked after.asked settings.listen
-  pub serves : host.Serves settings.credits settings.units settings.records (host.between before.ended before.lost spawner.started view) ends (host.between after.ended after.lost spawner'.started view')
+  pub serves : host.Serves settings.credits settings.low_credits settings.units settings.records (host.between before.ended before.lost spawner.started view) ends (host.between after.ended after.lost spawner'.started view')
   pub waited : spawner'.ended ≡ spawner'.started
 
 -- all of them
@@ -147,5 +147,6 @@ LinksStopped stop settings before after spawner spawner' view view' =
 -- the ranges of a configuration
 pub record InRanges (settings : Settings Text) : Type 0 where
   pub credits : settings.credits ≤ credits_max
+  pub low : settings.low_credits ≤ settings.credits
   pub capacity : settings.capacity ≤ capacity_max
   pub connections : settings.connections ≤ connections_max

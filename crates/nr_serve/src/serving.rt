@@ -133,6 +133,7 @@ where
         pass,
         clock,
         config.credits as u32,
+        config.low_credits as u32,
         config.records,
         config.connections as u32,
         config.units,

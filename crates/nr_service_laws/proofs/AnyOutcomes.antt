@@ -367,7 +367,7 @@ all_answered all reads (HandedOver xid outcome ∷ rest) later has =
 all_answered all reads (GivenUp xid ∷ rest) later has = all_answered all reads rest later has
 
 some_parameters : (units : ℕ) → LinkParameters
-some_parameters units = record { first_xid = 1; first_stag = 1; wished = 16; granted = 1; receives = 1; client = sized_terms units; server = default_terms }
+some_parameters units = record { first_xid = 1; first_stag = 1; wished = 16; granted = 1; low = 1; receives = 1; client = sized_terms units; server = default_terms }
 
 some_opened : (units : ℕ) → IsOpened (some_parameters units)
 unfolding some_parameters

@@ -107,21 +107,23 @@ static ROWS: [Row; 14] = [
     (204, &[20, 92, 92], &[], &[1], "LinkWrite", 20, 1),
 ];
 
-/// Serves a connection with one credit and Sends of two units, and compares how it ends, what its sink takes, and how many calls are executed.
+/// Serves a connection with these credits, the second while more than half of its receives are in use, and Sends of two units, and compares how it ends, what its sink takes, and how many calls are executed.
 fn same_end(
     rt: &(impl Abort + Wait),
     alloc: Global,
     row: usize,
     source: &mut MemSource,
     writes: Vec<usize>,
+    terms: (u32, u32),
     want: (&str, &[u8], u32),
 ) {
+    let (credits, low) = terms;
     let (end, sent, executed) = want;
     let mut sink = MemSink::new(alloc, writes);
     let (shared, mut pass) = shared(rt, alloc);
     let mut clock = MemClock::new(&MOMENTS);
     let got = serve_connection(
-        rt, alloc, source, &mut sink, &shared, &mut pass, &mut clock, 1, 2,
+        rt, alloc, source, &mut sink, &shared, &mut pass, &mut clock, credits, low, 2,
     );
     let text = format!(in alloc; "{got:?}").expect(rt, "memory");
     same(rt, row, text.as_str(), end);
@@ -137,7 +139,7 @@ fn ends(rt: &(impl Abort + Wait), alloc: Global, row: usize, case: &Row) {
     let mut source = MemSource::new(bytes(rt, alloc, &SENT, most), sizes, reads);
     let sent = bytes(rt, alloc, &ANSWERED, sent);
     let want = (end, sent.as_slice(), executed);
-    same_end(rt, alloc, row, &mut source, writes, want);
+    same_end(rt, alloc, row, &mut source, writes, (1, 1), want);
 }
 
 #[test]
@@ -270,7 +272,38 @@ fn stops_of_connections(rt: HostRuntime) {
         let mut source = MemSource::new(sent, Vec::new(alloc), Vec::new(alloc));
         let answered = joined(&rt, alloc, *answered);
         let want = (*end, answered.as_slice(), 0);
-        same_end(&rt, alloc, row, &mut source, Vec::new(alloc), want);
+        same_end(&rt, alloc, row, &mut source, Vec::new(alloc), (1, 1), want);
+    }
+}
+
+/// The credits of a server, the most that it grants while more than half of its receives are in use, and the credit word of an answer for
+/// which two of them are in use: that of a call which waits for its read chunk, and that of the answered call.
+static LOW: [(u32, u32, u32); 4] = [(4, 1, 4), (3, 1, 1), (3, 3, 3), (2, 1, 1)];
+
+/// The FPDU of the reply to that call, with this credit word.
+fn null_answer(word: u32) -> [u32; 19] {
+    [
+        0x00464143, 0, 0, 1, 0, 2, 1, word, 0, 0, 0, 0, 2, 1, 0, 0, 0, 0, 0,
+    ]
+}
+
+/// Serves a client that ends its stream behind both calls.
+fn low_row(rt: &(impl Abort + Wait), alloc: Global, row: usize, terms: (u32, u32), word: u32) {
+    let sent = joined(rt, alloc, &[&HELLO, &WRITE, &NULL]);
+    let mut source = MemSource::new(sent, Vec::new(alloc), Vec::new(alloc));
+    let mut answered = joined(rt, alloc, &[&REPLY_HELLO, &READ_REQUEST]);
+    let answer = bytes(rt, alloc, &null_answer(word), 76);
+    answered
+        .extend_from_slice(answer.as_slice())
+        .expect(rt, "memory");
+    let want = ("Cut { at: 260, calls: 1 }", answered.as_slice(), 1);
+    same_end(rt, alloc, row, &mut source, Vec::new(alloc), terms, want);
+}
+
+#[test]
+fn low_credits_of_connections(rt: HostRuntime) {
+    for (row, (credits, low, word)) in LOW.iter().enumerate() {
+        low_row(&rt, rt.alloc(), row, (*credits, *low), *word);
     }
 }
 
@@ -311,6 +344,7 @@ fn two_connections(rt: HostRuntime) {
         &mut pass,
         &clock,
         1,
+        1,
         false,
         2,
         1,
@@ -344,6 +378,7 @@ fn two_connections(rt: HostRuntime) {
         &shared,
         &mut pass,
         &clock,
+        1,
         1,
         false,
         1,

@@ -95,7 +95,7 @@ fn same_links(rt: &impl Abort, alloc: Global, text: &str, links: &[MemLink]) {
 
 pub(crate) fn config(rt: &impl Abort, alloc: Global, connections: usize) -> String {
     format!(in alloc;
-        "listen = \"here\"\nexport = \"/\"\ncredits = 16\ncapacity = 1000000\nwrite_verifier = \"0000000000000001\"\nconnections = {connections}\nrecord = true\n"
+        "listen = \"here\"\nexport = \"/\"\ncredits = 16\ncapacity = 20000000\nwrite_verifier = \"0000000000000001\"\nconnections = {connections}\nrecord = true\n"
     ).expect(rt, "memory")
 }
 

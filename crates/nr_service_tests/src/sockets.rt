@@ -5,7 +5,8 @@ ghost use Rattle.std.specs.Prelude.{None, true};
 use crate::commands::COMMANDS;
 use crate::compare::same;
 use crate::host::Host;
-use crate::runs::{INPUT, read_case, same_run, same_text, words};
+use crate::reading::push_bytes;
+use crate::runs::{INPUT, read_case, run_client, same_run, same_text, source, words};
 use crate::servers::{config, run_server};
 use nr_jobs::ThreadSpawner;
 use nr_links::{Acceptor, TcpAcceptor, TcpDialer, TcpSink, TcpSource};
@@ -142,4 +143,64 @@ fn clients_while_their_server_runs(rt: HostRuntime) {
         same_text(&rt, alloc, *count, out.bytes(), *printed);
         same_text(&rt, alloc, *count, err.bytes(), "");
     }
+}
+
+/// The longest file, of 16,777,216 bytes: 256 times the same 65,521 bytes, a prime number of them, and 3,840 more. So
+/// bytes that are written or read at another offset, or twice, show.
+fn longest_file(rt: &impl Abort, alloc: Global) -> Vec<u8> {
+    let mut piece = Vec::new(alloc);
+    push_bytes(rt, &mut piece, 0, 65_521);
+    let mut file = Vec::new(alloc);
+    for _ in 0..256 {
+        file.extend_from_slice(piece.as_slice())
+            .expect(rt, "memory");
+    }
+    push_bytes(rt, &mut file, 0, 3_840);
+    file
+}
+
+/// Runs a client with this input, and gives what it prints; compares its status, and that it reports nothing.
+fn printed<N: Net<Stream = TcpStream, Listener = TcpListener>>(
+    rt: &impl Host,
+    alloc: Global,
+    words: &[String],
+    input: &[u8],
+    dial: &mut TcpDialer<N>,
+) -> MemSink {
+    let mut input = source(rt, alloc, input, Vec::new(alloc));
+    let mut out = MemSink::new(alloc, Vec::new(alloc));
+    let mut err = MemSink::new(alloc, Vec::new(alloc));
+    let status = run_client(rt, alloc, words, &mut input, &mut out, &mut err, dial);
+    same(rt, 0, u32::from(status), 0);
+    same_text(rt, alloc, 0, err.bytes(), "");
+    out
+}
+
+/// Puts the longest file, gets it, and compares its bytes.
+fn same_file<N: Net<Stream = TcpStream, Listener = TcpListener>>(
+    rt: &impl Host,
+    alloc: Global,
+    addr: &str,
+    dial: &mut TcpDialer<N>,
+) {
+    let file = longest_file(rt, alloc);
+    let put = words(rt, alloc, "put here / /longest", addr);
+    let put = printed(rt, alloc, put.as_slice(), file.as_slice(), dial);
+    same(rt, 0, put.bytes().is_empty(), true);
+    let get = words(rt, alloc, "get here / /longest", addr);
+    let got = printed(rt, alloc, get.as_slice(), b"", dial);
+    same(rt, 1, got.bytes() == file.as_slice(), true);
+}
+
+#[test]
+fn put_and_get_of_the_longest_file(rt: HostRuntime) {
+    let alloc = rt.alloc();
+    let (server, addr) = new_server(&rt, alloc, rt, 2);
+    let Ok(server) = thread::spawn(&rt, move || server.run(rt, alloc)) else {
+        panic!(rt; "no thread")
+    };
+    same_file(&rt, alloc, addr.as_str(), &mut TcpDialer::new(rt));
+    let (status, out, _) = server.join(&rt);
+    same(&rt, 0, u32::from(status), 0);
+    same(&rt, 1, out.bytes().starts_with(b"served 2 journal "), true);
 }

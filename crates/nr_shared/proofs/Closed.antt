@@ -1,9 +1,10 @@
 -- What is given back at the end.
-use Rattle.std.proofs.Common.{◌≡◌, ◌⊎◌, ⊎_elim, ℕ, ◌+◌, ◌<◌, arith, Bool, true, false, List, [], ◌∷◌, ◌++◌, length, length-append, Option, Some, None, refl, sym, ap, subst, ◌∙◌}
+use Rattle.std.proofs.Common.{◌≡◌, ◌⊎◌, ⊎_elim, ℕ, ◌+◌, ◌<◌, ◌≤◌, arith, Bool, true, false, List, [], ◌∷◌, ◌++◌, length, length-append, append-nil, Option, Some, None, refl, sym, ap, subst, ◌∙◌}
 use Rattle.std.specs.List.{AllByRecursion}
-use mathlib.Core.Option.{some, some-injective}
+use mathlib.Core.Option.{some, some-injective, some-ne-none}
 use lib.ListN.{get_elem?}
 use Rattle.atomic_table.proofs.Lists.{at_longer}
+use Rattle.nr_outside.proofs.Moves.{HandsOut_nil}
 use Rattle.nr_outside.specs.Content.{HandsOut}
 use Rattle.nr_turnstile.specs.declared.turnstile.Pass.{Pass as TurnPass}
 use Rattle.nr_turnstile.specs.Rule.{Begins, Earlier, IsIn, Lies, Owns, in_order}
@@ -14,7 +15,6 @@ use Rattle.nr_shared.specs.declared.entry.Stop.{Stop}
 use Rattle.nr_shared.specs.declared.feeder.Beside.{Beside}
 use Rattle.nr_shared.specs.declared.feeder.Feeder.{Feeder}
 use Rattle.nr_shared.specs.declared.line.Line.{Line}
-use Rattle.nr_shared.specs.declared.shared.Pass.{Pass}
 use Rattle.nr_shared.specs.Callers.{IsCaller, IsFeeding}
 use Rattle.nr_shared.specs.Feeding.{FeedsFor, StopHolds}
 use Rattle.nr_shared.specs.Histories.{FeedsInOrder, bytes_fed, closes_of, is_feeding, stop_of}
@@ -57,20 +57,20 @@ pub same_beside : {A : Type 0} (b c : A) (p q : List A) → p ≡ b ∷ [] → q
 same_beside b c p q one two begins = some-injective c b (ap (λ l. get_elem? l 0) (sym two ∙ (seen_one p q b c one two begins ∙ one)))
 
 module _ {I O : Type 0} (left given : I → Option (List ℕ)) (source_faults : I → ℕ) (taken : O → Option (List ℕ)) (sink_faults : O → ℕ) where
-  pub gives_back : (p : Pass I O) (j : TurnPass (Line O) Entry) (s : Feeder I O) (m : Line O) (b b' : Beside I O) (h : List Entry) → IsCaller p.main → seen_by p.source ≡ b ∷ [] → b' ≡ b → FeedsFor left given source_faults b' s
-      → Joins closes_of p.main s.pass j → Stands taken sink_faults m h → Begins (seen_by j) h → ((n : ℕ) → IsIn n (mine_of j) → n < length h) → Owns closes_of h (mine_of j) → Earlier closes_of h
-      → GivesBack left given source_faults taken sink_faults p m.requester s.source m.sink
-  gives_back p j s m b b' h c one same f (longer_is, first, second, mine, rising, own, lies_j, missed) st whole inside owns earlier =
-      let begins : Begins (seen_by p.main) h = begins_then (seen_by p.main) (seen_by j) h first whole in
+  pub gives_back : (p j : TurnPass (Line O) Entry) (s : Feeder I O) (m : Line O) (b : Beside I O) (h : List Entry) → IsCaller p → FeedsFor left given source_faults b s
+      → Joins closes_of p s.pass j → Stands taken sink_faults m h → Begins (seen_by j) h → ((n : ℕ) → IsIn n (mine_of j) → n < length h) → Owns closes_of h (mine_of j) → Earlier closes_of h
+      → GivesBack left given source_faults taken sink_faults (seen_by p) (mine_of p) b.source.value m.requester s.source m.sink
+  gives_back p j s m b h c f (longer_is, first, second, mine, rising, own, lies_j, missed) st whole inside owns earlier =
+      let begins : Begins (seen_by p) h = begins_then (seen_by p) (seen_by j) h first whole in
       let fed : Begins (seen_by s.pass) h = begins_then (seen_by s.pass) (seen_by j) h second whole in
-      let quiet = after_feeding p.main s.pass j h fed c f.feeding f.lies st.in_order first mine whole owns in
+      let quiet = after_feeding p s.pass j h fed c f.feeding f.lies st.in_order first mine whole owns in
       let bytes : bytes_fed h ≡ bytes_fed (seen_by s.pass) = ap (λ (l : List Entry). bytes_fed l) fed.1 ∙ bytes_quiet (seen_by s.pass) fed.0 f.feeding.handing f.feeding.is_handed quiet in
       let stop : stop_of h ≡ stop_of (seen_by s.pass) = ap (λ (l : List Entry). stop_of l) fed.1 ∙ stop_quiet (seen_by s.pass) fed.0 quiet in
       let read : s.read ≡ length (bytes_fed h) = f.read ∙ ap length (sym bytes) in
       record {
         history = h;
         begins = begins;
-        lies = λ k i. (let old = c.lies k i in let len = ap length begins.1 ∙ length-append (seen_by p.main) begins.0 in omega (arith, old, len));
+        lies = λ k i. (let old = c.lies k i in let len = ap length begins.1 ∙ length-append (seen_by p) begins.0 in omega (arith, old, len));
         earlier = earlier;
         handing = st.handing;
         is_handed = st.is_handed;
@@ -79,11 +79,30 @@ module _ {I O : Type 0} (left given : I → Option (List ℕ)) (source_faults : 
         took = st.took;
         sink_count = st.never_falls;
         cut = λ is. st.cut (st.is_cut ∙ is);
-        beside = b';
-        has_seen = one ∙ ap (λ (x : Beside I O). x ∷ []) (sym same);
         placed = st.placed;
-        gave = subst (λ (l : List ℕ). HandsOut (left b'.source.value) (given b'.source.value) (left s.source) (given s.source) l) (sym bytes) f.gave;
+        gave = subst (λ (l : List ℕ). HandsOut (left b.source.value) (given b.source.value) (left s.source) (given s.source) l) (sym bytes) f.gave;
         source_count = f.never_falls;
-        stop = subst (λ (n : ℕ). StopHolds (stop_of h) (source_faults b'.source.value) (source_faults s.source) (left s.source) n) read
-            (subst (λ (o : Option Stop). StopHolds o (source_faults b'.source.value) (source_faults s.source) (left s.source) s.read) (sym stop) f.stop);
+        stop = subst (λ (n : ℕ). StopHolds (stop_of h) (source_faults b.source.value) (source_faults s.source) (left s.source) n) read
+            (subst (λ (o : Option Stop). StopHolds o (source_faults b.source.value) (source_faults s.source) (left s.source) s.read) (sym stop) f.stop);
       }
+
+  -- what wasn't shared
+  pub unshared : (m : Line O) (h : List Entry) (source : I) → Stands taken sink_faults m h → Earlier closes_of h → bytes_fed h ≡ [] → stop_of h ≡ None
+      → GivesBack left given source_faults taken sink_faults h [] source m.requester source m.sink
+  unshared m h source st earlier none going = record {
+    history = h;
+    begins = ([], sym (append-nil h));
+    lies = λ k i. absurd (some-ne-none k (sym i.1));
+    earlier = earlier;
+    handing = st.handing;
+    is_handed = st.is_handed;
+    follows = subst (λ (o : Option Stop). Follows st.handing m.requester o h) st.stopped st.follows;
+    calls = st.calls;
+    took = st.took;
+    sink_count = st.never_falls;
+    cut = λ is. st.cut (st.is_cut ∙ is);
+    placed = st.placed;
+    gave = subst (λ (l : List ℕ). HandsOut (left source) (given source) (left source) (given source) l) (sym none) (HandsOut_nil (left source) (given source));
+    source_count = omega arith;
+    stop = subst (λ (o : Option Stop). StopHolds o (source_faults source) (source_faults source) (left source) (length (bytes_fed h))) (sym going) tt;
+  }

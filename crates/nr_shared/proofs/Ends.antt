@@ -34,6 +34,7 @@ use Rattle.nr_shared.specs.Callers.{IsReady, KeepsLaw}
 use Rattle.nr_shared.specs.Sharing.{SaysCredit}
 use Rattle.nr_shared.specs.Standing.{is_out, Follows, FollowsIf, Stands}
 use Rattle.nr_reduce.specs.declared.mark.LinkParameters.{LinkParameters}
+use Rattle.nr_reduce.specs.declared.mark.Mark.{Mark}
 
 -- ---- Ends
 
@@ -41,11 +42,11 @@ true_false : true ≡ false → ⊥
 true_false e = absurd cc
 
 -- a link that fits the history was opened as its handing says
-fits_handing : (h : List Entry) (c : Handing) (opened : LinkParameters) → handed h ≡ Some c → FitsHistory h opened → FitsHanding c opened
-fits_handing h c opened is (d, has, fits) = subst (λ (x : Handing). FitsHanding x opened) (ap (λ (o : Option Handing). unwrap_or o c) (sym has ∙ is)) fits
+fits_handing : (h : List Entry) (c : Handing) (opened : LinkParameters) (link : ℕ) (before : List Mark) → handed h ≡ Some c → FitsHistory h opened link before → FitsHanding c opened link before
+fits_handing h c opened link before is (d, has, fits) = subst (λ (x : Handing). FitsHanding x opened link before) (ap (λ (o : Option Handing). unwrap_or o c) (sym has ∙ is)) fits
 
 client_ended : (c : Handing) (r : RequesterSide) (h : List Entry) (end : End) → handed h ≡ Some c → FollowsIf false c r h → r.state.side.ended ≡ Some end → ClientEnded end h
-client_ended c r h end is follows ended opened link fits = let live = follows.1 opened link (fits_handing h c opened is fits) in sym live.stands.keeps.kept.keeps.ended ∙ ended
+client_ended c r h end is follows ended opened link before fits = let live = follows.1 opened link before (fits_handing h c opened link before is fits) in sym live.stands.keeps.kept.keeps.ended ∙ ended
 
 -- the end of a requester that ran out of memory
 end_is : (end : End) (o : Option End) → o ≡ Some end → o ≡ Some ends.Memory → end ≡ ends.Memory
@@ -176,8 +177,8 @@ module _ {O : Type 0} (taken : O → Option (List ℕ)) (faults : O → ℕ) whe
       let is = said m.requester.state call form why other says in
       let live : m.requester.state.side.ended ≡ None = sym (answers_end m.requester.state call form) ∙ (ap end_in is ∙ no_end) in
       not_out m.stopped st.handing m.requester h (ClientRefuses why call form h) (λ memory. none_memory (sym live ∙ memory)) st.follows
-      (λ f opened link fits. (let l = f.1 opened link (fits_handing h st.handing opened st.is_handed fits) in
-      sym (answers_as_client opened link m.requester (run_of 0 link h) call form l.stands) ∙ is))
+      (λ f opened link before fits. (let l = f.1 opened link before (fits_handing h st.handing opened link before st.is_handed fits) in
+      sym (answers_as_client opened link m.requester (run_of before 0 link h) call form l.stands) ∙ is))
 
   -- what the requester says of a call that it refuses is said of the history
   pub refused_is : (m : Line O) (h : List Entry) (call : Call) (form : Form) (why : Refused) → Stands taken faults m h → SaysSo m.requester.state call form why → IsRefused why call form h
@@ -190,21 +191,21 @@ module _ {O : Type 0} (taken : O → Option (List ℕ)) (faults : O → ℕ) whe
 
   -- whether a credit is left
   pub says_credit : (m : Line O) (h : List Entry) → Stands taken faults m h → SaysCredit (nat_lt (length m.requester.state.outstanding) m.requester.state.grant) h
-  says_credit m h st other opened link fits = by_out (is_out m.stopped) refl where
-    by_out : (b : Bool) → is_out m.stopped ≡ b → nat_lt (length m.requester.state.outstanding) m.requester.state.grant ≡ nat_lt (calls_outstanding opened link (run_of 0 link h)) (credits_granted opened link (run_of 0 link h))
+  says_credit m h st other opened link before fits = by_out (is_out m.stopped) refl where
+    by_out : (b : Bool) → is_out m.stopped ≡ b → nat_lt (length m.requester.state.outstanding) m.requester.state.grant ≡ nat_lt (calls_outstanding opened link (run_of before 0 link h)) (credits_granted opened link (run_of before 0 link h))
     by_out true out = absurd (other (sym st.stopped ∙ out_is m.stopped out))
     by_out false out =
         let f = subst (λ b. FollowsIf b st.handing m.requester h) out st.follows in
-        let l = f.1 opened link (fits_handing h st.handing opened st.is_handed fits) in
-        let counts = counts_as_client opened link m.requester (run_of 0 link h) l.stands in
-        ap (λ (n : ℕ). nat_lt n m.requester.state.grant) counts.0 ∙ ap (λ (n : ℕ). nat_lt (calls_outstanding opened link (run_of 0 link h)) n) counts.1
+        let l = f.1 opened link before (fits_handing h st.handing opened link before st.is_handed fits) in
+        let counts = counts_as_client opened link m.requester (run_of before 0 link h) l.stands in
+        ap (λ (n : ℕ). nat_lt n m.requester.state.grant) counts.0 ∙ ap (λ (n : ℕ). nat_lt (calls_outstanding opened link (run_of before 0 link h)) n) counts.1
 
   -- the history keeps the law
   pub law_of : (m : Line O) (h : List Entry) → Stands taken faults m h → KeepsLaw h
   law_of m h st = by_out (is_out m.stopped) st.follows where
     by_out : (b : Bool) → FollowsIf b st.handing m.requester h → KeepsLaw h
-    by_out false f = record { n = 0; law = λ opened link fits. (let l = f.1 opened link (fits_handing h st.handing opened st.is_handed fits) in (l.asked, l.granted)) }
-    by_out true f = record { n = f.1.0; law = λ opened link fits. (let l = f.1.1 opened link (fits_handing h st.handing opened st.is_handed fits) in (l.asked, l.granted)) }
+    by_out false f = record { n = 0; law = λ opened link before fits. (let l = f.1 opened link before (fits_handing h st.handing opened link before st.is_handed fits) in (l.asked, l.granted)) }
+    by_out true f = record { n = f.1.0; law = λ opened link before fits. (let l = f.1.1 opened link before (fits_handing h st.handing opened link before st.is_handed fits) in (l.asked, l.granted)) }
 
   -- told of the pass after its turn
   pub law_put_back : (t : Turn (Line O) Entry) (s : Pass (Line O) Entry) → IsReady taken faults t → seen_by s ≡ seen_by (pass_of t) → KeepsLaw (seen_by s)

@@ -76,11 +76,11 @@ follows_same o c r h e none follows = by_out (is_out o) follows where
   by_out : (b : Bool) → FollowsIf b c r h → FollowsIf b c r (h ++ e ∷ [])
   by_out false (not_memory, all) = (
     not_memory,
-    λ opened link fits. subst (IsLive opened link r) (sym (run_same 0 link h e (none 0 link))) (all opened link fits),
+    λ opened link before fits. subst (IsLive opened link r) (sym (run_same before 0 link h e (none 0 link))) (all opened link before fits),
   )
   by_out true (memory, (n, all)) = (
     memory,
-    (n, λ opened link fits. subst (IsOut opened link r) (sym (run_same n link h e (none n link))) (all opened link fits)),
+    (n, λ opened link before fits. subst (IsOut opened link r) (sym (run_same before n link h e (none n link))) (all opened link before fits)),
   )
 
 or_true : (b : Bool) → b || true ≡ true

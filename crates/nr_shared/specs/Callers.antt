@@ -4,6 +4,7 @@ use mathlib.Core.Option.{some}
 use lib.ListN.{get_elem?}
 use Rattle.nr_reduce.specs.declared.call.Call.{Call}
 use Rattle.nr_reduce.specs.declared.mark.LinkParameters.{LinkParameters}
+use Rattle.nr_reduce.specs.declared.mark.Mark.{Mark}
 use Rattle.nr_reduce.specs.Asked.{AskedSoFar}
 use Rattle.nr_reduce.specs.Credits.{KeepsGrant}
 use Rattle.nr_turnstile.specs.declared.turn.Turn.{Turn}
@@ -44,7 +45,7 @@ pub record IsCaller {O : Type 0} (p : Pass (Line O) Entry) : Type 0 where
 -- The marks of the history keep the law of the client's side, and the last grant; `n` is how many bytes were fed of the piece at which memory ran out.
 pub record KeepsLaw (history : List Entry) : Type 0 where
   pub n : ℕ
-  pub law : (opened : LinkParameters) (link : ℕ) → FitsHistory history opened → AskedSoFar opened link (run_of n link history) × KeepsGrant opened link (run_of n link history)
+  pub law : (opened : LinkParameters) (link : ℕ) (before : List Mark) → FitsHistory history opened link before → AskedSoFar opened link (run_of before n link history) × KeepsGrant opened link (run_of before n link history)
 
 -- A call of this xid stands at a place of the pass's own, which is open. All places of the pass lie in what it has seen.
 pub record IsAsked {O : Type 0} (p : Pass (Line O) Entry) (xid : ℕ) : Type 0 where

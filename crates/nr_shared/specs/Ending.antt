@@ -9,6 +9,7 @@ use Rattle.nr_reduce.specs.declared.call.Refused.{Refused}
 use Rattle.nr_reduce.specs.declared.call.Refused.TheVariants as refusals
 use Rattle.nr_reduce.specs.declared.call.Submission.TheVariants as submissions
 use Rattle.nr_reduce.specs.declared.mark.LinkParameters.{LinkParameters}
+use Rattle.nr_reduce.specs.declared.mark.Mark.{Mark}
 use Rattle.nr_reduce.specs.Run.{client}
 use Rattle.nr_reduce.specs.SubmitAnswer.{submit_answer}
 use Rattle.nr_shared.specs.declared.call_end.CallEnd.{CallEnd}
@@ -19,7 +20,7 @@ use Rattle.nr_shared.specs.Histories.{FitsHistory, has_cut, run_of, stop_of}
 
 -- the client of the run has ended so, whatever else the link was opened with
 abbrev pub ClientEnded : End → List Entry → Type 0
-ClientEnded end history = (opened : LinkParameters) (link : ℕ) → FitsHistory history opened → (client opened link (run_of 0 link history)).ended ≡ Some end
+ClientEnded end history = (opened : LinkParameters) (link : ℕ) (before : List Mark) → FitsHistory history opened link before → (client opened link (run_of before 0 link history)).ended ≡ Some end
 
 -- the requester has ended so: memory ran out for a frame, or the client of the run ended
 abbrev pub HasEnded : End → List Entry → Type 0
@@ -28,8 +29,8 @@ HasEnded end history = ClientEnded end history
 
 -- the client of the run refuses the call so
 abbrev pub ClientRefuses : Refused → Call → Form → List Entry → Type 0
-ClientRefuses why call form history = (opened : LinkParameters) (link : ℕ) → FitsHistory history opened →
-    submit_answer (client opened link (run_of 0 link history)) call form ≡ submissions.Refused why
+ClientRefuses why call form history = (opened : LinkParameters) (link : ℕ) (before : List Mark) → FitsHistory history opened link before →
+    submit_answer (client opened link (run_of before 0 link history)) call form ≡ submissions.Refused why
 
 -- Why a call is refused: its requester has ended, the client of the run refuses it, or memory ran out.
 abbrev pub IsRefused : Refused → Call → Form → List Entry → Type 0

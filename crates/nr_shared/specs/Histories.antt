@@ -17,6 +17,7 @@ use Rattle.nr_shared.specs.declared.entry.Entry.{Entry}
 use Rattle.nr_shared.specs.declared.entry.Entry.TheVariants as entries
 use Rattle.nr_shared.specs.declared.entry.Handing.{Handing}
 use Rattle.nr_shared.specs.Chains.{Chained, last_place}
+use Rattle.nr_shared.specs.Marks.{IsLive}
 
 -- ---- Its marks
 
@@ -34,9 +35,9 @@ mark_at n link entries.Cut = []
 mark_at n link (entries.Stopped cause before) = []
 mark_at n link (entries.Out piece before) = marks.Fed link Initiator (take n piece) ∷ []
 
--- the run of a history, as that of the link with this number
-unfoldable pub run_of : (n link : ℕ) → List Entry → List Mark
-run_of n link history = flat_map (mark_at n link) history
+-- the run of a history, as that of the link with this number, after the marks that the requester had made before it was handed in
+unfoldable pub run_of : (before : List Mark) (n link : ℕ) → List Entry → List Mark
+run_of before n link history = before ++ flat_map (mark_at n link) history
 
 -- ---- What an entry closes
 
@@ -174,14 +175,12 @@ forget_by history xid = entries.Forget xid (place_or_none (place_of xid history)
 abbrev pub revoke_by : List Entry → (xid : ℕ) → List ℕ → Entry
 revoke_by history xid bytes = entries.Revoke xid bytes (place_or_none (place_of xid history))
 
--- ---- What its link was opened with
+-- ---- What its link was opened with, and the marks before
 
-pub record FitsHanding (handing : Handing) (opened : LinkParameters) : Type 0 where
+-- The link was opened with these parameters, and the requester as it was handed in stands for these marks, which keep the law of its side.
+pub record FitsHanding (handing : Handing) (opened : LinkParameters) (link : ℕ) (before : List Mark) : Type 0 where
   pub opens : IsOpened opened
-  pub xid : opened.first_xid ≡ handing.first_xid
-  pub stag : opened.first_stag ≡ handing.first_stag
-  pub wished : opened.wished ≡ handing.wished
-  pub client : opened.client ≡ handing.terms
+  pub live : IsLive opened link handing.requester before
 
-abbrev pub FitsHistory : List Entry → LinkParameters → Type 0
-FitsHistory history opened = (handing : Handing) × (handed history ≡ Some handing) × FitsHanding handing opened
+abbrev pub FitsHistory : List Entry → LinkParameters → ℕ → List Mark → Type 0
+FitsHistory history opened link before = (handing : Handing) × (handed history ≡ Some handing) × FitsHanding handing opened link before

@@ -3,6 +3,7 @@ use Rattle.std.specs.Prelude.{◌≡◌, ◌≢◌, ℕ, Bool, nat_lt, List, [],
 use Rattle.nr_reduce.specs.declared.call.Call.{Call}
 use Rattle.nr_reduce.specs.declared.call.Form.{Form}
 use Rattle.nr_reduce.specs.declared.mark.LinkParameters.{LinkParameters}
+use Rattle.nr_reduce.specs.declared.mark.Mark.{Mark}
 use Rattle.nr_reduce.specs.Credits.{calls_outstanding, credits_granted}
 use Rattle.nr_requester.specs.Buffers.{bytes_of_buffers}
 use Rattle.nr_turnstile.specs.Passes.{Rests, Misses, home_of, id_of, seen_by}
@@ -24,8 +25,8 @@ use Rattle.nr_shared.specs.Waiting.{AtCall}
 
 -- whether a credit is left, by the run of a history at which memory didn't run out
 abbrev pub SaysCredit : Bool → List Entry → Type 0
-SaysCredit has history = stop_of history ≢ Some causes.Memory → (opened : LinkParameters) (link : ℕ) → FitsHistory history opened →
-    has ≡ nat_lt (calls_outstanding opened link (run_of 0 link history)) (credits_granted opened link (run_of 0 link history))
+SaysCredit has history = stop_of history ≢ Some causes.Memory → (opened : LinkParameters) (link : ℕ) (before : List Mark) → FitsHistory history opened link before →
+    has ≡ nat_lt (calls_outstanding opened link (run_of before 0 link history)) (credits_granted opened link (run_of before 0 link history))
 
 module _ {I O : Type 0} where
   -- The pass is a caller's, of this shared requester, and outside of both turns. Its source stands beside this requester. What it has seen keeps

@@ -1,7 +1,7 @@
 //! What the history of a shared requester has. No value of these types is made: only proofs know a history.
 
-use nr_link::SideTerms;
 use nr_reduce::{Call, Form, Outcome};
+use nr_requester::Requester;
 use std::collections::LinkedList;
 
 /// Why no more bytes are fed.
@@ -17,16 +17,10 @@ pub enum Stop {
     Memory,
 }
 
-/// What a requester was opened with, and its sink when both were handed in.
+/// A requester and its sink when both were handed in.
 pub struct Handing {
-    /// The xid of its first call.
-    pub first_xid: u32,
-    /// The STag of its first region.
-    pub first_stag: u32,
-    /// How many credits it wishes for.
-    pub wished: u32,
-    /// The terms of its side of the link.
-    pub terms: SideTerms,
+    /// The requester.
+    pub requester: Requester,
     /// The fault count of the sink.
     pub faults: u64,
     /// The bytes that the sink had taken, if they are known.

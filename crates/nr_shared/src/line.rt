@@ -61,7 +61,7 @@ impl<O: Sink> Machine for Line<O> {
 impl<O: Sink> Line<O> {
     ghost use Rattle.nr_shared.specs.declared.entry.Entry.{Entry};
     ghost use Rattle.nr_shared.specs.declared.entry.Entry.TheVariants as entries;
-    ghost use Rattle.nr_shared.specs.Standing.{Stands, Becomes, marks_before};
+    ghost use Rattle.nr_shared.specs.Standing.{Stands, Becomes};
     ghost use Rattle.nr_shared.specs.Histories.{IsAskedAt, IsUnclosed, bytes_fed, last_feeding};
     ghost use Rattle.nr_shared.specs.Draining.{drained_entries, fed_entry};
     ghost use Rattle.nr_shared.specs.declared.entry.Stop.TheVariants as causes;
@@ -73,15 +73,13 @@ impl<O: Sink> Line<O> {
 
     /// A requester that is handed in, with its sink. Output may wait.
     pub(crate) fn handed_in(requester: Requester, sink: O) -> Line<O>
-        requires { requester.marks < marks_before }
         ensures { (history : List Entry) → HandsIn O.taken O.faults requester sink history → Stands O.taken O.faults result history }
     {
         requester.facts();
-        let entries = requester.marks() + 1;
         Line {
             requester,
             sink,
-            entries,
+            entries: 1,
             due: true,
             is_cut: false,
             stopped: None,

@@ -69,12 +69,15 @@ number_or default low high key members = if present_at key members == 0 then Som
 
 -- the number of keys: six, and those that may be left out and are there
 abbrev pub keys_of : Members → ℕ
-keys_of members = 6 + present_at (codes "record") members + present_at (codes "inline") members
+keys_of members = 6 + present_at (codes "record") members + present_at (codes "inline") members + present_at (codes "low_credits") members
 
-abbrev pub choices_of : Members → Option Choices
-choices_of members =
+-- by the credits of the configuration
+abbrev pub choices_of : ℕ → Members → Option Choices
+choices_of credits members =
     option_and_then (λ records.
-    option_map (λ units. record { records = records; units = units })
+    option_and_then (λ units.
+    option_map (λ low_credits. record { records = records; units = units; low_credits = low_credits })
+    (number_or credits 1 credits (codes "low_credits") members))
     (number_or default_units 1 units_max (codes "inline") members))
     (flag_at (codes "record") members)
 
@@ -100,6 +103,7 @@ settings_with listen export numbers verifier choices = record {
   write_verifier = verifier;
   records = choices.records;
   units = choices.units;
+  low_credits = choices.low_credits;
 }
 
 -- exactly these keys, with values in range
@@ -111,7 +115,7 @@ settings_of members =
     option_and_then (λ numbers.
     option_and_then (λ verifier.
     option_map (settings_with listen export numbers verifier)
-    (choices_of members))
+    (choices_of numbers.credits members))
     (verifier_at (codes "write_verifier") members))
     (numbers_of members))
     (path_at (codes "export") members))
@@ -125,7 +129,7 @@ config_of bytes = if is_utf8 bytes then option_and_then settings_of (parse_docum
 -- ---- the same without references, and without strings
 
 abbrev pub plain_settings : Settings (Bor Text) → Settings Text
-plain_settings s = record { listen = s.listen.now; export = s.export.now; credits = s.credits; capacity = s.capacity; connections = s.connections; write_verifier = s.write_verifier; records = s.records; units = s.units }
+plain_settings s = record { listen = s.listen.now; export = s.export.now; credits = s.credits; capacity = s.capacity; connections = s.connections; write_verifier = s.write_verifier; records = s.records; units = s.units; low_credits = s.low_credits }
 
 abbrev pub config_settings : Config → Settings Text
-config_settings c = record { listen = string_bytes c.listen; export = string_bytes c.export; credits = c.credits; capacity = c.capacity; connections = c.connections; write_verifier = c.write_verifier; records = c.records; units = c.units }
+config_settings c = record { listen = string_bytes c.listen; export = string_bytes c.export; credits = c.credits; capacity = c.capacity; connections = c.connections; write_verifier = c.write_verifier; records = c.records; units = c.units; low_credits = c.low_credits }

@@ -18,7 +18,7 @@ const PATH_HELP: &str = "A path from the export's root, its names separated by s
 const TARGET_HELP: &str = "The path that the symbolic link holds; it is not looked up";
 
 const CONFIG_HELP: &str =
-    "A TOML file: listen, export, credits, capacity, connections, write_verifier, and maybe record and inline";
+    "A TOML file: listen, export, credits, capacity, connections, write_verifier, and maybe record, inline and low_credits";
 
 const UID_HELP: &str = "The user ID of the calls; 0 if it is left out";
 

@@ -31,6 +31,9 @@ pub struct Settings<T> {
     pub records: bool,
     /// The units of its Sends in each direction, of 1,024 bytes each: 1 to [`UNITS_MAX`](crate::UNITS_MAX).
     pub units: u8,
+    /// The most credits that it grants in a message that is due while more than half of the receives of a connection are in use: 1 to
+    /// `credits`.
+    pub low_credits: u64,
 }
 
 impl<T: Copy> Clone for Settings<T> {
@@ -64,6 +67,9 @@ pub struct Config {
     pub records: bool,
     /// The units of its Sends in each direction, of 1,024 bytes each: 1 to [`UNITS_MAX`](crate::UNITS_MAX).
     pub units: u8,
+    /// The most credits that it grants in a message that is due while more than half of the receives of a connection are in use: 1 to
+    /// `credits`.
+    pub low_credits: u64,
 }
 
 /// Why a text gives no configuration.
@@ -166,7 +172,7 @@ fn present_at(table: &Table, key: &str) -> usize
 fn keys_of(table: &Table) -> usize
     ensures { result ≡ keys_of (table_view table.now) }
 {
-    6 + present_at(table, "record") + present_at(table, "inline")
+    6 + present_at(table, "record") + present_at(table, "inline") + present_at(table, "low_credits")
 }
 
 /// The boolean at a key, `false` if that is not there.
@@ -194,6 +200,7 @@ fn number_or(table: &Table, key: &str, default: u64, low: u64, high: u64) -> Opt
 struct Choices {
     records: bool,
     units: u8,
+    low_credits: u64,
 }
 
 /// The number of units at `inline`, the default if that is not there.
@@ -206,13 +213,18 @@ fn units_at(table: &Table) -> Option<u8>
     }
 }
 
-/// What the keys say that may be left out.
-fn choices_of(table: &Table) -> Option<Choices>
-    ensures { result ≡ choices_of (table_view table.now) }
+/// What the keys say that may be left out, for a server with these credits.
+fn choices_of(table: &Table, credits: u64) -> Option<Choices>
+    ensures { result ≡ choices_of credits (table_view table.now) }
 {
     let records = flag_at(table, "record")?;
     let units = units_at(table)?;
-    Some(Choices { records, units })
+    let low_credits = number_or(table, "low_credits", credits, 1, credits)?;
+    Some(Choices {
+        records,
+        units,
+        low_credits,
+    })
 }
 
 /// The numbers that each table has.
@@ -256,7 +268,7 @@ fn settings_of(table: &Table) -> Option<Settings<&str>>
     let export = path_at(table, "export")?;
     let numbers = numbers_of(table)?;
     let write_verifier = verifier_at(table, "write_verifier")?;
-    let choices = choices_of(table)?;
+    let choices = choices_of(table, numbers.credits)?;
     Some(Settings {
         listen,
         export,
@@ -266,13 +278,14 @@ fn settings_of(table: &Table) -> Option<Settings<&str>>
         write_verifier,
         records: choices.records,
         units: choices.units,
+        low_credits: choices.low_credits,
     })
 }
 
 /// Reads a configuration: a TOML document with the six keys `listen` (text), `export` (text of 1 to 1024 bytes), `credits`
 /// (1 to 64), `capacity` (0 to 2^63 - 1), `connections` (1 to 2^32 - 1) and `write_verifier` (text of 16 hexadecimal
-/// digits), which may also have `record` (boolean; `false` if it is left out) and `inline` (1 to 16; 1 if it is left out),
-/// and no other.
+/// digits), which may also have `record` (boolean; `false` if it is left out), `inline` (1 to 16; 1 if it is left out) and
+/// `low_credits` (1 to `credits`; `credits` if it is left out), and no other.
 pub fn read_config(alloc: Global, bytes: &[u8]) -> Result<Config, ConfigFault>
     ensures ok { IfOk result (λ config. config_of bytes.now ≡ Some (config_settings config)) }
     ensures bad { IfErr result (λ fault. fault ≡ Bad → config_of bytes.now ≡ None) }
@@ -301,5 +314,6 @@ pub fn read_config(alloc: Global, bytes: &[u8]) -> Result<Config, ConfigFault>
         write_verifier: settings.write_verifier,
         records: settings.records,
         units: settings.units,
+        low_credits: settings.low_credits,
     })
 }

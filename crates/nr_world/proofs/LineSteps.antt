@@ -23,9 +23,11 @@ use Rattle.nr_drill.proofs.Followed.{cred_at, with_cred_at}
 use Rattle.nr_drill_link.specs.DrillLinkState.{DrillLinkState}
 use Rattle.nr_drill_link.specs.LinkStands.{LinkStands}
 use Rattle.nr_drill_link.specs.Steps.{ServerStands}
+use Rattle.nr_drill_link.proofs.Granting.{receives_are}
 use Rattle.nr_world.specs.declared.world.World.{World}
 use Rattle.nr_world.specs.private.Stands.{drill_setting, WorldStands, Steps, MakesLine, MakesLines}
-use Rattle.nr_world.specs.private.Within.{IsClient, IsLineWithin, AreWithin, CanMake, CanMakeAll}
+use Rattle.nr_reduce.specs.Served.{CreditsInRange}
+use Rattle.nr_world.specs.private.Within.{IsClient, MayGrant, IsLineWithin, AreWithin, CanMake, CanMakeAll}
 use Rattle.nr_world.proofs.Others.{link_stays}
 use Rattle.nr_world.proofs.Progress.{round_more}
 use Rattle.nr_world.proofs.SameServer.{up_leaves, down_leaves, submit_leaves, forget_leaves, revoke_leaves, drop_leaves, raw_leaves, work_clock, moves_clock}
@@ -56,29 +58,37 @@ Names (lines.Tick more) c = ⊥
 Names (lines.Forget client number) c = client ≡ c
 Names (lines.Revoke client number) c = client ≡ c
 Names (lines.Drop client) c = client ≡ c
+Names (lines.Grant client credits) c = client ≡ c
 Names (lines.Raw client side bytes) c = client ≡ c
 Names lines.Drain c = ⊥
 
-names_client : (clients seconds client : ℕ) (line : Line) → Names line client → IsLineWithin clients seconds line → IsClient clients client
-names_client clients seconds client (lines.Cred c cred) e h = subst (IsClient clients) e h.0
-names_client clients seconds client (lines.Call c form prog vers proc args) e h = subst (IsClient clients) e h
-names_client clients seconds client (lines.Up c most) e h = subst (IsClient clients) e h
-names_client clients seconds client (lines.Down c most) e h = subst (IsClient clients) e h
-names_client clients seconds client (lines.Work c) e h = subst (IsClient clients) e h
-names_client clients seconds client (lines.Tick more) e h = absurd e
-names_client clients seconds client (lines.Forget c number) e h = subst (IsClient clients) e h
-names_client clients seconds client (lines.Revoke c number) e h = subst (IsClient clients) e h
-names_client clients seconds client (lines.Drop c) e h = subst (IsClient clients) e h
-names_client clients seconds client (lines.Raw c side bytes) e h = subst (IsClient clients) e h
-names_client clients seconds client lines.Drain e h = absurd e
+names_client : (opening : Opening) (seconds client : ℕ) (line : Line) → Names line client → IsLineWithin opening seconds line → IsClient opening.clients client
+names_client opening seconds client (lines.Cred c cred) e h = subst (IsClient opening.clients) e h.0
+names_client opening seconds client (lines.Call c form prog vers proc args) e h = subst (IsClient opening.clients) e h
+names_client opening seconds client (lines.Up c most) e h = subst (IsClient opening.clients) e h
+names_client opening seconds client (lines.Down c most) e h = subst (IsClient opening.clients) e h
+names_client opening seconds client (lines.Work c) e h = subst (IsClient opening.clients) e h
+names_client opening seconds client (lines.Tick more) e h = absurd e
+names_client opening seconds client (lines.Forget c number) e h = subst (IsClient opening.clients) e h
+names_client opening seconds client (lines.Revoke c number) e h = subst (IsClient opening.clients) e h
+names_client opening seconds client (lines.Drop c) e h = subst (IsClient opening.clients) e h
+names_client opening seconds client (lines.Grant c credits) e h = subst (IsClient opening.clients) e h.0
+names_client opening seconds client (lines.Raw c side bytes) e h = subst (IsClient opening.clients) e h
+names_client opening seconds client lines.Drain e h = absurd e
 
 pub client_of : (w : World) (line is : Line) (client : ℕ) → line ≡ is → Names is client → CanMake line w → HasClient w client
 client_of w line is client e names (tree, opening, d, stands, within) =
-    has_client tree opening d w client stands (names_client opening.clients d.seconds client is names (subst (IsLineWithin opening.clients d.seconds) e within))
+    has_client tree opening d w client stands (names_client opening d.seconds client is names (subst (IsLineWithin opening d.seconds) e within))
+
+-- the server of the link has as many receives as the first line says
+pub may_grant : (w : World) (line : Line) (client credits : ℕ) → line ≡ lines.Grant client credits → CanMake line w → MayGrant w client credits
+may_grant w line client credits e (tree, opening, d, stands, within) v =
+    let h : IsLineWithin opening d.seconds (lines.Grant client credits) = subst (IsLineWithin opening d.seconds) e within in
+    subst (λ (most : ℕ). CreditsInRange most credits) (sym (receives_are (drill_setting tree opening) client d (slice_index_or w.links.items (client - 1) v) (stands.links client v h.0.0 h.0.1))) h.1
 
 pub clock_of : (w : World) (line : Line) (more : ℕ) → line ≡ lines.Tick more → CanMake line w → w.seconds + more ≤ number_max
 clock_of w line more e (tree, opening, d, stands, within) =
-    let bound : d.seconds + more ≤ number_max = subst (IsLineWithin opening.clients d.seconds) e within in
+    let bound : d.seconds + more ≤ number_max = subst (IsLineWithin opening d.seconds) e within in
     subst (λ (n : ℕ). n + more ≤ number_max) (sym stands.seconds) bound
 
 -- ===== what a line makes
@@ -159,6 +169,7 @@ line_clock s clients (lines.Tick more) d new h = ap (λ (x : Drill). x.seconds) 
 line_clock s clients (lines.Forget client number) d new h = ap (λ (x : Drill). x.seconds) h ∙ (forget_leaves s client number d).seconds ∙ sym (add-zero d.seconds)
 line_clock s clients (lines.Revoke client number) d new h = ap (λ (x : Drill). x.seconds) h ∙ (revoke_leaves s client number d).seconds ∙ sym (add-zero d.seconds)
 line_clock s clients (lines.Drop client) d new h = ap (λ (x : Drill). x.seconds) h ∙ (drop_leaves s client d).seconds ∙ sym (add-zero d.seconds)
+line_clock s clients (lines.Grant client credits) d new h = ap (λ (x : Drill). x.seconds) h ∙ sym (add-zero d.seconds)
 line_clock s clients (lines.Raw client side bytes) d new h = ap (λ (x : Drill). x.seconds) h ∙ (raw_leaves s client side bytes (is_dropped client d.marks) d).seconds ∙ sym (add-zero d.seconds)
 line_clock s clients lines.Drain d new h = drain_clock s (links_of clients) h.0 d new h.1 ∙ sym (add-zero d.seconds)
 
@@ -172,9 +183,9 @@ lines_on old now next all at e lt (can, goes) makes = (still can, further)
     still (tree, opening, d, stands, within) =
         let s : Setting = drill_setting tree opening in
         let (new, made, there) = makes tree opening d stands in
-        let all_within : AreWithin opening.clients d.seconds (get_or all at e ∷ drop (at + 1) all) = subst (AreWithin opening.clients d.seconds) left within in
+        let all_within : AreWithin opening d.seconds (get_or all at e ∷ drop (at + 1) all) = subst (AreWithin opening d.seconds) left within in
         let clock = line_clock s opening.clients (get_or all at e) d new made in
-        (tree, opening, new, there, subst (λ (n : ℕ). AreWithin opening.clients n (drop (at + 1) all)) (sym clock) all_within.1)
+        (tree, opening, new, there, subst (λ (n : ℕ). AreWithin opening n (drop (at + 1) all)) (sym clock) all_within.1)
 
     further : (tree : Tree) (opening : Opening) (d : Drill) → WorldStands tree opening d old →
         (mid : Drill) × WorldStands tree opening mid next × ((last : Drill) → MakeAll (drill_setting tree opening) opening.clients (drop (at + 1) all) mid last → MakeAll (drill_setting tree opening) opening.clients all d last)
@@ -192,7 +203,7 @@ lines_end old now all at le (can, goes) tree opening d h =
 pub line_within : (w : World) (all : List Line) (at : ℕ) (e : Line) → at < length all → CanMakeAll (drop at all) w → CanMake (get_or all at e) w
 line_within w all at e lt (tree, opening, d, stands, within) =
     let left : drop at all ≡ get_or all at e ∷ drop (at + 1) all = rw (add-one) (drop-cons all at e lt) in
-    let all_within : AreWithin opening.clients d.seconds (get_or all at e ∷ drop (at + 1) all) = subst (AreWithin opening.clients d.seconds) left within in
+    let all_within : AreWithin opening d.seconds (get_or all at e ∷ drop (at + 1) all) = subst (AreWithin opening d.seconds) left within in
     (tree, opening, d, stands, all_within.0)
 
 -- ===== drains

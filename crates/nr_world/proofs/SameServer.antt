@@ -9,6 +9,7 @@ use Rattle.nr_reduce.specs.declared.call.Form.{Form}
 use Rattle.nr_reduce.specs.declared.mark.Entry.{Entry}
 use Rattle.nr_reduce.specs.declared.mark.Mark.{Mark}
 use Rattle.nr_reduce.specs.declared.mark.Mark.TheVariants as marks
+use Rattle.nr_reduce.specs.declared.mark.Told.TheVariants.{Granted}
 use Rattle.nr_reduce.specs.PlainJournal.{PlainServer, entries_added, journal}
 use Rattle.nr_reduce.specs.History.{CompletedCall}
 use Rattle.nr_reduce.specs.ServerState.{ReadyCall}
@@ -16,7 +17,7 @@ use Rattle.nr_reduce.specs.Run.{server}
 use Rattle.nr_reduce.specs.Asked.{revoked_bytes}
 use Rattle.nr_reduce.specs.SubmitAnswer.{submit_answer_after}
 use Rattle.nr_reduce.specs.OutcomesDue.{outcomes_due}
-use Rattle.nr_drill.specs.Drill.{Setting, Drill, Pipes, plain_of, now, unwritten, after_output, after_all_output, settled, pipes_of, with_mark, with_pipes, empty_pipes, appended, after_submit, after_feeding, after_feeding_up, after_up, after_feeding_down, after_handing, after_done, after_dones, after_outcomes, after_down, waiting_call, after_answer, after_execution, after_work, after_calls, answer_of_line, open_xid, after_giving_up, after_forget, after_taking_back, after_revoke, after_drop, after_raw, after_all_up, after_all_work, after_all_down, after_moves, after_opening, after_openings}
+use Rattle.nr_drill.specs.Drill.{Setting, Drill, Pipes, plain_of, now, unwritten, after_output, after_all_output, settled, pipes_of, with_mark, with_pipes, empty_pipes, appended, after_submit, after_feeding, after_feeding_up, after_up, after_feeding_down, after_handing, after_done, after_dones, after_outcomes, after_down, waiting_call, after_answer, after_execution, after_work, after_calls, answer_of_line, open_xid, after_giving_up, after_forget, after_taking_back, after_revoke, after_drop, after_grant, after_raw, after_all_up, after_all_work, after_all_down, after_moves, after_opening, after_openings}
 
 -- ===== the journal
 
@@ -115,6 +116,9 @@ revoke_leaves s link number d = taking_back_leaves s link (open_xid s link d.mar
 
 pub drop_leaves : (s : Setting) (link : ℕ) (d : Drill) → Leaves s d (after_drop link d)
 drop_leaves s link d = leaves_pipes s link empty_pipes d (with_mark (marks.Drop link) d) (leaves_mark s (marks.Drop link) d refl)
+
+pub grant_leaves : (s : Setting) (link credits : ℕ) (d : Drill) → Leaves s d (after_grant link credits d)
+grant_leaves s link credits d = leaves_mark s (marks.Told link (Granted credits)) d refl
 
 pub raw_leaves : (s : Setting) (link : ℕ) (side : Side) (bytes : List ℕ) (dropped : Bool) (d : Drill) → Leaves s d (after_raw link side bytes dropped d)
 raw_leaves s link side bytes true d = leaves_all s d

@@ -7,7 +7,7 @@ use Rattle.nr_texts.specs.declared.opening.Opening.{Opening}
 use Rattle.nr_script.specs.declared.script.Line.{Line}
 use Rattle.nr_script.specs.declared.script.Line.TheVariants as lines
 use Rattle.nr_texts.specs.Limits.{number_max, clients_max}
-use Rattle.nr_script.specs.Script.{ScriptLines, IsScript, FollowOn, HasWritableCred, is_client, is_call_line, may_follow, seconds_in, seconds_after}
+use Rattle.nr_script.specs.Script.{ScriptLines, IsScript, FollowOn, HasWritableCred, is_client, is_call_line, is_granted, may_follow, seconds_in, seconds_after}
 use Rattle.nr_drill.specs.declared.report.Report.{Report}
 use Rattle.nr_drill.specs.Drill.{start, links_of}
 use Rattle.nr_drill.specs.DrillSetup.{drill_setup, server_of, GivesReport}
@@ -26,7 +26,7 @@ client_is opening client e =
     let both = both_true (leb 1 client) (leb client opening.clients) e in
     (leb-true 1 client both.0, leb-true client opening.clients both.1)
 
-within : (opening : Opening) (before : List Line) (line : Line) → may_follow opening before line ≡ true → HasWritableCred line → IsLineWithin opening.clients (seconds_after before) line
+within : (opening : Opening) (before : List Line) (line : Line) → may_follow opening before line ≡ true → HasWritableCred line → IsLineWithin opening (seconds_after before) line
 within opening before (lines.Cred client cred) e w = (client_is opening client e, w)
 within opening before (lines.Call client form prog vers proc args) e w = client_is opening client e
 within opening before (lines.Up client most) e w = client_is opening client e
@@ -36,6 +36,10 @@ within opening before (lines.Tick more) e w = leb-true (seconds_after before + m
 within opening before (lines.Forget client number) e w = client_is opening client (both_true (is_client opening client) (is_call_line client number before) e).0
 within opening before (lines.Revoke client number) e w = client_is opening client (both_true (is_client opening client) (is_call_line client number before) e).0
 within opening before (lines.Drop client) e w = client_is opening client e
+within opening before (lines.Grant client credits) e w =
+    let both = both_true (is_client opening client) (is_granted opening credits) e in
+    let credits_fit = both_true (leb 1 credits) (leb credits opening.credits) both.1 in
+    (client_is opening client both.0, (leb-true 1 credits credits_fit.0, leb-true credits opening.credits credits_fit.1))
 within opening before (lines.Raw client side bytes) e w = client_is opening client e
 within opening before lines.Drain e w = tt
 
@@ -43,10 +47,10 @@ one_more : (before : List Line) (line : Line) → seconds_after (before ++ line 
 unfolding seconds_after
 one_more before line = sum_by-append seconds_in before (line ∷ []) ∙ ap (λ (n : ℕ). seconds_after before + n) (omega arith)
 
-all_within : (opening : Opening) (before all : List Line) → FollowOn opening before all → AllByRecursion HasWritableCred all → AreWithin opening.clients (seconds_after before) all
+all_within : (opening : Opening) (before all : List Line) → FollowOn opening before all → AllByRecursion HasWritableCred all → AreWithin opening (seconds_after before) all
 all_within opening before [] h w = tt
 all_within opening before (line ∷ all) h w =
-    (within opening before line h.0 w.0, subst (λ (n : ℕ). AreWithin opening.clients n all) (one_more before line) (all_within opening (before ++ line ∷ []) all h.1 w.1))
+    (within opening before line h.0 w.0, subst (λ (n : ℕ). AreWithin opening n all) (one_more before line) (all_within opening (before ++ line ∷ []) all h.1 w.1))
 
 none_before : seconds_after [] ≡ 0
 unfolding seconds_after
@@ -63,7 +67,7 @@ lines_fit script w is (tree, sane, stands) = (
   script.opening,
   opened_drill (server_of (drill_setup tree script.opening)) script.opening,
   stands,
-  subst (λ (n : ℕ). AreWithin script.opening.clients n script.lines) (none_before ∙ sym (opened_clock tree script.opening)) (all_within script.opening [] script.lines is.follow_on is.creds),
+  subst (λ (n : ℕ). AreWithin script.opening n script.lines) (none_before ∙ sym (opened_clock tree script.opening)) (all_within script.opening [] script.lines is.follow_on is.creds),
 )
 
 pub runs_script : (script : ScriptLines) (w n : World) (report : Report) → IsScript script → HasOpenLinks script.opening w → MakesLines script.lines w n → ReportsWorld n report → GivesReport script report

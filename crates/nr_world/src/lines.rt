@@ -65,6 +65,7 @@ impl World {
             Line::Forget { client, number } => self.forget(*client as usize, *number),
             Line::Revoke { client, number } => self.revoke(*client as usize, *number),
             Line::Drop { client } => self.drop_link(*client as usize),
+            Line::Grant { client, credits } => self.grant(*client as usize, *credits),
             Line::Raw {
                 client,
                 side,

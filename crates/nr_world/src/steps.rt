@@ -8,10 +8,10 @@ ghost use Rattle.nr_rpc.specs.declared.cred.Cred.TheVariants as creds;
 ghost use Rattle.nr_tree.specs.Tree.{Tree};
 ghost use Rattle.nr_texts.specs.declared.opening.Opening.{Opening};
 ghost use Rattle.nr_reduce.specs.History.{is_dropped};
-ghost use Rattle.nr_drill.specs.Drill.{Drill, links_of, after_submit, after_up, after_down, after_work, after_forget, after_revoke, after_drop, after_raw, after_moves, after_round};
+ghost use Rattle.nr_drill.specs.Drill.{Drill, links_of, after_submit, after_up, after_down, after_work, after_forget, after_revoke, after_drop, after_grant, after_raw, after_moves, after_round};
 ghost use Rattle.nr_drill.specs.Follows.{is_still as is_still_in};
 ghost use Rattle.nr_world.specs.private.Stands.{Steps, WorldStands, drill_setting};
-ghost use Rattle.nr_world.specs.private.Within.{IsClient};
+ghost use Rattle.nr_world.specs.private.Within.{IsClient, MayGrant};
 
 use crate::world::World;
 use nr_drill_link::{copy_cred, copy_form};
@@ -114,6 +114,14 @@ impl World {
         ensures { OnOk result (Steps (λ s d. after_drop client d) self.old self.new) }
     {
         self.links[client - 1].drop_link(&mut self.marks)
+    }
+
+    pub(crate) fn grant(&mut self, client: usize, credits: u32) -> Result<(), Memory>
+        requires client { IsClient (length self.old.links.items) client }
+        requires credits { MayGrant self.old client credits }
+        ensures { OnOk result (Steps (λ s d. after_grant client credits d) self.old self.new) }
+    {
+        self.links[client - 1].grant(&mut self.marks, credits)
     }
 
     pub(crate) fn raw(&mut self, client: usize, side: Side, bytes: &[u8]) -> Result<(), Memory>

@@ -101,6 +101,7 @@ Noted (marks.Revoke l xid bytes) old new = Ended l xid (states.Revoked bytes) ol
 Noted (marks.Wrote l side bytes) old new = Same old new
 Noted (marks.Fed l side bytes) old new = Same old new
 Noted (marks.Drop l) old new = Same old new
+Noted (marks.Told l what) old new = Same old new
 
 -- ===== what a draft stands for
 

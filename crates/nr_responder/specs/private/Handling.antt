@@ -15,7 +15,7 @@ use Rattle.nr_endpoint.specs.LinkState.{LinkSide}
 use Rattle.nr_endpoint.specs.Calls.{after_call}
 use Rattle.nr_endpoint.specs.Calls.Call.{NextEvent, Stop, Send, OutOfMemory}
 use Rattle.nr_reduce.specs.Holds.{chunk_error, version_error}
-use Rattle.nr_reduce.specs.ServerState.{PendingCall, PendingRead, ServerState, is_pending, next_stag}
+use Rattle.nr_reduce.specs.ServerState.{PendingCall, PendingRead, ServerState, credit_word, is_pending, next_stag}
 use Rattle.nr_reduce.specs.ServerReads.{chunks_of, is_read}
 use Rattle.nr_reduce.specs.ServerMessages.{by_payload, verdict, call_xid}
 use Rattle.nr_reduce.specs.ServerMessages.CallVerdict.{Refuses as RefusedFor}
@@ -52,7 +52,7 @@ OrOut v l after = (after ≡ on_link v l) ⊎ (after ≡ out v)
 -- the server of a run whose calls and reads a responder keeps: nothing is read for a Send that comes now
 pub record IsServerOf (k : ServerState) (v : ResponderSide) : Type 0 where
   pub calls : k.calls ≡ v.calls
-  pub credits : k.credit ≡ v.credits
+  pub credits : credit_word k ≡ v.credits.word
   pub reads : k.reads ≡ v.fetching.reads
   pub new_read : is_read k.reads (k.received.sends + 1) ≡ true
   pub ready : v.ready ≡ map (λ r. r.xid) k.ready
@@ -112,9 +112,9 @@ pub data MessageTakes (k : ServerState) (message : List ℕ) : Type 0 where
 pub data Makes (before : ResponderSide) (number : ℕ) (message : List ℕ) (after : ResponderSide) : Type 0 where
   Ends : (reason : ℕ) → 5 ≤ reason → OfServers (λ k. verdict k message ≡ EndsLink reason) before → OrOut before (after_call before.link (Stop reason)) after → Makes before number message after
   RefusesVersion : OfServers (λ k. verdict k message ≡ OtherVersion) before →
-      OrOut before (after_call before.link (Send (version_error (word_at 0 message) (word_at 4 message) before.credits))) after → Makes before number message after
+      OrOut before (after_call before.link (Send (version_error (word_at 0 message) (word_at 4 message) before.credits.word))) after → Makes before number message after
   RefusesChunks : OfServers (λ k. verdict k message ≡ BadChunks) before →
-      OrOut before (after_call before.link (Send (chunk_error (word_at 0 message) before.credits))) after → Makes before number message after
+      OrOut before (after_call before.link (Send (chunk_error (word_at 0 message) before.credits.word))) after → Makes before number message after
   Calls : (lists : ChunkLists) (stream_at : ℕ) → OfServers (λ k. IsCall k message lists stream_at) before → Begins before after number message lists stream_at → Makes before number message after
   Fetches : (xid : ℕ) (lists : ChunkLists) (inline : Option (List ℕ)) → OfServers (λ k. IsReadCall k message xid lists inline) before → before.link.state.memory.next + length (chunks_of lists) ≤ numbers_end → read_total lists.read ≤ PAYLOAD_MAX → length lists.read ≤ READ_SEGMENTS_MAX → chunks_of lists ≢ [] →
       after ≡ reading_call before (record { number = number; xid = xid; lists = lists; inline = inline }) → Makes before number message after
@@ -145,6 +145,7 @@ pub data Handled (k : ServerState) (message : List ℕ) (before after : Responde
 
 -- what was made of what the link delivered
 pub record IsHandled (k : ServerState) (before after : ResponderSide) : Type 0 where
+  pub credits : credit_word k ≡ before.credits.word
   pub none : before.link.state.receive_queue.deliveries ≡ [] → after ≡ before
   pub some : (number : ℕ) (invalidated : Option ℕ) (m : List ℕ) → before.link.state.receive_queue.deliveries ≡ MessageReceived number invalidated m ∷ [] → number ≡ k.received.sends + 1 → Handled k m before after
   pub read : before.link.state.receive_queue.deliveries ≡ ReadDone ∷ [] → (r : PendingRead) (rest : List PendingRead) → before.fetching.reads ≡ r ∷ rest → ReadHandled (on_link before (after_call before.link NextEvent)) r rest after

@@ -105,7 +105,7 @@ pub data ReadHandled (v : ResponderSide) (r : PendingRead) (rest : List PendingR
   Readies : (m : MakesReady v r rest) → after ≡ reading_on v v.link.state v.calls rest (still_open r rest) (m.call.xid ∷ []) (Some m.payload ∷ []) → ReadHandled v r rest after
   Stops : (reason : ℕ) → 5 ≤ reason → EndsLink v r rest reason → (fetching : Fetching) → fetching.sinks ≡ v.fetching.sinks → after ≡ ended_as v (after_call v.link (Stop reason)) fetching → ReadHandled v r rest after
   Refused : (c : RefusesCall v r rest) →
-      after ≡ reading_on v (with_sent v.link.state (chunk_error c.call.xid v.credits)) (calls_without c.call.number v.calls) (reads_without c.call.number (still_open r rest) rest) (still_open r rest) [] [] →
+      after ≡ reading_on v (with_sent v.link.state (chunk_error c.call.xid v.credits.word)) (calls_without c.call.number v.calls) (reads_without c.call.number (still_open r rest) rest) (still_open r rest) [] [] →
       ReadHandled v r rest after
 
 -- the server has output of its own for the read: Read Requests, a Terminate, or an error message

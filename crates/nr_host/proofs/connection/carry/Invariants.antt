@@ -17,9 +17,9 @@ invariant-loop-read g l =
     × (g.I.Source.faults l.source ≡ g.I.Source.faults l.initial.source)
     × (g.O.Sink.faults l.sink ≡ g.O.Sink.faults l.initial.sink)
     × (l.failed ≡ false)
-    × ((credits units : ℕ) → CarriesTo credits units (outside (g.I.Source.left l.initial.source) (g.I.Source.given l.initial.source) (sink_state (g.O.Sink.taken l.initial.sink) (g.O.Sink.faults l.initial.sink) false) (g.C.Clock.gave l.initial.clock) (pass_view l.initial.pass))
+    × ((credits low units : ℕ) → CarriesTo credits low units (outside (g.I.Source.left l.initial.source) (g.I.Source.given l.initial.source) (sink_state (g.O.Sink.taken l.initial.sink) (g.O.Sink.faults l.initial.sink) false) (g.C.Clock.gave l.initial.clock) (pass_view l.initial.pass))
     (outside (g.I.Source.left l.initial.source) (g.I.Source.given l.initial.source) (sink_state (g.O.Sink.taken l.initial.sink) (g.O.Sink.faults l.initial.sink) false) (g.C.Clock.gave l.initial.clock) (pass_view l.initial.pass)) l.initial.responder.side 0
-    → CarriesTo credits units (outside (g.I.Source.left l.initial.source) (g.I.Source.given l.initial.source) (sink_state (g.O.Sink.taken l.initial.sink) (g.O.Sink.faults l.initial.sink) false) (g.C.Clock.gave l.initial.clock) (pass_view l.initial.pass))
+    → CarriesTo credits low units (outside (g.I.Source.left l.initial.source) (g.I.Source.given l.initial.source) (sink_state (g.O.Sink.taken l.initial.sink) (g.O.Sink.faults l.initial.sink) false) (g.C.Clock.gave l.initial.clock) (pass_view l.initial.pass))
     (outside (g.I.Source.left l.source) (g.I.Source.given l.source) (sink_state (g.O.Sink.taken l.sink) (g.O.Sink.faults l.sink) false) (g.C.Clock.gave l.clock) (pass_view l.pass)) l.responder.side l.read)
 
 abbrev pub decreases-loop-read : goal.decreases-loop-read

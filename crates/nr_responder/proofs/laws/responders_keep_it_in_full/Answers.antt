@@ -1,4 +1,4 @@
-use Rattle.nr_responder.proofs.OwnLaw.{full_begins, others_keep_full, piece_keeps_full, execute_keeps_full, queue_is_all_due, all_may_be_written, drain_keeps_full}
+use Rattle.nr_responder.proofs.OwnLaw.{full_begins, others_keep_full, piece_keeps_full, execute_keeps_full, told_keeps_full, queue_is_all_due, all_may_be_written, drain_keeps_full}
 use Rattle.nr_responder.proofs.laws.responders_keep_it_in_full.Goals as goal
 
 pub returns-clause-begins : goal.returns-clause-begins
@@ -12,6 +12,9 @@ returns-clause-piece c = piece_keeps_full
 
 pub returns-clause-execute : goal.returns-clause-execute
 returns-clause-execute c = execute_keeps_full
+
+pub returns-clause-told : goal.returns-clause-told
+returns-clause-told c = told_keeps_full
 
 pub returns-clause-queue : goal.returns-clause-queue
 returns-clause-queue c = queue_is_all_due

@@ -17,7 +17,7 @@ returns-clause-regions c =
     subst (λ (v : ResponderState). bytes_held v.side.link.state.memory ≤ PAYLOAD_MAX * (length v.side.calls + open_reads_max)) c.self.view_is (regions_most (state_of c.self.inside.end) c.self.invariant.1.1.0.sinks)
 
 pub returns-clause-bound : goal.returns-clause-bound
-returns-clause-bound c = subst (λ (v : ResponderState). c.held.result ≤ held_unit * (v.side.credits + 4)) c.self.view_is c.held.ensures.bound
+returns-clause-bound c = subst (λ (v : ResponderState). c.held.result ≤ held_unit * (v.side.credits.receives + 4)) c.self.view_is c.held.ensures.bound
 
 pub returns-clause-lists : goal.returns-clause-lists
 returns-clause-lists c = subst (λ (v : ResponderState). ListsFit v.side) c.self.view_is c.held.ensures.lists

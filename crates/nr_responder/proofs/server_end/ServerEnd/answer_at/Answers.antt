@@ -6,7 +6,8 @@ use Rattle.nr_endpoint.specs.Offering.{answer_calls, writes_output}
 use Rattle.nr_responder.specs.declared.call.Pending.{Pending}
 use Rattle.nr_responder.specs.Answering.{IsPayload, answer_to, message_for}
 use Rattle.nr_responder.specs.Views.{call_view, read_view, sink_view}
-use Rattle.nr_responder.specs.Sound.{InBuffer, payloads_of, xids_of}
+use Rattle.nr_responder.specs.ResponderState.{present_word}
+use Rattle.nr_responder.specs.Sound.{InBuffer, payloads_of, state_of, xids_of}
 use Rattle.nr_responder.proofs.Answered.{answer_link, answered_fed, get_view, same_item, payloads_dropped, xids_dropped}
 use Rattle.nr_responder.proofs.Removed.{map_removed}
 use Rattle.nr_responder.proofs.HeldSinks.{fetched_removed}
@@ -24,7 +25,7 @@ returns-clause-answers c =
     let paid = c.ready_payload-target.ensures.payload in
     let whole : InBuffer p = (kept_receive 0 c.args.self.now.endpoint.link.state c.args.self.now.calls.items c.args.self.now.ready.items c.args.self.now.used.items _ _ _ c.args.at p c.requires.at c.index-2.ensures c.requires.sound.0).1 in
     let own : p.xid ≡ c.args.xid = ap (λ (x : Pending). x.xid) c.index-2.ensures ∙ c.requires.own p in
-    let link = q.link ∙ ap (λ (x : ℕ). after_calls c.args.self.now.endpoint.link (answer_calls q.writes (message_for x c.args.self.now.credits (call_view p).lists (answer_to c.args.self.now.endpoint.link.state.agreed.down (call_view p) stream c.args.reply.now)))) own in
+    let link = q.link ∙ (λ i. after_calls c.args.self.now.endpoint.link (answer_calls q.writes (message_for (own i) (c.requires.word i) (call_view p).lists (answer_to c.args.self.now.endpoint.link.state.agreed.down (call_view p) stream c.args.reply.now)))) in
     let calls = ap (map call_view) c.remove-call.ensures.items ∙ map_removed call_view c.args.self.now.calls.items c.args.at in
     let ready : c.pop_front.new.self.items ≡ drop 1 c.args.self.now.ready.items = search rules in
     record {
@@ -38,7 +39,7 @@ returns-clause-answers c =
       conveyed = subst (λ (x : Pending). IsPayload (call_view x) paid.0 stream) (c.index.ensures ∙ sym (same_item c.args.self.now.calls.items c.args.at c.index.result.now p c.requires.at) ∙ sym c.index-2.ensures) paid.1.1;
       writes = q.writes;
       written = q.written;
-      short = message_short c.args.self.now.endpoint.link.state.agreed.down c.args.xid c.args.self.now.credits (call_view p) stream c.args.reply.now c.requires.limit whole.lists.within;
+      short = message_short c.args.self.now.endpoint.link.state.agreed.down c.args.xid (present_word (state_of c.args.self.now)) (call_view p) stream c.args.reply.now c.requires.limit whole.lists.within;
       few = (let len = ap (λ (bytes : List ℕ). length bytes) q.written in let most = writes_few (call_view p).lists c.args.self.now.endpoint.link.state.agreed.down (call_view p) stream c.args.reply.now refl whole.lists.within c.requires.short in omega (arith, len, most));
       state = λ i. record { link = link i; calls = calls i; ready = (ap xids_of ready ∙ xids_dropped c.args.self.now.ready.items) i; credits = c.args.self.now.credits; fetching = record { reads = map read_view c.args.self.now.reads.items; sinks = map sink_view c.args.self.now.sinks.items; payloads = (ap payloads_of ready ∙ payloads_dropped c.args.self.now.ready.items) i } };
       sent_is = q.sent_is;

@@ -43,17 +43,17 @@ returns-clause-stands c = λ opened link same.
       link = c.in_ok-endpoint.endpoint.link;
       calls = map call_view (sym c.in_ok-calls.ensures.items i);
       ready = xids_of (sym c.in_ok-ready.ensures.items i);
-      credits = c.args.credits;
+      credits = sym c.opened.ensures i;
       fetching = fetching_of (sym c.new.ensures.items i) (sym c.new-2.ensures.items i) (sym c.in_ok-ready.ensures.items i);
     })
-    (opened_stands_lem opened link c.args.credits c.args.terms c.in_ok-endpoint.endpoint.link same c.in_ok-endpoint.ensures.state)
+    (opened_stands_lem opened link c.args.credits c.args.low c.args.terms c.in_ok-endpoint.endpoint.link same c.in_ok-endpoint.ensures.state)
 
 pub returns-clause-state : goal.returns-clause-state
 returns-clause-state c = λ i. record {
   link = c.in_ok-endpoint.ensures.state i;
   calls = map call_view (c.in_ok-calls.ensures.items i);
   ready = xids_of (c.in_ok-ready.ensures.items i);
-  credits = c.args.credits;
+  credits = c.opened.ensures i;
   fetching = fetching_of (c.new.ensures.items i) (c.new-2.ensures.items i) (c.in_ok-ready.ensures.items i);
 }
 
@@ -64,7 +64,7 @@ pub returns-clause-fed : goal.returns-clause-fed
 returns-clause-fed c = open_fed c.in_ok-endpoint.endpoint.link Responder c.args.credits 1 c.args.terms c.in_ok-endpoint.ensures.state
 
 pub returns-clause-bounded : goal.returns-clause-bounded
-returns-clause-bounded c = record { sinks = opened_fits _ c.args.credits c.args.terms (returns-clause-state c); output = opened_out _ c.args.credits c.args.terms (returns-clause-state c) }
+returns-clause-bounded c = record { sinks = opened_fits _ c.args.credits c.args.low c.args.terms (returns-clause-state c); output = opened_out _ c.args.credits c.args.low c.args.terms (returns-clause-state c) }
 
 pub returns-clause-windows : goal.returns-clause-windows
 returns-clause-windows c = λ live. empty_windows c.in_ok-calls.calls.items c.new.result.items c.in_ok-calls.ensures.items

@@ -32,7 +32,7 @@ pub returns-in-Ok-clause-handled : goal.returns-in-Ok-clause-handled
 returns-in-Ok-clause-handled c =
     let d : Pending = c.index.result.now in
     let v : ResponderSide = state_of c.args.self.now in
-    let message : List ℕ = chunk_error d.xid c.args.self.now.credits in
+    let message : List ℕ = chunk_error d.xid c.args.self.now.credits.word in
     let same : get_or c.args.self.now.calls.items c.args.at d ≡ d = sym c.index.ensures in
     let later : List PendingCall = map call_view c.remove-call.new.self.items in
     let reads : List PendingRead = map read_view c.drop_waiting.new.reads.items in
@@ -55,7 +55,7 @@ returns-in-Ok-clause-handled c =
 pub returns-in-Ok-clause-sound : goal.returns-in-Ok-clause-sound
 returns-in-Ok-clause-sound c =
     let d : Pending = c.index.result.now in
-    let message : List ℕ = chunk_error d.xid c.args.self.now.credits in
+    let message : List ℕ = chunk_error d.xid c.args.self.now.credits.word in
     let reads : List PendingRead = map read_view c.drop_waiting.new.reads.items in
     let sinks : List SinkRegion = map sink_view c.args.self.now.sinks.items in
     let opened = c.in-Ok.ensures.ok ∙ (λ i. with_opened_after message (opening c.args.kept (map read_view (c.as_slice.ensures.value i))) c.args.self.now.endpoint.link) in

@@ -1,6 +1,6 @@
-use Rattle.std.proofs.Common.{ℕ, ◌+◌, refl, ap}
+use Rattle.std.proofs.Common.{refl}
 use Rattle.nr_shared.proofs.Opened.{opens}
 use Rattle.nr_shared.proofs.line.Line.handed_in.Goals as goal
 
 pub returns : goal.returns
-returns g c = λ history o. opens g.O.Sink.taken g.O.Sink.faults _ history o (ap (λ (n : ℕ). n + 1) c.marks-entries.ensures) refl refl refl c.facts.ensures.fresh c.facts.ensures.xid
+returns g c = λ history o. opens g.O.Sink.taken g.O.Sink.faults _ history o refl refl refl refl c.facts.ensures.fresh c.facts.ensures.xid

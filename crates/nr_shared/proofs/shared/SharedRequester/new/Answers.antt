@@ -1,34 +1,36 @@
-use Rattle.std.proofs.Common.{◌≡◌, ℕ, List, length, refl, sym, ap, subst, ◌∙◌}
+use Rattle.std.proofs.Common.{◌≡◌, ℕ, List, [], length, refl, sym, ap, subst, ◌∙◌}
 use Rattle.nr_turnstile.specs.Rule.{places}
 use Rattle.nr_turnstile.specs.Passes.{home_of, mine_of, seen_by}
 use Rattle.nr_shared.specs.declared.entry.Entry.{Entry}
 use Rattle.nr_shared.specs.Callers.{KeepsLaw}
 use Rattle.nr_shared.specs.Histories.{bytes_fed, stop_of}
+use Rattle.nr_shared.specs.Opening.{GivesBack}
+use Rattle.nr_shared.proofs.Closed.{unshared}
 use Rattle.nr_shared.proofs.Ends.{law_of}
 use Rattle.nr_shared.proofs.Opened.{earlier_opened, first_feeder, first_feeds, first_lies, opened_fed, opened_stop}
 use Rattle.nr_shared.proofs.Resting.{new_caller}
 use Rattle.nr_shared.proofs.shared.SharedRequester.new.Goals as goal
 
-pub new-requires-clause-stands : goal.new-requires-clause-stands
-new-requires-clause-stands g c = c.handed_in.ensures g.H.OpeningHistory.history c.requires
+pub new_or_value-requires-clause-stands : goal.new_or_value-requires-clause-stands
+new_or_value-requires-clause-stands g c = c.handed_in-line.ensures g.H.OpeningHistory.history c.requires
 
-pub new-requires-clause-earlier : goal.new-requires-clause-earlier
-new-requires-clause-earlier g c = earlier_opened g.O.Sink.taken g.O.Sink.faults c.args.requester c.args.sink g.H.OpeningHistory.history c.requires
+pub new_or_value-requires-clause-earlier : goal.new_or_value-requires-clause-earlier
+new_or_value-requires-clause-earlier g c = earlier_opened g.O.Sink.taken g.O.Sink.faults c.args.requester c.args.sink g.H.OpeningHistory.history c.requires
 
 pub place-requires-clause-feeds : goal.place-requires-clause-feeds
 place-requires-clause-feeds g c =
-    let o = c.requires in let m = c.in_ok-main.ensures in let u = c.split-caller.ensures.unchanged in let history = g.H.OpeningHistory.history in
+    let o = c.requires in let m = c.in-Ok-new_or_value.ensures.ok in let u = c.split-caller.ensures.unchanged in let history = g.H.OpeningHistory.history in
     let p = c.split-caller.new.pass in let t = g.O.Sink.taken in let f = g.O.Sink.faults in let r = c.args.requester in let k = c.args.sink in
     let seen : seen_by p ≡ history = ap (λ x. x.0.seen) u.1 ∙ ap (λ v. v.seen) m.1 in
     let mine : mine_of p ≡ places (length history) = ap (λ x. x.0.mine) u.1 ∙ ap (λ v. v.mine) m.1 in
     first_feeder g.I.Source.left g.I.Source.given g.I.Source.faults _ _ (ap home_of (sym c.of-first.ensures)) (ap (λ x. x.1) u.1 ∙ m.0.1, ap (λ x. x.0.stage) u.1 ∙ m.0.2)
     (first_lies t f history p seen mine) (first_feeds t f r k history p o seen mine) (sym c.of-handed.ensures)
-    (ap (λ (l : List Entry). bytes_fed l) seen ∙ opened_fed t f r k history o) (ap (λ (l : List Entry). stop_of l) seen ∙ opened_stop t f r k history o) refl (sym c.in_ok-buf.buf.ok.0 ∙ c.in_ok-buf.ensures.len)
+    (ap (λ (l : List Entry). bytes_fed l) seen ∙ opened_fed t f r k history o) (ap (λ (l : List Entry). stop_of l) seen ∙ opened_stop t f r k history o) refl (sym c.in-Ok.buf.ok.0 ∙ c.in-Ok.ensures.len)
 
-pub returns-clause-rests : goal.returns-clause-rests
-returns-clause-rests g c =
-    let o = c.requires in let m = c.in_ok-main.ensures in let u = c.split-caller.ensures.unchanged in let history = g.H.OpeningHistory.history in
-    let t = c.in_ok-source.ensures in let n = c.split-caller.ensures.new in
+pub returns-in-Ok-place-clause-rests : goal.returns-in-Ok-place-clause-rests
+returns-in-Ok-place-clause-rests g c =
+    let o = c.requires in let m = c.in-Ok-new_or_value.ensures.ok in let u = c.split-caller.ensures.unchanged in let history = g.H.OpeningHistory.history in
+    let t = c.in-Ok-place.ensures.ok in let n = c.split-caller.ensures.new in
     let seen : seen_by c.split-caller.result ≡ history = ap (λ w. w.seen) n.1 ∙ ap (λ v. v.seen) m.1 in
     record {
       main = n.0;
@@ -37,8 +39,39 @@ returns-clause-rests g c =
       has_seen = t.1;
       home = ap home_of c.of-first.ensures ∙ (u.0.0 ∙ m.0.0);
       caller = new_caller c.split-caller.result (ap (λ w. w.mine) n.1);
-      law = subst KeepsLaw (sym seen) (law_of g.O.Sink.taken g.O.Sink.faults c.handed_in.result history (c.handed_in.ensures history c.requires));
+      law = subst KeepsLaw (sym seen) (law_of g.O.Sink.taken g.O.Sink.faults c.handed_in-line.result history (c.handed_in-line.ensures history c.requires));
     }
 
-pub returns-clause-source : goal.returns-clause-source
-returns-clause-source g c = (record { source = c.of-handed.result; pass = c.of-first.result }, (c.in_ok-source.ensures.1, c.of-handed.ensures))
+pub returns-in-Ok-place-clause-source : goal.returns-in-Ok-place-clause-source
+returns-in-Ok-place-clause-source g c = (record { source = c.of-handed.result; pass = c.of-first.result }, (c.in-Ok-place.ensures.ok.1, c.of-handed.ensures))
+
+-- ---- Out of memory
+
+pub returns-in_default-clause-err : goal.returns-in_default-clause-err
+returns-in_default-clause-err g c =
+    let o = c.requires in let t = g.O.Sink.taken in let f = g.O.Sink.faults in let r = c.args.requester in let k = c.args.sink in let history = g.H.OpeningHistory.history in
+    unshared g.I.Source.left g.I.Source.given g.I.Source.faults t f c.handed_in-line.result history c.args.source (c.handed_in-line.ensures history o) (earlier_opened t f r k history o) (opened_fed t f r k history o) (opened_stop t f r k history o)
+
+pub returns-in-Err-clause-err : goal.returns-in-Err-clause-err
+returns-in-Err-clause-err g c =
+    let o = c.requires in let t = g.O.Sink.taken in let f = g.O.Sink.faults in let r = c.args.requester in let k = c.args.sink in let history = g.H.OpeningHistory.history in
+    subst (λ m. GivesBack g.I.Source.left g.I.Source.given g.I.Source.faults t f history [] c.args.source m.requester c.args.source m.sink) (sym c.in-Err.ensures.err)
+    (unshared g.I.Source.left g.I.Source.given g.I.Source.faults t f c.handed_in-line.result history c.args.source (c.handed_in-line.ensures history o) (earlier_opened t f r k history o) (opened_fed t f r k history o) (opened_stop t f r k history o))
+
+pub take_back-requires-clause-caller : goal.take_back-requires-clause-caller
+take_back-requires-clause-caller g c = new_caller c.split-caller.result (ap (λ w. w.mine) c.split-caller.ensures.new.1)
+
+pub take_back-requires-clause-feeds : goal.take_back-requires-clause-feeds
+take_back-requires-clause-feeds g c =
+    let m = c.in-Ok-new_or_value.ensures.ok in let u = c.split-caller.ensures.unchanged in
+    (record { source = c.of-handed.result; pass = c.of-first.result }, (c.in-Err-place.ensures.err, ap home_of c.of-first.ensures ∙ (u.0.0 ∙ m.0.0)))
+
+pub returns-clause-err : goal.returns-clause-err
+returns-clause-err g c =
+    let m = c.in-Ok-new_or_value.ensures.ok in let n = c.split-caller.ensures.new in let history = g.H.OpeningHistory.history in let r = c.take_back.result in let caller = c.split-caller.result in
+    let seen : seen_by caller ≡ history = ap (λ w. w.seen) n.1 ∙ ap (λ v. v.seen) m.1 in
+    let mine : mine_of caller ≡ [] = ap (λ w. w.mine) n.1 in
+    subst (λ (l : List Entry). GivesBack g.I.Source.left g.I.Source.given g.I.Source.faults g.O.Sink.taken g.O.Sink.faults l [] c.args.source r.0 r.1 r.2) seen
+    (subst (λ (ks : List ℕ). GivesBack g.I.Source.left g.I.Source.given g.I.Source.faults g.O.Sink.taken g.O.Sink.faults (seen_by caller) ks c.args.source r.0 r.1 r.2) mine
+    (subst (λ i. GivesBack g.I.Source.left g.I.Source.given g.I.Source.faults g.O.Sink.taken g.O.Sink.faults (seen_by caller) (mine_of caller) i r.0 r.1 r.2) c.of-handed.ensures
+    (c.take_back.ensures (record { source = c.of-handed.result; pass = c.of-first.result }) c.in-Err-place.ensures.err)))

@@ -2,11 +2,11 @@ use Rattle.std.proofs.Common.{ℕ, List, refl, subst}
 use Rattle.nr_reduce.specs.History.{is_dropped}
 use Rattle.nr_script.specs.declared.script.Line.{Line}
 use Rattle.nr_script.specs.declared.script.Line.TheVariants as lines
-use Rattle.nr_drill.specs.Drill.{Setting, Drill, cred_of, after_submit, after_up, after_down, after_work, after_forget, after_revoke, after_drop, after_raw}
+use Rattle.nr_drill.specs.Drill.{Setting, Drill, cred_of, after_submit, after_up, after_down, after_work, after_forget, after_revoke, after_drop, after_grant, after_raw}
 use Rattle.nr_world.specs.private.Stands.{Steps}
 use Rattle.nr_world.specs.private.Within.{CanMake}
 use Rattle.nr_world.proofs.Stands.{on_ok}
-use Rattle.nr_world.proofs.LineSteps.{client_of, line_is, step_makes, tick_makes}
+use Rattle.nr_world.proofs.LineSteps.{client_of, line_is, may_grant, step_makes, tick_makes}
 use Rattle.nr_world.proofs.world.World.line.Goals as goal
 
 pub up-requires : goal.up-requires
@@ -50,6 +50,16 @@ drop_link-requires c = (client_of c.args.self.now c.args.line.now (lines.Drop c.
 pub returns-in-Drop : goal.returns-in-Drop
 returns-in-Drop c = on_ok c.drop_link.result _ _ c.drop_link.ensures (λ steps. line_is c.args.self.now c.drop_link.new.self c.args.line.now (lines.Drop c.in-Drop.client) c.in-Drop.is
     (step_makes (lines.Drop c.in-Drop.client) (λ (s : Setting) (d : Drill). after_drop c.in-Drop.client d) c.args.self.now c.drop_link.new.self (λ s clients d. refl) steps))
+
+pub grant-requires-clause-client : goal.grant-requires-clause-client
+grant-requires-clause-client c = (client_of c.args.self.now c.args.line.now (lines.Grant c.in-Grant.client c.in-Grant.credits) c.in-Grant.client c.in-Grant.is refl c.requires).link
+
+pub grant-requires-clause-credits : goal.grant-requires-clause-credits
+grant-requires-clause-credits c = may_grant c.args.self.now c.args.line.now c.in-Grant.client c.in-Grant.credits c.in-Grant.is c.requires
+
+pub returns-in-Grant : goal.returns-in-Grant
+returns-in-Grant c = on_ok c.grant.result _ _ c.grant.ensures (λ steps. line_is c.args.self.now c.grant.new.self c.args.line.now (lines.Grant c.in-Grant.client c.in-Grant.credits) c.in-Grant.is
+    (step_makes (lines.Grant c.in-Grant.client c.in-Grant.credits) (λ (s : Setting) (d : Drill). after_grant c.in-Grant.client c.in-Grant.credits d) c.args.self.now c.grant.new.self (λ s clients d. refl) steps))
 
 pub raw-requires : goal.raw-requires
 raw-requires c = (client_of c.args.self.now c.args.line.now (lines.Raw c.in-Raw.client c.in-Raw.side c.in-Raw.bytes) c.in-Raw.client c.in-Raw.is refl c.requires).link

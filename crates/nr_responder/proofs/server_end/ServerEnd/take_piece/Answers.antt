@@ -22,7 +22,7 @@ use Rattle.nr_responder.proofs.SinkTotals.{held_view}
 use Rattle.nr_responder.specs.HeldBytes.{SinksFit}
 use Rattle.nr_responder.proofs.OutputSteps.{failed_out, step_out}
 use Rattle.nr_responder.proofs.StepBounds.{failed_fits, lives_on_lem, step_fits}
-use Rattle.nr_responder.proofs.server_end.ServerEnd.step.Goals as goal
+use Rattle.nr_responder.proofs.server_end.ServerEnd.take_piece.Goals as goal
 
 pub take_event-requires-clause-sound : goal.take_event-requires-clause-sound
 take_event-requires-clause-sound c =
@@ -46,7 +46,7 @@ returns-in-Ok-clause-some c = λ some.
 pub returns-in-Ok-clause-goes : goal.returns-in-Ok-clause-goes
 returns-in-Ok-clause-goes c =
     subst (λ (n : ℕ). Fed (state_of c.args.self.now) (take n c.args.piece.now) (state_of c.take_event.new.self)) (sym (c.taken_at.ensures ∙ (λ i. taken_at (c.end.ensures i) (length c.args.piece.now) (c.in-Ok.ensures.taken i))))
-    (step_done (state_of c.args.self.now) (state_of c.take_event.new.self) c.args.piece.now c.feed_one.new.self.link c.requires.live c.facts.ensures.partial (c.in-Ok.ensures.state (λ e. absurd cc)) (sym c.in-Ok.ensures.ended) c.take_event.ensures.taken)
+    (step_done (state_of c.args.self.now) (state_of c.take_event.new.self) c.args.piece.now c.feed_one.new.self.link c.requires.live c.facts.ensures.partial (c.in-Ok.ensures.state (λ e. absurd cc)) (sym c.in-Ok.ensures.ended) c.requires.word c.take_event.ensures.taken)
 
 pub returns-in-Ok-clause-within : goal.returns-in-Ok-clause-within
 returns-in-Ok-clause-within c =
@@ -96,7 +96,7 @@ returns-in-Err-clause-rest c = inr refl
 
 pub returns-in-Ok-clause-first : goal.returns-in-Ok-clause-first
 returns-in-Ok-clause-first c =
-    first_done (state_of c.args.self.now) (state_of c.take_event.new.self) c.args.piece.now c.feed_one.new.self.link c.requires.live c.facts.ensures.partial (c.in-Ok.ensures.state (λ e. absurd cc)) (sym c.in-Ok.ensures.ended) c.take_event.ensures.taken
+    first_done (state_of c.args.self.now) (state_of c.take_event.new.self) c.args.piece.now c.feed_one.new.self.link c.requires.live c.facts.ensures.partial (c.in-Ok.ensures.state (λ e. absurd cc)) (sym c.in-Ok.ensures.ended) c.requires.word c.take_event.ensures.taken
 
 pub returns-in-Err-clause-first : goal.returns-in-Err-clause-first
 returns-in-Err-clause-first c =
@@ -114,8 +114,8 @@ returns-in-Ok-clause-bounded c = λ opened link run stands fit.
     let held = held_view m.state.memory 0 c.args.self.now.sinks.items
     (fetched_step c.args.self.now.endpoint c.feed_one.new.self c.args.piece.now c.args.self.now.calls.items c.args.self.now.reads.items c.args.self.now.sinks.items (step_counts c.args.self.now.endpoint.link m c.args.piece.now step).next is c.feed_one.ensures.outside c.requires.sound.1).held in
     let on = fed_stands_lem opened link run v after _ (returns-in-Ok-clause-goes c) c.requires.live stands in
-    let sinks : SinksFit after = step_fits k.0 k.1.0 k.1.1.0 v after c.args.piece.now m k.1.1.1 c.requires.live (sym c.in-Ok.ensures.ended) is step held fit.sinks (lives_on_lem opened link _ after on) c.take_event.ensures.taken in
-    record { sinks = sinks; output = step_out k.0 k.1.0 k.1.1.0 v after c.args.piece.now m k.1.1.1 c.requires.live (sym c.in-Ok.ensures.ended) step (fit.sinks.each c.requires.live) fit.output sinks.each c.take_event.ensures.taken }
+    let sinks : SinksFit after = step_fits k.0 k.1.0 k.1.1.0 v after c.args.piece.now m k.1.1.1 c.requires.live (sym c.in-Ok.ensures.ended) is step held fit.sinks (lives_on_lem opened link _ after on) c.requires.word c.take_event.ensures.taken in
+    record { sinks = sinks; output = step_out k.0 k.1.0 k.1.1.0 v after c.args.piece.now m k.1.1.1 c.requires.live (sym c.in-Ok.ensures.ended) step (fit.sinks.each c.requires.live) fit.output sinks.each c.requires.word c.take_event.ensures.taken }
 
 pub returns-in-Err-clause-bounded : goal.returns-in-Err-clause-bounded
 returns-in-Err-clause-bounded c = λ opened link run stands fit.
