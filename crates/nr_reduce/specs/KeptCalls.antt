@@ -91,13 +91,26 @@ abbrev pub kept_in : List KeptCall → Result Header HeaderFault → Option Kept
 kept_in calls (Ok header) = kept_by calls header.xid
 kept_in calls (Err fault) = None
 
+-- the STag is one of those that the call was given
+abbrev pub kept_is_given : KeptCall → ℕ → Bool
+kept_is_given c stag = list_any (λ s. s == stag) c.given
+
 abbrev pub kept_names_another : Option KeptCall → ℕ → Bool
 kept_names_another None stag = false
-kept_names_another (Some c) stag = not (list_any (λ s. s == stag) c.given)
+kept_names_another (Some c) stag = not (kept_is_given c stag)
 
 abbrev pub kept_invalidates_another : List KeptCall → Option ℕ → List ℕ → Bool
 kept_invalidates_another calls None message = false
 kept_invalidates_another calls (Some stag) message = kept_names_another (kept_in calls (header_of message)) stag
+
+-- the STag that dies before the rest of the message is judged: the one that it names, if its call was given it
+abbrev pub own_if : Option KeptCall → ℕ → Option ℕ
+own_if None stag = None
+own_if (Some c) stag = if kept_is_given c stag then Some stag else None
+
+abbrev pub kept_named : List KeptCall → Option ℕ → List ℕ → Option ℕ
+kept_named calls None message = None
+kept_named calls (Some stag) message = own_if (kept_in calls (header_of message)) stag
 
 -- the verdict on a message that names an STag, or none
 unfoldable pub kept_message_verdict : List KeptCall → Bytes → Option ℕ → List ℕ → ReplyVerdict

@@ -2,7 +2,7 @@
 -- registered memory holds.
 use Rattle.std.specs.Prelude.{◌≡◌, ℕ, ◌+◌, ◌<◌, ◌⊎◌, ◌==◌, nat_lt, Bool, true, false, not, List, [], ◌∷◌, ◌++◌, length, map, Option, None, Some, IfSome, is_none}
 use Rattle.std.specs.List.{AllByRecursion, filter, find}
-use Rattle.nr_regions.specs.RegisteredMemory.{RegisteredMemory, initial_memory, live_region, after_register, after_release, bytes_in}
+use Rattle.nr_regions.specs.RegisteredMemory.{RegisteredMemory, initial_memory, held_region, NoneIsDead, after_register, after_release, bytes_in}
 use Rattle.nr_regions.specs.Access.{TaggedSegment}
 use Rattle.nr_regions.specs.Events.{after_event}
 use Rattle.nr_regions.specs.Events.MemoryEvent.{Arrive}
@@ -42,7 +42,7 @@ pub record KeptClient : Type 0 where
 
 -- the bytes under an STag
 abbrev pub bytes_under : RegisteredMemory → ℕ → List ℕ
-bytes_under m stag = bytes_in (live_region m stag)
+bytes_under m stag = bytes_in (held_region m stag)
 
 -- every region has an STag below this
 abbrev pub AreBelow : List Region → ℕ → Type 0
@@ -83,11 +83,12 @@ pub record CallsKeep (calls : List KeptCall) (next : ℕ) (k : ClientState) : Ty
   pub owned : (stag : ℕ) (r : Region) → region_at k.regions stag ≡ Some r → r.until ≡ None → IsOwned calls r.call stag
   pub opens : AllByRecursion (OpensFor k.regions) calls
 
--- the memory holds exactly the open regions, after `count` bytes were received; each has an STag that was given
+-- the memory holds exactly the open regions, after `count` bytes were received, and none is dead; each has an STag that was given
 pub record MemoryKeeps (m : RegisteredMemory) (k : ClientState) (count : ℕ) : Type 0 where
   pub next : m.next ≡ k.stag
   pub offered : AreOffered count k.regions
   pub holds : HoldsRegions k.regions k.accesses_received count m
+  pub none_dead : NoneIsDead m
   pub below : AreBelow k.regions k.stag
 
 -- the memory has under each STag of a call what the client's region holds
