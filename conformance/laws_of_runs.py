@@ -267,7 +267,7 @@ class Link:
                 self.note('touches: requests', stops)
 
     def invalidated(self, before: Value, f: Value) -> None:
-        """A Send with Invalidate ends the client, or what it names is dead after it, and the regions of other calls are as they were."""
+        """A Send with Invalidate ends the client and changes nothing else, or what it names is dead, and no region of another call changed."""
         ask = self.names.ask
         segment = self.segment('client', before, f)
         if ask('hello', f) or segment.n != 'Ok' or ask('named', segment.a[0]).n != 'Some':
@@ -275,7 +275,7 @@ class Link:
         stag = ask('named', segment.a[0]).a[0]
         xid = ask('xid', ask('completed', before['state'], segment.a[0]).a[0])
         if self.ends['client']['ended'].n == 'Some':
-            self.note('invalidated', True, ('ends',))
+            self.note('invalidated', self.ends['client']['state'] == before['state'], ('ends',))
             return
         old, new = before['state']['regions'], self.ends['client']['state']['regions']
         own = [r for r in old if r['stag'] == stag]
