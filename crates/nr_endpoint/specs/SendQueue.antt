@@ -4,7 +4,7 @@ use Rattle.std.specs.List.{filter}
 use Rattle.nr_wire.specs.declared.hello.Side.{Side}
 use Rattle.nr_wire.specs.declared.hello.Side.TheVariants.{Initiator, Responder}
 use Rattle.nr_link.specs.declared.end.End.{End}
-use Rattle.nr_link.specs.Output.{msn_word, terminate_message, send, send_by, write, read_response, read_request, hello_with}
+use Rattle.nr_link.specs.Output.{msn_word, terminate_message, send_by, write, read_response, read_request, hello_with}
 use Rattle.nr_link.specs.Ending.{final_output, rejection}
 
 -- The bytes of the hello and of the FPDUs that weren't written yet. For each Send and for each Read Response among the FPDUs, in
