@@ -20,7 +20,7 @@ use Rattle.nr_link.specs.Reasons.{REASON_SHORT, REASON_LONG}
 use Rattle.nr_link.specs.Frames.{Frame}
 use Rattle.nr_link.specs.Input.{InputState, input_of}
 use Rattle.nr_link.specs.ReceiveState.{ReceiveState, message_completed, stag_invalidated, ReadRequest, read_request_of}
-use Rattle.nr_link.specs.Ending.{tagged_access, final_output, frame_end}
+use Rattle.nr_link.specs.Ending.{tagged_access, final_output, frame_end_by}
 use Rattle.nr_link.specs.Output.{hello_with, refusing_hello}
 use Rattle.nr_link.specs.declared.agreement.SideTerms.{SideTerms}
 use Rattle.nr_endpoint.specs.SendQueue.{SendQueue, with_response, writable, written}
@@ -456,7 +456,7 @@ DeniesAlike m grants end = (access : Access) → denial m access ≡ grant_denia
 -- nr_link.
 abbrev pub GrantsEndAlike : Type 0
 GrantsEndAlike = (s : LinkState) (grants : List Grant) (frame : List ℕ) → s.ended ≡ None →
-    DeniesAlike s.memory grants (next_frame s frame).end → (with_frame s Fpdu frame).ended ≡ frame_end (readiness s) grants (next_frame s frame)
+    DeniesAlike s.memory grants (next_frame s frame).end → (with_frame s Fpdu frame).ended ≡ frame_end_by (readiness s) grants (next_frame s frame) (next_segment s frame)
 
 -- They do if memory and grants offer the same under every STag.
 abbrev pub OffersDenyAlike : Type 0
