@@ -491,7 +491,8 @@ class Link:
                 self.note('sends_convey', brings == want, self.kind(x) + matched)
         if self.matched and len(self.hellos) == 2:
             agreed = {s: self.names.ask('agreed_' + s, self.opened, f) for s, f in self.hellos.items()}
-            goes = all(self.ends[s]['state'][k + '_max'] == agreed[s][k] for s in agreed for k in ('up', 'down'))
+            goes = all(self.ends[s]['state'][f] == agreed[s][k] for s in agreed
+                       for f, k in (('up_max', 'up'), ('down_max', 'down'), ('invalidates', 'invalidates')))
             larger = agreed['client']['up'] > 1024 or agreed['client']['down'] > 1024
             self.note('sides_agree', agreed['client'] == agreed['server'] and goes, ('larger',) if larger else ())
         # the laws below ask that each Wrote writes all output due

@@ -104,7 +104,8 @@ abbrev pub answer_held : LinkParameters → ℕ → List Mark → ℕ → List �
 answer_held opened link before xid payload reply =
     answer_of_target (offer_of (server opened link before).state xid) (server opened link before).state.down_max reply (target_of (call_of payload))
 
--- the reply to an executed call goes out: its offer holds an answer, and what is due for the call is the answer's RDMA Writes and its Send
+-- the reply to an executed call goes out: its offer holds an answer, and what is due for the call is the answer's RDMA Writes and its Send,
+-- with Invalidate if that is agreed on and the offer has a segment
 pub record IsAnswered (opened : LinkParameters) (link : ℕ) (before : List Mark) (xid : ℕ) (moment : Moment) (payload : List ℕ) (place : ℕ) (reply : List ℕ) : Type 0 where
   pub answer : Answer
   pub is_held : answer_held opened link before xid payload reply ≡ Some answer

@@ -316,7 +316,8 @@ abbrev pub PayloadIsConveyed : Type 0
 PayloadIsConveyed = (opened : LinkParameters) (link : ℕ) (before : List Mark) (xid : ℕ) (payload : List ℕ) → (h : IsExecuted opened link before xid payload) →
     WasConveyed opened (events link Responder before) (record { number = h.call.number; xid = xid; payload = payload })
 
--- It is answered by RDMA Writes and then one Send if the offer of the pending call of its xid holds the reply, else by ERR_CHUNK.
+-- It is answered by RDMA Writes and then one Send, which names an STag of the offer if that is agreed on, if the offer of the pending call
+-- of its xid holds the reply, else by ERR_CHUNK.
 abbrev pub ExecuteIsAnswered : Type 0
 ExecuteIsAnswered = (opened : LinkParameters) (link : ℕ) (run : List Mark) (xid : ℕ) (moment : Moment) (payload : List ℕ) (place : ℕ) (reply : List ℕ) → IsExecuted opened link run xid payload →
     ((a : Answer) → answer_of_target (offer_of (server opened link run).state xid) (server opened link run).state.down_max reply (target_of (call_of payload)) ≡ Some a →
