@@ -30,10 +30,10 @@ named_segments named msn message = map (named_segment named msn message) (range_
 
 -- of a Send that names none
 abbrev pub message_segment : (msn : ℕ) → List ℕ → ℕ → Segment
-message_segment = named_segment None
+message_segment msn message i = named_segment None msn message i
 
 abbrev pub message_segments : (msn : ℕ) → List ℕ → List Segment
-message_segments = named_segments None
+message_segments msn message = named_segments None msn message
 
 -- What is written for a Send are these segments, in order.
 abbrev pub SendIsItsSegments : Type 0
