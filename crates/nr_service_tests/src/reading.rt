@@ -181,9 +181,7 @@ fn push_write(rt: &impl Abort, bytes: &mut Vec<u8>, stag: u32, offset: u32, from
     bytes
         .extend_from_slice(&len.to_be_bytes()[2..])
         .expect(rt, "memory");
-    bytes
-        .extend_from_slice(&[0xc1, 0x40])
-        .expect(rt, "memory");
+    bytes.extend_from_slice(&[0xc1, 0x40]).expect(rt, "memory");
     push_numbers(rt, bytes, &[stag, 0, offset]);
     push_bytes(rt, bytes, from as usize, to as usize);
     push_numbers(rt, bytes, &[0]);
