@@ -37,9 +37,9 @@ IsAwaitedStill xid history = (opened : LinkParameters) (link : ℕ) (before : Li
     ((client opened link (run_of before 0 link history)).ended ≡ None) × ((c : CompletedCall) → Contains (client opened link (run_of before 0 link history)).state.outcomes c → c.xid ≢ xid)
 
 -- A call that stands at this place is lost; or, if memory ran out for a frame, so that the client of the run hasn't ended, its memory is revoked.
-abbrev pub lost_entry : End → (xid : ℕ) → Buffers → (asked : ℕ) → Entry
-lost_entry ends.Memory xid buffers asked = entries.Revoke xid (bytes_of_buffers buffers) asked
-lost_entry end xid buffers asked = entries.Lost xid asked
+abbrev pub lost_entry : End → (xid : ℕ) → Buffers → (submit : ℕ) → Entry
+lost_entry ends.Memory xid buffers submit = entries.Revoke xid (bytes_of_buffers buffers) submit
+lost_entry end xid buffers submit = entries.Lost xid submit
 
 abbrev pub lost_by : List Entry → End → (xid : ℕ) → Buffers → Entry
 lost_by history end xid buffers = lost_entry end xid buffers (place_or_none (place_of xid history))
