@@ -91,6 +91,15 @@ module _ {O : Type 0} where
   Waits p q xid (Ok done) = TakesAnswer p q xid done
   Waits p q xid (Err end) = GivesUp p q xid end
 
+  -- The call is submitted: the Submit is added, and its place is open.
+  pub record OpensCall (p q : Pass (RequesterWithSink O) Entry) (call : Call) (form : Form) (xid : ℕ) : Type 0 where
+    pub adds : Adds p q (entries.Submit call form xid ∷ [])
+    pub keeps : KeepsOpen p q
+    pub at : ℕ
+    pub stands : get_elem? (seen_by q) at ≡ some (entries.Submit call form xid)
+    pub new : length (seen_by p) ≤ at
+    pub opened : IsOpen closes_of (seen_by q) (mine_of q) at
+
   -- The call is submitted. Before that and after it bytes are written: all that is due.
   pub record Sends (p q : Pass (RequesterWithSink O) Entry) (call : Call) (form : Form) (xid : ℕ) : Type 0 where
     pub writes_before : List Entry
