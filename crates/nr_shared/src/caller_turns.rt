@@ -14,10 +14,10 @@ ghost use Rattle.nr_shared.specs.Waiting.{IsSubmitTurn, IsPollTurn};
 
 use crate::call_end::CallEnd;
 use crate::requester_with_sink::RequesterWithSink;
-use crate::turns::{drain_under, forget_under, submit_under, take_under};
+use crate::turns::{drain_under, forget_under, submit_under, try_take_under};
 use nr_outside::Sink;
 use nr_reduce::{Call, Form};
-use nr_requester::{Done, Ticket};
+use nr_requester::{Done, Take, Ticket};
 use nr_turnstile::Turn;
 
 /// What a turn of a caller that waits finds.
@@ -68,7 +68,11 @@ pub(crate) fn poll_under<O: Sink>(
     let there = with_sink.requester.has_outcome(&ticket);
     let end = with_sink.end();
     if there {
-        return PollTurn::Answered(take_under(turn, ticket));
+        match try_take_under(turn, ticket) {
+            Take::Done(done) => return PollTurn::Answered(done),
+            Take::NotYet(_) => unreachable!(),
+            Take::Failed { .. } => unreachable!(),
+        }
     }
     match end {
         None => PollTurn::NotYet(ticket),

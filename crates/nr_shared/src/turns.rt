@@ -11,11 +11,12 @@ ghost use Rattle.nr_shared.specs.Histories.{bytes_fed, closes_of, forget_by};
 ghost use Rattle.nr_shared.specs.Ending.{HasCredit, IsRefused};
 ghost use Rattle.nr_shared.specs.private.CreditState.{LeavesCredit};
 ghost use Rattle.nr_shared.specs.private.Flushed.{HasFlushed};
+ghost use Rattle.nr_shared.specs.private.Taking.{IsDone};
 ghost use Rattle.nr_shared.specs.declared.entry.Entry.TheVariants as entries;
 ghost use Rattle.nr_shared.specs.Callers.{HasOpenCall, IsFeeding, IsReady, KeepsOpen, KeepsOthers};
 ghost use Rattle.nr_shared.specs.Adding.{Adds};
 ghost use Rattle.nr_shared.specs.Callers.{Writes};
-ghost use Rattle.nr_shared.specs.Waiting.{AtCall, ForgetsCall, TakesAnswer, IsTakeTurn};
+ghost use Rattle.nr_shared.specs.Waiting.{AtCall, ForgetsCall, IsTakeTurn};
 ghost use Rattle.nr_shared.specs.Draining.{fed_after, stopped_after};
 ghost use Rattle.nr_shared.specs.declared.entry.Stop.TheVariants as causes;
 ghost use Rattle.nr_requester.specs.Buffers.{bytes_of_buffers};
@@ -29,7 +30,7 @@ use crate::entry::Stop;
 use crate::requester_with_sink::{Drained, RequesterWithSink};
 use nr_outside::Sink;
 use nr_reduce::{Call, Form, Refused};
-use nr_requester::{Buffers, Done, Take, Ticket};
+use nr_requester::{Buffers, Take, Ticket};
 use nr_turnstile::Turn;
 use std::marker::Brand;
 use std::snapshot::Snapshot;
@@ -66,23 +67,6 @@ pub(crate) fn submit_under<O: Sink>(
     }
 }
 
-/// Takes the answer of a call of the pass's own, which is there.
-pub(crate) fn take_under<O: Sink>(turn: &mut Turn<'_, RequesterWithSink<O>>, ticket: Ticket) -> Done
-    requires ready { IsReady O.taken O.faults turn.old }
-    requires there { (y : RequesterWithSink O) → Has turn.old y → is_some (found_answer ticket y.requester.state) ≡ true }
-    requires has_call { HasOpenCall (pass_of turn.old) ticket }
-    ensures same { IsSameTurn turn.old turn.new }
-    ensures ready { IsReady O.taken O.faults turn.new }
-    ensures taken { TakesAnswer (pass_of turn.old) (pass_of turn.new) ticket result }
-{
-    let xid = ticket.xid();
-    let with_sink = turn.value();
-    let done = with_sink.take_answer(ticket);
-    let outcome = Snapshot::of(&done.outcome);
-    append_done::<O, Brand>(turn, xid, &outcome);
-    done
-}
-
 /// Takes the answer of a call of the pass's own; or the call comes back with its buffers, if the requester has ended before.
 pub(crate) fn try_take_under<O: Sink>(
     turn: &mut Turn<'_, RequesterWithSink<O>>,
@@ -93,6 +77,7 @@ pub(crate) fn try_take_under<O: Sink>(
     ensures same { IsSameTurn turn.old turn.new }
     ensures ready { IsReady O.taken O.faults turn.new }
     ensures taken { IsTakeTurn (pass_of turn.old) (pass_of turn.new) ticket result }
+    ensures there { ((y : RequesterWithSink O) → Has turn.old y → is_some (found_answer ticket y.requester.state) ≡ true) → IsDone result }
 {
     let xid = ticket.xid();
     let with_sink = turn.value();
