@@ -15,7 +15,7 @@ use nr_links::READ_MAX;
 use nr_outside::Sink;
 use nr_reduce::{Call, Form, Refused};
 use nr_requester::{Buffers, Done, Requester, Take, Ticket};
-use nr_turnstile::Machine;
+use nr_turnstile::{Machine, Pass, Turn};
 
 /// What a drain did.
 #[derive(Clone, Copy)]
@@ -42,6 +42,11 @@ pub struct RequesterWithSink<O> {
     // Why no more is fed.
     pub(crate) stopped: Option<Stop>,
 }
+
+/// A turn of a caller, and what it takes turns with.
+pub(crate) type MainTurn<'a, O> = Turn<'a, RequesterWithSink<O>>;
+
+pub(crate) type MainPass<O> = Pass<RequesterWithSink<O>>;
 
 impl<O: Sink> Machine for RequesterWithSink<O> {
     ghost use Rattle.nr_shared.specs.Standing.{Stands};

@@ -27,17 +27,16 @@ use crate::appending::{
     append_submit, append_write_failed, append_wrote,
 };
 use crate::entry::Stop;
-use crate::requester_with_sink::{Drained, RequesterWithSink};
+use crate::requester_with_sink::{Drained, MainTurn};
 use nr_outside::Sink;
 use nr_reduce::{Call, Form, Refused};
 use nr_requester::{Buffers, Take, Ticket};
-use nr_turnstile::Turn;
 use std::marker::Brand;
 use std::snapshot::Snapshot;
 
 /// Submits a call.
 pub(crate) fn submit_under<O: Sink>(
-    turn: &mut Turn<'_, RequesterWithSink<O>>,
+    turn: &mut MainTurn<'_, O>,
     call: Call,
     form: Form,
 ) -> Result<Ticket, (Call, Refused)>
@@ -68,10 +67,7 @@ pub(crate) fn submit_under<O: Sink>(
 }
 
 /// Takes the answer of a call of the pass's own; or the call comes back with its buffers, if the requester has ended before.
-pub(crate) fn try_take_under<O: Sink>(
-    turn: &mut Turn<'_, RequesterWithSink<O>>,
-    ticket: Ticket,
-) -> Take
+pub(crate) fn try_take_under<O: Sink>(turn: &mut MainTurn<'_, O>, ticket: Ticket) -> Take
     requires ready { IsReady O.taken O.faults turn.old }
     requires has_call { HasOpenCall (pass_of turn.old) ticket }
     ensures same { IsSameTurn turn.old turn.new }
@@ -97,7 +93,7 @@ pub(crate) fn try_take_under<O: Sink>(
 }
 
 /// Forgets a call of the pass's own.
-pub(crate) fn forget_under<O: Sink>(turn: &mut Turn<'_, RequesterWithSink<O>>, ticket: Ticket)
+pub(crate) fn forget_under<O: Sink>(turn: &mut MainTurn<'_, O>, ticket: Ticket)
     requires ready { IsReady O.taken O.faults turn.old }
     requires has_call { HasOpenCall (pass_of turn.old) ticket }
     ensures same { IsSameTurn turn.old turn.new }
@@ -112,7 +108,7 @@ pub(crate) fn forget_under<O: Sink>(turn: &mut Turn<'_, RequesterWithSink<O>>, t
 }
 
 /// Hands the output to the sink, unless a write failed before.
-pub(crate) fn drain_under<O: Sink>(turn: &mut Turn<'_, RequesterWithSink<O>>)
+pub(crate) fn drain_under<O: Sink>(turn: &mut MainTurn<'_, O>)
     requires ready { IsReady O.taken O.faults turn.old }
     ensures same { IsSameTurn turn.old turn.new }
     ensures ready { IsReady O.taken O.faults turn.new }
@@ -134,10 +130,7 @@ pub(crate) fn drain_under<O: Sink>(turn: &mut Turn<'_, RequesterWithSink<O>>)
 }
 
 /// Revokes the memory of a call of the pass's own.
-pub(crate) fn revoke_under<O: Sink>(
-    turn: &mut Turn<'_, RequesterWithSink<O>>,
-    ticket: Ticket,
-) -> (Call, Buffers)
+pub(crate) fn revoke_under<O: Sink>(turn: &mut MainTurn<'_, O>, ticket: Ticket) -> (Call, Buffers)
     requires ready { IsReady O.taken O.faults turn.old }
     requires has_call { HasOpenCall (pass_of turn.old) ticket }
     ensures same { IsSameTurn turn.old turn.new }
@@ -153,7 +146,7 @@ pub(crate) fn revoke_under<O: Sink>(
 }
 
 /// Feeds a piece that was read, after a drain. Answers whether memory ran out for a frame of it.
-pub(crate) fn feed_under<O: Sink>(turn: &mut Turn<'_, RequesterWithSink<O>>, piece: &[u8]) -> bool
+pub(crate) fn feed_under<O: Sink>(turn: &mut MainTurn<'_, O>, piece: &[u8]) -> bool
     requires ready { IsReady O.taken O.faults turn.old }
     requires feeding { IsFeeding (pass_of turn.old) }
     requires goes { (y : RequesterWithSink O) → Has turn.old y → y.stopped ≡ None }
@@ -173,7 +166,7 @@ pub(crate) fn feed_under<O: Sink>(turn: &mut Turn<'_, RequesterWithSink<O>>, pie
 }
 
 /// No more is fed.
-pub(crate) fn stop_under<O: Sink>(turn: &mut Turn<'_, RequesterWithSink<O>>, cause: Stop)
+pub(crate) fn stop_under<O: Sink>(turn: &mut MainTurn<'_, O>, cause: Stop)
     requires ready { IsReady O.taken O.faults turn.old }
     requires feeding { IsFeeding (pass_of turn.old) }
     requires goes { (y : RequesterWithSink O) → Has turn.old y → y.stopped ≡ None }
