@@ -59,14 +59,15 @@ static WRITE: &str = "\
 
 #[test]
 fn arguments_up_to_write(rt: HostRuntime) {
-    same_rows::<NullArgs>(&rt, rt.alloc(), NULL);
-    same_rows::<GetattrArgs>(&rt, rt.alloc(), GETATTR);
-    same_rows::<SetattrArgs>(&rt, rt.alloc(), SETATTR);
-    same_rows::<LookupArgs>(&rt, rt.alloc(), LOOKUP);
-    same_rows::<AccessArgs>(&rt, rt.alloc(), ACCESS);
-    same_rows::<ReadlinkArgs>(&rt, rt.alloc(), READLINK);
-    same_rows::<ReadArgs>(&rt, rt.alloc(), READ);
-    same_rows::<WriteArgs>(&rt, rt.alloc(), WRITE);
+    let alloc = rt.alloc();
+    same_rows::<NullArgs>(&rt, alloc, NULL);
+    same_rows::<GetattrArgs>(&rt, alloc, GETATTR);
+    same_rows::<SetattrArgs>(&rt, alloc, SETATTR);
+    same_rows::<LookupArgs>(&rt, alloc, LOOKUP);
+    same_rows::<AccessArgs>(&rt, alloc, ACCESS);
+    same_rows::<ReadlinkArgs>(&rt, alloc, READLINK);
+    same_rows::<ReadArgs>(&rt, alloc, READ);
+    same_rows::<WriteArgs>(&rt, alloc, WRITE);
 }
 
 // section 3.3.8
@@ -121,14 +122,15 @@ static MKNOD: &str = "8 0 1 1 61000000 7 0*6\n";
 
 #[test]
 fn arguments_of_what_is_made(rt: HostRuntime) {
-    same_rows::<CreateMode>(&rt, rt.alloc(), CREATE_MODE);
-    same_rows::<CreateHow>(&rt, rt.alloc(), CREATE_HOW);
-    same_rows::<CreateArgs>(&rt, rt.alloc(), CREATE);
-    same_rows::<MkdirArgs>(&rt, rt.alloc(), MKDIR);
-    same_rows::<SymlinkArgs>(&rt, rt.alloc(), SYMLINK);
-    same_rows::<DeviceData>(&rt, rt.alloc(), DEVICE_DATA);
-    same_rows::<MknodData>(&rt, rt.alloc(), MKNOD_DATA);
-    same_rows::<MknodArgs>(&rt, rt.alloc(), MKNOD);
+    let alloc = rt.alloc();
+    same_rows::<CreateMode>(&rt, alloc, CREATE_MODE);
+    same_rows::<CreateHow>(&rt, alloc, CREATE_HOW);
+    same_rows::<CreateArgs>(&rt, alloc, CREATE);
+    same_rows::<MkdirArgs>(&rt, alloc, MKDIR);
+    same_rows::<SymlinkArgs>(&rt, alloc, SYMLINK);
+    same_rows::<DeviceData>(&rt, alloc, DEVICE_DATA);
+    same_rows::<MknodData>(&rt, alloc, MKNOD_DATA);
+    same_rows::<MknodArgs>(&rt, alloc, MKNOD);
 }
 
 // sections 3.3.12 to 3.3.15
@@ -158,12 +160,13 @@ static READDIRPLUS: &str = "\
 
 #[test]
 fn arguments_of_names_and_listings(rt: HostRuntime) {
-    same_rows::<RemoveArgs>(&rt, rt.alloc(), REMOVE);
-    same_rows::<RmdirArgs>(&rt, rt.alloc(), RMDIR);
-    same_rows::<RenameArgs>(&rt, rt.alloc(), RENAME);
-    same_rows::<LinkArgs>(&rt, rt.alloc(), LINK);
-    same_rows::<ReaddirArgs>(&rt, rt.alloc(), READDIR);
-    same_rows::<ReaddirplusArgs>(&rt, rt.alloc(), READDIRPLUS);
+    let alloc = rt.alloc();
+    same_rows::<RemoveArgs>(&rt, alloc, REMOVE);
+    same_rows::<RmdirArgs>(&rt, alloc, RMDIR);
+    same_rows::<RenameArgs>(&rt, alloc, RENAME);
+    same_rows::<LinkArgs>(&rt, alloc, LINK);
+    same_rows::<ReaddirArgs>(&rt, alloc, READDIR);
+    same_rows::<ReaddirplusArgs>(&rt, alloc, READDIRPLUS);
 }
 
 // sections 3.3.18 to 3.3.21
@@ -199,13 +202,14 @@ static UMNTALL: &str = "\
 
 #[test]
 fn arguments_of_the_file_system_and_of_mount(rt: HostRuntime) {
-    same_rows::<FsstatArgs>(&rt, rt.alloc(), FSSTAT);
-    same_rows::<FsinfoArgs>(&rt, rt.alloc(), FSINFO);
-    same_rows::<PathconfArgs>(&rt, rt.alloc(), PATHCONF);
-    same_rows::<CommitArgs>(&rt, rt.alloc(), COMMIT);
-    same_rows::<MntArgs>(&rt, rt.alloc(), MNT);
-    same_rows::<UmntArgs>(&rt, rt.alloc(), UMNT);
-    same_rows::<UmntallArgs>(&rt, rt.alloc(), UMNTALL);
+    let alloc = rt.alloc();
+    same_rows::<FsstatArgs>(&rt, alloc, FSSTAT);
+    same_rows::<FsinfoArgs>(&rt, alloc, FSINFO);
+    same_rows::<PathconfArgs>(&rt, alloc, PATHCONF);
+    same_rows::<CommitArgs>(&rt, alloc, COMMIT);
+    same_rows::<MntArgs>(&rt, alloc, MNT);
+    same_rows::<UmntArgs>(&rt, alloc, UMNT);
+    same_rows::<UmntallArgs>(&rt, alloc, UMNTALL);
 }
 
 // RFC 1813 section 3.3.8, createmode3

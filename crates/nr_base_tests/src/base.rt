@@ -82,17 +82,18 @@ static MOUNT_ANSWER: &str = "\
 
 #[test]
 fn numbers_and_enumerations(rt: HostRuntime) {
-    same_rows::<u32>(&rt, rt.alloc(), WORD);
-    same_rows::<u64>(&rt, rt.alloc(), HYPER);
-    same_rows::<bool>(&rt, rt.alloc(), BOOLEAN);
-    same_rows::<()>(&rt, rt.alloc(), NOTHING);
-    same_rows::<Time>(&rt, rt.alloc(), TIME);
-    same_rows::<Verifier>(&rt, rt.alloc(), VERIFIER);
-    same_rows::<FileType>(&rt, rt.alloc(), FILE_TYPE);
-    same_rows::<StableHow>(&rt, rt.alloc(), STABLE_HOW);
-    same_rows::<TimeHow>(&rt, rt.alloc(), TIME_HOW);
-    same_rows::<StatusUnion<u32, ()>>(&rt, rt.alloc(), ANSWER);
-    same_rows::<StatusUnion<(), u32, MountStatus>>(&rt, rt.alloc(), MOUNT_ANSWER);
+    let alloc = rt.alloc();
+    same_rows::<u32>(&rt, alloc, WORD);
+    same_rows::<u64>(&rt, alloc, HYPER);
+    same_rows::<bool>(&rt, alloc, BOOLEAN);
+    same_rows::<()>(&rt, alloc, NOTHING);
+    same_rows::<Time>(&rt, alloc, TIME);
+    same_rows::<Verifier>(&rt, alloc, VERIFIER);
+    same_rows::<FileType>(&rt, alloc, FILE_TYPE);
+    same_rows::<StableHow>(&rt, alloc, STABLE_HOW);
+    same_rows::<TimeHow>(&rt, alloc, TIME_HOW);
+    same_rows::<StatusUnion<u32, ()>>(&rt, alloc, ANSWER);
+    same_rows::<StatusUnion<(), u32, MountStatus>>(&rt, alloc, MOUNT_ANSWER);
 }
 
 // RFC 1813 section 2.5, specdata3 and fattr3
@@ -133,13 +134,14 @@ static SET_ATTRIBUTES: &str = "\
 
 #[test]
 fn attributes(rt: HostRuntime) {
-    same_rows::<SpecialData>(&rt, rt.alloc(), SPECIAL_DATA);
-    same_rows::<Attributes>(&rt, rt.alloc(), ATTRIBUTES);
-    same_rows::<Option<Attributes>>(&rt, rt.alloc(), POST_OP_ATTRIBUTES);
-    same_rows::<WccAttributes>(&rt, rt.alloc(), WCC_ATTRIBUTES);
-    same_rows::<WccData>(&rt, rt.alloc(), WCC_DATA);
-    same_rows::<SetTime>(&rt, rt.alloc(), SET_TIME);
-    same_rows::<SetAttributes>(&rt, rt.alloc(), SET_ATTRIBUTES);
+    let alloc = rt.alloc();
+    same_rows::<SpecialData>(&rt, alloc, SPECIAL_DATA);
+    same_rows::<Attributes>(&rt, alloc, ATTRIBUTES);
+    same_rows::<Option<Attributes>>(&rt, alloc, POST_OP_ATTRIBUTES);
+    same_rows::<WccAttributes>(&rt, alloc, WCC_ATTRIBUTES);
+    same_rows::<WccData>(&rt, alloc, WCC_DATA);
+    same_rows::<SetTime>(&rt, alloc, SET_TIME);
+    same_rows::<SetAttributes>(&rt, alloc, SET_ATTRIBUTES);
 }
 
 // RFC 1813 section 2.5, nfs_fh3
@@ -196,14 +198,15 @@ static ARRAY: &str = "\
 
 #[test]
 fn data_of_any_length(rt: HostRuntime) {
-    same_rows::<Handle>(&rt, rt.alloc(), HANDLE);
-    same_rows::<Option<Handle>>(&rt, rt.alloc(), POST_OP_HANDLE);
-    same_rows::<Name>(&rt, rt.alloc(), NAME);
-    same_rows::<Path>(&rt, rt.alloc(), PATH);
-    same_rows::<Data>(&rt, rt.alloc(), DATA);
-    same_rows::<MountPath>(&rt, rt.alloc(), MOUNT_PATH);
-    same_rows::<LinkedList<u32>>(&rt, rt.alloc(), LINKED_LIST);
-    same_rows::<Array<u32>>(&rt, rt.alloc(), ARRAY);
+    let alloc = rt.alloc();
+    same_rows::<Handle>(&rt, alloc, HANDLE);
+    same_rows::<Option<Handle>>(&rt, alloc, POST_OP_HANDLE);
+    same_rows::<Name>(&rt, alloc, NAME);
+    same_rows::<Path>(&rt, alloc, PATH);
+    same_rows::<Data>(&rt, alloc, DATA);
+    same_rows::<MountPath>(&rt, alloc, MOUNT_PATH);
+    same_rows::<LinkedList<u32>>(&rt, alloc, LINKED_LIST);
+    same_rows::<Array<u32>>(&rt, alloc, ARRAY);
 }
 
 /// The length of a name that is made, taken apart and made again.

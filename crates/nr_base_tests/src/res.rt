@@ -92,14 +92,15 @@ static WRITE: &str = "\
 fn results_up_to_write(rt: HostRuntime) {
     results();
     fronts_of_results();
-    same_rows::<NullRes>(&rt, rt.alloc(), NULL);
-    same_rows::<GetattrRes>(&rt, rt.alloc(), GETATTR);
-    same_rows::<SetattrRes>(&rt, rt.alloc(), SETATTR);
-    same_rows::<LookupRes>(&rt, rt.alloc(), LOOKUP);
-    same_rows::<AccessRes>(&rt, rt.alloc(), ACCESS);
-    same_rows::<ReadlinkRes>(&rt, rt.alloc(), READLINK);
-    same_rows::<ReadRes>(&rt, rt.alloc(), READ);
-    same_rows::<WriteRes>(&rt, rt.alloc(), WRITE);
+    let alloc = rt.alloc();
+    same_rows::<NullRes>(&rt, alloc, NULL);
+    same_rows::<GetattrRes>(&rt, alloc, GETATTR);
+    same_rows::<SetattrRes>(&rt, alloc, SETATTR);
+    same_rows::<LookupRes>(&rt, alloc, LOOKUP);
+    same_rows::<AccessRes>(&rt, alloc, ACCESS);
+    same_rows::<ReadlinkRes>(&rt, alloc, READLINK);
+    same_rows::<ReadRes>(&rt, alloc, READ);
+    same_rows::<WriteRes>(&rt, alloc, WRITE);
 }
 
 // sections 3.3.8 to 3.3.11: with the handle and without
@@ -174,14 +175,15 @@ static LINK: &str = "\
 
 #[test]
 fn results_of_what_is_made_and_removed(rt: HostRuntime) {
-    same_rows::<CreateRes>(&rt, rt.alloc(), CREATE);
-    same_rows::<MkdirRes>(&rt, rt.alloc(), MKDIR);
-    same_rows::<SymlinkRes>(&rt, rt.alloc(), SYMLINK);
-    same_rows::<MknodRes>(&rt, rt.alloc(), MKNOD);
-    same_rows::<RemoveRes>(&rt, rt.alloc(), REMOVE);
-    same_rows::<RmdirRes>(&rt, rt.alloc(), RMDIR);
-    same_rows::<RenameRes>(&rt, rt.alloc(), RENAME);
-    same_rows::<LinkRes>(&rt, rt.alloc(), LINK);
+    let alloc = rt.alloc();
+    same_rows::<CreateRes>(&rt, alloc, CREATE);
+    same_rows::<MkdirRes>(&rt, alloc, MKDIR);
+    same_rows::<SymlinkRes>(&rt, alloc, SYMLINK);
+    same_rows::<MknodRes>(&rt, alloc, MKNOD);
+    same_rows::<RemoveRes>(&rt, alloc, REMOVE);
+    same_rows::<RmdirRes>(&rt, alloc, RMDIR);
+    same_rows::<RenameRes>(&rt, alloc, RENAME);
+    same_rows::<LinkRes>(&rt, alloc, LINK);
 }
 
 // section 3.3.16: no entry, one, several
@@ -214,10 +216,11 @@ static READDIRPLUS: &str = "\
 
 #[test]
 fn results_of_listings(rt: HostRuntime) {
-    same_rows::<Entry>(&rt, rt.alloc(), ENTRY);
-    same_rows::<ReaddirRes>(&rt, rt.alloc(), READDIR);
-    same_rows::<EntryPlus>(&rt, rt.alloc(), ENTRY_PLUS);
-    same_rows::<ReaddirplusRes>(&rt, rt.alloc(), READDIRPLUS);
+    let alloc = rt.alloc();
+    same_rows::<Entry>(&rt, alloc, ENTRY);
+    same_rows::<ReaddirRes>(&rt, alloc, READDIR);
+    same_rows::<EntryPlus>(&rt, alloc, ENTRY_PLUS);
+    same_rows::<ReaddirplusRes>(&rt, alloc, READDIRPLUS);
 }
 
 // section 3.3.18
@@ -279,11 +282,12 @@ static UMNTALL: &str = "\n";
 
 #[test]
 fn results_of_the_file_system_and_of_mount(rt: HostRuntime) {
-    same_rows::<FsstatRes>(&rt, rt.alloc(), FSSTAT);
-    same_rows::<FsinfoRes>(&rt, rt.alloc(), FSINFO);
-    same_rows::<PathconfRes>(&rt, rt.alloc(), PATHCONF);
-    same_rows::<CommitRes>(&rt, rt.alloc(), COMMIT);
-    same_rows::<MntRes>(&rt, rt.alloc(), MNT);
-    same_rows::<UmntRes>(&rt, rt.alloc(), UMNT);
-    same_rows::<UmntallRes>(&rt, rt.alloc(), UMNTALL);
+    let alloc = rt.alloc();
+    same_rows::<FsstatRes>(&rt, alloc, FSSTAT);
+    same_rows::<FsinfoRes>(&rt, alloc, FSINFO);
+    same_rows::<PathconfRes>(&rt, alloc, PATHCONF);
+    same_rows::<CommitRes>(&rt, alloc, COMMIT);
+    same_rows::<MntRes>(&rt, alloc, MNT);
+    same_rows::<UmntRes>(&rt, alloc, UMNT);
+    same_rows::<UmntallRes>(&rt, alloc, UMNTALL);
 }
