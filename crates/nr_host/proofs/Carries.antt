@@ -156,6 +156,7 @@ module _ (left given taken : Option (List ℕ)) (faults : ℕ) (gave : Option (L
     taken = (refl, subst (Appends taken taken) (sym (sent_none link)) (Appends-nil taken));
     served = λ opened granted. tt;
     quiet = λ opened granted. tt;
+    writes = λ opened granted. tt;
     frames = λ opened granted. tt;
     over = subst (λ (calls : List Answered). Over view calls view) (sym answers_none) (over_none view);
     gave = gives_none gave;

@@ -173,6 +173,7 @@ module _ (left given left' given' : Option (List ℕ)) (sink : SinkState) (gave 
       taken = e.runs.taken;
       served = e.runs.served;
       quiet = e.runs.quiet;
+      writes = e.runs.writes;
       frames = e.runs.frames;
       over = e.runs.over;
       gave = e.runs.gave;

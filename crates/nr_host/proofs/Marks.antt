@@ -14,11 +14,11 @@ use Rattle.nr_reduce.specs.declared.mark.LinkParameters.{LinkParameters}
 use Rattle.nr_reduce.specs.History.{bytes_sent, bytes_received}
 use Rattle.nr_reduce.specs.Matched.{IsPrefixOf}
 use Rattle.nr_reduce.specs.Run.{output_due}
-use Rattle.nr_reduce.specs.Served.{IsExecuted, ServedMark}
+use Rattle.nr_reduce.specs.Served.{IsExecuted, ServedMark, next_call}
 use Rattle.nr_reduce.proofs.Standing.{AtEachMark_more, itself, one_more, received_one, sent_one}
 use Rattle.nr_plain.specs.History.{Answered, Executes, OnlyOthersAdded, PassView, Over}
 use Rattle.nr_plain.proofs.PassCalls.{over_executed, over_others}
-use Rattle.nr_host.specs.Connections.{Terms, Outside, Runs, SinkState, Takes, IsOwn, QuietMark, FrameMark, GivesAll, answer_of, answers_of, moments, moment_of}
+use Rattle.nr_host.specs.Connections.{Terms, Outside, Runs, SinkState, Takes, IsOwn, QuietMark, FrameMark, WriteMark, GivesAll, answer_of, answers_of, moments, moment_of}
 use Rattle.nr_host.specs.Steps.{AllQuiet, outside}
 use Rattle.nr_host.proofs.Sinks.{TakesMore}
 
@@ -66,6 +66,7 @@ executed terms link before left given sink gave gave' view view' ahead run clien
           (sym (sent_one link Responder run mark ∙ append-nil (bytes_sent link Responder run))) r.taken;
       served = λ opened same. AtEachMark_more (ServedMark IsPrefixOf opened link) [] run mark (r.served opened same) (λ l. executes opened same);
       quiet = λ opened same. AtEachMark_more (QuietMark opened link) [] run mark (r.quiet opened same) tt;
+      writes = λ opened same. AtEachMark_more (WriteMark opened link) [] run mark (r.writes opened same) tt;
       frames = λ opened same. AtEachMark_more (FrameMark opened link) [] run mark (r.frames opened same) tt;
       over = subst (λ (calls : List Answered). Over before.view calls view') (sym (answers_one run mark))
           (over_executed before.view view view' client moment payload reply place (answers_of run) r.over done);
@@ -87,6 +88,7 @@ given_alone terms link before left given sink gave gave' view view' ahead run mo
   taken = r.taken;
   served = r.served;
   quiet = r.quiet;
+  writes = r.writes;
   frames = r.frames;
   over = over_others before.view view view' (answers_of run) r.over added;
   gave = gives_more before.gave gave gave' (moments run) moment (subst (λ (ms : List Moment). GivesAll before.gave gave ms) (append-nil (moments run)) r.gave) gives;
@@ -110,6 +112,7 @@ fed terms link before now piece ahead run r quiet frames =
           (sym (sent_one link Responder run mark ∙ append-nil (bytes_sent link Responder run))) r.taken;
       served = λ opened same. AtEachMark_more (ServedMark IsPrefixOf opened link) [] run mark (r.served opened same) tt;
       quiet = λ opened same. AtEachMark_more (QuietMark opened link) [] run mark (r.quiet opened same) (quiet opened same);
+      writes = λ opened same. AtEachMark_more (WriteMark opened link) [] run mark (r.writes opened same) tt;
       frames = λ opened same. AtEachMark_more (FrameMark opened link) [] run mark (r.frames opened same) (frames opened same);
       over = over_same before.view now.view run mark refl r.over;
       gave = subst (λ (ms : List Moment). GivesAll before.gave now.gave (ms ++ []))
@@ -122,8 +125,9 @@ pub wrote : (terms : Terms) (link : ℕ) (before : Outside) (left given : Option
     (bytes ahead : List ℕ) (run : List Mark)
     → Runs terms link before (outside left given sink gave view) ahead [] run → TakesMore sink sink' bytes
     → ((opened : LinkParameters) → ServerOpened opened terms.credits terms.low (sized_terms terms.units) → IsPrefixOf (bytes_sent link Responder run ++ bytes) (output_due opened link Responder run))
+    → ((opened : LinkParameters) → ServerOpened opened terms.credits terms.low (sized_terms terms.units) → next_call opened link run ≡ None)
     → Runs terms link before (outside left given sink' gave view) ahead [] (run ++ marks.Wrote link Responder bytes ∷ [])
-wrote terms link before left given sink sink' gave view bytes ahead run r takes due =
+wrote terms link before left given sink sink' gave view bytes ahead run r takes due none =
     let mark : Mark = marks.Wrote link Responder bytes in
     let sent : bytes_sent link Responder (run ++ mark ∷ []) ≡ bytes_sent link Responder run ++ bytes =
     sent_one link Responder run mark ∙ rw (itself link) refl in
@@ -134,6 +138,7 @@ wrote terms link before left given sink sink' gave view bytes ahead run r takes 
       taken = subst (λ (all : List ℕ). Takes before.sink sink' all) (sym sent) (takes before.sink (bytes_sent link Responder run) r.taken);
       served = λ opened same. AtEachMark_more (ServedMark IsPrefixOf opened link) [] run mark (r.served opened same) (λ l. due opened same);
       quiet = λ opened same. AtEachMark_more (QuietMark opened link) [] run mark (r.quiet opened same) tt;
+      writes = λ opened same. AtEachMark_more (WriteMark opened link) [] run mark (r.writes opened same) (none opened same);
       frames = λ opened same. AtEachMark_more (FrameMark opened link) [] run mark (r.frames opened same) tt;
       over = over_same before.view view run mark refl r.over;
       gave = subst (λ (ms : List Moment). GivesAll before.gave gave (ms ++ []))
@@ -153,6 +158,7 @@ read_more terms link before left given left' given' sink gave view piece run r h
   taken = r.taken;
   served = r.served;
   quiet = r.quiet;
+  writes = r.writes;
   frames = r.frames;
   over = r.over;
   gave = r.gave;

@@ -53,6 +53,12 @@ abbrev pub QuietMark : LinkParameters → ℕ → List Mark → Mark → Type 0
 QuietMark opened link before (marks.Fed l side bytes) = IsQuiet opened link before
 QuietMark opened link before mark = ⊤
 
+-- Before each Wrote every call that became complete is executed: nothing is written between a piece and the calls that
+-- it completes.
+abbrev pub WriteMark : LinkParameters → ℕ → List Mark → Mark → Type 0
+WriteMark opened link before (marks.Wrote l side bytes) = next_call opened link before ≡ None
+WriteMark opened link before mark = ⊤
+
 -- These bytes after those complete no frame, or one frame, with which they end.
 abbrev pub EndsWithItsFrame : (before bytes : List ℕ) → Type 0
 EndsWithItsFrame before bytes =
@@ -110,6 +116,7 @@ pub record Runs (terms : Terms) (link : ℕ) (before after : Outside) (ahead : L
   pub taken : Takes before.sink after.sink (bytes_sent link Responder run)
   pub served : (opened : LinkParameters) → ServerOpened opened terms.credits terms.low (sized_terms terms.units) → ServedSoFar opened link run
   pub quiet : (opened : LinkParameters) → ServerOpened opened terms.credits terms.low (sized_terms terms.units) → AtEachMark (QuietMark opened link) [] run
+  pub writes : (opened : LinkParameters) → ServerOpened opened terms.credits terms.low (sized_terms terms.units) → AtEachMark (WriteMark opened link) [] run
   pub frames : (opened : LinkParameters) → ServerOpened opened terms.credits terms.low (sized_terms terms.units) → AtEachMark (FrameMark opened link) [] run
   pub over : Over before.view (answers_of run) after.view
   pub gave : GivesAll before.gave after.gave (moments run ++ more)

@@ -1,5 +1,5 @@
 -- What a step of a connection makes of its marks.
-use Rattle.std.specs.Prelude.{◌≡◌, ℕ, ◌≤◌, Bool, true, false, List, [], ◌++◌, length, Option, Some}
+use Rattle.std.specs.Prelude.{◌≡◌, ℕ, ◌≤◌, ◌⊎◌, Bool, true, false, List, [], ◌++◌, length, Option, None, Some}
 use Rattle.std.specs.Io.KnownBytes.{IsAtEnd}
 use Rattle.nr_outside.specs.Faults.{Rises}
 use Rattle.nr_outside.specs.declared.moment.Moment.{Moment}
@@ -9,6 +9,7 @@ use Rattle.nr_reduce.specs.Opening.{ServerOpened}
 use Rattle.nr_reduce.specs.History.{bytes_received}
 use Rattle.nr_reduce.specs.declared.mark.Mark.{Mark}
 use Rattle.nr_reduce.specs.declared.mark.LinkParameters.{LinkParameters}
+use Rattle.nr_link.specs.declared.end.End.{End}
 use Rattle.nr_link.specs.declared.end.End.TheVariants as link_ends
 use Rattle.nr_responder.specs.ResponderState.{ResponderSide, end_of, queue}
 use Rattle.nr_responder.specs.Standing.{ResponderRepresents}
@@ -54,13 +55,17 @@ RunsOut gave gave' view view' v =
     IsLive terms link before (outside left given sink gave view) ahead run v →
     (run' : List Mark) × (more : List Moment) × (length more ≤ 1) × Runs terms link before (outside left given sink gave' view') ahead more run'
 
--- All that may be written is written, or dropped if a write failed. Nothing is left then, unless memory had run out.
+-- no call waits to be executed: none is ready, or the side ended, and not for memory
+abbrev pub HasExecuted : ResponderSide → Type 0
+HasExecuted v = ((end_of v ≡ None) × (v.ready ≡ [])) ⊎ ((end : End) × ((end_of v ≡ Some end) × (end ≡ link_ends.Memory → ⊥)))
+
+-- If no call waits, all that is due is written, or dropped if a write failed, and nothing is left then.
 abbrev pub WritesAll : (sink sink' : SinkState) (v v' : ResponderSide) → Type 0
 WritesAll sink sink' v v' =
-    (terms : Terms) (link : ℕ) (before : Outside) (left given : Option (List ℕ)) (gave : Option (List Moment)) (view : PassView) (ahead : List ℕ) (run : List Mark) →
+    HasExecuted v → (terms : Terms) (link : ℕ) (before : Outside) (left given : Option (List ℕ)) (gave : Option (List Moment)) (view : PassView) (ahead : List ℕ) (run : List Mark) →
     IsLive terms link before (outside left given sink gave view) ahead run v →
     (run' : List Mark) × (IsLive terms link before (outside left given sink' gave view) ahead run' v'
-    × ((opened : LinkParameters) → ServerOpened opened terms.credits terms.low (sized_terms terms.units) → (end_of v ≡ Some link_ends.Memory → ⊥) → queue v' ≡ []))
+    × ((opened : LinkParameters) → ServerOpened opened terms.credits terms.low (sized_terms terms.units) → queue v' ≡ []))
 
 -- A step that writes goes on to marks after which nothing is due.
 abbrev pub GoesQuietly : (sink sink' : SinkState) (gave gave' : Option (List Moment)) (view view' : PassView) (v v' : ResponderSide) → Type 0
