@@ -1,5 +1,5 @@
 -- How a connection ends whose client sends a complete stream.
-use Rattle.std.proofs.Common.{◌≡◌, ℕ, ◌<◌, ◌≤◌, ◌⊎◌, inl, inr, Bool, false, List, [], ◌∷◌, ◌++◌, length, Option, Some, None, refl, arith, subst, sym, ap, ◌∙◌, append_assoc, append-nil}
+use Rattle.std.proofs.Common.{◌≡◌, ℕ, ◌<◌, ◌⊎◌, inl, inr, Bool, false, List, [], ◌∷◌, ◌++◌, length, Option, Some, None, refl, arith, subst, sym, ap, ◌∙◌, append_assoc, append-nil}
 use Rattle.std.proofs.lemmas.List.{length-append}
 use Rattle.std.proofs.lemmas.Option.{none-some}
 use Rattle.std.specs.Io.KnownBytes.{Appends, Consumes, IsAtEnd}
@@ -64,7 +64,7 @@ abbrev terms_of : (credits low units read : ℕ) → Terms
 terms_of credits low units read = record { credits = credits; low = low; units = units; read = read }
 
 module _ (credits low units : ℕ) (before after : Outside) (first : Opening) (J : List Entry) (stream : List ℕ) (stands : IsHistory first J before.view.seen) (known : before.left ≡ Some stream)
-    (complete : IsCompleteStream credits low units (setup_in first) J stream) (even : credits ≤ low) where
+    (complete : IsCompleteStream credits low units (setup_in first) J stream) where
   consumed : (read link : ℕ) (failed : Bool) (ahead : List ℕ) (more : List Moment) (run : List Mark) → Runs (terms_of credits low units read) link before (with_failed failed after) ahead more run
       → Consumes (Some stream) after.left (bytes_received link Responder run ++ ahead)
   consumed read link failed ahead more run r =
@@ -77,6 +77,7 @@ module _ (credits low units : ℕ) (before after : Outside) (first : Opening) (J
     begins = read_first after.left stream (bytes_received link Responder run) ahead (consumed read link failed ahead more run r);
     served = r.served opened same;
     quiet = r.quiet opened same;
+    writes = r.writes opened same;
     frames = r.frames opened same;
     more = (r.over first J stands).more;
     plain = (r.over first J stands).placed;
@@ -136,7 +137,7 @@ module _ (credits low units : ℕ) (before after : Outside) (first : Opening) (J
 
   closed_at : (end : ConnEnd) → end ≡ ends.Closed → IsServed credits low units before after end → (link : ℕ) → ServesStream credits low units first J link before after stream
   closed_at end is served link =
-      let (read, (failed, (e, lawful))) = keep_the_law credits low units before after ends.Closed even not_memory (subst (λ (c : ConnEnd). IsServed credits low units before after c) is served) link in
+      let (read, (failed, (e, lawful))) = keep_the_law credits low units before after ends.Closed not_memory (subst (λ (c : ConnEnd). IsServed credits low units before after c) is served) link in
       closed read link failed e.ahead e.more e.run e.runs e.ahead_is e.more_is e.failed_is (λ opened same. ((e.cause opened same).0, (e.cause opened same).1.0)) lawful
 
   completes_by : (end : ConnEnd) → IsServed credits low units before after end → (end ≡ ends.Memory) ⊎ (end ≡ ends.Closed) → Completes credits low units first J before after stream end
@@ -144,7 +145,7 @@ module _ (credits low units : ℕ) (before after : Outside) (first : Opening) (J
   completes_by end served (inr is) = inr (is, closed_at end is served)
 
 pub completes : ConnectionsComplete
-completes credits low units before after end source source' first J stream even served sc kc quiet fine stands known complete =
+completes credits low units before after end source source' first J stream served sc kc quiet fine stands known complete =
     let (read, (failed, e)) = served 0 in
-    completes_by credits low units before after first J stream stands known complete even end served
-    (by_end credits low units before after first J stream stands known complete even end source source' sc kc quiet fine read failed e)
+    completes_by credits low units before after first J stream stands known complete end served
+    (by_end credits low units before after first J stream stands known complete end source source' sc kc quiet fine read failed e)

@@ -95,26 +95,26 @@ module _ (credits low units : ℕ) (first : Opening) (J : List Entry) (before af
   all_read end (inr (closed, serves)) =
       inr (closed, λ link. subst (λ (o : Outside). ServesStream credits low units first J link before o stream) (unheld held after (none_held held after.left (serves link).left)) (serves link))
 
-looked_completes : (credits low units : ℕ) (before after : Outside) (end : LinkEnd) (source source' : ℕ) (first : Opening) (J : List Entry) (stream : List ℕ) → credits ≤ low
+looked_completes : (credits low units : ℕ) (before after : Outside) (end : LinkEnd) (source source' : ℕ) (first : Opening) (J : List Entry) (stream : List ℕ)
     → LooksAndServes credits low units before after end → LinkSourceCount end source source' → LinkSinkCount end before.sink.faults after.sink.faults
     → (Rises source source' → ⊥) → (Rises before.sink.faults after.sink.faults → ⊥)
     → IsHistory first J before.view.seen → before.left ≡ Some stream → IsCompleteStream credits low units (setup_in first) J stream → BeginsAsRdma stream → LinkCompletes credits low units first J before after stream end
-looked_completes credits low units before after (link_ends.Rdma end) source source' first J stream even s sc kc quiet fine stands known complete hello =
+looked_completes credits low units before after (link_ends.Rdma end) source source' first J stream s sc kc quiet fine stands known complete hello =
     all_read credits low units first J before after stream s.held end
-    (completes credits low units before (holding s.held after) end source source' first J stream even s.serves sc kc quiet fine stands known complete)
-looked_completes credits low units before after (link_ends.Record end) source source' first J stream even s sc kc quiet fine stands known complete hello =
+    (completes credits low units before (holding s.held after) end source source' first J stream s.serves sc kc quiet fine stands known complete)
+looked_completes credits low units before after (link_ends.Record end) source source' first J stream s sc kc quiet fine stands known complete hello =
     absurd (not_records stream (left_with s.held after.left) end hello
     (subst (λ (l : Option (List ℕ)). IsKindFor l (left_with s.held after.left) (link_ends.Record end)) known s.kind))
 
 pub links_complete : LinksComplete
-links_complete credits low units false before after (link_ends.Record end) first J stream served even fine hello stands known complete = absurd served.served
-links_complete credits low units false before after (link_ends.Rdma end) first J stream served even fine hello stands known complete =
+links_complete credits low units false before after (link_ends.Record end) first J stream served fine hello stands known complete = absurd served.served
+links_complete credits low units false before after (link_ends.Rdma end) first J stream served fine hello stands known complete =
     let none = no_fault served.source_faults served.sink_faults (not_lost served.source_faults served.sink_faults before.lost after.lost served.lost fine) in
-    completes credits low units (opened_outside served) (closed_outside served) end 0 served.source_faults first J stream even served.served served.source_count served.sink_count
+    completes credits low units (opened_outside served) (closed_outside served) end 0 served.source_faults first J stream served.served served.source_count served.sink_count
     (no_rise served.source_faults none.0) (no_rise served.sink_faults none.1) stands known complete
-links_complete credits low units true before after end first J stream served even fine hello stands known complete =
+links_complete credits low units true before after end first J stream served fine hello stands known complete =
     let none = no_fault served.source_faults served.sink_faults (not_lost served.source_faults served.sink_faults before.lost after.lost served.lost fine) in
-    looked_completes credits low units (opened_outside served) (closed_outside served) end 0 served.source_faults first J stream even served.served served.source_count served.sink_count
+    looked_completes credits low units (opened_outside served) (closed_outside served) end 0 served.source_faults first J stream served.served served.source_count served.sink_count
     (no_rise served.source_faults none.0) (no_rise served.sink_faults none.1) stands known complete (hello refl)
 
 -- ---- RPC over TCP with record marks

@@ -1,6 +1,6 @@
 -- Laws of connections: those over a complete stream are served to their end; all but those that run out of memory keep
 -- the law of a link's server.
-use Rattle.std.specs.Prelude.{◌≡◌, ℕ, ◌⊎◌, List, [], length, Bool, Option, Some, ◌≤◌}
+use Rattle.std.specs.Prelude.{◌≡◌, ℕ, ◌⊎◌, List, [], length, Bool, Option, Some}
 use Rattle.nr_xdr.specs.Item.{IsBytes}
 use Rattle.nr_outside.specs.Faults.{Rises}
 use Rattle.nr_outside.specs.declared.moment.Moment.{Moment}
@@ -42,11 +42,10 @@ Completes credits low units first J before after stream end =
     (end ≡ ends.Memory) ⊎ ((end ≡ ends.Closed) × ((link : ℕ) → ServesStream credits low units first J link before after stream))
 
 -- A connection that doesn't run out of memory has marks, as the clause `served` of `serve_connection` says, of which
--- the law of a link's server holds in full: each Wrote writes all that is due. It is said of a server that grants no less
--- while it is busy: the credit word of any other depends on what was written before a call is executed.
+-- the law of a link's server holds in full: each Wrote writes all that is due.
 abbrev pub ConnectionsKeepTheLaw : Type 0
 ConnectionsKeepTheLaw =
-    (credits low units : ℕ) (before after : Outside) (end : ConnEnd) → credits ≤ low → (end ≡ ends.Memory → ⊥) → IsServed credits low units before after end → (link : ℕ) →
+    (credits low units : ℕ) (before after : Outside) (end : ConnEnd) → (end ≡ ends.Memory → ⊥) → IsServed credits low units before after end → (link : ℕ) →
     (read : ℕ) × ((failed : Bool) × ((ended : Ended (record { credits = credits; low = low; units = units; read = read }) link before (with_failed failed after) end)
     × ((opened : LinkParameters) → ServerOpened opened credits low (sized_terms units) → Served opened link ended.run)))
 
@@ -54,7 +53,7 @@ ConnectionsKeepTheLaw =
 -- of the source, or of the sink.
 abbrev pub ConnectionsComplete : Type 0
 ConnectionsComplete =
-    (credits low units : ℕ) (before after : Outside) (end : ConnEnd) (source source' : ℕ) (first : Opening) (J : List Entry) (stream : List ℕ) → credits ≤ low →
+    (credits low units : ℕ) (before after : Outside) (end : ConnEnd) (source source' : ℕ) (first : Opening) (J : List Entry) (stream : List ℕ) →
     IsServed credits low units before after end → SourceCount end source source' → SinkCount end before.sink.faults after.sink.faults →
     (Rises source source' → ⊥) → (Rises before.sink.faults after.sink.faults → ⊥) →
     IsHistory first J before.view.seen → before.left ≡ Some stream → IsCompleteStream credits low units (setup_in first) J stream →

@@ -45,7 +45,7 @@ LinkCompletes credits low units first J before after stream (link_ends.Record en
 -- marks too. The count of lost links doesn't rise.
 abbrev pub LinksComplete : Type 0
 LinksComplete =
-    (credits low units : ℕ) (records : Bool) (before after : Between) (end : LinkEnd) (first : Opening) (J : List Entry) (stream : List ℕ) (served : ServesLink credits low units records before after end) → credits ≤ low →
+    (credits low units : ℕ) (records : Bool) (before after : Between) (end : LinkEnd) (first : Opening) (J : List Entry) (stream : List ℕ) (served : ServesLink credits low units records before after end) →
     (Rises before.lost after.lost → ⊥) → (records ≡ true → BeginsAsRdma stream) →
     IsHistory first J before.view.seen → served.opened.left ≡ Some stream → IsCompleteStream credits low units (setup_in first) J stream →
     LinkCompletes credits low units first J (opened_outside served) (closed_outside served) stream end

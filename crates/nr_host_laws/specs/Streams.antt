@@ -16,11 +16,11 @@ use Rattle.nr_reduce.specs.Served.{Served, ServedSoFar}
 use Rattle.nr_plain.specs.Setup.{Setup}
 use Rattle.nr_plain.specs.History.{AllPlaced, Opening, OverHistory, setup_in}
 use Rattle.nr_links.specs.Limits.{read_max}
-use Rattle.nr_host.specs.Connections.{Outside, IsOwn, IsQuiet, QuietMark, FrameMark, GivesAll, answers_of, moments}
+use Rattle.nr_host.specs.Connections.{Outside, IsOwn, IsQuiet, QuietMark, WriteMark, FrameMark, GivesAll, answers_of, moments}
 use Rattle.nr_host.specs.Ending.{IsIdle}
 
 -- Marks that a connection may have made when it has read the first bytes of this stream, or all: it fed them frame by
--- frame, and executed each call that was complete, and wrote what was due, before the next frame. Each call was
+-- frame, executed each call that was complete, and then wrote what was due, before the next frame. Each call was
 -- answered as the plain server answers at its place in a journal that begins with the entries J, and goes on with its
 -- own and those of others.
 pub record MayHaveMade (s : Setup) (J : List Entry) (opened : LinkParameters) (link : ℕ) (stream : List ℕ) (run : List Mark) : Type 0 where
@@ -28,6 +28,7 @@ pub record MayHaveMade (s : Setup) (J : List Entry) (opened : LinkParameters) (l
   pub begins : IsPrefixOf (bytes_received link Responder run) stream
   pub served : ServedSoFar opened link run
   pub quiet : AtEachMark (QuietMark opened link) [] run
+  pub writes : AtEachMark (WriteMark opened link) [] run
   pub frames : AtEachMark (FrameMark opened link) [] run
   pub more : List Entry
   pub plain : AllPlaced s (J ++ more) (length J) (answers_of run)
