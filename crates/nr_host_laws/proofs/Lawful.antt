@@ -6,7 +6,6 @@ use Rattle.nr_wire.specs.declared.hello.Side.TheVariants.{Initiator}
 use Rattle.nr_link.specs.declared.end.End.{End}
 use Rattle.nr_link.specs.Input.{input_of}
 use Rattle.nr_link.specs.Agreement.{default_terms, sized_terms}
-use Rattle.nr_reduce.specs.Opening.{ServerOpened}
 use Rattle.nr_reduce.specs.declared.mark.Mark.{Mark}
 use Rattle.nr_reduce.specs.declared.mark.LinkParameters.{LinkParameters}
 use Rattle.nr_reduce.specs.Asked.{IsAll}
@@ -18,9 +17,10 @@ use Rattle.nr_reduce.specs.Served.{Served, ServedMark, next_call}
 use Rattle.nr_reduce.specs.ServerState.{ServerState}
 use Rattle.nr_reduce.proofs.SoFarLaws.{AtEachMark_each, served_mark}
 use Rattle.nr_plain.specs.History.{Answered, Over}
-use Rattle.nr_host.specs.Connections.{FrameMark, GivesAll, IsOwn, IsQuiet, Outside, QuietMark, Runs, Takes, Terms, WriteMark}
+use Rattle.nr_host.specs.Connections.{FrameMark, GivesAll, IsOwn, IsQuiet, Outside, QuietMark, Runs, Takes, WriteMark, IsOpenedWith}
 use Rattle.nr_host.specs.Ending.{IsCause, IsIdle, begun_bytes, open_calls}
 use Rattle.nr_host.specs.Steps.{with_failed}
+use Rattle.nr_host.specs.declared.connection_limits.ConnectionLimits.{ConnectionLimits}
 use Rattle.nr_host.specs.declared.conn_end.ConnEnd.{ConnEnd}
 use Rattle.nr_host.specs.declared.conn_end.ConnEnd.TheVariants as ends
 use Rattle.nr_host_laws.specs.Laws.{ConnectionsKeepTheLaw}
@@ -69,13 +69,13 @@ quiet_at opened link run left ends.Memory other cause = absurd (other refl)
 
 -- ---- The marks
 
--- parameters of a link whose server grants these credits, at most `low` while it is busy, and has these units
-abbrev pub with_credits : ℕ → ℕ → ℕ → LinkParameters
-with_credits credits low units = record { first_xid = 1; first_stag = 1; wished = 1; granted = credits; low = low; receives = credits; client = default_terms; server = sized_terms units }
+-- parameters of a link whose server has these limits
+abbrev pub with_limits : ConnectionLimits → LinkParameters
+with_limits limits = record { first_xid = 1; first_stag = 1; wished = 1; granted = limits.credits; low = limits.low; receives = limits.credits; client = default_terms; server = sized_terms limits.units }
 
-module _ (terms : Terms) (link : ℕ) (before now : Outside) (ahead : List ℕ) (more : List Moment) (run : List Mark) (r : Runs terms link before now ahead more run)
-    (all : (opened : LinkParameters) → ServerOpened opened terms.credits terms.low (sized_terms terms.units) → IsQuiet opened link run) where
-  as_whole : (opened : LinkParameters) → ServerOpened opened terms.credits terms.low (sized_terms terms.units) → AtEachMark (KeepsTo IsAll opened link) [] (merge link [] run) × IsSame opened link run (merge link [] run)
+module _ (limits : ConnectionLimits) (read link : ℕ) (before now : Outside) (ahead : List ℕ) (more : List Moment) (run : List Mark) (r : Runs limits read link before now ahead more run)
+    (all : (opened : LinkParameters) → IsOpenedWith limits opened → IsQuiet opened link run) where
+  as_whole : (opened : LinkParameters) → IsOpenedWith limits opened → AtEachMark (KeepsTo IsAll opened link) [] (merge link [] run) × IsSame opened link run (merge link [] run)
   as_whole opened is =
       let each : AtEachMark (KeepsTo IsPrefixOf opened link) [] run =
       both (λ earlier mark. IsOwn link mark) (λ b m. ServedMark IsPrefixOf opened link b m × (QuietMark opened link b m × (WriteMark opened link b m × FrameMark opened link b m))) [] run r.own
@@ -85,12 +85,12 @@ module _ (terms : Terms) (link : ℕ) (before now : Outside) (ahead : List ℕ) 
       let first : IsSame opened link [] [] = record { state = refl; due = refl; sent = refl; received = refl; answers = refl; times = refl } in
       merged opened link [] [] [] run each (all opened is) (inl (first, refl))
 
-  same_run : IsSame (with_credits terms.credits terms.low terms.units) link run (merge link [] run)
-  same_run = (as_whole (with_credits terms.credits terms.low terms.units) (refl, refl, refl, refl)).1
+  same_run : IsSame (with_limits limits) link run (merge link [] run)
+  same_run = (as_whole (with_limits limits) (refl, refl, refl, refl)).1
 
-  pub merged_runs : Runs terms link before now ahead more (merge link [] run)
+  pub merged_runs : Runs limits read link before now ahead more (merge link [] run)
   merged_runs = record {
-    own = AtEachMark_each (KeepsTo IsAll (with_credits terms.credits terms.low terms.units) link) (λ earlier mark. IsOwn link mark) [] (merge link [] run) (λ b m h. h.0) (as_whole (with_credits terms.credits terms.low terms.units) (refl, refl, refl, refl)).0;
+    own = AtEachMark_each (KeepsTo IsAll (with_limits limits) link) (λ earlier mark. IsOwn link mark) [] (merge link [] run) (λ b m h. h.0) (as_whole (with_limits limits) (refl, refl, refl, refl)).0;
     handed = subst (λ (l : List ℕ). HandsOut before.left before.given now.left now.given (l ++ ahead)) (sym same_run.received) r.handed;
     taken = subst (λ (l : List ℕ). Takes before.sink now.sink l) (sym same_run.sent) r.taken;
     served = λ opened is. AtEachMark_each (KeepsTo IsAll opened link) (ServedMark IsPrefixOf opened link) [] (merge link [] run) (λ b m h. served_mark opened link b m h.1.0) (as_whole opened is).0;
@@ -102,22 +102,21 @@ module _ (terms : Terms) (link : ℕ) (before now : Outside) (ahead : List ℕ) 
     count = ap (λ (l : List ℕ). length l + length ahead) same_run.received ∙ r.count;
   }
 
-  pub merged_served : (opened : LinkParameters) → ServerOpened opened terms.credits terms.low (sized_terms terms.units) → Served opened link (merge link [] run)
+  pub merged_served : (opened : LinkParameters) → IsOpenedWith limits opened → Served opened link (merge link [] run)
   merged_served opened is = record {
     each = AtEachMark_each (KeepsTo IsAll opened link) (ServedMark IsAll opened link) [] (merge link [] run) (λ b m h. h.1.0) (as_whole opened is).0;
     written = (as_whole opened is).1.sent ∙ (all opened is).written ∙ sym (as_whole opened is).1.due;
   }
 
-  pub merged_cause : (left : Option (List ℕ)) (end : ConnEnd) → ((opened : LinkParameters) → ServerOpened opened terms.credits terms.low (sized_terms terms.units) → IsCause opened link run left end)
-      → (opened : LinkParameters) → ServerOpened opened terms.credits terms.low (sized_terms terms.units) → IsCause opened link (merge link [] run) left end
+  pub merged_cause : (left : Option (List ℕ)) (end : ConnEnd) → ((opened : LinkParameters) → IsOpenedWith limits opened → IsCause opened link run left end)
+      → (opened : LinkParameters) → IsOpenedWith limits opened → IsCause opened link (merge link [] run) left end
   merged_cause left end cause opened is = cause_same opened link run (merge link [] run) left end (as_whole opened is).1 (cause opened is)
 
 pub keep_the_law : ConnectionsKeepTheLaw
-keep_the_law credits low units before after end other served link =
+keep_the_law limits before after end other served link =
     let (read, (failed, e)) = served link in
-    let terms : Terms = record { credits = credits; low = low; units = units; read = read } in
     let now : Outside = with_failed failed after in
-    let all : (opened : LinkParameters) → ServerOpened opened credits low (sized_terms units) → IsQuiet opened link e.run =
+    let all : (opened : LinkParameters) → IsOpenedWith limits opened → IsQuiet opened link e.run =
     λ opened is. quiet_at opened link e.run after.left end other (e.cause opened is) in (
       read,
       (
@@ -127,14 +126,14 @@ keep_the_law credits low units before after end other served link =
             run = merge link [] e.run;
             ahead = e.ahead;
             more = e.more;
-            runs = merged_runs terms link before now e.ahead e.more e.run e.runs all;
+            runs = merged_runs limits read link before now e.ahead e.more e.run e.runs all;
             ahead_is = e.ahead_is;
             more_is = e.more_is;
             read_is = e.read_is;
             failed_is = e.failed_is;
-            cause = merged_cause terms link before now e.ahead e.more e.run e.runs all after.left end e.cause;
+            cause = merged_cause limits read link before now e.ahead e.more e.run e.runs all after.left end e.cause;
           },
-          merged_served terms link before now e.ahead e.more e.run e.runs all,
+          merged_served limits read link before now e.ahead e.more e.run e.runs all,
         ),
       ),
     )
