@@ -42,7 +42,7 @@ module _ (limits : ConnectionLimits) (before : Outside) (left given left' given'
       → FeedsTo piece [] sink sink' gave gave' view view' v v' → CarriesTo limits before (outside left' given' sink' gave' view') v' (read + length piece)
   carry_on sink' gave' view' v' feeds link =
       let (run, (live, quiet)) = carries link in
-      feeds limits read link before left' given' [] run (waits link run live) quiet
+      feeds limits (read + length piece) link before left' given' [] run (waits link run live) quiet
 
   -- the connection ends within the piece
   pub carry_ends : (end : ConnEnd) (taken' : Option (List ℕ)) (faults' : ℕ) (failed : Bool) (gave' : Option (List Moment)) (view' : PassView)
@@ -50,7 +50,7 @@ module _ (limits : ConnectionLimits) (before : Outside) (left given left' given'
       → IsServed limits before (outside left' given' (sink_state taken' faults' false) gave' view') end
   carry_ends end taken' faults' failed gave' view' most feeds link =
       let (run, (live, quiet)) = carries link in
-      (read + length piece, (failed, feeds limits read link before left' given' run most (waits link run live) quiet))
+      (read + length piece, (failed, feeds limits (read + length piece) link before left' given' run most (waits link run live) quiet))
 
 pub has_read : (read : ℕ) → 0 < read → read ≤ read_max → HasRead read
 has_read read some most = (some, most)
