@@ -78,7 +78,8 @@ pub record SinksFit (v : ResponderSide) : Type 0 where
 abbrev pub sent_reply_max : ℕ
 sent_reply_max = 1056768
 
--- the maximum of the Read Requests of a call, of the RDMA Writes of an answer, and of both with its Send
+-- The maximum of the Read Requests of a call, of the RDMA Writes of an answer, and of both with its Send. A reply of the maximum length has 258 frames of
+-- segment_max bytes, and each segment of a write chunk and of a reply chunk, at most 32, may add one.
 abbrev pub requests_max : ℕ
 requests_max = 16 * request_max
 
