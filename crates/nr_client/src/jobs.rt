@@ -163,12 +163,11 @@ fn fetch_all<R: Threads + Wait + Sync, I: Source + Send, O: Sink + Send>(
     ensures len { length made.new ≡ length made.old }
     ensures each { (i : ℕ) (d : _) → i < length made.old → HasRun shared.now uid gid file.now size (slice_index_or made.old i d) (slice_index_or made.new i d) }
 {
-    thread::for_each_mut(
-        rt,
-        made,
-        threads,
-        &|_, job| { fetch(rt, alloc, shared, uid, gid, file, size, job) },
-    );
+    let run = |_: usize, job: &mut ReadJob<I, O>|
+        requires { IsReady shared.now uid gid file.now size job.now }
+        ensures { HasRun shared.entry.now uid gid file.entry.now size job.entry.now job.exit.now }
+    { fetch(rt, alloc, shared, uid, gid, file, size, job) };
+    thread::for_each_mut(rt, made, threads, &run);
 }
 
 /// Where the pieces of one job begin: every `step` bytes from an offset on, at most so many, before the size.

@@ -1,6 +1,6 @@
 //! Words of a run, and what is read of them.
 
-use nr_words::{Action, Client, Command, WordsFault, read_line, read_words};
+use nr_words::{Action, Client, Command, GetByJobs, WordsFault, read_line, read_words};
 use std::alloc::{AllocError, Global};
 use std::process::Abort;
 
@@ -43,11 +43,26 @@ fn client_text(alloc: Global, line: &str, client: &Client<&str>) -> Result<Strin
     format!(in alloc; "{line}{name} {uid} {gid} {units} {addr} {export} {path} {target}.")
 }
 
+/// A `get` by jobs with their number, the user and group IDs, units, address, export and path, after `line`.
+fn get_text(alloc: Global, line: &str, get: &GetByJobs<&str>) -> Result<String, AllocError> {
+    let GetByJobs {
+        addr,
+        export,
+        path,
+        uid,
+        gid,
+        units,
+        jobs,
+    } = get;
+    format!(in alloc; "{line}get by {jobs} {uid} {gid} {units} {addr} {export} {path}.")
+}
+
 /// The command with its values, after `line`.
 fn command_text(alloc: Global, line: &str, command: &Command<&str>) -> Result<String, AllocError> {
     match command {
         Command::Serve { config } => format!(in alloc; "{line}serve {config}."),
         Command::Client { client } => client_text(alloc, line, client),
+        Command::GetByJobs { get } => get_text(alloc, line, get),
         Command::Drill => format!(in alloc; "{line}drill."),
         Command::GeneratedDrill {
             seed,
@@ -76,7 +91,7 @@ fn read(rt: &impl Abort, alloc: Global, words: &str) -> String {
 }
 
 /// Words of a run, parted by spaces (`''` is an empty word), and how what is read of them begins.
-static ROWS: [(&str, &str); 43] = [
+static ROWS: [(&str, &str); 48] = [
     ("n drill", "line drill."),
     (
         "n drill --seed 7 --clients 3 --calls 2000",
@@ -114,7 +129,15 @@ static ROWS: [(&str, &str); 43] = [
     ("n mount a e --uid 4294967296", "refused error:"),
     ("n mount a e --uid", "refused error:"),
     ("n mount a e f", "refused error:"),
-    ("n get a e p --jobs 2", "refused error:"),
+    ("n get a e p --jobs 2", "line get by 2 0 0 1 a e p."),
+    (
+        "n get --jobs 16 a --gid 7 e p --uid 5",
+        "line get by 16 5 7 1 a e p.",
+    ),
+    ("n get a e p --jobs=02", "get by 2 0 0 1 a e p."),
+    ("n get a e p --jobs 1", "line get 0 0 1 a e p -."),
+    ("n get a e p --jobs 17", "refused error:"),
+    ("n put a e p --jobs 2", "refused error:"),
     ("n get a e --uid 0 p --gid 7", "line get 0 7 1 a e p -."),
     (
         "n get a --inline 16 e p --gid 7",
