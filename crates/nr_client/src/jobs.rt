@@ -37,8 +37,8 @@ use std::sync::Wait;
 use std::thread;
 use std::thread::Threads;
 
-/// The most pieces that a job reads in one round. What is held ahead is at most so many pieces of each job.
-const PIECES_AHEAD: usize = 16;
+/// The most pieces that a job reads in one round. What is held ahead of the output is at most so many pieces of each job.
+const PIECES_AHEAD: usize = 4;
 
 /// A piece of a file that a job has read: where it begins, and the outcome of its READ.
 #[derive(Drop)]

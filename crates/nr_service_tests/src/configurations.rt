@@ -45,7 +45,7 @@ static ROWS: [Row; 6] = [
     ),
 ];
 
-fn served<R: Abort + Threads + Wait + Copy + Drop + Send + 'static>(
+fn served<R: Abort + Threads + Wait + Copy + Drop + Send + Sync + 'static>(
     rt: &R,
     alloc: Global,
     row: usize,

@@ -1,84 +1,57 @@
-//! Files that are read by several jobs.
+//! A file that several jobs read.
 
 use crate::compare::same;
-use crate::host::Host;
-use crate::sockets::new_server;
-use nr_client::Session;
-use nr_links::{Dialer, NumberedSink, NumberedSource, TcpDialer, TcpSink, TcpSource};
-use nr_nfs_base::{Handle, MountPath, Name};
-use nr_outside::{MemSink, MemSource};
+use crate::gates::{Gate, GateDialer, Waits};
+use crate::runs::{bytes_of, dialer, run_client, same_text, source, words};
+use nr_outside::MemSink;
 use std::alloc::Global;
-use std::marker::Brand;
-use std::net::{Net, TcpListener, TcpStream};
 use std::process::Abort;
-use std::thread;
-use std::time::Clock;
+use std::sync::Arc;
 
-type TcpSession = Session<NumberedSource<TcpSource, Brand>, NumberedSink<TcpSink, Brand>>;
+/// What the server sends: the file has 1050272 bytes, a piece of 1048576 and one of 1696; the fourth and the fifth call are answered ERR_CHUNK
+/// (RFC 8166 section 4.5).
+static RECEIVED: &str = "\
+server-hello mounted found-a \
+009e414300000000000000000000000300000000000000030000000100000010000000000000000000000000000000000000000300000001\
+000000000000000000000000000000000000000000000001000001a400000001000000000000000000000000001006a000000000001006a0\
+00000000000000000000000000000001000000000000000200000001000000020000000100000002000000010000000200000000 \
+0026414300000000000000000000000400000000000000040000000100000010000000040000000200000000 \
+0026414300000000000000000000000500000000000000050000000100000010000000040000000200000000";
 
-/// How many bytes the file has.
-const SIZE: usize = 900_000;
+/// As many bytes as the client has sent after both READs: one of 1696 bytes is as long as `piece-4`.
+static SENT: &str = "client-hello mnt lookup-a getattr-a piece-1 piece-4";
 
-fn open<N: Net<Stream = TcpStream, Listener = TcpListener>>(
-    rt: &impl Abort,
-    alloc: Global,
-    addr: &str,
-    dial: &mut TcpDialer<N>,
-) -> (TcpSession, Handle) {
-    let Ok(mut session) = TcpSession::open(alloc, dial, addr, 0, 0, 1) else {
-        panic!(rt; "no session")
-    };
-    let path = MountPath::from_slice(alloc, b"/").expect(rt, "memory");
-    let Ok(root) = session.mount(&path) else {
-        panic!(rt; "no root")
-    };
-    (session, root)
+/// How often the link looks whether both READs were sent.
+const TURNS: u32 = 20_000_000;
+
+/// The gate of a link whose fourth read waits until so many bytes were sent.
+fn gate(rt: &impl Abort, alloc: Global) -> Arc<Gate, Global> {
+    let len = bytes_of(rt, alloc, SENT).len() as u64;
+    Arc::new(alloc, Gate::new(Waits::Sent { from: 4, len }, TURNS)).expect(rt, "memory")
 }
 
-fn file_bytes(rt: &impl Abort, alloc: Global) -> Vec<u8> {
-    let mut bytes = vec![in alloc; 7u8; SIZE].expect(rt, "memory");
-    for i in 0..SIZE / 4 {
-        bytes[i * 4] = (i % 256) as u8;
-        bytes[i * 4 + 1] = (i / 256 % 256) as u8;
-        bytes[i * 4 + 2] = (i / 65536 % 256) as u8;
-    }
-    bytes
-}
-
+/// Two jobs read a file of two pieces: no reply to one READ comes before the other was sent.
 #[test]
-fn a_file_by_jobs(rt: HostRuntime) {
+fn two_pieces(rt: HostRuntime) {
     let alloc = rt.alloc();
-    let (server, addr) = new_server(&rt, alloc, rt, 7);
-    let Ok(server) = thread::spawn(&rt, move || server.run(rt, alloc)) else {
-        panic!(rt; "no thread")
-    };
-    let mut dial = TcpDialer::new(rt);
-    let (mut session, root) = open(&rt, alloc, addr.as_str(), &mut dial);
-    let name = Name::from_slice(alloc, b"a").expect(&rt, "memory");
-    let bytes = file_bytes(&rt, alloc);
-    let copy = bytes.as_slice().to_vec(alloc).expect(&rt, "memory");
-    let mut input = MemSource::new(bytes, Vec::new(alloc), Vec::new(alloc));
-    same(&rt, 0, session.write_file(&root, &name, &mut input).is_ok(), true);
-    session.close(&mut dial);
-    for jobs in [0usize, 1, 2, 4, 8, 16] {
-        let (mut session, root) = open(&rt, alloc, addr.as_str(), &mut dial);
-        let Ok(found) = session.look_up(&root, &name) else {
-            panic!(rt; "no file")
-        };
-        let mut out = MemSink::new(alloc, Vec::new(alloc));
-        let start = std::time::Instant::now(&rt).expect(&rt, "clock");
-        if jobs == 0 {
-            same(&rt, 1, session.read_file(&found.object, &mut out).is_ok(), true);
-            session.close(&mut dial);
-        } else {
-            let (result, source, sink) =
-                session.read_file_by_jobs(&rt, &found.object, jobs, &mut out);
-            same(&rt, 1, result.is_ok(), true);
-            dial.hang_up(source.into_inner(), sink.into_inner());
-        }
-        let micros = start.elapsed(&rt).expect(&rt, "clock").as_micros();
-        println!(rt; "jobs {jobs}: {micros} us").expect(&rt, "print");
-        same(&rt, 2, out.bytes() == copy.as_slice(), true);
-    }
-    let _ = server.join(&rt);
+    let gate = gate(&rt, alloc);
+    let theirs = Arc::try_clone(&gate).expect(&rt, "memory");
+    let mut dial = GateDialer::new(dialer(&rt, alloc, RECEIVED, ""), theirs);
+    let words = words(&rt, alloc, "get here / /a --jobs 2", "here");
+    let mut input = source(&rt, alloc, b"", Vec::new(alloc));
+    let mut out = MemSink::new(alloc, Vec::new(alloc));
+    let mut err = MemSink::new(alloc, Vec::new(alloc));
+    let status = run_client(
+        &rt,
+        alloc,
+        words.as_slice(),
+        &mut input,
+        &mut out,
+        &mut err,
+        &mut dial,
+    );
+    same(&rt, 0, u32::from(status), 8);
+    same_text(&rt, alloc, 0, err.bytes(), "chunk;");
+    same(&rt, 1, out.bytes().is_empty(), true);
+    assert!(rt; gate.in_time());
 }

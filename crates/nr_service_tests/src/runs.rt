@@ -76,7 +76,7 @@ pub(crate) fn push_piece(rt: &impl Abort, alloc: Global, bytes: &mut Vec<u8>, wo
 }
 
 /// The bytes of pieces.
-fn bytes_of(rt: &impl Abort, alloc: Global, words: &str) -> Vec<u8> {
+pub(crate) fn bytes_of(rt: &impl Abort, alloc: Global, words: &str) -> Vec<u8> {
     let mut bytes = Vec::new(alloc);
     for word in words.split_whitespace() {
         push_piece(rt, alloc, &mut bytes, word);
@@ -154,7 +154,7 @@ pub(crate) fn source(
 }
 
 /// Runs a client, and gives its status.
-pub(crate) fn run_client<P: LinkSource, Q: LinkSink, D: Dialer<Source = P, Sink = Q>>(
+pub(crate) fn run_client<P: LinkSource + Drop + Send, Q: LinkSink + Drop + Send, D: Dialer<Source = P, Sink = Q>>(
     rt: &impl Host,
     alloc: Global,
     words: &[String],
@@ -218,7 +218,7 @@ fn same_texts(rt: &impl Abort, alloc: Global, row: usize, case: Case, out: &[u8]
 }
 
 /// Runs a client that dials this address, with this input, and compares its status and what it prints and reports.
-pub(crate) fn same_run<P: LinkSource, Q: LinkSink, D: Dialer<Source = P, Sink = Q>>(
+pub(crate) fn same_run<P: LinkSource + Drop + Send, Q: LinkSink + Drop + Send, D: Dialer<Source = P, Sink = Q>>(
     rt: &impl Host,
     alloc: Global,
     row: usize,
