@@ -1,5 +1,6 @@
 -- A call over a shared requester: what it added to the history, and its outcome.
-use Rattle.std.proofs.Common.{◌≡◌, ◌≢◌, ◌⊎◌, ⊎_elim, inl, inr, arith, ℕ, zero, suc, ◌<◌, List, [], ◌∷◌, ◌++◌, Result, Ok, Err, refl, sym, ap, subst, ◌∙◌}
+use Rattle.std.proofs.Common.{◌≡◌, ◌≢◌, ◌⊎◌, ⊎_elim, inl, inr, arith, ℕ, zero, suc, ◌<◌, List, [], ◌∷◌, ◌++◌, length, take, Result, Ok, Err, refl, sym, ap, subst, ◌∙◌}
+use Rattle.std.proofs.Math.Seq.{take-append_seam}
 use Rattle.std.specs.declared.vec.Vec.{Vec}
 use Rattle.std.specs.declared.alloc.Global.{Global}
 use Rattle.std.specs.List.{All, AllByRecursion, slice_index_or}
@@ -101,6 +102,10 @@ fetched_more xs ks uid gid file size at count outcome pieces all one same =
     let P : PieceRead → Type 0 = λ piece. IsExchange xs ks (read_call uid gid file piece.at (piece_left size piece.at)) piece.outcome in
     let x : PieceRead = record { at = at; outcome = outcome } in
     All-append P pieces (x ∷ []) all (all_one P x (subst (λ (n : ℕ). IsExchange xs ks (read_call uid gid file at n) outcome) same one))
+
+-- a list that was lent as a slice, after that
+pub all_lent : {X : Type 0} (len : ℕ) (new rest : List X) → length new ≡ len → take len (new ++ rest) ≡ new
+all_lent len new rest e = ap (λ (n : ℕ). take n (new ++ rest)) (sym e) ∙ take-append_seam new rest
 
 parts : (Is : Call → Type 0) (call : Call) (form : Form) (xid : ℕ) (writes_before writes_after : List Entry) → Is call → AreWrites writes_before → AreWrites writes_after → AllByRecursion (Submits Is) (writes_before ++ entries.Submit call form xid ∷ writes_after)
 parts Is call form xid writes_before writes_after is one two = all_append (Submits Is) writes_before (entries.Submit call form xid ∷ writes_after) (asks_writes Is writes_before one) (is, asks_writes Is writes_after two)

@@ -1,5 +1,5 @@
 -- A file is read by jobs: one outcome more, and how it ends.
-use Rattle.std.proofs.Common.{◌≡◌, ◌⊎◌, ⊎_elim, inl, inr, arith, ℕ, ◌+◌, ◌<◌, ◌≤◌, List, [], ◌∷◌, ◌++◌, append-nil, append_assoc, Option, Some, Result, Ok, Err, refl, sym, ap, subst, ◌∙◌}
+use Rattle.std.proofs.Common.{◌≡◌, ◌⊎◌, ⊎_elim, inl, inr, arith, ℕ, ◌+◌, ◌<◌, ◌≤◌, List, [], ◌∷◌, ◌++◌, length, take, append-nil, append_assoc, Option, Some, Result, Ok, Err, refl, sym, ap, subst, ◌∙◌}
 use Rattle.std.proofs.lemmas.Bool.{le-ltb}
 use Rattle.std.proofs.KnownBytes.{Appends-nil, Appends-trans}
 use Rattle.nr_reduce.specs.declared.call.Call.{Call}
@@ -26,12 +26,15 @@ use Rattle.nr_client.proofs.CallsMade.{end_of_reply}
 use Rattle.std.specs.Io.KnownBytes.{Appends}
 use Rattle.nr_client.specs.Reading.{EndsAtReply, bytes_of, bytes_read, next_read, piece_left, read_call, reading, with_size}
 use Rattle.nr_client.specs.Reading.FileRead.{SizeKnown}
-use Rattle.nr_client.specs.private.JobReads.{EndedByJobs, Grows, HasNone, IsUpTo, ReadByJobs}
+use Rattle.nr_client.specs.private.JobReads.{EndedByJobs, Grows, HasNone, HasRun, IsDone, IsUpTo, ReadByJobs}
+use Rattle.nr_client.specs.declared.jobs.ReadJob.{ReadJob}
+use Rattle.nr_shared.specs.declared.shared.SharedRequester.{SharedRequester}
+use Rattle.std.specs.List.{All, slice_index_or}
 use Rattle.nr_client.specs.private.OpenReads.{GivesData, GivesNone, IsInPiece}
 use Rattle.nr_client.proofs.FileEnds.{at_reply, takes_bytes}
 use Rattle.nr_client.proofs.FilePieces.{in_piece}
 use Rattle.nr_client.proofs.FileReading.{data_came, follows}
-use Rattle.nr_client.proofs.JobCalls.{exchanges_grow}
+use Rattle.nr_client.proofs.JobCalls.{all_lent, exchanges_grow}
 
 -- one exchange more
 exchanges_end : (uid gid : ℕ) (file : List ℕ) (seen : List Entry) (mine : List ℕ) (before after : List Outcome) (outcome : Outcome) (call : Call)
@@ -187,6 +190,20 @@ module _ {O : Type 0} where
     own = own_reads (IsOfFile uid gid file) p q none grows;
     ends = ended.ends;
   }
+
+-- ---- Jobs that have run
+
+-- The jobs were lent as a slice, had no places before, and each has run: a caller can take their passes back.
+pub all_done : {I O : Type 0} (s : SharedRequester I O) (uid gid : ℕ) (file : List ℕ) (size len : ℕ) (old new rest : List (ReadJob I O)) → length new ≡ length old → length old ≡ len → All (λ (j : ReadJob I O). mine_of j.pass.main ≡ []) old
+    → ((k : ℕ) (d : ReadJob I O) → k < length old → HasRun s uid gid file size (slice_index_or old k d) (slice_index_or new k d)) → All (IsDone s uid gid file size) (take len (new ++ rest))
+all_done {I} {O} s uid gid file size len old new rest same lent none run =
+    subst (All (IsDone s uid gid file size)) (sym (all_lent len new rest (same ∙ lent))) done
+  where
+    done : All (IsDone s uid gid file size) new
+    done k d lt =
+        let first : k < length old = subst (λ (n : ℕ). k < n) same lt in
+        let r = run k d first in
+        (r.0, (own_reads (IsOfFile uid gid file) (slice_index_or old k d).pass.main (slice_index_or new k d).pass.main (none k d first) r.1.1.0, r.1.1.1))
 
 -- ---- Shared and taken back
 
