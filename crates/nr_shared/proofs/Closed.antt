@@ -79,6 +79,7 @@ module _ {I O : Type 0} (left given : I → Option (List ℕ)) (source_faults : 
         took = st.took;
         sink_count = st.never_falls;
         sink_failed = λ is. st.sink_failed (st.write_failed ∙ is);
+        in_order = st.in_order;
         previous = st.previous;
         output = st.output;
         gave = subst (λ (l : List ℕ). HandsOut (left b.source.value) (given b.source.value) (left s.source) (given s.source) l) (sym bytes) f.gave;
@@ -102,6 +103,7 @@ module _ {I O : Type 0} (left given : I → Option (List ℕ)) (source_faults : 
     took = st.took;
     sink_count = st.never_falls;
     sink_failed = λ is. st.sink_failed (st.write_failed ∙ is);
+    in_order = st.in_order;
     previous = st.previous;
     output = st.output;
     gave = subst (λ (l : List ℕ). HandsOut (left source) (given source) (left source) (given source) l) (sym none) (HandsOut_nil (left source) (given source));

@@ -24,7 +24,7 @@ use Rattle.nr_shared.specs.Draining.{AreWrites}
 use Rattle.nr_shared.specs.Ending.{IsCause, LinkEnded}
 use Rattle.nr_shared.specs.Histories.{closes_of}
 use Rattle.nr_shared.specs.Output.{HasWrittenOutput}
-use Rattle.nr_shared.specs.Waiting.{IsSubmitTurn, Calls, GivesUp, LacksCredit, NoAnswer, OwnAnswer, Sends, SendsNone, Submits, TakesAnswer, Waits}
+use Rattle.nr_shared.specs.Waiting.{IsSubmitTurn, Calls, GivesUp, LacksCredit, NoAnswer, OpensCall, OwnAnswer, Sends, SendsNone, Submits, TakesAnswer, Waits}
 use Rattle.nr_shared.proofs.Adding.{adds_both, adds_none, adds_same}
 use Rattle.nr_shared.proofs.Alone.{open_writes}
 use Rattle.nr_shared.proofs.Asking.{asked_just, none_closed}
@@ -77,6 +77,21 @@ module _ {O : Type 0} where
         new = (let l = ap length one.seen ∙ length-append (seen_by p) one.es in omega (arith, l));
         opened = open_writes r s n two opened;
         written = all_written;
+      }
+
+  -- a turn in which a call is submitted, and nothing else is done
+  pub opens_call : (p q r s : Pass (RequesterWithSink O) Entry) (call : Call) (form : Form) (xid : ℕ) → Adds p q [] → KeepsOpen p q → Adds q r (entries.Submit call form xid ∷ []) → seen_by r ≡ seen_by q ++ entries.Submit call form xid ∷ [] → KeepsOpen q r
+      → IsOpen closes_of (seen_by r) (mine_of r) (length (seen_by q)) → seen_by s ≡ seen_by r → mine_of s ≡ mine_of r → OpensCall p s call form xid
+  opens_call p q r s call form xid none kept adds more keeps opened seen mine =
+      let e : Entry = entries.Submit call form xid in
+      let n = length (seen_by q) in
+      record {
+        adds = adds_same p r s (e ∷ []) (adds_both p q r [] (e ∷ []) none adds) seen mine;
+        keeps = λ k o. keeps_same r s seen mine k (keeps k (kept k o));
+        at = n;
+        stands = subst (λ (l : List Entry). get_elem? l n ≡ some e) (sym (seen ∙ more)) (at_last (seen_by q) e n refl);
+        new = (let l = ap length none.seen.1 ∙ length-append (seen_by p) none.seen.0 in omega (arith, l));
+        opened = subst (λ (l : List Entry). IsOpen closes_of l (mine_of s) n) (sym seen) (subst (λ (m : List ℕ). IsOpen closes_of (seen_by r) m n) (sym mine) opened);
       }
 
   -- a turn in which the call is submitted: what keeps calls from being submitted is looked for between
@@ -230,4 +245,5 @@ module _ {O : Type 0} where
         before = g.before;
         seen = g.seen;
         ended = g.ended;
+        unanswered = g.unanswered;
       }

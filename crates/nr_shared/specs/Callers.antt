@@ -15,7 +15,7 @@ use Rattle.nr_turnstile.specs.Turns.{Has, pass_of}
 use Rattle.nr_shared.specs.declared.entry.Entry.{Entry}
 use Rattle.nr_shared.specs.declared.entry.InitialState.{InitialState}
 use Rattle.nr_shared.specs.declared.requester_with_sink.RequesterWithSink.{RequesterWithSink}
-use Rattle.nr_shared.specs.Histories.{FitsHistory, IsCallAt, closes_of, initial_of, is_feeding, last_feeding, run_of}
+use Rattle.nr_shared.specs.Histories.{FeedsInOrder, FitsHistory, IsCallAt, closes_of, initial_of, is_feeding, last_feeding, run_of}
 use Rattle.nr_shared.specs.Adding.{Adds}
 use Rattle.nr_shared.specs.Draining.{AreWrites}
 use Rattle.nr_shared.specs.Output.{OutputBeforeInput}
@@ -44,11 +44,12 @@ pub record IsCaller {O : Type 0} (p : Pass (RequesterWithSink O) Entry) : Type 0
   pub feeds_none : (k : ℕ) (e : Entry) → IsIn k (mine_of p) → get_elem? (seen_by p) k ≡ some e → is_feeding e ≡ false
 
 -- The marks of the history keep the law of the client's side, and the last grant; `n` is how many bytes were fed of the piece at which memory ran out.
--- Output is written before more is fed.
+-- Output is written before more is fed. Each entry that feeds closes the one before it: so they are all of the one pass that feeds.
 pub record KeepsLaw (history : List Entry) : Type 0 where
   pub n : ℕ
   pub law : (opened : LinkParameters) (link : ℕ) (before : List Mark) → FitsHistory history opened link before → AskedSoFar opened link (run_of before n link history) × KeepsGrant opened link (run_of before n link history)
   pub output : OutputBeforeInput history
+  pub in_order : FeedsInOrder history
 
 -- A call of this xid stands at a place of the pass's own, which is open. All places of the pass lie in what it has seen.
 pub record HasOpenCall {O : Type 0} (p : Pass (RequesterWithSink O) Entry) (xid : ℕ) : Type 0 where

@@ -10,7 +10,7 @@ use Rattle.nr_turnstile.specs.Rule.{Begins, Earlier, Lies}
 use Rattle.nr_shared.specs.declared.entry.Entry.{Entry}
 use Rattle.nr_shared.specs.declared.entry.Entry.TheVariants as entries
 use Rattle.nr_shared.specs.declared.entry.InitialState.{InitialState}
-use Rattle.nr_shared.specs.Histories.{HavePrevious, closes_of, initial_of, bytes_written, bytes_fed, has_write_failed, stop_of}
+use Rattle.nr_shared.specs.Histories.{FeedsInOrder, HavePrevious, closes_of, initial_of, bytes_written, bytes_fed, has_write_failed, stop_of}
 use Rattle.nr_shared.specs.Standing.{RepresentsHistory, KeepsCalls, bytes_before}
 use Rattle.nr_shared.specs.Feeding.{StopHolds}
 use Rattle.nr_shared.specs.Output.{OutputBeforeInput}
@@ -40,6 +40,7 @@ pub record GivesBack {I O : Type 0} (left given : I → Option (List ℕ)) (sour
   pub took : Appends initial.taken (taken sink) (bytes_written history)
   pub sink_count : initial.faults ≤ sink_faults sink
   pub sink_failed : has_write_failed history ≡ true → Rises initial.faults (sink_faults sink)
+  pub in_order : FeedsInOrder history
   pub previous : HavePrevious history
   pub output : OutputBeforeInput history
   pub gave : HandsOut (left first) (given first) (left source) (given source) (bytes_fed history)

@@ -23,7 +23,7 @@ use Rattle.nr_shared.specs.Histories.{FitsHistory, run_of, stop_of}
 use Rattle.nr_shared.specs.Adding.{Adds}
 use Rattle.nr_shared.specs.Callers.{HasOpenCall, IsCaller, KeepsLaw, KeepsOpen, KeepsOthers}
 use Rattle.nr_shared.specs.Ending.{IsRefused}
-use Rattle.nr_shared.specs.Waiting.{AtCall, IsTakeTurn}
+use Rattle.nr_shared.specs.Waiting.{AtCall, IsTakeTurn, OpensCall}
 
 -- whether a credit is left, by the run of a history at which memory didn't run out
 abbrev pub SaysCredit : Bool → List Entry → Type 0
@@ -49,7 +49,7 @@ module _ {I O : Type 0} where
 
   -- One requester call under one turn, or the turn was taken and all comes back.
   abbrev pub TrySubmits : Pass I O → Pass I O → Call → Form → TrySubmit → Type 0
-  TrySubmits p q call form (submits.Submitted xid) = Adds p.main q.main (entries.Submit call form xid ∷ []) × (HasOpenCall q.main xid × KeepsOpen p.main q.main)
+  TrySubmits p q call form (submits.Submitted xid) = OpensCall p.main q.main call form xid × HasOpenCall q.main xid
   TrySubmits p q call form (submits.Refused c why) = Adds p.main q.main [] × (KeepsOpen p.main q.main × ((c ≡ call) × IsRefused why call form (seen_by q.main)))
   TrySubmits p q call form (submits.Busy c f) = Misses p.main q.main × ((c ≡ call) × (f ≡ form))
 

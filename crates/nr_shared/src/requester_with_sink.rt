@@ -173,24 +173,16 @@ impl<O: Sink> RequesterWithSink<O> {
             Stands O.taken O.faults self.new (history ++ fed_entry result piece.now last ∷ []) }
         ensures tickets { KeepsTickets self.old.requester.state self.new.requester.state }
     {
+        self.entries += 1;
+        self.pending = true;
         match self.requester.feed(piece) {
-            Ok(()) => {
-                self.entries += 1;
-                self.pending = true;
-                false
-            }
+            Ok(()) => false,
             Err(end) => match end {
                 End::Memory => {
-                    self.entries += 1;
-                    self.pending = true;
                     self.stopped = Some(Stop::Memory);
                     true
                 }
-                _ => {
-                    self.entries += 1;
-                    self.pending = true;
-                    false
-                }
+                _ => false,
             },
         }
     }

@@ -1,4 +1,4 @@
-use Rattle.std.proofs.Common.{◌≡◌, [], ◌∷◌, ◌++◌, refl, ap, subst, ◌∙◌}
+use Rattle.std.proofs.Common.{◌≡◌, [], ◌∷◌, ◌++◌, refl, sym, ap, subst, ◌∙◌}
 use Rattle.nr_turnstile.specs.Passes.{seen_by}
 use Rattle.nr_turnstile.specs.Turns.{pass_of}
 use Rattle.nr_turnstile.proofs.Held.{same_value, written}
@@ -8,6 +8,7 @@ use Rattle.nr_shared.specs.Histories.{place_or_none}
 use Rattle.nr_shared.specs.Standing.{Stands}
 use Rattle.nr_shared.proofs.Adding.{adds_none}
 use Rattle.nr_shared.proofs.Lists.{begins_self}
+use Rattle.nr_shared.proofs.Taking.{none_has_come}
 use Rattle.nr_shared.proofs.caller_turns.poll_under.Goals as goal
 
 pub take_under-requires-clause-ready : goal.take_under-requires-clause-ready
@@ -57,6 +58,7 @@ returns-in-Some-clause-polled g c = λ k call asked o.
       before = seen;
       seen = c.forget_under.ensures.seen ∙ ap (λ n. seen ++ entries.Forget c.args.ticket (place_or_none n) ∷ []) (st.calls c.args.ticket k call asked o.1).0;
       ended = c.in-Some.ensures.some seen st;
+      unanswered = none_has_come g.O.Sink.taken g.O.Sink.faults f seen c.args.ticket k call (sym c.has_outcome-there.ensures ∙ c.if-there.false) asked o.1 st;
     })
 
 pub returns-then-there-clause-polled : goal.returns-then-there-clause-polled

@@ -24,3 +24,6 @@ returns-clause-keeps g c = let r = c.requires.0 in let o = c.requires.1 in let j
 pub returns-clause-source : goal.returns-clause-source
 returns-clause-source g c = let r = c.requires.0 in let o = c.requires.1 in
     joined_one (seen_by c.args.pass.now.source) (seen_by c.args.other.source) (seen_by c.join-2.new.pass) r.initial_source o.initial_source c.join-2.ensures.joined.0 r.has_seen o.has_seen ∙ sym r.has_seen
+
+pub returns-clause-longer : goal.returns-clause-longer
+returns-clause-longer g c = c.join.ensures.joined.0

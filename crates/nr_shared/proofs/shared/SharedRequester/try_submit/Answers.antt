@@ -11,11 +11,13 @@ use Rattle.nr_shared.specs.Callers.{HasOpenCall, IsCaller, KeepsLaw, KeepsOpen}
 use Rattle.nr_shared.specs.Ending.{IsRefused}
 use Rattle.nr_shared.specs.Histories.{closes_of}
 use Rattle.nr_shared.specs.Standing.{Stands}
+use Rattle.nr_shared.specs.Waiting.{OpensCall}
 use Rattle.nr_shared.proofs.Adding.{adds_both, adds_same, got}
 use Rattle.nr_shared.proofs.Asking.{keeps_got, none_closed}
 use Rattle.nr_shared.proofs.Ends.{law_put_back}
 use Rattle.nr_shared.proofs.Polling.{asked_same, keeps_same}
 use Rattle.nr_shared.proofs.Resting.{caller_on, rests_missed, rests_on}
+use Rattle.nr_shared.proofs.Submitting.{opens_call}
 use Rattle.nr_shared.proofs.shared.SharedRequester.try_submit.Goals as goal
 
 pub returns-in-Err-clause-rests : goal.returns-in-Err-clause-rests
@@ -37,13 +39,10 @@ pub returns-in-Ok-submit_under-clause-tried : goal.returns-in-Ok-submit_under-cl
 returns-in-Ok-submit_under-clause-tried g c = let t = c.in-Ok.ensures.got.1 in let a = c.in-Ok-submit_under.ensures.accepted in
     let e = c.pass-in-Ok-submit_under-1.given.1 (sym (c.submit_under.ensures.same.1 ∙ c.in-Ok.ensures.borrow)) in
     let p = c.args.pass.now.main in let q = pass_of c.in-Ok.turn in let r = pass_of c.submit_under.new.turn in let s = c.put_back.new.self.1.0 in
-    subst (λ (z : Pass (RequesterWithSink g.row.O.Denot) Entry). Adds {M = RequesterWithSink g.row.O.Denot} {E = Entry} p z (entries.Submit c.args.call c.args.form c.in-Ok-submit_under.ticket ∷ []) × (HasOpenCall {O = g.row.O.Denot} z c.in-Ok-submit_under.ticket × KeepsOpen {O = g.row.O.Denot} p z)) (sym e) (
-      adds_same p r s (entries.Submit c.args.call c.args.form c.in-Ok-submit_under.ticket ∷ []) (adds_both p q r [] (entries.Submit c.args.call c.args.form c.in-Ok-submit_under.ticket ∷ [])
-          (got (Stands g.O.Sink.taken g.O.Sink.faults) closes_of c.in-Ok.turn.turnstile.now p q t) a.0) c.put_back.ensures.1 c.put_back.ensures.2,
-      (
-        asked_same r s c.in-Ok-submit_under.ticket c.put_back.ensures.1 c.put_back.ensures.2 a.1,
-        λ k o. keeps_same r s c.put_back.ensures.1 c.put_back.ensures.2 k (c.in-Ok-submit_under.ensures.keeps k (keeps_got g.O.Sink.taken g.O.Sink.faults c.in-Ok.turn.turnstile.now p q c.requires.rests.caller.lies t k o)),
-      ),
+    subst (λ (z : Pass (RequesterWithSink g.row.O.Denot) Entry). OpensCall {O = g.row.O.Denot} p z c.args.call c.args.form c.in-Ok-submit_under.ticket × HasOpenCall {O = g.row.O.Denot} z c.in-Ok-submit_under.ticket) (sym e) (
+      opens_call p q r s c.args.call c.args.form c.in-Ok-submit_under.ticket (got (Stands g.O.Sink.taken g.O.Sink.faults) closes_of c.in-Ok.turn.turnstile.now p q t) (keeps_got g.O.Sink.taken g.O.Sink.faults c.in-Ok.turn.turnstile.now p q c.requires.rests.caller.lies t)
+          a.0 c.in-Ok-submit_under.ensures.seen c.in-Ok-submit_under.ensures.keeps c.in-Ok-submit_under.ensures.opened c.put_back.ensures.1 c.put_back.ensures.2,
+      asked_same r s c.in-Ok-submit_under.ticket c.put_back.ensures.1 c.put_back.ensures.2 a.1,
     )
 
 pub returns-in-Err-submit_under-clause-rests : goal.returns-in-Err-submit_under-clause-rests
