@@ -27,6 +27,7 @@ module _ {I O : Type 0} where
     took = b.took;
     sink_count = b.sink_count;
     sink_failed = b.sink_failed;
+    in_order = b.in_order;
     previous = b.previous;
     output = b.output;
     gave = b.gave;
