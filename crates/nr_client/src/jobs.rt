@@ -15,7 +15,7 @@ ghost use Rattle.nr_client.specs.Reading.{OutputFaults, piece_left};
 ghost use Rattle.nr_requester.specs.Fed.{fed_bytes};
 ghost use Rattle.nr_shared.specs.Standing.{bytes_before};
 ghost use Rattle.nr_link.specs.declared.end.End.TheVariants as ends;
-ghost use Rattle.nr_client.specs.private.JobReads.{AreFetched, EndsMore, Grows, HasNone, HasRun, IsDone, IsFetched, IsReady, IsUpTo, ReadsMore};
+ghost use Rattle.nr_client.specs.private.JobReads.{AreFetched, EndsMore, Grows, HasNone, HasRun, IsDone, IsFetched, IsNewJob, IsReady, IsUpTo, MayRun, ReadsMore};
 ghost use Rattle.nr_client.specs.private.OpenReads.{GivesData, GivesNone};
 ghost use Rattle.nr_client.specs.Results.{IsOfCall};
 
@@ -146,6 +146,23 @@ fn fetch<R: Wait, I: Source, O: Sink>(
     }
 }
 
+/// As `fetch`, for a closure.
+fn run_job<R: Wait, I: Source, O: Sink>(
+    rt: &R,
+    alloc: Global,
+    shared: &SharedRequester<I, O>,
+    uid: u32,
+    gid: u32,
+    file: &Handle,
+    size: u64,
+    job: &mut ReadJob<I, O>,
+)
+    requires { MayRun shared.now uid gid file.now size job.old }
+    ensures { HasRun shared.now uid gid file.now size job.old job.new }
+{
+    fetch(rt, alloc, shared, uid, gid, file, size, job);
+}
+
 /// Each job reads its pieces, in a thread of its own if there is one.
 fn fetch_all<R: Threads + Wait + Sync, I: Source + Send, O: Sink + Send>(
     rt: &R,
@@ -159,14 +176,14 @@ fn fetch_all<R: Threads + Wait + Sync, I: Source + Send, O: Sink + Send>(
     made: &mut [ReadJob<I, O>],
 )
     requires threads { 0 < threads }
-    requires ready { All (IsReady shared.now uid gid file.now size) made.old }
+    requires ready { All (MayRun shared.now uid gid file.now size) made.old }
     ensures len { length made.new ≡ length made.old }
     ensures each { (i : ℕ) (d : _) → i < length made.old → HasRun shared.now uid gid file.now size (slice_index_or made.old i d) (slice_index_or made.new i d) }
 {
     let run = |_: usize, job: &mut ReadJob<I, O>|
-        requires { IsReady shared.now uid gid file.now size job.now }
+        requires { MayRun shared.now uid gid file.now size job.now }
         ensures { HasRun shared.entry.now uid gid file.entry.now size job.entry.now job.exit.now }
-    { fetch(rt, alloc, shared, uid, gid, file, size, job) };
+    { run_job(rt, alloc, shared, uid, gid, file, size, job) };
     thread::for_each_mut(rt, made, threads, &run);
 }
 
@@ -198,7 +215,7 @@ fn make_job<I: Source, O: Sink>(
     ensures rests { SharedRests shared.now pass.new }
     ensures source { seen_by pass.new.source ≡ seen_by pass.old.source }
     ensures unchanged { (seen_by pass.new.main ≡ seen_by pass.old.main) × (mine_of pass.new.main ≡ mine_of pass.old.main) }
-    ensures ok { IfOk result (λ j. (uid gid : ℕ) (file : List ℕ) → IsReady shared.now uid gid file size j × ((mine_of j.pass.main ≡ []) × (seen_by j.pass.source ≡ seen_by pass.old.source))) }
+    ensures ok { IfOk result (λ j. (uid gid : ℕ) (file : List ℕ) → IsNewJob shared.now uid gid file size (seen_by pass.old.source) j) }
 {
     let offsets = offsets_from(alloc, size, from, step)?;
     let fetched = Vec::with_capacity(alloc, PIECES_AHEAD)?;
@@ -222,7 +239,7 @@ fn make_jobs<I: Source, O: Sink>(
     ensures rests { SharedRests shared.now pass.new }
     ensures source { seen_by pass.new.source ≡ seen_by pass.old.source }
     ensures unchanged { (seen_by pass.new.main ≡ seen_by pass.old.main) × (mine_of pass.new.main ≡ mine_of pass.old.main) }
-    ensures ok { IfOk result (λ v. (uid gid : ℕ) (file : List ℕ) → All (λ j. IsReady shared.now uid gid file size j × ((mine_of j.pass.main ≡ []) × (seen_by j.pass.source ≡ seen_by pass.old.source))) v.items) }
+    ensures ok { IfOk result (λ v. (uid gid : ℕ) (file : List ℕ) → All (IsNewJob shared.now uid gid file size (seen_by pass.old.source)) v.items) }
 {
     let mut made = Vec::with_capacity(alloc, jobs)?;
     let piece = TRANSFER_MAX as u64;

@@ -17,6 +17,7 @@ use Rattle.nr_client.specs.declared.jobs.PieceRead.{PieceRead}
 use Rattle.nr_client.specs.declared.jobs.ReadJob.{ReadJob}
 use Rattle.nr_shared.specs.Sharing.{SharedRests}
 use Rattle.nr_shared.specs.declared.shared.SharedRequester.{SharedRequester}
+use Rattle.nr_shared.specs.declared.source_reader.InitialSource.{InitialSource}
 use Rattle.nr_client.specs.Jobs.{AreExchanges, EndsByJobs, IsExchange, IsOfFile, LacksAnswer, OwnsReads, Submits}
 use Rattle.nr_client.specs.Reading.{file_read, piece_left, read_call}
 use Rattle.nr_client.specs.Reading.FileRead.{SizeKnown}
@@ -68,6 +69,14 @@ module _ {I O : Type 0} where
   -- a job that may run: its pass is a caller's, and its pieces begin before the size
   abbrev pub IsReady : SharedRequester I O → (uid gid : ℕ) → (file : List ℕ) → (size : ℕ) → ReadJob I O → Type 0
   IsReady s uid gid file size j = SharedRests s j.pass × (All (λ at. at < size) j.offsets.items × AreFetched uid gid file size (seen_by j.pass.main) (mine_of j.pass.main) j.fetched.items)
+
+  -- the same as one fact
+  pub record MayRun (s : SharedRequester I O) (uid gid : ℕ) (file : List ℕ) (size : ℕ) (j : ReadJob I O) : Type 0 where
+    pub ready : IsReady s uid gid file size j
+
+  -- a job as it is made: it has no places, and its source is the one that was shared
+  abbrev pub IsNewJob : SharedRequester I O → (uid gid : ℕ) → (file : List ℕ) → (size : ℕ) → List (InitialSource I O) → ReadJob I O → Type 0
+  IsNewJob s uid gid file size source j = IsReady s uid gid file size j × ((mine_of j.pass.main ≡ []) × (seen_by j.pass.source ≡ source))
 
   -- what it is after it has run
   abbrev pub HasRun : SharedRequester I O → (uid gid : ℕ) → (file : List ℕ) → (size : ℕ) → (j k : ReadJob I O) → Type 0

@@ -37,7 +37,7 @@ jobs-preserved g c =
       λ uid gid size file all.
           (let one = (all_first (IsDone c.args.shared.now uid gid file size) c.remove-own.result c.remove-own.new.self.items (subst (All (IsDone c.args.shared.now uid gid file size)) is (done uid gid size file all))).0 in
           let step = joined_grows (IsOfFile uid gid file) p o q c.join.ensures.seen.0 c.join.ensures.seen.1 c.join.ensures.mine one.0.caller.lies one.1.0 in
-          lists_more uid gid file size (seen_by p) (seen_by q) (mine_of p) (mine_of q) c.jobs.lists.items c.in_ok-push.new.self.items c.remove-own.result.fetched step.seen step.mine (got uid gid size file all)
+          lists_more uid gid file size (seen_by p) (seen_by q) (mine_of p) (mine_of q) c.jobs.lists.items _ c.remove-own.result.fetched step.seen step.mine (got uid gid size file all)
           (joined_fetched p o q uid gid file size c.remove-own.result.fetched.items c.join.ensures.seen.1 c.join.ensures.mine one.1.1) c.in_ok-push.ensures.items),
     )
 

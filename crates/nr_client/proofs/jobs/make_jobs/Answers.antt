@@ -1,9 +1,8 @@
 use Rattle.std.proofs.Common.{◌≡◌, ◌<◌, [], ◌∷◌, ℕ, List, refl, sym, subst, ◌∙◌, arith}
 use Rattle.std.specs.List.{All}
 use Rattle.std.proofs.lemmas.List.Elements.{All-append}
-use Rattle.nr_turnstile.specs.Passes.{mine_of, seen_by}
-use Rattle.nr_client.specs.declared.jobs.ReadJob.{ReadJob}
-use Rattle.nr_client.specs.private.JobReads.{IsReady}
+use Rattle.nr_turnstile.specs.Passes.{seen_by}
+use Rattle.nr_client.specs.private.JobReads.{IsNewJob}
 use Rattle.nr_client.proofs.JobCalls.{all_one}
 use Rattle.nr_client.proofs.jobs.make_jobs.Goals as goal
 
@@ -19,6 +18,7 @@ jobs-preserved g c =
       c.make_job.ensures.unchanged.1 ∙ mine,
       λ uid gid file.
           (let ok = c.in_ok-job.ensures.ok uid gid file in
-          subst (All (λ j. IsReady c.args.shared.now uid gid file c.args.size j × ((mine_of j.pass.main ≡ []) × (seen_by j.pass.source ≡ seen_by c.args.pass.now.source)))) (sym c.in_ok-push.ensures.items)
-          (All-append _ c.jobs.made.items (c.in_ok-job.job ∷ []) (ready uid gid file) (all_one _ c.in_ok-job.job (ok.0, (ok.1.0, ok.1.1 ∙ source))))),
+          subst (All (IsNewJob c.args.shared.now uid gid file c.args.size (seen_by c.args.pass.now.source))) (sym c.in_ok-push.ensures.items)
+          (All-append (IsNewJob c.args.shared.now uid gid file c.args.size (seen_by c.args.pass.now.source)) c.jobs.made.items (c.in_ok-job.job ∷ []) (ready uid gid file)
+          (all_one (IsNewJob c.args.shared.now uid gid file c.args.size (seen_by c.args.pass.now.source)) c.in_ok-job.job (ok.0, (ok.1.0, ok.1.1 ∙ source))))),
     )

@@ -19,7 +19,7 @@ returns-in-Err-clause-reads g c = record {
 
 pub returns-clause-reads : goal.returns-clause-reads
 returns-clause-reads g c =
-    let q = c.read_by_jobs-result.new.pass in let seen = c.in-Ok.ensures.seen in let (b0, (first, value)) = c.in-Ok.ensures.source in let (b, (last, back)) = c.close.ensures in
+    let q = c.read_by_jobs-result.new.pass in let seen = c.in-Ok.ensures.seen in let (b0, (first, value)) = c.in-Ok.ensures.source in let (b, (last, back)) = c.close-requester.ensures in
     let same : b ≡ b0 = one_same b0 b _ (seen_by q.source) first last c.read_by_jobs-result.ensures.source in record {
       initial = record { requester = c.args.requester; faults = g.O.Sink.faults c.args.sink; taken = g.O.Sink.taken c.args.sink };
       seen = seen_by q.main;
@@ -27,8 +27,8 @@ returns-clause-reads g c =
       is_initial = initial_on (record { requester = c.args.requester; faults = g.O.Sink.faults c.args.sink; taken = g.O.Sink.taken c.args.sink }) g.N.Appended.entry _ (seen_by q.main) c.requires.entry seen.0 c.read_by_jobs-result.ensures.seen;
       of_requester = refl;
       of_sink = (refl, refl);
-      requester = c.close.result.0;
-      back = subst (λ i. GivesBack g.I.Source.left g.I.Source.given g.I.Source.faults g.O.Sink.taken g.O.Sink.faults (seen_by q.main) (mine_of q.main) i c.close.result.0 c.close.result.1 c.close.result.2) value
-          (subst (λ x. GivesBack g.I.Source.left g.I.Source.given g.I.Source.faults g.O.Sink.taken g.O.Sink.faults (seen_by q.main) (mine_of q.main) x.source.value c.close.result.0 c.close.result.1 c.close.result.2) same back);
+      requester = c.close-requester.result.0;
+      back = subst (λ i. GivesBack g.I.Source.left g.I.Source.given g.I.Source.faults g.O.Sink.taken g.O.Sink.faults (seen_by q.main) (mine_of q.main) i c.close-requester.result.0 c.close-requester.result.1 c.close-requester.result.2) value
+          (subst (λ x. GivesBack g.I.Source.left g.I.Source.given g.I.Source.faults g.O.Sink.taken g.O.Sink.faults (seen_by q.main) (mine_of q.main) x.source.value c.close-requester.result.0 c.close-requester.result.1 c.close-requester.result.2) same back);
       reads = c.read_by_jobs-result.ensures.reads;
     }

@@ -13,4 +13,4 @@ returns-in-Ok-clause-lists c uid gid size file mine seen all =
     let is : old ≡ c.remove-list.result ∷ rest = front old rest c.remove-list.result one c.remove-list.ensures.value c.remove-list.ensures.items in
     let both = all_first (λ l. AreFetched uid gid file size seen mine l.items) c.remove-list.result rest (subst (All (λ l. AreFetched uid gid file size seen mine l.items)) is all) in
     subst (All (λ l. AreFetched uid gid file size seen mine l.items)) (sym c.in-Ok.ensures.items)
-    (All-append (λ l. AreFetched uid gid file size seen mine l.items) rest (c.take_first.new.list ∷ []) both.1 (all_one (λ l. AreFetched uid gid file size seen mine l.items) c.take_first.new.list (c.take_first.ensures.list uid gid size file mine seen both.0)))
+    (All-append (λ l. AreFetched uid gid file size seen mine l.items) rest (c.take_first-outcome.new.list ∷ []) both.1 (all_one (λ l. AreFetched uid gid file size seen mine l.items) c.take_first-outcome.new.list (c.take_first-outcome.ensures.list uid gid size file mine seen both.0)))
