@@ -77,13 +77,7 @@ fn get_at<
     D: Dialer<Source = P, Sink = Q>,
     R: Threads + Wait + Sync,
     K: Sink,
->(
-    rt: &R,
-    alloc: Global,
-    get: &GetByJobs<&str>,
-    dial: &mut D,
-    out: &mut K,
-) -> Result<(), ClientEnd>
+>(rt: &R, alloc: Global, get: &GetByJobs<&str>, dial: &mut D, out: &mut K) -> Result<(), ClientEnd>
 where
     N: Drop + Send,
     P: Drop + Send,
@@ -124,13 +118,7 @@ pub fn get_by_jobs<
     D: Dialer<Source = P, Sink = Q>,
     R: Threads + Wait + Sync,
     K: Sink,
->(
-    rt: &R,
-    alloc: Global,
-    get: &GetByJobs<&str>,
-    dial: &mut D,
-    out: &mut K,
-) -> Result<(), ClientEnd>
+>(rt: &R, alloc: Global, get: &GetByJobs<&str>, dial: &mut D, out: &mut K) -> Result<(), ClientEnd>
 where
     P: Drop + Send,
     Q: Drop + Send,

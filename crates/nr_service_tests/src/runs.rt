@@ -154,7 +154,11 @@ pub(crate) fn source(
 }
 
 /// Runs a client, and gives its status.
-pub(crate) fn run_client<P: LinkSource + Drop + Send, Q: LinkSink + Drop + Send, D: Dialer<Source = P, Sink = Q>>(
+pub(crate) fn run_client<
+    P: LinkSource + Drop + Send,
+    Q: LinkSink + Drop + Send,
+    D: Dialer<Source = P, Sink = Q>,
+>(
     rt: &impl Host,
     alloc: Global,
     words: &[String],
@@ -218,15 +222,11 @@ fn same_texts(rt: &impl Abort, alloc: Global, row: usize, case: Case, out: &[u8]
 }
 
 /// Runs a client that dials this address, with this input, and compares its status and what it prints and reports.
-pub(crate) fn same_run<P: LinkSource + Drop + Send, Q: LinkSink + Drop + Send, D: Dialer<Source = P, Sink = Q>>(
-    rt: &impl Host,
-    alloc: Global,
-    row: usize,
-    case: Case,
-    input: &[u8],
-    addr: &str,
-    dial: &mut D,
-) {
+pub(crate) fn same_run<
+    P: LinkSource + Drop + Send,
+    Q: LinkSink + Drop + Send,
+    D: Dialer<Source = P, Sink = Q>,
+>(rt: &impl Host, alloc: Global, row: usize, case: Case, input: &[u8], addr: &str, dial: &mut D) {
     let words = words(rt, alloc, case.line, addr);
     let mut input = source(rt, alloc, input, faults(rt, alloc, case.fault, "input"));
     let mut out = MemSink::new(alloc, faults(rt, alloc, case.fault, "out"));

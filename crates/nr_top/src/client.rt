@@ -103,14 +103,7 @@ pub(crate) fn run_get<
     R: Threads + Wait + Sync,
     O: Sink,
     E: Sink,
->(
-    rt: &R,
-    alloc: Global,
-    get: &GetByJobs<&str>,
-    dial: &mut D,
-    out: &mut O,
-    err: &mut E,
-) -> u8
+>(rt: &R, alloc: Global, get: &GetByJobs<&str>, dial: &mut D, out: &mut O, err: &mut E) -> u8
 where
     P: Drop + Send,
     Q: Drop + Send,
