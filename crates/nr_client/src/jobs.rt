@@ -15,7 +15,7 @@ ghost use Rattle.nr_client.specs.Reading.{OutputFaults, piece_left};
 ghost use Rattle.nr_requester.specs.Fed.{fed_bytes};
 ghost use Rattle.nr_shared.specs.Standing.{bytes_before};
 ghost use Rattle.nr_link.specs.declared.end.End.TheVariants as ends;
-ghost use Rattle.nr_client.specs.private.JobReads.{AreFetched, EndsMore, Grows, HasNone, HasRun, IsDone, IsFetched, IsNewJob, IsReady, IsUpTo, MayRun, ReadsMore};
+ghost use Rattle.nr_client.specs.private.JobReads.{AreFetched, EndsMore, Grows, HasNone, HasRun, IsDone, IsFetched, IsNewJob, IsReady, IsUpTo, ReadsMore};
 ghost use Rattle.nr_client.specs.private.OpenReads.{GivesData, GivesNone};
 ghost use Rattle.nr_client.specs.Results.{IsOfCall};
 
@@ -146,23 +146,6 @@ fn fetch<R: Wait, I: Source, O: Sink>(
     }
 }
 
-/// As `fetch`, for a closure.
-fn run_job<R: Wait, I: Source, O: Sink>(
-    rt: &R,
-    alloc: Global,
-    shared: &SharedRequester<I, O>,
-    uid: u32,
-    gid: u32,
-    file: &Handle,
-    size: u64,
-    job: &mut ReadJob<I, O>,
-)
-    requires { MayRun shared.now uid gid file.now size job.old }
-    ensures { HasRun shared.now uid gid file.now size job.old job.new }
-{
-    fetch(rt, alloc, shared, uid, gid, file, size, job);
-}
-
 /// Each job reads its pieces, in a thread of its own if there is one.
 fn fetch_all<R: Threads + Wait + Sync, I: Source + Send, O: Sink + Send>(
     rt: &R,
@@ -176,14 +159,14 @@ fn fetch_all<R: Threads + Wait + Sync, I: Source + Send, O: Sink + Send>(
     made: &mut [ReadJob<I, O>],
 )
     requires threads { 0 < threads }
-    requires ready { All (MayRun shared.now uid gid file.now size) made.old }
+    requires ready { All (IsReady shared.now uid gid file.now size) made.old }
     ensures len { length made.new ≡ length made.old }
     ensures each { (i : ℕ) (d : _) → i < length made.old → HasRun shared.now uid gid file.now size (slice_index_or made.old i d) (slice_index_or made.new i d) }
 {
     let run = |_: usize, job: &mut ReadJob<I, O>|
-        requires { MayRun shared.now uid gid file.now size job.now }
+        requires { IsReady shared.now uid gid file.now size job.now }
         ensures { HasRun shared.entry.now uid gid file.entry.now size job.entry.now job.exit.now }
-    { run_job(rt, alloc, shared, uid, gid, file, size, job) };
+    { fetch(rt, alloc, shared, uid, gid, file, size, job) };
     thread::for_each_mut(rt, made, threads, &run);
 }
 

@@ -70,10 +70,6 @@ module _ {I O : Type 0} where
   abbrev pub IsReady : SharedRequester I O → (uid gid : ℕ) → (file : List ℕ) → (size : ℕ) → ReadJob I O → Type 0
   IsReady s uid gid file size j = SharedRests s j.pass × (All (λ at. at < size) j.offsets.items × AreFetched uid gid file size (seen_by j.pass.main) (mine_of j.pass.main) j.fetched.items)
 
-  -- the same as one fact
-  pub record MayRun (s : SharedRequester I O) (uid gid : ℕ) (file : List ℕ) (size : ℕ) (j : ReadJob I O) : Type 0 where
-    pub ready : IsReady s uid gid file size j
-
   -- a job as it is made: it has no places, and its source is the one that was shared
   abbrev pub IsNewJob : SharedRequester I O → (uid gid : ℕ) → (file : List ℕ) → (size : ℕ) → List (InitialSource I O) → ReadJob I O → Type 0
   IsNewJob s uid gid file size source j = IsReady s uid gid file size j × ((mine_of j.pass.main ≡ []) × (seen_by j.pass.source ≡ source))

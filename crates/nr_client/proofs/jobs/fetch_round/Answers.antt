@@ -8,7 +8,7 @@ use Rattle.nr_client.proofs.JobReading.{all_done}
 use Rattle.nr_client.proofs.jobs.fetch_round.Goals as goal
 
 pub fetch_all-requires-clause-ready : goal.fetch_all-requires-clause-ready
-fetch_all-requires-clause-ready g c κs bounds k d lt = record { ready = (c.in_ok-made.ensures.ok c.args.uid c.args.gid c.args.file.now k d lt).0 }
+fetch_all-requires-clause-ready g c κs bounds k d lt = (c.in_ok-made.ensures.ok c.args.uid c.args.gid c.args.file.now k d lt).0
 
 pub join_jobs-requires-clause-jobs : goal.join_jobs-requires-clause-jobs
 join_jobs-requires-clause-jobs g c k d lt =
