@@ -3,12 +3,14 @@ use Rattle.std.specs.List.{All}
 use Rattle.std.proofs.lemmas.Result.{IfOk-weaker}
 use Rattle.nr_turnstile.specs.Passes.{mine_of}
 use Rattle.nr_client.specs.Jobs.{IsOfFile}
+use Rattle.nr_client.specs.private.JobReads.{IsReady}
 use Rattle.nr_client.proofs.JobCalls.{grows_none, grows_then}
 use Rattle.nr_client.proofs.JobReading.{all_done}
 use Rattle.nr_client.proofs.jobs.fetch_round.Goals as goal
 
 pub fetch_all-requires-clause-ready : goal.fetch_all-requires-clause-ready
-fetch_all-requires-clause-ready g c κs bounds k d lt = (c.in_ok-made.ensures.ok c.args.uid c.args.gid c.args.file.now k d lt).0
+fetch_all-requires-clause-ready g c κs bounds =
+    subst (All (IsReady c.args.shared.now c.args.uid c.args.gid c.args.file.now c.args.size)) (sym c.as_mut_slice.ensures.value) (λ k d lt. (c.in_ok-made.ensures.ok c.args.uid c.args.gid c.args.file.now k d lt).0)
 
 pub join_jobs-requires-clause-jobs : goal.join_jobs-requires-clause-jobs
 join_jobs-requires-clause-jobs g c k d lt =
