@@ -107,7 +107,7 @@ fn answers_bytes(answers: &[AnsweredCall]) -> u128
 impl Requester {
     /// The sum of the lengths of all byte buffers that are kept, in bytes: the staging buffer, the receive, the regions, the output, the calls
     /// with the names of their machines, the rooms of their replies, and the answers with their buffers, each by its own bytes. At most
-    /// 262,144 for each call that is outstanding or each credit that was wished for, whichever are more, for each answer that wasn't taken,
+    /// 5,242,880 for each call that is outstanding or each credit that was wished for, whichever are more, for each answer that wasn't taken,
     /// and four times that. Takes no memory.
     pub fn held(&self) -> u128
         ensures is { result ≡ bytes_held_by self.now.state }

@@ -74,6 +74,7 @@ pub mod QueueBounds
 pub mod OutputBounds
 pub mod OutputSteps
 pub mod ReadHeads
+mod PayloadRooms
 mod Windows
 mod BegunWindows
 mod PlacedPayloads
