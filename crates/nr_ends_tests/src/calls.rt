@@ -254,9 +254,14 @@ fn read_first(
     let reply = reply(rt, alloc, xid, &[70]);
     let ticket = link.submit(rt, call(rt, alloc, 7, &WRITE), form);
     link.up(rt, alloc, 65536);
-    // Beside the staging buffer, the receives and a Read Request.
+    // Beside the staging buffer, the receives and a Read Request; and an item in the lists of calls, of Read Requests and of sinks.
     let [_, server] = link.held();
-    same(rt, xid as usize, server, 65544 + 16 * 1024 + 52 + kept);
+    same(
+        rt,
+        xid as usize,
+        server,
+        65544 + 16 * 1024 + 52 + (184 + 40 + 32) + kept,
+    );
     link.down(rt, alloc, 65536);
     let answer = (reply.as_slice(), Sent::Inline);
     call_served(rt, alloc, link, 65536, (xid, 7, &WRITE), answer);

@@ -73,6 +73,7 @@ pub mod OutputLengths
 pub mod QueueBounds
 pub mod OutputBounds
 pub mod OutputSteps
+mod ReadBounds
 pub mod ReadHeads
 mod PayloadRooms
 mod Windows
