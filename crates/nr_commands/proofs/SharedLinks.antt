@@ -13,7 +13,7 @@ use Rattle.nr_commands.specs.Sessions.{SessionAt}
 module _ {I O : Type 0} where
   of_back : (left given : I → Option (List ℕ)) (source_faults : I → ℕ) (taken : O → Option (List ℕ)) (sink_faults : O → ℕ) (seen : List Entry) (mine : List ℕ) (first : I) (r : RequesterSide) (source : I) (sink : O)
       → GivesBack left given source_faults taken sink_faults seen mine first r source sink
-      → GivesBack {SourceAt} {SinkAt} (λ x. x.left) (λ x. x.given) (λ x. x.faults) (λ x. x.taken) (λ x. x.faults) seen mine (source_at (left first) (given first) (source_faults first)) r
+      → GivesBack {I = SourceAt} {O = SinkAt} (λ x. x.left) (λ x. x.given) (λ x. x.faults) (λ x. x.taken) (λ x. x.faults) seen mine (source_at (left first) (given first) (source_faults first)) r
       (source_at (left source) (given source) (source_faults source)) (sink_at (taken sink) (sink_faults sink))
   of_back left given source_faults taken sink_faults seen mine first r source sink b = record {
     history = b.history;
@@ -37,7 +37,7 @@ module _ {I O : Type 0} where
 
   of_shared : (left given : I → Option (List ℕ)) (source_faults : I → ℕ) (taken : O → Option (List ℕ)) (sink_faults : O → ℕ) (uid gid : ℕ) (file : List ℕ) (h : RequesterSide) (source : I) (sink : O) (source' : I) (sink' : O)
       (t t' : Option (List ℕ)) (result : Result (Unit {0}) ClientEnd) → ReadsShared left given source_faults taken sink_faults uid gid file h source sink source' sink' t t' result
-      → ReadsShared {SourceAt} {SinkAt} (λ x. x.left) (λ x. x.given) (λ x. x.faults) (λ x. x.taken) (λ x. x.faults) uid gid file h (source_at (left source) (given source) (source_faults source)) (sink_at (taken sink) (sink_faults sink))
+      → ReadsShared {I = SourceAt} {O = SinkAt} (λ x. x.left) (λ x. x.given) (λ x. x.faults) (λ x. x.taken) (λ x. x.faults) uid gid file h (source_at (left source) (given source) (source_faults source)) (sink_at (taken sink) (sink_faults sink))
       (source_at (left source') (given source') (source_faults source')) (sink_at (taken sink') (sink_faults sink')) t t' result
   of_shared left given source_faults taken sink_faults uid gid file h source sink source' sink' t t' result s = record {
     initial = s.initial;
@@ -53,7 +53,7 @@ module _ {I O : Type 0} where
 
   pub of_file : (left given : I → Option (List ℕ)) (source_faults : I → ℕ) (taken : O → Option (List ℕ)) (sink_faults : O → ℕ) (uid gid : ℕ) (file : List ℕ) (h : RequesterSide) (source : I) (sink : O) (source' : I) (sink' : O)
       (t t' : Option (List ℕ)) (result : Result (Unit {0}) ClientEnd) → ReadsFileByJobs left given source_faults taken sink_faults uid gid file h source sink source' sink' t t' result
-      → ReadsFileByJobs {SourceAt} {SinkAt} (λ x. x.left) (λ x. x.given) (λ x. x.faults) (λ x. x.taken) (λ x. x.faults) uid gid file h (source_at (left source) (given source) (source_faults source)) (sink_at (taken sink) (sink_faults sink))
+      → ReadsFileByJobs {I = SourceAt} {O = SinkAt} (λ x. x.left) (λ x. x.given) (λ x. x.faults) (λ x. x.taken) (λ x. x.faults) uid gid file h (source_at (left source) (given source) (source_faults source)) (sink_at (taken sink) (sink_faults sink))
       (source_at (left source') (given source') (source_faults source')) (sink_at (taken sink') (sink_faults sink')) t t' result
   of_file left given source_faults taken sink_faults uid gid file h source sink source' sink' t t' result (inl s) =
       inl (of_shared left given source_faults taken sink_faults uid gid file h source sink source' sink' t t' result s)

@@ -21,7 +21,7 @@ sink_of s = sink_at s.bytes.taken s.sink_faults
 -- The bytes of a file were written to the output, read by jobs over the link of a session, whose source and sink came back so.
 abbrev pub ReadsByJobs : (uid gid : ℕ) → (file : List ℕ) → SessionAt → SourceAt → SinkAt → (out out' : SinkAt) → Result (Unit {0}) ClientEnd → Type 0
 ReadsByJobs uid gid file s source sink out out' result =
-    ReadsFileByJobs {SourceAt} {SinkAt} (λ x. x.left) (λ x. x.given) (λ x. x.faults) (λ x. x.taken) (λ x. x.faults)
+    ReadsFileByJobs {I = SourceAt} {O = SinkAt} (λ x. x.left) (λ x. x.given) (λ x. x.faults) (λ x. x.taken) (λ x. x.faults)
     uid gid file s.requester (source_of s) (sink_of s) source sink out.taken out'.taken result
     × OutputFaults result out.faults out'.faults
 
