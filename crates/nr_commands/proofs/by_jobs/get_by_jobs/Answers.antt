@@ -1,4 +1,0 @@
-use Rattle.nr_commands.proofs.by_jobs.get_by_jobs.Goals as goal
-
-pub get_at-requires : goal.get_at-requires
-get_at-requires g c = ?
