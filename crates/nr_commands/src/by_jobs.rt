@@ -53,7 +53,7 @@ fn read_and_close<
     out: &mut K,
 ) -> Result<(), ClientEnd>
 where
-    N: Drop,
+    N: Drop + Send,
     P: Drop + Send,
     Q: Drop + Send,
     requires jobs { (0 < jobs) × (jobs ≤ jobs_max) }
@@ -79,7 +79,7 @@ fn get_at<
     K: Sink,
 >(rt: &R, alloc: Global, get: &GetByJobs<&str>, dial: &mut D, out: &mut K) -> Result<(), ClientEnd>
 where
-    N: Drop,
+    N: Drop + Send,
     P: Drop + Send,
     Q: Drop + Send,
     requires number { D.next dial.old ≡ N.number }
