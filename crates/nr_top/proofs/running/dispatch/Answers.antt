@@ -1,4 +1,5 @@
 use Rattle.std.proofs.Common.{refl}
+use denote.Param.Send.{sendable}
 use Rattle.nr_client.specs.Dialing.{dialer_at}
 use Rattle.nr_outside.specs.Streams.{sink_at, source_at}
 use Rattle.nr_serve.specs.Serving.{acceptor_at, spawner_at}
@@ -40,4 +41,4 @@ pub run_drill-requires-in-GeneratedDrill : goal.run_drill-requires-in-GeneratedD
 run_drill-requires-in-GeneratedDrill g c = has_ranges c.args.command.now _ _ _ c.in-GeneratedDrill.is c.requires.line
 
 pub run_get-requires : goal.run_get-requires
-run_get-requires g c = has_jobs c.args.command.now _ c.in-GetByJobs.is c.requires.line
+run_get-requires g c = (search sendable depth 40, (search sendable depth 40, (search sendable depth 40, has_jobs c.args.command.now _ c.in-GetByJobs.is c.requires.line)))
