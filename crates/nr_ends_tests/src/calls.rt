@@ -242,26 +242,24 @@ fn calls_are_answered(rt: HostRuntime) {
 /// A WRITE of 5 bytes into the file with handle 2 (RFC 1813 section 3.3.7).
 static WRITE: [u32; 10] = [8, 0, 2, 0, 0, 5, 2, 5, 0x68656c6c, 0x6f000000];
 
-/// A WRITE of which something is read: while it is, the server keeps this much for its payload.
+/// What a server keeps while it reads a chunk, beside the buffers of its payload: the staging buffer, the receives and a Read Request; and an item in
+/// the lists of calls, of Read Requests and of sinks.
+const BESIDE: u128 = 65544 + 16 * 1024 + 52 + 184 + 40 + 32;
+
+/// A WRITE of which something is read: while it is, the server keeps this much.
 fn read_first(
     rt: &impl Abort,
     alloc: Global,
     link: &mut TestLink,
     xid: u32,
     form: Form,
-    kept: u128,
+    held: u128,
 ) {
     let reply = reply(rt, alloc, xid, &[70]);
     let ticket = link.submit(rt, call(rt, alloc, 7, &WRITE), form);
     link.up(rt, alloc, 65536);
-    // Beside the staging buffer, the receives and a Read Request; and an item in the lists of calls, of Read Requests and of sinks.
     let [_, server] = link.held();
-    same(
-        rt,
-        xid as usize,
-        server,
-        65544 + 16 * 1024 + 52 + (184 + 40 + 32) + kept,
-    );
+    same(rt, xid as usize, server, held);
     link.down(rt, alloc, 65536);
     let answer = (reply.as_slice(), Sent::Inline);
     call_served(rt, alloc, link, 65536, (xid, 7, &WRITE), answer);
@@ -273,8 +271,8 @@ fn read_first(
 #[test]
 fn memory_follows_the_call(rt: HostRuntime) {
     let mut link = greeted(&rt, rt.alloc(), 16, 65536);
-    read_first(&rt, rt.alloc(), &mut link, 1, Form::Chunk, 80);
-    read_first(&rt, rt.alloc(), &mut link, 2, Form::Long, 80 + 83);
+    read_first(&rt, rt.alloc(), &mut link, 1, Form::Chunk, BESIDE + 80);
+    read_first(&rt, rt.alloc(), &mut link, 2, Form::Long, BESIDE + 80 + 83);
     link.close();
 }
 
