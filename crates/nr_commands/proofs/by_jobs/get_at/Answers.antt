@@ -12,7 +12,7 @@ pub close-requires : goal.close-requires
 close-requires g c = c.in-Ok.ensures.made.1
 
 pub read_and_close-requires-clause-made : goal.read_and_close-requires-clause-made
-read_and_close-requires-clause-made g c = c.in-Ok.ensures.made.1
+read_and_close-requires-clause-made g c κs bounds = c.in-Ok.ensures.made.1
 
 pub returns-in-Err : goal.returns-in-Err
 returns-in-Err g c = NotOpened c.in-Err.end refl c.in-Err.ensures.err refl
