@@ -1,6 +1,6 @@
 """Asks of recorded runs what the laws of nr_laws say: if the premises of a law are met, and whether what it says is so.
 
-    python3 conformance/laws_of_runs.py [--only WORD] [--jobs N]
+    python3 conformance/laws_of_runs.py [--only WORD] [--jobs N] [--runs FOLDER]
 
 That the recorded runs keep the laws of a link (Asked, Served) is what check_definitions.py compares; here the other
 premises and what each law says are computed, from the same definitions, mark by mark. It proves nothing. For each law
@@ -581,6 +581,7 @@ def simpler(a: str, b: str) -> str:
 def main(argv: list[str]) -> int:
     p = argparse.ArgumentParser(description='Asks of recorded runs what the laws of nr_laws say.')
     p.add_argument('--project', default=ROOT, help='the folder that has the folder crates')
+    p.add_argument('--runs', default=RUNS, help='the folder of recorded runs')
     p.add_argument('--only', default='', help='runs whose name has this word')
     p.add_argument('--jobs', type=int, default=os.cpu_count() or 1)
     a = p.parse_args(argv)
@@ -593,7 +594,7 @@ def main(argv: list[str]) -> int:
     except CannotEvaluate as e:
         print("can't be evaluated: %s" % e)
         return 2
-    runs = [r for r in recorded(RUNS) if set(r['needs']) <= names.has and a.only in r['name']]
+    runs = [r for r in recorded(a.runs) if set(r['needs']) <= names.has and a.only in r['name']]
     if not runs:
         print('no run is chosen')
         return 2

@@ -3,8 +3,10 @@
     python3 conformance/random_drills.py [--seed N] [--scripts N] [--lines N] [--program NFSRDMA] [--plain PLAIN_CALLS] [--jobs N]
 
 Half of the scripts have lines call, up, work, down and grant, and a drain at the end; the other half also have bytes of a peer that keeps to no
-rule, on links whose calls change nothing. Of each: the status is 0, nothing is reported, each call line has one printed line; each call
-that is done has the reply that plain_calls gives at its place, and the places of the changes are 0, 1, 2 and so on up to the journal's
+rule, on links whose calls change nothing. Some calls, most of them after a drain, are large: READs and WRITEs of up to 1,048,577 bytes in each
+form, offers and payloads at 1,056,768 bytes and one more. Of each script: the status is 0, nothing is reported, each call line has one printed
+line; a call is refused for what it offers or its payload if that is more than 1,056,768 bytes, with this number, and no other is; each call that
+is done has the reply that plain_calls gives at its place, and the places of the changes are 0, 1, 2 and so on up to the journal's
 length; and what ended a side of a link in the first half of a script ends it in the complete script. A link without such bytes doesn't
 end, and all its calls are done or refused. Exit status: 0 all as expected, 1 something differs, 2 there is no program."""
 import argparse
@@ -20,6 +22,10 @@ from typing import NamedTuple
 from antt import ROOT
 
 CAPACITY = 1 << 40
+# a READ or WRITE moves at most 2^20 bytes; a payload, or what a given form offers, has at most so many; a segment of a chunk has at most 66048
+TRANSFER_MAX, PAYLOAD_MAX, SEGMENT = 1048576, 1056768, 66048
+LARGE_SIZES = (SEGMENT - 1, SEGMENT, SEGMENT + 1, 2 * SEGMENT + 1, 15 * SEGMENT + 1, TRANSFER_MAX - 1, TRANSFER_MAX, TRANSFER_MAX + 1)
+LARGE_CALLS, LARGE_WRITES = 8, 3
 # SETATTR, WRITE, CREATE, MKDIR, SYMLINK, MKNOD, REMOVE, RMDIR, RENAME, LINK: with status 0 each is an entry of the journal
 CHANGING = (2, 7, 8, 9, 10, 11, 12, 13, 14, 15)
 READING = (0, 1, 3, 4, 5, 6, 16, 17, 18, 19, 20, 21)
@@ -29,12 +35,13 @@ ENDED = re.compile(r'link \d+ (?:client|server) (?:bad|denied|nobuffer|terminate
 
 
 class Call(NamedTuple):
-    """A call line: its client, what it calls, and its credential."""
+    """A call line: its client, what it calls, its credential, and how many bytes its given form offers."""
     client: int
     prog: str
     proc: int
     args: bytes
     cred: bytes
+    offered: int
 
 
 class Done(NamedTuple):
@@ -73,8 +80,10 @@ class Maker:
                 uid, gid = self.rng.choice(((0, 0), (5, 6)))
                 self.creds[c] = credential(uid, gid)
                 self.lines.append('cred %d %d %d' % (c, uid, gid))
-        for _ in range(lines):
-            self.lines.append(self.line())
+        large = set(self.rng.sample(range(lines), min(lines, LARGE_CALLS)))
+        self.writes = 0
+        for at in range(lines):
+            self.lines += self.large() if at in large else [self.line()]
         self.lines.append('drain')
 
     def text(self, lines: int) -> str:
@@ -111,10 +120,42 @@ class Maker:
             args = self.args(proc)
         if self.rng.random() < 0.02:
             args = args[:self.rng.randint(0, len(args))]
-        self.calls.append(Call(c, prog, proc, args, self.creds[c]))
         form = self.rng.choice(('auto', 'auto', 'auto', 'inline', 'chunk', 'long', 'given:write=%d,%d;reply=%d' % (
             self.rng.randint(1, 900), self.rng.randint(1, 4000), self.rng.choice((32, 300, 40000)))))
+        return self.call_line(c, form, prog, proc, args)
+
+    def call_line(self, c: int, form: str, prog: str, proc: int, args: bytes) -> str:
+        offered = sum(int(n) for n in re.findall(r'[=,](\d+)', form))
+        self.calls.append(Call(c, prog, proc, args, self.creds[c], offered))
         return 'call %d %s %s %d %s' % (c, form, prog, proc, args.hex() or '-')
+
+    def large(self) -> list[str]:
+        """A READ or WRITE of many bytes, most of them after a drain, so that there is a credit for it."""
+        r = self.rng
+        c = r.randint(1, self.clients)
+        size = r.choice(LARGE_SIZES + (r.randint(SEGMENT, TRANSFER_MAX + 1),))
+        handle = opaque((2).to_bytes(8, 'big')) if r.random() < 0.7 else self.handle()
+        before = ['drain'] if r.random() < 0.8 else []
+        if c in self.hostile or self.writes == LARGE_WRITES or r.random() < 0.4:
+            args = handle + words(0, r.choice((0, 0, 5, SEGMENT, TRANSFER_MAX))) + words(size)
+            return before + [self.call_line(c, self.large_form(), 'nfs', 6, args)]
+        self.writes += 1
+        head = 44 + len(self.creds[c]) + len(handle)
+        if r.random() < 0.1:
+            size = PAYLOAD_MAX - head + r.choice((0, 1))
+        args = handle + words(0, r.choice((0, 0, 5, SEGMENT))) + words(size, r.randint(0, 2)) + opaque(r.randbytes(size))
+        lengths = [SEGMENT] * (size // SEGMENT) + [size % SEGMENT] * (size % SEGMENT > 0)
+        parts = r.choice(('', ';write=7', ';reply=%d' % (PAYLOAD_MAX - size), ';reply=%d' % (PAYLOAD_MAX - size + 1)))
+        given = 'given:read@%d=%s%s' % (head, ','.join(str(n) for n in lengths), parts)
+        return before + [self.call_line(c, r.choice(('auto', 'auto', 'inline', 'chunk', 'long', given, given)), 'nfs', 7, args)]
+
+    def large_form(self) -> str:
+        """A form of a READ of many bytes."""
+        r = self.rng
+        offers = [PAYLOAD_MAX, PAYLOAD_MAX, PAYLOAD_MAX + 1, r.randint(1, PAYLOAD_MAX)]
+        write, rest = r.choice(offers), r.randint(1, 9000)
+        given = ('given:write=%d' % write, 'given:reply=%d' % write, 'given:write=%d;reply=%d' % (PAYLOAD_MAX - rest, rest + r.randint(0, 1)))
+        return r.choice(('auto', 'auto', 'inline', 'chunk', 'long', *given))
 
     def handle(self) -> bytes:
         number = self.rng.choice((1, 1, 1, 2, 2, 3, 4, 4, self.rng.randint(5, 110), self.rng.randint(105, 140)))
@@ -153,6 +194,11 @@ def payload_of(call: Call, xid: bytes) -> bytes:
     return xid + words(0, 2) + prog + words(call.proc) + call.cred + call.args
 
 
+def room_needed(call: Call) -> int | None:
+    """How many bytes a call needs that is too large by its payload, or else by what its form offers."""
+    return next((n for n in (len(payload_of(call, bytes(4))), call.offered) if n > PAYLOAD_MAX), None)
+
+
 def is_change(call: Call, reply: str) -> bool:
     """Whether a call with this reply is an entry: accepted, with the status 0."""
     return call.prog == 'nfs' and call.proc in CHANGING and reply[8:48] == words(1, 0, 0, 0, 0).hex() and reply[48:56] == '00000000'
@@ -168,6 +214,9 @@ def done_calls(maker: Maker, printed: list[str]) -> tuple[list[Done], list[str]]
         if match is None or (int(match[1]), int(match[2])) != (call.client, numbers[call.client]):
             wrong.append('not the line of call %d of client %d: %s' % (numbers[call.client], call.client, line[:100]))
             break
+        need = room_needed(call)
+        if (need is not None or match[3].endswith(' %d' % PAYLOAD_MAX)) and match[3] not in ('refused large %s %d' % (need, PAYLOAD_MAX), 'refused ended'):
+            wrong.append('a call that needs %s bytes: %s' % (need, line[:100]))
         if match[4] is not None:
             done.append(Done(int(match[4]), is_change(call, match[5]), match[5], payload_of(call, bytes.fromhex(match[5][:8]))))
         elif match[3] in ('lost', 'open', 'refused ended') and call.client not in maker.hostile:

@@ -13,11 +13,11 @@ import subprocess
 import sys
 
 from antt import ROOT
-from check_definitions import RUNS, Recorded, recorded
+from check_definitions import LARGE_RUNS, RUNS, Recorded, recorded
 from laws_of_runs import PLAIN, answers_of
 
 PROGRAM = os.path.join(ROOT, 'crates', 'plain_calls', 'out', 'plain_calls')
-CAPACITIES = (1 << 40, 0, 103, 116)
+CAPACITIES = (1 << 40, 0, 103, 116, 3000)
 
 
 def answers(program: str, capacity: int, run: Recorded) -> list[str]:
@@ -44,7 +44,7 @@ def main(argv: list[str]) -> int:
     if not os.path.exists(a.program):
         print('no program at %s: cd crates/plain_calls && rt run < stdin' % a.program)
         return 2
-    runs = [r for r in recorded(RUNS) if any(m['mark'] == 'Execute' for m in r['marks'])]
+    runs = [r for folder in (RUNS, LARGE_RUNS) for r in recorded(folder) if any(m['mark'] == 'Execute' for m in r['marks'])]
     plain = {r['name']: record(a.program, r) for r in runs}
     with gzip.GzipFile(PLAIN, 'wb', mtime=0) as h:
         h.write(json.dumps(plain, separators=(',', ':')).encode())
