@@ -23,6 +23,8 @@ use std::alloc::Global;
 pub enum Operation {
     /// The Send with this message sequence number, from 1 on (RFC 5041 section 5.2).
     Send { msn: u32 },
+    /// The Send with Invalidate with this message sequence number, whose last segment names the STag (RFC 5040 section 4).
+    SendInvalidate { msn: u32, stag: u32 },
     /// An RDMA Write into the peer's region `stag`, from byte `to` on (RFC 5040 section 4).
     Write { stag: u32, to: u64 },
     /// A Read Response into the peer's region `stag`, from byte `to` on (RFC 5040 section 4).

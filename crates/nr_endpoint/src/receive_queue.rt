@@ -34,6 +34,8 @@ pub struct ReceivedMessage {
     pub reads_done: u64,
     /// Its message sequence number, from 1 on (RFC 5041 section 5.2).
     pub number: u64,
+    /// The STag that it names, if it is a Send with Invalidate (RFC 5040 section 5.1).
+    pub invalidated: Option<u32>,
     /// The receive buffer, whose first `len` bytes are the message.
     pub buf: Octets,
     /// The length of the message in bytes.

@@ -1,5 +1,5 @@
 -- The hash map of the code as finite maps, and what the fields of `Regions` keep.
-use Rattle.std.specs.Prelude.{◌≡◌, ℕ, ◌*◌, ◌^◌, ◌≤◌, false, List, map, length}
+use Rattle.std.specs.Prelude.{◌≡◌, ℕ, ◌*◌, ◌^◌, ◌≤◌, Bool, false, List, map, length}
 use Rattle.std.specs.Ordering.{nat_cmp}
 use Rattle.std.specs.HashMap.{HashMap}
 use Rattle.std.specs.List.{sum_by}
@@ -18,6 +18,10 @@ region_len region = length region.buf
 abbrev pub outside_of : HeldBuffer → Outside
 outside_of held = held.window.outside
 
+-- whether a Send of the peer invalidated its STag
+abbrev pub is_dead_of : HeldBuffer → Bool
+is_dead_of held = held.is_dead
+
 -- what is said of each buffer, by its STag
 abbrev pub mapped_entries : {X : Type 0} → (HeldBuffer → X) → List (ℕ × HeldBuffer) → List (ℕ × X)
 mapped_entries f es = map (λ e. (e.0, f e.1)) es
@@ -31,6 +35,9 @@ table m = mapped region_of m
 
 abbrev pub outsides : {S : Type 0} → HashMap ℕ HeldBuffer S → FinMap nat_cmp Outside
 outsides m = mapped outside_of m
+
+abbrev pub dead_flags : {S : Type 0} → HashMap ℕ HeldBuffer S → FinMap nat_cmp Bool
+dead_flags m = mapped is_dead_of m
 
 -- An STag that wasn't given has nothing in the map, and `bytes` is the sum of the sizes there.
 pub record IsTotal {X : Type 0} (size : X → ℕ) (next bytes : ℕ) (held : FinMap nat_cmp X) : Type 0 where

@@ -42,9 +42,9 @@ impl Model for Regions {
     ghost coded = { table_code };
 
     ghost use Rattle.std.specs.HashMap.{spare};
-    ghost use Rattle.nr_regions.specs.Table.{table, outsides, AreTotal};
+    ghost use Rattle.nr_regions.specs.Table.{table, outsides, dead_flags, AreTotal};
 
-    ghost view = { λ r. record { memory = record { next = r.next; held = table r.held }; room = spare r.held; outside = outsides r.held } };
+    ghost view = { λ r. record { memory = record { next = r.next; held = table r.held; dead = dead_flags r.held }; room = spare r.held; outside = outsides r.held } };
 
     ghost invariant = { λ r. AreTotal r.next r.bytes r.bytes_outside r.held };
 }

@@ -37,6 +37,10 @@ marks_max = 18446744073709551615
 abbrev pub counted_marks : ℕ → List Mark → ℕ
 counted_marks link run = min (marks_of link run) marks_max
 
+-- a count of released regions, with some more
+abbrev pub with_releases : (more n : ℕ) → ℕ
+with_releases more n = min (n + more) marks_max
+
 -- the count after one mark more; and after one that is counted only if it has bytes
 abbrev pub one_mark_more : ℕ → ℕ
 one_mark_more n = min (n + 1) marks_max
