@@ -80,7 +80,7 @@ def files(t: Tries) -> None:
     t.ends(['get', '/', '/a'], (0, b'hello', ''))
     t.ends(['put', '/', '/empty'], (0, b'', ''))
     t.ends(['get', '/', 'empty'], (0, b'', ''))
-    for size in (32768, 32769, LIMIT):
+    for size in (1048576, 1048577, LIMIT):
         content = rng.randbytes(size)
         t.ends(['put', '/', '/b'], (0, b'', ''), content)
         t.ends(['get', '/', '//b/'], (0, content, ''))

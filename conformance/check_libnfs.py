@@ -341,7 +341,7 @@ def folders(c: Checks, m: Mount) -> None:
 def session(c: Checks, lib: ctypes.CDLL, port: int) -> None:
     m = Mount(lib, port, '/export')
     c.same('MNT', m.status, 0)
-    c.same('FSINFO: READ and WRITE of', (lib.nfs_get_readmax(m.nfs), lib.nfs_get_writemax(m.nfs)), (32768, 32768))
+    c.same('FSINFO: READ and WRITE of', (lib.nfs_get_readmax(m.nfs), lib.nfs_get_writemax(m.nfs)), (1048576, 1048576))
     space = Statvfs()
     c.same('FSSTAT', (m.call('statvfs', b'/', byref(space)), space.blocks * space.frsize), (0, CAPACITY))
     c.same('PATHCONF', m.raw('pathconf', m.root(), read_pathconf), (0, (65535, 255, 1, 1, 0, 1)))

@@ -3,7 +3,7 @@
     python3 conformance/check_threads.py [--program PROGRAM] [--few PROGRAM] [--seconds N] [--only WORD ..]
 
 `work`: 64 connections for 20 seconds, each of which writes and reads a file of its own, and reads one that all read, beside a peer that says
-nothing, peers that are reset in the middle of a frame, `put` and `get` of a mebibyte, and such that are killed; then 64 more for a quarter of
+nothing, peers that are reset in the middle of a frame, `put` and `get` of 4 mebibytes, and such that are killed; then 64 more for a quarter of
 that time. `short`: 10,000 short connections. `crowd`: 1,500 clients at once with one call each. `few`: three peers that say nothing, at a
 program built with `THREADS` of nfsrdma's main.rt at 2 (--few; left out without it): a fourth client waits until one of them ends. The frames
 are those of docs/WIRE.md, with small calls inline. The server's resident memory after the connections may be that before them, with what the
@@ -203,7 +203,7 @@ class Tries:
         other.kill()
         other.communicate()
         self.same('killed in the middle', (first, client.returncode, beside.size(handle), other.returncode), (data[:1000], -9, len(half), -9))
-        return 2 + len(half) // 32768
+        return 2 + len(half) // 1048576
 
     def work(self) -> None:
         """64 connections at work, and wrong peers beside them."""
@@ -227,11 +227,11 @@ class Tries:
                 peer.read(common, 0, PIECE)
                 frame = peer.frame(READ, common + struct.pack('>QI', 0, PIECE))
                 peer.reset(frame[:1 + i % len(frame)] if i % 2 else frame)
-            large = random.Random(1).randbytes(1 << 20)
+            large = random.Random(1).randbytes(1 << 22)
             for i in range(rounds):
                 self.command(port, 'put', '/large%d' % i, large)
-                self.same('get of a mebibyte', self.command(port, 'get', '/large%d' % i, b'') == large, True)
-                journal += 1 + len(large) // 32768 + self.killed(port, first, i, large)
+                self.same('get of 4 mebibytes', self.command(port, 'get', '/large%d' % i, b'') == large, True)
+                journal += 1 + len(large) // 1048576 + self.killed(port, first, i, large)
             at_work = resident(server.pid)
             done = [it for part in parts for it in part.result()]
             first.socket.close()

@@ -301,7 +301,7 @@ impl<I: Source, O: Sink> Session<I, O> {
     }
 
     /// Makes a file of this name in a directory, or empties the one that exists, and gives it the bytes of an input (CREATE and WRITE, RFC 1813
-    /// sections 3.3.8 and 3.3.7). At most 32768 bytes of the input are kept: it is read as it is written. `InputFault` if the input failed: before
+    /// sections 3.3.8 and 3.3.7). At most 1048576 bytes of the input are kept: it is read as it is written. `InputFault` if the input failed: before
     /// the first of these no call is made, and later the file has what was written. `Budget` if the input has more than 16777216 bytes, of which
     /// the first are written.
     pub fn write_file<N: Source>(

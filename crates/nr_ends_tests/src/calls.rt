@@ -215,7 +215,7 @@ pub(crate) fn greeted(rt: &impl Abort, alloc: Global, credits: u32, size: usize)
     link
 }
 
-/// Each row, one call after the other. At the end both ends keep at most 262,144 bytes for each credit and four more.
+/// Each row, one call after the other. At the end both ends keep at most 5,242,880 bytes for each credit and four more.
 fn all_rows(rt: &impl Abort, alloc: Global, link: &mut TestLink, size: usize) {
     same(rt, size, link.counts(), [0, 1, 0, 0, 0, 2]);
     for (row, xid) in ROWS.iter().zip(1..) {
@@ -223,7 +223,7 @@ fn all_rows(rt: &impl Abort, alloc: Global, link: &mut TestLink, size: usize) {
     }
     same(rt, size, link.counts(), [0, 16, 0, 0, 0, 2]);
     let [client, server] = link.held();
-    same(rt, size, client.max(server) <= 262144 * 20, true);
+    same(rt, size, client.max(server) <= 5_242_880 * 20, true);
 }
 
 fn answered(rt: &impl Abort, alloc: Global, size: usize) {

@@ -295,12 +295,13 @@ fn replies_have_limits(rt: HostRuntime) {
     same(&rt, 23, largest_reply(&[]), 32);
 }
 
-/// READ by its count, up to 32768; READDIR by its count and READDIRPLUS by the second of its counts.
-static COUNTS: [(u32, &[u32], u32); 12] = [
+/// READ by its count, up to 1048576; READDIR by its count and READDIRPLUS by the second of its counts.
+static COUNTS: [(u32, &[u32], u32); 13] = [
     (6, &[8, 0, 2, 0, 0, 0], 128),
     (6, &[8, 0, 2, 0, 0, 5], 136),
-    (6, &[8, 0, 2, 0, 0, 32768], 32896),
-    (6, &[8, 0, 2, 0, 0, 32769], 32896),
+    (6, &[8, 0, 2, 0, 0, 32769], 32900),
+    (6, &[8, 0, 2, 0, 0, 1048576], 1048704),
+    (6, &[8, 0, 2, 0, 0, 1048577], 1048704),
     (6, &[8, 0, 2, 0, 0], 32),
     (16, &[8, 0, 4, 0, 0, 0, 0, 88], 116),
     (16, &[8, 0, 4, 0, 0, 0, 0, 89], 117),

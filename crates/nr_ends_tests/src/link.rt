@@ -19,7 +19,7 @@ use std::process::Abort;
 const MANY: usize = 1 << 32;
 
 /// The most bytes of a reply.
-const REPLY_MAX: usize = 65536;
+const REPLY_MAX: usize = 1_056_768;
 
 /// A client end and a server end, and how many bytes each was fed at most.
 #[derive(Drop)]

@@ -57,7 +57,7 @@ struct Row(Payload, Way, u32, u32, Want<'static>);
 
 /// The sizes: a header has 28 bytes, a read entry 24, a write chunk 8 and 16 for each segment, a reply chunk 4 and 16 for
 /// each (RFC 8166 section 4.3). Before the data of WRITE stand 72 bytes, before the path of SYMLINK 88.
-static TABLE: [Row; 43] = [
+static TABLE: [Row; 42] = [
     // 28 + 72 + 924 = 1024; of 925 bytes the pad ends at 928
     Row(
         Write(924),
@@ -159,7 +159,7 @@ static TABLE: [Row; 43] = [
         Auto,
         1024,
         1024,
-        Planned(Shape(64, None, &[], 0, Some(&[32768]), None)),
+        Planned(Shape(64, None, &[], 0, Some(&[40000]), None)),
     ),
     Row(
         Read(5),
@@ -225,59 +225,52 @@ static TABLE: [Row; 43] = [
         1024,
         Planned(Shape(0, Some(0), &[52], 52, None, Some(&[112]))),
     ),
-    // payloads of 40960 bytes and one more
+    // payloads of 1056768 bytes, which are 16 * 66048, and one more
     Row(
-        Zeros(40960),
+        Zeros(1056768),
         Long,
         1024,
         1024,
-        Planned(Shape(0, Some(0), &[40960], 40960, None, Some(&[32]))),
+        Planned(Shape(0, Some(0), &[66048; 16], 1056768, None, Some(&[32]))),
     ),
-    Row(Zeros(40961), Long, 1024, 1024, Large(40961, 40960)),
-    Row(Zeros(40961), Inline, 1024, 1024, Large(40961, 40960)),
+    Row(Zeros(1056769), Long, 1024, 1024, Large(1056769, 1056768)),
+    Row(Zeros(1056769), Inline, 1024, 1024, Large(1056769, 1056768)),
     Row(
-        Zeros(40961),
-        Offer(Given(0, None, Some(&[65537]), None)),
+        Zeros(1056769),
+        Offer(Given(0, None, Some(&[1056769]), None)),
         1024,
         1024,
-        Large(40961, 40960),
+        Large(1056769, 1056768),
     ),
-    Row(
-        Write(40888),
-        Auto,
-        1024,
-        1024,
-        Planned(Shape(72, Some(72), &[40888], 40888, None, None)),
-    ),
-    Row(Write(40889), Auto, 1024, 1024, Large(40964, 40960)),
-    // offers of 65536 bytes and one more, in sums that pass 2^32, and whose Send passes 1024: 28 + 8 + 61 * 16 + 52
+    Row(Write(1056697), Auto, 1024, 1024, Large(1056772, 1056768)),
+    // offers of 1056768 bytes and one more, in sums that pass 2^32, and whose Send passes 1024: 28 + 8 + 61 * 16 + 52
     Row(
         Getattr,
-        Offer(Given(0, None, Some(&[65536]), None)),
+        Offer(Given(0, None, Some(&[1056768]), None)),
         1024,
         1024,
-        Planned(Shape(52, None, &[], 0, Some(&[65536]), None)),
+        Planned(Shape(52, None, &[], 0, Some(&[1056768]), None)),
     ),
     Row(
         Getattr,
-        Offer(Given(0, None, Some(&[65536, 1]), None)),
+        Offer(Given(0, None, Some(&[1056768, 1]), None)),
         1024,
         1024,
-        Large(65537, 65536),
+        Large(1056769, 1056768),
     ),
     Row(
         Getattr,
-        Offer(Given(40, Some(&[1]), Some(&[32768]), Some(&[32767]))),
+        Offer(Given(40, Some(&[1]), Some(&[528384]), Some(&[528383]))),
         1024,
         1024,
-        Planned(Shape(40, Some(40), &[1], 1, Some(&[32768]), Some(&[32767]))),
+        Planned(Shape(40, Some(40), &[1], 1, Some(&[528384]), Some(&[528383]))),
     ),
     Row(
         Getattr,
-        Offer(Given(40, Some(&[2]), Some(&[32768]), Some(&[32767]))),
+        Offer(Given(40, Some(&[2]), Some(&[528384]), Some(&[528383]))),
         1024,
         1024,
-        Large(65537, 65536),
+        Large(1056769, 1056768),
     ),
     Row(
         Getattr,
@@ -289,7 +282,7 @@ static TABLE: [Row; 43] = [
         )),
         1024,
         1024,
-        Large(12884901885, 65536),
+        Large(12884901885, 1056768),
     ),
     Row(
         Getattr,
@@ -351,6 +344,226 @@ static TABLE: [Row; 43] = [
     ),
 ];
 
+/// Chunks of full segments, of 66048 bytes, and one with the rest. A WRITE of 1048576 bytes takes 28 + 16 * 24 + 72 = 484 bytes of
+/// Send; in one less, all of it goes in the chunk. The reply to a READ of 1048576 bytes has 1048704.
+static SEGMENTS: [Row; 15] = [
+    Row(
+        Zeros(66048),
+        Long,
+        1024,
+        1024,
+        Planned(Shape(0, Some(0), &[66048], 66048, None, Some(&[32]))),
+    ),
+    Row(
+        Zeros(66049),
+        Long,
+        1024,
+        1024,
+        Planned(Shape(0, Some(0), &[66048, 1], 66049, None, Some(&[32]))),
+    ),
+    Row(
+        Zeros(1048576),
+        Long,
+        1024,
+        1024,
+        Planned(Shape(
+            0,
+            Some(0),
+            &[
+                66048, 66048, 66048, 66048, 66048, 66048, 66048, 66048, 66048, 66048, 66048, 66048,
+                66048, 66048, 66048, 57856,
+            ],
+            1048576,
+            None,
+            Some(&[32]),
+        )),
+    ),
+    Row(
+        Zeros(990721),
+        Long,
+        1024,
+        1024,
+        Planned(Shape(
+            0,
+            Some(0),
+            &[
+                66048, 66048, 66048, 66048, 66048, 66048, 66048, 66048, 66048, 66048, 66048, 66048,
+                66048, 66048, 66048, 1,
+            ],
+            990721,
+            None,
+            Some(&[32]),
+        )),
+    ),
+    Row(
+        Zeros(990722),
+        Long,
+        1024,
+        1024,
+        Planned(Shape(
+            0,
+            Some(0),
+            &[
+                66048, 66048, 66048, 66048, 66048, 66048, 66048, 66048, 66048, 66048, 66048, 66048,
+                66048, 66048, 66048, 2,
+            ],
+            990722,
+            None,
+            Some(&[32]),
+        )),
+    ),
+    Row(
+        Zeros(990723),
+        Long,
+        1024,
+        1024,
+        Planned(Shape(
+            0,
+            Some(0),
+            &[
+                66048, 66048, 66048, 66048, 66048, 66048, 66048, 66048, 66048, 66048, 66048, 66048,
+                66048, 66048, 66048, 3,
+            ],
+            990723,
+            None,
+            Some(&[32]),
+        )),
+    ),
+    Row(
+        Zeros(990724),
+        Long,
+        1024,
+        1024,
+        Planned(Shape(
+            0,
+            Some(0),
+            &[
+                66048, 66048, 66048, 66048, 66048, 66048, 66048, 66048, 66048, 66048, 66048, 66048,
+                66048, 66048, 66048, 4,
+            ],
+            990724,
+            None,
+            Some(&[32]),
+        )),
+    ),
+    Row(
+        Write(1048576),
+        Auto,
+        484,
+        1024,
+        Planned(Shape(
+            72,
+            Some(72),
+            &[
+                66048, 66048, 66048, 66048, 66048, 66048, 66048, 66048, 66048, 66048, 66048, 66048,
+                66048, 66048, 66048, 57856,
+            ],
+            1048576,
+            None,
+            None,
+        )),
+    ),
+    Row(
+        Write(1048576),
+        Auto,
+        483,
+        1024,
+        Planned(Shape(
+            0,
+            Some(0),
+            &[
+                66048, 66048, 66048, 66048, 66048, 66048, 66048, 66048, 66048, 66048, 66048, 66048,
+                66048, 66048, 66048, 57928,
+            ],
+            1048648,
+            None,
+            None,
+        )),
+    ),
+    Row(
+        Write(1056696),
+        Auto,
+        1024,
+        1024,
+        Planned(Shape(
+            72,
+            Some(72),
+            &[
+                66048, 66048, 66048, 66048, 66048, 66048, 66048, 66048, 66048, 66048, 66048, 66048,
+                66048, 66048, 66048, 65976,
+            ],
+            1056696,
+            None,
+            None,
+        )),
+    ),
+    Row(
+        Read(66048),
+        Auto,
+        1024,
+        1024,
+        Planned(Shape(64, None, &[], 0, Some(&[66048]), None)),
+    ),
+    Row(
+        Read(66049),
+        Auto,
+        1024,
+        1024,
+        Planned(Shape(64, None, &[], 0, Some(&[66048, 1]), None)),
+    ),
+    Row(
+        Read(1048576),
+        Auto,
+        1024,
+        1024,
+        Planned(Shape(
+            64,
+            None,
+            &[],
+            0,
+            Some(&[
+                66048, 66048, 66048, 66048, 66048, 66048, 66048, 66048, 66048, 66048, 66048, 66048,
+                66048, 66048, 66048, 57856,
+            ]),
+            None,
+        )),
+    ),
+    Row(
+        Read(1048577),
+        Auto,
+        1024,
+        1024,
+        Planned(Shape(
+            64,
+            None,
+            &[],
+            0,
+            Some(&[
+                66048, 66048, 66048, 66048, 66048, 66048, 66048, 66048, 66048, 66048, 66048, 66048,
+                66048, 66048, 66048, 57856,
+            ]),
+            None,
+        )),
+    ),
+    Row(
+        Read(1048577),
+        Long,
+        1024,
+        1024,
+        Planned(Shape(
+            0,
+            Some(0),
+            &[64],
+            64,
+            None,
+            Some(&[
+                66048, 66048, 66048, 66048, 66048, 66048, 66048, 66048, 66048, 66048, 66048, 66048,
+                66048, 66048, 66048, 57984,
+            ]),
+        )),
+    ),
+];
+
 fn planned(
     rt: &impl Abort,
     alloc: Global,
@@ -387,6 +600,9 @@ fn each_row_is_planned(rt: HostRuntime) {
     plans_convey_payloads();
     for (number, row) in TABLE.iter().enumerate() {
         row_plans(&rt, rt.alloc(), number, row);
+    }
+    for (number, row) in SEGMENTS.iter().enumerate() {
+        row_plans(&rt, rt.alloc(), 100 + number, row);
     }
 }
 

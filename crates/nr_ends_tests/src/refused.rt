@@ -27,10 +27,10 @@ static BAD_CHUNKS: [&[u32]; 16] = [
     // Two positions other than 0, and RDMA_MSG with an entry at position 0.
     &[1, 1, 16, 0, 1, 72, 9, 4, 0, 0, 1, 76, 9, 4, 0, 0, 0, 0, 0],
     &[1, 1, 16, 0, 1, 0, 9, 4, 0, 0, 0, 0, 0],
-    // RDMA_NOMSG without one, with a word after the lists, and with 40,961 bytes to read.
+    // RDMA_NOMSG without one, with a word after the lists, and with 1,056,769 bytes to read.
     &[1, 1, 16, 1, 0, 0, 0],
     &[1, 1, 16, 1, 1, 0, 9, 40, 0, 0, 0, 0, 0, 7],
-    &[1, 1, 16, 1, 1, 0, 9, 40961, 0, 0, 0, 0, 0],
+    &[1, 1, 16, 1, 1, 0, 9, 1056769, 0, 0, 0, 0, 0],
     // A read chunk of a call without an item, and one that is not at the item's position.
     &[
         1, 1, 16, 0, 1, 40, 9, 4, 0, 0, 0, 0, 0, 1, 0, 2, 100003, 3, 0, 0, 0, 0, 0,

@@ -35,8 +35,8 @@ pub fn grant()
     ensures { SubmitsWithinGrant }
 {}
 
-/// On every link a server grants from 1 to the credits that the link was opened with (RFC 8166 section 3.3). If it grants no less while it is busy,
-/// it grants what its owner set last.
+/// On every link a server grants from 1 to the credits that the link was opened with (RFC 8166 section 3.3). Until it ends it grants what its owner
+/// set last, but at most `low` while more than half of its receives are in use.
 pub fn server_credits()
     ensures range { ServerGrantsInRange }
     ensures set { ServerGrantsWhatIsSet }

@@ -10,7 +10,7 @@ use Rattle.nr_nfs_res.specs.declared.create.CreateOk.{CreateOk}
 -- The maximum length of any reply, in bytes: the longest are those of READ, READDIR and READDIRPLUS, whose limits are
 -- below this (nr_reduce, `largest_reply`).
 abbrev pub any_reply_max : ℕ
-any_reply_max = 65536
+any_reply_max = 1056768
 
 -- the bytes of the head of a reply to a call that was accepted (RFC 5531 section 9)
 abbrev pub head_size : ℕ

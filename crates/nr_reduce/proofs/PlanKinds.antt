@@ -22,12 +22,13 @@ use Rattle.nr_reduce.specs.Plans.{TooLarge, segments_for, inline_plan, moved_off
 
 -- ---- How long a reply may be
 
-abbrev most : ℕ
-most = 40000
+-- the maximum of what a chunk that isn't given has room for on the way back: that of the reply to a READ
+abbrev pub most : ℕ
+most = 1048704
 
-pad_small : (n : ℕ) → pad_len n ≤ 3
+padded_small : (n : ℕ) → n ≤ transfer_max → n + pad_len n ≤ transfer_max
 unfolding pad_len
-pad_small n = omega arith
+padded_small n le = omega (arith, le)
 
 or_least : (o : Option ℕ) (f : ℕ → ℕ) → ((n : ℕ) → f n ≤ most) → by_count f o ≤ most
 or_least None f h = omega arith
@@ -51,7 +52,7 @@ choose false x y p q = q
 nfs_small : (proc : ℕ) (c : Cursor) → nfs_reply_max proc c ≤ most
 unfolding limit_of
 nfs_small proc c =
-    choose (eqb proc READ) _ _ (or_least (read_count c) read_reply_max (λ n. let p = pad_small (min n transfer_max) in omega (arith, p)))
+    choose (eqb proc READ) _ _ (or_least (read_count c) read_reply_max (λ n. let p = padded_small (min n transfer_max) (omega arith) in omega (arith, p)))
     (choose (eqb proc READDIR) _ _ (or_least (readdir_count c) readdir_reply_max (λ n. omega arith))
     (choose (eqb proc READDIRPLUS) _ _ (or_least (readdirplus_count c) readdir_reply_max (λ n. omega arith))
     (rows_small reply_limits proc refl)))

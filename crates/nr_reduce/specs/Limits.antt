@@ -13,7 +13,7 @@ send_unit = link_send_unit
 
 -- the maximum of an offer that is given, all its chunks together, in bytes
 abbrev pub given_max : ℕ
-given_max = 65536
+given_max = 1056768
 
 -- the maximum length of a segment of a chunk whose offer isn't given, in bytes
 abbrev pub chunk_segment_max : ℕ

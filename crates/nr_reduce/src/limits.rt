@@ -6,10 +6,10 @@ use nr_nfs_base::{MountProcedure, NfsProcedure};
 pub const CREDITS_MAX: u32 = 64;
 
 /// The maximum of an offer that is given, all its chunks together, in bytes.
-pub const GIVEN_MAX: u32 = 65536;
+pub const GIVEN_MAX: u32 = 1_056_768;
 
 /// The maximum length of a segment of a chunk whose offer is not given, in bytes.
-pub(crate) const CHUNK_SEGMENT_MAX: u32 = 66048;
+pub(crate) const CHUNK_SEGMENT_MAX: u32 = 66_048;
 
 /// The procedure of MOUNT that gives a handle (RFC 1813 section 5.2.1).
 pub(crate) const MNT: u32 = MountProcedure::Mnt as u32;

@@ -16,14 +16,14 @@ use Rattle.nr_reduce.specs.declared.item.Item.{Item}
 use Rattle.nr_reduce.specs.declared.item.Of.TheVariants.{Call}
 use Rattle.nr_reduce.specs.Items.{reducible_item}
 use Rattle.nr_reduce.specs.Plans.{TooLarge, total, inline_plan, chunk_for, write_offer, offering, auto_offer, reduced_plan, reduced_plan_by, long_plan, given_region, given_read, given_total, given_within, plan_size, plan_in_form, within, plan_of, write_size, reply_size, segments_from, entries_from, read_list, write_list, reply_chunk, write_stag, reply_stag, lists_of}
-use Rattle.nr_reduce.proofs.PlanKinds.{Offering, offered, IsSmall, largest_small, write_offering, MessageKind, shape, IsPlan, is_plan, within_ok_lem}
+use Rattle.nr_reduce.proofs.PlanKinds.{most, Offering, offered, IsSmall, largest_small, write_offering, MessageKind, shape, IsPlan, is_plan, within_ok_lem}
 use Rattle.nr_reduce.proofs.PlanKinds.Offering.{Nothing, One}
 use Rattle.nr_reduce.proofs.PlanKinds.MessageKind.{Short, Chunked, Long}
 use Rattle.nr_reduce.proofs.Segments.{segments_sum}
 use Rattle.nr_reduce.proofs.Sizes.{segments_count, is_formed}
 use Rattle.nr_requester.specs.HeldBytes.{PlanFits, receive_max, reply_segments, segments_offered, offered_segments_max}
 
-small_total : (o : Offering) → IsSmall o → total (offered o) ≤ 40000
+small_total : (o : Offering) → IsSmall o → total (offered o) ≤ most
 small_total Nothing h = omega arith
 small_total (One n) h = omega (arith, h, segments_sum n)
 
@@ -34,7 +34,7 @@ kind_region payload Long w r h = h
 
 -- What goes back of a call in a form of its own goes through one chunk.
 abbrev IsBack : Plan → Type 0
-IsBack p = total p.write + total p.reply ≤ 40000
+IsBack p = total p.write + total p.reply ≤ most
 
 back_if : (b : Bool) (p q : Plan) → IsBack p → IsBack q → IsBack (cond b p q)
 back_if true p q h k = h
@@ -48,8 +48,8 @@ reduced_back payload p h = by (reducible_item Call payload)
     by None = h
     by (Some i) = h
 
-write_small : (payload : List ℕ) → total (chunk_for (write_offer payload)) ≤ 40000
-write_small payload = (let o = write_offering payload in subst (λ (w : Option (List ℕ)). total w ≤ 40000) (sym o.is) (small_total o.offering o.small))
+write_small : (payload : List ℕ) → total (chunk_for (write_offer payload)) ≤ most
+write_small payload = (let o = write_offering payload in subst (λ (w : Option (List ℕ)). total w ≤ most) (sym o.is) (small_total o.offering o.small))
 
 offering_back : (payload : List ℕ) → IsBack (offering payload (write_offer payload) (inline_plan payload))
 offering_back payload = by (write_offer payload) refl

@@ -91,7 +91,7 @@ bytes_held_by r = FPDU_MAX + bytes_of r.side + calls_bytes r.outstanding + rooms
 
 -- What is held for each credit, for each call that was answered and not taken, and four times for the link itself, in bytes.
 abbrev pub held_unit : ℕ
-held_unit = 262144
+held_unit = 5242880
 
 -- the maximum of a region, which is that of an offer
 abbrev pub region_max : ℕ
@@ -103,18 +103,18 @@ receive_max = send_unit * UNITS_MAX
 
 -- the maximum of a call, and of what it offers, all its regions together
 abbrev pub call_max : ℕ
-call_max = 45056
+call_max = 1060864
 
 abbrev pub offer_max : ℕ
-offer_max = 81920
+offer_max = 2113536
 
 -- the maximum of what a call offers for its reply
 abbrev pub back_max : ℕ
-back_max = 65536
+back_max = 1056768
 
 -- the maximum of the payload of a reply
 abbrev pub held_reply_max : ℕ
-held_reply_max = 94208
+held_reply_max = 1085440
 
 -- a plan's regions are within these
 pub record PlanFits (p : Plan) : Type 0 where

@@ -16,7 +16,7 @@ use Rattle.nr_responder.specs.ResponderState.{ResponderSide, ResponderState, end
 
 -- What is held for each credit, and four times for the link itself, in bytes.
 abbrev pub held_unit : ℕ
-held_unit = 262144
+held_unit = 5242880
 
 -- the sum of the sizes of items, and of those with a number
 abbrev pub sizes : {X : Type 0} → (size : X → ℕ) → List X → ℕ
@@ -76,14 +76,14 @@ pub record SinksFit (v : ResponderSide) : Type 0 where
 
 -- the maximum of a reply in bytes
 abbrev pub sent_reply_max : ℕ
-sent_reply_max = 65536
+sent_reply_max = 1056768
 
 -- the maximum of the Read Requests of a call, of the RDMA Writes of an answer, and of both with its Send
 abbrev pub requests_max : ℕ
 requests_max = 16 * request_max
 
 abbrev pub writes_max : ℕ
-writes_max = 48 * frame_max
+writes_max = 290 * frame_max
 
 abbrev pub answer_max : ℕ
 answer_max = writes_max + send_frames_max + requests_max

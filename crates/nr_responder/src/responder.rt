@@ -189,7 +189,7 @@ impl Responder {
     }
 
     /// Queues the answer to the next call: RDMA Writes into what it offered and one Send, or ERR_CHUNK if its offer doesn't hold the reply
-    /// (RFC 8166 sections 3.4.6, 3.5). The reply has at most 65536 bytes. An `Err` changes nothing and gives the call back: memory ran out.
+    /// (RFC 8166 sections 3.4.6, 3.5). The reply has at most 1056768 bytes. An `Err` changes nothing and gives the call back: memory ran out.
     pub fn answer(&mut self, call: CallId, reply: &[u8]) -> Result<Sent, (CallId, Memory)>
         requires live { end_of self.old.side ≡ None }
         requires next { IsNext self.old.side call }
@@ -222,7 +222,7 @@ impl Responder {
     }
 
     /// How many bytes all byte buffers have that are kept: the staging buffer, the receives, the regions, the output, and the buffers of
-    /// payloads that are read or were, with the bytes of buffers outside their regions. At most 262144 for each credit, and four times that.
+    /// payloads that are read or were, with the bytes of buffers outside their regions. At most 5242880 for each credit, and four times that.
     /// Lists of calls and their segments aren't counted. Takes no memory.
     pub fn held(&self) -> u128
         ensures is { result ≡ bytes_held_by self.now }

@@ -26,7 +26,7 @@ pub answer-requires-clause-next : goal.answer-requires-clause-next
 answer-requires-clause-next c = subst (λ (v : ResponderSide). IsNext v c.args.call) (sym (ap (λ (v : DrillLinkState). v.server) c.self.view_is)) c.requires.next
 
 pub answer-requires-clause-short : goal.answer-requires-clause-short
-answer-requires-clause-short c = subst (λ (xs : List ℕ). length xs ≤ 65536) (sym c.as_slice-3.ensures) c.in-Ok-execute.ensures.limit
+answer-requires-clause-short c = subst (λ (xs : List ℕ). length xs ≤ 1056768) (sym c.as_slice-3.ensures) c.in-Ok-execute.ensures.limit
 
 pub invariant_of-self : goal.invariant_of-self
 invariant_of-self c = server_fed_same _ c.self.inside.server.side.link c.answer.new.self.side.link _ c.answer.ensures.fed c.self.invariant
