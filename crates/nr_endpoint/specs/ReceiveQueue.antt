@@ -1,5 +1,6 @@
 -- What came to a side in untagged messages, and its receives (RFC 5041 section 4.3).
-use Rattle.std.specs.Prelude.{ℕ, ◌+◌, ◌-◌, Bool, not, false, ◌&&◌, if◌then◌else◌, List, [], ◌∷◌, ◌++◌, drop, Option, None, Some}
+use Rattle.std.specs.Prelude.{ℕ, ◌+◌, ◌-◌, Bool, not, false, ◌&&◌, ◌==◌, if◌then◌else◌, List, [], ◌∷◌, ◌++◌, drop, Option, None, Some}
+use Rattle.nr_wire.specs.Constants.{OPCODE_SEND, OPCODE_SEND_INVALIDATE}
 use Rattle.nr_wire.specs.Segment.{Segment}
 use Rattle.nr_wire.specs.Segment.Segment.{Tagged, Untagged}
 use Rattle.nr_link.specs.ReceiveState.{ReceiveState, nothing_received, is_send, received_after, message_completed, stag_invalidated}
@@ -41,6 +42,15 @@ takes_receive h (Untagged last opcode w queue msn offset payload) = is_send opco
 abbrev pub message_deliveries : ℕ → Option ℕ → Option (List ℕ) → List DeliveredEvent
 message_deliveries number named None = []
 message_deliveries number named (Some message) = MessageReceived number named message ∷ []
+
+-- the STag that a segment of a Send with this opcode and word names, if it is the last
+abbrev pub named_by : (opcode w : ℕ) → Option ℕ
+named_by opcode w = if opcode == OPCODE_SEND_INVALIDATE then Some w else None
+
+-- a segment of a Send as the receives count it: what it names, if it is the last, and its payload
+abbrev pub send_segment : Option ℕ → Bool → List ℕ → Segment
+send_segment None last payload = Untagged last OPCODE_SEND 0 0 0 0 payload
+send_segment (Some stag) last payload = Untagged last OPCODE_SEND_INVALIDATE stag 0 0 0 payload
 
 -- after one more segment
 unfoldable pub with_segment : Segment → ReceiveQueue → ReceiveQueue
