@@ -10,7 +10,7 @@ use Rattle.nr_regions.specs.declared.right.Right.{Right}
 use Rattle.nr_regions.specs.declared.right.Kind.{Kind}
 use Rattle.nr_regions.specs.declared.denied.Denied.{Denied}
 use Rattle.nr_regions.specs.declared.denied.Denied.TheVariants.{NoStag, Bounds, Right as WrongRight}
-use Rattle.nr_regions.specs.RegisteredMemory.{Region, RegisteredMemory, Claim, IsHeld, is_dead, held_region, live_region, right_for, same_right, denial_in, region_offer, denial, bytes_after_write, after_place, after_place_in, after_register, after_release, after_invalidate, after_invalidate_by, claim_of}
+use Rattle.nr_regions.specs.RegisteredMemory.{Region, RegisteredMemory, Claim, IsHeld, NoneIsDead, is_dead, held_region, live_region, right_for, same_right, denial_in, region_offer, denial, bytes_after_write, after_place, after_place_in, after_register, after_release, after_invalidate, after_invalidate_by, claim_of}
 use Rattle.nr_regions.specs.Access.{TaggedSegment, access_of_tagged}
 use Rattle.nr_regions.specs.Events.{MemoryEvent, after_arrival, after_event, IsNoReleaseOf}
 use Rattle.nr_regions.specs.Events.MemoryEvent.{Register, Release, Invalidate, Arrive}
@@ -332,3 +332,34 @@ pub keeps_invalidate : (r : Result Unit Denied) (m n : RegisteredMemory) (stag :
 unfolding after_event
 keeps_invalidate (Ok x) m n stag ok err claim h = subst (λ (k : RegisteredMemory). IsHeld k claim) (sym ok) (held_after_event m claim (Invalidate stag) h tt)
 keeps_invalidate (Err denied) m n stag ok err claim h = subst (λ (k : RegisteredMemory). IsHeld k claim) (sym err) h
+
+-- ---- Memory in which no region is dead stays so but for an Invalidate
+
+pub none_dead_register : (m : RegisteredMemory) (right : Right) (buf : List ℕ) → NoneIsDead m → NoneIsDead (after_register m right buf)
+unfolding after_register
+none_dead_register m right buf none stag =
+    elim (cases_eq stag m.next) [
+      | inl e ↦ ap (λ (o : Option Bool). unwrap_or o false) (ap (λ (q : ℕ). get (insert m.dead m.next false) q) e ∙ get_insert_here m.dead m.next false)
+      | inr ne ↦ ap (λ (o : Option Bool). unwrap_or o false) (get_insert_other m.dead m.next false stag ne) ∙ none stag
+    ]
+
+pub none_dead_release : (m : RegisteredMemory) (other : ℕ) → NoneIsDead m → NoneIsDead (after_release m other)
+unfolding after_release
+none_dead_release m other none stag =
+    elim (cases_eq stag other) [
+      | inl e ↦ ap (λ (o : Option Bool). unwrap_or o false) (ap (λ (q : ℕ). get (remove m.dead other) q) e ∙ get_remove_here m.dead other)
+      | inr ne ↦ ap (λ (o : Option Bool). unwrap_or o false) (get_remove_other m.dead other stag ne) ∙ none stag
+    ]
+
+arrived_flags : (m : RegisteredMemory) (r : TaggedSegment) (d : Option Denied) → (after_arrival d m r).dead ≡ m.dead
+arrived_flags m r None = same_flags m r.stag r.to r.payload
+arrived_flags m r (Some denied) = refl
+
+pub none_dead_arrive : (m : RegisteredMemory) (r : TaggedSegment) → NoneIsDead m → NoneIsDead (after_event m (Arrive r))
+unfolding after_event
+none_dead_arrive m r none stag =
+    ap (λ (d : FinMap nat_cmp Bool). unwrap_or (get d stag) false) (arrived_flags m r (denial m (access_of_tagged r))) ∙ none stag
+
+pub none_dead_place : (m : RegisteredMemory) (stag to : ℕ) (bytes : List ℕ) → NoneIsDead m → NoneIsDead (after_place m stag to bytes)
+none_dead_place m stag to bytes none other =
+    ap (λ (d : FinMap nat_cmp Bool). unwrap_or (get d other) false) (same_flags m stag to bytes) ∙ none other
