@@ -103,10 +103,13 @@ abbrev pub kept_invalidates_another : List KeptCall → Option ℕ → List ℕ 
 kept_invalidates_another calls None message = false
 kept_invalidates_another calls (Some stag) message = kept_names_another (kept_in calls (header_of message)) stag
 
--- the STag that dies before the rest of the message is judged: the one that it names, if its call was given it
+-- the STag that dies before the rest of the message is judged: the one that it names, if it is that of a region of its call
+abbrev pub own_of : List ℕ → ℕ → Option ℕ
+own_of stags stag = if list_any (λ s. s == stag) stags then Some stag else None
+
 abbrev pub own_if : Option KeptCall → ℕ → Option ℕ
 own_if None stag = None
-own_if (Some c) stag = if kept_is_given c stag then Some stag else None
+own_if (Some c) stag = own_of c.stags stag
 
 abbrev pub kept_named : List KeptCall → Option ℕ → List ℕ → Option ℕ
 kept_named calls None message = None

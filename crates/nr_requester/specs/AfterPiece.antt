@@ -67,9 +67,12 @@ judged r s message (GivesOutcome xid outcome) = record r {
 }
 
 -- the region under an STag dies
+abbrev pub dead_memory : Option ℕ → RegisteredMemory → RegisteredMemory
+dead_memory None m = m
+dead_memory (Some stag) m = after_invalidate m stag
+
 abbrev pub with_dead : Option ℕ → LinkState → LinkState
-with_dead None s = s
-with_dead (Some stag) s = record s { memory = after_invalidate s.memory stag }
+with_dead own s = record s { memory = dead_memory own s.memory }
 
 -- A message that names an STag of its call: that region dies before the rest of the message is judged.
 abbrev pub with_message : RequesterState → LinkState → Option ℕ → List ℕ → RequesterState

@@ -1,9 +1,10 @@
 -- What the code keeps, as the definitions see it.
-use Rattle.std.specs.Prelude.{◌≡◌, ℕ, ◌+◌, ◌^◌, ◌<◌, ◌≤◌, ◌==◌, length, List, [], map, Option, None, Some, true}
-use Rattle.std.specs.List.{AllByRecursion, find, range_with_len}
+use Rattle.std.specs.Prelude.{◌≡◌, ℕ, ◌+◌, ◌^◌, ◌<◌, ◌≤◌, ◌==◌, ◌++◌, length, List, [], ◌∷◌, map, Option, None, Some, Bool, true, false, not}
+use Rattle.std.specs.List.{AllByRecursion, find, list_any}
 use Rattle.nr_regions.specs.RegisteredMemory.{Claim}
 use Rattle.nr_endpoint.specs.LinkState.{LinkSide}
 use Rattle.nr_reduce.specs.Limits.{credits_max}
+use Rattle.nr_reduce.specs.KeptCalls.{own_of}
 use Rattle.nr_requester.specs.declared.outstanding.OutstandingCall.{OutstandingCall}
 use Rattle.nr_requester.specs.declared.outstanding.GivenStags.{GivenStags}
 use Rattle.nr_requester.specs.declared.answer.AnsweredCall.{AnsweredCall}
@@ -12,9 +13,26 @@ use Rattle.nr_requester.specs.AfterCalls.{no_claims}
 use Rattle.nr_requester.specs.HeldBytes.{xid_of, AreRisingBy}
 use Rattle.nr_requester.specs.HeldClaims.{AreHeldFrom, all_claims, OffersOwn}
 
--- the STags that a call was given: so many from the first on
+-- the STags that a call was given, in the order in which its regions were registered
+abbrev pub stag_if : Option ℕ → List ℕ
+stag_if None = []
+stag_if (Some stag) = stag ∷ []
+
 abbrev pub given_stags : GivenStags → List ℕ
-given_stags g = range_with_len g.first g.count
+given_stags g = stag_if g.read ++ (stag_if g.write ++ stag_if g.reply)
+
+-- whether an STag is one of these, and whether a message names one that isn't
+abbrev pub is_given : List ℕ → ℕ → Bool
+is_given given stag = list_any (λ s. s == stag) given
+
+abbrev pub names_another : List ℕ → Option ℕ → Bool
+names_another given None = false
+names_another given (Some stag) = not (is_given given stag)
+
+-- the STag that a message names, if it is one of these
+abbrev pub own_named : List ℕ → Option ℕ → Option ℕ
+own_named stags None = None
+own_named stags (Some stag) = own_of stags stag
 
 abbrev pub stored_view : OutstandingCall → StoredCall
 stored_view c = record { xid = c.xid; send = c.send; call = c.call; is_forgotten = c.is_forgotten; offered = c.offered; given = given_stags c.given; claims = c.claims }

@@ -54,6 +54,8 @@ pub struct Requester {
     // The answers that weren't handed over, with room for those of the outstanding calls.
     pub(crate) answered: Vec<AnsweredCall>,
     pub(crate) marks: u64,
+    // How many of the regions that it released the server could still reach.
+    pub(crate) local_releases: u64,
 }
 
 impl Model for Requester {
@@ -66,7 +68,7 @@ impl Model for Requester {
 
     ghost coded = { Prim.hlevel (codes, state_code) };
 
-    ghost view = { λ r. side_view r.endpoint.staging r.marks (requester_view r.endpoint.link r.sent r.wished r.sends r.next_xid r.grant r.outstanding.items r.answered.items) };
+    ghost view = { λ r. side_view r.endpoint.staging r.marks (requester_view r.endpoint.link r.sent r.wished r.sends r.next_xid r.grant r.outstanding.items r.answered.items r.local_releases) };
 
     ghost use Rattle.nr_requester.specs.Views.{RequesterInvariant};
     ghost use Rattle.nr_requester.specs.HeldBytes.{IsBounded};
@@ -141,6 +143,7 @@ impl Requester {
             outstanding: Vec::new(alloc),
             answered: Vec::new(alloc),
             marks: 0,
+            local_releases: 0,
         })
     }
 
@@ -183,6 +186,14 @@ impl Requester {
         ensures { result ≡ self.now.marks }
     {
         self.marks
+    }
+
+    /// How many of the regions that it released the server could still reach: those of calls that were answered, revoked, or lost. A region that
+    /// a reply named is not counted (RFC 5040 section 5.1). It stands still at 2^64 - 1. Takes no memory.
+    pub fn local_releases(&self) -> u64
+        ensures { result ≡ self.now.state.local_releases }
+    {
+        self.local_releases
     }
 
     /// How many bytes of the server's frame that isn't complete are staged. 0 once it has ended.
