@@ -114,7 +114,7 @@ pub refused_ends : (message : List ℕ) (opened : List PendingRead) (over : List
 refused_ends message opened over l m n sent closed =
     ap (λ (x : LinkSide). length x.state.send_queue.send_ends) closed ∙ ap (λ (x : LinkSide). length x.state.send_queue.send_ends) sent
     ∙ ap (λ (xs : List ℕ). length xs) (requests_ends opened (with_send message l.state.send_queue))
-    ∙ length-append l.state.send_queue.send_ends (length (l.state.send_queue.fpdus ++ send_output l.state.send_queue message) ∷ [])
+    ∙ length-append l.state.send_queue.send_ends (length (l.state.send_queue.fpdus ++ send_output l.state.send_queue None message) ∷ [])
 
 pub refused_link : (message : List ℕ) (opened : List PendingRead) (over : List SinkRegion) (l m n : LinkSide) → m ≡ with_opened_after message opened l → n ≡ with_released over m →
     n ≡ record { awaited = l.awaited; rest = l.rest; state = side_after_done (with_sent l.state message) opened over }
