@@ -1,5 +1,5 @@
 -- A responder that is opened stands for no marks.
-use Rattle.std.proofs.Common.{◌≡◌, ℕ, ◌+◌, List, [], None, refl, sym, ap, subst, arith, inl}
+use Rattle.std.proofs.Common.{◌≡◌, ℕ, ◌+◌, Bool, false, List, [], Option, None, unwrap_or, refl, sym, ap, subst, arith, inl}
 use Rattle.std.specs.FinMap.{get-empty}
 use Rattle.std.specs.Ordering.{nat_cmp}
 use Rattle.nr_wire.specs.declared.hello.Side.TheVariants.{Initiator, Responder}
