@@ -23,7 +23,7 @@ use Rattle.nr_reduce.specs.Events.{RunEvent}
 use Rattle.nr_reduce.specs.Events.RunEvent.{FrameReceived, CallSubmitted, MemoryRevoked, CallExecuted, QueueWritten, ServerTold}
 use Rattle.nr_reduce.specs.EndRules.{EndState, next_end_state, next_end_state_by, next_end_state_in, end_state_after}
 use Rattle.nr_reduce.specs.ClientState.{ClientState, OutstandingCall, client_memory_at}
-use Rattle.nr_reduce.specs.Client.{client_rules, client_end, client_state_after, initial_client, with_message, with_segment, outstanding_of, region_of, segment_request, with_hello, due_with_response}
+use Rattle.nr_reduce.specs.Client.{client_segment, client_rules, client_end, client_state_after, initial_client, with_message, with_segment, outstanding_of, region_of, segment_request, with_hello, due_with_response}
 use Rattle.nr_reduce.specs.Plans.{buffers}
 use Rattle.nr_reduce.proofs.OwnStags.{ClientNumbers, own_stags, client_numbers}
 use Rattle.nr_reduce.proofs.Steps.{end_state_after_append}
@@ -207,7 +207,7 @@ segment_regions : (k : ClientState) (f : Frame) (r : Result Segment ℕ) (a : An
 segment_regions k f (Err reason) a h = h
 segment_regions k f (Ok s) a h = subst (λ (rs : List Region). IsData rs a) (sym (request_regions (with_message k f.end (message_completed k.received s)) (due_with_response k f s) (read_request_of s))) (message_regions k f.end (message_completed k.received s) a h)
 
-fetched_request : (opened : LinkParameters) (k : ClientState) (f : Frame) (opcode w queue msn offset : ℕ) (last : Bool) (payload : List ℕ) → HaveOwnStags (region_grants f.end k.regions) → is_hello f ≡ false → frame_segment f ≡ Ok (Untagged last opcode w queue msn offset payload)
+fetched_request : (opened : LinkParameters) (k : ClientState) (f : Frame) (opcode w queue msn offset : ℕ) (last : Bool) (payload : List ℕ) → HaveOwnStags (region_grants f.end k.regions) → is_hello f ≡ false → client_segment k f ≡ Ok (Untagged last opcode w queue msn offset payload)
     → client_end k (FrameReceived f) ≡ None → eqb opcode OPCODE_READ_REQUEST ≡ true → IsData k.regions (record { request = payload; bytes = take (read_request_in payload).size (drop (read_request_in payload).to (client_memory_at k f.end (read_request_in payload).stag)) })
 fetched_request opened k f opcode w queue msn offset last payload own behind is stays asks =
     let q = read_request_in payload in
@@ -222,7 +222,7 @@ fetched_request opened k f opcode w queue msn offset last payload own behind is 
 
 -- a frame that doesn't end the client, after the hello
 heard_answers : (opened : LinkParameters) (es : List RunEvent) (k : ClientState) (outs : List Output) (f : Frame) → HaveOwnStags (region_grants f.end k.regions) → is_hello f ≡ false → client_end k (FrameReceived f) ≡ None → ClientAnswers opened es k None outs
-    → (r : Result Segment ℕ) → frame_segment f ≡ r → ClientAnswers opened (es ++ FrameReceived f ∷ []) (with_segment k f r) None (outs ++ response_outputs k f.end (segment_request r))
+    → (r : Result Segment ℕ) → client_segment k f ≡ r → ClientAnswers opened (es ++ FrameReceived f ∷ []) (with_segment k f r) None (outs ++ response_outputs k f.end (segment_request r))
 heard_answers opened es k outs f own behind stays h (Err reason) is =
     quiet_answers opened es (FrameReceived f) k k None None outs [] refl (λ n. (refl, (λ i. cond (behind i) [] (heard_by (is i)) ++ []))) (λ a d. d) h
 heard_answers opened es k outs f own behind stays h (Ok (Tagged last opcode stag to payload)) is =
@@ -265,12 +265,12 @@ frame_answers : (opened : LinkParameters) (es : List RunEvent) (k : ClientState)
 unfolding client_state_after client_says
 frame_answers opened es k outs f own stays h = by (is_hello f) refl
   where
-    by : (b : Bool) → is_hello f ≡ b → ClientAnswers opened (es ++ FrameReceived f ∷ []) (cond b (with_hello opened k f) (with_segment k f (frame_segment f))) None
-        (outs ++ cond b (call_sends opened 1 k.outstanding) (response_outputs k f.end (segment_request (frame_segment f))))
+    by : (b : Bool) → is_hello f ≡ b → ClientAnswers opened (es ++ FrameReceived f ∷ []) (cond b (with_hello opened k f) (with_segment k f (client_segment k f))) None
+        (outs ++ cond b (call_sends opened 1 k.outstanding) (response_outputs k f.end (segment_request (client_segment k f))))
     by true first =
         quiet_answers opened es (FrameReceived f) k (with_hello opened k f) None None outs (call_sends opened 1 k.outstanding) (tagged_sends opened 1 k.outstanding)
-        (λ n. (refl, (λ i. cond (first i) [] (heard_by (frame_segment f)) ++ []))) (λ a d. d) h
-    by false behind = heard_answers opened es k outs f own behind stays h (frame_segment f) refl
+        (λ n. (refl, (λ i. cond (first i) [] (heard_by (client_segment k f)) ++ []))) (λ a d. d) h
+    by false behind = heard_answers opened es k outs f own behind stays h (client_segment k f) refl
 
 ended_answers : (opened : LinkParameters) (es : List RunEvent) (k : ClientState) (ended : Option Stop) (end : Stop) (outs more : List Output) (e : RunEvent) → tagged_in more ≡ [] → ClientAnswers opened es k ended outs → ClientAnswers opened (es ++ e ∷ []) k (Some end) (outs ++ more)
 ended_answers opened es k ended end outs more e none h = quiet_answers opened es e k k ended (Some end) outs more none (λ n. absurd cc) (λ a d. d) h

@@ -22,7 +22,7 @@ use Rattle.nr_reduce.specs.Events.RunEvent.{FrameReceived, CallSubmitted, Memory
 use Rattle.nr_reduce.specs.ClientState.{ClientState}
 use Rattle.nr_reduce.specs.ClientMessages.{ReplyVerdict, reply_verdict}
 use Rattle.nr_reduce.specs.ClientMessages.ReplyVerdict.{EndsLink, GivesOutcome}
-use Rattle.nr_reduce.specs.Client.{client_rules, client_end, initial_client, client_readiness, or_message_end, client_message_end, end_of_verdict, segment_message}
+use Rattle.nr_reduce.specs.Client.{client_segment, client_rules, client_end, initial_client, client_readiness, or_message_end, client_message_end, end_of_verdict, segment_message}
 use Rattle.nr_reduce.specs.Run.{client}
 use Rattle.nr_laws.proofs.EndReasons.{IsMessageReason}
 use Rattle.nr_laws.specs.MatchedSoFar.{MatchedSoFar}
@@ -68,7 +68,7 @@ by_message_lem : (k : ClientState) (f : Frame) (s : Segment) (at reason : ℕ) (
 by_message_lem k f s at reason None whole e = absurd cc
 by_message_lem k f s at reason (Some message) whole e = record { message = message; whole = whole; judged = by_verdict_lem f (reply_verdict k f.end message) at reason e }
 
-segment_judges : (k : ClientState) (f : Frame) (s : Segment) (at reason : ℕ) → IsMessageReason reason → is_hello f ≡ false → frame_segment f ≡ Ok s → client_end k (FrameReceived f) ≡ Some (ends.Bad at reason) → JudgesMessage k f s reason
+segment_judges : (k : ClientState) (f : Frame) (s : Segment) (at reason : ℕ) → IsMessageReason reason → is_hello f ≡ false → client_segment k f ≡ Ok s → client_end k (FrameReceived f) ≡ Some (ends.Bad at reason) → JudgesMessage k f s reason
 unfolding client_end frame_end
 segment_judges k f s at reason is behind own e =
     by (end_of_fault f s (segment_reason ready s)) (by_fault_lem f s (segment_reason ready s) (fault_other ready s) at reason is)
@@ -184,7 +184,7 @@ ends_for opened link run at reason typed far bad e = by a.event a.is a.ends
           said = t.said b.earlier s (b.later ++ r.left) j.message (parts ∙ ap (λ (o : Output). b.earlier ++ o ∷ (b.later ++ r.left)) same) one;
         })
       where
-        own : (o : Output) → Brought o f → (is_hello f ≡ true → EndsFor opened link run reason) → ((s : Segment) → is_hello f ≡ false → frame_segment f ≡ Ok s → o ≡ ASegment s → EndsFor opened link run reason) → EndsFor opened link run reason
+        own : (o : Output) → Brought o f → (is_hello f ≡ true → EndsFor opened link run reason) → ((s : Segment) → is_hello f ≡ false → client_segment k f ≡ Ok s → o ≡ ASegment s → EndsFor opened link run reason) → EndsFor opened link run reason
         own (AHello bytes) h hello segment = hello h.0
         own (ASegment s) h hello segment = segment s h.0 h.1 refl
 
