@@ -15,7 +15,7 @@ use Rattle.nr_link.specs.Ending.{frame_end, frame_end_by, missing_access, end_of
 use Rattle.nr_reduce.specs.OfferedRegions.{region_grants}
 use Rattle.nr_reduce.specs.Events.RunEvent.{FrameReceived}
 use Rattle.nr_reduce.specs.ClientState.{ClientState}
-use Rattle.nr_reduce.specs.Client.{client_readiness as client_readiness, client_end, or_message_end, client_message_end, segment_message}
+use Rattle.nr_reduce.specs.Client.{client_segment, client_readiness as client_readiness, client_end, or_message_end, client_message_end, segment_message}
 use Rattle.nr_reduce.specs.ServerState.{ServerState, PendingRead}
 use Rattle.nr_reduce.specs.Server.{server_readiness, server_end, or_refusal, refusal_end}
 use Rattle.nr_reduce.specs.ServerFrames.{frame_effect}
@@ -90,7 +90,7 @@ or_true false = refl
 
 -- a message: its verdict alone
 pub client_send : (opened : LinkParameters) (k : ClientState) (s : ServerState) (w : Transit) (f : Frame) (message : SentMessage) (rest : List FrameContent) → TotalsAgree k s w → w.down ≡ SendFrame message ∷ rest
-    → Carries k.received.sends k.received.requests f (SendFrame message) → 16 ≤ length message.bytes → length message.bytes ≤ k.down_max → client_end k (FrameReceived f) ≡ client_message_end k f (segment_message k (frame_segment f))
+    → Carries k.received.sends k.received.requests f (SendFrame message) → 16 ≤ length message.bytes → length message.bytes ≤ k.down_max → client_end k (FrameReceived f) ≡ client_message_end k f (segment_message k (client_segment k f))
 client_send opened k s w f message rest c head p long short =
     let front = at_front k.received.begun w.down w.queued_down (SendFrame message) rest head c.whole_down in
     client_by_lem k f None p.behind
@@ -101,7 +101,7 @@ pub client_part : (k : ClientState) (s : ServerState) (w : Transit) (f : Frame) 
     → Carries k.received.sends k.received.requests f (PartFrame offset payload) → client_end k (FrameReceived f) ≡ None
 client_part k s w f offset payload rest c head p =
     let segment : Segment = part_segment k.received.sends offset payload in
-    let is : frame_segment f ≡ Ok segment = segment_is k.received.sends k.received.requests f (PartFrame offset payload) segment p refl in
+    let is : client_segment k f ≡ Ok segment = segment_is k.received.sends k.received.requests f (PartFrame offset payload) segment p refl in
     let front = at_front k.received.begun w.down w.queued_down (PartFrame offset payload) rest head c.whole_down in
     client_by_lem k f None p.behind
     (part_frame_end (client_readiness k) (region_grants f.end k.regions) k.received.sends k.received.requests f offset payload p refl front.0 (or_true (is_begun k.received.begun)) refl)

@@ -15,7 +15,7 @@ use Rattle.nr_link.specs.Output.{segment_count, segment_payload, cut, msn_word, 
 use Rattle.nr_laws.specs.MessageSegments.{message_segment, message_segments}
 use Rattle.nr_link.specs.Frames.{is_hello}
 use Rattle.nr_link.specs.ReceiveState.{ReadRequest}
-use Rattle.nr_link.specs.Ending.{frame_segment, final_output, last_output, is_hello_reason}
+use Rattle.nr_link.specs.Ending.{final_output, last_output, is_hello_reason}
 use Rattle.nr_reduce.specs.Hellos.{server_hello}
 use Rattle.nr_reduce.specs.declared.mark.LinkParameters.{LinkParameters}
 use Rattle.nr_reduce.specs.History.{ExecutedCall}
@@ -28,7 +28,7 @@ use Rattle.nr_reduce.specs.Holds.{Answer, answer_message, chunk_error}
 use Rattle.nr_reduce.specs.ChunkBytes.{answer_segments}
 use Rattle.nr_reduce.proofs.Answering.{answer_spells}
 use Rattle.nr_reduce.specs.ClientState.{ClientState, OutstandingCall, client_memory_at}
-use Rattle.nr_reduce.specs.Client.{client_output, calls_output, call_output, response_output, segment_request, outstanding_of}
+use Rattle.nr_reduce.specs.Client.{client_segment, client_output, calls_output, call_output, response_output, segment_request, outstanding_of}
 use Rattle.nr_reduce.specs.ServerState.{ServerState, PendingRead, credit_word}
 use Rattle.nr_reduce.specs.ServerFrames.{FrameEffect, frame_effect}
 use Rattle.nr_reduce.specs.Server.{server_output, sends_from, requests_from, newly_open_reads, effect_output, offer_of, answer_of_target, answer_output, execution_output}
@@ -188,7 +188,7 @@ response_outputs k place None = []
 response_outputs k place (Some r) = map ASegment (response_segments r.sink r.sink_to (take r.size (drop r.to (client_memory_at k place r.stag))))
 
 unfoldable pub client_says : LinkParameters → ClientState → RunEvent → List Output
-client_says opened k (FrameReceived f) = cond (is_hello f) (call_sends opened 1 k.outstanding) (response_outputs k f.end (segment_request (frame_segment f)))
+client_says opened k (FrameReceived f) = cond (is_hello f) (call_sends opened 1 k.outstanding) (response_outputs k f.end (segment_request (client_segment k f)))
 client_says opened k (CallSubmitted place a) = cond k.has_hello (message_outputs (k.sends + 1) (message_of_call opened (outstanding_of k a))) []
 client_says opened k (MemoryRevoked place xid) = []
 client_says opened k (CallExecuted call) = []
@@ -197,7 +197,7 @@ client_says opened k (ServerTold what) = []
 
 pub client_said : (opened : LinkParameters) (k : ClientState) (event : RunEvent) → client_output opened k event ≡ bytes_of_all (client_says opened k event)
 unfolding client_output client_says
-client_said opened k (FrameReceived f) = by (is_hello f) (segment_request (frame_segment f))
+client_said opened k (FrameReceived f) = by (is_hello f) (segment_request (client_segment k f))
   where
     by_request : (o : Option ReadRequest) → response_output k f.end o ≡ bytes_of_all (response_outputs k f.end o)
     by_request None = refl
