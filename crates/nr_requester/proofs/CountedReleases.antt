@@ -29,19 +29,19 @@ all_counted m first (suc n) live =
 
 pub named_is_not_counted : NamedRegionIsNotCounted
 named_is_not_counted m first zero stag ge lt live = absurd (omega (arith, ge, lt))
-named_is_not_counted m first (suc n) stag ge lt live = by (eqb first stag) refl
+named_is_not_counted m first (suc n) stag ge lt live = by (named_is_not_counted m (first + 1) n stag) (eqb first stag) refl
   where
     dead : RegisteredMemory
     dead = after_invalidate m stag
 
-    by : (b : Bool) → eqb first stag ≡ b → live_count dead (range_with_len first (suc n)) + 1 ≡ suc n
-    by true e =
+    by : (first + 1 ≤ stag → stag < first + 1 + n → AllLive m (first + 1) n → live_count dead (range_with_len (first + 1) n) + 1 ≡ n) → (b : Bool) → eqb first stag ≡ b → live_count dead (range_with_len first (suc n)) + 1 ≡ suc n
+    by later true e =
         let same : first ≡ stag = eqb-true first stag e in
         let none : is_some (live_region dead first) ≡ false = ap (λ (s : ℕ). is_some (live_region dead s)) same ∙ ap (λ (o : Option Region). is_some o) (live_invalidate_here m stag) in
         let one = counted dead first n false none in
         let rest = all_counted dead (first + 1) n (λ s more less. ap (λ (o : Option Region). is_some o) (live_invalidate_other m stag s (λ is. omega (arith, is, same, more))) ∙ live s (omega (arith, more)) (omega (arith, less))) in
         omega (arith, one, rest)
-    by false e =
+    by later false e =
         let other : first ≢ stag = λ is. (let wrong : true ≡ false = sym (eq-eqb first stag is) ∙ e in cc) in
         let some : is_some (live_region dead first) ≡ true = ap (λ (o : Option Region). is_some o) (live_invalidate_other m stag first other) ∙ live first (omega arith) (omega arith) in
         let one = counted dead first n true some in
@@ -49,5 +49,5 @@ named_is_not_counted m first (suc n) stag ge lt live = by (eqb first stag) refl
           | inl less ↦ omega (arith, less)
           | inr le ↦ absurd (other (omega (arith, le, ge)))
         ] in
-        let rest = named_is_not_counted m (first + 1) n stag above (omega (arith, lt)) (λ s more less. live s (omega (arith, more)) (omega (arith, less))) in
+        let rest = later above (omega (arith, lt)) (λ s more less. live s (omega (arith, more)) (omega (arith, less))) in
         omega (arith, one, rest)

@@ -147,15 +147,15 @@ other_removed dead k r v ne = same_map nat_cmp_total nat_cmp-IsAntisymmetric (re
 
 flags_same : (dead : FinMap nat_cmp Bool) (stag : ℕ) (stags : List ℕ) → list_any (λ s. eqb s stag) stags ≡ true → flags_left (insert dead stag true) stags ≡ flags_left dead stags
 flags_same dead stag [] e = absurd cc
-flags_same dead stag (s ∷ stags) e = by (eqb s stag) refl e
+flags_same dead stag (s ∷ stags) e = by (flags_same (remove dead s) stag stags) (eqb s stag) refl e
   where
-    by : (b : Bool) → eqb s stag ≡ b → (b || list_any (λ s. eqb s stag) stags) ≡ true → flags_left (insert dead stag true) (s ∷ stags) ≡ flags_left dead (s ∷ stags)
-    by true is h =
+    by : (list_any (λ s. eqb s stag) stags ≡ true → flags_left (insert (remove dead s) stag true) stags ≡ flags_left (remove dead s) stags) → (b : Bool) → eqb s stag ≡ b → (b || list_any (λ s. eqb s stag) stags) ≡ true → flags_left (insert dead stag true) (s ∷ stags) ≡ flags_left dead (s ∷ stags)
+    by rest true is h =
         let same : s ≡ stag = eqb-true s stag is in
         ap (λ (x : FinMap nat_cmp Bool). flags_left x stags) (ap (λ (n : ℕ). remove (insert dead stag true) n) same ∙ same_removed dead stag true ∙ ap (λ (n : ℕ). remove dead n) (sym same))
-    by false is h =
+    by rest false is h =
         ap (λ (x : FinMap nat_cmp Bool). flags_left x stags) (other_removed dead stag s true (λ same. (let wrong : true ≡ false = sym (eq-eqb s stag same) ∙ is in cc)))
-        ∙ flags_same (remove dead s) stag stags h
+        ∙ rest h
 
 died_released : (o : Option Region) (m : RegisteredMemory) (stag : ℕ) (stags : List ℕ) → list_any (λ s. eqb s stag) stags ≡ true → released_all (after_invalidate_by o m stag) stags ≡ released_all m stags
 died_released None m stag stags e = refl

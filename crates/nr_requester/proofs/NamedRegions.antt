@@ -17,20 +17,20 @@ use Rattle.nr_requester.proofs.FoundCalls.{header_xid}
 
 none_above : (x : ℕ) (cs : List KeptCall) (c : KeptCall) → AllByRecursion (λ (e : KeptCall). x < e.xid) cs → kept_by cs x ≡ Some c → ⊥
 none_above x [] c h e = absurd cc
-none_above x (d ∷ ds) c h e = by (eqb d.xid x) refl e
+none_above x (d ∷ ds) c h e = by (none_above x ds c h.1) (eqb d.xid x) refl e
   where
-    by : (b : Bool) → eqb d.xid x ≡ b → cond (b && d.is_sent) (Some d) (kept_by ds x) ≡ Some c → ⊥
-    by true is g = absurd (let same = eqb-true d.xid x is in let lt = h.0 in omega (arith, same, lt))
-    by false is g = none_above x ds c h.1 g
+    by : (kept_by ds x ≡ Some c → ⊥) → (b : Bool) → eqb d.xid x ≡ b → cond (b && d.is_sent) (Some d) (kept_by ds x) ≡ Some c → ⊥
+    by rest true is g = absurd (let same = eqb-true d.xid x is in let lt = h.0 in omega (arith, same, lt))
+    by rest false is g = rest g
 
 found_rising : (next x : ℕ) (cs : List KeptCall) (c : KeptCall) → AreRising cs next → kept_by cs x ≡ Some c → find (λ d. eqb d.xid x) cs ≡ Some c
 found_rising next x [] c h e = absurd cc
-found_rising next x (d ∷ ds) c h e = by (eqb d.xid x) refl d.is_sent e
+found_rising next x (d ∷ ds) c h e = by (found_rising next x ds c h.1.1) (eqb d.xid x) refl d.is_sent e
   where
-    by : (b : Bool) → eqb d.xid x ≡ b → (s : Bool) → cond (b && s) (Some d) (kept_by ds x) ≡ Some c → cond b (Some d) (find (λ d. eqb d.xid x) ds) ≡ Some c
-    by true is true g = g
-    by true is false g = absurd (none_above x ds c (subst (λ (n : ℕ). AllByRecursion (λ (e : KeptCall). n < e.xid) ds) (eqb-true d.xid x is) h.1.0) g)
-    by false is s g = found_rising next x ds c h.1.1 g
+    by : (kept_by ds x ≡ Some c → find (λ d. eqb d.xid x) ds ≡ Some c) → (b : Bool) → eqb d.xid x ≡ b → (s : Bool) → cond (b && s) (Some d) (kept_by ds x) ≡ Some c → cond b (Some d) (find (λ d. eqb d.xid x) ds) ≡ Some c
+    by rest true is true g = g
+    by rest true is false g = absurd (none_above x ds c (subst (λ (n : ℕ). AllByRecursion (λ (e : KeptCall). n < e.xid) ds) (eqb-true d.xid x is) h.1.0) g)
+    by rest false is s g = rest g
 
 -- ---- The STag is among those of the call
 

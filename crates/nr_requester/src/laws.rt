@@ -65,5 +65,5 @@ pub fn requesters_keep_their_law()
 
 /// Of a call whose regions a peer reaches until a reply names one, all regions but that one are counted as released.
 pub fn releases_are_counted()
-    ensures named { NamedRegionIsNotCounted }
+    ensures { NamedRegionIsNotCounted }
 {}
